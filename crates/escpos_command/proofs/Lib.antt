@@ -1,0 +1,4 @@
+pub mod Walks
+pub mod Combinators
+pub mod Rows
+pub mod Readings

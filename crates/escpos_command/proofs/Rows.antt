@@ -1,0 +1,78 @@
+-- The rows of the command table in the tree: each spelling leads to its command, and the tree is good. A
+-- kind of command adds a case to `leads` and an entry to the proof of its table.
+use Rattle.std.proofs.Common.{◌≡◌, ℕ, List, [], ◌∷◌, ◌++◌, refl, sym, ◌∙◌, ap, arith, Bool, true, false, cond, IsTrue, length}
+use Rattle.std.specs.Prelude.{◌==◌, ◌&&◌}
+use Rattle.std.specs.List.{list_all}
+use Rattle.std.proofs.lemmas.Bool.Decides.{nat_tests}
+use Rattle.escpos_command.specs.declared.bytes.TheConstants.{LF, ESC, GS}
+use Rattle.escpos_command.specs.declared.command.Command.{Command}
+use Rattle.escpos_command.specs.declared.command.Command.TheVariants.{Char, LineFeed, Init, Cut, Mark}
+use Rattle.escpos_command.specs.declared.command.Cut.TheVariants.{AtOnce, BehindFeed}
+use Rattle.escpos_command.specs.Parameters.{is_character, is_cut_mode, is_feed_cut_mode, is_byte, is_mark_byte, is_mark_id}
+use Rattle.escpos_command.specs.Table.{Spells, IsCommand, row}
+use Rattle.escpos_command.specs.Tree.{Tree, dead, leaf, node, walk, branch, none, one, first, character, behind_esc, behind_gs, cut, mark, grammar, counted}
+use Rattle.escpos_command.proofs.Walks.{IsLive, Good}
+use Rattle.escpos_command.proofs.Combinators.{good_choice, good_one, good_branch, good_these, good_counted, walk-counted, walk-one, live_counted, and_left, and_right, same_number}
+
+-- A character begins no command of another kind.
+leads_character : (b : ℕ) → is_character b ≡ true → branch first character b ≡ leaf (Char b)
+leads_character b h =
+    let line_feed : (b == 10) ≡ false = grind (arith, nat_tests) in
+    let esc : (b == 27) ≡ false = grind (arith, nat_tests) in
+    let gs : (b == 29) ≡ false = grind (arith, nat_tests) in
+    rw (line_feed, esc, gs, h)
+
+-- A mode with a feed is no mode without one.
+feed_mode_apart : (m : ℕ) → is_feed_cut_mode m ≡ true → is_cut_mode m ≡ false
+feed_mode_apart m h = grind (arith, nat_tests)
+
+leads_cut : (m : ℕ) → is_cut_mode m ≡ true → cut m ≡ leaf (Cut (AtOnce m))
+leads_cut m h = rw h
+
+leads_feed_cut : (m : ℕ) → is_feed_cut_mode m ≡ true → cut m ≡ one is_byte (λ n. Cut (BehindFeed m n))
+leads_feed_cut m h = rw (feed_mode_apart m h, h)
+
+-- Each spelling leads to its command.
+pub leads : (c : Command) → IsCommand c → walk grammar (row c) ≡ leaf c
+leads (Char b) h = ap (λ t. walk t []) (leads_character b h)
+leads LineFeed h = refl
+leads Init h = refl
+leads (Cut (AtOnce m)) h = ap (λ t. walk t []) (leads_cut m h)
+leads (Cut (BehindFeed m n)) h = ap (λ t. walk t (n ∷ [])) (leads_feed_cut m h.0) ∙ walk-one is_byte (λ x. Cut (BehindFeed m x)) n h.1
+leads (Mark id) h = walk-counted 4 is_mark_byte Mark id (same_number _ _ (and_left _ _ h)) (and_right _ _ h)
+
+-- A command at its spelling.
+at_row : (c : Command) → IsCommand c → Spells c (row c)
+at_row c h = record { in_range = h; in_table = refl }
+
+good_cut : (m : ℕ) → Good (GS ∷ 0x56 ∷ m ∷ []) (cut m)
+good_cut m =
+    good_choice _ _ _ (is_cut_mode m) (λ h. at_row (Cut (AtOnce m)) h) (λ _.
+      good_choice _ _ _ (is_feed_cut_mode m)
+      (λ h. good_one (GS ∷ 0x56 ∷ m ∷ []) is_byte (λ n. Cut (BehindFeed m n)) 0 refl (λ n k. at_row (Cut (BehindFeed m n)) (h, k)))
+      (λ _. tt))
+
+-- Four bytes that each pass are an id.
+is_id : (id : List ℕ) → length id ≡ 4 → list_all is_mark_byte id ≡ true → IsTrue (is_mark_id id)
+is_id id long all = rw (long, all) refl
+
+good_mark : Good (GS ∷ 0x28 ∷ []) mark
+good_mark =
+    good_these (GS ∷ 0x28 ∷ []) (0x48 ∷ 0x06 ∷ 0x00 ∷ 0x30 ∷ 0x30 ∷ []) (counted 4 is_mark_byte Mark) (live_counted 4 is_mark_byte Mark)
+    (good_counted 4 (GS ∷ 0x28 ∷ 0x48 ∷ 0x06 ∷ 0x00 ∷ 0x30 ∷ 0x30 ∷ []) is_mark_byte Mark 32 refl (λ id long all. at_row (Mark id) (is_id id long all)))
+
+good_behind_esc : (b : ℕ) → Good (ESC ∷ b ∷ []) (branch behind_esc none b)
+good_behind_esc = good_branch (ESC ∷ []) behind_esc none (at_row Init tt, tt) (λ _. tt)
+
+good_behind_gs : (b : ℕ) → Good (GS ∷ b ∷ []) (branch behind_gs none b)
+good_behind_gs = good_branch (GS ∷ []) behind_gs none (good_mark, (((0, tt), good_cut), tt)) (λ _. tt)
+
+good_character : (b : ℕ) → Good (b ∷ []) (character b)
+good_character b = good_choice _ _ _ (is_character b) (λ h. at_row (Char b) h) (λ _. tt)
+
+pub good : Good [] grammar
+good =
+    ((LF, tt),
+      good_branch [] first character
+        (at_row LineFeed tt, (((0x40, tt), good_behind_esc), (((0x56, tt), good_behind_gs), tt)))
+        good_character)

@@ -1,0 +1,88 @@
+-- The command table as a tree of bytes. Proofs and private clauses alone go by it: the definitions of
+-- Table and Grammar do not, and are shown to agree with it.
+use Rattle.std.proofs.Common.{zero, suc}
+use Rattle.std.specs.Prelude.{ℕ, ◌==◌, Bool, List, [], ◌∷◌, ◌++◌, if◌then◌else◌}
+use Rattle.escpos_command.specs.declared.bytes.TheConstants.{LF, ESC, GS}
+use Rattle.escpos_command.specs.declared.command.Command.{Command}
+use Rattle.escpos_command.specs.declared.command.Command.TheVariants.{Char, LineFeed, Init, Cut, Mark}
+use Rattle.escpos_command.specs.declared.command.Cut.TheVariants.{AtOnce, BehindFeed}
+use Rattle.escpos_command.specs.Parameters.{is_character, is_cut_mode, is_feed_cut_mode, is_byte, is_mark_byte}
+
+-- Where the bytes so far lead: to no command, to a whole one, or on, by the next byte.
+pub data Tree : Type 0 where
+  dead : Tree
+  leaf : Command → Tree
+  node : (ℕ → Tree) → Tree
+
+-- Where the bytes lead from a tree.
+abbrev pub walk : Tree → List ℕ → Tree
+walk dead bs = dead
+walk (leaf c) [] = leaf c
+walk (leaf c) (b ∷ bs) = dead
+walk (node next) [] = node next
+walk (node next) (b ∷ bs) = walk (next b) bs
+
+-- These bytes, and then a tree.
+abbrev pub these : List ℕ → Tree → Tree
+these [] t = t
+these (b ∷ bs) t = node (λ x. if x == b then these bs t else dead)
+
+-- A byte that passes a test, and then a tree that it chooses.
+abbrev pub passing : (ℕ → Bool) → (ℕ → Tree) → Tree
+passing test next = node (λ x. if test x then next x else dead)
+
+-- n bytes that each pass a test, and the command that they make.
+unfoldable pub counted : ℕ → (ℕ → Bool) → (List ℕ → Command) → Tree
+counted zero test make = leaf (make [])
+counted (suc n) test make = passing test (λ x. counted n test (λ xs. make (x ∷ xs)))
+
+-- A table of bytes and trees, tried in order, and a tree for every other byte.
+abbrev pub branch : List (ℕ × Tree) → (ℕ → Tree) → ℕ → Tree
+branch [] other x = other x
+branch (entry ∷ entries) other x = if x == entry.0 then entry.1 else branch entries other x
+
+abbrev pub none : ℕ → Tree
+none x = dead
+
+-- A byte that passes a test and makes a command.
+abbrev pub one : (ℕ → Bool) → (ℕ → Command) → Tree
+one test make = passing test (λ n. leaf (make n))
+
+-- The commands behind ESC, by their letter.
+abbrev pub behind_esc : List (ℕ × Tree)
+behind_esc =
+    (0x40, leaf Init)
+    ∷ []
+
+-- GS V takes a mode alone, or a mode and a feed.
+abbrev pub cut : ℕ → Tree
+cut m =
+    if is_cut_mode m then leaf (Cut (AtOnce m))
+    else if is_feed_cut_mode m then one is_byte (λ n. Cut (BehindFeed m n))
+    else dead
+
+-- GS ( takes function 48 of the letter H, and an id.
+abbrev pub mark : Tree
+mark = these (0x48 ∷ 0x06 ∷ 0x00 ∷ 0x30 ∷ 0x30 ∷ []) (counted 4 is_mark_byte Mark)
+
+-- The commands behind GS, by their letter.
+abbrev pub behind_gs : List (ℕ × Tree)
+behind_gs =
+    (0x28, mark)
+    ∷ (0x56, node cut)
+    ∷ []
+
+-- A character is its own command.
+abbrev pub character : ℕ → Tree
+character b = if is_character b then leaf (Char b) else dead
+
+-- All commands, by their first byte.
+abbrev pub first : List (ℕ × Tree)
+first =
+    (LF, leaf LineFeed)
+    ∷ (ESC, node (branch behind_esc none))
+    ∷ (GS, node (branch behind_gs none))
+    ∷ []
+
+abbrev pub grammar : Tree
+grammar = node (branch first character)

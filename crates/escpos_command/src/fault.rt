@@ -1,0 +1,44 @@
+//! Why a byte is refused.
+
+use std::fmt;
+
+/// Why a byte that continues no command is refused, by its place in the command. The numbers are those
+/// that programs print.
+#[derive(Clone, Copy, Debug, PartialEq, Eq)]
+pub enum FaultReason {
+    /// 1: no command begins with the byte.
+    UnknownByte = 1,
+    /// 2: the profile has no command with this letter behind ESC or GS.
+    UnknownCommand = 2,
+    /// 3: a parameter is out of the range of the command table, or a fixed byte of a mark is another.
+    BadParameter = 3,
+}
+
+impl FaultReason {
+    ghost use Rattle.std.specs.Prelude.{◌≡◌};
+    ghost use Rattle.escpos_command.specs.Places.{number_of, name_of};
+
+    /// The number that programs print.
+    pub fn number(self) -> u8
+        ensures { result ≡ number_of self }
+    {
+        self as u8
+    }
+
+    /// The name that programs print.
+    pub fn name(self) -> &'static str
+        ensures { result.now ≡ name_of self }
+    {
+        match self {
+            FaultReason::UnknownByte => "UnknownByte",
+            FaultReason::UnknownCommand => "UnknownCommand",
+            FaultReason::BadParameter => "BadParameter",
+        }
+    }
+}
+
+impl fmt::Display for FaultReason {
+    fn fmt<W: fmt::Write>(&self, f: &mut fmt::Formatter<W>) -> fmt::Result {
+        write!(f, "{} {}", self.number(), self.name())
+    }
+}

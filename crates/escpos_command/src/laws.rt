@@ -1,0 +1,38 @@
+//! The laws of the grammar. Each is a function that does nothing and whose contract is the law, so that
+//! the law is proved with the crate and another crate can cite it by calling the function.
+
+ghost use Rattle.std.specs.Prelude.{ℕ, ◌≡◌, ◌≤◌, ◌⊎◌, List, [], ◌++◌, length};
+ghost use Rattle.escpos_command.specs.declared.command.Command.{Command};
+ghost use Rattle.escpos_command.specs.declared.fault.FaultReason.{FaultReason};
+ghost use Rattle.escpos_command.specs.Table.{Spells, IsCommand, row};
+ghost use Rattle.escpos_command.specs.Grammar.{Viable, Half, Reads, FaultAt};
+ghost use Rattle.escpos_command.specs.Digits.{mark_count, mark_of};
+ghost use Rattle.escpos_command.specs.Laws.{longest_spelling, IsRead, IsRefused};
+
+/// Unique spellings: each command has one spelling, of at most 11 bytes; two commands with one spelling
+/// are equal; no spelling begins another.
+pub fn unique_spellings()
+    ensures spelled { (c : Command) → IsCommand c → Spells c (row c) × (length (row c) ≤ longest_spelling) }
+    ensures one_spelling { (c : Command) (a b : List ℕ) → Spells c a → Spells c b → a ≡ b }
+    ensures one_command { (c d : Command) (a : List ℕ) → Spells c a → Spells d a → c ≡ d }
+    ensures no_prefix { (c d : Command) (a more : List ℕ) → Spells c a → Spells d (a ++ more) → more ≡ [] }
+{
+}
+
+/// One reading: each byte list either has exactly one reading, or a fault at exactly one place.
+pub fn one_reading()
+    ensures read_or_refused { (bs : List ℕ) → IsRead bs ⊎ IsRefused bs }
+    ensures one_reading { (bs : List ℕ) (cs ds : List Command) (x y : List ℕ) →
+        Reads bs cs x → Reads bs ds y → (cs ≡ ds) × (x ≡ y) }
+    ensures one_fault { (bs : List ℕ) (cs ds : List Command) (x y : List ℕ) (k l : ℕ) (why also : FaultReason) →
+        FaultAt bs cs x k why → FaultAt bs ds y l also → (cs ≡ ds) × (x ≡ y) × (k ≡ l) × (why ≡ also) }
+    ensures not_both { (bs : List ℕ) → IsRead bs → IsRefused bs → ⊥ }
+{
+}
+
+/// Joined readings: a reading goes on where it stopped, so it doesn't matter where a stream is cut.
+pub fn joined_readings()
+    ensures { (a b : List ℕ) (cs ds : List Command) (r s : List ℕ) →
+        Reads a cs r → Reads (r ++ b) ds s → Reads (a ++ b) (cs ++ ds) s }
+{
+}

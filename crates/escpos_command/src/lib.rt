@@ -1,0 +1,17 @@
+//! ESC/POS commands of the Kolatennis profile: values, spellings, and the laws that join them.
+//!
+//! `device` has the readers and writers that every program core of this repository is written over.
+#![tactic(auto)]
+
+pub mod bytes;
+pub mod command;
+pub mod device;
+pub mod fault;
+pub mod laws;
+pub mod mark;
+pub mod parameter;
+
+pub use command::{Command, Cut};
+pub use device::{ByteIn, ByteOut, Failed};
+pub use fault::FaultReason;
+pub use mark::MarkId;
