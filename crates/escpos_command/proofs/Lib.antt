@@ -2,3 +2,4 @@ pub mod Walks
 pub mod Combinators
 pub mod Rows
 pub mod Readings
+pub mod Told

@@ -255,7 +255,7 @@ reads_command c bs s = record { commands = (s.in_range, tt); whole = s.in_table 
 pub reads_half : (bs : List ℕ) → Half bs → Reads bs [] bs
 reads_half bs h = record { commands = tt; whole = refl; pending = inr h }
 
-not_empty : (bs : List ℕ) (b : ℕ) → bs ++ b ∷ [] ≢ []
+pub not_empty : (bs : List ℕ) (b : ℕ) → bs ++ b ∷ [] ≢ []
 not_empty bs b e = let longer = ap length e in let count = length-append bs (b ∷ []) in omega arith
 
 -- A fault at the end of the bytes is one of all bytes.

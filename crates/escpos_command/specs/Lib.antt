@@ -5,3 +5,5 @@ pub mod Places
 pub mod Grammar
 pub mod Tree
 pub mod Laws
+pub mod Next
+pub mod Lead

@@ -10,6 +10,7 @@ pub mod fault;
 pub mod laws;
 pub mod mark;
 pub mod parameter;
+pub mod plain;
 
 pub use command::{Command, Cut};
 pub use device::{ByteIn, ByteOut, Failed};

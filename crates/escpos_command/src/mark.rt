@@ -83,8 +83,8 @@ impl MarkId {
     }
 }
 
-// A printing ASCII character.
-fn is_mark_byte(byte: u8) -> bool
+/// Whether a byte is a printing ASCII character, 32 to 126, as each byte of an id is.
+pub fn is_mark_byte(byte: u8) -> bool
     ensures { result ≡ is_mark_byte byte }
 {
     32 <= byte && byte <= 126

@@ -1,0 +1,162 @@
+//! Where bytes lead in the tree of the command table, a function for each part of the tree. A kind of
+//! command adds a branch to the function of its first bytes.
+
+ghost use Rattle.std.specs.Prelude.{◌≡◌, ℕ, List};
+ghost use Rattle.escpos_command.specs.Parameters.{is_mark_byte};
+ghost use Rattle.escpos_command.specs.Tree.{Tree, leaf, node, walk, these, counted, branch, none, behind_esc, behind_gs, cut, mark, grammar};
+ghost use Rattle.escpos_command.specs.Lead.{Tells, TellsFront};
+ghost use Rattle.escpos_command.specs.declared.command.Command.TheVariants.{Mark};
+
+use super::rest::Rest;
+use crate::bytes::{ESC, GS, LF};
+use crate::command::{Command, Cut};
+use crate::mark::{MarkId, is_mark_byte};
+use crate::parameter::{Character, CutFeed, CutMode, FeedCutMode};
+
+/// Where bytes lead.
+#[derive(Drop)]
+pub enum Lead {
+    /// To a whole command, and no byte behind it.
+    Leaf(Command),
+    /// To a place from which commands go on.
+    Node,
+    /// Nowhere.
+    Dead,
+}
+
+/// Where bytes lead that have to begin with fixed ones.
+#[derive(Drop)]
+pub enum Front<'a> {
+    /// They do, and these follow.
+    Behind(Rest<'a>),
+    /// They end before the fixed ones do.
+    Short,
+    /// They differ.
+    Other,
+}
+
+// A command that is whole before `rest`.
+fn whole(command: Command, rest: Rest<'_>) -> Lead
+    ensures { Tells result (walk (leaf command) rest.entry) }
+{
+    if rest.is_empty() { Lead::Leaf(command) } else { Lead::Dead }
+}
+
+// The fixed bytes at the front.
+fn fixed<'a>(bytes: &[u8], rest: Rest<'a>) -> Front<'a>
+    ensures { (t : Tree) → TellsFront result t (walk (these bytes.now t) rest.entry) }
+{
+    let Some((byte, bytes)) = bytes.split_first() else {
+        return Front::Behind(rest);
+    };
+    match rest.split_first() {
+        None => Front::Short,
+        Some((first, rest)) if first == *byte => fixed(bytes, rest),
+        Some(_) => Front::Other,
+    }
+}
+
+/// Any command.
+pub fn grammar(bytes: Rest<'_>) -> Lead
+    ensures { Tells result (walk grammar bytes.entry) }
+{
+    let Some((first, rest)) = bytes.split_first() else {
+        return Lead::Node;
+    };
+    match first {
+        LF => whole(Command::LineFeed, rest),
+        ESC => after_esc(rest),
+        GS => after_gs(rest),
+        _ => match Character::new(first) {
+            Some(character) => whole(Command::Char(character), rest),
+            None => Lead::Dead,
+        },
+    }
+}
+
+fn after_esc(bytes: Rest<'_>) -> Lead
+    ensures { Tells result (walk (node (branch behind_esc none)) bytes.entry) }
+{
+    let Some((letter, rest)) = bytes.split_first() else {
+        return Lead::Node;
+    };
+    match letter {
+        b'@' => whole(Command::Init, rest),
+        _ => Lead::Dead,
+    }
+}
+
+fn after_gs(bytes: Rest<'_>) -> Lead
+    ensures { Tells result (walk (node (branch behind_gs none)) bytes.entry) }
+{
+    let Some((letter, rest)) = bytes.split_first() else {
+        return Lead::Node;
+    };
+    match letter {
+        b'(' => mark(rest),
+        b'V' => cut(rest),
+        _ => Lead::Dead,
+    }
+}
+
+fn cut(bytes: Rest<'_>) -> Lead
+    ensures { Tells result (walk (node cut) bytes.entry) }
+{
+    let Some((mode, rest)) = bytes.split_first() else {
+        return Lead::Node;
+    };
+    if let Some(mode) = CutMode::new(mode) {
+        return whole(Command::Cut(Cut::AtOnce(mode)), rest);
+    }
+    let Some(mode) = FeedCutMode::new(mode) else {
+        return Lead::Dead;
+    };
+    match rest.split_first() {
+        None => Lead::Node,
+        Some((feed, rest)) => whole(
+            Command::Cut(Cut::BehindFeed(mode, CutFeed::new(feed))),
+            rest,
+        ),
+    }
+}
+
+fn mark(bytes: Rest<'_>) -> Lead
+    ensures { Tells result (walk mark bytes.entry) }
+{
+    match fixed(&[b'H', 6, 0, b'0', b'0'], bytes) {
+        Front::Behind(rest) => mark_id(rest),
+        Front::Short => Lead::Node,
+        Front::Other => Lead::Dead,
+    }
+}
+
+#[tactic(auto, unfolding(crate::specs::Tree::counted))]
+fn mark_id(bytes: Rest<'_>) -> Lead
+    ensures { Tells result (walk (counted 4 is_mark_byte Mark) bytes.entry) }
+{
+    let Some((d1, rest)) = bytes.split_first() else {
+        return Lead::Node;
+    };
+    if !is_mark_byte(d1) {
+        return Lead::Dead;
+    }
+    let Some((d2, rest)) = rest.split_first() else {
+        return Lead::Node;
+    };
+    if !is_mark_byte(d2) {
+        return Lead::Dead;
+    }
+    let Some((d3, rest)) = rest.split_first() else {
+        return Lead::Node;
+    };
+    if !is_mark_byte(d3) {
+        return Lead::Dead;
+    }
+    let Some((d4, rest)) = rest.split_first() else {
+        return Lead::Node;
+    };
+    match MarkId::new([d1, d2, d3, d4]) {
+        Some(id) => whole(Command::Mark(id), rest),
+        None => Lead::Dead,
+    }
+}
