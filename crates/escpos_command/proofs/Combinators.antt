@@ -23,6 +23,9 @@ pub and_right : (a b : Bool) → (a && b) ≡ true → b ≡ true
 and_right true b h = h
 and_right false b h = absurd cc
 
+pub both : (a b : Bool) → a ≡ true → b ≡ true → (a && b) ≡ true
+both a b h k = rw (h, k)
+
 -- A choice is good where each side is, when it is taken.
 pub good_choice : (p : List ℕ) (t u : Tree) (b : Bool) → (b ≡ true → Good p t) → (b ≡ false → Good p u) → Good p (cond b t u)
 good_choice p t u true yes_good no_good = yes_good refl

@@ -3,3 +3,4 @@ pub mod Combinators
 pub mod Rows
 pub mod Readings
 pub mod Told
+pub mod Places

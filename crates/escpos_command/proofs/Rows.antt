@@ -1,18 +1,17 @@
 -- The rows of the command table in the tree: each spelling leads to its command, and the tree is good. A
 -- kind of command adds a case to `leads` and an entry to the proof of its table.
 use Rattle.std.proofs.Common.{◌≡◌, ℕ, List, [], ◌∷◌, ◌++◌, refl, sym, ◌∙◌, ap, arith, Bool, true, false, cond, IsTrue, length}
-use Rattle.std.specs.Prelude.{◌==◌, ◌&&◌}
+use Rattle.std.specs.Prelude.{◌==◌, ◌&&◌, Option, None, Some, option_to_list}
 use Rattle.std.specs.List.{list_all}
 use Rattle.std.proofs.lemmas.Bool.Decides.{nat_tests}
 use Rattle.escpos_command.specs.declared.bytes.TheConstants.{LF, ESC, GS}
 use Rattle.escpos_command.specs.declared.command.Command.{Command}
 use Rattle.escpos_command.specs.declared.command.Command.TheVariants.{Char, LineFeed, Init, Cut, Mark}
-use Rattle.escpos_command.specs.declared.command.Cut.TheVariants.{AtOnce, BehindFeed}
-use Rattle.escpos_command.specs.Parameters.{is_character, is_cut_mode, is_feed_cut_mode, is_byte, is_mark_byte, is_mark_id}
+use Rattle.escpos_command.specs.Parameters.{is_character, is_cut_mode, is_feed_cut_mode, is_cut, is_byte, is_mark_byte, is_mark_id}
 use Rattle.escpos_command.specs.Table.{Spells, IsCommand, row}
 use Rattle.escpos_command.specs.Tree.{Tree, dead, leaf, node, walk, branch, none, one, first, character, behind_esc, behind_gs, cut, mark, grammar, counted}
 use Rattle.escpos_command.proofs.Walks.{IsLive, Good}
-use Rattle.escpos_command.proofs.Combinators.{good_choice, good_one, good_branch, good_these, good_counted, walk-counted, walk-one, live_counted, and_left, and_right, same_number}
+use Rattle.escpos_command.proofs.Combinators.{good_choice, good_one, good_branch, good_these, good_counted, walk-counted, walk-one, live_counted, and_left, and_right, both, same_number}
 
 -- A character begins no command of another kind.
 leads_character : (b : ℕ) → is_character b ≡ true → branch first character b ≡ leaf (Char b)
@@ -26,19 +25,23 @@ leads_character b h =
 feed_mode_apart : (m : ℕ) → is_feed_cut_mode m ≡ true → is_cut_mode m ≡ false
 feed_mode_apart m h = grind (arith, nat_tests)
 
-leads_cut : (m : ℕ) → is_cut_mode m ≡ true → cut m ≡ leaf (Cut (AtOnce m))
-leads_cut m h = rw h
+leads_mode : (m : ℕ) → is_cut_mode m ≡ true → cut m ≡ leaf (Cut (m, None))
+leads_mode m h = rw h
 
-leads_feed_cut : (m : ℕ) → is_feed_cut_mode m ≡ true → cut m ≡ one is_byte (λ n. Cut (BehindFeed m n))
-leads_feed_cut m h = rw (feed_mode_apart m h, h)
+leads_feed_mode : (m : ℕ) → is_feed_cut_mode m ≡ true → cut m ≡ one is_byte (λ n. Cut (m, Some n))
+leads_feed_mode m h = rw (feed_mode_apart m h, h)
+
+leads_cut : (m : ℕ) (feed : Option ℕ) → is_cut m feed ≡ true → walk (cut m) (option_to_list feed) ≡ leaf (Cut (m, feed))
+leads_cut m None h = ap (λ t. walk t []) (leads_mode m h)
+leads_cut m (Some n) h =
+    ap (λ t. walk t (n ∷ [])) (leads_feed_mode m (and_left _ _ h)) ∙ walk-one is_byte (λ x. Cut (m, Some x)) n (and_right _ _ h)
 
 -- Each spelling leads to its command.
 pub leads : (c : Command) → IsCommand c → walk grammar (row c) ≡ leaf c
 leads (Char b) h = ap (λ t. walk t []) (leads_character b h)
 leads LineFeed h = refl
 leads Init h = refl
-leads (Cut (AtOnce m)) h = ap (λ t. walk t []) (leads_cut m h)
-leads (Cut (BehindFeed m n)) h = ap (λ t. walk t (n ∷ [])) (leads_feed_cut m h.0) ∙ walk-one is_byte (λ x. Cut (BehindFeed m x)) n h.1
+leads (Cut cut) h = leads_cut cut.0 cut.1 h
 leads (Mark id) h = walk-counted 4 is_mark_byte Mark id (same_number _ _ (and_left _ _ h)) (and_right _ _ h)
 
 -- A command at its spelling.
@@ -47,9 +50,9 @@ at_row c h = record { in_range = h; in_table = refl }
 
 good_cut : (m : ℕ) → Good (GS ∷ 0x56 ∷ m ∷ []) (cut m)
 good_cut m =
-    good_choice _ _ _ (is_cut_mode m) (λ h. at_row (Cut (AtOnce m)) h) (λ _.
+    good_choice _ _ _ (is_cut_mode m) (λ h. at_row (Cut (m, None)) h) (λ _.
       good_choice _ _ _ (is_feed_cut_mode m)
-      (λ h. good_one (GS ∷ 0x56 ∷ m ∷ []) is_byte (λ n. Cut (BehindFeed m n)) 0 refl (λ n k. at_row (Cut (BehindFeed m n)) (h, k)))
+      (λ h. good_one (GS ∷ 0x56 ∷ m ∷ []) is_byte (λ n. Cut (m, Some n)) 0 refl (λ n k. at_row (Cut (m, Some n)) (both _ _ h k)))
       (λ _. tt))
 
 -- Four bytes that each pass are an id.

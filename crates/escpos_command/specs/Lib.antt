@@ -7,3 +7,4 @@ pub mod Tree
 pub mod Laws
 pub mod Next
 pub mod Lead
+pub mod Reading

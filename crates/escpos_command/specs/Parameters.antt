@@ -1,5 +1,5 @@
 -- Which bytes each parameter of the command table may be. A parameter is seen as its byte, kept as sent.
-use Rattle.std.specs.Prelude.{ℕ, ◌==◌, ◌&&◌, ◌||◌, nat_le, nat_lt, Bool, List, length}
+use Rattle.std.specs.Prelude.{ℕ, ◌==◌, ◌&&◌, ◌||◌, nat_le, nat_lt, Bool, List, length, Option, None, Some}
 use Rattle.std.specs.List.{list_all}
 
 -- Any byte, 0 to 255.
@@ -17,6 +17,11 @@ is_cut_mode m = m == 0 || m == 48 || m == 1 || m == 49
 -- GS V with a feed: 65 cuts the paper through, 66 leaves a point.
 abbrev pub is_feed_cut_mode : ℕ → Bool
 is_feed_cut_mode m = m == 65 || m == 66
+
+-- What GS V takes: a mode alone, or another mode and how far the paper is fed first, in motion units.
+abbrev pub is_cut : ℕ → Option ℕ → Bool
+is_cut m None = is_cut_mode m
+is_cut m (Some n) = is_feed_cut_mode m && is_byte n
 
 -- A byte of a mark's id, a printing ASCII character: 32 to 126.
 abbrev pub is_mark_byte : ℕ → Bool

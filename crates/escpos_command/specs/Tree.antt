@@ -1,11 +1,10 @@
 -- The command table as a tree of bytes. Proofs and private clauses alone go by it: the definitions of
 -- Table and Grammar do not, and are shown to agree with it.
 use Rattle.std.proofs.Common.{zero, suc}
-use Rattle.std.specs.Prelude.{ℕ, ◌==◌, Bool, List, [], ◌∷◌, ◌++◌, if◌then◌else◌}
+use Rattle.std.specs.Prelude.{ℕ, ◌==◌, Bool, List, [], ◌∷◌, ◌++◌, if◌then◌else◌, None, Some}
 use Rattle.escpos_command.specs.declared.bytes.TheConstants.{LF, ESC, GS}
 use Rattle.escpos_command.specs.declared.command.Command.{Command}
 use Rattle.escpos_command.specs.declared.command.Command.TheVariants.{Char, LineFeed, Init, Cut, Mark}
-use Rattle.escpos_command.specs.declared.command.Cut.TheVariants.{AtOnce, BehindFeed}
 use Rattle.escpos_command.specs.Parameters.{is_character, is_cut_mode, is_feed_cut_mode, is_byte, is_mark_byte}
 
 -- Where the bytes so far lead: to no command, to a whole one, or on, by the next byte.
@@ -57,8 +56,8 @@ behind_esc =
 -- GS V takes a mode alone, or a mode and a feed.
 abbrev pub cut : ℕ → Tree
 cut m =
-    if is_cut_mode m then leaf (Cut (AtOnce m))
-    else if is_feed_cut_mode m then one is_byte (λ n. Cut (BehindFeed m n))
+    if is_cut_mode m then leaf (Cut (m, None))
+    else if is_feed_cut_mode m then one is_byte (λ n. Cut (m, Some n))
     else dead
 
 -- GS ( takes function 48 of the letter H, and an id.

@@ -8,7 +8,7 @@ ghost use Rattle.escpos_command.specs.Table.{row};
 
 use crate::bytes::{ESC, GS, LF};
 use crate::mark::MarkId;
-use crate::parameter::{Character, CutFeed, CutMode, FeedCutMode};
+use crate::parameter::{Character, Cut};
 use std::alloc::AllocError;
 
 /// One command of the profile. Each parameter keeps its byte as sent, so a command has one spelling.
@@ -27,15 +27,6 @@ pub enum Command {
     Mark(MarkId),
 }
 
-/// Where the paper is cut. (Reference: GS V.)
-#[derive(Clone, Copy, Debug, PartialEq, Eq)]
-pub enum Cut {
-    /// At once.
-    AtOnce(CutMode),
-    /// Behind a feed to the cutting position and so many motion units beyond it.
-    BehindFeed(FeedCutMode, CutFeed),
-}
-
 impl Command {
     /// Appends the spelling, the command's row of the command table, to `out`.
     ///
@@ -48,10 +39,10 @@ impl Command {
             Command::Char(character) => out.extend_from_slice(&[character.byte()]),
             Command::LineFeed => out.extend_from_slice(&[LF]),
             Command::Init => out.extend_from_slice(&[ESC, b'@']),
-            Command::Cut(Cut::AtOnce(mode)) => out.extend_from_slice(&[GS, b'V', mode.byte()]),
-            Command::Cut(Cut::BehindFeed(mode, feed)) => {
-                out.extend_from_slice(&[GS, b'V', mode.byte(), feed.byte()])
-            }
+            Command::Cut(cut) => match cut.feed() {
+                None => out.extend_from_slice(&[GS, b'V', cut.mode()]),
+                Some(feed) => out.extend_from_slice(&[GS, b'V', cut.mode(), feed]),
+            },
             Command::Mark(id) => {
                 let [d1, d2, d3, d4] = id.bytes();
                 out.extend_from_slice(&[GS, b'(', b'H', 6, 0, b'0', b'0', d1, d2, d3, d4])

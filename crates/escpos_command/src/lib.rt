@@ -12,7 +12,8 @@ pub mod mark;
 pub mod parameter;
 pub mod plain;
 
-pub use command::{Command, Cut};
+pub use command::Command;
 pub use device::{ByteIn, ByteOut, Failed};
 pub use fault::FaultReason;
 pub use mark::MarkId;
+pub use parameter::{Character, Cut};

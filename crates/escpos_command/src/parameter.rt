@@ -5,9 +5,9 @@
 //! number of their own, has a module of its own. A new parameter is a test in `specs/Parameters.antt`
 //! and a type here.
 
-ghost use Rattle.std.specs.Prelude.{◌≡◌, ℕ, IsTrue};
+ghost use Rattle.std.specs.Prelude.{◌≡◌, ℕ, IsTrue, Some, None};
 ghost use Rattle.std.specs.Option.{SomeIff};
-ghost use Rattle.escpos_command.specs.Parameters.{is_byte, is_character, is_cut_mode, is_feed_cut_mode};
+ghost use Rattle.escpos_command.specs.Parameters.{is_character, is_cut};
 
 use std::marker::Model;
 
@@ -49,111 +49,66 @@ impl Character {
     }
 }
 
-/// How a cut without a feed cuts: 0 and 48 through, 1 and 49 with one point left uncut.
-/// (Reference: GS V, function A.)
+/// Where and how the paper is cut. (Reference: GS V.)
+///
+/// Function A cuts at once: mode 0 or 48 through, 1 or 49 with one point left uncut. Function B feeds the
+/// paper to the cutting position and so many motion units beyond it first: mode 65 through, 66 with one
+/// point left uncut.
 #[derive(Clone, Copy, Debug, PartialEq, Eq)]
-pub struct CutMode {
-    byte: u8,
+pub struct Cut {
+    mode: u8,
+    feed: Option<u8>,
 }
 
-impl Model for CutMode {
-    ghost Value = { ℕ };
+impl Model for Cut {
+    ghost use Rattle.std.specs.Prelude.{ℕ, IsTrue, Option};
+    ghost use Rattle.escpos_command.specs.Parameters.{is_cut};
 
-    ghost view = { λ p. p.byte };
+    ghost Value = { ℕ × Option ℕ };
 
-    ghost invariant = { λ p. IsTrue (is_cut_mode p.byte) };
+    ghost view = { λ c. (c.mode, c.feed) };
 
-    ghost inverse = { λ n. record { byte = n } };
+    ghost invariant = { λ c. IsTrue (is_cut c.mode c.feed) };
+
+    ghost inverse = { λ v. record { mode = v.0; feed = v.1 } };
 }
 
-impl CutMode {
-    /// The mode of this byte; `None` for all but 0, 1, 48 and 49.
-    pub fn new(byte: u8) -> Option<Self>
-        ensures { SomeIff result (IsTrue (is_cut_mode byte)) byte }
+impl Cut {
+    /// A cut at once; `None` for all modes but 0, 1, 48 and 49.
+    pub fn new(mode: u8) -> Option<Self>
+        ensures { SomeIff result (IsTrue (is_cut mode None)) (mode, None) }
     {
-        if matches!(byte, 0 | 1 | 48 | 49) {
-            Some(CutMode { byte })
-        } else {
-            None
+        match mode {
+            0 | 1 | 48 | 49 => Some(Cut { mode, feed: None }),
+            _ => None,
         }
     }
 
-    /// The byte as sent: 0, 1, 48 or 49.
-    pub fn byte(self) -> u8
-        ensures kept { result ≡ self }
-        ensures range { IsTrue (is_cut_mode result) }
+    /// A cut behind a feed of `feed` motion units; `None` for all modes but 65 and 66.
+    pub fn with_feed(mode: u8, feed: u8) -> Option<Self>
+        ensures { SomeIff result (IsTrue (is_cut mode (Some feed))) (mode, Some feed) }
     {
-        self.byte
-    }
-}
-
-/// How a cut behind a feed cuts: 65 through, 66 with one point left uncut. (Reference: GS V, function B.)
-#[derive(Clone, Copy, Debug, PartialEq, Eq)]
-pub struct FeedCutMode {
-    byte: u8,
-}
-
-impl Model for FeedCutMode {
-    ghost Value = { ℕ };
-
-    ghost view = { λ p. p.byte };
-
-    ghost invariant = { λ p. IsTrue (is_feed_cut_mode p.byte) };
-
-    ghost inverse = { λ n. record { byte = n } };
-}
-
-impl FeedCutMode {
-    /// The mode of this byte; `None` for all but 65 and 66.
-    pub fn new(byte: u8) -> Option<Self>
-        ensures { SomeIff result (IsTrue (is_feed_cut_mode byte)) byte }
-    {
-        if matches!(byte, 65 | 66) {
-            Some(FeedCutMode { byte })
-        } else {
-            None
+        match mode {
+            65 | 66 => Some(Cut {
+                mode,
+                feed: Some(feed),
+            }),
+            _ => None,
         }
     }
 
-    /// The byte as sent: 65 or 66.
-    pub fn byte(self) -> u8
-        ensures kept { result ≡ self }
-        ensures range { IsTrue (is_feed_cut_mode result) }
+    /// The mode as sent: 0, 1, 48 or 49 for a cut at once, 65 or 66 behind a feed.
+    pub fn mode(self) -> u8
+        ensures kept { result ≡ self.0 }
+        ensures range { IsTrue (is_cut self.0 self.1) }
     {
-        self.byte
-    }
-}
-
-/// How far the paper is fed beyond the cutting position before it is cut: 0 to 255 vertical motion
-/// units. (Reference: GS V, function B, parameter n.)
-#[derive(Clone, Copy, Debug, PartialEq, Eq)]
-pub struct CutFeed {
-    byte: u8,
-}
-
-impl Model for CutFeed {
-    ghost Value = { ℕ };
-
-    ghost view = { λ p. p.byte };
-
-    ghost invariant = { λ p. IsTrue (is_byte p.byte) };
-
-    ghost inverse = { λ n. record { byte = n } };
-}
-
-impl CutFeed {
-    /// The feed of this many motion units.
-    pub fn new(byte: u8) -> Self
-        ensures { result ≡ byte }
-    {
-        CutFeed { byte }
+        self.mode
     }
 
-    /// The motion units, 0 to 255.
-    pub fn byte(self) -> u8
-        ensures kept { result ≡ self }
-        ensures range { IsTrue (is_byte result) }
+    /// The motion units that the paper is fed beyond the cutting position first, 0 to 255.
+    pub fn feed(self) -> Option<u8>
+        ensures { result ≡ self.1 }
     {
-        self.byte
+        self.feed
     }
 }

@@ -3,8 +3,11 @@
 //! `step` answers for one byte behind a half command, and `read` for a whole list. They are there to run
 //! worked rows against the definitions, to serve a first decoder, and to compare a quicker one with.
 
+mod reading;
 mod rest;
 mod tree;
+
+pub use reading::{End, Reading, read};
 
 ghost use Rattle.std.specs.Prelude.{◌≡◌};
 ghost use Rattle.escpos_command.specs.Places.{reason_behind};

@@ -9,9 +9,9 @@ ghost use Rattle.escpos_command.specs.declared.command.Command.TheVariants.{Mark
 
 use super::rest::Rest;
 use crate::bytes::{ESC, GS, LF};
-use crate::command::{Command, Cut};
+use crate::command::Command;
 use crate::mark::{MarkId, is_mark_byte};
-use crate::parameter::{Character, CutFeed, CutMode, FeedCutMode};
+use crate::parameter::{Character, Cut};
 
 /// Where bytes lead.
 #[derive(Drop)]
@@ -105,18 +105,18 @@ fn cut(bytes: Rest<'_>) -> Lead
     let Some((mode, rest)) = bytes.split_first() else {
         return Lead::Node;
     };
-    if let Some(mode) = CutMode::new(mode) {
-        return whole(Command::Cut(Cut::AtOnce(mode)), rest);
+    if let Some(cut) = Cut::new(mode) {
+        return whole(Command::Cut(cut), rest);
     }
-    let Some(mode) = FeedCutMode::new(mode) else {
-        return Lead::Dead;
+    let Some((feed, rest)) = rest.split_first() else {
+        return match Cut::with_feed(mode, 0) {
+            Some(_) => Lead::Node,
+            None => Lead::Dead,
+        };
     };
-    match rest.split_first() {
-        None => Lead::Node,
-        Some((feed, rest)) => whole(
-            Command::Cut(Cut::BehindFeed(mode, CutFeed::new(feed))),
-            rest,
-        ),
+    match Cut::with_feed(mode, feed) {
+        Some(cut) => whole(Command::Cut(cut), rest),
+        None => Lead::Dead,
     }
 }
 
