@@ -4,3 +4,4 @@ pub mod Rows
 pub mod Readings
 pub mod Told
 pub mod Places
+pub mod Ids

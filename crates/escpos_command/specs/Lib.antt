@@ -1,4 +1,5 @@
 pub mod Parameters
+pub mod Meanings
 pub mod Digits
 pub mod Table
 pub mod Places

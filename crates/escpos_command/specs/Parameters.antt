@@ -1,5 +1,5 @@
 -- Which bytes each parameter of the command table may be. A parameter is seen as its byte, kept as sent.
-use Rattle.std.specs.Prelude.{ℕ, ◌==◌, ◌&&◌, ◌||◌, nat_le, nat_lt, Bool, List, length, Option, None, Some}
+use Rattle.std.specs.Prelude.{ℕ, ◌==◌, ◌&&◌, ◌||◌, ◌%◌, nat_le, nat_lt, Bool, List, length, Option, None, Some}
 use Rattle.std.specs.List.{list_all}
 
 -- Any byte, 0 to 255.
@@ -10,17 +10,40 @@ is_byte n = nat_lt n 256
 abbrev pub is_character : ℕ → Bool
 is_character b = nat_le 0x20 b && is_byte b
 
--- GS V without a feed: 0 and 48 cut the paper through, 1 and 49 leave a point.
-abbrev pub is_cut_mode : ℕ → Bool
-is_cut_mode m = m == 0 || m == 48 || m == 1 || m == 49
+-- Choices, sent as a number from 0 or as its digit.
+abbrev pub is_one_of_two : ℕ → Bool
+is_one_of_two n = n == 0 || n == 1 || n == 48 || n == 49
+
+abbrev pub is_one_of_three : ℕ → Bool
+is_one_of_three n = n == 0 || n == 1 || n == 2 || n == 48 || n == 49 || n == 50
+
+abbrev pub is_one_of_four : ℕ → Bool
+is_one_of_four n = nat_le n 3 || (nat_le 48 n && nat_le n 51)
+
+-- A size: bits 3 and 7 are clear.
+abbrev pub is_size : ℕ → Bool
+is_size n = nat_lt n 128 && nat_lt (n % 16) 8
+
+-- The height of a barcode, 1 to 255.
+abbrev pub is_bar_height : ℕ → Bool
+is_bar_height n = nat_le 1 n && is_byte n
+
+-- The module width of a barcode, 2 to 6.
+abbrev pub is_bar_width : ℕ → Bool
+is_bar_width n = nat_le 2 n && nat_le n 6
+
+-- A kind of status, 1 to 4.
+abbrev pub is_status_kind : ℕ → Bool
+is_status_kind n = nat_le 1 n && nat_le n 4
 
 -- GS V with a feed: 65 cuts the paper through, 66 leaves a point.
 abbrev pub is_feed_cut_mode : ℕ → Bool
 is_feed_cut_mode m = m == 65 || m == 66
 
--- What GS V takes: a mode alone, or another mode and how far the paper is fed first, in motion units.
+-- What GS V takes: a mode alone, 0 and 48 through, 1 and 49 leaving a point; or another mode and how far
+-- the paper is fed first, in motion units.
 abbrev pub is_cut : ℕ → Option ℕ → Bool
-is_cut m None = is_cut_mode m
+is_cut m None = is_one_of_two m
 is_cut m (Some n) = is_feed_cut_mode m && is_byte n
 
 -- A byte of a mark's id, a printing ASCII character: 32 to 126.

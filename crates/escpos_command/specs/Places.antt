@@ -8,7 +8,7 @@ use Rattle.escpos_command.specs.declared.fault.FaultReason.TheVariants.{UnknownB
 abbrev pub reason_behind : List ℕ → FaultReason
 -- the first byte of a command
 reason_behind [] = UnknownByte
--- the letter behind ESC or GS
+-- the letter behind DLE, ESC or GS
 reason_behind (b ∷ []) = UnknownCommand
 -- the second letter behind GS (, or a parameter
 reason_behind (b ∷ letter ∷ []) = if b == GS && letter == 0x28 then UnknownCommand else BadParameter

@@ -3,8 +3,17 @@
 /// Line feed.
 pub const LF: u8 = 0x0A;
 
+/// Carriage return.
+pub const CR: u8 = 0x0D;
+
+/// Data link escape, the first byte of DLE EOT.
+pub const DLE: u8 = 0x10;
+
 /// Escape, the first byte of the commands ESC @ and its kin.
 pub const ESC: u8 = 0x1B;
 
 /// Group separator, the first byte of the commands GS V and its kin.
 pub const GS: u8 = 0x1D;
+
+/// End of transmission, the second byte of DLE EOT.
+pub const EOT: u8 = 0x04;

@@ -12,8 +12,11 @@ pub mod mark;
 pub mod parameter;
 pub mod plain;
 
-pub use command::Command;
+pub use command::{Command, LONGEST_SPELLING};
 pub use device::{ByteIn, ByteOut, Failed};
 pub use fault::FaultReason;
 pub use mark::MarkId;
-pub use parameter::{Character, Cut};
+pub use parameter::{
+    Align, Alignment, BarHeight, BarWidth, Character, Cut, Emphasis, FeedLines, Font, FontFace,
+    HriFont, HriPlace, HriPosition, Mode, Size, StatusKind, Table, Underline,
+};

@@ -3,6 +3,7 @@
 //! `step` answers for one byte behind a half command, and `read` for a whole list. They are there to run
 //! worked rows against the definitions, to serve a first decoder, and to compare a quicker one with.
 
+mod parameter;
 mod reading;
 mod rest;
 mod tree;

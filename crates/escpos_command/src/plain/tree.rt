@@ -3,15 +3,16 @@
 
 ghost use Rattle.std.specs.Prelude.{◌≡◌, ℕ, List};
 ghost use Rattle.escpos_command.specs.Parameters.{is_mark_byte};
-ghost use Rattle.escpos_command.specs.Tree.{Tree, leaf, node, walk, these, counted, branch, none, behind_esc, behind_gs, cut, mark, grammar};
+ghost use Rattle.escpos_command.specs.Tree.{Tree, leaf, node, walk, these, counted, branch, none, one, behind_esc, behind_gs, behind_dle, cut, mark, grammar};
 ghost use Rattle.escpos_command.specs.Lead.{Tells, TellsFront};
 ghost use Rattle.escpos_command.specs.declared.command.Command.TheVariants.{Mark};
 
+use super::parameter::Parameter;
 use super::rest::Rest;
-use crate::bytes::{ESC, GS, LF};
+use crate::bytes::{CR, DLE, EOT, ESC, GS, LF};
 use crate::command::Command;
 use crate::mark::{MarkId, is_mark_byte};
-use crate::parameter::{Character, Cut};
+use crate::parameter::{Align, BarHeight, BarWidth, Character, Cut, Emphasis, FeedLines, Font, HriFont, HriPlace, Mode, Size, StatusKind, Table, Underline};
 
 /// Where bytes lead.
 #[derive(Drop)]
@@ -65,6 +66,8 @@ pub fn grammar(bytes: Rest<'_>) -> Lead
     };
     match first {
         LF => whole(Command::LineFeed, rest),
+        CR => whole(Command::Return, rest),
+        DLE => after_dle(rest),
         ESC => after_esc(rest),
         GS => after_gs(rest),
         _ => match Character::new(first) {
@@ -81,7 +84,14 @@ fn after_esc(bytes: Rest<'_>) -> Lead
         return Lead::Node;
     };
     match letter {
+        b'!' => one::<Mode>(rest),
+        b'-' => one::<Underline>(rest),
         b'@' => whole(Command::Init, rest),
+        b'E' => one::<Emphasis>(rest),
+        b'M' => one::<Font>(rest),
+        b'a' => one::<Align>(rest),
+        b'd' => one::<FeedLines>(rest),
+        b't' => one::<Table>(rest),
         _ => Lead::Dead,
     }
 }
@@ -93,9 +103,37 @@ fn after_gs(bytes: Rest<'_>) -> Lead
         return Lead::Node;
     };
     match letter {
+        b'!' => one::<Size>(rest),
         b'(' => mark(rest),
+        b'H' => one::<HriPlace>(rest),
         b'V' => cut(rest),
+        b'f' => one::<HriFont>(rest),
+        b'h' => one::<BarHeight>(rest),
+        b'w' => one::<BarWidth>(rest),
         _ => Lead::Dead,
+    }
+}
+
+fn after_dle(bytes: Rest<'_>) -> Lead
+    ensures { Tells result (walk (node (branch behind_dle none)) bytes.entry) }
+{
+    match bytes.split_first() {
+        None => Lead::Node,
+        Some((EOT, rest)) => one::<StatusKind>(rest),
+        Some(_) => Lead::Dead,
+    }
+}
+
+// A command with one parameter byte.
+fn one<P: Parameter>(bytes: Rest<'_>) -> Lead
+    ensures { Tells result (walk (one P.allows P.command) bytes.entry) }
+{
+    let Some((byte, rest)) = bytes.split_first() else {
+        return Lead::Node;
+    };
+    match P::command_of(byte) {
+        Some(command) => whole(command, rest),
+        None => Lead::Dead,
     }
 }
 

@@ -1,0 +1,78 @@
+//! What the bytes of parameters mean, apart from the parameters themselves.
+
+ghost use Rattle.std.specs.Prelude.{◌≡◌, ◌<◌};
+ghost use Rattle.escpos_command.specs.Meanings.{has_bit, choice, face_of, alignment_of, hri_position_of};
+
+/// A font of the printer.
+#[derive(Clone, Copy, Debug, PartialEq, Eq)]
+pub enum FontFace {
+    /// 12 dots wide.
+    A,
+    /// 9 dots wide.
+    B,
+}
+
+/// Where a line stands on the paper.
+#[derive(Clone, Copy, Debug, PartialEq, Eq)]
+pub enum Alignment {
+    Left,
+    Center,
+    Right,
+}
+
+/// Where the human readable interpretation of a barcode stands.
+#[derive(Clone, Copy, Debug, PartialEq, Eq)]
+pub enum HriPosition {
+    /// It isn't printed.
+    Nowhere,
+    Above,
+    Below,
+    /// Above and below.
+    Both,
+}
+
+/// Whether the bit at `place` is set, counted from 0 for the lowest.
+pub fn has_bit(byte: u8, place: u32) -> bool
+    requires { place < 8 }
+    ensures { result ≡ has_bit byte place }
+{
+    (byte >> place) % 2 == 1
+}
+
+/// Which choice a byte makes: 0 and 48 the first, and so on.
+pub fn choice(byte: u8) -> u8
+    ensures { result ≡ choice byte }
+{
+    byte % 48
+}
+
+pub fn face_of(choice: u8) -> FontFace
+    ensures { result ≡ face_of choice }
+{
+    if choice == 0 {
+        FontFace::A
+    } else {
+        FontFace::B
+    }
+}
+
+pub fn alignment_of(choice: u8) -> Alignment
+    ensures { result ≡ alignment_of choice }
+{
+    match choice {
+        0 => Alignment::Left,
+        1 => Alignment::Center,
+        _ => Alignment::Right,
+    }
+}
+
+pub fn hri_position_of(choice: u8) -> HriPosition
+    ensures { result ≡ hri_position_of choice }
+{
+    match choice {
+        0 => HriPosition::Nowhere,
+        1 => HriPosition::Above,
+        2 => HriPosition::Below,
+        _ => HriPosition::Both,
+    }
+}

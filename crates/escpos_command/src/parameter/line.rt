@@ -1,0 +1,195 @@
+//! Parameters of commands that act on a line or on the paper.
+
+ghost use Rattle.std.specs.Prelude.{◌≡◌, ℕ, IsTrue, Some, None};
+ghost use Rattle.std.specs.Option.{SomeIff};
+ghost use Rattle.escpos_command.specs.Parameters.{is_byte, is_one_of_three, is_cut, is_status_kind};
+ghost use Rattle.escpos_command.specs.Meanings.{choice, alignment_of, leaves_a_point};
+
+use super::choices::{Alignment, alignment_of, choice};
+use std::marker::Model;
+
+/// Where a line stands: 0 and 48 left, 1 and 49 center, 2 and 50 right. (Reference: ESC a.)
+#[derive(Clone, Copy, Debug, PartialEq, Eq)]
+pub struct Align {
+    byte: u8,
+}
+
+impl Model for Align {
+    ghost Value = { ℕ };
+
+    ghost view = { λ p. p.byte };
+
+    ghost invariant = { λ p. IsTrue (is_one_of_three p.byte) };
+
+    ghost inverse = { λ n. record { byte = n } };
+}
+
+impl Align {
+    /// The alignment of this byte; `None` for all but 0, 1, 2, 48, 49 and 50.
+    pub fn new(byte: u8) -> Option<Self>
+        ensures { SomeIff result (IsTrue (is_one_of_three byte)) byte }
+    {
+        if matches!(byte, 0 | 1 | 2 | 48 | 49 | 50) {
+            Some(Align { byte })
+        } else {
+            None
+        }
+    }
+
+    /// The byte as sent: 0, 1, 2, 48, 49 or 50.
+    pub fn byte(self) -> u8
+        ensures kept { result ≡ self }
+        ensures range { IsTrue (is_one_of_three result) }
+    {
+        self.byte
+    }
+
+    /// Which alignment it is.
+    pub fn alignment(self) -> Alignment
+        ensures { result ≡ alignment_of (choice self) }
+    {
+        alignment_of(choice(self.byte))
+    }
+}
+
+/// How many lines the paper is fed behind the line. (Reference: ESC d.)
+#[derive(Clone, Copy, Debug, PartialEq, Eq)]
+pub struct FeedLines {
+    byte: u8,
+}
+
+impl Model for FeedLines {
+    ghost Value = { ℕ };
+
+    ghost view = { λ p. p.byte };
+
+    ghost invariant = { λ p. IsTrue (is_byte p.byte) };
+
+    ghost inverse = { λ n. record { byte = n } };
+}
+
+impl FeedLines {
+    /// The feed of so many lines. Every byte is one.
+    pub fn new(byte: u8) -> Option<Self>
+        ensures { SomeIff result (IsTrue (is_byte byte)) byte }
+    {
+        Some(FeedLines { byte })
+    }
+
+    /// The number of lines, 0 to 255.
+    pub fn byte(self) -> u8
+        ensures kept { result ≡ self }
+        ensures range { IsTrue (is_byte result) }
+    {
+        self.byte
+    }
+}
+
+/// How the paper is cut. (Reference: GS V.)
+///
+/// Function A cuts at once: mode 0 or 48 through, 1 or 49 with one point left uncut. Function B feeds the
+/// paper to the cutting position and so many motion units beyond it first: mode 65 through, 66 with one
+/// point left uncut.
+#[derive(Clone, Copy, Debug, PartialEq, Eq)]
+pub struct Cut {
+    mode: u8,
+    feed: Option<u8>,
+}
+
+impl Model for Cut {
+    ghost use Rattle.std.specs.Prelude.{ℕ, IsTrue, Option};
+    ghost use Rattle.escpos_command.specs.Parameters.{is_cut};
+
+    ghost Value = { ℕ × Option ℕ };
+
+    ghost view = { λ c. (c.mode, c.feed) };
+
+    ghost invariant = { λ c. IsTrue (is_cut c.mode c.feed) };
+
+    ghost inverse = { λ v. record { mode = v.0; feed = v.1 } };
+}
+
+impl Cut {
+    /// A cut at once; `None` for all modes but 0, 1, 48 and 49.
+    pub fn new(mode: u8) -> Option<Self>
+        ensures { SomeIff result (IsTrue (is_cut mode None)) (mode, None) }
+    {
+        match mode {
+            0 | 1 | 48 | 49 => Some(Cut { mode, feed: None }),
+            _ => None,
+        }
+    }
+
+    /// A cut behind a feed of `feed` motion units; `None` for all modes but 65 and 66.
+    pub fn with_feed(mode: u8, feed: u8) -> Option<Self>
+        ensures { SomeIff result (IsTrue (is_cut mode (Some feed))) (mode, Some feed) }
+    {
+        match mode {
+            65 | 66 => Some(Cut {
+                mode,
+                feed: Some(feed),
+            }),
+            _ => None,
+        }
+    }
+
+    /// The mode as sent: 0, 1, 48 or 49 for a cut at once, 65 or 66 behind a feed.
+    pub fn mode(self) -> u8
+        ensures kept { result ≡ self.0 }
+        ensures range { IsTrue (is_cut self.0 self.1) }
+    {
+        self.mode
+    }
+
+    /// The motion units that the paper is fed beyond the cutting position first, 0 to 255.
+    pub fn feed(self) -> Option<u8>
+        ensures { result ≡ self.1 }
+    {
+        self.feed
+    }
+
+    /// Whether one point is left uncut.
+    pub fn is_partial(self) -> bool
+        ensures { result ≡ leaves_a_point self.0 }
+    {
+        matches!(self.mode, 1 | 49 | 66)
+    }
+}
+
+/// Which status is asked for: 1 the printer, 2 why it is offline, 3 errors, 4 the paper.
+/// (Reference: DLE EOT.)
+#[derive(Clone, Copy, Debug, PartialEq, Eq)]
+pub struct StatusKind {
+    byte: u8,
+}
+
+impl Model for StatusKind {
+    ghost Value = { ℕ };
+
+    ghost view = { λ p. p.byte };
+
+    ghost invariant = { λ p. IsTrue (is_status_kind p.byte) };
+
+    ghost inverse = { λ n. record { byte = n } };
+}
+
+impl StatusKind {
+    /// The kind of this number; `None` for all but 1 to 4.
+    pub fn new(byte: u8) -> Option<Self>
+        ensures { SomeIff result (IsTrue (is_status_kind byte)) byte }
+    {
+        if matches!(byte, 1..=4) {
+            Some(StatusKind { byte })
+        } else {
+            None
+        }
+    }
+
+    /// The number, 1 to 4.
+    pub fn byte(self) -> u8
+        ensures kept { result ≡ self }
+        ensures range { IsTrue (is_status_kind result) }
+    {
+        self.byte
+    }
+}
