@@ -9,3 +9,8 @@ pub mod Laws
 pub mod Next
 pub mod Lead
 pub mod Reading
+pub mod Source
+pub mod Incoming
+pub mod Outgoing
+pub mod Memory
+pub mod Text

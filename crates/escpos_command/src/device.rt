@@ -8,6 +8,23 @@
 ghost use Rattle.std.specs.Prelude.{◌≡◌, ℕ, ◌+◌, ◌-◌, ◌^◌, ◌<◌, ◌≤◌, ◌↔◌, ◌⊎◌, min, Bool, List, length, take, Option, IsTrue, IsErr, IfOk, MatchResult};
 ghost use Rattle.std.specs.Io.KnownBytes.{Keeps, Appends, Consumes, IsAtEnd};
 
+mod incoming;
+mod memory_in;
+mod memory_out;
+mod outgoing;
+mod putting;
+mod reading;
+mod source;
+#[cfg(test)]
+mod tests;
+
+pub use incoming::Incoming;
+pub use memory_in::MemoryIn;
+pub use memory_out::MemoryOut;
+pub use outgoing::Outgoing;
+pub use putting::{Device, put_all};
+pub use reading::{ReadError, read_to_end};
+
 /// A device has failed, and every call from then on fails too.
 #[derive(Clone, Copy, Debug, PartialEq, Eq, Hash)]
 pub struct Failed;

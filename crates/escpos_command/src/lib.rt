@@ -13,7 +13,10 @@ pub mod parameter;
 pub mod plain;
 
 pub use command::{Command, LONGEST_SPELLING};
-pub use device::{ByteIn, ByteOut, Failed};
+pub use device::{
+    ByteIn, ByteOut, Device, Failed, Incoming, MemoryIn, MemoryOut, Outgoing, ReadError, put_all,
+    read_to_end,
+};
 pub use fault::FaultReason;
 pub use mark::MarkId;
 pub use parameter::{
