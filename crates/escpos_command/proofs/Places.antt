@@ -10,7 +10,7 @@ use Rattle.escpos_command.specs.Grammar.{Viable, Half, Reads, FaultAt}
 use Rattle.escpos_command.specs.Places.{reason_behind}
 use Rattle.escpos_command.proofs.Readings.{joined, reads_command, reads_half}
 
-take-one_more : (bs : List ℕ) (at : ℕ) → at < length bs → take (at + 1) bs ≡ take at bs ++ slice_index bs at ∷ []
+pub take-one_more : (bs : List ℕ) (at : ℕ) → at < length bs → take (at + 1) bs ≡ take at bs ++ slice_index bs at ∷ []
 take-one_more bs at h = rw (add-one, take-suc bs at 0) refl
 
 range-one_more : (bs : List ℕ) (start at : ℕ) → start ≤ at → at < length bs → slice_range bs start (at + 1) ≡ slice_range bs start at ++ slice_index bs at ∷ []

@@ -14,3 +14,5 @@ pub mod Incoming
 pub mod Outgoing
 pub mod Memory
 pub mod Text
+pub mod Gather
+pub mod Chars

@@ -8,6 +8,7 @@
 ghost use Rattle.std.specs.Prelude.{◌≡◌, ℕ, ◌+◌, ◌-◌, ◌^◌, ◌<◌, ◌≤◌, ◌↔◌, ◌⊎◌, min, Bool, List, length, take, Option, IsTrue, IsErr, IfOk, MatchResult};
 ghost use Rattle.std.specs.Io.KnownBytes.{Keeps, Appends, Consumes, IsAtEnd};
 
+mod gather;
 mod incoming;
 mod memory_in;
 mod memory_out;
@@ -18,6 +19,7 @@ mod source;
 #[cfg(test)]
 mod tests;
 
+pub use gather::{GATHERED_BYTES, Gather};
 pub use incoming::Incoming;
 pub use memory_in::MemoryIn;
 pub use memory_out::MemoryOut;

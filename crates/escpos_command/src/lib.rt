@@ -4,6 +4,7 @@
 #![tactic(auto)]
 
 pub mod bytes;
+pub mod chars;
 pub mod command;
 pub mod device;
 pub mod fault;
@@ -11,7 +12,9 @@ pub mod laws;
 pub mod mark;
 pub mod parameter;
 pub mod plain;
+pub mod writing;
 
+pub use chars::{CharsFault, chars_of};
 pub use command::{Command, LONGEST_SPELLING};
 pub use device::{
     ByteIn, ByteOut, Device, Failed, Incoming, MemoryIn, MemoryOut, Outgoing, ReadError, put_all,
@@ -23,3 +26,4 @@ pub use parameter::{
     Align, Alignment, BarHeight, BarWidth, Character, Cut, Emphasis, FeedLines, Font, FontFace,
     HriFont, HriPlace, HriPosition, Mode, Size, StatusKind, Table, Underline,
 };
+pub use writing::write_commands;

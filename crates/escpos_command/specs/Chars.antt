@@ -1,0 +1,11 @@
+-- Why `chars_of` refuses a text.
+use Rattle.std.specs.Prelude.{ℕ, ◌<◌, List, length, take, slice_index}
+use Rattle.std.specs.List.{AllPass}
+use Rattle.escpos_command.specs.declared.chars.CharsFault.{CharsFault}
+use Rattle.escpos_command.specs.declared.chars.CharsFault.TheVariants.{ControlByte, Memory}
+use Rattle.escpos_command.specs.Parameters.{is_character}
+
+-- The place is that of the first byte below 20 hexadecimal. Of want of memory nothing is said.
+abbrev pub IsFirstControl : CharsFault → List ℕ → Type 0
+IsFirstControl (ControlByte at) text = (at < length text) × (slice_index text at < 0x20) × AllPass is_character (take at text)
+IsFirstControl Memory text = Unit {0}

@@ -1,0 +1,58 @@
+//! Text as commands.
+
+ghost use Rattle.std.specs.Prelude.{◌≡◌, IfOk, IfErr, map};
+ghost use Rattle.std.specs.List.{AllPass};
+ghost use Rattle.escpos_command.specs.declared.command.Command.TheVariants.{Char};
+ghost use Rattle.escpos_command.specs.Parameters.{is_character};
+ghost use Rattle.escpos_command.specs.Chars.{IsFirstControl};
+
+use crate::command::Command;
+use crate::parameter::Character;
+use std::alloc::{AllocError, AllocFailed, Global};
+
+/// Why a text is no list of characters.
+#[derive(Clone, Copy, Debug, PartialEq, Eq)]
+pub enum CharsFault {
+    /// The byte at this place, the first such one, is below 20 hexadecimal.
+    ControlByte { at: usize },
+    /// There is no memory for the commands. It may come before a control byte is found.
+    Memory,
+}
+
+impl From<AllocError> for CharsFault {
+    ghost use Rattle.std.specs.Prelude.{◌≡◌};
+    ghost use Rattle.escpos_command.specs.declared.chars.CharsFault.TheVariants.{Memory};
+
+    ghost from_gives = { λ _ fault. fault ≡ Memory };
+
+    fn from(_error: AllocError) -> CharsFault {
+        CharsFault::Memory
+    }
+}
+
+impl<T: Drop> From<AllocFailed<T>> for CharsFault {
+    ghost use Rattle.std.specs.Prelude.{◌≡◌};
+    ghost use Rattle.escpos_command.specs.declared.chars.CharsFault.TheVariants.{Memory};
+
+    ghost from_gives = { λ _ fault. fault ≡ Memory };
+
+    fn from(_failed: AllocFailed<T>) -> CharsFault {
+        CharsFault::Memory
+    }
+}
+
+/// One `Char` for each byte of `text`.
+pub fn chars_of(alloc: Global, text: &[u8]) -> Result<Vec<Command>, CharsFault>
+    ensures chars { IfOk result (λ commands. commands.items ≡ map Char text.now) }
+    ensures printing { IfOk result (λ _. AllPass is_character text.now) }
+    ensures control { IfErr result (λ fault. IsFirstControl fault text.now) }
+{
+    let mut commands = Vec::with_capacity(alloc, text.len())?;
+    for (at, byte) in text.iter().enumerate() {
+        match Character::new(*byte) {
+            Some(character) => commands.push(Command::Char(character))?,
+            None => return Err(CharsFault::ControlByte { at }),
+        }
+    }
+    Ok(commands)
+}

@@ -1,0 +1,26 @@
+//! Commands written to a sink.
+
+ghost use Rattle.std.specs.Prelude.{OnOk, IfErr, IsTrue};
+ghost use Rattle.std.specs.Io.KnownBytes.{Appends};
+ghost use Rattle.escpos_command.specs.Gather.{StopsIn};
+ghost use Rattle.escpos_command.specs.Table.{spell};
+
+use crate::command::Command;
+use crate::device::{ByteOut, Device, Gather};
+
+/// Puts the spellings of `commands`, one behind another, into `writer`. Takes no memory.
+///
+/// On `Err` the writer has failed, and exactly the first `written` bytes of the spellings are out, fewer
+/// than there are.
+pub fn write_commands<W: ByteOut>(commands: &[Command], writer: &mut W) -> Result<(), Device>
+    ensures ok { OnOk result (Appends (W.written writer.old) (W.written writer.new) (spell commands.now)) }
+    ensures err { IfErr result (λ device.
+        StopsIn (W.written writer.old) (W.written writer.new) (spell commands.now) device.written) }
+    ensures failed { IfErr result (λ _. IsTrue (W.failed writer.new)) }
+{
+    let mut gather = Gather::new();
+    for command in commands {
+        gather.put(command.spelling().as_slice(), writer)?;
+    }
+    gather.flush(writer)
+}
