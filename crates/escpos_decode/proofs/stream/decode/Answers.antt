@@ -1,0 +1,11 @@
+use Rattle.std.proofs.lemmas.Result.{IfOk-weaker}
+use Rattle.escpos_decode.proofs.Streams.{again, spelled_again}
+use Rattle.escpos_decode.proofs.stream.decode.Goals as goal
+
+pub returns-clause-encoded : goal.returns-clause-encoded
+returns-clause-encoded c =
+    IfOk-weaker c.decode_pieces.result _ _ (λ decoded ends. again c.one_reading.ensures.one_reading c.one_reading.ensures.not_both _ decoded.end decoded.commands.items ends) c.decode_pieces.ensures
+
+pub returns-clause-spelled_again : goal.returns-clause-spelled_again
+returns-clause-spelled_again c =
+    IfOk-weaker c.decode_pieces.result _ _ (λ decoded ends. spelled_again _ decoded.end decoded.commands.items ends) c.decode_pieces.ensures

@@ -1,0 +1,25 @@
+-- What the decoder does with one byte. It is seen as its half command.
+use Rattle.std.specs.Prelude.{ℕ, ◌≡◌, ◌⊎◌, List, [], ◌∷◌, ◌++◌, length, Result, Ok, Err}
+use Rattle.escpos_decode.specs.declared.decoder.Step.{Step}
+use Rattle.escpos_decode.specs.declared.decoder.Step.TheVariants.{More, Done}
+use Rattle.escpos_decode.specs.declared.decoder.DecodeFault.{DecodeFault}
+use Rattle.escpos_decode.specs.declared.decoder.DecodeFault.TheVariants.{Fault, Memory}
+use Rattle.escpos_command.specs.Table.{Spells}
+use Rattle.escpos_command.specs.Grammar.{Viable, Half, FaultAt}
+use Rattle.escpos_command.specs.Places.{number_of}
+
+-- What a decoder may hold: nothing, or a half command.
+abbrev pub IsPending : List ℕ → Type 0
+IsPending half = (half ≡ []) ⊎ Half half
+
+-- The answer for byte b behind the half command, and the half command then.
+abbrev pub PushIs : Result Step DecodeFault → List ℕ → ℕ → List ℕ → Type 0
+PushIs (Ok (Done c)) half b after = Spells c (half ++ b ∷ []) × (after ≡ [])
+PushIs (Ok More) half b after = Half (half ++ b ∷ []) × (after ≡ half ++ b ∷ [])
+PushIs (Err (Fault at why)) half b after = FaultAt (half ++ b ∷ []) [] half at why × (at ≡ length half) × (after ≡ [])
+PushIs (Err Memory) half b after = Half (half ++ b ∷ []) × (after ≡ half)
+
+-- The numbers that programs print.
+abbrev pub number_of_fault : DecodeFault → ℕ
+number_of_fault (Fault at why) = number_of why
+number_of_fault Memory = 6
