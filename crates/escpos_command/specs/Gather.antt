@@ -2,6 +2,14 @@
 use Rattle.std.specs.Prelude.{ℕ, ◌≡◌, ◌+◌, ◌<◌, List, ◌++◌, length, take, Option}
 use Rattle.std.specs.Io.KnownBytes.{Appends}
 
+-- Since the sink stood at `first`, the gather was given the bytes `total`: the sink took the front of them,
+-- and the rest is kept back.
+pub record Carries (first sink : Option (List ℕ)) (gather : List ℕ × ℕ) (total : List ℕ) : Type 0 where
+  pub out : List ℕ
+  pub taken : Appends first sink out
+  pub counted : gather.1 ≡ length out
+  pub whole : total ≡ out ++ gather.0
+
 -- Of all these bytes the sink took the front, and the rest is kept back.
 abbrev pub HandsOn : Option (List ℕ) → Option (List ℕ) → List ℕ × ℕ → List ℕ × ℕ → List ℕ → Type 0
 HandsOn sink_old sink_new old new bytes = (out : List ℕ) × Appends sink_old sink_new out × (new.1 ≡ old.1 + length out) × (bytes ≡ out ++ new.0)

@@ -15,7 +15,7 @@ pub enum FaultReason {
 }
 
 impl FaultReason {
-    ghost use Rattle.std.specs.Prelude.{◌≡◌};
+    ghost use Rattle.std.specs.Prelude.{◌≡◌, ◌≤◌, length};
     ghost use Rattle.escpos_command.specs.Places.{number_of, name_of};
 
     /// The number that programs print.
@@ -27,7 +27,8 @@ impl FaultReason {
 
     /// The name that programs print.
     pub fn name(self) -> &'static str
-        ensures { result.now ≡ name_of self }
+        ensures value { result.now ≡ name_of self }
+        ensures short { length result.now ≤ 14 }
     {
         match self {
             FaultReason::UnknownByte => "UnknownByte",

@@ -3,9 +3,9 @@
 //! A sink may take a system call for each `put`. `Gather` keeps up to 4 KiB back, so that many small
 //! pieces go out as few large ones, and counts what the sink has taken. It takes no memory.
 
-ghost use Rattle.std.specs.Prelude.{◌≡◌, ◌+◌, ◌<◌, ◌≤◌, ◌^◌, ℕ, List, [], ◌++◌, length, take, OnOk, IfErr, IsTrue};
+ghost use Rattle.std.specs.Prelude.{◌≡◌, ◌+◌, ◌<◌, ◌≤◌, ◌^◌, ℕ, List, [], ◌++◌, length, take, Option, OnOk, IfErr, IsTrue};
 ghost use Rattle.std.specs.Io.KnownBytes.{Appends};
-ghost use Rattle.escpos_command.specs.Gather.{HandsOn, StopsWithin};
+ghost use Rattle.escpos_command.specs.Gather.{Carries, HandsOn, StopsIn, StopsWithin};
 
 use super::{ByteOut, Device, put_all};
 use arrayvec::ArrayVec;
@@ -33,7 +33,8 @@ impl Model for Gather {
 impl Gather {
     /// Nothing kept back and nothing taken.
     pub fn new() -> Self
-        ensures { result ≡ ([], 0) }
+        ensures empty { result ≡ ([], 0) }
+        ensures carries { (sink : Option (List ℕ)) → Carries sink sink result [] }
     {
         Gather {
             piece: ArrayVec::new(),
@@ -46,6 +47,34 @@ impl Gather {
     /// On `Err` the sink has failed, and took exactly the first `written` of all bytes ever given.
     pub fn put<W: ByteOut>(&mut self, bytes: &[u8], writer: &mut W) -> Result<(), Device>
         requires { self.old.1 + length self.old.0 + length bytes.now < 2 ^ 128 }
+        ensures ok { OnOk result ((first : Option (List ℕ)) (total : List ℕ) →
+            Carries first (W.written writer.old) self.old total → Carries first (W.written writer.new) self.new (total ++ bytes.now)) }
+        ensures counted { OnOk result (self.new.1 + length self.new.0 ≡ self.old.1 + length self.old.0 + length bytes.now) }
+        ensures err { IfErr result (λ device. (first : Option (List ℕ)) (total : List ℕ) →
+            Carries first (W.written writer.old) self.old total → StopsIn first (W.written writer.new) (total ++ bytes.now) device.written) }
+        ensures failed { IfErr result (λ _. IsTrue (W.failed writer.new)) }
+    {
+        self.hand_on(bytes, writer)
+    }
+
+    /// Puts all that is kept back.
+    ///
+    /// On `Err` the sink has failed, and took exactly the first `written` of all bytes ever given.
+    pub fn flush<W: ByteOut>(&mut self, writer: &mut W) -> Result<(), Device>
+        requires { self.old.1 + length self.old.0 < 2 ^ 128 }
+        ensures ok { OnOk result ((first : Option (List ℕ)) (total : List ℕ) →
+            Carries first (W.written writer.old) self.old total → Appends first (W.written writer.new) total) }
+        ensures empty { OnOk result (self.new.0 ≡ []) }
+        ensures err { IfErr result (λ device. (first : Option (List ℕ)) (total : List ℕ) →
+            Carries first (W.written writer.old) self.old total → StopsIn first (W.written writer.new) total device.written) }
+        ensures failed { IfErr result (λ _. IsTrue (W.failed writer.new)) }
+    {
+        self.empty(writer)
+    }
+
+    // Takes bytes, and says what went out.
+    fn hand_on<W: ByteOut>(&mut self, bytes: &[u8], writer: &mut W) -> Result<(), Device>
+        requires { self.old.1 + length self.old.0 + length bytes.now < 2 ^ 128 }
         ensures ok { OnOk result (HandsOn (W.written writer.old) (W.written writer.new) self.old self.new (self.old.0 ++ bytes.now)) }
         ensures err { IfErr result (λ device.
             StopsWithin (W.written writer.old) (W.written writer.new) self.old (self.old.0 ++ bytes.now) device.written) }
@@ -55,7 +84,7 @@ impl Gather {
             self.piece.try_extend_from_slice(bytes).unwrap();
             return Ok(());
         }
-        self.flush(writer)?;
+        self.empty(writer)?;
         if bytes.len() <= GATHERED_BYTES {
             self.piece.try_extend_from_slice(bytes).unwrap();
             return Ok(());
@@ -71,10 +100,8 @@ impl Gather {
         }
     }
 
-    /// Puts all that is kept back.
-    ///
-    /// On `Err` the sink has failed, and took exactly the first `written` of all bytes ever given.
-    pub fn flush<W: ByteOut>(&mut self, writer: &mut W) -> Result<(), Device>
+    // Puts what is kept back, and says what went out.
+    fn empty<W: ByteOut>(&mut self, writer: &mut W) -> Result<(), Device>
         requires { self.old.1 + length self.old.0 < 2 ^ 128 }
         ensures ok { OnOk result (HandsOn (W.written writer.old) (W.written writer.new) self.old self.new self.old.0) }
         ensures empty { OnOk result (self.new.0 ≡ []) }

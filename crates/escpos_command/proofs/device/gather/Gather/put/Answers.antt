@@ -1,13 +1,14 @@
-use Rattle.std.proofs.Common.{ap}
-use Rattle.escpos_command.proofs.Gathered.{put_ok, put_err}
+use Rattle.std.proofs.lemmas.Result.{on_ok_weaker, IfErr-weaker}
+use Rattle.escpos_command.proofs.Gathered.{carries_on, count_on, stops_at_piece}
 use Rattle.escpos_command.proofs.device.gather.Gather.put.Goals as goal
 
-pub returns-in-Ok-clause-ok : goal.returns-in-Ok-clause-ok
-returns-in-Ok-clause-ok g c =
-    put_ok _ (g.W.ByteOut.written c.flush.new.writer) _ c.args.self.now c.flush.new.self c.args.bytes.now _ _ c.in_ok-flush.ensures.ok c.in_ok-flush.ensures.empty
-    (ap (λ v. v.0) c.self-2.view_is) (ap (λ v. v.1) c.self-2.view_is) c.in-Ok.ensures.all
+pub returns-clause-ok : goal.returns-clause-ok
+returns-clause-ok g c =
+    on_ok_weaker c.hand_on.result (λ h first total w. carries_on first _ _ c.args.self.now c.hand_on.new.self total c.args.bytes.now h w) c.hand_on.ensures.ok
 
-pub returns-in-Err-clause-err : goal.returns-in-Err-clause-err
-returns-in-Err-clause-err g c =
-    put_err _ (g.W.ByteOut.written c.flush.new.writer) _ c.args.self.now c.flush.new.self c.args.bytes.now _ _ c.in_ok-flush.ensures.ok c.in_ok-flush.ensures.empty
-    (ap (λ v. v.1) c.self-2.view_is) c.in-Err.ensures.fewer c.in-Err.ensures.some
+pub returns-clause-counted : goal.returns-clause-counted
+returns-clause-counted g c = on_ok_weaker c.hand_on.result (λ h. count_on _ _ c.args.self.now c.hand_on.new.self c.args.bytes.now h) c.hand_on.ensures.ok
+
+pub returns-clause-err : goal.returns-clause-err
+returns-clause-err g c =
+    IfErr-weaker c.hand_on.result _ _ (λ device s first total w. stops_at_piece first _ _ c.args.self.now total c.args.bytes.now device.written s w) c.hand_on.ensures.err
