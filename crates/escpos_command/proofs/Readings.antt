@@ -1,9 +1,10 @@
 -- The laws of the grammar, from the two facts of Rows and nothing else about the kinds of commands.
-use Rattle.std.proofs.Common.{◌≡◌, ◌≢◌, ℕ, ◌+◌, ◌<◌, ◌⊎◌, inl, inr, List, [], ◌∷◌, ◌++◌, length, take, refl, sym, length-take, ◌∙◌, ap, subst, append_assoc, arith, append-nil, Option, Some, None, get_or, drop}
+use Rattle.std.proofs.Common.{◌≡◌, ◌≢◌, ℕ, ◌+◌, ◌<◌, ◌≤◌, ◌⊎◌, inl, inr, List, [], ◌∷◌, ◌++◌, length, take, refl, sym, length-take, ◌∙◌, ap, subst, append_assoc, arith, append-nil, Option, Some, None, get_or, drop}
 use Rattle.std.specs.Prelude.{slice_index}
 use Rattle.std.specs.List.{AllByRecursion, flat_map}
 use Rattle.std.proofs.lemmas.Grind.{flat_map-append, common_steps}
-use Rattle.std.proofs.Math.Seq.{take-append_seam, get_or-append_seam}
+use Rattle.std.proofs.Math.Seq.{take-append_seam, get_or-append_seam, take-append-add}
+use Rattle.std.proofs.lemmas.List.{take-append-le, get_or_append_left, get_or-append-add}
 use Rattle.std.proofs.Math.ListN.{length-append}
 use Rattle.escpos_command.specs.declared.command.Command.{Command}
 use Rattle.escpos_command.specs.declared.command.Command.TheVariants.{LineFeed}
@@ -309,3 +310,32 @@ leaf_is_last c d (b ∷ more) e = absurd cc
 pub no_prefix : (c d : Command) (a more : List ℕ) → Spells c a → Spells d (a ++ more) → more ≡ []
 no_prefix c d a more s t =
     leaf_is_last c d more (ap (λ u. walk u more) (sym (leads_spelling c a s)) ∙ sym (walk-append grammar a more) ∙ leads_spelling d (a ++ more) t)
+
+-- ## Faults of joined lists
+
+-- A fault of the front of a list is one of the whole list.
+pub fault_of_front : (a more : List ℕ) (cs : List Command) (rest : List ℕ) (k : ℕ) (why : FaultReason) → FaultAt a cs rest k why → FaultAt (a ++ more) cs rest k why
+fault_of_front a more cs rest k why f =
+    let place = f.place in
+    let within : k ≤ length a = omega arith in
+    record {
+      place = let long = length-append a more in omega arith;
+      before = rw (take-append-le k a more within) f.before;
+      refused = rw (get_or_append_left a more 0 k place) f.refused;
+      reason = f.reason;
+    }
+
+reads_spelled : (cs : List Command) → AllByRecursion IsCommand cs → Reads (spell cs) cs []
+reads_spelled cs h = record { commands = h; whole = sym (append-nil (spell cs)); pending = inl refl }
+
+-- A fault goes on where a reading stopped.
+pub fault_joined : (a b : List ℕ) (cs ds : List Command) (r s : List ℕ) (k : ℕ) (why : FaultReason) → Reads a cs r → FaultAt (r ++ b) ds s k why
+    → FaultAt (a ++ b) (cs ++ ds) s (length (spell cs) + k) why
+fault_joined a b cs ds r s k why h f =
+    let whole : a ++ b ≡ spell cs ++ (r ++ b) = ap (λ v. v ++ b) h.whole ∙ append_assoc (spell cs) r b in
+    record {
+      place = let long = ap length whole ∙ length-append (spell cs) (r ++ b) in let near = f.place in omega arith;
+      before = rw (whole, take-append-add (spell cs) (r ++ b) k) (joined (spell cs) (take k (r ++ b)) cs ds [] s (reads_spelled cs h.commands) f.before);
+      refused = rw (whole, get_or-append-add (spell cs) (r ++ b) k 0) f.refused;
+      reason = f.reason;
+    }

@@ -1,11 +1,12 @@
 //! The laws of the grammar. Each is a function that does nothing and whose contract is the law, so that
 //! the law is proved with the crate and another crate can cite it by calling the function.
 
-ghost use Rattle.std.specs.Prelude.{ℕ, ◌≡◌, ◌≤◌, ◌⊎◌, List, [], ◌++◌, length};
+ghost use Rattle.std.specs.Prelude.{ℕ, ◌≡◌, ◌+◌, ◌<◌, ◌≤◌, ◌⊎◌, List, [], ◌++◌, length, IsTrue};
 ghost use Rattle.escpos_command.specs.declared.command.Command.{Command};
 ghost use Rattle.escpos_command.specs.declared.fault.FaultReason.{FaultReason};
-ghost use Rattle.escpos_command.specs.Table.{Spells, IsCommand, row};
+ghost use Rattle.escpos_command.specs.Table.{Spells, IsCommand, row, spell};
 ghost use Rattle.escpos_command.specs.Grammar.{Viable, Half, Reads, FaultAt};
+ghost use Rattle.escpos_command.specs.Parameters.{is_mark_id};
 ghost use Rattle.escpos_command.specs.Digits.{mark_count, mark_of};
 ghost use Rattle.escpos_command.specs.Laws.{longest_spelling, IsRead, IsRefused};
 
@@ -30,9 +31,21 @@ pub fn one_reading()
 {
 }
 
-/// Joined readings: a reading goes on where it stopped, so it doesn't matter where a stream is cut.
+/// Joined readings: a reading goes on where it stopped, and so does a fault. So it doesn't matter where a
+/// stream is cut.
 pub fn joined_readings()
-    ensures { (a b : List ℕ) (cs ds : List Command) (r s : List ℕ) →
+    ensures reading { (a b : List ℕ) (cs ds : List Command) (r s : List ℕ) →
         Reads a cs r → Reads (r ++ b) ds s → Reads (a ++ b) (cs ++ ds) s }
+    ensures fault { (a b : List ℕ) (cs ds : List Command) (r s : List ℕ) (k : ℕ) (why : FaultReason) →
+        Reads a cs r → FaultAt (r ++ b) ds s k why → FaultAt (a ++ b) (cs ++ ds) s (length (spell cs) + k) why }
+    ensures first_fault { (a more : List ℕ) (cs : List Command) (r : List ℕ) (k : ℕ) (why : FaultReason) →
+        FaultAt a cs r k why → FaultAt (a ++ more) cs r k why }
+{
+}
+
+/// Mark numbers: each of them has an id of its own.
+pub fn mark_numbers()
+    ensures ids { (n : ℕ) → n < mark_count → IsTrue (is_mark_id (mark_of n)) }
+    ensures one_number { (m n : ℕ) → m < mark_count → n < mark_count → mark_of m ≡ mark_of n → m ≡ n }
 {
 }

@@ -17,7 +17,7 @@ pub mod writing;
 pub use chars::{CharsFault, chars_of};
 pub use command::{Command, LONGEST_SPELLING};
 pub use device::{
-    ByteIn, ByteOut, Device, Failed, Incoming, MemoryIn, MemoryOut, Outgoing, ReadError, put_all,
+    ByteIn, ByteOut, Device, Failed, Gather, Incoming, MemoryIn, MemoryOut, Outgoing, ReadError, put_all,
     read_to_end,
 };
 pub use fault::FaultReason;

@@ -4,7 +4,7 @@ use Rattle.std.specs.Prelude.{slice_index}
 use Rattle.std.specs.List.{AllByRecursion, flat_map}
 use Rattle.std.specs.Borrow.{Bor}
 use Rattle.std.proofs.lemmas.Grind.{flat_map-append}
-use Rattle.std.proofs.lemmas.List.{take-append-le, get_or_append_left, take-append-drop, nil_from_length, take_all}
+use Rattle.std.proofs.lemmas.List.{take-append-drop, nil_from_length, take_all}
 use Rattle.std.proofs.Math.Seq.{take-append_seam, get_or-append_seam, take-suc}
 use Rattle.escpos_command.specs.declared.command.Command.{Command}
 use Rattle.escpos_command.specs.declared.fault.FaultReason.{FaultReason}
@@ -15,19 +15,10 @@ use Rattle.escpos_decode.specs.declared.stream.End.TheVariants.{Pending, Fault}
 use Rattle.escpos_decode.specs.Stream.{EndsIn, IsAllRead, joined}
 use Rattle.escpos_command.specs.Grammar.{Viable, Half, Reads, FaultAt}
 
--- A fault of the front of a list is one of the whole list.
-pub fault_of_front : (a more : List ℕ) (cs : List Command) (rest : List ℕ) (k : ℕ) (why : FaultReason) → FaultAt a cs rest k why → FaultAt (a ++ more) cs rest k why
-fault_of_front a more cs rest k why f =
-    let place = f.place in
-    let within : k ≤ length a = omega arith in
-    record {
-      place = let long = length-append a more in omega arith;
-      before = rw (take-append-le k a more within) f.before;
-      refused = rw (get_or_append_left a more 0 k place) f.refused;
-      reason = f.reason;
-    }
+-- The laws of joined readings, as the crate of the definitions offers them.
+abbrev pub FirstFault : Type 0
+FirstFault = (a more : List ℕ) (cs : List Command) (r : List ℕ) (k : ℕ) (why : FaultReason) → FaultAt a cs r k why → FaultAt (a ++ more) cs r k why
 
--- The law of joined readings, as the crate of the definitions offers it.
 abbrev pub Joined : Type 0
 Joined = (a b : List ℕ) (cs ds : List Command) (r s : List ℕ) → Reads a cs r → Reads (r ++ b) ds s → Reads (a ++ b) (cs ++ ds) s
 
@@ -92,13 +83,13 @@ joined_around pieces i d h =
     ∙ ap joined (ap (λ v. take i pieces ++ v) (sym (drop-cons pieces i d h)) ∙ take-append-drop i pieces)
 
 -- A byte of a piece is refused: it is a byte of the stream.
-pub stream_fault : (pieces : List (Bor (List ℕ))) (i : ℕ) (d : Bor (List ℕ)) (cs ds : List Command) (half : List ℕ) (at n : ℕ) (why : FaultReason) → i < length pieces
+pub stream_fault : FirstFault → (pieces : List (Bor (List ℕ))) (i : ℕ) (d : Bor (List ℕ)) (cs ds : List Command) (half : List ℕ) (at n : ℕ) (why : FaultReason) → i < length pieces
     → Reads (joined (take i pieces)) cs half → n ≡ length (joined (take i pieces))
     → ((a : List ℕ) → Reads a cs half → (rest : List ℕ) × FaultAt (a ++ (get_or pieces i d).now) ds rest (length a + at) why)
     → (rest : List ℕ) × FaultAt (joined pieces) ds rest (n + at) why
-stream_fault pieces i d cs ds half at n why h r e step =
+stream_fault first pieces i d cs ds half at n why h r e step =
     let found = step (joined (take i pieces)) r in
-    let whole = fault_of_front (joined (take i pieces) ++ (get_or pieces i d).now) (joined (drop (suc i) pieces)) ds found.0 (length (joined (take i pieces)) + at) why found.1 in
+    let whole = first (joined (take i pieces) ++ (get_or pieces i d).now) (joined (drop (suc i) pieces)) ds found.0 (length (joined (take i pieces)) + at) why found.1 in
     (found.0, subst (λ m. FaultAt (joined pieces) ds found.0 (m + at) why) (sym e) (subst (λ xs. FaultAt xs ds found.0 (length (joined (take i pieces)) + at) why) (joined_around pieces i d h) whole))
 
 -- ## The round trip, from the law of one reading

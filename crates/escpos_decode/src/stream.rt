@@ -46,6 +46,7 @@ pub fn decode(alloc: Global, pieces: &[&[u8]]) -> Result<Decoded, AllocError>
 fn decode_pieces(alloc: Global, pieces: &[&[u8]]) -> Result<Decoded, AllocError>
     ensures { IfOk result (λ decoded. IsDecoded decoded (joined pieces.now)) }
 {
+    laws::joined_readings();
     let mut decoder = Decoder::new(alloc);
     let mut commands = Vec::new(alloc);
     let mut length = 0u128;

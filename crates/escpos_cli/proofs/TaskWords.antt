@@ -1,0 +1,241 @@
+-- What `clap` makes of the program's words.
+use Rattle.std.proofs.Common.{◌≡◌, ◌⊎◌, ◌∙◌, ◌||◌, ℕ, zero, suc, Bool, true, false, List, [], ◌∷◌, length, Option, Some, None, Result, option_map, codes, refl, sym, ap, subst, inl, inr, arith, Contains}
+use Rattle.std.specs.Prelude.{if◌then◌else◌}
+use Rattle.std.specs.Box.{box_value}
+use Rattle.std.specs.Str.{bytes_eq}
+use Rattle.clap.specs.Words.{App, Rule, Text, built, fault_of, is_simple_and_free, is_simple, subcommand_of, subcommand_rows, subcommand_rows_of, subcommand_name_of, FailsBy, HasKind, Kinds, HasMatchesOf, kind_of, IsAmong}
+use Rattle.clap.specs.Walk.{Held, Names, Outcome, Step, Walk, after_flag, after_step, answers_to, idle, nothing_held, done, waits, plain, refused, short_or_plain, long_or_other, stop_after, subcommand_met, subcommand_or_other, trailing, walk_from, walked}
+use Rattle.clap.specs.Simple.{names_of, entered}
+use Rattle.clap.specs.Lexer.{long_of, short_of}
+use Rattle.clap.proofs.OnLiterals.{clap_on_literals}
+use Rattle.clap.specs.declared.error.Error.{Error}
+use Rattle.clap.specs.declared.error.kind.ErrorKind.{ErrorKind}
+use Rattle.clap.specs.declared.error.kind.ErrorKind.TheVariants.{DisplayHelp, OutOfMemory}
+use Rattle.clap.specs.declared.parser.matches.ArgMatches.{ArgMatches}
+use Rattle.clap.specs.declared.parser.matches.ArgMatches.TheViews.{out-ArgMatches, out-SubCommand}
+use Rattle.escpos_cli.specs.Task.{command_words, help_words, name_of, no_task_of, words_of}
+use Rattle.escpos_cli.specs.declared.task.NoTask.{NoTask}
+use Rattle.escpos_cli.specs.declared.task.NoTask.TheVariants.{Help, Memory}
+use Rattle.escpos_cli.specs.declared.task.Task.{Task}
+use Rattle.escpos_cli.specs.declared.task.Task.TheVariants.{Check}
+use Rattle.std.proofs.lemmas.Slice.Eq.{bytes_eq-Decides}
+
+pub is_exact : is_simple_and_free command_words ≡ true
+unfolding clap_on_literals
+is_exact = refl
+
+pub is_known : is_simple command_words ≡ true
+unfolding clap_on_literals
+is_known = refl
+
+-- the name of the subcommand that the words name
+abbrev pub met_by : List Text → Option Text
+met_by texts = option_map (λ p. p.0) (subcommand_of command_words texts)
+
+pub check_passes : fault_of command_words (codes "check" ∷ []) ≡ []
+unfolding clap_on_literals
+check_passes = refl
+
+pub check_met : met_by (codes "check" ∷ []) ≡ Some (codes "check")
+unfolding clap_on_literals
+check_met = refl
+
+pub help_met : met_by (codes "help" ∷ []) ≡ Some (codes "help")
+unfolding clap_on_literals
+help_met = refl
+
+pub help_passes : fault_of command_words (codes "help" ∷ []) ≡ []
+unfolding clap_on_literals
+help_passes = refl
+
+-- ---- the words that ask for help
+
+-- `clap` answers with help, or the words are the subcommand `help`
+abbrev pub IsHelp : List Text → Type 0
+IsHelp texts = (fault_of command_words texts ≡ DisplayHelp ∷ []) ⊎ (texts ≡ codes "help" ∷ [])
+
+is_help-1 : IsHelp (codes "--help" ∷ [])
+unfolding clap_on_literals
+is_help-1 = inl refl
+
+is_help-2 : IsHelp (codes "-h" ∷ [])
+unfolding clap_on_literals
+is_help-2 = inl refl
+
+is_help-3 : IsHelp (codes "check" ∷ codes "--help" ∷ [])
+unfolding clap_on_literals
+is_help-3 = inl refl
+
+is_help-4 : IsHelp (codes "check" ∷ codes "-h" ∷ [])
+unfolding clap_on_literals
+is_help-4 = inl refl
+
+pub is_help : (texts : List Text) → Contains help_words texts → IsHelp texts
+is_help texts (zero, below, at) = inr (sym at)
+is_help texts (suc zero, below, at) = subst IsHelp at is_help-1
+is_help texts (suc (suc zero), below, at) = subst IsHelp at is_help-2
+is_help texts (suc (suc (suc zero)), below, at) = subst IsHelp at is_help-3
+is_help texts (suc (suc (suc (suc zero))), below, at) = subst IsHelp at is_help-4
+is_help texts (suc (suc (suc (suc (suc k)))), below, at) = absurd (omega arith)
+
+-- ---- what an error says
+
+pub memory_only : (kinds : Kinds) (e : Error) → kinds ≡ [] → HasKind kinds e → kind_of e ≡ OutOfMemory
+memory_only kinds e none h =
+    let at : HasKind [] e = subst (λ (ks : Kinds). HasKind ks e) none h in
+    elim at [ inl m ↦ m | inr f ↦ absurd f ]
+
+pub help_or_memory : (kinds : Kinds) (e : Error) → kinds ≡ DisplayHelp ∷ [] → HasKind kinds e
+    → (kind_of e ≡ OutOfMemory) ⊎ (kind_of e ≡ DisplayHelp)
+help_or_memory kinds e one h =
+    let at : HasKind (DisplayHelp ∷ []) e = subst (λ (ks : Kinds). HasKind ks e) one h in
+    elim at [ inl m ↦ inl m | inr k ↦ elim k [ inl d ↦ inr d | inr f ↦ absurd f ] ]
+
+-- what a refusal comes to where the words have these kinds
+pub refused_for_memory : (kinds : Kinds) (e : Error) (k : ErrorKind) (r : NoTask) → kinds ≡ [] → HasKind kinds e
+    → k ≡ kind_of e → r ≡ no_task_of k → r ≡ Memory
+refused_for_memory kinds e k r none h is_k is_r = is_r ∙ ap no_task_of (is_k ∙ memory_only kinds e none h)
+
+pub refused_for_help : (kinds : Kinds) (e : Error) (k : ErrorKind) (r : NoTask) → kinds ≡ DisplayHelp ∷ [] → HasKind kinds e
+    → k ≡ kind_of e → r ≡ no_task_of k → (r ≡ Help) ⊎ (r ≡ Memory)
+refused_for_help kinds e k r one h is_k is_r = elim (help_or_memory kinds e one h) [
+  | inl m ↦ inr (is_r ∙ ap no_task_of (is_k ∙ m))
+  | inr d ↦ inl (is_r ∙ ap no_task_of (is_k ∙ d))
+]
+
+help_kind : (k : ErrorKind) → no_task_of k ≡ Help → k ≡ DisplayHelp
+help_kind DisplayHelp e = refl
+help_kind OutOfMemory e = cc
+help_kind _ e = cc
+
+-- help comes of a refusal only where its kind is among the words'
+pub help_is_among : (kinds : Kinds) (e : Error) (k : ErrorKind) (r : NoTask) → HasKind kinds e
+    → k ≡ kind_of e → r ≡ no_task_of k → r ≡ Help → IsAmong DisplayHelp kinds
+help_is_among kinds e k r h is_k is_r is_help =
+    let at : k ≡ DisplayHelp = help_kind k (sym is_r ∙ is_help) in
+    elim h [
+      | inl m ↦ let bad : OutOfMemory ≡ DisplayHelp = sym m ∙ sym is_k ∙ at in cc
+      | inr a ↦ subst (λ (x : ErrorKind). IsAmong x kinds) (sym is_k ∙ at) a
+    ]
+
+-- ---- one word that names `check`
+
+abbrev rules : List Rule
+rules = (built command_words).top.rules
+
+abbrev names : Names
+names = names_of (built command_words)
+
+abbrev start : Walk
+start = walk_from nothing_held
+
+-- where a word leaves the walk, by what it was
+abbrev stop_at : Text → Held × Step → Option (Text × List Text)
+stop_at word met = (after_step rules word start met.0 met.1).stopped
+
+stop_at-flag : (word : Text) (h : Held) (o : Outcome) → stop_at word (after_flag rules idle word h o) ≡ None
+stop_at-flag word h done = refl
+stop_at-flag word h (waits id) = refl
+stop_at-flag word h plain = refl
+stop_at-flag word h refused = refl
+
+stop_at-short : (word : Text) (flags : Option Text) (h : Held) → stop_at word (short_or_plain rules idle word flags h) ≡ None
+stop_at-short word (Some flags) h = stop_at-flag word _ _
+stop_at-short word None h = refl
+
+stop_at-long : (word : Text) (p : Option (Text × Option Text)) (h : Held) → stop_at word (long_or_other rules idle word p h) ≡ None
+stop_at-long word (Some p) h = stop_at-flag word _ _
+stop_at-long word None h = stop_at-short word (short_of word) h
+
+stop_at-dashes : (word : Text) (h : Held) (b : Bool)
+    → stop_at word (if b then (h, trailing 1) else long_or_other rules idle word (long_of word) h) ≡ None
+stop_at-dashes word h true = refl
+stop_at-dashes word h false = stop_at-long word (long_of word) h
+
+-- a word leaves the walk where it names a subcommand
+stop_at-word : (word : Text) (m : Option Text)
+    → stop_at word (subcommand_or_other rules m idle 1 word nothing_held) ≡ option_map (λ name. (name, [])) m
+stop_at-word word (Some name) = refl
+stop_at-word word None = stop_at-dashes word nothing_held (bytes_eq word (45 ∷ 45 ∷ []))
+
+stopped : (word : Text) → stop_after rules names (word ∷ []) ≡ option_map (λ name. (name, [])) (subcommand_met names idle word)
+unfolding walked
+stopped word = stop_at-word word (subcommand_met names idle word)
+
+-- the name that is entered after a walk that met this name
+abbrev entered_name : Option Text → Option Text
+entered_name m = option_map (λ p. p.0) (entered (built command_words) (option_map (λ name. (name, [])) m))
+
+-- the two names, by whether the word is the one or the other
+abbrev met_if : Bool → Bool → Option Text
+met_if c h = if c then Some (codes "check") else (if h then Some (codes "help") else None)
+
+met_conds : (c h : Bool) → option_map (λ (s : Text × List Text). s.0)
+    (if c then Some (codes "check", []) else (if h then Some (codes "help", []) else None)) ≡ met_if c h
+met_conds true h = refl
+met_conds false true = refl
+met_conds false false = refl
+
+abbrev answers : Text → Text → Bool
+answers name word = answers_to word (name, [])
+
+met_word : (word : Text) → subcommand_met names idle word ≡ met_if (answers (codes "check") word) (answers (codes "help") word)
+met_word word = met_conds (answers (codes "check") word) (answers (codes "help") word)
+
+abbrev first_byte : Option Text → ℕ
+first_byte (Some (x ∷ xs)) = x
+first_byte _ = 0
+
+entered_check : (c h : Bool) → entered_name (met_if c h) ≡ Some (codes "check") → c ≡ true
+unfolding clap_on_literals
+entered_check true h e = refl
+entered_check false true e = let bad : ◌≡◌ {A = ℕ} 104 99 = ap first_byte e in absurd (omega arith)
+entered_check false false e = cc
+
+entered_help : (c h : Bool) → entered_name (met_if c h) ≡ Some (codes "help") → h ≡ true
+unfolding clap_on_literals
+entered_help c true e = refl
+entered_help true false e = let bad : ◌≡◌ {A = ℕ} 99 104 = ap first_byte e in absurd (omega arith)
+entered_help false false e = cc
+
+or_false : (b : Bool) → (b || false) ≡ true → b ≡ true
+or_false true e = refl
+or_false false e = e
+
+-- the name that is met at one word
+met_at : (word name : Text) → met_by (word ∷ []) ≡ Some name
+    → entered_name (met_if (answers (codes "check") word) (answers (codes "help") word)) ≡ Some name
+met_at word name e =
+    let left = stopped word ∙ ap (option_map (λ (met : Text). (met, []))) (met_word word) in
+    sym (ap (λ (s : Option (Text × List Text)). option_map (λ p. p.0) (entered (built command_words) s)) left) ∙ e
+
+answers_same : (name word : Text) → answers name word ≡ true → word ∷ [] ≡ name ∷ []
+answers_same name word h = ap (λ (w : Text). w ∷ []) (sym ((bytes_eq-Decides name word).0 (or_false (bytes_eq name word) h)))
+
+is_check : (texts : List Text) → met_by texts ≡ Some (codes "check") → length texts ≡ 1 → texts ≡ codes "check" ∷ []
+is_check [] e one = absurd (omega arith)
+is_check (word ∷ []) e one =
+    answers_same (codes "check") word (entered_check (answers (codes "check") word) (answers (codes "help") word) (met_at word (codes "check") e))
+is_check (word ∷ other ∷ rest) e one = absurd (omega arith)
+
+pub is_help_word : (texts : List Text) → met_by texts ≡ Some (codes "help") → length texts ≡ 1 → texts ≡ codes "help" ∷ []
+is_help_word [] e one = absurd (omega arith)
+is_help_word (word ∷ []) e one =
+    answers_same (codes "help") word (entered_help (answers (codes "check") word) (answers (codes "help") word) (met_at word (codes "help") e))
+is_help_word (word ∷ other ∷ rest) e one = absurd (omega arith)
+
+pub is_task : (texts : List Text) (task : Task) → met_by texts ≡ Some (name_of task) → length texts ≡ 1 → texts ≡ words_of task
+is_task texts Check e one = is_check texts e one
+
+-- ---- what a parse of the words gives
+
+pub fails_by : {T : Type 0} (a : App) (texts : List Text) (r : Result T Error) → a ≡ command_words
+    → (is_simple_and_free a ≡ true → FailsBy (fault_of a texts) r) → FailsBy (fault_of command_words texts) r
+fails_by a texts r e h = subst (λ (b : App). FailsBy (fault_of b texts) r) e (h (ap is_simple_and_free e ∙ is_exact))
+
+name_of_rows : (m : ArgMatches) → option_map (λ p. p.0) (subcommand_rows_of m) ≡ subcommand_name_of m
+name_of_rows m = elim (out-ArgMatches m).subcommand as (λ o. option_map (λ p. p.0) (subcommand_rows o) ≡ option_map (λ b. (out-SubCommand (box_value b)).name.now) o) [ Some b ↦ refl | None ↦ refl ]
+
+pub names_met : (a : App) (texts : List Text) (m : ArgMatches) → a ≡ command_words
+    → HasMatchesOf a texts m → subcommand_name_of m ≡ met_by texts
+names_met a texts m e h = sym (name_of_rows m) ∙ ap (option_map (λ p. p.0)) ((h (ap is_simple e ∙ is_known)).1 ∙ ap (λ (b : App). subcommand_of b texts) e)

@@ -1,0 +1,6 @@
+pub mod Check
+pub mod Hexadecimal
+pub mod Lines
+pub mod Status
+pub mod Task
+pub mod Listing

@@ -1,0 +1,52 @@
+//! Hexadecimal input: all of a source, read to its end and turned into bytes.
+
+ghost use Rattle.std.specs.Prelude.{◌≡◌, ◌<◌, ◌≤◌, length, IfOk, IfSome, IsErr, IsErrOf, IsTrue};
+ghost use Rattle.hex.specs.Hex.{decode_of};
+ghost use Rattle.escpos_cli.specs.Hexadecimal.{IsHexadecimal, digits_of};
+
+use crate::hexadecimal::{HexFault, bytes_of};
+use escpos_command::{ByteIn, ReadError, read_to_end};
+use std::alloc::Global;
+use thiserror::Error;
+
+/// How many bytes of standard input a job reads.
+pub const INPUT_LIMIT: usize = 16_777_216;
+
+/// Why an input gave no bytes.
+#[derive(Clone, Copy, Debug, Drop, PartialEq, Eq, Error)]
+pub enum InputFault {
+    /// It has more than 16,777,216 bytes.
+    #[error("the input is too long")]
+    TooLong,
+    /// It isn't hexadecimal.
+    #[error("the input isn't hexadecimal")]
+    NotHexadecimal,
+    /// Its source failed.
+    #[error("the input can't be read")]
+    Device,
+    /// There is no memory for it.
+    #[error("there wasn't enough memory")]
+    Memory,
+}
+
+/// The bytes that `input` writes in hexadecimal.
+pub fn hexadecimal_input<R: ByteIn>(alloc: Global, input: &mut R) -> Result<Vec<u8>, InputFault>
+    ensures bytes { IfOk result (λ bytes. IfSome (R.to_come input.old) (λ text.
+        (length text ≤ INPUT_LIMIT) × IsHexadecimal text bytes.items)) }
+    ensures too_long { IsErrOf result InputFault.TooLong → IfSome (R.to_come input.old) (λ text. INPUT_LIMIT < length text) }
+    ensures not_hexadecimal { IsErrOf result InputFault.NotHexadecimal → IfSome (R.to_come input.old) (λ text.
+        (length text ≤ INPUT_LIMIT) × IsErr (decode_of (digits_of text))) }
+    ensures device { IsErrOf result InputFault.Device → IsTrue (R.failed input.new) }
+{
+    let text = match read_to_end(alloc, input, INPUT_LIMIT) {
+        Ok(text) => text,
+        Err(ReadError::TooLong) => return Err(InputFault::TooLong),
+        Err(ReadError::Failed) => return Err(InputFault::Device),
+        Err(ReadError::Memory) => return Err(InputFault::Memory),
+    };
+    match bytes_of(alloc, text) {
+        Ok(bytes) => Ok(bytes),
+        Err(HexFault::Refused) => Err(InputFault::NotHexadecimal),
+        Err(HexFault::Memory) => Err(InputFault::Memory),
+    }
+}

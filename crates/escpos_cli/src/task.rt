@@ -1,0 +1,125 @@
+//! The words of the command line: which task they name, and what is said where they name none.
+
+ghost use Rattle.std.specs.Prelude.{◌≡◌, ◌⊎◌, [], ◌∷◌, IfErr, IfOk, Contains, codes, map, option_map};
+ghost use Rattle.clap.specs.Words.{HasKind, IsAmong, fault_of, kind_of, subcommand_name_of, subcommand_of};
+ghost use Rattle.escpos_cli.specs.Task.{command_words, help_words, name_of, no_task_of, words_of};
+
+use clap::error::ErrorKind;
+use clap::{ArgMatches, Command};
+use std::alloc::Global;
+use std::convert::AsStr;
+use thiserror::Error;
+
+/// What the program is asked to do.
+#[derive(Clone, Copy, Debug, PartialEq, Eq)]
+pub enum Task {
+    /// List the commands of a byte stream.
+    Check,
+}
+
+/// Why the words name no task.
+#[derive(Clone, Copy, Debug, Drop, PartialEq, Eq, Error)]
+pub enum NoTask {
+    /// There is no such word, or none at all, or one too many.
+    #[error("the words name no task")]
+    Usage,
+    /// The words ask what the program is for.
+    #[error("help was asked for")]
+    Help,
+    /// There was no memory to read the words.
+    #[error("there wasn't enough memory")]
+    Memory,
+}
+
+/// The text for words that name no task.
+pub const USAGE: &str = "\
+usage: escpos_cli check < HEXADECIMAL
+       escpos_cli help
+";
+
+/// The text that `help` asks for.
+pub const HELP: &str = "\
+escpos_cli lists what an ESC/POS byte stream says: command by command, each with
+its place, or else the exact byte at which the stream is refused.
+
+  escpos_cli check
+      Reads the stream from standard input, as hexadecimal digits of either case;
+      spaces, tabs and line ends between them count for nothing. Each command
+      gives one line: the number of bytes before it, its name, what it carries.
+      The last line is `end N pending P`, where N bytes were read and P of them
+      belong to a command that isn't complete, or `fault K NUMBER NAME`, where the
+      byte at place K is refused.
+
+          $ echo '1B 40 48 69 0A 1D 56 00' | escpos_cli check
+          0 init
+          2 char 48
+          3 char 69
+          4 lf
+          5 cut 00
+          end 8 pending 0
+
+  escpos_cli help
+      Prints this text; so do --help and -h.
+
+          $ escpos_cli help
+
+Exit status: 0 good, 1 refused content, 2 usage, 3 device, 4 memory.
+";
+
+/// The task that the words name. The program's own name isn't among them.
+///
+/// `Help` comes where they ask for help, `Memory` where there was no memory to read them, and `Usage`
+/// for all others.
+pub fn task_of<S: AsStr>(alloc: Global, words: &[S]) -> Result<Task, NoTask>
+    ensures task { IfOk result (λ task. map S.text words.now ≡ words_of task) }
+    ensures check { map S.text words.now ≡ words_of Task.Check → (result ≡ Ok Task.Check) ⊎ (result ≡ Err NoTask.Memory) }
+    ensures help { Contains help_words (map S.text words.now) → (result ≡ Err NoTask.Help) ⊎ (result ≡ Err NoTask.Memory) }
+    ensures help_only { result ≡ Err NoTask.Help → (map S.text words.now ≡ codes "help" ∷ [])
+        ⊎ IsAmong ErrorKind.DisplayHelp (fault_of command_words (map S.text words.now)) }
+{
+    match matches_of(alloc, words) {
+        Ok(matches) => task_named(matches.subcommand_name(), words.len()),
+        Err(refusal) => Err(no_task_by(refusal.kind())),
+    }
+}
+
+// What one of the program's words asks for, where so many words were given.
+fn task_named(name: Option<&str>, count: usize) -> Result<Task, NoTask>
+    ensures task { IfOk result (λ task. (option_map (λ s. s.now) name.entry ≡ Some (name_of task)) × (count ≡ 1)) }
+    ensures check { option_map (λ s. s.now) name.entry ≡ Some (codes "check") → count ≡ 1 → result ≡ Ok Task.Check }
+    ensures help { option_map (λ s. s.now) name.entry ≡ Some (codes "help") → count ≡ 1 → result ≡ Err NoTask.Help }
+    ensures help_only { result ≡ Err NoTask.Help → (option_map (λ s. s.now) name.entry ≡ Some (codes "help")) × (count ≡ 1) }
+{
+    match name {
+        Some("check") if count == 1 => Ok(Task::Check),
+        Some("help") if count == 1 => Err(NoTask::Help),
+        _ => Err(NoTask::Usage),
+    }
+}
+
+// What `clap` makes of the words.
+fn matches_of<'a, S: AsStr>(alloc: Global, words: &'a [S]) -> Result<ArgMatches<'a>, clap::Error>
+    ensures parsed { IfOk result (λ matches. fault_of command_words (map S.text words.entry.now) ≡ []) }
+    ensures named { IfOk result (λ matches. subcommand_name_of matches
+        ≡ option_map (λ p. p.0) (subcommand_of command_words (map S.text words.entry.now))) }
+    ensures refused { IfErr result (HasKind (fault_of command_words (map S.text words.entry.now))) }
+{
+    let command = Command::new(alloc, "escpos_cli")
+        .no_binary_name(true)
+        .disable_help_subcommand(true)
+        .subcommand_required(true)
+        .subcommand(Command::new(alloc, "check"))?
+        .subcommand(Command::new(alloc, "help"))?;
+    command.try_get_matches_from(words)
+}
+
+// What a refusal of the words comes to.
+fn no_task_by(kind: ErrorKind) -> NoTask
+    ensures { result ≡ no_task_of kind }
+{
+    match kind {
+        ErrorKind::DisplayHelp => NoTask::Help,
+        ErrorKind::OutOfMemory => NoTask::Memory,
+        _ => NoTask::Usage,
+    }
+}
