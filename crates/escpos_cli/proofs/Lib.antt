@@ -1,1 +1,3 @@
-mod TaskWords
+pub mod TaskWords
+pub mod Listings
+pub mod Ends

@@ -35,10 +35,14 @@ pub record Lists (first sink : Option (List ℕ)) (bytes : List ℕ) (status : S
 -- What the program does with input that it can't read as bytes: one line goes out.
 pub record Refuses (first sink : Option (List ℕ)) (line : List ℕ) (status : Status) : Type 0 where
   pub never_good : status ≢ Good
-  pub line : status ≡ Refused → Appends first sink line
+  pub refusal : status ≡ Refused → Appends first sink line
 
 -- What `check` does with its input: too long, not hexadecimal, or bytes.
 pub record Checks (first sink : Option (List ℕ)) (input : List ℕ) (status : Status) : Type 0 where
   pub too_long : INPUT_LIMIT < length input → Refuses first sink (codes "refused input\n") status
   pub not_hexadecimal : length input ≤ INPUT_LIMIT → IsErr (decode_of (digits_of input)) → Refuses first sink (codes "refused hex\n") status
   pub hexadecimal : (bytes : List ℕ) → length input ≤ INPUT_LIMIT → IsHexadecimal input bytes → Lists first sink bytes status
+
+-- Good where no byte is pending, else refused.
+abbrev pub StatusFits : Status → ℕ → Type 0
+StatusFits status pending = ((status ≡ Good) × (pending ≡ 0)) ⊎ ((status ≡ Refused) × (pending ≢ 0))

@@ -2,7 +2,7 @@
 
 ghost use Rattle.std.specs.Prelude.{◌≡◌, ◌≢◌, ◌⊎◌, ◌++◌, List, ℕ, Option, IfSome, OnOk, IsTrue, IsErr, length, codes};
 ghost use Rattle.std.specs.Io.KnownBytes.{Appends};
-ghost use Rattle.escpos_cli.specs.Check.{Checks, Lists};
+ghost use Rattle.escpos_cli.specs.Check.{Checks, Lists, StatusFits};
 
 use crate::input::{InputFault, hexadecimal_input};
 use crate::lines::{line_of_end, line_of_fault};
@@ -46,12 +46,12 @@ fn list<W: ByteOut>(alloc: Global, bytes: &[u8], output: &mut W) -> Status
         Ending::Read => {
             let pending = listing.decoder.pending_len();
             let line = line_of_end(bytes.len(), pending);
-            let status = if pending == 0 {
-                Status::Good
-            } else {
-                Status::Refused
-            };
-            finish(&mut listing.gather, line.as_slice(), output, status)
+            finish(
+                &mut listing.gather,
+                line.as_slice(),
+                output,
+                status_of(pending),
+            )
         }
         Ending::Refused { place, why } => {
             let line = line_of_fault(place, why);
@@ -64,6 +64,17 @@ fn list<W: ByteOut>(alloc: Global, bytes: &[u8], output: &mut W) -> Status
         }
         Ending::Memory => finish(&mut listing.gather, MEMORY, output, Status::Memory),
         Ending::Device => Status::Device,
+    }
+}
+
+// The status of bytes that are all read, where so many of them are a half command.
+fn status_of(pending: usize) -> Status
+    ensures { StatusFits result pending }
+{
+    if pending == 0 {
+        Status::Good
+    } else {
+        Status::Refused
     }
 }
 

@@ -1,6 +1,6 @@
 //! A listing on its way: commands are decoded byte by byte, and their lines go out in large pieces.
 
-ghost use Rattle.std.specs.Prelude.{◌≡◌, ◌≢◌, ◌⊎◌, ◌+◌, ◌*◌, ◌<◌, ◌≤◌, ◌^◌, ◌++◌, List, ℕ, Option, IsTrue, length};
+ghost use Rattle.std.specs.Prelude.{◌≡◌, ◌≢◌, ◌⊎◌, ◌+◌, ◌*◌, ◌<◌, ◌≤◌, ◌^◌, ◌++◌, [], List, ℕ, Option, IsTrue, length};
 ghost use Rattle.std.specs.Io.KnownBytes.{Appends};
 ghost use Rattle.escpos_command.specs.Gather.{Carries};
 
@@ -66,7 +66,7 @@ impl Listing {
     pub fn take_all<W: ByteOut>(&mut self, bytes: &[u8], output: &mut W) -> Ending
         requires { given_of self.old ≡ 0 }
         ensures ends { EndsAs result (W.written output.old) (W.written output.new) self.old self.new bytes.now }
-        ensures few { given_of self.new ≤ 128 * length bytes.now }
+        ensures few { result ≢ Ending.Device → given_of self.new ≤ 128 * length bytes.now }
         ensures device { result ≡ Ending.Device → IsTrue (W.failed output.new) }
     {
         for (place, byte) in bytes.iter().enumerate() {
@@ -84,7 +84,7 @@ impl Listing {
     fn take<W: ByteOut>(&mut self, byte: u8, count: usize, output: &mut W) -> Turn
         requires { given_of self.old + 128 < 2 ^ 128 }
         ensures takes { Takes result (W.written output.old) (W.written output.new) self.old self.new byte count }
-        ensures few { given_of self.new ≤ given_of self.old + 128 }
+        ensures few { result ≢ Turn.Device → given_of self.new ≤ given_of self.old + 128 }
         ensures device { result ≡ Turn.Device → IsTrue (W.failed output.new) }
     {
         laws::joined_readings();
