@@ -22,19 +22,19 @@ Finished failed result status = (result ≡ status) ⊎ ((result ≡ Device) × 
 abbrev pub PutsOut : Option (List ℕ) → Option (List ℕ) → (List ℕ × ℕ) → List ℕ → Status → Type 0
 PutsOut now next gather line result = result ≢ Device → (first : Option (List ℕ)) (total : List ℕ) → Carries first now gather total → Appends first next (total ++ line)
 
-no_device : (result : Status) → IsOfContent result → result ≢ Device
+pub no_device : (result : Status) → IsOfContent result → result ≢ Device
 no_device result (inl e) d = let h = sym e ∙ d in cc
 no_device result (inr e) d = let h = sym e ∙ d in cc
 
-given : {F : Type 0} (result status : Status) → Finished F result status → result ≢ Device → result ≡ status
+pub given : {F : Type 0} (result status : Status) → Finished F result status → result ≢ Device → result ≡ status
 given result status (inl e) d = e
 given result status (inr e) d = absurd (d e.0)
 
-good_fits : (status : Status) (pending : ℕ) → StatusFits status pending → status ≡ Good → pending ≡ 0
+pub good_fits : (status : Status) (pending : ℕ) → StatusFits status pending → status ≡ Good → pending ≡ 0
 good_fits status pending (inl e) h = e.1
 good_fits status pending (inr e) h = let k = sym h ∙ e.0 in cc
 
-refused_fits : (status : Status) (pending : ℕ) → StatusFits status pending → status ≡ Refused → pending ≢ 0
+pub refused_fits : (status : Status) (pending : ℕ) → StatusFits status pending → status ≡ Refused → pending ≢ 0
 refused_fits status pending (inl e) h = let k = sym h ∙ e.0 in cc
 refused_fits status pending (inr e) h = e.1
 

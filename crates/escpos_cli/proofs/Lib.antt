@@ -1,3 +1,4 @@
 pub mod TaskWords
 pub mod Listings
 pub mod Ends
+pub mod Papers

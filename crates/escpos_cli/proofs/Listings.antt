@@ -31,7 +31,7 @@ Faults = (a b : List ℕ) (cs ds : List Command) (r s : List ℕ) (k : ℕ) (why
 abbrev pub FirstFault : Type 0
 FirstFault = (a more : List ℕ) (cs : List Command) (r : List ℕ) (k : ℕ) (why : FaultReason) → FaultAt a cs r k why → FaultAt (a ++ more) cs r k why
 
-reads_command : (c : Command) (bs : List ℕ) → Spells c bs → Reads bs (c ∷ []) []
+pub reads_command : (c : Command) (bs : List ℕ) → Spells c bs → Reads bs (c ∷ []) []
 reads_command c bs s = record { commands = (s.in_range, tt); whole = s.in_table ∙ sym (append-nil (row c)) ∙ sym (append-nil (row c ++ [])); pending = inl refl }
 
 -- The byte ends a command, and its line is given.
@@ -54,21 +54,25 @@ listed_done join first now next old new a b c line w s e count f carry =
       start = omega (arith, count, more, long);
     }
 
+-- A refused byte behind a reading is a fault of the whole.
+pub fault_behind : Faults → FirstFault → (a more : List ℕ) (cs : List Command) (half : List ℕ) (b at : ℕ) (why : FaultReason) → Reads a cs half
+    → FaultAt (half ++ b ∷ []) [] half at why → at ≡ length half → FaultAt (a ++ b ∷ more) cs half (length a) why
+fault_behind faults front a more cs half b at why r f e =
+    let here = subst (λ v. FaultAt (a ++ b ∷ []) v half (length (spell cs) + at) why) (append-nil cs) (faults a (b ∷ []) cs [] half half at why r f) in
+    let count : length (spell cs) + at ≡ length a = omega (arith, ap length r.whole ∙ length-append (spell cs) half, e) in
+    subst (λ xs. FaultAt xs cs half (length a) why) (append_assoc a (b ∷ []) more)
+    (front (a ++ b ∷ []) more cs half (length a) why (subst (λ k. FaultAt (a ++ b ∷ []) cs half k why) count here))
+
 -- The byte is refused.
 pub refused_behind : Faults → FirstFault → (first now : Option (List ℕ)) (old new : Listing) (a more : List ℕ) (b at : ℕ) (why : FaultReason) → Listed first now old a
     → FaultAt (old.decoder ++ b ∷ []) [] old.decoder at why → at ≡ length old.decoder → new.gather ≡ old.gather
     → RefusedAt first now new (a ++ b ∷ more) (length a) why
-refused_behind faults front first now old new a more b at why w f e g =
-    let here = faults a (b ∷ []) w.commands [] old.decoder old.decoder at why w.read f in
-    let count : length (spell w.commands) + at ≡ length a = omega (arith, ap length w.read.whole ∙ length-append (spell w.commands) old.decoder, e) in
-    record {
-      commands = w.commands ++ [];
-      rest = old.decoder;
-      fault =
-        subst (λ xs. FaultAt xs (w.commands ++ []) old.decoder (length a) why) (append_assoc a (b ∷ []) more)
-        (front (a ++ b ∷ []) more (w.commands ++ []) old.decoder (length a) why (subst (λ k. FaultAt (a ++ b ∷ []) (w.commands ++ []) old.decoder k why) count here));
-      lines = subst (λ v. Carries first now v (command_lines 0 (w.commands ++ []))) (sym g) (subst (λ v. Carries first now old.gather (command_lines 0 v)) (sym (append-nil w.commands)) w.lines);
-    }
+refused_behind faults front first now old new a more b at why w f e g = record {
+  commands = w.commands;
+  rest = old.decoder;
+  fault = fault_behind faults front a more w.commands old.decoder b at why w.read f e;
+  lines = subst (λ v. Carries first now v (command_lines 0 w.commands)) (sym g) w.lines;
+}
 
 -- ## The bytes of a slice, one after another
 

@@ -4,3 +4,5 @@ pub mod Lines
 pub mod Status
 pub mod Task
 pub mod Listing
+pub mod Printing
+pub mod Render

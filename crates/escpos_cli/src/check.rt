@@ -67,8 +67,8 @@ fn list<W: ByteOut>(alloc: Global, bytes: &[u8], output: &mut W) -> Status
     }
 }
 
-// The status of bytes that are all read, where so many of them are a half command.
-fn status_of(pending: usize) -> Status
+/// The status of bytes that are all read, where so many of them are a half command.
+pub fn status_of(pending: usize) -> Status
     ensures { StatusFits result pending }
 {
     if pending == 0 {
@@ -78,8 +78,9 @@ fn status_of(pending: usize) -> Status
     }
 }
 
-// Puts one line that says why there is no listing.
-fn say<W: ByteOut>(line: &[u8], output: &mut W, status: Status) -> Status
+/// Puts one line that says why there is nothing else. The status is the one that is given, or `Device` where
+/// `output` has failed.
+pub fn say<W: ByteOut>(line: &[u8], output: &mut W, status: Status) -> Status
     ensures line { result ≢ Status.Device → Appends (W.written output.old) (W.written output.new) line.now }
     ensures status { (result ≡ status) ⊎ ((result ≡ Status.Device) × IsTrue (W.failed output.new)) }
 {

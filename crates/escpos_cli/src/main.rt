@@ -11,6 +11,8 @@ mod hexadecimal;
 mod input;
 mod lines;
 mod listing;
+mod printing;
+mod render;
 mod status;
 mod task;
 

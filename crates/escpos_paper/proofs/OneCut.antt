@@ -1,0 +1,179 @@
+-- There is one cut of the cells of a line into rows.
+use Rattle.std.proofs.Common.{◌≡◌, ◌≢◌, ℕ, ◌+◌, ◌*◌, ◌≤◌, ◌<◌, ◌⊎◌, inl, inr, List, [], ◌∷◌, ◌++◌, refl, sym, ◌∙◌, ap, subst, append_assoc, append-nil, arith, Bool, true, false, cond, take, map}
+use Rattle.std.specs.Prelude.{flat_map, nat_le, sum_by}
+use Rattle.std.specs.List.{AllByRecursion, list_any}
+use Rattle.std.proofs.lemmas.Bool.Decides.{nat_tests}
+use Rattle.std.proofs.lemmas.List.Sums.{sum_by-append, sum_by-cons}
+use Rattle.std.proofs.Math.Seq.{append_snoc}
+use Rattle.escpos_command.specs.declared.command.Command.{Command}
+use Rattle.escpos_command.specs.declared.parameter.choices.FontFace.{FontFace}
+use Rattle.escpos_command.specs.declared.parameter.choices.FontFace.TheVariants.{A, B}
+use Rattle.escpos_command.specs.Text.{characters, ends_text}
+use Rattle.escpos_paper.specs.declared.cell.Cell.{Cell}
+use Rattle.escpos_paper.specs.declared.style.Style.{Style}
+use Rattle.escpos_paper.specs.Places.{over_places}
+use Rattle.escpos_paper.specs.Styles.{style}
+use Rattle.escpos_paper.specs.Cells.{styled, cell_at, cells, face_dots, cell_dots, dots}
+use Rattle.escpos_paper.specs.Rows.{IsRow, AreFull, IsCut, fits, cut_from, cut, rows}
+use Rattle.escpos_paper.proofs.Widths.{IsWidth, width_in_range}
+
+-- ## Existence
+
+-- A cell that a line has room for.
+abbrev IsNarrow : Cell → Type 0
+IsNarrow x = cell_dots x ≤ 512
+
+one_fits : (x : Cell) → IsNarrow x → IsRow (x ∷ [])
+one_fits x h = (λ e. absurd cc, omega arith)
+
+fit_means : (row : List Cell) → fits row ≡ true → dots row ≤ 512
+fit_means row h = grind (arith, nat_tests)
+
+no_fit_means : (row : List Cell) → fits row ≡ false → 512 < dots row
+no_fit_means row h = grind (arith, nat_tests)
+
+not_nothing : (row : List Cell) (x : Cell) → row ++ x ∷ [] ≢ []
+not_nothing [] x e = absurd cc
+not_nothing (y ∷ row) x e = absurd cc
+
+-- The first row begins with what was in the line.
+pub record Begins (row : List Cell) (found : List (List Cell)) : Type 0 where
+  pub more : List Cell
+  pub rest : List (List Cell)
+  pub is : found ≡ (row ++ more) ∷ rest
+
+begins_longer : (row : List Cell) (x : Cell) (found : List (List Cell)) → Begins (row ++ x ∷ []) found → Begins row found
+begins_longer row x found b =
+    record { more = x ∷ b.more; rest = b.rest; is = b.is ∙ ap (λ r. r ∷ b.rest) (append_snoc row x b.more) }
+
+begins : (row xs : List Cell) → Begins row (cut_from row xs)
+begins row [] = record { more = []; rest = []; is = ap (λ r. r ∷ []) (sym (append-nil row)) }
+begins row (x ∷ xs) =
+    elim (fits (row ++ x ∷ [])) as (λ v. Begins row (cond v (cut_from (row ++ x ∷ []) xs) (row ∷ cut_from (x ∷ []) xs))) [
+      | true ↦ begins_longer row x (cut_from (row ++ x ∷ []) xs) (begins (row ++ x ∷ []) xs)
+      | false ↦ record { more = []; rest = cut_from (x ∷ []) xs; is = ap (λ r. r ∷ cut_from (x ∷ []) xs) (sym (append-nil row)) }
+    ]
+
+full_behind : (row : List Cell) (x : Cell) (found : List (List Cell)) → Begins (x ∷ []) found → 512 < dots (row ++ x ∷ []) → AreFull found
+    → AreFull (row ∷ found)
+full_behind row x found b wide full =
+    subst (λ rs. AreFull (row ∷ rs)) (sym b.is) (wide, subst AreFull b.is full)
+
+joined_longer : (row : List Cell) (x : Cell) (xs : List Cell) → IsCut ((row ++ x ∷ []) ++ xs) (cut_from (row ++ x ∷ []) xs)
+    → IsCut (row ++ x ∷ xs) (cut_from (row ++ x ∷ []) xs)
+joined_longer row x xs h = subst (λ t. IsCut t (cut_from (row ++ x ∷ []) xs)) (append_snoc row x xs) h
+
+begun_anew : (row : List Cell) (x : Cell) (xs : List Cell) → IsRow row → 512 < dots (row ++ x ∷ []) → IsCut (x ∷ xs) (cut_from (x ∷ []) xs)
+    → IsCut (row ++ x ∷ xs) (row ∷ cut_from (x ∷ []) xs)
+begun_anew row x xs r wide rest = record {
+  joined = ap (λ t. row ++ t) rest.joined;
+  each = (r, rest.each);
+  full = full_behind row x (cut_from (x ∷ []) xs) (begins (x ∷ []) xs) wide rest.full;
+}
+
+-- The cut of a line that goes on with x, by whether it fits.
+by_fit : (row : List Cell) (x : Cell) (xs : List Cell) (b : Bool) → fits (row ++ x ∷ []) ≡ b
+    → (b ≡ true → IsCut (row ++ x ∷ xs) (cut_from (row ++ x ∷ []) xs)) → (b ≡ false → IsCut (row ++ x ∷ xs) (row ∷ cut_from (x ∷ []) xs))
+    → IsCut (row ++ x ∷ xs) (cond b (cut_from (row ++ x ∷ []) xs) (row ∷ cut_from (x ∷ []) xs))
+by_fit row x xs true e fit over = fit refl
+by_fit row x xs false e fit over = over refl
+
+is_cut_from : (row xs : List Cell) → IsRow row → AllByRecursion IsNarrow xs → IsCut (row ++ xs) (cut_from row xs)
+is_cut_from row [] r h = record { joined = refl; each = (r, tt); full = tt }
+is_cut_from row (x ∷ xs) r h =
+    by_fit row x xs (fits (row ++ x ∷ [])) refl
+    (λ e. joined_longer row x xs (is_cut_from (row ++ x ∷ []) xs (not_nothing row x, fit_means (row ++ x ∷ []) e) h.1))
+    (λ e. begun_anew row x xs r (no_fit_means (row ++ x ∷ []) e) (is_cut_from (x ∷ []) xs (one_fits x h.0) h.1))
+
+pub is_cut : (xs : List Cell) → AllByRecursion IsNarrow xs → IsCut xs (cut xs)
+is_cut [] h = record { joined = refl; each = tt; full = tt }
+is_cut (x ∷ xs) h = is_cut_from (x ∷ []) xs (one_fits x h.0) h.1
+
+-- ## The cells of commands
+
+face_narrow : (face : FontFace) (n : ℕ) → n ≤ 8 → face_dots face * n ≤ 512
+face_narrow A n h = omega arith
+face_narrow B n h = omega arith
+
+narrow_all : (s : Style) (bs : List ℕ) → s.width ≤ 8 → AllByRecursion IsNarrow (map (styled s) bs)
+narrow_all s [] h = tt
+narrow_all s (b ∷ bs) h = (face_narrow s.font s.width h, narrow_all s bs h)
+
+narrow_place : (s : Style) (bs : List ℕ) (b : Bool) → s.width ≤ 8 → AllByRecursion IsNarrow (cond b [] (map (styled s) bs))
+narrow_place s bs true h = tt
+narrow_place s bs false h = narrow_all s bs h
+
+narrow_append : (xs ys : List Cell) → AllByRecursion IsNarrow xs → AllByRecursion IsNarrow ys → AllByRecursion IsNarrow (xs ++ ys)
+narrow_append [] ys h k = k
+narrow_append (x ∷ xs) ys h k = (h.0, narrow_append xs ys h.1 k)
+
+narrow_from : (before cs : List Command) → AllByRecursion IsNarrow (over_places cell_at before cs)
+narrow_from before [] = tt
+narrow_from before (c ∷ cs) =
+    narrow_append (cell_at before c cs) (over_places cell_at (before ++ c ∷ []) cs)
+    (narrow_place (style before) (characters c) (list_any ends_text cs) (width_in_range before).most) (narrow_from (before ++ c ∷ []) cs)
+
+-- So the cells of commands have a cut.
+pub is_cut_of : (cs : List Command) → IsCut (cells cs) (rows cs)
+is_cut_of cs = is_cut (cells cs) (narrow_from [] cs)
+
+-- ## Uniqueness
+
+-- Two lists that begin one list are equal, or one of them goes on.
+pub data Seam (a b c d : List Cell) : Type 0 where
+  same : a ≡ c → b ≡ d → Seam a b c d
+  shorter : (x : Cell) (more : List Cell) → c ≡ a ++ x ∷ more → b ≡ x ∷ more ++ d → Seam a b c d
+  longer : (x : Cell) (more : List Cell) → a ≡ c ++ x ∷ more → d ≡ x ∷ more ++ b → Seam a b c d
+
+seam_behind : (x y : Cell) (a b c d : List Cell) → x ≡ y → Seam a b c d → Seam (x ∷ a) b (y ∷ c) d
+seam_behind x y a b c d e (same p q) = same (cc) q
+seam_behind x y a b c d e (shorter z more p q) = shorter z more (cc) q
+seam_behind x y a b c d e (longer z more p q) = longer z more (cc) q
+
+first_same : (x y : Cell) (xs ys : List Cell) → x ∷ xs ≡ y ∷ ys → x ≡ y
+first_same x y xs ys e = cc
+
+rest_same : (x y : Cell) (xs ys : List Cell) → x ∷ xs ≡ y ∷ ys → xs ≡ ys
+rest_same x y xs ys e = cc
+
+seam : (a b c d : List Cell) → a ++ b ≡ c ++ d → Seam a b c d
+seam [] b [] d e = same refl e
+seam [] b (y ∷ c) d e = shorter y c refl e
+seam (x ∷ a) b [] d e = longer x a refl (sym e)
+seam (x ∷ a) b (y ∷ c) d e =
+    seam_behind x y a b c d (first_same x y (a ++ b) (c ++ d) e) (seam a b c d (rest_same x y (a ++ b) (c ++ d) e))
+
+-- A row isn't the front of a wider row in another cut.
+wider : (row : List Cell) (x : Cell) (more : List Cell) → dots (row ++ x ∷ []) ≤ dots (row ++ x ∷ more)
+wider row x more = omega (arith, sum_by-append cell_dots row (x ∷ []), sum_by-append cell_dots row (x ∷ more), sum_by-cons cell_dots x more, sum_by-cons cell_dots x [])
+
+no_shorter : (row other : List Cell) (rest : List (List Cell)) (x : Cell) (more d : List Cell)
+    → AreFull (row ∷ rest) → AllByRecursion IsRow rest → dots other ≤ 512 → other ≡ row ++ x ∷ more → flat_map (λ r. r) rest ≡ x ∷ more ++ d → ⊥
+no_shorter row other [] x more d full each narrow e f = absurd cc
+no_shorter row other ([] ∷ rest) x more d full each narrow e f = each.0.0 refl
+no_shorter row other ((y ∷ next) ∷ rest) x more d full each narrow e f =
+    let same_first : y ≡ x = first_same y x (next ++ flat_map (λ r. r) rest) (more ++ d) f in
+    let wide : 512 < dots (row ++ x ∷ []) = subst (λ z. 512 < dots (row ++ z ∷ [])) same_first full.0 in
+    let long : dots (row ++ x ∷ more) ≤ 512 = subst (λ r. dots r ≤ 512) e narrow in
+    absurd (omega (arith, wider row x more))
+
+tail_cut : (xs row : List Cell) (rest : List (List Cell)) → IsCut xs (row ∷ rest) → IsCut (flat_map (λ r. r) rest) rest
+tail_cut xs row [] h = record { joined = refl; each = tt; full = tt }
+tail_cut xs row (next ∷ rest) h = record { joined = refl; each = h.each.1; full = h.full.1 }
+
+pub one_cut : (xs : List Cell) (found others : List (List Cell)) → IsCut xs found → IsCut xs others → found ≡ others
+one_cut xs [] [] h k = refl
+one_cut xs [] ([] ∷ others) h k = absurd (k.each.0.0 refl)
+one_cut xs [] ((x ∷ row) ∷ others) h k = absurd (let no : [] ≡ x ∷ (row ++ flat_map (λ r. r) others) = h.joined ∙ sym k.joined in cc)
+one_cut xs ([] ∷ found) [] h k = absurd (h.each.0.0 refl)
+one_cut xs ((x ∷ row) ∷ found) [] h k = absurd (let no : [] ≡ x ∷ (row ++ flat_map (λ r. r) found) = k.joined ∙ sym h.joined in cc)
+one_cut xs (row ∷ found) (other ∷ others) h k =
+    elim (seam row (flat_map (λ r. r) found) other (flat_map (λ r. r) others) (h.joined ∙ sym k.joined)) [
+      | same p q ↦
+        let rest : found ≡ others =
+            one_cut (flat_map (λ r. r) found) found others (tail_cut xs row found h)
+            (subst (λ t. IsCut t others) (sym q) (tail_cut xs other others k)) in
+        cc
+      | shorter x more p q ↦ absurd (no_shorter row other found x more (flat_map (λ r. r) others) h.full h.each.1 k.each.0.1 p q)
+      | longer x more p q ↦ absurd (no_shorter other row others x more (flat_map (λ r. r) found) k.full k.each.1 h.each.0.1 p q)
+    ]

@@ -1,0 +1,72 @@
+-- One more command takes the sheet of a list of commands to the sheet of the longer list.
+use Rattle.std.proofs.Common.{◌≡◌, ℕ, ◌+◌, ◌≤◌, List, [], ◌∷◌, ◌++◌, length, refl, sym, ◌∙◌, ap, append_assoc, append-nil, Bool, true, false, cond}
+use Rattle.std.specs.Prelude.{map, nat_lt}
+use Rattle.escpos_command.specs.declared.command.Command.{Command}
+use Rattle.escpos_command.specs.declared.command.Command.TheVariants.{Char, LineFeed, Init, FeedLines, Cut}
+use Rattle.escpos_command.specs.Text.{text, ends_text, characters}
+use Rattle.escpos_paper.specs.declared.cell.Cell.{Cell}
+use Rattle.escpos_paper.specs.declared.item.Item.{Item}
+use Rattle.escpos_paper.specs.Styles.{is_empty, last_or, style, alignment}
+use Rattle.escpos_paper.specs.Cells.{styled, cells}
+use Rattle.escpos_paper.specs.Rows.{fits, cut, rows, line}
+use Rattle.escpos_paper.specs.Printed.{prints, printed, row_and_feed}
+use Rattle.escpos_paper.specs.Page.{Seen, Sheet, PageIs}
+use Rattle.escpos_paper.specs.Steps.{style_behind, alignment_behind, line_behind, step_prints, sheet_behind}
+use Rattle.escpos_paper.proofs.Behind.{style-snoc, cells-snoc, empty_text, alignment-snoc, over-snoc}
+use Rattle.escpos_paper.proofs.Cuts.{last-snoc, begun, empty_last}
+
+pub empty_line : (cs : List Command) → is_empty (line cs) ≡ is_empty (text cs)
+empty_line cs = empty_last (cells cs) ∙ sym (empty_text cs)
+
+-- ## The line
+
+line_kept : (cs : List Command) (c : Command) → ends_text c ≡ false → characters c ≡ [] → line (cs ++ c ∷ []) ≡ line cs
+line_kept cs c h none =
+    ap (λ xs. last_or [] (cut xs)) (cells-snoc cs c ∙ ap (λ b. cond b [] (cells cs) ++ map (styled (style cs)) (characters c)) h
+      ∙ ap (λ t. cells cs ++ map (styled (style cs)) t) none ∙ append-nil (cells cs))
+
+pub line-snoc : (cs : List Command) (c : Command) → line (cs ++ c ∷ []) ≡ line_behind (style cs) (line cs) c
+line-snoc cs (Char b) = ap (λ xs. last_or [] (cut xs)) (cells-snoc cs (Char b)) ∙ last-snoc (cells cs) (styled (style cs) b)
+line-snoc cs LineFeed = ap (λ xs. last_or [] (cut xs)) (cells-snoc cs LineFeed)
+line-snoc cs (FeedLines n) = ap (λ xs. last_or [] (cut xs)) (cells-snoc cs (FeedLines n))
+line-snoc cs Init = ap (λ xs. last_or [] (cut xs)) (cells-snoc cs Init)
+line-snoc cs (Cut how) = ap (λ xs. last_or [] (cut xs)) (cells-snoc cs (Cut how))
+line-snoc cs c = line_kept cs c refl refl
+
+-- ## The paper
+
+pub prints_step : (cs : List Command) (c : Command) → prints cs c ≡ step_prints (style cs) (alignment cs) (line cs) c
+prints_step cs (Char b) =
+    ap (λ xs. cond (nat_lt (length (rows cs)) (length (cut xs))) (row_and_feed (alignment cs) (line cs)) []) (cells-snoc cs (Char b))
+    ∙ begun (alignment cs) (cells cs) (styled (style cs) b)
+prints_step cs LineFeed = refl
+prints_step cs (FeedLines n) = refl
+prints_step cs (Cut how) = refl
+prints_step cs c = refl
+
+pub printed-snoc : (cs : List Command) (c : Command) → printed (cs ++ c ∷ []) ≡ printed cs ++ step_prints (style cs) (alignment cs) (line cs) c
+printed-snoc cs c =
+    over-snoc (λ before d behind. prints before d) (λ before d behind. prints before d) [] cs c (λ b d behind. refl)
+    ∙ ap (λ t. printed cs ++ t) (prints_step cs c)
+
+-- ## The sheet
+
+behind_alignment : (cs : List Command) (c : Command) → alignment (cs ++ c ∷ []) ≡ alignment_behind (is_empty (line cs)) (alignment cs) c
+behind_alignment cs c = alignment-snoc cs c ∙ ap (λ b. alignment_behind b (alignment cs) c) (sym (empty_line cs))
+
+behind_items : (kept : List Item) (cs : List Command) (c : Command)
+    → kept ++ printed (cs ++ c ∷ []) ≡ (kept ++ printed cs) ++ step_prints (style cs) (alignment cs) (line cs) c
+behind_items kept cs c =
+    ap (λ t. kept ++ t) (printed-snoc cs c) ∙ sym (append_assoc kept (printed cs) (step_prints (style cs) (alignment cs) (line cs) c))
+
+-- The sheet of a list of commands.
+abbrev pub sheet_of : List Item → List Command → Sheet
+sheet_of kept cs = record { items = kept ++ printed cs; style = style cs; alignment = alignment cs; line = line cs }
+
+pub sheet-snoc : (kept : List Item) (cs : List Command) (c : Command) → sheet_of kept (cs ++ c ∷ []) ≡ sheet_behind (sheet_of kept cs) c
+sheet-snoc kept cs c = cc (behind_items kept cs c, style-snoc cs c, behind_alignment cs c, line-snoc cs c)
+
+-- So a step from the sheet of some commands leads to the sheet of one more.
+pub sheet_step : (old new : Sheet) (kept : List Item) (cs : List Command) (c : Command)
+    → new ≡ sheet_behind old c → old ≡ sheet_of kept cs → new ≡ sheet_of kept (cs ++ c ∷ [])
+sheet_step old new kept cs c e is = e ∙ ap (λ s. sheet_behind s c) is ∙ sym (sheet-snoc kept cs c)

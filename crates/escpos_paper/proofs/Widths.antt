@@ -1,0 +1,36 @@
+-- How wide characters are.
+use Rattle.std.proofs.Common.{◌≡◌, ℕ, ◌+◌, ◌*◌, ◌/◌, ◌%◌, ◌≤◌, List, [], ◌∷◌, ◌++◌, refl, sym, ◌∙◌, ap, subst, arith, Bool, true, false, cond, Option, Some, None}
+use Rattle.std.specs.Prelude.{map, filter_map}
+use Rattle.std.specs.List.{AllByRecursion, list_any}
+use Rattle.escpos_command.specs.declared.command.Command.{Command}
+use Rattle.escpos_command.specs.declared.command.Command.TheVariants.{Char, Mode, Size}
+use Rattle.escpos_command.specs.declared.parameter.choices.FontFace.{FontFace}
+use Rattle.escpos_command.specs.declared.parameter.choices.FontFace.TheVariants.{A, B}
+use Rattle.escpos_command.specs.Meanings.{magnified, has_bit, size_width}
+use Rattle.escpos_command.specs.Text.{characters, ends_text}
+use Rattle.escpos_paper.specs.declared.cell.Cell.{Cell}
+use Rattle.escpos_paper.specs.declared.style.Style.{Style}
+use Rattle.escpos_paper.specs.Places.{over_places}
+use Rattle.escpos_paper.specs.Styles.{behind_init, last_or, decided, sets_width, style}
+use Rattle.escpos_paper.specs.Cells.{styled, cell_at, cells, face_dots, cell_dots}
+
+-- A width factor is 1 to 8.
+pub record IsWidth (n : ℕ) : Type 0 where
+  pub least : 1 ≤ n
+  pub most : n ≤ 8
+
+magnified_width : (b : Bool) → IsWidth (magnified b)
+magnified_width true = record { least = omega arith; most = omega arith }
+magnified_width false = record { least = omega arith; most = omega arith }
+
+size_in_range : (n : ℕ) → IsWidth (size_width n)
+size_in_range n = record { least = omega arith; most = omega arith }
+
+last_in_range : (start : ℕ) (cs : List Command) → IsWidth start → IsWidth (last_or start (filter_map sets_width cs))
+last_in_range start [] h = h
+last_in_range start (Mode n ∷ cs) h = last_in_range (magnified (has_bit n 5)) cs (magnified_width (has_bit n 5))
+last_in_range start (Size n ∷ cs) h = last_in_range (size_width n) cs (size_in_range n)
+last_in_range start (c ∷ cs) h = last_in_range start cs h
+
+pub width_in_range : (cs : List Command) → IsWidth ((style cs).width)
+width_in_range cs = last_in_range 1 (behind_init cs) (record { least = omega arith; most = omega arith })

@@ -1,0 +1,85 @@
+-- Worked rows, computed from the definitions alone.
+use Rattle.std.proofs.Common.{◌≡◌, ℕ, List, [], ◌∷◌, ◌++◌, refl, true, false}
+use Rattle.std.specs.Prelude.{None, Some, replicate, map, length}
+use Rattle.escpos_command.specs.declared.command.Command.{Command}
+use Rattle.escpos_command.specs.declared.command.Command.TheVariants.{Char, LineFeed, Init, Mode, Emphasis, Font, Align, FeedLines, Size, Cut}
+use Rattle.escpos_command.specs.declared.parameter.choices.FontFace.TheVariants.{A, B}
+use Rattle.escpos_command.specs.declared.parameter.choices.Alignment.TheVariants.{Left, Center}
+use Rattle.escpos_paper.specs.declared.cell.Cell.{Cell}
+use Rattle.escpos_paper.specs.declared.item.Item.{Item}
+use Rattle.escpos_paper.specs.declared.item.Item.TheVariants.{Row, Feed, Cut as Cutting}
+use Rattle.escpos_paper.specs.Styles.{power_on}
+use Rattle.escpos_paper.specs.Cells.{styled}
+use Rattle.escpos_paper.specs.Rows.{rows}
+use Rattle.escpos_paper.specs.Printed.{printed}
+use Rattle.escpos_paper.specs.ItemsText.{items_text}
+use Rattle.std.specs.Prelude.{codes}
+use Rattle.std.specs.Fmt.{digits}
+
+-- Init, H, i, LF, a cut
+five_commands : printed (Init ∷ Char 0x48 ∷ Char 0x69 ∷ LineFeed ∷ Cut (0, None) ∷ [])
+    ≡ Row Left (styled power_on 0x48 ∷ styled power_on 0x69 ∷ []) ∷ Feed 1 ∷ Cutting false None ∷ []
+five_commands = refl
+
+-- an Align in mid-line has no effect, one on an empty line has
+align_in_mid_line : printed (Char 0x41 ∷ Char 0x42 ∷ Align 1 ∷ Char 0x43 ∷ LineFeed ∷ Align 1 ∷ Char 0x44 ∷ LineFeed ∷ [])
+    ≡ Row Left (styled power_on 0x41 ∷ styled power_on 0x42 ∷ styled power_on 0x43 ∷ []) ∷ Feed 1 ∷ Row Center (styled power_on 0x44 ∷ []) ∷ Feed 1 ∷ []
+align_in_mid_line = refl
+
+-- emphasis in mid-line is that of the characters behind it
+emphasis_in_mid_line : printed (Emphasis 1 ∷ Char 0x41 ∷ Emphasis 0 ∷ Char 0x42 ∷ LineFeed ∷ [])
+    ≡ Row Left (styled (record power_on { bold = true }) 0x41 ∷ styled power_on 0x42 ∷ []) ∷ Feed 1 ∷ []
+emphasis_in_mid_line = refl
+
+-- ESC ! B9: font B, emphasis, double height and width, underline
+mode : printed (Mode 0xB9 ∷ Char 0x41 ∷ LineFeed ∷ [])
+    ≡ Row Left (styled (record { table = 0; font = B; width = 2; height = 2; bold = true; underline = 1 }) 0x41 ∷ []) ∷ Feed 1 ∷ []
+mode = refl
+
+-- Init drops the line
+init_drops_line : printed (Char 0x41 ∷ Init ∷ Char 0x42 ∷ LineFeed ∷ []) ≡ Row Left (styled power_on 0x42 ∷ []) ∷ Feed 1 ∷ []
+init_drops_line = refl
+
+-- feeds of 0 and of an empty line, and a cut behind text
+feed_zero : printed (FeedLines 0 ∷ []) ≡ Feed 0 ∷ []
+feed_zero = refl
+
+feed_one : printed (LineFeed ∷ []) ≡ Feed 1 ∷ []
+feed_one = refl
+
+cut_behind_text : printed (Char 0x41 ∷ Cut (0x41, Some 5) ∷ []) ≡ Row Left (styled power_on 0x41 ∷ []) ∷ Feed 1 ∷ Cutting false (Some 5) ∷ []
+cut_behind_text = refl
+
+-- at width 8 five characters of font A fit, and the sixth begins a row
+wide : printed (Size 0x70 ∷ replicate 6 (Char 0x61) ++ LineFeed ∷ [])
+    ≡ (let x = styled (record power_on { width = 8 }) 0x61 in
+      Row Left (x ∷ x ∷ x ∷ x ∷ x ∷ []) ∷ Feed 1 ∷ Row Left (x ∷ []) ∷ Feed 1 ∷ [])
+wide = refl
+
+-- 42 characters of font A fill a line, and 56 of font B
+font_a : map length (rows (replicate 43 (Char 0x61))) ≡ 42 ∷ 1 ∷ []
+font_a = refl
+
+font_b : map length (rows (Font 1 ∷ replicate 57 (Char 0x61))) ≡ 56 ∷ 1 ∷ []
+font_b = refl
+
+-- The same as text.
+five_commands_text : items_text (printed (Init ∷ Char 0x48 ∷ Char 0x69 ∷ LineFeed ∷ Cut (0, None) ∷ []))
+    ≡ codes "row left Hi" ++ 10 ∷ [] ++ codes "feed 1" ++ 10 ∷ [] ++ codes "cut full" ++ 10 ∷ []
+unfolding digits
+five_commands_text = refl
+
+emphasis_text : items_text (printed (Emphasis 1 ∷ Char 0x41 ∷ Emphasis 0 ∷ Char 0x42 ∷ LineFeed ∷ []))
+    ≡ codes "row left [A,1,1,1,0,0]A[A,1,1,0,0,0]B" ++ 10 ∷ [] ++ codes "feed 1" ++ 10 ∷ []
+unfolding digits
+emphasis_text = refl
+
+mode_text : items_text (printed (Mode 0xB9 ∷ Char 0x41 ∷ LineFeed ∷ []))
+    ≡ codes "row left [B,2,2,1,1,0]A" ++ 10 ∷ [] ++ codes "feed 1" ++ 10 ∷ []
+unfolding digits
+mode_text = refl
+
+cut_text : items_text (printed (Char 0x5C ∷ Char 0xE9 ∷ Cut (0x41, Some 5) ∷ []))
+    ≡ codes "row left " ++ 0x5C ∷ codes "5c" ++ 0x5C ∷ codes "e9" ++ 10 ∷ [] ++ codes "feed 1" ++ 10 ∷ [] ++ codes "cut full 5" ++ 10 ∷ []
+unfolding digits
+cut_text = refl

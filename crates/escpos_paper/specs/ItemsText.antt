@@ -1,0 +1,85 @@
+-- The paper as text: one line for each item.
+use Rattle.std.specs.Prelude.{ℕ, ◌+◌, ◌-◌, ◌/◌, ◌%◌, ◌==◌, ◌&&◌, nat_le, nat_lt, not, Bool, true, false, List, [], ◌∷◌, ◌++◌, Option, None, Some, flat_map, codes, decimal, if◌then◌else◌}
+use Rattle.escpos_command.specs.declared.bytes.TheConstants.{LF}
+use Rattle.escpos_command.specs.declared.parameter.choices.FontFace.{FontFace}
+use Rattle.escpos_command.specs.declared.parameter.choices.FontFace.TheVariants.{A, B}
+use Rattle.escpos_command.specs.declared.parameter.choices.Alignment.{Alignment}
+use Rattle.escpos_command.specs.declared.parameter.choices.Alignment.TheVariants.{Left, Center, Right}
+use Rattle.escpos_paper.specs.declared.cell.Cell.{Cell}
+use Rattle.escpos_paper.specs.declared.style.Style.{Style}
+use Rattle.escpos_paper.specs.declared.item.Item.{Item}
+use Rattle.escpos_paper.specs.declared.item.Item.TheVariants.{Row, Feed, Cut}
+use Rattle.escpos_paper.specs.Styles.{power_on}
+use Rattle.escpos_paper.specs.Cells.{cell_style}
+
+-- A byte 20 to 7E hexadecimal other than [ and \ is itself; any other is \ and two hexadecimal digits.
+abbrev pub is_plain : ℕ → Bool
+is_plain b = nat_le 0x20 b && nat_le b 0x7E && not (b == 0x5B) && not (b == 0x5C)
+
+abbrev pub hexadecimal_digit : ℕ → ℕ
+hexadecimal_digit d = if nat_lt d 10 then 0x30 + d else 0x61 + (d - 10)
+
+abbrev pub byte_text : ℕ → List ℕ
+byte_text b = if is_plain b then b ∷ [] else 0x5C ∷ hexadecimal_digit (b / 16) ∷ hexadecimal_digit (b % 16) ∷ []
+
+-- A style: [F,W,H,B,U,T] with the font A or B, width, height, emphasis as 1 or 0, underline and table.
+abbrev pub face_name : FontFace → List ℕ
+face_name A = codes "A"
+face_name B = codes "B"
+
+abbrev pub bold_text : Bool → List ℕ
+bold_text b = if b then codes "1" else codes "0"
+
+abbrev pub style_text : Style → List ℕ
+style_text s =
+    codes "[" ++ face_name s.font ++ codes "," ++ decimal s.width ++ codes "," ++ decimal s.height ++ codes "," ++ bold_text s.bold
+    ++ codes "," ++ decimal s.underline ++ codes "," ++ decimal s.table ++ codes "]"
+
+abbrev pub same_face : FontFace → FontFace → Bool
+same_face A A = true
+same_face A B = false
+same_face B A = false
+same_face B B = true
+
+abbrev pub same_flag : Bool → Bool → Bool
+same_flag true b = b
+same_flag false b = not b
+
+abbrev pub same_style : Style → Style → Bool
+same_style s t =
+    s.table == t.table && same_face s.font t.font && s.width == t.width && s.height == t.height && same_flag s.bold t.bold
+    && s.underline == t.underline
+
+-- A cell behind one of the style `before`: its style, where that differs, and its byte.
+abbrev pub cell_text : Style → Cell → List ℕ
+cell_text before x = (if same_style before (cell_style x) then [] else style_text (cell_style x)) ++ byte_text x.byte
+
+-- Cells behind one of the style `before`.
+abbrev pub cells_text : Style → List Cell → List ℕ
+cells_text before [] = []
+cells_text before (x ∷ xs) = cell_text before x ++ cells_text (cell_style x) xs
+
+abbrev pub align_name : Alignment → List ℕ
+align_name Left = codes "left"
+align_name Center = codes "center"
+align_name Right = codes "right"
+
+abbrev pub cut_name : Bool → List ℕ
+cut_name partial = if partial then codes "partial" else codes "full"
+
+-- The feed of a cut, if it has one.
+abbrev pub feed_text : Option ℕ → List ℕ
+feed_text None = []
+feed_text (Some n) = codes " " ++ decimal n
+
+-- The line of an item, without its end. The first cell of a row is compared with the power-on style.
+abbrev pub words : Item → List ℕ
+words (Row align cells) = codes "row " ++ align_name align ++ codes " " ++ cells_text power_on cells
+words (Feed n) = codes "feed " ++ decimal n
+words (Cut partial feed) = codes "cut " ++ cut_name partial ++ feed_text feed
+
+abbrev pub item_text : Item → List ℕ
+item_text item = words item ++ LF ∷ []
+
+abbrev pub items_text : List Item → List ℕ
+items_text items = flat_map item_text items

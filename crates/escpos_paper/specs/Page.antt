@@ -1,0 +1,32 @@
+-- What a page is seen as, and which commands it stands for.
+use Rattle.std.specs.Prelude.{◌≡◌, Bool, List, ◌++◌}
+use Rattle.escpos_command.specs.declared.command.Command.{Command}
+use Rattle.escpos_command.specs.declared.parameter.choices.Alignment.{Alignment}
+use Rattle.escpos_paper.specs.declared.cell.Cell.{Cell}
+use Rattle.escpos_paper.specs.declared.item.Item.{Item}
+use Rattle.escpos_paper.specs.declared.style.Style.{Style}
+use Rattle.escpos_paper.specs.Styles.{style, alignment}
+use Rattle.escpos_paper.specs.Rows.{line}
+use Rattle.escpos_paper.specs.Printed.{printed}
+
+-- The paper so far, the styles that are set, and the line that isn't printed yet.
+pub record Sheet : Type 0 where
+  pub items : List Item
+  pub style : Style
+  pub alignment : Alignment
+  pub line : List Cell
+
+-- A page: its sheet, and beside it whether there is room for what any one command prints.
+pub record Seen : Type 0 where
+  pub sheet : Sheet
+  pub has_room : Bool
+
+-- The page is what the commands leave on paper that held the items `kept`, from power-on styles and an
+-- empty line.
+abbrev pub PageIs : Seen → List Item → List Command → Type 0
+PageIs page kept cs = page.sheet ≡ record {
+  items = kept ++ printed cs;
+  style = style cs;
+  alignment = alignment cs;
+  line = line cs;
+}

@@ -1,0 +1,115 @@
+//! The cells of a line: characters with the styles that they are printed in.
+
+ghost use Rattle.std.specs.Prelude.{◌≡◌, ◌+◌, ◌<◌, ◌≤◌, [], ◌∷◌, ◌++◌, length};
+ghost use Rattle.escpos_paper.specs.Cells.{face_dots, cell_dots, cell_style};
+
+use crate::style::Style;
+use arrayvec::ArrayVec;
+use escpos_command::FontFace;
+use std::marker::Model;
+
+/// How wide a line is, in dots.
+pub const LINE_DOTS: usize = 512;
+
+/// The most cells that a line has: those of font B at width 1.
+pub const LINE_CELLS: usize = 56;
+
+/// A character in a line, with the styles that were set when it came.
+#[derive(Clone, Copy, Debug, PartialEq, Eq)]
+pub struct Cell {
+    /// The character as sent.
+    pub byte: u8,
+    /// The number of the character code table.
+    pub table: u8,
+    pub font: FontFace,
+    /// The width factor, 1 to 8.
+    pub width: u8,
+    /// The height factor, 1 to 8.
+    pub height: u8,
+    pub bold: bool,
+    /// The thickness of the underline in dots, 0 to 2.
+    pub underline: u8,
+}
+
+impl Cell {
+    /// The style that the character is printed in.
+    pub fn style(&self) -> Style
+        ensures { result ≡ cell_style self.now }
+    {
+        Style {
+            table: self.table,
+            font: self.font,
+            width: self.width,
+            height: self.height,
+            bold: self.bold,
+            underline: self.underline,
+        }
+    }
+
+    /// How wide the cell is, in dots.
+    pub fn dots(&self) -> usize
+        ensures { result ≡ cell_dots self.now }
+    {
+        face_dots(self.font) * self.width as usize
+    }
+}
+
+// How wide a character of the font is at width 1.
+fn face_dots(face: FontFace) -> usize
+    ensures dots { result ≡ face_dots face }
+    ensures small { result ≤ 12 }
+{
+    match face {
+        FontFace::A => 12,
+        FontFace::B => 9,
+    }
+}
+
+impl Default for Cell {
+    // A space as a printer just switched on prints it.
+    fn default() -> Self {
+        Style::power_on().cell(b' ')
+    }
+}
+
+/// The cells of a row, in order, in place: at most 56.
+#[derive(Debug, Drop)]
+pub struct Cells {
+    cells: ArrayVec<Cell, LINE_CELLS>,
+}
+
+impl Model for Cells {
+    ghost use Rattle.std.specs.Prelude.{List};
+    ghost use Rattle.escpos_paper.specs.declared.cell.Cell.{Cell};
+
+    ghost Value = { List Cell };
+
+    ghost view = { λ c. c.cells.items };
+}
+
+impl Cells {
+    /// No cells.
+    pub fn new() -> Self
+        ensures { result ≡ [] }
+    {
+        Cells {
+            cells: ArrayVec::new(),
+        }
+    }
+
+    /// Puts a cell behind the others, where there is room.
+    pub fn push(&mut self, cell: Cell)
+        requires { length self.old < LINE_CELLS }
+        ensures { self.new ≡ self.old ++ cell ∷ [] }
+    {
+        self.cells.push(cell);
+    }
+
+    /// The cells as a slice.
+    pub fn as_slice(&self) -> &[Cell]
+        ensures cells { result.now ≡ self.now }
+        ensures few { length result.now ≤ LINE_CELLS }
+    {
+        self.cells.as_slice()
+    }
+}

@@ -1,0 +1,40 @@
+//! The laws of printing. Each is a function that does nothing and whose contract is the law, so that the
+//! law is proved with the crate and another crate can cite it by calling the function.
+
+ghost use Rattle.std.specs.Prelude.{◌≡◌, map, List, [], ◌∷◌, ◌++◌};
+ghost use Rattle.escpos_command.specs.declared.command.Command.{Command};
+ghost use Rattle.escpos_command.specs.declared.command.Command.TheVariants.{Init};
+ghost use Rattle.escpos_paper.specs.declared.cell.Cell.{Cell};
+ghost use Rattle.escpos_paper.specs.declared.item.Item.{Item};
+ghost use Rattle.escpos_command.specs.Text.{text};
+ghost use Rattle.escpos_paper.specs.Styles.{is_empty};
+ghost use Rattle.escpos_paper.specs.Cells.{cells};
+ghost use Rattle.escpos_paper.specs.Rows.{IsCut, rows, line};
+ghost use Rattle.escpos_paper.specs.Printed.{printed};
+
+/// The cells of the line are the characters of its text, and the line is empty where there is no text.
+pub fn cells_of_text()
+    ensures bytes { (cs : List Command) → map (λ (cell : Cell). cell.byte) (cells cs) ≡ text cs }
+    ensures empty { (cs : List Command) → is_empty (line cs) ≡ is_empty (text cs) }
+{
+}
+
+/// One cut: the rows are a cut of the cells at the width of the line, and cells have no other cut.
+pub fn one_cut()
+    ensures cut { (cs : List Command) → IsCut (cells cs) (rows cs) }
+    ensures no_other { (xs : List Cell) (found others : List (List Cell)) →
+        IsCut xs found → IsCut xs others → found ≡ others }
+{
+}
+
+/// Initialisation: what is printed behind an Init is what is printed on a printer just switched on.
+pub fn initialisation()
+    ensures { (a b : List Command) → printed (a ++ Init ∷ [] ++ b) ≡ printed a ++ printed b }
+{
+}
+
+/// Growing paper: further commands print behind what is printed, and change none of it.
+pub fn paper_grows()
+    ensures { (a b : List Command) → (more : List Item) × (printed (a ++ b) ≡ printed a ++ more) }
+{
+}

@@ -1,0 +1,24 @@
+//! What a printer's commands put on paper: styles, lines cut into rows, and the paper as text.
+//!
+//! A `Page` takes commands one at a time and keeps the items that they print, the styles that are set and
+//! the line that isn't printed yet. The definitions of `specs/` say the same of a whole list of commands,
+//! and look back in it instead of keeping anything.
+#![tactic(auto)]
+
+pub mod cell;
+pub mod item;
+pub mod laws;
+mod line;
+pub mod page;
+mod paper;
+pub mod style;
+#[cfg(test)]
+mod tests;
+mod text;
+pub mod write;
+
+pub use cell::{Cell, Cells, LINE_CELLS, LINE_DOTS};
+pub use item::Item;
+pub use page::Page;
+pub use style::Style;
+pub use write::write_items;

@@ -1,0 +1,74 @@
+//! The line that isn't printed yet.
+//!
+//! Whether a cell fits is all that is asked of a line, so it keeps its width beside its cells.
+
+ghost use Rattle.std.specs.Prelude.{◌≡◌, ◌+◌, ◌*◌, ◌≤◌, IsTrue, [], ◌∷◌, ◌++◌, length};
+ghost use Rattle.escpos_paper.specs.Cells.{dots};
+ghost use Rattle.escpos_paper.specs.Rows.{fits};
+ghost use Rattle.escpos_paper.specs.Styles.{is_empty};
+
+use crate::cell::{Cell, Cells, LINE_DOTS};
+use std::marker::Model;
+
+/// Cells that aren't wider than a line, seen as a list.
+#[derive(Drop)]
+pub struct Line {
+    cells: Cells,
+    used: usize,
+}
+
+impl Model for Line {
+    ghost use Rattle.std.specs.Prelude.{List, length, ◌*◌, ◌≤◌, ◌≡◌};
+    ghost use Rattle.escpos_paper.specs.declared.cell.Cell.{Cell};
+    ghost use Rattle.escpos_paper.specs.declared.cell.TheConstants.{LINE_DOTS};
+    ghost use Rattle.escpos_paper.specs.Cells.{dots};
+
+    ghost Value = { List Cell };
+
+    ghost view = { λ l. l.cells };
+
+    ghost invariant = { λ l. (l.used ≡ dots l.cells) × (l.used ≤ LINE_DOTS) × (9 * length l.cells ≤ l.used) };
+}
+
+impl Line {
+    pub fn new() -> Self
+        ensures { result ≡ [] }
+    {
+        Line {
+            cells: Cells::new(),
+            used: 0,
+        }
+    }
+
+    /// Whether it has no cell.
+    pub fn is_empty(&self) -> bool
+        ensures { result ≡ is_empty self.now }
+    {
+        self.cells.as_slice().is_empty()
+    }
+
+    /// Whether the cell fits behind the others.
+    pub fn has_room_for(&self, cell: &Cell) -> bool
+        ensures { result ≡ fits (self.now ++ cell.now ∷ []) }
+    {
+        self.used + cell.dots() <= LINE_DOTS
+    }
+
+    /// Puts a cell that fits behind the others.
+    pub fn push(&mut self, cell: Cell)
+        requires room { IsTrue (fits (self.old ++ cell ∷ [])) }
+        requires visible { 1 ≤ cell.width }
+        ensures { self.new ≡ self.old ++ cell ∷ [] }
+    {
+        self.used += cell.dots();
+        self.cells.push(cell);
+    }
+
+    /// Takes the cells out, and leaves the line empty.
+    pub fn take(&mut self) -> Cells
+        ensures taken { result ≡ self.old }
+        ensures left { self.new ≡ [] }
+    {
+        std::mem::replace(self, Line::new()).cells
+    }
+}
