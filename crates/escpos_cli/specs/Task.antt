@@ -7,11 +7,12 @@ use Rattle.clap.specs.declared.error.kind.ErrorKind.TheVariants.{DisplayHelp, Ou
 use Rattle.escpos_cli.specs.declared.task.NoTask.{NoTask}
 use Rattle.escpos_cli.specs.declared.task.NoTask.TheVariants.{Usage, Help, Memory}
 use Rattle.escpos_cli.specs.declared.task.Task.{Task}
-use Rattle.escpos_cli.specs.declared.task.Task.TheVariants.{Check}
+use Rattle.escpos_cli.specs.declared.task.Task.TheVariants.{Check, Render}
 
 -- the name of a task
 abbrev pub name_of : Task → Text
 name_of Check = codes "check"
+name_of Render = codes "render"
 
 -- the words that ask for a task: its name, and no other
 abbrev pub words_of : Task → List Text
@@ -20,15 +21,16 @@ words_of task = name_of task ∷ []
 -- the words that ask for help, among others
 abbrev pub help_words : List (List Text)
 help_words = (codes "help" ∷ []) ∷ (codes "--help" ∷ []) ∷ (codes "-h" ∷ [])
-    ∷ (codes "check" ∷ codes "--help" ∷ []) ∷ (codes "check" ∷ codes "-h" ∷ []) ∷ []
+    ∷ (codes "check" ∷ codes "--help" ∷ []) ∷ (codes "check" ∷ codes "-h" ∷ [])
+    ∷ (codes "render" ∷ codes "--help" ∷ []) ∷ (codes "render" ∷ codes "-h" ∷ []) ∷ []
 
--- the program's words, as `clap` reads them: one of the two, with none behind it
+-- the program's words, as `clap` reads them: one of the three, with none behind it
 abbrev pub command_words : App
-command_words = with_subcommand (with_subcommand (on_top (λ s. record s {
+command_words = with_subcommand (with_subcommand (with_subcommand (on_top (λ s. record s {
   no_binary_name = true;
   disable_help_subcommand = true;
   subcommand_required = true;
-}) (new_app (codes "escpos_cli"))) (new_shape (codes "check"))) (new_shape (codes "help"))
+}) (new_app (codes "escpos_cli"))) (new_shape (codes "check"))) (new_shape (codes "render"))) (new_shape (codes "help"))
 
 -- what a refusal by `clap` comes to
 abbrev pub no_task_of : ErrorKind → NoTask

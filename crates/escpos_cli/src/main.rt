@@ -1,9 +1,9 @@
 //! The program of ESC/POS receipts: one word for each job.
 //!
 //! `main` joins the words of the command line, the standard streams and the exit status, and leaves the rest
-//! to its modules: `task` reads the words, `input` and `hexadecimal` the input, `check` is the job of that
-//! name over any source and sink, `listing` and `lines` make its lines, and `status` has what the program
-//! ends with.
+//! to its modules: `task` reads the words, `input` and `hexadecimal` the input, `check` and `render` are the
+//! jobs of those names over any source and sink, `listing` and `lines` make the lines of a listing,
+//! `printing` a paper, and `status` has what the program ends with.
 #![tactic(auto)]
 
 mod check;
@@ -16,16 +16,14 @@ mod render;
 mod status;
 mod task;
 
-use check::check;
+use check::{MEMORY, check};
 use escpos_command::{Incoming, Outgoing, put_all};
+use render::render;
 use status::Status;
 use std::env;
-use std::io;
+use std::io::{self, Printer, Stdin};
 use std::process::ExitCode;
 use task::{HELP, NoTask, Task, USAGE, task_of};
-
-// What is printed where there wasn't enough memory.
-const MEMORY: &str = "memory\n";
 
 fn main(rt: HostRuntime) -> ExitCode {
     ExitCode::from(run(&rt).code())
@@ -35,35 +33,42 @@ fn main(rt: HostRuntime) -> ExitCode {
 fn run(rt: &HostRuntime) -> Status {
     let words = match words_of(rt) {
         Ok(words) => words,
-        Err(_) => return say(rt, USAGE, Status::Usage),
+        Err(fault) if fault.kind() == io::ErrorKind::OutOfMemory => {
+            return say(rt, MEMORY, Status::Memory);
+        }
+        Err(_) => return say(rt, USAGE.as_bytes(), Status::Usage),
     };
     let task = match words.as_slice() {
         [_, given @ ..] => task_of(rt.alloc(), given),
         [] => task_of(rt.alloc(), words.as_slice()),
     };
     match task {
-        Ok(Task::Check) => check_streams(rt),
-        Err(NoTask::Help) => say(rt, HELP, Status::Good),
-        Err(NoTask::Usage) => say(rt, USAGE, Status::Usage),
+        Ok(Task::Check) => check(rt.alloc(), &mut source(rt), &mut sink(rt)),
+        Ok(Task::Render) => render(rt.alloc(), &mut source(rt), &mut sink(rt)),
+        Err(NoTask::Help) => say(rt, HELP.as_bytes(), Status::Good),
+        Err(NoTask::Usage) => say(rt, USAGE.as_bytes(), Status::Usage),
         Err(NoTask::Memory) => say(rt, MEMORY, Status::Memory),
     }
 }
 
-// The words of the command line, the program's name first.
+// The words of the command line, the program's name first. One that is no text makes this fail.
 fn words_of(rt: &HostRuntime) -> io::Result<Vec<String>> {
     Ok(env::args(rt)?.collect(rt.alloc())?)
 }
 
-// Lists what standard input says.
-fn check_streams(rt: &HostRuntime) -> Status {
-    let mut input = Incoming::new(rt.stdin());
-    let mut output = Outgoing::new(io::writer(rt));
-    check(rt.alloc(), &mut input, &mut output)
+// Standard input, read in the pieces that a job asks for.
+fn source(rt: &HostRuntime) -> Incoming<Stdin> {
+    Incoming::new(rt.stdin())
+}
+
+// Standard output.
+fn sink(rt: &HostRuntime) -> Outgoing<Printer<'_, HostRuntime>> {
+    Outgoing::new(io::writer(rt))
 }
 
 // Prints a text, and gives the status unless that fails.
-fn say(rt: &HostRuntime, text: &str, status: Status) -> Status {
-    match put_all(text.as_bytes(), &mut Outgoing::new(io::writer(rt))) {
+fn say(rt: &HostRuntime, text: &[u8], status: Status) -> Status {
+    match put_all(text, &mut sink(rt)) {
         Ok(()) => status,
         Err(_) => Status::Device,
     }

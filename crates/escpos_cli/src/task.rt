@@ -2,6 +2,7 @@
 
 ghost use Rattle.std.specs.Prelude.{◌≡◌, ◌⊎◌, [], ◌∷◌, IfErr, IfOk, Contains, codes, map, option_map};
 ghost use Rattle.clap.specs.Words.{HasKind, IsAmong, fault_of, kind_of, subcommand_name_of, subcommand_of};
+ghost use Rattle.escpos_cli.specs.declared.task.Task.{Task};
 ghost use Rattle.escpos_cli.specs.Task.{command_words, help_words, name_of, no_task_of, words_of};
 
 use clap::error::ErrorKind;
@@ -15,6 +16,8 @@ use thiserror::Error;
 pub enum Task {
     /// List the commands of a byte stream.
     Check,
+    /// Write the paper that a byte stream prints.
+    Render,
 }
 
 /// Why the words name no task.
@@ -33,22 +36,25 @@ pub enum NoTask {
 
 /// The text for words that name no task.
 pub const USAGE: &str = "\
-usage: escpos_cli check < HEXADECIMAL
+usage: escpos_cli check  < HEXADECIMAL
+       escpos_cli render < HEXADECIMAL
        escpos_cli help
 ";
 
 /// The text that `help` asks for.
 pub const HELP: &str = "\
-escpos_cli lists what an ESC/POS byte stream says: command by command, each with
-its place, or else the exact byte at which the stream is refused.
+escpos_cli tells what an ESC/POS byte stream says to a receipt printer, or the
+exact byte at which the stream is refused.
+
+Both jobs read the stream from standard input, as hexadecimal digits of either
+case; spaces, tabs and line ends between them count for nothing. At most
+16777216 bytes are read.
 
   escpos_cli check
-      Reads the stream from standard input, as hexadecimal digits of either case;
-      spaces, tabs and line ends between them count for nothing. Each command
-      gives one line: the number of bytes before it, its name, what it carries.
-      The last line is `end N pending P`, where N bytes were read and P of them
-      belong to a command that isn't complete, or `fault K NUMBER NAME`, where the
-      byte at place K is refused.
+      Lists the commands. Each gives one line: the number of bytes before it, its
+      name, and what it carries. The last line is `end N pending P`, where N bytes
+      were read and the last P of them are a command that isn't complete, or
+      `fault K NUMBER NAME`, where the byte at place K is refused.
 
           $ echo '1B 40 48 69 0A 1D 56 00' | escpos_cli check
           0 init
@@ -58,10 +64,18 @@ its place, or else the exact byte at which the stream is refused.
           5 cut 00
           end 8 pending 0
 
+  escpos_cli render
+      Writes the paper that the commands print, an item a line: rows of characters
+      with their alignment and styles, feeds and cuts. Behind a refused byte or a
+      command that isn't complete the last line of `check` follows.
+
+          $ echo '1B 40 48 69 0A 1D 56 00' | escpos_cli render
+          row left Hi
+          feed 1
+          cut full
+
   escpos_cli help
       Prints this text; so do --help and -h.
-
-          $ escpos_cli help
 
 Exit status: 0 good, 1 refused content, 2 usage, 3 device, 4 memory.
 ";
@@ -72,7 +86,7 @@ Exit status: 0 good, 1 refused content, 2 usage, 3 device, 4 memory.
 /// for all others.
 pub fn task_of<S: AsStr>(alloc: Global, words: &[S]) -> Result<Task, NoTask>
     ensures task { IfOk result (λ task. map S.text words.now ≡ words_of task) }
-    ensures check { map S.text words.now ≡ words_of Task.Check → (result ≡ Ok Task.Check) ⊎ (result ≡ Err NoTask.Memory) }
+    ensures named { (task : Task) → map S.text words.now ≡ words_of task → (result ≡ Ok task) ⊎ (result ≡ Err NoTask.Memory) }
     ensures help { Contains help_words (map S.text words.now) → (result ≡ Err NoTask.Help) ⊎ (result ≡ Err NoTask.Memory) }
     ensures help_only { result ≡ Err NoTask.Help → (map S.text words.now ≡ codes "help" ∷ [])
         ⊎ IsAmong ErrorKind.DisplayHelp (fault_of command_words (map S.text words.now)) }
@@ -87,11 +101,13 @@ pub fn task_of<S: AsStr>(alloc: Global, words: &[S]) -> Result<Task, NoTask>
 fn task_named(name: Option<&str>, count: usize) -> Result<Task, NoTask>
     ensures task { IfOk result (λ task. (option_map (λ s. s.now) name.entry ≡ Some (name_of task)) × (count ≡ 1)) }
     ensures check { option_map (λ s. s.now) name.entry ≡ Some (codes "check") → count ≡ 1 → result ≡ Ok Task.Check }
+    ensures render { option_map (λ s. s.now) name.entry ≡ Some (codes "render") → count ≡ 1 → result ≡ Ok Task.Render }
     ensures help { option_map (λ s. s.now) name.entry ≡ Some (codes "help") → count ≡ 1 → result ≡ Err NoTask.Help }
     ensures help_only { result ≡ Err NoTask.Help → (option_map (λ s. s.now) name.entry ≡ Some (codes "help")) × (count ≡ 1) }
 {
     match name {
         Some("check") if count == 1 => Ok(Task::Check),
+        Some("render") if count == 1 => Ok(Task::Render),
         Some("help") if count == 1 => Err(NoTask::Help),
         _ => Err(NoTask::Usage),
     }
@@ -109,6 +125,7 @@ fn matches_of<'a, S: AsStr>(alloc: Global, words: &'a [S]) -> Result<ArgMatches<
         .disable_help_subcommand(true)
         .subcommand_required(true)
         .subcommand(Command::new(alloc, "check"))?
+        .subcommand(Command::new(alloc, "render"))?
         .subcommand(Command::new(alloc, "help"))?;
     command.try_get_matches_from(words)
 }
