@@ -15,6 +15,8 @@ mod printing;
 mod render;
 mod status;
 mod task;
+#[cfg(test)]
+mod tests;
 
 use check::{MEMORY, check};
 use escpos_command::{Incoming, Outgoing, put_all};

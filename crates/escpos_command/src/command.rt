@@ -4,7 +4,7 @@
 //! in `specs/Tree.antt`, and a case in each proof over those; no proof is about a pair of kinds.
 
 ghost use Rattle.std.specs.Prelude.{◌≡◌, ◌≤◌, ◌++◌, length, OnOk, OnErr};
-ghost use Rattle.escpos_command.specs.Table.{row};
+ghost use Rattle.escpos_command.specs.Table.{row, IsCommand};
 ghost use Rattle.escpos_command.specs.declared.command.Command.TheVariants.{Mark};
 
 use crate::bytes::{CR, DLE, EOT, ESC, GS, LF};
@@ -76,7 +76,8 @@ impl Command {
 
     /// The spelling. Takes no memory.
     pub fn spelling(&self) -> ArrayVec<u8, LONGEST_SPELLING>
-        ensures { result.items ≡ row self.now }
+        ensures spelled { result.items ≡ row self.now }
+        ensures in_range { IsCommand self.now }
     {
         match self {
             Command::Char(character) => piece(&[character.byte()]),
@@ -107,7 +108,8 @@ impl Command {
 
 // The spelling of a mark.
 fn mark(id: MarkId) -> ArrayVec<u8, LONGEST_SPELLING>
-    ensures { result.items ≡ row (Mark id) }
+    ensures spelled { result.items ≡ row (Mark id) }
+    ensures in_range { IsCommand (Mark id) }
 {
     let [d1, d2, d3, d4] = id.bytes();
     piece(&[GS, b'(', b'H', 6, 0, b'0', b'0', d1, d2, d3, d4])

@@ -9,7 +9,7 @@ use Rattle.escpos_command.proofs.writing.write_commands.Goals as goal
 pub loop-command-preserved : goal.loop-command-preserved
 loop-command-preserved g c =
     let inside : c.loop-command.command-index < length c.args.commands.now = omega arith in
-    let piece : c.as_slice.result.now ≡ row c.command-item.result = c.as_slice.ensures.value ∙ c.spelling.ensures in
+    let piece : c.as_slice.result.now ≡ row c.command-item.result = c.as_slice.ensures.value ∙ c.spelling.ensures.spelled in
     let count = c.in_ok-put.ensures.counted in
     let short = c.as_slice.ensures.fits in
     let few = c.loop-command.invariant.1 in
@@ -21,7 +21,7 @@ loop-command-preserved g c =
 pub returns-in_err-put-clause-err : goal.returns-in_err-put-clause-err
 returns-in_err-put-clause-err g c =
     let inside : c.loop-command.command-index < length c.args.commands.now = omega arith in
-    let piece : c.as_slice.result.now ≡ row c.command-item.result = c.as_slice.ensures.value ∙ c.spelling.ensures in
+    let piece : c.as_slice.result.now ≡ row c.command-item.result = c.as_slice.ensures.value ∙ c.spelling.ensures.spelled in
     let p = err_from_is_err_and c.from_residual.result c.from_residual.ensures.1 in
     rw (p.1, p.2) (stops_in_front _ _ c.args.commands.now (c.loop-command.command-index + 1) _
       (subst (λ v. StopsIn (g.W.ByteOut.written c.args.writer.now) (g.W.ByteOut.written c.put.new.writer) v c.in_err-put.field-0.0.written)
