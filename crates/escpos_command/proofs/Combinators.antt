@@ -60,12 +60,13 @@ live_these (b ∷ bs) t l = tt
 
 pub good_these : (p bs : List ℕ) (t : Tree) → IsLive t → Good (p ++ bs) t → Good p (these bs t)
 good_these p [] t l g = subst (λ xs. Good xs t) (append-nil p) g
-good_these p (b ∷ bs) t l g =
-    ((b, live_choice (these bs t) dead (b == b) (number_itself b) (live_these bs t l)),
-      λ x. good_choice (p ++ x ∷ []) (these bs t) dead (x == b)
-        (λ e. subst (λ y. Good (p ++ y ∷ []) (these bs t)) (sym (same_number x b e))
-          (good_these (p ++ b ∷ []) bs t l (subst (λ xs. Good xs t) (sym (append_assoc p (b ∷ []) bs)) g)))
-        (λ _. tt))
+good_these p (b ∷ bs) t l g = (
+  (b, live_choice (these bs t) dead (b == b) (number_itself b) (live_these bs t l)),
+  λ x. good_choice (p ++ x ∷ []) (these bs t) dead (x == b)
+      (λ e. subst (λ y. Good (p ++ y ∷ []) (these bs t)) (sym (same_number x b e))
+      (good_these (p ++ b ∷ []) bs t l (subst (λ xs. Good xs t) (sym (append_assoc p (b ∷ []) bs)) g)))
+      (λ _. tt),
+)
 
 pub walk-these : (bs : List ℕ) (t : Tree) (q : List ℕ) → walk (these bs t) (bs ++ q) ≡ walk t q
 walk-these [] t q = refl
@@ -83,8 +84,8 @@ good_counted zero p test make x h spells = subst (λ xs. Spells (make []) xs) (a
 good_counted (suc n) p test make x h spells =
     good_passing p test (λ b. counted n test (λ xs. make (b ∷ xs))) x h (live_counted n test (λ xs. make (x ∷ xs)))
     (λ b passes. good_counted n (p ++ b ∷ []) test (λ xs. make (b ∷ xs)) x h (λ xs long all.
-      subst (λ ys. Spells (make (b ∷ xs)) ys) (sym (append_assoc p (b ∷ []) xs))
-        (spells (b ∷ xs) (ap suc long) (ap (λ v. v && list_all test xs) passes ∙ all))))
+    subst (λ ys. Spells (make (b ∷ xs)) ys) (sym (append_assoc p (b ∷ []) xs))
+    (spells (b ∷ xs) (ap suc long) (ap (λ v. v && list_all test xs) passes ∙ all))))
 
 pub walk-counted : (n : ℕ) (test : ℕ → Bool) (make : List ℕ → Command) (xs : List ℕ) → length xs ≡ n → list_all test xs ≡ true
     → walk (counted n test make) xs ≡ leaf (make xs)

@@ -22,17 +22,23 @@ all_out old mid out e h = sym (h ∙ ap (λ v. out ++ v) e ∙ append-nil out)
 
 pub put_ok : (a b c : Option (List ℕ)) (old mid : List ℕ × ℕ) (bytes kept : List ℕ) (count : ℕ) → HandsOn a b old mid old.0 → mid.0 ≡ [] → kept ≡ mid.0 → count ≡ mid.1
     → Appends b c bytes → HandsOn a c old (kept, count + length bytes) (old.0 ++ bytes)
-put_ok a b c old mid bytes kept count h e k m out =
-    (h.0 ++ bytes, appends_join a b c h.0 bytes h.1 out, omega (arith, length-append h.0 bytes, h.2, m),
-      ap (λ v. v ++ bytes) (sym (all_out old mid h.0 e h.3)) ∙ sym (append-nil (h.0 ++ bytes)) ∙ ap (λ v. (h.0 ++ bytes) ++ v) (sym (k ∙ e)))
+put_ok a b c old mid bytes kept count h e k m out = (
+  h.0 ++ bytes,
+  appends_join a b c h.0 bytes h.1 out,
+  omega (arith, length-append h.0 bytes, h.2, m),
+  ap (λ v. v ++ bytes) (sym (all_out old mid h.0 e h.3)) ∙ sym (append-nil (h.0 ++ bytes)) ∙ ap (λ v. (h.0 ++ bytes) ++ v) (sym (k ∙ e)),
+)
 
 pub put_err : (a b c : Option (List ℕ)) (old mid : List ℕ × ℕ) (bytes : List ℕ) (count put : ℕ) → HandsOn a b old mid old.0 → mid.0 ≡ [] → count ≡ mid.1
     → put < length bytes → Appends b c (take put bytes) → StopsWithin a c old (old.0 ++ bytes) (count + put)
 put_err a b c old mid bytes count put h e m few out =
     let whole = all_out old mid h.0 e h.3 in
-    let long = ap length whole in
-    (length old.0 + put, omega (arith, length-append old.0 bytes), omega (arith, h.2, m, long),
-      subst (λ v. Appends a c v) (ap (λ v. v ++ take put bytes) whole ∙ sym (take-append-add old.0 bytes put)) (appends_join a b c h.0 (take put bytes) h.1 out))
+    let long = ap length whole in (
+      length old.0 + put,
+      omega (arith, length-append old.0 bytes),
+      omega (arith, h.2, m, long),
+      subst (λ v. Appends a c v) (ap (λ v. v ++ take put bytes) whole ∙ sym (take-append-add old.0 bytes put)) (appends_join a b c h.0 (take put bytes) h.1 out),
+    )
 
 -- ## All bytes ever given
 

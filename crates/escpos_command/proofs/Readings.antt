@@ -218,17 +218,19 @@ pub one_fault : (bs : List ℕ) (cs ds : List Command) (x y : List ℕ) (k l : �
     → FaultAt bs cs x k why → FaultAt bs ds y l also → (cs ≡ ds) × (x ≡ y) × (k ≡ l) × (why ≡ also)
 one_fault bs cs ds x y k l why also f g =
     let split = one_split cs ds _ _ f.before.commands g.before.commands (fault_silent bs cs x k why f) (fault_silent bs ds y l also g)
-      (sym (fault_bytes bs cs x k why f) ∙ fault_bytes bs ds y l also g) in
-    let rest = one_rest x y _ _ (meets x y _ _ _ _ split.1) f.before.pending g.before.pending f.refused g.refused in
-    (split.0, rest,
+    (sym (fault_bytes bs cs x k why f) ∙ fault_bytes bs ds y l also g) in
+    let rest = one_rest x y _ _ (meets x y _ _ _ _ split.1) f.before.pending g.before.pending f.refused g.refused in (
+      split.0,
+      rest,
       fault_place bs cs x k why f ∙ ap (λ v. length (spell v ++ x)) split.0 ∙ ap (λ v. length (spell ds ++ v)) rest ∙ sym (fault_place bs ds y l also g),
-      f.reason ∙ ap reason_behind rest ∙ sym g.reason)
+      f.reason ∙ ap reason_behind rest ∙ sym g.reason,
+    )
 
 -- What is read has no fault.
 pub not_both : (bs : List ℕ) (cs ds : List Command) (x y : List ℕ) (k : ℕ) (why : FaultReason) → Reads bs cs x → FaultAt bs ds y k why → ⊥
 not_both bs cs ds x y k why r f =
     let split = one_split cs ds x _ r.commands f.before.commands (silent_pending x r.pending) (fault_silent bs ds y k why f)
-      (sym r.whole ∙ fault_bytes bs ds y k why f) in
+    (sym r.whole ∙ fault_bytes bs ds y k why f) in
     pending_refused y x (slice_index bs k) (drop (k + 1) bs) r.pending f.refused split.1
 
 -- ## Each byte list is read or refused
@@ -242,8 +244,8 @@ pub joined : (a b : List ℕ) (cs ds : List Command) (r s : List ℕ) → Reads 
 joined a b cs ds r s h k = record {
   commands = all_append cs ds h.commands k.commands;
   whole =
-    ap (λ xs. xs ++ b) h.whole ∙ append_assoc (spell cs) r b ∙ ap (λ xs. spell cs ++ xs) k.whole
-    ∙ sym (append_assoc (spell cs) (spell ds) s) ∙ ap (λ xs. xs ++ s) (sym (flat_map-append row cs ds));
+      ap (λ xs. xs ++ b) h.whole ∙ append_assoc (spell cs) r b ∙ ap (λ xs. spell cs ++ xs) k.whole
+      ∙ sym (append_assoc (spell cs) (spell ds) s) ∙ ap (λ xs. xs ++ s) (sym (flat_map-append row cs ds));
   pending = k.pending;
 }
 

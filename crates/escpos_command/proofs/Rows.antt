@@ -67,9 +67,9 @@ at_row c h = record { in_range = h; in_table = refl }
 good_cut : (m : ℕ) → Good (GS ∷ 0x56 ∷ m ∷ []) (cut m)
 good_cut m =
     good_choice _ _ _ (is_one_of_two m) (λ h. at_row (Cut (m, None)) h) (λ _.
-      good_choice _ _ _ (is_feed_cut_mode m)
-      (λ h. good_one (GS ∷ 0x56 ∷ m ∷ []) is_byte (λ n. Cut (m, Some n)) 0 refl (λ n k. at_row (Cut (m, Some n)) (both _ _ h k)))
-      (λ _. tt))
+    good_choice _ _ _ (is_feed_cut_mode m)
+    (λ h. good_one (GS ∷ 0x56 ∷ m ∷ []) is_byte (λ n. Cut (m, Some n)) 0 refl (λ n k. at_row (Cut (m, Some n)) (both _ _ h k)))
+    (λ _. tt))
 
 -- Four bytes that each pass are an id.
 is_id : (id : List ℕ) → length id ≡ 4 → list_all is_mark_byte id ≡ true → IsTrue (is_mark_id id)
@@ -82,43 +82,72 @@ good_mark =
 
 good_behind_esc : (b : ℕ) → Good (ESC ∷ b ∷ []) (branch behind_esc none b)
 good_behind_esc =
-    good_branch (ESC ∷ []) behind_esc none
-      (good_one (ESC ∷ 0x21 ∷ []) is_byte Mode 0 refl (λ n h. at_row (Mode n) h),
-        (good_one (ESC ∷ 0x2D ∷ []) is_one_of_three Underline 0 refl (λ n h. at_row (Underline n) h),
-        (at_row Init tt,
-        (good_one (ESC ∷ 0x45 ∷ []) is_byte Emphasis 0 refl (λ n h. at_row (Emphasis n) h),
-        (good_one (ESC ∷ 0x4D ∷ []) is_one_of_two Font 0 refl (λ n h. at_row (Font n) h),
-        (good_one (ESC ∷ 0x61 ∷ []) is_one_of_three Align 0 refl (λ n h. at_row (Align n) h),
-        (good_one (ESC ∷ 0x64 ∷ []) is_byte FeedLines 0 refl (λ n h. at_row (FeedLines n) h),
-        (good_one (ESC ∷ 0x74 ∷ []) is_byte Table 0 refl (λ n h. at_row (Table n) h),
-        tt))))))))
-      (λ _. tt)
+    good_branch (ESC ∷ []) behind_esc none (
+      good_one (ESC ∷ 0x21 ∷ []) is_byte Mode 0 refl (λ n h. at_row (Mode n) h),
+      (
+        good_one (ESC ∷ 0x2D ∷ []) is_one_of_three Underline 0 refl (λ n h. at_row (Underline n) h),
+        (
+          at_row Init tt,
+          (
+            good_one (ESC ∷ 0x45 ∷ []) is_byte Emphasis 0 refl (λ n h. at_row (Emphasis n) h),
+            (
+              good_one (ESC ∷ 0x4D ∷ []) is_one_of_two Font 0 refl (λ n h. at_row (Font n) h),
+              (
+                good_one (ESC ∷ 0x61 ∷ []) is_one_of_three Align 0 refl (λ n h. at_row (Align n) h),
+                (
+                  good_one (ESC ∷ 0x64 ∷ []) is_byte FeedLines 0 refl (λ n h. at_row (FeedLines n) h),
+                  (
+                    good_one (ESC ∷ 0x74 ∷ []) is_byte Table 0 refl (λ n h. at_row (Table n) h),
+                    tt,
+                  ),
+                ),
+              ),
+            ),
+          ),
+        ),
+      ),
+    )
+    (λ _. tt)
 
 good_behind_gs : (b : ℕ) → Good (GS ∷ b ∷ []) (branch behind_gs none b)
 good_behind_gs =
-    good_branch (GS ∷ []) behind_gs none
-      (good_one (GS ∷ 0x21 ∷ []) is_size Size 0 refl (λ n h. at_row (Size n) h),
-        (good_mark,
-        (good_one (GS ∷ 0x48 ∷ []) is_one_of_four HriPlace 0 refl (λ n h. at_row (HriPlace n) h),
-        (((0, tt), good_cut),
-        (good_one (GS ∷ 0x66 ∷ []) is_one_of_two HriFont 0 refl (λ n h. at_row (HriFont n) h),
-        (good_one (GS ∷ 0x68 ∷ []) is_bar_height BarHeight 1 refl (λ n h. at_row (BarHeight n) h),
-        (good_one (GS ∷ 0x77 ∷ []) is_bar_width BarWidth 2 refl (λ n h. at_row (BarWidth n) h),
-        tt)))))))
-      (λ _. tt)
+    good_branch (GS ∷ []) behind_gs none (
+      good_one (GS ∷ 0x21 ∷ []) is_size Size 0 refl (λ n h. at_row (Size n) h),
+      (
+        good_mark,
+        (
+          good_one (GS ∷ 0x48 ∷ []) is_one_of_four HriPlace 0 refl (λ n h. at_row (HriPlace n) h),
+          (
+            ((0, tt), good_cut),
+            (
+              good_one (GS ∷ 0x66 ∷ []) is_one_of_two HriFont 0 refl (λ n h. at_row (HriFont n) h),
+              (
+                good_one (GS ∷ 0x68 ∷ []) is_bar_height BarHeight 1 refl (λ n h. at_row (BarHeight n) h),
+                (
+                  good_one (GS ∷ 0x77 ∷ []) is_bar_width BarWidth 2 refl (λ n h. at_row (BarWidth n) h),
+                  tt,
+                ),
+              ),
+            ),
+          ),
+        ),
+      ),
+    )
+    (λ _. tt)
 
 good_behind_dle : (b : ℕ) → Good (DLE ∷ b ∷ []) (branch behind_dle none b)
 good_behind_dle =
     good_branch (DLE ∷ []) behind_dle none
-      (good_one (DLE ∷ EOT ∷ []) is_status_kind Status 1 refl (λ n h. at_row (Status n) h), tt)
-      (λ _. tt)
+    (good_one (DLE ∷ EOT ∷ []) is_status_kind Status 1 refl (λ n h. at_row (Status n) h), tt)
+    (λ _. tt)
 
 good_character : (b : ℕ) → Good (b ∷ []) (character b)
 good_character b = good_choice _ _ _ (is_character b) (λ h. at_row (Char b) h) (λ _. tt)
 
 pub good : Good [] grammar
-good =
-    ((LF, tt),
-      good_branch [] first character
-        (at_row LineFeed tt, (at_row Return tt, (((EOT, tt), good_behind_dle), (((0x40, tt), good_behind_esc), (((0x56, tt), good_behind_gs), tt)))))
-        good_character)
+good = (
+  (LF, tt),
+  good_branch [] first character
+      (at_row LineFeed tt, (at_row Return tt, (((EOT, tt), good_behind_dle), (((0x40, tt), good_behind_esc), (((0x56, tt), good_behind_gs), tt)))))
+      good_character,
+)

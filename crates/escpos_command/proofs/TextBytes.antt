@@ -12,7 +12,8 @@ use Rattle.escpos_command.proofs.Places.{take-one_more}
 pub characters_more : (text : List ℕ) (at : ℕ) (cs ds : List Command) → at < length text → cs ≡ map Char (take at text) → AllPass is_character (take at text)
     → is_character (slice_index text at) ≡ true → ds ≡ cs ++ Char (slice_index text at) ∷ []
     → (ds ≡ map Char (take (at + 1) text)) × AllPass is_character (take (at + 1) text)
-characters_more text at cs ds h e all one f =
-    ( f ∙ ap (λ v. v ++ Char (slice_index text at) ∷ []) e ∙ sym (map-append Char (take at text) (slice_index text at ∷ []))
+characters_more text at cs ds h e all one f = (
+  f ∙ ap (λ v. v ++ Char (slice_index text at) ∷ []) e ∙ sym (map-append Char (take at text) (slice_index text at ∷ []))
       ∙ ap (map Char) (sym (take-one_more text at h)),
-      All-more (λ x. is_character x ≡ true) text at 0 h all one )
+  All-more (λ x. is_character x ≡ true) text at 0 h all one,
+)

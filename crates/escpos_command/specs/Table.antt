@@ -33,25 +33,25 @@ IsCommand (Mark id) = IsTrue (is_mark_id id)
 
 -- The row of the table, with the parameters put in.
 abbrev pub row : Command → List ℕ
-row (Char b) = b ∷ [] -- the character itself
-row LineFeed = LF ∷ [] -- LF
-row Return = CR ∷ [] -- CR
-row Init = ESC ∷ 0x40 ∷ [] -- ESC @
-row (Mode n) = ESC ∷ 0x21 ∷ n ∷ [] -- ESC !
-row (Emphasis n) = ESC ∷ 0x45 ∷ n ∷ [] -- ESC E
-row (Underline n) = ESC ∷ 0x2D ∷ n ∷ [] -- ESC -
-row (Font n) = ESC ∷ 0x4D ∷ n ∷ [] -- ESC M
-row (Table n) = ESC ∷ 0x74 ∷ n ∷ [] -- ESC t
-row (Align n) = ESC ∷ 0x61 ∷ n ∷ [] -- ESC a
-row (FeedLines n) = ESC ∷ 0x64 ∷ n ∷ [] -- ESC d
-row (Size n) = GS ∷ 0x21 ∷ n ∷ [] -- GS !
-row (BarHeight n) = GS ∷ 0x68 ∷ n ∷ [] -- GS h
-row (BarWidth n) = GS ∷ 0x77 ∷ n ∷ [] -- GS w
-row (HriPlace n) = GS ∷ 0x48 ∷ n ∷ [] -- GS H
-row (HriFont n) = GS ∷ 0x66 ∷ n ∷ [] -- GS f
-row (Cut cut) = GS ∷ 0x56 ∷ cut.0 ∷ option_to_list cut.1 -- GS V m, or GS V m n
-row (Status n) = DLE ∷ EOT ∷ n ∷ [] -- DLE EOT
-row (Mark id) = GS ∷ 0x28 ∷ 0x48 ∷ 0x06 ∷ 0x00 ∷ 0x30 ∷ 0x30 ∷ [] ++ id -- GS ( H, function 48
+row (Char b) = b ∷ []  -- the character itself
+row LineFeed = LF ∷ []  -- LF
+row Return = CR ∷ []  -- CR
+row Init = ESC ∷ 0x40 ∷ []  -- ESC @
+row (Mode n) = ESC ∷ 0x21 ∷ n ∷ []  -- ESC !
+row (Emphasis n) = ESC ∷ 0x45 ∷ n ∷ []  -- ESC E
+row (Underline n) = ESC ∷ 0x2D ∷ n ∷ []  -- ESC -
+row (Font n) = ESC ∷ 0x4D ∷ n ∷ []  -- ESC M
+row (Table n) = ESC ∷ 0x74 ∷ n ∷ []  -- ESC t
+row (Align n) = ESC ∷ 0x61 ∷ n ∷ []  -- ESC a
+row (FeedLines n) = ESC ∷ 0x64 ∷ n ∷ []  -- ESC d
+row (Size n) = GS ∷ 0x21 ∷ n ∷ []  -- GS !
+row (BarHeight n) = GS ∷ 0x68 ∷ n ∷ []  -- GS h
+row (BarWidth n) = GS ∷ 0x77 ∷ n ∷ []  -- GS w
+row (HriPlace n) = GS ∷ 0x48 ∷ n ∷ []  -- GS H
+row (HriFont n) = GS ∷ 0x66 ∷ n ∷ []  -- GS f
+row (Cut cut) = GS ∷ 0x56 ∷ cut.0 ∷ option_to_list cut.1  -- GS V m, or GS V m n
+row (Status n) = DLE ∷ EOT ∷ n ∷ []  -- DLE EOT
+row (Mark id) = GS ∷ 0x28 ∷ 0x48 ∷ 0x06 ∷ 0x00 ∷ 0x30 ∷ 0x30 ∷ [] ++ id  -- GS ( H, function 48
 
 -- The bytes are the spelling of the command.
 pub record Spells (c : Command) (bs : List ℕ) : Type 0 where

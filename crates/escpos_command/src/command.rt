@@ -76,7 +76,7 @@ impl Command {
 
     /// The spelling. Takes no memory.
     pub fn spelling(&self) -> ArrayVec<u8, LONGEST_SPELLING>
-        ensures spelled { result.items ≡ row self.now }
+        ensures row { result.items ≡ row self.now }
         ensures in_range { IsCommand self.now }
     {
         match self {
@@ -108,7 +108,7 @@ impl Command {
 
 // The spelling of a mark.
 fn mark(id: MarkId) -> ArrayVec<u8, LONGEST_SPELLING>
-    ensures spelled { result.items ≡ row (Mark id) }
+    ensures row { result.items ≡ row (Mark id) }
     ensures in_range { IsCommand (Mark id) }
 {
     let [d1, d2, d3, d4] = id.bytes();

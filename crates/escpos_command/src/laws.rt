@@ -17,8 +17,7 @@ pub fn unique_spellings()
     ensures one_spelling { (c : Command) (a b : List ℕ) → Spells c a → Spells c b → a ≡ b }
     ensures one_command { (c d : Command) (a : List ℕ) → Spells c a → Spells d a → c ≡ d }
     ensures no_prefix { (c d : Command) (a more : List ℕ) → Spells c a → Spells d (a ++ more) → more ≡ [] }
-{
-}
+{}
 
 /// One reading: each byte list either has exactly one reading, or a fault at exactly one place.
 pub fn one_reading()
@@ -28,8 +27,7 @@ pub fn one_reading()
     ensures one_fault { (bs : List ℕ) (cs ds : List Command) (x y : List ℕ) (k l : ℕ) (why also : FaultReason) →
         FaultAt bs cs x k why → FaultAt bs ds y l also → (cs ≡ ds) × (x ≡ y) × (k ≡ l) × (why ≡ also) }
     ensures not_both { (bs : List ℕ) → IsRead bs → IsRefused bs → ⊥ }
-{
-}
+{}
 
 /// Joined readings: a reading goes on where it stopped, and so does a fault. So it doesn't matter where a
 /// stream is cut.
@@ -40,12 +38,10 @@ pub fn joined_readings()
         Reads a cs r → FaultAt (r ++ b) ds s k why → FaultAt (a ++ b) (cs ++ ds) s (length (spell cs) + k) why }
     ensures first_fault { (a more : List ℕ) (cs : List Command) (r : List ℕ) (k : ℕ) (why : FaultReason) →
         FaultAt a cs r k why → FaultAt (a ++ more) cs r k why }
-{
-}
+{}
 
 /// Mark numbers: each of them has an id of its own.
 pub fn mark_numbers()
     ensures ids { (n : ℕ) → n < mark_count → IsTrue (is_mark_id (mark_of n)) }
     ensures one_number { (m n : ℕ) → m < mark_count → n < mark_count → mark_of m ≡ mark_of n → m ≡ n }
-{
-}
+{}

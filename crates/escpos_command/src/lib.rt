@@ -12,13 +12,15 @@ pub mod laws;
 pub mod mark;
 pub mod parameter;
 pub mod plain;
+#[cfg(test)]
+mod tests;
 pub mod writing;
 
 pub use chars::{CharsFault, chars_of};
 pub use command::{Command, LONGEST_SPELLING};
 pub use device::{
-    ByteIn, ByteOut, Device, Failed, Gather, Incoming, MemoryIn, MemoryOut, Outgoing, ReadError, put_all,
-    read_to_end,
+    ByteIn, ByteOut, Device, Failed, Gather, Incoming, MemoryIn, MemoryOut, Outgoing, ReadError,
+    put_all, read_to_end,
 };
 pub use fault::FaultReason;
 pub use mark::MarkId;

@@ -35,7 +35,10 @@ impl MarkId {
         ensures { SomeIff result (IsTrue (is_mark_id bytes)) bytes }
     {
         let [first, second, third, fourth] = bytes;
-        if is_mark_byte(first) && is_mark_byte(second) && is_mark_byte(third) && is_mark_byte(fourth)
+        if is_mark_byte(first)
+            && is_mark_byte(second)
+            && is_mark_byte(third)
+            && is_mark_byte(fourth)
         {
             Some(MarkId { bytes })
         } else {
@@ -95,7 +98,11 @@ fn digit_character(digit: u32) -> u8
     requires { digit < 36 }
     ensures { result ≡ digit_character digit }
 {
-    if digit < 10 { b'0' + digit as u8 } else { b'A' + (digit as u8 - 10) }
+    if digit < 10 {
+        b'0' + digit as u8
+    } else {
+        b'A' + (digit as u8 - 10)
+    }
 }
 
 // The base-36 digit of a character.

@@ -8,8 +8,6 @@ mod reading;
 mod rest;
 mod tree;
 
-pub use reading::{End, Reading, read};
-
 ghost use Rattle.std.specs.Prelude.{◌≡◌};
 ghost use Rattle.escpos_command.specs.Places.{reason_behind};
 ghost use Rattle.escpos_command.specs.Next.{NextIs};
@@ -17,6 +15,7 @@ ghost use Rattle.escpos_command.specs.Next.{NextIs};
 use crate::bytes::GS;
 use crate::command::Command;
 use crate::fault::FaultReason;
+pub use reading::{End, Reading, read};
 use rest::Rest;
 use tree::{Lead, grammar};
 

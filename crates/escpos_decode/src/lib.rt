@@ -7,6 +7,8 @@
 
 mod decoder;
 mod stream;
+#[cfg(test)]
+mod tests;
 
 pub use decoder::{DecodeFault, Decoder, Step};
 pub use stream::{Decoded, End, decode};

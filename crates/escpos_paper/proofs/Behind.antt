@@ -1,5 +1,5 @@
 -- What one more command does to the styles and the cells of a list of commands.
-use Rattle.std.proofs.Common.{◌≡◌, ℕ, ◌+◌, ◌≤◌, List, [], ◌∷◌, ◌++◌, length, refl, sym, ◌∙◌, ap, append_assoc, append-nil, Bool, true, false, cond, Option, Some, None}
+use Rattle.std.proofs.Common.{◌≡◌, ℕ, List, [], ◌∷◌, ◌++◌, refl, sym, ◌∙◌, ap, append_assoc, append-nil, Bool, true, false, cond, Option, Some, None}
 use Rattle.std.specs.Prelude.{◌||◌, ◌&&◌, not, map, filter_map, option_to_list}
 use Rattle.std.specs.List.{list_any}
 use Rattle.std.specs.Option.{unwrap_or}
@@ -8,8 +8,6 @@ use Rattle.std.proofs.lemmas.List.Folds.{list_any-append}
 use Rattle.std.proofs.lemmas.List.Elements.{filter_map-append}
 use Rattle.std.proofs.Math.Seq.{append_snoc}
 use Rattle.escpos_command.specs.declared.command.Command.{Command}
-use Rattle.escpos_command.specs.declared.command.Command.TheVariants.{Char, LineFeed, Init, FeedLines, Cut, Align}
-use Rattle.escpos_command.specs.declared.parameter.choices.Alignment.{Alignment}
 use Rattle.escpos_command.specs.declared.parameter.choices.Alignment.TheVariants.{Left}
 use Rattle.escpos_command.specs.declared.parameter.choices.FontFace.TheVariants.{A}
 use Rattle.escpos_command.specs.Text.{text, ends_text, characters}
@@ -77,8 +75,14 @@ decided-snoc sets start cs c = decided_by sets start cs c (is_init c) refl
 
 pub style-snoc : (cs : List Command) (c : Command) → style (cs ++ c ∷ []) ≡ style_behind (style cs) c
 style-snoc cs c =
-    cc (decided-snoc sets_table 0 cs c, decided-snoc sets_font A cs c, decided-snoc sets_width 1 cs c, decided-snoc sets_height 1 cs c,
-      decided-snoc sets_bold false cs c, decided-snoc sets_underline 0 cs c)
+    cc (
+      decided-snoc sets_table 0 cs c,
+      decided-snoc sets_font A cs c,
+      decided-snoc sets_width 1 cs c,
+      decided-snoc sets_height 1 cs c,
+      decided-snoc sets_bold false cs c,
+      decided-snoc sets_underline 0 cs c,
+    )
 
 -- ## Places
 
@@ -140,7 +144,7 @@ empty_text cs = ap is_empty (sym (bytes_of_cells cs)) ∙ empty_map (λ (x : Cel
 
 alignment_by : (cs : List Command) (c : Command) (empty align : Bool)
     → decided sets_alignment Left (counting cs ++ cond (align && not empty) [] (c ∷ []))
-      ≡ cond empty (set_behind sets_alignment Left (alignment cs) c) (cond align (alignment cs) (set_behind sets_alignment Left (alignment cs) c))
+    ≡ cond empty (set_behind sets_alignment Left (alignment cs) c) (cond align (alignment cs) (set_behind sets_alignment Left (alignment cs) c))
 alignment_by cs c true true = decided-snoc sets_alignment Left (counting cs) c
 alignment_by cs c true false = decided-snoc sets_alignment Left (counting cs) c
 alignment_by cs c false true = ap (decided sets_alignment Left) (append-nil (counting cs))

@@ -1,5 +1,5 @@
 -- What one more cell does to the rows.
-use Rattle.std.proofs.Common.{◌≡◌, ℕ, ◌+◌, ◌≤◌, ◌<◌, List, [], ◌∷◌, ◌++◌, length, refl, sym, ◌∙◌, ap, append_assoc, append-nil, arith, Bool, true, false, cond, suc}
+use Rattle.std.proofs.Common.{◌≡◌, ℕ, List, [], ◌∷◌, ◌++◌, length, refl, ◌∙◌, ap, arith, Bool, true, false, cond, suc}
 use Rattle.std.specs.Prelude.{nat_lt}
 use Rattle.std.proofs.lemmas.Bool.Decides.{nat_tests}
 use Rattle.escpos_command.specs.declared.parameter.choices.Alignment.{Alignment}
@@ -28,7 +28,7 @@ last_from row [] x =
     ]
 last_from row (y ∷ xs) x =
     elim (fits (row ++ y ∷ [])) as (λ v. last_or [] (cond v (cut_from (row ++ y ∷ []) (xs ++ x ∷ [])) (row ∷ cut_from (y ∷ []) (xs ++ x ∷ [])))
-        ≡ with_cell (last_or [] (cond v (cut_from (row ++ y ∷ []) xs) (row ∷ cut_from (y ∷ []) xs))) x) [
+    ≡ with_cell (last_or [] (cond v (cut_from (row ++ y ∷ []) xs) (row ∷ cut_from (y ∷ []) xs))) x) [
       | true ↦ last_from (row ++ y ∷ []) xs x
       | false ↦ last_any row [] (y ∷ []) (xs ++ x ∷ []) ∙ last_from (y ∷ []) xs x ∙ ap (λ r. with_cell r x) (last_any [] row (y ∷ []) xs)
     ]
@@ -51,14 +51,14 @@ count_from row [] x =
     ]
 count_from row (y ∷ xs) x =
     elim (fits (row ++ y ∷ [])) as (λ v. length (cond v (cut_from (row ++ y ∷ []) (xs ++ x ∷ [])) (row ∷ cut_from (y ∷ []) (xs ++ x ∷ [])))
-        ≡ cond (fits (last_or [] (cond v (cut_from (row ++ y ∷ []) xs) (row ∷ cut_from (y ∷ []) xs)) ++ x ∷ []))
-          (length (cond v (cut_from (row ++ y ∷ []) xs) (row ∷ cut_from (y ∷ []) xs)))
-          (suc (length (cond v (cut_from (row ++ y ∷ []) xs) (row ∷ cut_from (y ∷ []) xs))))) [
+    ≡ cond (fits (last_or [] (cond v (cut_from (row ++ y ∷ []) xs) (row ∷ cut_from (y ∷ []) xs)) ++ x ∷ []))
+    (length (cond v (cut_from (row ++ y ∷ []) xs) (row ∷ cut_from (y ∷ []) xs)))
+    (suc (length (cond v (cut_from (row ++ y ∷ []) xs) (row ∷ cut_from (y ∷ []) xs))))) [
       | true ↦ count_from (row ++ y ∷ []) xs x
       | false ↦
-        ap suc (count_from (y ∷ []) xs x)
-        ∙ suc_cond (fits (last_or [] (cut_from (y ∷ []) xs) ++ x ∷ [])) (length (cut_from (y ∷ []) xs))
-        ∙ ap (λ r. cond (fits (r ++ x ∷ [])) (suc (length (cut_from (y ∷ []) xs))) (suc (suc (length (cut_from (y ∷ []) xs))))) (last_any [] row (y ∷ []) xs)
+          ap suc (count_from (y ∷ []) xs x)
+          ∙ suc_cond (fits (last_or [] (cut_from (y ∷ []) xs) ++ x ∷ [])) (length (cut_from (y ∷ []) xs))
+          ∙ ap (λ r. cond (fits (r ++ x ∷ [])) (suc (length (cut_from (y ∷ []) xs))) (suc (suc (length (cut_from (y ∷ []) xs))))) (last_any [] row (y ∷ []) xs)
     ]
 
 not_below : (n : ℕ) → nat_lt n n ≡ false
@@ -78,7 +78,7 @@ nothing_twice false = refl
 -- So what a character prints is decided by whether it fits.
 pub begun : (align : Alignment) (xs : List Cell) (x : Cell)
     → cond (nat_lt (length (cut xs)) (length (cut (xs ++ x ∷ [])))) (row_and_feed align (last_or [] (cut xs))) []
-      ≡ cond (fits (last_or [] (cut xs) ++ x ∷ [])) [] (row_and_feed align (last_or [] (cut xs)))
+    ≡ cond (fits (last_or [] (cut xs) ++ x ∷ [])) [] (row_and_feed align (last_or [] (cut xs)))
 begun align [] x = nothing_twice (fits (x ∷ []))
 begun align (y ∷ xs) x =
     ap (λ n. cond (nat_lt (length (cut (y ∷ xs))) n) (row_and_feed align (last_or [] (cut (y ∷ xs)))) []) (count_from (y ∷ []) xs x)

@@ -10,7 +10,7 @@ use Rattle.escpos_paper.specs.declared.item.Item.{Item}
 use Rattle.escpos_paper.specs.Places.{over_places}
 use Rattle.escpos_paper.specs.Printed.{prints, printed}
 use Rattle.escpos_paper.specs.Page.{Sheet}
-use Rattle.escpos_paper.specs.Steps.{sheet_behind, step_prints}
+use Rattle.escpos_paper.specs.Steps.{sheet_behind}
 use Rattle.escpos_paper.proofs.Sheets.{sheet_of, sheet-snoc}
 
 -- The sheets of two lists of commands are the same; then they are the same behind further commands.
@@ -21,7 +21,7 @@ same_behind kept also cs ds [] e =
 same_behind kept also cs ds (c ∷ more) e =
     ap (sheet_of kept) (sym (append_snoc cs c more))
     ∙ same_behind kept also (cs ++ c ∷ []) (ds ++ c ∷ []) more
-      (sheet-snoc kept cs c ∙ ap (λ s. sheet_behind s c) e ∙ sym (sheet-snoc also ds c))
+    (sheet-snoc kept cs c ∙ ap (λ s. sheet_behind s c) e ∙ sym (sheet-snoc also ds c))
     ∙ ap (sheet_of also) (append_snoc ds c more)
 
 left_twice : (b : Bool) → cond b Left Left ≡ Left
@@ -41,9 +41,11 @@ grown_from : (before a b : List Command) → (more : List Item)
 grown_from before [] b = (over_places (λ c d behind. prints c d) before b, refl)
 grown_from before (c ∷ a) b =
     let rest : (more : List Item) × (over_places (λ x d behind. prints x d) (before ++ c ∷ []) (a ++ b) ≡ over_places (λ x d behind. prints x d) (before ++ c ∷ []) a ++ more) =
-        grown_from (before ++ c ∷ []) a b in
-    (rest.0, ap (λ t. prints before c ++ t) rest.1
-      ∙ sym (append_assoc (prints before c) (over_places (λ x d behind. prints x d) (before ++ c ∷ []) a) rest.0))
+    grown_from (before ++ c ∷ []) a b in (
+      rest.0,
+      ap (λ t. prints before c ++ t) rest.1
+          ∙ sym (append_assoc (prints before c) (over_places (λ x d behind. prints x d) (before ++ c ∷ []) a) rest.0),
+    )
 
 pub grown : (a b : List Command) → (more : List Item) × (printed (a ++ b) ≡ printed a ++ more)
 grown a b = grown_from [] a b

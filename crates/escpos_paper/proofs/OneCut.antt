@@ -1,6 +1,6 @@
 -- There is one cut of the cells of a line into rows.
-use Rattle.std.proofs.Common.{◌≡◌, ◌≢◌, ℕ, ◌+◌, ◌*◌, ◌≤◌, ◌<◌, ◌⊎◌, inl, inr, List, [], ◌∷◌, ◌++◌, refl, sym, ◌∙◌, ap, subst, append_assoc, append-nil, arith, Bool, true, false, cond, take, map}
-use Rattle.std.specs.Prelude.{flat_map, nat_le, sum_by}
+use Rattle.std.proofs.Common.{◌≡◌, ◌≢◌, ℕ, ◌*◌, ◌≤◌, ◌<◌, List, [], ◌∷◌, ◌++◌, refl, sym, ◌∙◌, ap, subst, append-nil, arith, Bool, true, false, cond, map}
+use Rattle.std.specs.Prelude.{flat_map}
 use Rattle.std.specs.List.{AllByRecursion, list_any}
 use Rattle.std.proofs.lemmas.Bool.Decides.{nat_tests}
 use Rattle.std.proofs.lemmas.List.Sums.{sum_by-append, sum_by-cons}
@@ -15,7 +15,7 @@ use Rattle.escpos_paper.specs.Places.{over_places}
 use Rattle.escpos_paper.specs.Styles.{style}
 use Rattle.escpos_paper.specs.Cells.{styled, cell_at, cells, face_dots, cell_dots, dots}
 use Rattle.escpos_paper.specs.Rows.{IsRow, AreFull, IsCut, fits, cut_from, cut, rows}
-use Rattle.escpos_paper.proofs.Widths.{IsWidth, width_in_range}
+use Rattle.escpos_paper.proofs.Widths.{width_in_range}
 
 -- ## Existence
 
@@ -170,10 +170,10 @@ one_cut xs ((x ∷ row) ∷ found) [] h k = absurd (let no : [] ≡ x ∷ (row +
 one_cut xs (row ∷ found) (other ∷ others) h k =
     elim (seam row (flat_map (λ r. r) found) other (flat_map (λ r. r) others) (h.joined ∙ sym k.joined)) [
       | same p q ↦
-        let rest : found ≡ others =
-            one_cut (flat_map (λ r. r) found) found others (tail_cut xs row found h)
-            (subst (λ t. IsCut t others) (sym q) (tail_cut xs other others k)) in
-        cc
+          let rest : found ≡ others =
+          one_cut (flat_map (λ r. r) found) found others (tail_cut xs row found h)
+          (subst (λ t. IsCut t others) (sym q) (tail_cut xs other others k)) in
+          cc
       | shorter x more p q ↦ absurd (no_shorter row other found x more (flat_map (λ r. r) others) h.full h.each.1 k.each.0.1 p q)
       | longer x more p q ↦ absurd (no_shorter other row others x more (flat_map (λ r. r) found) k.full k.each.1 h.each.0.1 p q)
     ]

@@ -1,7 +1,6 @@
 -- Text that is sent off in pieces. Of `all`, the first `sent` bytes are out, `text` comes next, and then `rest`.
-use Rattle.std.proofs.Common.{◌≡◌, ℕ, ◌+◌, ◌-◌, ◌<◌, ◌≤◌, List, [], ◌∷◌, ◌++◌, arith, length, length-take, length-drop, length-append, take, drop, refl, sym, ◌∙◌, ap, append_assoc}
+use Rattle.std.proofs.Common.{◌≡◌, ℕ, ◌+◌, ◌<◌, ◌≤◌, List, [], ◌++◌, arith, length, length-drop, length-append, take, drop, sym, ◌∙◌, ap, append_assoc}
 use Rattle.std.proofs.lemmas.Grind.{common_steps}
-use Rattle.std.proofs.lemmas.List.{take_rest}
 use Rattle.std.proofs.Math.Seq.{drop-cons}
 use lib.Seq.{take-add}
 use Rattle.std.proofs.Common.{Option, Result, Ok, Err, get_or, suc, add-one}
@@ -90,4 +89,4 @@ pub item_joined : (items : List Item) (i : ℕ) (x : Item) (sent : ℕ) (text pu
     → Pending (items_text items) sent pushed (items_text (drop (i + 1) items))
 item_joined items i x sent text pushed h is p e =
     rw e (more_text (items_text items) sent text (item_text x) (items_text (drop (i + 1) items))
-      (rw (next_item items i x h is) at p))
+    (rw (next_item items i x h is) at p))

@@ -1,17 +1,16 @@
 -- One more command takes the sheet of a list of commands to the sheet of the longer list.
-use Rattle.std.proofs.Common.{◌≡◌, ℕ, ◌+◌, ◌≤◌, List, [], ◌∷◌, ◌++◌, length, refl, sym, ◌∙◌, ap, append_assoc, append-nil, Bool, true, false, cond}
+use Rattle.std.proofs.Common.{◌≡◌, List, [], ◌∷◌, ◌++◌, length, refl, sym, ◌∙◌, ap, append_assoc, append-nil, false, cond}
 use Rattle.std.specs.Prelude.{map, nat_lt}
 use Rattle.escpos_command.specs.declared.command.Command.{Command}
 use Rattle.escpos_command.specs.declared.command.Command.TheVariants.{Char, LineFeed, Init, FeedLines, Cut}
 use Rattle.escpos_command.specs.Text.{text, ends_text, characters}
-use Rattle.escpos_paper.specs.declared.cell.Cell.{Cell}
 use Rattle.escpos_paper.specs.declared.item.Item.{Item}
 use Rattle.escpos_paper.specs.Styles.{is_empty, last_or, style, alignment}
 use Rattle.escpos_paper.specs.Cells.{styled, cells}
-use Rattle.escpos_paper.specs.Rows.{fits, cut, rows, line}
+use Rattle.escpos_paper.specs.Rows.{cut, rows, line}
 use Rattle.escpos_paper.specs.Printed.{prints, printed, row_and_feed}
-use Rattle.escpos_paper.specs.Page.{Seen, Sheet, PageIs}
-use Rattle.escpos_paper.specs.Steps.{style_behind, alignment_behind, line_behind, step_prints, sheet_behind}
+use Rattle.escpos_paper.specs.Page.{Sheet}
+use Rattle.escpos_paper.specs.Steps.{alignment_behind, line_behind, step_prints, sheet_behind}
 use Rattle.escpos_paper.proofs.Behind.{style-snoc, cells-snoc, empty_text, alignment-snoc, over-snoc}
 use Rattle.escpos_paper.proofs.Cuts.{last-snoc, begun, empty_last}
 
@@ -23,7 +22,7 @@ empty_line cs = empty_last (cells cs) ∙ sym (empty_text cs)
 line_kept : (cs : List Command) (c : Command) → ends_text c ≡ false → characters c ≡ [] → line (cs ++ c ∷ []) ≡ line cs
 line_kept cs c h none =
     ap (λ xs. last_or [] (cut xs)) (cells-snoc cs c ∙ ap (λ b. cond b [] (cells cs) ++ map (styled (style cs)) (characters c)) h
-      ∙ ap (λ t. cells cs ++ map (styled (style cs)) t) none ∙ append-nil (cells cs))
+    ∙ ap (λ t. cells cs ++ map (styled (style cs)) t) none ∙ append-nil (cells cs))
 
 pub line-snoc : (cs : List Command) (c : Command) → line (cs ++ c ∷ []) ≡ line_behind (style cs) (line cs) c
 line-snoc cs (Char b) = ap (λ xs. last_or [] (cut xs)) (cells-snoc cs (Char b)) ∙ last-snoc (cells cs) (styled (style cs) b)

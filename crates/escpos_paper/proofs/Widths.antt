@@ -1,18 +1,10 @@
 -- How wide characters are.
-use Rattle.std.proofs.Common.{◌≡◌, ℕ, ◌+◌, ◌*◌, ◌/◌, ◌%◌, ◌≤◌, List, [], ◌∷◌, ◌++◌, refl, sym, ◌∙◌, ap, subst, arith, Bool, true, false, cond, Option, Some, None}
-use Rattle.std.specs.Prelude.{map, filter_map}
-use Rattle.std.specs.List.{AllByRecursion, list_any}
+use Rattle.std.proofs.Common.{ℕ, ◌≤◌, List, [], ◌∷◌, arith, Bool, true, false}
+use Rattle.std.specs.Prelude.{filter_map}
 use Rattle.escpos_command.specs.declared.command.Command.{Command}
-use Rattle.escpos_command.specs.declared.command.Command.TheVariants.{Char, Mode, Size}
-use Rattle.escpos_command.specs.declared.parameter.choices.FontFace.{FontFace}
-use Rattle.escpos_command.specs.declared.parameter.choices.FontFace.TheVariants.{A, B}
+use Rattle.escpos_command.specs.declared.command.Command.TheVariants.{Mode, Size}
 use Rattle.escpos_command.specs.Meanings.{magnified, has_bit, size_width}
-use Rattle.escpos_command.specs.Text.{characters, ends_text}
-use Rattle.escpos_paper.specs.declared.cell.Cell.{Cell}
-use Rattle.escpos_paper.specs.declared.style.Style.{Style}
-use Rattle.escpos_paper.specs.Places.{over_places}
-use Rattle.escpos_paper.specs.Styles.{behind_init, last_or, decided, sets_width, style}
-use Rattle.escpos_paper.specs.Cells.{styled, cell_at, cells, face_dots, cell_dots}
+use Rattle.escpos_paper.specs.Styles.{behind_init, last_or, sets_width, style}
 
 -- A width factor is 1 to 8.
 pub record IsWidth (n : ℕ) : Type 0 where

@@ -1,12 +1,9 @@
 -- Worked rows, computed from the definitions alone.
-use Rattle.std.proofs.Common.{◌≡◌, ℕ, List, [], ◌∷◌, ◌++◌, refl, true, false}
+use Rattle.std.proofs.Common.{◌≡◌, [], ◌∷◌, ◌++◌, refl, true, false}
 use Rattle.std.specs.Prelude.{None, Some, replicate, map, length}
-use Rattle.escpos_command.specs.declared.command.Command.{Command}
 use Rattle.escpos_command.specs.declared.command.Command.TheVariants.{Char, LineFeed, Init, Mode, Emphasis, Font, Align, FeedLines, Size, Cut}
-use Rattle.escpos_command.specs.declared.parameter.choices.FontFace.TheVariants.{A, B}
+use Rattle.escpos_command.specs.declared.parameter.choices.FontFace.TheVariants.{B}
 use Rattle.escpos_command.specs.declared.parameter.choices.Alignment.TheVariants.{Left, Center}
-use Rattle.escpos_paper.specs.declared.cell.Cell.{Cell}
-use Rattle.escpos_paper.specs.declared.item.Item.{Item}
 use Rattle.escpos_paper.specs.declared.item.Item.TheVariants.{Row, Feed, Cut as Cutting}
 use Rattle.escpos_paper.specs.Styles.{power_on}
 use Rattle.escpos_paper.specs.Cells.{styled}
@@ -53,7 +50,7 @@ cut_behind_text = refl
 -- at width 8 five characters of font A fit, and the sixth begins a row
 wide : printed (Size 0x70 ∷ replicate 6 (Char 0x61) ++ LineFeed ∷ [])
     ≡ (let x = styled (record power_on { width = 8 }) 0x61 in
-      Row Left (x ∷ x ∷ x ∷ x ∷ x ∷ []) ∷ Feed 1 ∷ Row Left (x ∷ []) ∷ Feed 1 ∷ [])
+    Row Left (x ∷ x ∷ x ∷ x ∷ x ∷ []) ∷ Feed 1 ∷ Row Left (x ∷ []) ∷ Feed 1 ∷ [])
 wide = refl
 
 -- 42 characters of font A fill a line, and 56 of font B

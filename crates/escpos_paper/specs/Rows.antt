@@ -1,5 +1,5 @@
 -- The line cut into rows.
-use Rattle.std.specs.Prelude.{ℕ, ◌≡◌, ◌≢◌, ◌≤◌, ◌<◌, nat_le, Bool, List, [], ◌∷◌, ◌++◌, take, flat_map, if◌then◌else◌}
+use Rattle.std.specs.Prelude.{◌≡◌, ◌≢◌, ◌≤◌, ◌<◌, nat_le, Bool, List, [], ◌∷◌, ◌++◌, take, flat_map, if◌then◌else◌}
 use Rattle.std.specs.List.{AllByRecursion}
 use Rattle.escpos_command.specs.declared.command.Command.{Command}
 use Rattle.escpos_paper.specs.declared.cell.Cell.{Cell}

@@ -1,6 +1,6 @@
 -- What one more command makes of styles, line and paper. Private clauses and proofs alone go by these; the
 -- definitions of a whole list of commands are shown to agree with them.
-use Rattle.std.specs.Prelude.{ℕ, nat_lt, Bool, true, false, List, [], ◌∷◌, ◌++◌, Option, None, Some, if◌then◌else◌}
+use Rattle.std.specs.Prelude.{Bool, false, List, [], ◌∷◌, ◌++◌, Option, if◌then◌else◌}
 use Rattle.std.specs.Option.{unwrap_or}
 use Rattle.escpos_command.specs.declared.command.Command.{Command}
 use Rattle.escpos_command.specs.declared.command.Command.TheVariants.{Char, LineFeed, FeedLines, Cut}
@@ -12,8 +12,8 @@ use Rattle.escpos_command.specs.Text.{ends_text}
 use Rattle.escpos_paper.specs.declared.cell.Cell.{Cell}
 use Rattle.escpos_paper.specs.declared.style.Style.{Style}
 use Rattle.escpos_paper.specs.declared.item.Item.{Item}
-use Rattle.escpos_paper.specs.declared.item.Item.TheVariants.{Row, Feed, Cut as Cutting}
-use Rattle.escpos_paper.specs.Styles.{is_init, is_align, is_empty, power_on, sets_table, sets_font, sets_width, sets_height, sets_bold, sets_underline, sets_alignment}
+use Rattle.escpos_paper.specs.declared.item.Item.TheVariants.{Feed, Cut as Cutting}
+use Rattle.escpos_paper.specs.Styles.{is_init, is_align, is_empty, sets_table, sets_font, sets_width, sets_height, sets_bold, sets_underline, sets_alignment}
 use Rattle.escpos_paper.specs.Cells.{styled}
 use Rattle.escpos_paper.specs.Rows.{fits}
 use Rattle.escpos_paper.specs.Printed.{row_of, row_and_feed}

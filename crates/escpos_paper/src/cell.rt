@@ -1,7 +1,8 @@
 //! The cells of a line: characters with the styles that they are printed in.
 
 ghost use Rattle.std.specs.Prelude.{◌≡◌, ◌+◌, ◌<◌, ◌≤◌, [], ◌∷◌, ◌++◌, length};
-ghost use Rattle.escpos_paper.specs.Cells.{face_dots, cell_dots, cell_style};
+ghost use Rattle.escpos_paper.specs.Cells.{face_dots, cell_dots, cell_style, styled};
+ghost use Rattle.escpos_paper.specs.Styles.{power_on};
 
 use crate::style::Style;
 use arrayvec::ArrayVec;
@@ -66,6 +67,8 @@ fn face_dots(face: FontFace) -> usize
 }
 
 impl Default for Cell {
+    ghost is_default = { λ cell. cell ≡ styled power_on 0x20 };
+
     // A space as a printer just switched on prints it.
     fn default() -> Self {
         Style::power_on().cell(b' ')

@@ -16,25 +16,21 @@ ghost use Rattle.escpos_paper.specs.Printed.{printed};
 pub fn cells_of_text()
     ensures bytes { (cs : List Command) → map (λ (cell : Cell). cell.byte) (cells cs) ≡ text cs }
     ensures empty { (cs : List Command) → is_empty (line cs) ≡ is_empty (text cs) }
-{
-}
+{}
 
 /// One cut: the rows are a cut of the cells at the width of the line, and cells have no other cut.
 pub fn one_cut()
     ensures cut { (cs : List Command) → IsCut (cells cs) (rows cs) }
     ensures no_other { (xs : List Cell) (found others : List (List Cell)) →
         IsCut xs found → IsCut xs others → found ≡ others }
-{
-}
+{}
 
 /// Initialisation: what is printed behind an Init is what is printed on a printer just switched on.
 pub fn initialisation()
     ensures { (a b : List Command) → printed (a ++ Init ∷ [] ++ b) ≡ printed a ++ printed b }
-{
-}
+{}
 
 /// Growing paper: further commands print behind what is printed, and change none of it.
 pub fn paper_grows()
     ensures { (a b : List Command) → (more : List Item) × (printed (a ++ b) ≡ printed a ++ more) }
-{
-}
+{}

@@ -36,13 +36,13 @@ impl Model for Page {
     ghost Value = { Seen };
 
     ghost view = { λ p. record {
-        sheet = record { items = p.items.items; style = p.style; alignment = p.align; line = p.line };
-        has_room = nat_le (vec_len p.items + MOST_ITEMS) (vec_capacity p.items);
+      sheet = record { items = p.items.items; style = p.style; alignment = p.align; line = p.line };
+      has_room = nat_le (vec_len p.items + MOST_ITEMS) (vec_capacity p.items);
     } };
 
     ghost invariant = { λ p. (kept : List Item) × (cs : List Command) × PageIs (record {
-        sheet = record { items = p.items.items; style = p.style; alignment = p.align; line = p.line };
-        has_room = nat_le (vec_len p.items + MOST_ITEMS) (vec_capacity p.items);
+      sheet = record { items = p.items.items; style = p.style; alignment = p.align; line = p.line };
+      has_room = nat_le (vec_len p.items + MOST_ITEMS) (vec_capacity p.items);
     }) kept cs };
 }
 

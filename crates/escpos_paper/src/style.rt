@@ -129,7 +129,11 @@ fn is_same_face(face: FontFace, other: FontFace) -> bool
 }
 
 /// The alignment behind a command. With text in the line ESC a is ignored.
-pub(crate) fn alignment_behind(is_line_empty: bool, align: Alignment, command: &Command) -> Alignment
+pub(crate) fn alignment_behind(
+    is_line_empty: bool,
+    align: Alignment,
+    command: &Command,
+) -> Alignment
     ensures { result ≡ alignment_behind is_line_empty align command.now }
 {
     match command {

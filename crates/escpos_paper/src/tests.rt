@@ -69,7 +69,11 @@ fn styles_in_mid_line(rt: HostRuntime) -> Result<(), Fail> {
     let page = page_of(rt.alloc(), b"AB\x1B\x61\x01C\x0A\x1B\x61\x01D\x0A")?;
     expect_text(&rt, &page, b"row left ABC\nfeed 1\nrow center D\nfeed 1\n");
     let page = page_of(rt.alloc(), b"\x1B\x45\x01A\x1B\x45\x00B\x0A")?;
-    expect_text(&rt, &page, b"row left [A,1,1,1,0,0]A[A,1,1,0,0,0]B\nfeed 1\n");
+    expect_text(
+        &rt,
+        &page,
+        b"row left [A,1,1,1,0,0]A[A,1,1,0,0,0]B\nfeed 1\n",
+    );
     Ok(())
 }
 
@@ -101,7 +105,10 @@ fn short_writer(rt: HostRuntime) -> Result<(), Fail> {
     let page = page_of(rt.alloc(), b"\x1B\x40Hi\x0A\x1D\x56\x00")?;
     let mut room = [0u8; 5];
     let mut sink = MemoryOut::new(&mut room);
-    assert_eq!(rt; write_items(page.items(), &mut sink), Err(Device { written: 5 }));
+    assert_eq!(rt;
+        write_items(page.items(), &mut sink),
+        Err(Device { written: 5 })
+    );
     assert_eq!(rt; sink.written(), b"row l".as_slice());
     Ok(())
 }
@@ -132,7 +139,11 @@ fn restart_drops_the_line_and_keeps_the_paper(rt: HostRuntime) -> Result<(), Fai
         assert!(rt; page.has_room());
         page.apply(command)?;
     }
-    expect_text(&rt, &page, b"row left A\nfeed 1\nfeed 1\nrow left C\nfeed 1\n");
+    expect_text(
+        &rt,
+        &page,
+        b"row left A\nfeed 1\nfeed 1\nrow left C\nfeed 1\n",
+    );
     Ok(())
 }
 

@@ -12,7 +12,10 @@ use super::rest::Rest;
 use crate::bytes::{CR, DLE, EOT, ESC, GS, LF};
 use crate::command::Command;
 use crate::mark::{MarkId, is_mark_byte};
-use crate::parameter::{Align, BarHeight, BarWidth, Character, Cut, Emphasis, FeedLines, Font, HriFont, HriPlace, Mode, Size, StatusKind, Table, Underline};
+use crate::parameter::{
+    Align, BarHeight, BarWidth, Character, Cut, Emphasis, FeedLines, Font, HriFont, HriPlace, Mode,
+    Size, StatusKind, Table, Underline,
+};
 
 /// Where bytes lead.
 #[derive(Drop)]
@@ -40,7 +43,11 @@ pub enum Front<'a> {
 fn whole(command: Command, rest: Rest<'_>) -> Lead
     ensures { Tells result (walk (leaf command) rest.entry) }
 {
-    if rest.is_empty() { Lead::Leaf(command) } else { Lead::Dead }
+    if rest.is_empty() {
+        Lead::Leaf(command)
+    } else {
+        Lead::Dead
+    }
 }
 
 // The fixed bytes at the front.

@@ -1,10 +1,9 @@
 -- What `apply` leaves is the sheet behind the command, which stands for the longer list of commands.
-use Rattle.std.proofs.Common.{◌≡◌, List, [], ◌∷◌, ◌++◌, ap, sym, ◌∙◌, ◌≤◌, subst, refl}
+use Rattle.std.proofs.Common.{◌≡◌, List, [], ◌∷◌, ◌++◌, ap, sym, ◌∙◌, subst, refl}
 use Rattle.escpos_paper.specs.declared.item.Item.{Item}
 use Rattle.escpos_paper.specs.declared.style.Style.{Style}
 use Rattle.escpos_command.specs.declared.command.Command.{Command}
 use Rattle.escpos_paper.specs.Page.{Sheet, Seen}
-use Rattle.escpos_paper.specs.Steps.{sheet_behind}
 use Rattle.escpos_paper.proofs.Sheets.{sheet_of, sheet_step}
 use Rattle.escpos_paper.proofs.Widths.{IsWidth, width_in_range}
 use Rattle.escpos_paper.proofs.page.Page.apply.Goals as goal
@@ -22,11 +21,13 @@ run-requires-clause-narrow c =
     (width_of c.self.inside.style _ c.self.invariant.0 c.self.invariant.1 refl c.self.invariant.2).most
 
 pub invariant_of-self-2 : goal.invariant_of-self-2
-invariant_of-self-2 c =
-    (c.self.invariant.0, c.self.invariant.1 ++ c.args.command ∷ [],
-      sheet_step _ _ c.self.invariant.0 c.self.invariant.1 c.args.command
+invariant_of-self-2 c = (
+  c.self.invariant.0,
+  c.self.invariant.1 ++ c.args.command ∷ [],
+  sheet_step _ _ c.self.invariant.0 c.self.invariant.1 c.args.command
       (cc (c.run.ensures.printed, c.reserve.ensures.items, c.run.ensures.left, c.behind-style.ensures, c.alignment_behind-align.ensures, c.is_empty.ensures))
-      c.self.invariant.2)
+      c.self.invariant.2,
+)
 
 pub returns-clause-taken : goal.returns-clause-taken
 returns-clause-taken c = λ kept cs is.

@@ -1,0 +1,310 @@
+//! The worked rows of the grammar, and each call on its happy path. Expected values are those of the
+//! command table.
+
+use super::*;
+use crate::plain::{End, read};
+use std::alloc::Global;
+use std::process::Abort;
+use std::test::Fail;
+
+// Init, H, i, LF, and GS V 0.
+const FIVE: [u8; 8] = [0x1B, 0x40, 0x48, 0x69, 0x0A, 0x1D, 0x56, 0x00];
+
+// The mark with the id 000Z.
+const MARK_35: [u8; 11] = [
+    0x1D, 0x28, 0x48, 0x06, 0x00, 0x30, 0x30, 0x30, 0x30, 0x30, 0x5A,
+];
+
+fn five_commands_of(alloc: Global) -> Result<Vec<Command>, Fail> {
+    let h = Character::new(0x48).ok_or("H")?;
+    let i = Character::new(0x69).ok_or("i")?;
+    let cut = Cut::new(0).ok_or("cut")?;
+    Ok(vec![in alloc;
+        Command::Init,
+        Command::Char(h),
+        Command::Char(i),
+        Command::LineFeed,
+        Command::Cut(cut),
+    ]?)
+}
+
+// The bytes read as some commands, and that is what they spell.
+fn reads_back(rt: &impl Abort, alloc: Global, bytes: &[u8]) -> Result<(), Fail> {
+    let reading = read(alloc, bytes)?;
+    assert_eq!(rt; reading.end, End::Pending(0), "{bytes:?}");
+    assert_eq!(rt; reading.commands.len(), 1, "{bytes:?}");
+    let mut out = Vec::new(alloc);
+    for command in &reading.commands {
+        command.spell(&mut out)?;
+    }
+    assert_eq!(rt; out.as_slice(), bytes);
+    Ok(())
+}
+
+// The byte at this place is refused.
+fn is_refused(
+    rt: &impl Abort,
+    alloc: Global,
+    bytes: &[u8],
+    at: usize,
+    why: FaultReason,
+) -> Result<(), Fail> {
+    let reading = read(alloc, bytes)?;
+    assert_eq!(rt; reading.end, End::Fault { at, why }, "{bytes:?}");
+    Ok(())
+}
+
+#[test]
+fn five_commands(rt: HostRuntime) -> Result<(), Fail> {
+    let mut commands = five_commands_of(rt.alloc())?;
+    let mut out = Vec::new(rt.alloc());
+    for command in &commands {
+        command.spell(&mut out)?;
+    }
+    assert_eq!(rt; out.as_slice(), FIVE.as_slice());
+    let reading = read(rt.alloc(), &FIVE)?;
+    assert_eq!(rt; reading.commands.as_slice(), commands.as_slice());
+    assert_eq!(rt; reading.end, End::Pending(0));
+    let reading = read(rt.alloc(), &FIVE[..7])?;
+    assert!(rt; commands.pop().is_some());
+    assert_eq!(rt; reading.commands.as_slice(), commands.as_slice());
+    assert_eq!(rt; reading.end, End::Pending(2));
+    Ok(())
+}
+
+#[test]
+fn mark_numbers(rt: HostRuntime) -> Result<(), Fail> {
+    for (number, id) in [
+        (0, *b"0000"),
+        (35, *b"000Z"),
+        (36, *b"0010"),
+        (1_679_615, *b"ZZZZ"),
+    ] {
+        let mark = MarkId::of_number(number).ok_or("number")?;
+        assert_eq!(rt; mark.bytes(), id);
+        assert_eq!(rt; MarkId::new(id), Some(mark));
+        assert_eq!(rt; mark.number(), Some(number));
+    }
+    assert_eq!(rt; MarkId::of_number(1_679_616), None);
+    for id in [*b"000a", *b"0 00"] {
+        assert_eq!(rt; MarkId::new(id).ok_or("id")?.number(), None, "{id:?}");
+    }
+    Ok(())
+}
+
+#[test]
+fn mark_35(rt: HostRuntime) -> Result<(), Fail> {
+    let mark = Command::Mark(MarkId::of_number(35).ok_or("number")?);
+    assert_eq!(rt; mark.spelling().as_slice(), MARK_35.as_slice());
+    let reading = read(rt.alloc(), &MARK_35)?;
+    assert_eq!(rt; reading.commands.as_slice(), [mark].as_slice());
+    assert_eq!(rt; reading.end, End::Pending(0));
+    let reading = read(rt.alloc(), &MARK_35[..10])?;
+    assert!(rt; reading.commands.is_empty());
+    assert_eq!(rt; reading.end, End::Pending(10));
+    Ok(())
+}
+
+#[test]
+fn unknown_bytes(rt: HostRuntime) -> Result<(), Fail> {
+    let alloc = rt.alloc();
+    is_refused(&rt, alloc, &[0x1B, 0x24], 1, FaultReason::UnknownCommand)?;
+    is_refused(&rt, alloc, &[0x06], 0, FaultReason::UnknownByte)?;
+    let bytes = [0x1B, 0x40, 0x1B, 0x24];
+    is_refused(&rt, alloc, &bytes, 3, FaultReason::UnknownCommand)?;
+    let reading = read(alloc, &bytes)?;
+    assert_eq!(rt; reading.commands.as_slice(), [Command::Init].as_slice());
+    assert_eq!(rt; FaultReason::UnknownByte.number(), 1);
+    assert_eq!(rt; FaultReason::UnknownCommand.name(), "UnknownCommand");
+    Ok(())
+}
+
+#[test]
+fn mark_prefix(rt: HostRuntime) -> Result<(), Fail> {
+    let alloc = rt.alloc();
+    is_refused(
+        &rt,
+        alloc,
+        &[0x1D, 0x28, 0x49],
+        2,
+        FaultReason::UnknownCommand,
+    )?;
+    is_refused(
+        &rt,
+        alloc,
+        &[0x1D, 0x28, 0x48, 0x07],
+        3,
+        FaultReason::BadParameter,
+    )?;
+    let id = [0x1D, 0x28, 0x48, 0x06, 0x00, 0x30, 0x30, 0x1F];
+    is_refused(&rt, alloc, &id, 7, FaultReason::BadParameter)
+}
+
+#[test]
+fn chars_of_text(rt: HostRuntime) -> Result<(), Fail> {
+    let refused = chars_of(rt.alloc(), &[0x41, 0x1B]);
+    assert!(rt; matches!(refused, Err(CharsFault::ControlByte { at: 1 })));
+    let commands = chars_of(rt.alloc(), &[0x41, 0x42])?;
+    let a = Character::new(0x41).ok_or("A")?;
+    let b = Character::new(0x42).ok_or("B")?;
+    assert_eq!(rt;
+        commands.as_slice(),
+        [Command::Char(a), Command::Char(b)].as_slice()
+    );
+    Ok(())
+}
+
+#[test]
+fn short_writer(rt: HostRuntime) -> Result<(), Fail> {
+    let commands = five_commands_of(rt.alloc())?;
+    let mut room = [0u8; 5];
+    let mut sink = MemoryOut::new(&mut room);
+    assert_eq!(rt;
+        write_commands(&commands, &mut sink),
+        Err(Device { written: 5 })
+    );
+    assert_eq!(rt; sink.written(), [0x1B, 0x40, 0x48, 0x69, 0x0A].as_slice());
+    let mut room = [0u8; 9];
+    let mut sink = MemoryOut::new(&mut room);
+    assert_eq!(rt; write_commands(&commands, &mut sink), Ok(()));
+    assert_eq!(rt; sink.written(), FIVE.as_slice());
+    Ok(())
+}
+
+// The bytes before a parameter, the parameters that are read there (the least and the greatest, and the
+// ends of each range between them), and their nearest neighbours, which are refused.
+#[test]
+fn least_and_greatest_parameters(rt: HostRuntime) -> Result<(), Fail> {
+    let table: [(&[u8], &[u8], &[u8]); 19] = [
+        (&[0x1B, 0x21], &[0, 255], &[]),
+        (&[0x1B, 0x2D], &[0, 2, 48, 50], &[3, 47, 51]),
+        (&[0x1B, 0x45], &[0, 255], &[]),
+        (&[0x1B, 0x4D], &[0, 1, 48, 49], &[2, 47, 50]),
+        (&[0x1B, 0x61], &[0, 2, 48, 50], &[3, 47, 51]),
+        (&[0x1B, 0x64], &[0, 255], &[]),
+        (&[0x1B, 0x74], &[0, 255], &[]),
+        (
+            &[0x1D, 0x21],
+            &[0x00, 0x07, 0x70, 0x77],
+            &[0x08, 0x78, 0x80],
+        ),
+        (&[0x1D, 0x48], &[0, 3, 48, 51], &[4, 47, 52]),
+        (&[0x1D, 0x56], &[0, 1, 48, 49], &[2, 47, 50, 64, 67]),
+        (&[0x1D, 0x56, 65], &[0, 255], &[]),
+        (&[0x1D, 0x56, 66], &[0, 255], &[]),
+        (&[0x1D, 0x66], &[0, 1, 48, 49], &[2, 47, 50]),
+        (&[0x1D, 0x68], &[1, 255], &[0]),
+        (&[0x1D, 0x77], &[2, 6], &[1, 7]),
+        (&[0x10, 0x04], &[1, 4], &[0, 5]),
+        (&MARK_35[..10], &[32, 126], &[31, 127]),
+        (&[], &[0x20, 0xFF], &[]),
+        (&[], &[0x0A, 0x0D], &[]),
+    ];
+    for (before, read, refused) in table {
+        let mut bytes = before.to_vec(rt.alloc())?;
+        for parameter in read {
+            bytes.push(*parameter)?;
+            reads_back(&rt, rt.alloc(), &bytes)?;
+            bytes.pop();
+        }
+        for parameter in refused {
+            bytes.push(*parameter)?;
+            is_refused(
+                &rt,
+                rt.alloc(),
+                &bytes,
+                before.len(),
+                FaultReason::BadParameter,
+            )?;
+            bytes.pop();
+        }
+    }
+    for first in [0x09, 0x0B, 0x0C, 0x0E, 0x0F, 0x11, 0x1A, 0x1C, 0x1E, 0x1F] {
+        is_refused(&rt, rt.alloc(), &[first], 0, FaultReason::UnknownByte)?;
+    }
+    for first in [0x10, 0x1B, 0x1D] {
+        is_refused(
+            &rt,
+            rt.alloc(),
+            &[first, 0x05],
+            1,
+            FaultReason::UnknownCommand,
+        )?;
+    }
+    Ok(())
+}
+
+// One bar height and one module width were each tried above; these are the bytes' meanings.
+#[test]
+fn meanings_of_parameters(rt: HostRuntime) -> Result<(), Fail> {
+    let mode = Mode::new(0xB9).ok_or("mode")?;
+    assert_eq!(rt; mode.face(), FontFace::B);
+    assert!(rt; mode.is_emphasised());
+    assert_eq!(rt; [mode.width(), mode.height(), mode.underline()], [2, 2, 1]);
+    let mode = Mode::new(0x10).ok_or("mode")?;
+    assert_eq!(rt; mode.face(), FontFace::A);
+    assert!(rt; !mode.is_emphasised());
+    assert_eq!(rt; [mode.width(), mode.height(), mode.underline()], [1, 2, 0]);
+    let size = Size::new(0x70).ok_or("size")?;
+    assert_eq!(rt; [size.width(), size.height()], [8, 1]);
+    for (byte, alignment) in [
+        (0, Alignment::Left),
+        (48, Alignment::Left),
+        (1, Alignment::Center),
+        (50, Alignment::Right),
+    ] {
+        assert_eq!(rt; Align::new(byte).ok_or("align")?.alignment(), alignment);
+    }
+    for (byte, position) in [
+        (48, HriPosition::Nowhere),
+        (1, HriPosition::Above),
+        (50, HriPosition::Below),
+        (51, HriPosition::Both),
+    ] {
+        assert_eq!(rt; HriPlace::new(byte).ok_or("place")?.position(), position);
+    }
+    for (byte, face) in [
+        (0, FontFace::A),
+        (48, FontFace::A),
+        (1, FontFace::B),
+        (49, FontFace::B),
+    ] {
+        assert_eq!(rt; Font::new(byte).ok_or("font")?.face(), face);
+        assert_eq!(rt; HriFont::new(byte).ok_or("font")?.face(), face);
+    }
+    for (byte, dots) in [(0, 0), (49, 1), (50, 2)] {
+        assert_eq!(rt; Underline::new(byte).ok_or("underline")?.dots(), dots);
+    }
+    for (byte, on) in [(0, false), (1, true), (0xFE, false), (0xFF, true)] {
+        assert_eq!(rt; Emphasis::new(byte).ok_or("emphasis")?.is_on(), on);
+    }
+    for (byte, partial) in [(0, false), (48, false), (1, true), (49, true)] {
+        assert_eq!(rt; Cut::new(byte).ok_or("cut")?.is_partial(), partial);
+    }
+    assert!(rt; !Cut::with_feed(65, 5).ok_or("cut")?.is_partial());
+    let cut = Cut::with_feed(66, 5).ok_or("cut")?;
+    assert!(rt; cut.is_partial());
+    assert_eq!(rt; cut.feed(), Some(5));
+    Ok(())
+}
+
+// Small pieces, and one that is larger than what is kept back at most, go out in order.
+#[test]
+fn gathered_bytes_go_out_in_order(rt: HostRuntime) -> Result<(), Fail> {
+    let mut want = Vec::new(rt.alloc());
+    let mut sink = Outgoing::new(Vec::new(rt.alloc()));
+    let mut gather = Gather::new();
+    for number in 0..=255u8 {
+        let piece = [number; 40];
+        want.extend_from_slice(&piece)?;
+        assert_eq!(rt; gather.put(&piece, &mut sink), Ok(()));
+    }
+    let large = vec![in rt.alloc(); 7u8; 5000]?;
+    want.extend_from_slice(&large)?;
+    assert_eq!(rt; gather.put(&large, &mut sink), Ok(()));
+    want.push(9)?;
+    assert_eq!(rt; gather.put(&[9], &mut sink), Ok(()));
+    assert_eq!(rt; gather.flush(&mut sink), Ok(()));
+    assert_eq!(rt; sink.into_inner().as_slice(), want.as_slice());
+    Ok(())
+}

@@ -1,0 +1,191 @@
+//! The worked rows of the decoder, and each call on its happy path. Expected values are those of the
+//! command table.
+
+use super::*;
+use escpos_command::{Align, Character, Command, Cut, FaultReason, MarkId, Size};
+use std::alloc::Global;
+use std::process::Abort;
+use std::test::Fail;
+
+// Init, H, i, LF, and GS V 0.
+const FIVE: [u8; 8] = [0x1B, 0x40, 0x48, 0x69, 0x0A, 0x1D, 0x56, 0x00];
+
+fn five_commands_of(alloc: Global) -> Result<Vec<Command>, Fail> {
+    let h = Character::new(0x48).ok_or("H")?;
+    let i = Character::new(0x69).ok_or("i")?;
+    let cut = Cut::new(0).ok_or("cut")?;
+    Ok(vec![in alloc;
+        Command::Init,
+        Command::Char(h),
+        Command::Char(i),
+        Command::LineFeed,
+        Command::Cut(cut),
+    ]?)
+}
+
+// The last of these bytes is refused behind the others, which are a half command, and begins nothing: the
+// next byte begins a command.
+fn refuses_last(
+    rt: &impl Abort,
+    alloc: Global,
+    bytes: &[u8],
+    why: FaultReason,
+) -> Result<(), Fail> {
+    let (last, half) = bytes.split_last().ok_or("bytes")?;
+    let mut decoder = Decoder::new(alloc);
+    for byte in half {
+        assert_eq!(rt; decoder.push(*byte), Ok(Step::More), "{bytes:?}");
+    }
+    assert_eq!(rt; decoder.pending_len(), half.len());
+    let at = half.len();
+    assert_eq!(rt;
+        decoder.push(*last),
+        Err(DecodeFault::Fault { at, why }),
+        "{bytes:?}"
+    );
+    assert_eq!(rt; decoder.pending_len(), 0);
+    assert_eq!(rt; decoder.push(0x0A), Ok(Step::Done(Command::LineFeed)));
+    Ok(())
+}
+
+// The bytes are the spelling of this command.
+fn decodes(rt: &impl Abort, alloc: Global, bytes: &[u8], command: Command) -> Result<(), Fail> {
+    let decoded = decode(alloc, &[bytes])?;
+    assert_eq!(rt; decoded.commands.as_slice(), [command].as_slice());
+    assert_eq!(rt; decoded.end, End::Pending(0));
+    let mut out = Vec::new(alloc);
+    for command in &decoded.commands {
+        command.spell(&mut out)?;
+    }
+    assert_eq!(rt; out.as_slice(), bytes);
+    Ok(())
+}
+
+#[test]
+fn five_commands(rt: HostRuntime) -> Result<(), Fail> {
+    let mut commands = five_commands_of(rt.alloc())?;
+    let whole = decode(rt.alloc(), &[&FIVE])?;
+    assert_eq!(rt; whole.commands.as_slice(), commands.as_slice());
+    assert_eq!(rt; whole.end, End::Pending(0));
+    for place in 1..8 {
+        let in_two = decode(rt.alloc(), &[&FIVE[..place], &FIVE[place..]])?;
+        assert_eq!(rt;
+            in_two.commands.as_slice(),
+            commands.as_slice(),
+            "cut at {place}"
+        );
+        assert_eq!(rt; in_two.end, End::Pending(0), "cut at {place}");
+    }
+    let mut decoder = Decoder::new(rt.alloc());
+    let mut one_by_one = Vec::new(rt.alloc());
+    for byte in FIVE {
+        if let Step::Done(command) = decoder.push(byte)? {
+            one_by_one.push(command)?;
+        }
+    }
+    assert_eq!(rt; one_by_one.as_slice(), commands.as_slice());
+    assert_eq!(rt; decoder.pending_len(), 0);
+    let half = decode(rt.alloc(), &[&FIVE[..7]])?;
+    assert!(rt; commands.pop().is_some());
+    assert_eq!(rt; half.commands.as_slice(), commands.as_slice());
+    assert_eq!(rt; half.end, End::Pending(2));
+    Ok(())
+}
+
+#[test]
+fn align_range(rt: HostRuntime) -> Result<(), Fail> {
+    refuses_last(
+        &rt,
+        rt.alloc(),
+        &[0x1B, 0x61, 0x03],
+        FaultReason::BadParameter,
+    )?;
+    let align = Align::new(0x32).ok_or("align")?;
+    decodes(&rt, rt.alloc(), &[0x1B, 0x61, 0x32], Command::Align(align))
+}
+
+#[test]
+fn unknown_bytes(rt: HostRuntime) -> Result<(), Fail> {
+    refuses_last(&rt, rt.alloc(), &[0x1B, 0x24], FaultReason::UnknownCommand)?;
+    refuses_last(&rt, rt.alloc(), &[0x06], FaultReason::UnknownByte)?;
+    let mut decoder = Decoder::new(rt.alloc());
+    assert_eq!(rt; decoder.push(0x1B), Ok(Step::More));
+    assert_eq!(rt; decoder.push(0x40), Ok(Step::Done(Command::Init)));
+    assert_eq!(rt; decoder.push(0x1B), Ok(Step::More));
+    let why = FaultReason::UnknownCommand;
+    let fault = DecodeFault::Fault { at: 1, why };
+    assert_eq!(rt; decoder.push(0x24), Err(fault));
+    assert_eq!(rt; [fault.number(), DecodeFault::Memory.number()], [2, 6]);
+    let pieces: [&[u8]; 3] = [&[0x1B], &[0x40, 0x1B], &[0x24, 0x41]];
+    let decoded = decode(rt.alloc(), &pieces)?;
+    assert_eq!(rt; decoded.commands.as_slice(), [Command::Init].as_slice());
+    assert_eq!(rt; decoded.end, End::Fault { at: 3, why });
+    Ok(())
+}
+
+#[test]
+fn size_bits(rt: HostRuntime) -> Result<(), Fail> {
+    refuses_last(
+        &rt,
+        rt.alloc(),
+        &[0x1D, 0x21, 0x08],
+        FaultReason::BadParameter,
+    )?;
+    refuses_last(
+        &rt,
+        rt.alloc(),
+        &[0x1D, 0x21, 0x80],
+        FaultReason::BadParameter,
+    )?;
+    let size = Size::new(0x77).ok_or("size")?;
+    decodes(&rt, rt.alloc(), &[0x1D, 0x21, 0x77], Command::Size(size))
+}
+
+#[test]
+fn mark_prefix(rt: HostRuntime) -> Result<(), Fail> {
+    refuses_last(
+        &rt,
+        rt.alloc(),
+        &[0x1D, 0x28, 0x49],
+        FaultReason::UnknownCommand,
+    )?;
+    let bytes = [0x1D, 0x28, 0x48, 0x07];
+    refuses_last(&rt, rt.alloc(), &bytes, FaultReason::BadParameter)?;
+    let bytes = [0x1D, 0x28, 0x48, 0x06, 0x00, 0x30, 0x30, 0x1F];
+    refuses_last(&rt, rt.alloc(), &bytes, FaultReason::BadParameter)
+}
+
+#[test]
+fn mark_35(rt: HostRuntime) -> Result<(), Fail> {
+    let bytes = [
+        0x1D, 0x28, 0x48, 0x06, 0x00, 0x30, 0x30, 0x30, 0x30, 0x30, 0x5A,
+    ];
+    let mark = MarkId::of_number(35).ok_or("number")?;
+    decodes(&rt, rt.alloc(), &bytes, Command::Mark(mark))?;
+    let half = decode(rt.alloc(), &[&bytes[..10]])?;
+    assert!(rt; half.commands.is_empty());
+    assert_eq!(rt; half.end, End::Pending(10));
+    Ok(())
+}
+
+#[test]
+fn cut_feed(rt: HostRuntime) -> Result<(), Fail> {
+    let cut = Cut::with_feed(0x41, 0x05).ok_or("cut")?;
+    decodes(
+        &rt,
+        rt.alloc(),
+        &[0x1D, 0x56, 0x41, 0x05],
+        Command::Cut(cut),
+    )
+}
+
+#[test]
+fn clear_drops_the_half_command(rt: HostRuntime) {
+    let mut decoder = Decoder::new(rt.alloc());
+    assert_eq!(rt; decoder.push(0x1D), Ok(Step::More));
+    assert_eq!(rt; decoder.push(0x56), Ok(Step::More));
+    assert_eq!(rt; decoder.pending_len(), 2);
+    decoder.clear();
+    assert_eq!(rt; decoder.pending_len(), 0);
+    assert_eq!(rt; decoder.push(0x0A), Ok(Step::Done(Command::LineFeed)));
+}
