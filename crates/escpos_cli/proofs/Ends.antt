@@ -1,16 +1,16 @@
 -- How a listing ends, and what status that has.
-use Rattle.std.proofs.Common.{◌≡◌, ◌≢◌, ℕ, ◌+◌, ◌⊎◌, inl, inr, List, [], ◌++◌, length, refl, sym, ◌∙◌, ap, subst, arith, Option}
+use Rattle.std.proofs.Common.{◌≡◌, ◌≢◌, ℕ, ◌⊎◌, inl, inr, List, [], ◌++◌, length, sym, ◌∙◌, ap, subst, Option}
 use Rattle.std.specs.Io.KnownBytes.{Appends}
 use Rattle.std.proofs.lemmas.List.{nil_from_length}
 use Rattle.escpos_command.specs.declared.command.Command.{Command}
 use Rattle.escpos_command.specs.declared.fault.FaultReason.{FaultReason}
-use Rattle.escpos_command.specs.Grammar.{Reads, FaultAt}
+use Rattle.escpos_command.specs.Grammar.{Reads}
 use Rattle.escpos_command.specs.Laws.{IsRead, IsRefused}
 use Rattle.escpos_command.specs.Gather.{Carries}
 use Rattle.escpos_cli.specs.declared.listing.Listing.{Listing}
 use Rattle.escpos_cli.specs.declared.status.Status.{Status}
 use Rattle.escpos_cli.specs.declared.status.Status.TheVariants.{Good, Refused, Device}
-use Rattle.escpos_cli.specs.Check.{Lists, IsOfContent, IsAllRead, IsCheckText, StatusFits}
+use Rattle.escpos_cli.specs.Check.{Lists, IsOfContent, StatusFits}
 use Rattle.escpos_cli.specs.Lines.{command_lines, end_line, fault_line}
 use Rattle.escpos_cli.specs.Listing.{Listed, RefusedAt}
 
@@ -43,17 +43,18 @@ pub lists_read : ((bs : List ℕ) (cs ds : List Command) (x y : List ℕ) → Re
     → Listed first now listing bytes → pending ≡ length listing.decoder → line ≡ end_line (length bytes) pending → StatusFits status pending
     → PutsOut now next listing.gather line result → Finished F result status → Lists first next bytes result
 lists_read one {F} first now next listing bytes line pending status result w p l fits out fin = record {
-  listing = λ content.
-    ( command_lines 0 w.commands ++ line,
-      inl (w.commands, listing.decoder, w.read, ap (λ v. command_lines 0 w.commands ++ v) (l ∙ ap (λ n. end_line (length bytes) n) p)),
-      out (no_device result content) first (command_lines 0 w.commands) w.lines );
+  listing = λ content. (
+    command_lines 0 w.commands ++ line,
+    inl (w.commands, listing.decoder, w.read, ap (λ v. command_lines 0 w.commands ++ v) (l ∙ ap (λ n. end_line (length bytes) n) p)),
+    out (no_device result content) first (command_lines 0 w.commands) w.lines,
+  );
   good = λ e.
-    let none = good_fits status pending fits (sym (given result status fin (no_device result (inl e))) ∙ e) in
-    (w.commands, subst (λ v. Reads bytes w.commands v) (nil_from_length listing.decoder (sym p ∙ none)) w.read);
+      let none = good_fits status pending fits (sym (given result status fin (no_device result (inl e))) ∙ e) in
+      (w.commands, subst (λ v. Reads bytes w.commands v) (nil_from_length listing.decoder (sym p ∙ none)) w.read);
   refused = λ e all.
-    let some = refused_fits status pending fits (sym (given result status fin (no_device result (inr e))) ∙ e) in
-    let same = one bytes w.commands all.0 listing.decoder [] w.read all.1 in
-    some (p ∙ ap length same.1);
+      let some = refused_fits status pending fits (sym (given result status fin (no_device result (inr e))) ∙ e) in
+      let same = one bytes w.commands all.0 listing.decoder [] w.read all.1 in
+      some (p ∙ ap length same.1);
 }
 
 pub lists_refused : ((bs : List ℕ) → IsRead bs → IsRefused bs → ⊥)
@@ -61,10 +62,11 @@ pub lists_refused : ((bs : List ℕ) → IsRead bs → IsRefused bs → ⊥)
     → RefusedAt first now listing bytes place why → line ≡ fault_line place why
     → PutsOut now next listing.gather line result → Finished F result Refused → Lists first next bytes result
 lists_refused not_both {F} first now next listing bytes line place why result w l out fin = record {
-  listing = λ content.
-    ( command_lines 0 w.commands ++ line,
-      inr (w.commands, w.rest, place, why, w.fault, ap (λ v. command_lines 0 w.commands ++ v) l),
-      out (no_device result content) first (command_lines 0 w.commands) w.lines );
+  listing = λ content. (
+    command_lines 0 w.commands ++ line,
+    inr (w.commands, w.rest, place, why, w.fault, ap (λ v. command_lines 0 w.commands ++ v) l),
+    out (no_device result content) first (command_lines 0 w.commands) w.lines,
+  );
   good = λ e. let k = sym e ∙ given result Refused fin (no_device result (inl e)) in absurd cc;
   refused = λ e all. not_both bytes (all.0, [], all.1) (w.commands, w.rest, place, why, w.fault);
 }

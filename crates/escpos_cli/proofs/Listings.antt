@@ -1,13 +1,12 @@
 -- Lines of commands as they come, and what one byte more makes of a listing.
-use Rattle.std.proofs.Common.{◌≡◌, ℕ, ◌+◌, ◌<◌, ◌≤◌, List, [], ◌∷◌, ◌++◌, length, take, drop, refl, sym, ◌∙◌, ap, subst, append_assoc, append-nil, add_assoc, arith, length-append, get_or, Option, inl, inr, add-one, suc, drop-cons, length-take}
+use Rattle.std.proofs.Common.{◌≡◌, ℕ, ◌+◌, ◌<◌, List, [], ◌∷◌, ◌++◌, length, take, drop, refl, sym, ◌∙◌, ap, subst, append_assoc, append-nil, arith, length-append, Option, inl, add-one, drop-cons, length-take}
 use Rattle.std.specs.Prelude.{slice_index}
-use Rattle.std.proofs.lemmas.Grind.{flat_map-append}
-use Rattle.std.proofs.lemmas.List.{take-append-drop, take_all}
+use Rattle.std.proofs.lemmas.List.{take-append-drop}
 use Rattle.std.proofs.Math.Seq.{take-suc}
 use Rattle.escpos_command.specs.declared.command.Command.{Command}
 use Rattle.escpos_command.specs.declared.fault.FaultReason.{FaultReason}
-use Rattle.escpos_command.specs.Table.{Spells, IsCommand, row, spell}
-use Rattle.escpos_command.specs.Grammar.{Viable, Half, Reads, FaultAt}
+use Rattle.escpos_command.specs.Table.{Spells, row, spell}
+use Rattle.escpos_command.specs.Grammar.{Reads, FaultAt}
 use Rattle.escpos_command.specs.Gather.{Carries}
 use Rattle.escpos_cli.specs.declared.listing.Listing.{Listing}
 use Rattle.escpos_cli.specs.Lines.{command_line, command_lines}
@@ -47,10 +46,10 @@ listed_done join first now next old new a b c line w s e count f carry =
       commands = w.commands ++ c ∷ [];
       read = subst (λ v. Reads (a ++ b ∷ []) (w.commands ++ c ∷ []) v) (sym e) read;
       lines =
-        subst (λ v. Carries first next new.gather v)
-        (ap (λ v. command_lines 0 w.commands ++ v) (f ∙ ap (λ n. command_line n c) (w.start ∙ (let z : length (spell w.commands) ≡ 0 + length (spell w.commands) = omega arith in z)))
+          subst (λ v. Carries first next new.gather v)
+          (ap (λ v. command_lines 0 w.commands ++ v) (f ∙ ap (λ n. command_line n c) (w.start ∙ (let z : length (spell w.commands) ≡ 0 + length (spell w.commands) = omega arith in z)))
           ∙ sym (lines_more 0 w.commands c))
-        (carry first (command_lines 0 w.commands) w.lines);
+          (carry first (command_lines 0 w.commands) w.lines);
       start = omega (arith, count, more, long);
     }
 

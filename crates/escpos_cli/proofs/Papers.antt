@@ -1,10 +1,10 @@
 -- What one byte more makes of a paper, and how a paper ends.
-use Rattle.std.proofs.Common.{◌≡◌, ◌≢◌, ℕ, ◌+◌, ◌⊎◌, inl, inr, List, [], ◌∷◌, ◌++◌, length, refl, sym, ◌∙◌, ap, subst, append_assoc, append-nil, arith, length-append, Option}
+use Rattle.std.proofs.Common.{◌≡◌, ◌≢◌, ℕ, inl, inr, List, [], ◌∷◌, ◌++◌, length, sym, ◌∙◌, ap, subst, Option}
 use Rattle.std.specs.Io.KnownBytes.{Appends}
 use Rattle.std.proofs.lemmas.List.{nil_from_length}
 use Rattle.escpos_command.specs.declared.command.Command.{Command}
 use Rattle.escpos_command.specs.declared.fault.FaultReason.{FaultReason}
-use Rattle.escpos_command.specs.Table.{Spells, spell}
+use Rattle.escpos_command.specs.Table.{Spells}
 use Rattle.escpos_command.specs.Grammar.{Reads, FaultAt}
 use Rattle.escpos_command.specs.Laws.{IsRead, IsRefused}
 use Rattle.escpos_paper.specs.Page.{PageIs, Seen}
@@ -13,11 +13,11 @@ use Rattle.escpos_paper.specs.ItemsText.{items_text}
 use Rattle.escpos_paper.specs.declared.item.Item.{Item}
 use Rattle.escpos_cli.specs.declared.printing.Printing.{Printing}
 use Rattle.escpos_cli.specs.declared.status.Status.{Status}
-use Rattle.escpos_cli.specs.declared.status.Status.TheVariants.{Good, Refused, Device}
-use Rattle.escpos_cli.specs.Check.{IsOfContent, IsAllRead, StatusFits}
+use Rattle.escpos_cli.specs.declared.status.Status.TheVariants.{Refused, Device}
+use Rattle.escpos_cli.specs.Check.{StatusFits}
 use Rattle.escpos_cli.specs.Lines.{fault_line}
 use Rattle.escpos_cli.specs.Printing.{OnPaper, StopsOnPaper}
-use Rattle.escpos_cli.specs.Render.{Renders, IsRenderText, pending_line}
+use Rattle.escpos_cli.specs.Render.{Renders, pending_line}
 use Rattle.escpos_cli.proofs.Listings.{Reading, Faults, FirstFault, reads_command, fault_behind}
 use Rattle.escpos_cli.proofs.Ends.{Finished, no_device, given, good_fits, refused_fits}
 
@@ -55,18 +55,23 @@ pub renders_read : ((bs : List ℕ) (cs ds : List Command) (x y : List ℕ) → 
     → OnPaper printing bytes → items ≡ printing.page.sheet.items → pending ≡ length printing.decoder → line ≡ pending_line (length bytes) pending → StatusFits status pending
     → (result ≢ Device → Appends first next (items_text items ++ line)) → Finished F result status → Renders first next bytes result
 renders_read one {F} first next printing bytes line items pending status result w i p l fits out fin = record {
-  paper = λ content.
-    ( items_text items ++ line,
-      inl (w.commands, printing.decoder, w.read,
-        ap (λ v. items_text v ++ line) (i ∙ items_of printing.page w.commands w.page) ∙ ap (λ v. items_text (printed w.commands) ++ v) (l ∙ ap (λ n. pending_line (length bytes) n) p)),
-      out (no_device result content) );
+  paper = λ content. (
+    items_text items ++ line,
+    inl (
+      w.commands,
+      printing.decoder,
+      w.read,
+      ap (λ v. items_text v ++ line) (i ∙ items_of printing.page w.commands w.page) ∙ ap (λ v. items_text (printed w.commands) ++ v) (l ∙ ap (λ n. pending_line (length bytes) n) p),
+    ),
+    out (no_device result content),
+  );
   good = λ e.
-    let none = good_fits status pending fits (sym (given result status fin (no_device result (inl e))) ∙ e) in
-    (w.commands, subst (λ v. Reads bytes w.commands v) (nil_from_length printing.decoder (sym p ∙ none)) w.read);
+      let none = good_fits status pending fits (sym (given result status fin (no_device result (inl e))) ∙ e) in
+      (w.commands, subst (λ v. Reads bytes w.commands v) (nil_from_length printing.decoder (sym p ∙ none)) w.read);
   refused = λ e all.
-    let some = refused_fits status pending fits (sym (given result status fin (no_device result (inr e))) ∙ e) in
-    let same = one bytes w.commands all.0 printing.decoder [] w.read all.1 in
-    some (p ∙ ap length same.1);
+      let some = refused_fits status pending fits (sym (given result status fin (no_device result (inr e))) ∙ e) in
+      let same = one bytes w.commands all.0 printing.decoder [] w.read all.1 in
+      some (p ∙ ap length same.1);
 }
 
 pub renders_refused : ((bs : List ℕ) → IsRead bs → IsRefused bs → ⊥)
@@ -74,11 +79,18 @@ pub renders_refused : ((bs : List ℕ) → IsRead bs → IsRefused bs → ⊥)
     → StopsOnPaper printing bytes place why → items ≡ printing.page.sheet.items → line ≡ fault_line place why
     → (result ≢ Device → Appends first next (items_text items ++ line)) → Finished F result Refused → Renders first next bytes result
 renders_refused not_both {F} first next printing bytes line items place why result w i l out fin = record {
-  paper = λ content.
-    ( items_text items ++ line,
-      inr (w.commands, w.rest, place, why, w.fault,
-        ap (λ v. items_text v ++ line) (i ∙ items_of printing.page w.commands w.page) ∙ ap (λ v. items_text (printed w.commands) ++ v) l),
-      out (no_device result content) );
+  paper = λ content. (
+    items_text items ++ line,
+    inr (
+      w.commands,
+      w.rest,
+      place,
+      why,
+      w.fault,
+      ap (λ v. items_text v ++ line) (i ∙ items_of printing.page w.commands w.page) ∙ ap (λ v. items_text (printed w.commands) ++ v) l,
+    ),
+    out (no_device result content),
+  );
   good = λ e. let k = sym e ∙ given result Refused fin (no_device result (inl e)) in absurd cc;
   refused = λ e all. not_both bytes (all.0, [], all.1) (w.commands, w.rest, place, why, w.fault);
 }

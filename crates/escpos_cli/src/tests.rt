@@ -31,7 +31,11 @@ const CHECKED: [Row; 17] = [
     // unknown_bytes
     (b"1B 24", b"fault 1 2 UnknownCommand\n", Status::Refused),
     (b"06", b"fault 0 1 UnknownByte\n", Status::Refused),
-    (b"1B 40 1B 24", b"0 init\nfault 3 2 UnknownCommand\n", Status::Refused),
+    (
+        b"1B 40 1B 24",
+        b"0 init\nfault 3 2 UnknownCommand\n",
+        Status::Refused,
+    ),
     // odd_hex
     (b"1B 4", b"refused hex\n", Status::Refused),
     // mark_35
@@ -57,7 +61,11 @@ const CHECKED: [Row; 17] = [
         Status::Refused,
     ),
     // cut_feed
-    (b"1D 56 41 05", b"0 cut 41 05\nend 4 pending 0\n", Status::Good),
+    (
+        b"1D 56 41 05",
+        b"0 cut 41 05\nend 4 pending 0\n",
+        Status::Good,
+    ),
 ];
 
 const RENDERED: [Row; 10] = [
@@ -97,7 +105,11 @@ const RENDERED: [Row; 10] = [
     (b"41 1B 40 42 0A", b"row left B\nfeed 1\n", Status::Good),
     // the last line of the listing behind a half command and behind a fault
     (b"0A 1D 56", b"feed 1\nend 3 pending 2\n", Status::Refused),
-    (b"0A 41 06", b"feed 1\nfault 2 1 UnknownByte\n", Status::Refused),
+    (
+        b"0A 41 06",
+        b"feed 1\nfault 2 1 UnknownByte\n",
+        Status::Refused,
+    ),
 ];
 
 #[test]
@@ -135,7 +147,11 @@ fn bad_input_at_each_edge(rt: HostRuntime) {
         (b"\x0b", b"refused hex\n", Status::Refused),
         (b" \t\r\n", b"end 0 pending 0\n", Status::Good),
         (b"0a0D", b"0 lf\n1 cr\nend 2 pending 0\n", Status::Good),
-        (b"f F\nfE", b"0 char ff\n1 char fe\nend 2 pending 0\n", Status::Good),
+        (
+            b"f F\nfE",
+            b"0 char ff\n1 char fe\nend 2 pending 0\n",
+            Status::Good,
+        ),
     ];
     let mut room = [0; 256];
     for (input, output, status) in rows {
@@ -193,7 +209,11 @@ fn short_listing(rt: &(impl Abort + AllocGlobal), room: &mut [u8]) {
     let mut source = MemoryIn::new(b"1B 40 48 69 0A 1D 56 00", 100);
     let mut sink = MemoryOut::new(room);
     assert_eq!(rt; check(rt.alloc(), &mut source, &mut sink), Status::Device);
-    assert!(rt; b"0 init\n2 char 48\n3 char 69\n4 lf\n5 cut 00\nend 8 pending 0\n".starts_with(sink.written()));
+    assert!(rt;
+        b"0 init\n2 char 48\n3 char 69\n4 lf\n5 cut 00\nend 8 pending 0\n".starts_with(
+            sink.written()
+        )
+    );
 }
 
 #[test]

@@ -1,12 +1,12 @@
 -- The combinators of the tree: which bytes lead through them, and that they are good where their parts are.
 -- Each fact is shown once, for any test, table or length.
-use Rattle.std.proofs.Common.{◌≡◌, ◌≢◌, ℕ, ◌+◌, ◌<◌, List, [], ◌∷◌, ◌++◌, length, refl, sym, ◌∙◌, ap, subst, append_assoc, arith, Bool, true, false, cond, zero, suc, append-nil, IsTrue}
+use Rattle.std.proofs.Common.{◌≡◌, ℕ, List, [], ◌∷◌, ◌++◌, length, refl, sym, ◌∙◌, ap, subst, append_assoc, arith, Bool, true, false, cond, zero, suc, append-nil}
 use Rattle.std.specs.Prelude.{◌==◌, ◌&&◌}
 use Rattle.std.specs.List.{list_all, AllByRecursion}
 use Rattle.std.proofs.lemmas.Bool.Decides.{nat_tests}
 use Rattle.escpos_command.specs.declared.command.Command.{Command}
 use Rattle.escpos_command.specs.Table.{Spells}
-use Rattle.escpos_command.specs.Tree.{Tree, dead, leaf, node, walk, these, passing, one, counted, branch}
+use Rattle.escpos_command.specs.Tree.{Tree, dead, leaf, walk, these, passing, one, counted, branch}
 use Rattle.escpos_command.proofs.Walks.{IsLive, Good}
 
 pub same_number : (a b : ℕ) → (a == b) ≡ true → a ≡ b

@@ -1,5 +1,5 @@
 -- The id of a mark, byte by byte.
-use Rattle.std.proofs.Common.{◌≡◌, ℕ, List, [], ◌∷◌, length, refl, sym, arith, IsTrue, get_or}
+use Rattle.std.proofs.Common.{◌≡◌, ℕ, List, [], ◌∷◌, length, refl, arith, IsTrue, get_or}
 use Rattle.escpos_command.specs.Parameters.{is_mark_id, is_mark_byte}
 use Rattle.std.specs.List.{list_all}
 use Rattle.escpos_command.proofs.Combinators.{and_left, same_number}

@@ -1,16 +1,16 @@
 -- The rows of the command table in the tree: each spelling leads to its command, and the tree is good. A
 -- kind of command adds a case to `leads` and an entry to the proof of its table.
-use Rattle.std.proofs.Common.{◌≡◌, ℕ, List, [], ◌∷◌, ◌++◌, refl, sym, ◌∙◌, ap, arith, Bool, true, false, cond, IsTrue, length}
-use Rattle.std.specs.Prelude.{◌==◌, ◌&&◌, Option, None, Some, option_to_list}
+use Rattle.std.proofs.Common.{◌≡◌, ℕ, List, [], ◌∷◌, refl, ◌∙◌, ap, arith, true, false, IsTrue, length}
+use Rattle.std.specs.Prelude.{◌==◌, Option, None, Some, option_to_list}
 use Rattle.std.specs.List.{list_all}
 use Rattle.std.proofs.lemmas.Bool.Decides.{nat_tests}
-use Rattle.escpos_command.specs.declared.bytes.TheConstants.{LF, CR, DLE, ESC, GS, EOT}
+use Rattle.escpos_command.specs.declared.bytes.TheConstants.{LF, DLE, ESC, GS, EOT}
 use Rattle.escpos_command.specs.declared.command.Command.{Command}
 use Rattle.escpos_command.specs.declared.command.Command.TheVariants.{Char, LineFeed, Return, Init, Mode, Emphasis, Underline, Font, Table, Align, FeedLines, Size, BarHeight, BarWidth, HriPlace, HriFont, Cut, Status, Mark}
 use Rattle.escpos_command.specs.Parameters.{is_character, is_one_of_two, is_one_of_three, is_one_of_four, is_size, is_bar_height, is_bar_width, is_status_kind, is_feed_cut_mode, is_byte, is_cut, is_mark_byte, is_mark_id}
 use Rattle.escpos_command.specs.Table.{Spells, IsCommand, row}
-use Rattle.escpos_command.specs.Tree.{Tree, dead, leaf, node, walk, branch, none, one, first, character, behind_esc, behind_gs, behind_dle, cut, mark, grammar, counted}
-use Rattle.escpos_command.proofs.Walks.{IsLive, Good}
+use Rattle.escpos_command.specs.Tree.{leaf, walk, branch, none, one, first, character, behind_esc, behind_gs, behind_dle, cut, mark, grammar, counted}
+use Rattle.escpos_command.proofs.Walks.{Good}
 use Rattle.escpos_command.proofs.Combinators.{good_choice, good_one, good_branch, good_these, good_counted, walk-counted, walk-one, live_counted, and_left, and_right, both, same_number}
 
 -- A character begins no command of another kind.

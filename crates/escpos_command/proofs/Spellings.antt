@@ -1,10 +1,10 @@
 -- The spellings of the front of a list of commands.
-use Rattle.std.proofs.Common.{◌≡◌, ℕ, ◌+◌, ◌<◌, ◌≤◌, List, [], ◌∷◌, ◌++◌, length, take, drop, refl, sym, ◌∙◌, ap, subst, arith, add-one, suc, get_or, append-nil, append_assoc, length-append, Option}
+use Rattle.std.proofs.Common.{◌≡◌, ℕ, ◌+◌, ◌<◌, ◌≤◌, List, [], ◌∷◌, ◌++◌, length, take, drop, sym, ◌∙◌, ap, arith, add-one, get_or, append-nil, length-append, Option}
 use Rattle.std.proofs.lemmas.Grind.{flat_map-append}
 use Rattle.std.proofs.lemmas.List.{take-append-drop, take_all, take-append-le}
 use Rattle.std.proofs.Math.Seq.{take-suc}
 use Rattle.escpos_command.specs.declared.command.Command.{Command}
-use Rattle.escpos_command.specs.Gather.{Carries, StopsIn}
+use Rattle.escpos_command.specs.Gather.{StopsIn}
 use Rattle.escpos_command.specs.Table.{row, spell}
 
 pub spell_more : (cs : List Command) (i : ℕ) (c : Command) (piece : List ℕ) → i < length cs → c ≡ get_or cs i c → piece ≡ row c

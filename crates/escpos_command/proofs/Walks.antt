@@ -1,8 +1,8 @@
 -- A tree whose leaves spell their commands, and where every live part leads to one. From such a tree, and
 -- from each command leading to its leaf, all laws of the grammar follow at once for every kind.
-use Rattle.std.proofs.Common.{◌≡◌, ◌≢◌, ℕ, ◌+◌, ◌<◌, ◌≤◌, List, [], ◌∷◌, ◌++◌, length, refl, sym, ◌∙◌, ap, subst, append_assoc, arith, Bool, true, false, cond, zero, suc, append-nil}
+use Rattle.std.proofs.Common.{◌≡◌, ℕ, List, [], ◌∷◌, ◌++◌, refl, sym, subst, append_assoc, append-nil}
 use Rattle.escpos_command.specs.declared.command.Command.{Command}
-use Rattle.escpos_command.specs.Table.{Spells, IsCommand, row, spell}
+use Rattle.escpos_command.specs.Table.{Spells}
 use Rattle.escpos_command.specs.Tree.{Tree, dead, leaf, node, walk}
 
 -- The tree leads to some command.

@@ -1,5 +1,5 @@
 -- Mark numbers: the numbers 0 to 1,679,615 as four base-36 digits 0-9, A-Z, most significant first.
-use Rattle.std.specs.Prelude.{ℕ, ◌+◌, ◌*◌, ◌/◌, ◌%◌, ◌^◌, ◌-◌, nat_lt, List, [], ◌∷◌, if◌then◌else◌}
+use Rattle.std.specs.Prelude.{ℕ, ◌+◌, ◌/◌, ◌%◌, ◌^◌, ◌-◌, nat_lt, List, [], ◌∷◌, if◌then◌else◌}
 
 -- How many mark numbers there are.
 abbrev pub mark_count : ℕ

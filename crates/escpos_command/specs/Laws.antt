@@ -1,10 +1,9 @@
 -- The laws of the grammar as statements, for the contracts of the module `laws`. Each ranges over all
 -- lists of numbers; lists of bytes are among them.
-use Rattle.std.specs.Prelude.{ℕ, ◌≡◌, ◌≤◌, ◌⊎◌, List, [], ◌++◌, length}
+use Rattle.std.specs.Prelude.{ℕ, List}
 use Rattle.escpos_command.specs.declared.command.Command.{Command}
 use Rattle.escpos_command.specs.declared.fault.FaultReason.{FaultReason}
-use Rattle.escpos_command.specs.Table.{Spells, IsCommand, spell}
-use Rattle.escpos_command.specs.Grammar.{Viable, Half, Reads, FaultAt}
+use Rattle.escpos_command.specs.Grammar.{Reads, FaultAt}
 
 -- The length of the longest spelling.
 abbrev pub longest_spelling : ℕ

@@ -1,5 +1,5 @@
 -- What the private readers of `plain` answer, by where the bytes lead in the tree.
-use Rattle.std.specs.Prelude.{ℕ, ◌≡◌, List}
+use Rattle.std.specs.Prelude.{◌≡◌}
 use Rattle.escpos_command.specs.declared.plain.tree.Lead.{Lead}
 use Rattle.escpos_command.specs.declared.plain.tree.Lead.TheVariants.{Leaf, Node, Dead}
 use Rattle.escpos_command.specs.declared.plain.tree.Front.{Front}

@@ -1,4 +1,4 @@
-use Rattle.std.proofs.Common.{◌∙◌, sym, ap}
+use Rattle.std.proofs.Common.{◌∙◌}
 use Rattle.escpos_cli.proofs.Ends.{lists_read, lists_refused}
 use Rattle.escpos_cli.proofs.check.list.Goals as goal
 

@@ -25,7 +25,7 @@ returns-in-Ok-clause-task g c =
 pub returns-in-Ok-clause-named : goal.returns-in-Ok-clause-named
 returns-in-Ok-clause-named g c = λ task e.
     inl (is_named c.task_named.result _ _ c.task_named.ensures.check c.task_named.ensures.render task
-      (c.subcommand_name.ensures ∙ c.in-Ok.ensures.named ∙ ap met_by e ∙ task_met task) (sym (length-map _ _) ∙ ap length e))
+    (c.subcommand_name.ensures ∙ c.in-Ok.ensures.named ∙ ap met_by e ∙ task_met task) (sym (length-map _ _) ∙ ap length e))
 
 pub returns-in-Ok-clause-help : goal.returns-in-Ok-clause-help
 returns-in-Ok-clause-help g c = λ asks. elim (is_help (map g.S.AsStr.text c.args.words.now) asks) [

@@ -1,6 +1,3 @@
-use Rattle.std.proofs.Common.{◌≡◌, ℕ, List, [], ◌∷◌, ◌++◌, ap, sym, subst}
-use Rattle.escpos_command.specs.Lead.{Tells}
-use Rattle.escpos_command.specs.Tree.{walk, grammar}
 use Rattle.escpos_command.proofs.Readings.{not_empty}
 use Rattle.escpos_command.proofs.Told.{spelling_told, half_told, refusal_told}
 use Rattle.escpos_command.proofs.plain.step.Goals as goal

@@ -1,8 +1,8 @@
-use Rattle.std.proofs.Common.{◌≡◌, ◌+◌, ◌<◌, ◌≤◌, length, arith, ap, sym, ◌∙◌, subst}
+use Rattle.std.proofs.Common.{◌≡◌, ◌+◌, ◌<◌, ◌≤◌, length, arith, ◌∙◌, subst}
 use Rattle.std.proofs.lemmas.Result.{err_from_is_err_and, IfErr-weaker, on_ok_weaker}
 use Rattle.std.specs.Io.KnownBytes.{Appends}
 use Rattle.escpos_command.specs.Gather.{Carries, StopsIn}
-use Rattle.escpos_command.specs.Table.{row, spell}
+use Rattle.escpos_command.specs.Table.{row}
 use Rattle.escpos_command.proofs.Spellings.{spell_more, spell_all, stops_in_front}
 use Rattle.escpos_command.proofs.writing.write_commands.Goals as goal
 

@@ -1,5 +1,4 @@
-use Rattle.std.proofs.Common.{refl, ap, sym, ◌∙◌}
-use Rattle.escpos_decode.proofs.Streams.{reads_done, reads_more, fault_behind}
+use Rattle.escpos_decode.proofs.Streams.{reads_more}
 use Rattle.escpos_decode.proofs.stream.take_byte.Goals as goal
 
 pub returns-in-Ok-More : goal.returns-in-Ok-More

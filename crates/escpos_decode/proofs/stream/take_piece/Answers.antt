@@ -1,6 +1,4 @@
-use Rattle.std.proofs.Common.{◌<◌, ◌≤◌, ◌+◌, ◌++◌, length, take, drop, arith, ap, sym, ◌∙◌, subst}
-use Rattle.std.specs.Prelude.{slice_index}
-use Rattle.escpos_command.specs.Grammar.{Reads, FaultAt}
+use Rattle.std.proofs.Common.{◌<◌, ◌≤◌, length, arith}
 use Rattle.escpos_decode.proofs.Streams.{piece_more, piece_end, piece_fault, reads_along}
 use Rattle.escpos_decode.proofs.stream.take_piece.Goals as goal
 

@@ -1,4 +1,4 @@
-use Rattle.std.proofs.Common.{◌≡◌, ◌∙◌, sym, ap, refl}
+use Rattle.std.proofs.Common.{◌∙◌, sym, refl}
 use Rattle.escpos_cli.proofs.Listings.{listed_done, refused_behind}
 use Rattle.escpos_cli.proofs.listing.Listing.take.Goals as goal
 

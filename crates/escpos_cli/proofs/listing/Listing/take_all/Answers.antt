@@ -6,4 +6,4 @@ pub returns-in-Refused-clause-ends : goal.returns-in-Refused-clause-ends
 returns-in-Refused-clause-ends g c =
     let inside : c.loop-place.place < length c.args.bytes.now = omega arith in
     λ first w. refused_along first _ _ _ _ _ _ c.in-Refused.why (bytes_around c.args.bytes.now c.loop-place.place inside) (length-front c.args.bytes.now c.loop-place.place inside)
-      (c.in-Refused.ensures.takes first _ _ (c.loop-place.invariant.listed first w))
+    (c.in-Refused.ensures.takes first _ _ (c.loop-place.invariant.listed first w))

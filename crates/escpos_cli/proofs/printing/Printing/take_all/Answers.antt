@@ -7,4 +7,4 @@ pub returns-in-Refused-clause-ends : goal.returns-in-Refused-clause-ends
 returns-in-Refused-clause-ends c =
     let inside : c.loop-place.place < length c.args.bytes.now = omega arith in
     λ w. stops_along _ _ _ _ _ c.in-Refused.why (bytes_around c.args.bytes.now c.loop-place.place inside) (length-front c.args.bytes.now c.loop-place.place inside)
-      (c.in-Refused.ensures _ _ (c.loop-place.invariant w))
+    (c.in-Refused.ensures _ _ (c.loop-place.invariant w))

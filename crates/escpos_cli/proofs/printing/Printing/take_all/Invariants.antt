@@ -1,4 +1,4 @@
-use Rattle.std.proofs.Common.{List, ℕ, [], take}
+use Rattle.std.proofs.Common.{[], take}
 use Rattle.escpos_cli.specs.Printing.{OnPaper}
 use Rattle.escpos_cli.proofs.printing.Printing.take_all.Given as goal
 
