@@ -288,23 +288,34 @@ fn meanings_of_parameters(rt: HostRuntime) -> Result<(), Fail> {
     Ok(())
 }
 
-// Small pieces, and one that is larger than what is kept back at most, go out in order.
+// Many small pieces go out in order.
 #[test]
-fn gathered_bytes_go_out_in_order(rt: HostRuntime) -> Result<(), Fail> {
+fn small_pieces_go_out_in_order(rt: HostRuntime) -> Result<(), Fail> {
+    let mut commands = Vec::new(rt.alloc());
     let mut want = Vec::new(rt.alloc());
+    for number in 0..=255u8 {
+        for _ in 0..9 {
+            commands.push(Command::FeedLines(FeedLines::new(number).ok_or("feed")?))?;
+            want.extend_from_slice(&[0x1B, 0x64, number])?;
+        }
+    }
+    let mut sink = Outgoing::new(Vec::new(rt.alloc()));
+    assert_eq!(rt; write_commands(&commands, &mut sink), Ok(()));
+    assert_eq!(rt; sink.into_inner().as_slice(), want.as_slice());
+    Ok(())
+}
+
+// A piece that is larger than what is kept back at most goes out behind what was kept back.
+#[test]
+fn a_large_piece_goes_out_in_order(rt: HostRuntime) -> Result<(), Fail> {
     let mut sink = Outgoing::new(Vec::new(rt.alloc()));
     let mut gather = Gather::new();
-    for number in 0..=255u8 {
-        let piece = [number; 40];
-        want.extend_from_slice(&piece)?;
-        assert_eq!(rt; gather.put(&piece, &mut sink), Ok(()));
-    }
-    let large = vec![in rt.alloc(); 7u8; 5000]?;
-    want.extend_from_slice(&large)?;
-    assert_eq!(rt; gather.put(&large, &mut sink), Ok(()));
-    want.push(9)?;
-    assert_eq!(rt; gather.put(&[9], &mut sink), Ok(()));
-    assert_eq!(rt; gather.flush(&mut sink), Ok(()));
-    assert_eq!(rt; sink.into_inner().as_slice(), want.as_slice());
+    gather.put(&[9], &mut sink)?;
+    gather.put(&[7; 5000], &mut sink)?;
+    gather.flush(&mut sink)?;
+    let out = sink.into_inner();
+    assert_eq!(rt; out.len(), 5001);
+    assert_eq!(rt; out[0], 9);
+    assert_eq!(rt; out[5000], 7);
     Ok(())
 }
