@@ -6,7 +6,8 @@ use Rattle.escpos_command.specs.declared.parameter.choices.Alignment.{Alignment}
 use Rattle.escpos_paper.specs.declared.cell.Cell.{Cell}
 use Rattle.escpos_paper.specs.declared.item.Item.{Item}
 use Rattle.escpos_paper.specs.Styles.{is_empty, last_or}
-use Rattle.escpos_paper.specs.Rows.{fits, cut_from, cut}
+use Rattle.escpos_paper.specs.Rows.{fits}
+use Rattle.escpos_paper.proofs.Filled.{cut_from, cut}
 use Rattle.escpos_paper.specs.Printed.{row_and_feed}
 use Rattle.escpos_paper.specs.Steps.{with_cell}
 

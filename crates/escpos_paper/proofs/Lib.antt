@@ -1,8 +1,10 @@
 pub mod Behind
+pub mod Filled
 pub mod Cuts
-pub mod Sheets
 pub mod Widths
-pub mod Initialised
 pub mod OneCut
+pub mod AllCuts
+pub mod Sheets
+pub mod Initialised
 pub mod Sent
 pub mod Worked

@@ -1,7 +1,8 @@
 -- There is one cut of the cells of a line into rows.
-use Rattle.std.proofs.Common.{◌≡◌, ◌≢◌, ℕ, ◌*◌, ◌≤◌, ◌<◌, List, [], ◌∷◌, ◌++◌, refl, sym, ◌∙◌, ap, subst, append-nil, arith, Bool, true, false, cond, map}
+use Rattle.std.proofs.Common.{◌≡◌, ◌≢◌, ℕ, ◌*◌, ◌≤◌, ◌<◌, List, [], ◌∷◌, ◌++◌, take, refl, sym, ◌∙◌, ap, subst, append-nil, arith, Bool, true, false, cond, not, ◌&&◌, map}
 use Rattle.std.specs.Prelude.{flat_map}
-use Rattle.std.specs.List.{AllByRecursion, list_any}
+use Rattle.std.specs.List.{AllByRecursion, list_any, list_all}
+use Rattle.std.proofs.lemmas.Bool.{and_from}
 use Rattle.std.proofs.lemmas.Bool.Decides.{nat_tests}
 use Rattle.std.proofs.lemmas.List.Sums.{sum_by-append, sum_by-cons}
 use Rattle.std.proofs.Math.Seq.{append_snoc}
@@ -14,8 +15,88 @@ use Rattle.escpos_paper.specs.declared.style.Style.{Style}
 use Rattle.escpos_paper.specs.Places.{over_places}
 use Rattle.escpos_paper.specs.Styles.{style}
 use Rattle.escpos_paper.specs.Cells.{styled, cell_at, cells, face_dots, cell_dots, dots}
-use Rattle.escpos_paper.specs.Rows.{IsRow, AreFull, IsCut, fits, cut_from, cut, rows}
+use Rattle.escpos_paper.specs.Rows.{IsCut, fits, are_full, is_at_width}
+use Rattle.escpos_paper.proofs.Filled.{cut_from, cut}
 use Rattle.escpos_paper.proofs.Widths.{width_in_range}
+
+-- ## The tests of a cut as statements
+
+abbrev IsRow : List Cell → Type 0
+IsRow row = (row ≢ []) × (dots row ≤ 512)
+
+abbrev AreFull : List (List Cell) → Type 0
+AreFull [] = Unit {0}
+AreFull (row ∷ []) = Unit {0}
+AreFull (row ∷ next ∷ rows) = (512 < dots (row ++ take 1 next)) × AreFull (next ∷ rows)
+
+record Told (xs : List Cell) (rows : List (List Cell)) : Type 0 where
+  pub joined : flat_map (λ row. row) rows ≡ xs
+  pub each : AllByRecursion IsRow rows
+  pub full : AreFull rows
+
+fit_means : (row : List Cell) → fits row ≡ true → dots row ≤ 512
+fit_means row h = grind (arith, nat_tests)
+
+no_fit_means : (row : List Cell) → fits row ≡ false → 512 < dots row
+no_fit_means row h = grind (arith, nat_tests)
+
+fit_from : (row : List Cell) → dots row ≤ 512 → fits row ≡ true
+fit_from row h = grind (arith, nat_tests)
+
+no_fit_from : (row : List Cell) → 512 < dots row → not (fits row) ≡ true
+no_fit_from row h = grind (arith, nat_tests)
+
+not_fits : (row : List Cell) → not (fits row) ≡ true → 512 < dots row
+not_fits row h = grind (arith, nat_tests)
+
+left_of : (a b : Bool) → (a && b) ≡ true → a ≡ true
+left_of true b h = refl
+left_of false b h = h
+
+right_of : (a b : Bool) → (a && b) ≡ true → b ≡ true
+right_of true b h = h
+right_of false b h = absurd cc
+
+rows_told : (rows : List (List Cell)) → AllByRecursion (λ row. row ≢ []) rows → list_all fits rows ≡ true → AllByRecursion IsRow rows
+rows_told [] h fit = tt
+rows_told (row ∷ rows) h fit =
+    ((h.0, fit_means row (left_of (fits row) (list_all fits rows) fit)), rows_told rows h.1 (right_of (fits row) (list_all fits rows) fit))
+
+full_told : (rows : List (List Cell)) → are_full rows ≡ true → AreFull rows
+full_told [] h = tt
+full_told (row ∷ []) h = tt
+full_told (row ∷ next ∷ rows) h = (
+  not_fits (row ++ take 1 next) (left_of (not (fits (row ++ take 1 next))) (are_full (next ∷ rows)) h),
+  full_told (next ∷ rows) (right_of (not (fits (row ++ take 1 next))) (are_full (next ∷ rows)) h),
+)
+
+told : (xs : List Cell) (rows : List (List Cell)) → IsCut xs rows → Told xs rows
+told xs rows h = record {
+  joined = h.joined;
+  each = rows_told rows h.each (left_of (list_all fits rows) (are_full rows) h.at_width);
+  full = full_told rows (right_of (list_all fits rows) (are_full rows) h.at_width);
+}
+
+each_from : (rows : List (List Cell)) → AllByRecursion IsRow rows → AllByRecursion (λ row. row ≢ []) rows
+each_from [] h = tt
+each_from (row ∷ rows) h = (h.0.0, each_from rows h.1)
+
+fits_from : (rows : List (List Cell)) → AllByRecursion IsRow rows → list_all fits rows ≡ true
+fits_from [] h = refl
+fits_from (row ∷ rows) h = and_from (fits row) (list_all fits rows) (fit_from row h.0.1) (fits_from rows h.1)
+
+full_from : (rows : List (List Cell)) → AreFull rows → are_full rows ≡ true
+full_from [] h = refl
+full_from (row ∷ []) h = refl
+full_from (row ∷ next ∷ rows) h =
+    and_from (not (fits (row ++ take 1 next))) (are_full (next ∷ rows)) (no_fit_from (row ++ take 1 next) h.0) (full_from (next ∷ rows) h.1)
+
+is_cut_from_told : (xs : List Cell) (rows : List (List Cell)) → Told xs rows → IsCut xs rows
+is_cut_from_told xs rows h = record {
+  joined = h.joined;
+  each = each_from rows h.each;
+  at_width = and_from (list_all fits rows) (are_full rows) (fits_from rows h.each) (full_from rows h.full);
+}
 
 -- ## Existence
 
@@ -25,12 +106,6 @@ IsNarrow x = cell_dots x ≤ 512
 
 one_fits : (x : Cell) → IsNarrow x → IsRow (x ∷ [])
 one_fits x h = (λ e. absurd cc, omega arith)
-
-fit_means : (row : List Cell) → fits row ≡ true → dots row ≤ 512
-fit_means row h = grind (arith, nat_tests)
-
-no_fit_means : (row : List Cell) → fits row ≡ false → 512 < dots row
-no_fit_means row h = grind (arith, nat_tests)
 
 not_nothing : (row : List Cell) (x : Cell) → row ++ x ∷ [] ≢ []
 not_nothing [] x e = absurd cc
@@ -59,12 +134,12 @@ full_behind : (row : List Cell) (x : Cell) (found : List (List Cell)) → Begins
 full_behind row x found b wide full =
     subst (λ rs. AreFull (row ∷ rs)) (sym b.is) (wide, subst AreFull b.is full)
 
-joined_longer : (row : List Cell) (x : Cell) (xs : List Cell) → IsCut ((row ++ x ∷ []) ++ xs) (cut_from (row ++ x ∷ []) xs)
-    → IsCut (row ++ x ∷ xs) (cut_from (row ++ x ∷ []) xs)
-joined_longer row x xs h = subst (λ t. IsCut t (cut_from (row ++ x ∷ []) xs)) (append_snoc row x xs) h
+joined_longer : (row : List Cell) (x : Cell) (xs : List Cell) → Told ((row ++ x ∷ []) ++ xs) (cut_from (row ++ x ∷ []) xs)
+    → Told (row ++ x ∷ xs) (cut_from (row ++ x ∷ []) xs)
+joined_longer row x xs h = subst (λ t. Told t (cut_from (row ++ x ∷ []) xs)) (append_snoc row x xs) h
 
-begun_anew : (row : List Cell) (x : Cell) (xs : List Cell) → IsRow row → 512 < dots (row ++ x ∷ []) → IsCut (x ∷ xs) (cut_from (x ∷ []) xs)
-    → IsCut (row ++ x ∷ xs) (row ∷ cut_from (x ∷ []) xs)
+begun_anew : (row : List Cell) (x : Cell) (xs : List Cell) → IsRow row → 512 < dots (row ++ x ∷ []) → Told (x ∷ xs) (cut_from (x ∷ []) xs)
+    → Told (row ++ x ∷ xs) (row ∷ cut_from (x ∷ []) xs)
 begun_anew row x xs r wide rest = record {
   joined = ap (λ t. row ++ t) rest.joined;
   each = (r, rest.each);
@@ -73,21 +148,21 @@ begun_anew row x xs r wide rest = record {
 
 -- The cut of a line that goes on with x, by whether it fits.
 by_fit : (row : List Cell) (x : Cell) (xs : List Cell) (b : Bool) → fits (row ++ x ∷ []) ≡ b
-    → (b ≡ true → IsCut (row ++ x ∷ xs) (cut_from (row ++ x ∷ []) xs)) → (b ≡ false → IsCut (row ++ x ∷ xs) (row ∷ cut_from (x ∷ []) xs))
-    → IsCut (row ++ x ∷ xs) (cond b (cut_from (row ++ x ∷ []) xs) (row ∷ cut_from (x ∷ []) xs))
+    → (b ≡ true → Told (row ++ x ∷ xs) (cut_from (row ++ x ∷ []) xs)) → (b ≡ false → Told (row ++ x ∷ xs) (row ∷ cut_from (x ∷ []) xs))
+    → Told (row ++ x ∷ xs) (cond b (cut_from (row ++ x ∷ []) xs) (row ∷ cut_from (x ∷ []) xs))
 by_fit row x xs true e fit over = fit refl
 by_fit row x xs false e fit over = over refl
 
-is_cut_from : (row xs : List Cell) → IsRow row → AllByRecursion IsNarrow xs → IsCut (row ++ xs) (cut_from row xs)
-is_cut_from row [] r h = record { joined = refl; each = (r, tt); full = tt }
-is_cut_from row (x ∷ xs) r h =
+told_cut_from : (row xs : List Cell) → IsRow row → AllByRecursion IsNarrow xs → Told (row ++ xs) (cut_from row xs)
+told_cut_from row [] r h = record { joined = refl; each = (r, tt); full = tt }
+told_cut_from row (x ∷ xs) r h =
     by_fit row x xs (fits (row ++ x ∷ [])) refl
-    (λ e. joined_longer row x xs (is_cut_from (row ++ x ∷ []) xs (not_nothing row x, fit_means (row ++ x ∷ []) e) h.1))
-    (λ e. begun_anew row x xs r (no_fit_means (row ++ x ∷ []) e) (is_cut_from (x ∷ []) xs (one_fits x h.0) h.1))
+    (λ e. joined_longer row x xs (told_cut_from (row ++ x ∷ []) xs (not_nothing row x, fit_means (row ++ x ∷ []) e) h.1))
+    (λ e. begun_anew row x xs r (no_fit_means (row ++ x ∷ []) e) (told_cut_from (x ∷ []) xs (one_fits x h.0) h.1))
 
-pub is_cut : (xs : List Cell) → AllByRecursion IsNarrow xs → IsCut xs (cut xs)
-is_cut [] h = record { joined = refl; each = tt; full = tt }
-is_cut (x ∷ xs) h = is_cut_from (x ∷ []) xs (one_fits x h.0) h.1
+told_cut : (xs : List Cell) → AllByRecursion IsNarrow xs → Told xs (cut xs)
+told_cut [] h = record { joined = refl; each = tt; full = tt }
+told_cut (x ∷ xs) h = told_cut_from (x ∷ []) xs (one_fits x h.0) h.1
 
 -- ## The cells of commands
 
@@ -113,9 +188,9 @@ narrow_from before (c ∷ cs) =
     narrow_append (cell_at before c cs) (over_places cell_at (before ++ c ∷ []) cs)
     (narrow_place (style before) (characters c) (list_any ends_text cs) (width_in_range before).most) (narrow_from (before ++ c ∷ []) cs)
 
--- So the cells of commands have a cut.
-pub is_cut_of : (cs : List Command) → IsCut (cells cs) (rows cs)
-is_cut_of cs = is_cut (cells cs) (narrow_from [] cs)
+-- So filling finds a cut of the cells of commands.
+pub is_cut : (cs : List Command) → IsCut (cells cs) (cut (cells cs))
+is_cut cs = is_cut_from_told (cells cs) (cut (cells cs)) (told_cut (cells cs) (narrow_from [] cs))
 
 -- ## Uniqueness
 
@@ -157,23 +232,26 @@ no_shorter row other ((y ∷ next) ∷ rest) x more d full each narrow e f =
     let long : dots (row ++ x ∷ more) ≤ 512 = subst (λ r. dots r ≤ 512) e narrow in
     absurd (omega (arith, wider row x more))
 
-tail_cut : (xs row : List Cell) (rest : List (List Cell)) → IsCut xs (row ∷ rest) → IsCut (flat_map (λ r. r) rest) rest
+tail_cut : (xs row : List Cell) (rest : List (List Cell)) → Told xs (row ∷ rest) → Told (flat_map (λ r. r) rest) rest
 tail_cut xs row [] h = record { joined = refl; each = tt; full = tt }
 tail_cut xs row (next ∷ rest) h = record { joined = refl; each = h.each.1; full = h.full.1 }
 
-pub one_cut : (xs : List Cell) (found others : List (List Cell)) → IsCut xs found → IsCut xs others → found ≡ others
-one_cut xs [] [] h k = refl
-one_cut xs [] ([] ∷ others) h k = absurd (k.each.0.0 refl)
-one_cut xs [] ((x ∷ row) ∷ others) h k = absurd (let no : [] ≡ x ∷ (row ++ flat_map (λ r. r) others) = h.joined ∙ sym k.joined in cc)
-one_cut xs ([] ∷ found) [] h k = absurd (h.each.0.0 refl)
-one_cut xs ((x ∷ row) ∷ found) [] h k = absurd (let no : [] ≡ x ∷ (row ++ flat_map (λ r. r) found) = k.joined ∙ sym h.joined in cc)
-one_cut xs (row ∷ found) (other ∷ others) h k =
+one_told : (xs : List Cell) (found others : List (List Cell)) → Told xs found → Told xs others → found ≡ others
+one_told xs [] [] h k = refl
+one_told xs [] ([] ∷ others) h k = absurd (k.each.0.0 refl)
+one_told xs [] ((x ∷ row) ∷ others) h k = absurd (let no : [] ≡ x ∷ (row ++ flat_map (λ r. r) others) = h.joined ∙ sym k.joined in cc)
+one_told xs ([] ∷ found) [] h k = absurd (h.each.0.0 refl)
+one_told xs ((x ∷ row) ∷ found) [] h k = absurd (let no : [] ≡ x ∷ (row ++ flat_map (λ r. r) found) = k.joined ∙ sym h.joined in cc)
+one_told xs (row ∷ found) (other ∷ others) h k =
     elim (seam row (flat_map (λ r. r) found) other (flat_map (λ r. r) others) (h.joined ∙ sym k.joined)) [
       | same p q ↦
           let rest : found ≡ others =
-          one_cut (flat_map (λ r. r) found) found others (tail_cut xs row found h)
-          (subst (λ t. IsCut t others) (sym q) (tail_cut xs other others k)) in
+          one_told (flat_map (λ r. r) found) found others (tail_cut xs row found h)
+          (subst (λ t. Told t others) (sym q) (tail_cut xs other others k)) in
           cc
       | shorter x more p q ↦ absurd (no_shorter row other found x more (flat_map (λ r. r) others) h.full h.each.1 k.each.0.1 p q)
       | longer x more p q ↦ absurd (no_shorter other row others x more (flat_map (λ r. r) found) k.full k.each.1 h.each.0.1 p q)
     ]
+
+pub one_cut : (xs : List Cell) (found others : List (List Cell)) → IsCut xs found → IsCut xs others → found ≡ others
+one_cut xs found others h k = one_told xs found others (told xs found h) (told xs others k)

@@ -1,43 +1,59 @@
 -- One more command takes the sheet of a list of commands to the sheet of the longer list.
 use Rattle.std.proofs.Common.{◌≡◌, List, [], ◌∷◌, ◌++◌, length, refl, sym, ◌∙◌, ap, append_assoc, append-nil, false, cond}
-use Rattle.std.specs.Prelude.{map, nat_lt}
+use Rattle.std.specs.Prelude.{map, nat_lt, filter}
 use Rattle.escpos_command.specs.declared.command.Command.{Command}
 use Rattle.escpos_command.specs.declared.command.Command.TheVariants.{Char, LineFeed, Init, FeedLines, Cut}
 use Rattle.escpos_command.specs.Text.{text, ends_text, characters}
+use Rattle.escpos_paper.specs.declared.cell.Cell.{Cell}
 use Rattle.escpos_paper.specs.declared.item.Item.{Item}
 use Rattle.escpos_paper.specs.Styles.{is_empty, last_or, style, alignment}
 use Rattle.escpos_paper.specs.Cells.{styled, cells}
-use Rattle.escpos_paper.specs.Rows.{cut, rows, line}
+use Rattle.escpos_paper.specs.Rows.{fits, is_at_width, cuts, rows, line}
 use Rattle.escpos_paper.specs.Printed.{prints, printed, row_and_feed}
 use Rattle.escpos_paper.specs.Page.{Sheet}
-use Rattle.escpos_paper.specs.Steps.{alignment_behind, line_behind, step_prints, sheet_behind}
+use Rattle.escpos_paper.specs.Steps.{with_cell, alignment_behind, line_behind, step_prints, sheet_behind}
 use Rattle.escpos_paper.proofs.Behind.{style-snoc, cells-snoc, empty_text, alignment-snoc, over-snoc}
+use Rattle.escpos_paper.proofs.Filled.{cut}
 use Rattle.escpos_paper.proofs.Cuts.{last-snoc, begun, empty_last}
+use Rattle.escpos_paper.proofs.AllCuts.{rows_filled}
+
+-- The line is what filling leaves.
+line_filled : (cs : List Command) → line cs ≡ last_or [] (cut (cells cs))
+line_filled cs = ap (last_or []) (rows_filled cs)
 
 pub empty_line : (cs : List Command) → is_empty (line cs) ≡ is_empty (text cs)
-empty_line cs = empty_last (cells cs) ∙ sym (empty_text cs)
+empty_line cs = ap is_empty (line_filled cs) ∙ empty_last (cells cs) ∙ sym (empty_text cs)
 
 -- ## The line
 
+-- The line of some cells.
+abbrev line_of : List Cell → List Cell
+line_of xs = last_or [] (last_or [] (filter is_at_width (cuts xs)))
+
 line_kept : (cs : List Command) (c : Command) → ends_text c ≡ false → characters c ≡ [] → line (cs ++ c ∷ []) ≡ line cs
 line_kept cs c h none =
-    ap (λ xs. last_or [] (cut xs)) (cells-snoc cs c ∙ ap (λ b. cond b [] (cells cs) ++ map (styled (style cs)) (characters c)) h
+    ap line_of (cells-snoc cs c ∙ ap (λ b. cond b [] (cells cs) ++ map (styled (style cs)) (characters c)) h
     ∙ ap (λ t. cells cs ++ map (styled (style cs)) t) none ∙ append-nil (cells cs))
 
 pub line-snoc : (cs : List Command) (c : Command) → line (cs ++ c ∷ []) ≡ line_behind (style cs) (line cs) c
-line-snoc cs (Char b) = ap (λ xs. last_or [] (cut xs)) (cells-snoc cs (Char b)) ∙ last-snoc (cells cs) (styled (style cs) b)
-line-snoc cs LineFeed = ap (λ xs. last_or [] (cut xs)) (cells-snoc cs LineFeed)
-line-snoc cs (FeedLines n) = ap (λ xs. last_or [] (cut xs)) (cells-snoc cs (FeedLines n))
-line-snoc cs Init = ap (λ xs. last_or [] (cut xs)) (cells-snoc cs Init)
-line-snoc cs (Cut how) = ap (λ xs. last_or [] (cut xs)) (cells-snoc cs (Cut how))
+line-snoc cs (Char b) =
+    line_filled (cs ++ Char b ∷ []) ∙ ap (λ xs. last_or [] (cut xs)) (cells-snoc cs (Char b)) ∙ last-snoc (cells cs) (styled (style cs) b)
+    ∙ ap (λ row. with_cell row (styled (style cs) b)) (sym (line_filled cs))
+line-snoc cs LineFeed = ap line_of (cells-snoc cs LineFeed)
+line-snoc cs (FeedLines n) = ap line_of (cells-snoc cs (FeedLines n))
+line-snoc cs Init = ap line_of (cells-snoc cs Init)
+line-snoc cs (Cut how) = ap line_of (cells-snoc cs (Cut how))
 line-snoc cs c = line_kept cs c refl refl
 
 -- ## The paper
 
 pub prints_step : (cs : List Command) (c : Command) → prints cs c ≡ step_prints (style cs) (alignment cs) (line cs) c
 prints_step cs (Char b) =
-    ap (λ xs. cond (nat_lt (length (rows cs)) (length (cut xs))) (row_and_feed (alignment cs) (line cs)) []) (cells-snoc cs (Char b))
+    ap (λ found. cond (nat_lt (length (rows cs)) (length found)) (row_and_feed (alignment cs) (line cs)) [])
+    (rows_filled (cs ++ Char b ∷ []) ∙ ap cut (cells-snoc cs (Char b)))
+    ∙ ap (λ found. cond (nat_lt (length found) (length (cut (cells cs ++ styled (style cs) b ∷ [])))) (row_and_feed (alignment cs) (last_or [] found)) []) (rows_filled cs)
     ∙ begun (alignment cs) (cells cs) (styled (style cs) b)
+    ∙ ap (λ row. cond (fits (row ++ styled (style cs) b ∷ [])) [] (row_and_feed (alignment cs) row)) (sym (line_filled cs))
 prints_step cs LineFeed = refl
 prints_step cs (FeedLines n) = refl
 prints_step cs (Cut how) = refl

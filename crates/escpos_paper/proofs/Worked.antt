@@ -1,5 +1,5 @@
 -- Worked rows, computed from the definitions alone.
-use Rattle.std.proofs.Common.{◌≡◌, [], ◌∷◌, ◌++◌, refl, true, false}
+use Rattle.std.proofs.Common.{◌≡◌, [], ◌∷◌, ◌++◌, refl, ap, true, false}
 use Rattle.std.specs.Prelude.{None, Some, replicate, map, length}
 use Rattle.escpos_command.specs.declared.command.Command.TheVariants.{Char, LineFeed, Init, Mode, Emphasis, Font, Align, FeedLines, Size, Cut}
 use Rattle.escpos_command.specs.declared.parameter.choices.FontFace.TheVariants.{B}
@@ -10,6 +10,7 @@ use Rattle.escpos_paper.specs.Cells.{styled}
 use Rattle.escpos_paper.specs.Rows.{rows}
 use Rattle.escpos_paper.specs.Printed.{printed}
 use Rattle.escpos_paper.specs.ItemsText.{items_text}
+use Rattle.escpos_paper.proofs.AllCuts.{rows_filled}
 use Rattle.std.specs.Prelude.{codes}
 use Rattle.std.specs.Fmt.{digits}
 
@@ -53,12 +54,13 @@ wide : printed (Size 0x70 ∷ replicate 6 (Char 0x61) ++ LineFeed ∷ [])
     Row Left (x ∷ x ∷ x ∷ x ∷ x ∷ []) ∷ Feed 1 ∷ Row Left (x ∷ []) ∷ Feed 1 ∷ [])
 wide = refl
 
--- 42 characters of font A fill a line, and 56 of font B
+-- 42 characters of font A fill a line, and 56 of font B. There are too many ways to cut so many cells; the plain
+-- program finds the one.
 font_a : map length (rows (replicate 43 (Char 0x61))) ≡ 42 ∷ 1 ∷ []
-font_a = refl
+font_a = ap (map length) (rows_filled (replicate 43 (Char 0x61)))
 
 font_b : map length (rows (Font 1 ∷ replicate 57 (Char 0x61))) ≡ 56 ∷ 1 ∷ []
-font_b = refl
+font_b = ap (map length) (rows_filled (Font 1 ∷ replicate 57 (Char 0x61)))
 
 -- The same as text.
 five_commands_text : items_text (printed (Init ∷ Char 0x48 ∷ Char 0x69 ∷ LineFeed ∷ Cut (0, None) ∷ []))

@@ -1,0 +1,122 @@
+-- Of all ways to cut the cells of a line, the one at its width is the one that filling finds.
+use Rattle.std.proofs.Common.{◌≡◌, ◌≢◌, List, [], ◌∷◌, ◌++◌, refl, sym, ◌∙◌, ap, subst, append_assoc, Bool, true, false, cond, filter}
+use Rattle.std.specs.Prelude.{flat_map}
+use Rattle.std.specs.List.{AllByRecursion}
+use Rattle.std.proofs.lemmas.List.Concat.{flat_map-append}
+use Rattle.std.proofs.lemmas.List.Elements.{filter-append}
+use Rattle.escpos_command.specs.declared.command.Command.{Command}
+use Rattle.escpos_paper.specs.declared.cell.Cell.{Cell}
+use Rattle.escpos_paper.specs.Styles.{last_or}
+use Rattle.escpos_paper.specs.Cells.{cells}
+use Rattle.escpos_paper.specs.Rows.{IsCut, is_at_width, with_first, cuts, rows}
+use Rattle.escpos_paper.proofs.Filled.{cut}
+use Rattle.escpos_paper.proofs.OneCut.{is_cut, one_cut}
+
+-- ## Each way to cut is in the list
+
+record Holds {X : Type 0} (xs : List X) (x : X) : Type 0 where
+  pub front : List X
+  pub back : List X
+  pub is : xs ≡ front ++ x ∷ back
+
+holds_flat : {X Y : Type 0} (f : X → List Y) (xs : List X) (x : X) (y : Y) → Holds xs x → Holds (f x) y → Holds (flat_map f xs) y
+holds_flat f xs x y h k = record {
+  front = flat_map f h.front ++ k.front;
+  back = k.back ++ flat_map f h.back;
+  is =
+      ap (flat_map f) h.is ∙ flat_map-append f h.front (x ∷ h.back)
+      ∙ ap (λ t. flat_map f h.front ++ (t ++ flat_map f h.back)) k.is
+      ∙ ap (λ t. flat_map f h.front ++ t) (append_assoc k.front (y ∷ k.back) (flat_map f h.back))
+      ∙ sym (append_assoc (flat_map f h.front) k.front (y ∷ k.back ++ flat_map f h.back));
+}
+
+alone : (x : Cell) (rows : List (List Cell)) → Holds (with_first x rows) ((x ∷ []) ∷ rows)
+alone x [] = record { front = []; back = []; is = refl }
+alone x (row ∷ rows) = record { front = ((x ∷ row) ∷ rows) ∷ []; back = []; is = refl }
+
+joins_next : (x : Cell) (row : List Cell) (rows : List (List Cell)) → Holds (with_first x (row ∷ rows)) ((x ∷ row) ∷ rows)
+joins_next x row rows = record { front = []; back = ((x ∷ []) ∷ row ∷ rows) ∷ []; is = refl }
+
+holds_row : (x : Cell) (row xs : List Cell) (rest : List (List Cell)) → Holds (cuts xs) rest → Holds (cuts (x ∷ row ++ xs)) ((x ∷ row) ∷ rest)
+holds_row x [] xs rest h = holds_flat (with_first x) (cuts xs) rest ((x ∷ []) ∷ rest) h (alone x rest)
+holds_row x (y ∷ row) xs rest h =
+    holds_flat (with_first x) (cuts (y ∷ row ++ xs)) ((y ∷ row) ∷ rest) ((x ∷ y ∷ row) ∷ rest)
+    (holds_row y row xs rest h) (joins_next x (y ∷ row) rest)
+
+holds_cut : (rows : List (List Cell)) → AllByRecursion (λ row. row ≢ []) rows → Holds (cuts (flat_map (λ row. row) rows)) rows
+holds_cut [] h = record { front = []; back = []; is = refl }
+holds_cut ([] ∷ rows) h = absurd (h.0 refl)
+holds_cut ((x ∷ row) ∷ rows) h = holds_row x row (flat_map (λ r. r) rows) rows (holds_cut rows h.1)
+
+-- ## And nothing else
+
+all_append : {X : Type 0} (P : X → Type 0) (xs ys : List X) → AllByRecursion P xs → AllByRecursion P ys → AllByRecursion P (xs ++ ys)
+all_append P [] ys h k = k
+all_append P (x ∷ xs) ys h k = (h.0, all_append P xs ys h.1 k)
+
+all_flat : {X Y : Type 0} (P : X → Type 0) (Q : Y → Type 0) (f : X → List Y) → ((x : X) → P x → AllByRecursion Q (f x)) → (xs : List X)
+    → AllByRecursion P xs → AllByRecursion Q (flat_map f xs)
+all_flat P Q f each [] h = tt
+all_flat P Q f each (x ∷ xs) h = all_append Q (f x) (flat_map f xs) (each x h.0) (all_flat P Q f each xs h.1)
+
+record Joins (xs : List Cell) (rows : List (List Cell)) : Type 0 where
+  pub joined : flat_map (λ row. row) rows ≡ xs
+  pub each : AllByRecursion (λ row. row ≢ []) rows
+
+some_cell : (x : Cell) (row : List Cell) → x ∷ row ≢ []
+some_cell x row e = absurd cc
+
+first_joins : (x : Cell) (xs : List Cell) (rows : List (List Cell)) → Joins xs rows → AllByRecursion (Joins (x ∷ xs)) (with_first x rows)
+first_joins x xs [] h = (record { joined = ap (λ t. x ∷ t) h.joined; each = (some_cell x [], tt) }, tt)
+first_joins x xs (row ∷ rest) h = (
+  record { joined = ap (λ t. x ∷ t) h.joined; each = (some_cell x row, h.each.1) },
+  (record { joined = ap (λ t. x ∷ t) h.joined; each = (some_cell x [], h.each) }, tt),
+)
+
+cuts_join : (xs : List Cell) → AllByRecursion (Joins xs) (cuts xs)
+cuts_join [] = (record { joined = refl; each = tt }, tt)
+cuts_join (x ∷ xs) = all_flat (Joins xs) (Joins (x ∷ xs)) (with_first x) (first_joins x xs) (cuts xs) (cuts_join xs)
+
+-- ## So the one that passes is the cut
+
+passing : (xs : List Cell) (found rows : List (List Cell)) (more : List (List (List Cell))) (b : Bool) → IsCut xs found → Joins xs rows
+    → is_at_width rows ≡ b → AllByRecursion (λ r. r ≡ found) more → AllByRecursion (λ r. r ≡ found) (cond b (rows ∷ more) more)
+passing xs found rows more true h j e k = (one_cut xs rows found (record { joined = j.joined; each = j.each; at_width = e }) h, k)
+passing xs found rows more false h j e k = k
+
+all_found : (xs : List Cell) (found : List (List Cell)) (all : List (List (List Cell))) → IsCut xs found → AllByRecursion (Joins xs) all
+    → AllByRecursion (λ r. r ≡ found) (filter is_at_width all)
+all_found xs found [] h k = tt
+all_found xs found (rows ∷ all) h k =
+    passing xs found rows (filter is_at_width all) (is_at_width rows) h k.0 refl (all_found xs found all h k.1)
+
+last_found : (start found : List (List Cell)) (all : List (List (List Cell))) → start ≡ found → AllByRecursion (λ r. r ≡ found) all
+    → last_or start all ≡ found
+last_found start found [] e h = e
+last_found start found (rows ∷ all) e h = last_found rows found all h.0 h.1
+
+found_last : (found : List (List Cell)) (all front back : List (List (List Cell))) → all ≡ front ++ found ∷ back
+    → AllByRecursion (λ r. r ≡ found) all → last_or [] all ≡ found
+found_last found [] [] back e h = absurd cc
+found_last found [] (r ∷ front) back e h = absurd cc
+found_last found (rows ∷ all) front back e h = last_found rows found all h.0 h.1
+
+found_passes : (found : List (List Cell)) (all : List (List (List Cell))) (h : Holds all found) → is_at_width found ≡ true
+    → filter is_at_width all ≡ filter is_at_width h.front ++ found ∷ filter is_at_width h.back
+found_passes found all h e =
+    ap (filter is_at_width) h.is ∙ filter-append is_at_width h.front (found ∷ h.back)
+    ∙ ap (λ b. filter is_at_width h.front ++ cond b (found ∷ filter is_at_width h.back) (filter is_at_width h.back)) e
+
+the_cut : (xs : List Cell) (found : List (List Cell)) → IsCut xs found → Holds (cuts xs) found → last_or [] (filter is_at_width (cuts xs)) ≡ found
+the_cut xs found h k =
+    found_last found (filter is_at_width (cuts xs)) (filter is_at_width k.front) (filter is_at_width k.back)
+    (found_passes found (cuts xs) k h.at_width) (all_found xs found (cuts xs) h (cuts_join xs))
+
+held : (xs : List Cell) (found : List (List Cell)) → IsCut xs found → Holds (cuts xs) found
+held xs found h = subst (λ t. Holds (cuts t) found) h.joined (holds_cut found h.each)
+
+pub rows_filled : (cs : List Command) → rows cs ≡ cut (cells cs)
+rows_filled cs = the_cut (cells cs) (cut (cells cs)) (is_cut cs) (held (cells cs) (cut (cells cs)) (is_cut cs))
+
+pub rows_cut : (cs : List Command) → IsCut (cells cs) (rows cs)
+rows_cut cs = subst (IsCut (cells cs)) (sym (rows_filled cs)) (is_cut cs)
