@@ -1,8 +1,9 @@
 -- Bytes that go out in two steps.
-use Rattle.std.proofs.Common.{◌≡◌, ℕ, ◌+◌, ◌<◌, List, [], ◌++◌, length, take, refl, sym, ◌∙◌, ap, subst, arith, append_assoc, append-nil, length-append, Option, Some, None}
+use Rattle.std.proofs.Common.{◌≡◌, ℕ, ◌+◌, ◌<◌, ◌≤◌, List, [], ◌++◌, length, take, refl, sym, ◌∙◌, ap, subst, arith, append_assoc, append-nil, length-append, Option, Some, None}
 use Rattle.std.specs.Prelude.{Result, Ok, Err, OnOk}
 use Rattle.std.specs.Io.KnownBytes.{Appends}
 use Rattle.std.proofs.Math.Seq.{take-append-add}
+use Rattle.std.proofs.lemmas.List.{take-append-le}
 use Rattle.escpos_command.specs.Gather.{Carries, HandsOn, StopsWithin, StopsIn}
 
 -- What goes out in turn goes out joined.
@@ -62,7 +63,7 @@ carries_all first now next old new total h e w =
     subst (λ v. Appends first next v) (ap (λ v. w.out ++ v) (all_out old new h.0 e h.3) ∙ sym w.whole) (appends_join first now next w.out h.0 w.taken h.1)
 
 -- The sink stops within what was given, where these bytes were the last.
-pub stops_in : (first now next : Option (List ℕ)) (old : List ℕ × ℕ) (total bytes all : List ℕ) (written : ℕ) → (w : Carries first now old total)
+stops_in : (first now next : Option (List ℕ)) (old : List ℕ × ℕ) (total bytes all : List ℕ) (written : ℕ) → (w : Carries first now old total)
     → all ≡ w.out ++ bytes → StopsWithin now next old bytes written → StopsIn first next all written
 stops_in first now next old total bytes all written w e s =
     let count : written ≡ length w.out + s.0 = omega (arith, w.counted, s.2) in
@@ -72,14 +73,27 @@ stops_in first now next old total bytes all written w e s =
       fewer = omega (arith, s.1, count, long);
     }
 
-pub stops_at_piece : (first now next : Option (List ℕ)) (old : List ℕ × ℕ) (total bytes : List ℕ) (written : ℕ) → StopsWithin now next old (old.0 ++ bytes) written
-    → Carries first now old total → StopsIn first next (total ++ bytes) written
-stops_at_piece first now next old total bytes written s w =
-    stops_in first now next old total (old.0 ++ bytes) (total ++ bytes) written w (ap (λ v. v ++ bytes) w.whole ∙ append_assoc w.out old.0 bytes) s
+-- A stop within the front is a stop within all.
+stops_in_more : (first next : Option (List ℕ)) (front more : List ℕ) (written : ℕ) → StopsIn first next front written
+    → StopsIn first next (front ++ more) written
+stops_in_more first next front more written s =
+    let few = s.fewer in
+    let within : written ≤ length front = omega arith in
+    record {
+      front = rw (take-append-le written front more within) s.front;
+      fewer = omega (arith, few, length-append front more);
+    }
 
-pub stops_at_end : (first now next : Option (List ℕ)) (old : List ℕ × ℕ) (total : List ℕ) (written : ℕ) → StopsWithin now next old old.0 written
-    → Carries first now old total → StopsIn first next total written
-stops_at_end first now next old total written s w = stops_in first now next old total old.0 total written w w.whole s
+pub stops_at_piece : (first now next : Option (List ℕ)) (old : List ℕ × ℕ) (total bytes more : List ℕ) (written : ℕ)
+    → StopsWithin now next old (old.0 ++ bytes) written → Carries first now old total → StopsIn first next (total ++ bytes ++ more) written
+stops_at_piece first now next old total bytes more written s w =
+    stops_in_more first next (total ++ bytes) more written
+    (stops_in first now next old total (old.0 ++ bytes) (total ++ bytes) written w (ap (λ v. v ++ bytes) w.whole ∙ append_assoc w.out old.0 bytes) s)
+
+pub stops_at_end : (first now next : Option (List ℕ)) (old : List ℕ × ℕ) (total more : List ℕ) (written : ℕ)
+    → StopsWithin now next old old.0 written → Carries first now old total → StopsIn first next (total ++ more) written
+stops_at_end first now next old total more written s w =
+    stops_in_more first next total more written (stops_in first now next old total old.0 total written w w.whole s)
 
 -- What is out and kept back grows by what is given.
 pub count_on : (now next : Option (List ℕ)) (old new : List ℕ × ℕ) (piece : List ℕ) → HandsOn now next old new (old.0 ++ piece)

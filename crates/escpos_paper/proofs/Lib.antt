@@ -6,5 +6,5 @@ pub mod OneCut
 pub mod AllCuts
 pub mod Sheets
 pub mod Initialised
-pub mod Sent
+pub mod Texts
 pub mod Worked

@@ -15,7 +15,7 @@ use Rattle.escpos_paper.specs.declared.style.Style.{Style}
 use Rattle.escpos_paper.specs.Places.{over_places}
 use Rattle.escpos_paper.specs.Styles.{style}
 use Rattle.escpos_paper.specs.Cells.{styled, cell_at, cells, face_dots, cell_dots, dots}
-use Rattle.escpos_paper.specs.Rows.{IsCut, fits, are_full, is_at_width}
+use Rattle.escpos_paper.specs.Rows.{IsCut, fits, are_full}
 use Rattle.escpos_paper.proofs.Filled.{cut_from, cut}
 use Rattle.escpos_paper.proofs.Widths.{width_in_range}
 

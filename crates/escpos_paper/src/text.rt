@@ -1,4 +1,4 @@
-//! The text of single items, put together in a buffer that takes no memory.
+//! The text of a single item, put together in a buffer that takes no memory.
 //!
 //! Each function here appends to the buffer and says how much at most; `write` sends the buffer off.
 
@@ -15,30 +15,26 @@ use escpos_command::bytes::LF;
 use escpos_command::{Alignment, FontFace};
 use itoa::Buffer;
 
-/// How many bytes are put together before they are sent off.
-pub const TEXT_BYTES: usize = 4096;
-
 /// More than the text of any item has: a row has at most 56 cells of at most 24 bytes.
-pub const ITEM_BYTES: usize = 1400;
+pub const TEXT_BYTES: usize = 1400;
 
-/// Text that isn't sent off yet.
+/// The text of an item, or the front of it.
 pub type Text = ArrayVec<u8, TEXT_BYTES>;
 
-/// Appends the line of an item.
-pub fn push_item(text: &mut Text, item: &Item)
-    requires { array_vec_len text.old + ITEM_BYTES ≤ TEXT_BYTES }
-    ensures pushed { text.new.items ≡ text.old.items ++ item_text item.now }
-    ensures small { length (item_text item.now) ≤ ITEM_BYTES }
+/// Makes the text the line of an item.
+pub fn set_item(text: &mut Text, item: &Item)
+    ensures set { text.new.items ≡ item_text item.now }
 {
+    text.clear();
     push_words(text, item);
     text.push(LF);
 }
 
-// Its line without the end.
+// Appends the line of an item without its end.
 fn push_words(text: &mut Text, item: &Item)
-    requires { array_vec_len text.old + ITEM_BYTES ≤ TEXT_BYTES }
-    ensures pushed { text.new.items ≡ text.old.items ++ words item.now }
-    ensures small { length (words item.now) + 1 ≤ ITEM_BYTES }
+    requires { text.old.items ≡ [] }
+    ensures pushed { text.new.items ≡ words item.now }
+    ensures small { array_vec_len text.new < TEXT_BYTES }
 {
     match item {
         Item::Row { align, cells } => {

@@ -44,14 +44,16 @@ impl Gather {
 
     /// Takes `bytes` behind those that are kept back, and puts what doesn't fit.
     ///
-    /// On `Err` the sink has failed, and took exactly the first `written` of all bytes ever given.
+    /// On `Err` the sink has failed, and took exactly the first `written` of all bytes ever given (and so
+    /// of these with any `more` behind them).
     pub fn put<W: ByteOut>(&mut self, bytes: &[u8], writer: &mut W) -> Result<(), Device>
         requires { self.old.1 + length self.old.0 + length bytes.now < 2 ^ 128 }
         ensures ok { OnOk result ((first : Option (List ℕ)) (total : List ℕ) →
             Carries first (W.written writer.old) self.old total → Carries first (W.written writer.new) self.new (total ++ bytes.now)) }
         ensures counted { OnOk result (self.new.1 + length self.new.0 ≡ self.old.1 + length self.old.0 + length bytes.now) }
-        ensures err { IfErr result (λ device. (first : Option (List ℕ)) (total : List ℕ) →
-            Carries first (W.written writer.old) self.old total → StopsIn first (W.written writer.new) (total ++ bytes.now) device.written) }
+        ensures err { IfErr result (λ device. (first : Option (List ℕ)) (total more : List ℕ) →
+            Carries first (W.written writer.old) self.old total →
+            StopsIn first (W.written writer.new) (total ++ bytes.now ++ more) device.written) }
         ensures failed { IfErr result (λ _. IsTrue (W.failed writer.new)) }
     {
         self.hand_on(bytes, writer)
@@ -59,14 +61,15 @@ impl Gather {
 
     /// Puts all that is kept back.
     ///
-    /// On `Err` the sink has failed, and took exactly the first `written` of all bytes ever given.
+    /// On `Err` the sink has failed, and took exactly the first `written` of all bytes ever given (and so
+    /// of these with any `more` behind them).
     pub fn flush<W: ByteOut>(&mut self, writer: &mut W) -> Result<(), Device>
         requires { self.old.1 + length self.old.0 < 2 ^ 128 }
         ensures ok { OnOk result ((first : Option (List ℕ)) (total : List ℕ) →
             Carries first (W.written writer.old) self.old total → Appends first (W.written writer.new) total) }
         ensures empty { OnOk result (self.new.0 ≡ []) }
-        ensures err { IfErr result (λ device. (first : Option (List ℕ)) (total : List ℕ) →
-            Carries first (W.written writer.old) self.old total → StopsIn first (W.written writer.new) total device.written) }
+        ensures err { IfErr result (λ device. (first : Option (List ℕ)) (total more : List ℕ) →
+            Carries first (W.written writer.old) self.old total → StopsIn first (W.written writer.new) (total ++ more) device.written) }
         ensures failed { IfErr result (λ _. IsTrue (W.failed writer.new)) }
     {
         self.empty(writer)

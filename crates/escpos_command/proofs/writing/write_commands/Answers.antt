@@ -1,9 +1,9 @@
-use Rattle.std.proofs.Common.{◌≡◌, ◌+◌, ◌<◌, ◌≤◌, length, arith, ◌∙◌, subst}
+use Rattle.std.proofs.Common.{◌≡◌, ◌<◌, ◌≤◌, [], length, arith, ◌∙◌, subst, append-nil}
 use Rattle.std.proofs.lemmas.Result.{err_from_is_err_and, IfErr-weaker, on_ok_weaker}
 use Rattle.std.specs.Io.KnownBytes.{Appends}
 use Rattle.escpos_command.specs.Gather.{Carries, StopsIn}
 use Rattle.escpos_command.specs.Table.{row}
-use Rattle.escpos_command.proofs.Spellings.{spell_more, spell_all, stops_in_front}
+use Rattle.escpos_command.proofs.Spellings.{spell_more, spell_all, spell_around}
 use Rattle.escpos_command.proofs.writing.write_commands.Goals as goal
 
 pub loop-command-preserved : goal.loop-command-preserved
@@ -24,10 +24,9 @@ returns-in_err-put-clause-err g c =
     let inside : c.loop-command.command-index < length c.args.commands.now = omega arith in
     let piece : c.as_slice.result.now ≡ row c.command-item.result = c.as_slice.ensures.value ∙ c.spelling.ensures.row in
     let p = err_from_is_err_and c.from_residual.result c.from_residual.ensures.1 in
-    rw (p.1, p.2) (stops_in_front _ _ c.args.commands.now (c.loop-command.command-index + 1) _
-    (subst (λ v. StopsIn (g.W.ByteOut.written c.args.writer.now) (g.W.ByteOut.written c.put.new.writer) v c.in_err-put.field-0.0.written)
-    (spell_more c.args.commands.now c.loop-command.command-index c.command-item.result _ inside c.command-item.is piece)
-    (c.in_err-put.ensures.err _ _ c.loop-command.invariant.0)))
+    rw (p.1, p.2) (subst (λ v. StopsIn (g.W.ByteOut.written c.args.writer.now) (g.W.ByteOut.written c.put.new.writer) v c.in_err-put.field-0.0.written)
+    (spell_around c.args.commands.now c.loop-command.command-index c.command-item.result _ inside c.command-item.is piece)
+    (c.in_err-put.ensures.err _ _ _ c.loop-command.invariant.0))
 
 pub returns-clause-ok : goal.returns-clause-ok
 returns-clause-ok g c =
@@ -37,4 +36,6 @@ returns-clause-ok g c =
 
 pub returns-clause-err : goal.returns-clause-err
 returns-clause-err g c =
-    IfErr-weaker c.flush.result _ _ (λ device stops. stops_in_front _ _ c.args.commands.now c.loop-command.command-index _ (stops _ _ c.loop-command.invariant.0)) c.flush.ensures.err
+    let all : length c.args.commands.now ≤ c.loop-command.command-index = omega arith in
+    IfErr-weaker c.flush.result _ _ (λ device stops. subst (λ v. StopsIn (g.W.ByteOut.written c.args.writer.now) (g.W.ByteOut.written c.flush.new.writer) v device.written)
+    (append-nil _ ∙ spell_all c.args.commands.now c.loop-command.command-index all) (stops _ _ [] c.loop-command.invariant.0)) c.flush.ensures.err

@@ -1,58 +1,43 @@
--- What is out, the text that waits and the text of the items that are left: `send` moves the text out, and
--- an item moves its own from the rest to the text.
-use Rattle.std.proofs.Common.{◌≡◌, ℕ, ◌+◌, ◌<◌, [], length, drop, arith, ◌∙◌, ap, length-append}
-use Rattle.arrayvec.specs.ArrayVec.{ArrayVec}
-use Rattle.escpos_paper.specs.ItemsText.{item_text, items_text}
-use Rattle.escpos_paper.proofs.Sent.{some_out, fewer_out, all_out, all_sent, item_joined, rest_out}
+use Rattle.std.proofs.Common.{◌≡◌, ◌<◌, ◌≤◌, [], length, arith, ◌∙◌, subst, append-nil}
+use Rattle.std.proofs.lemmas.Result.{err_from_is_err_and, IfErr-weaker, on_ok_weaker}
+use Rattle.std.specs.Io.KnownBytes.{Appends}
+use Rattle.escpos_command.specs.Gather.{Carries, StopsIn}
+use Rattle.escpos_paper.specs.ItemsText.{item_text}
+use Rattle.escpos_paper.proofs.Texts.{text_more, text_all, text_around}
 use Rattle.escpos_paper.proofs.write.write_items.Goals as goal
-use Rattle.escpos_paper.proofs.write.write_items.Goals.{then-len+in-Ok, else-len}
-
-pub returns-in-Err-clause-some : goal.returns-in-Err-clause-some
-returns-in-Err-clause-some g c =
-    some_out _ _ _ (items_text c.args.items.now) c.loop-item.sent c.loop-item.text.items (items_text (drop c.loop-item.item-index c.args.items.now))
-    c.in-Err.ensures.some.0 c.in-Err.device.written c.loop-item.invariant.whole c.loop-item.invariant.front c.in-Err.ensures.some.3 c.in-Err.ensures.some.2
-    c.in-Err.ensures.some.1
-
-pub returns-in-Err-clause-fewer : goal.returns-in-Err-clause-fewer
-returns-in-Err-clause-fewer g c =
-    fewer_out (items_text c.args.items.now) c.loop-item.sent c.loop-item.text.items (items_text (drop c.loop-item.item-index c.args.items.now))
-    c.in-Err.ensures.some.0 c.in-Err.device.written c.loop-item.invariant.whole c.in-Err.ensures.some.2 c.in-Err.ensures.some.1
-
-pub returns-clause-some : goal.returns-clause-some
-returns-clause-some g c =
-    rest_out _ _ _ _ (items_text c.args.items.now) c.loop-item.sent c.loop-item.text.items (items_text (drop c.loop-item.item-index c.args.items.now))
-    c.loop-item.invariant.whole c.loop-item.invariant.front c.send-2.ensures.some
 
 pub loop-item-preserved : goal.loop-item-preserved
 loop-item-preserved g c =
-    let items = c.args.items.now in
-    let i = c.loop-item.item-index in
-    let x = c.item-item.result in
-    let inside : i < length items = omega arith in
-    let grown : length c.push_item.new.text.items ≡ length c.if-len.text.items + length (item_text x) =
-    ap length c.push_item.ensures.pushed ∙ length-append c.if-len.text.items (item_text x) in
-    elim c.if-len.branch [
-      | then-len+in-Ok w ↦
-          let sent_is : c.if-len.sent ≡ c.loop-item.sent + length c.loop-item.text.items = w.sent-is ∙ w.in-Ok.ensures.counted in
-          let text_is : c.if-len.text.items ≡ [] = ap (λ (t : ArrayVec ℕ). t.items) w.text-is ∙ w.in-Ok.ensures.left in
-          record {
-            whole =
-                item_joined items i x c.if-len.sent c.if-len.text.items c.push_item.new.text.items inside c.item-item.is
-                (rw (sent_is, text_is) (all_sent (items_text items) c.loop-item.sent c.loop-item.text.items (items_text (drop i items)) c.loop-item.invariant.whole))
-                c.push_item.ensures.pushed;
-            front =
-                rw (sent_is, w.writer-is)
-                (all_out _ _ _ (items_text items) c.loop-item.sent c.loop-item.text.items (items_text (drop i items)) c.loop-item.invariant.whole
-                c.loop-item.invariant.front w.in-Ok.ensures.all);
-            bound = omega (arith, grown, ap length text_is);
-          }
-      | else-len w ↦
-          let text_is : c.if-len.text.items ≡ c.loop-item.text.items = ap (λ (t : ArrayVec ℕ). t.items) w.text-is in
-          record {
-            whole =
-                item_joined items i x c.if-len.sent c.if-len.text.items c.push_item.new.text.items inside c.item-item.is
-                (rw (w.sent-is, text_is) c.loop-item.invariant.whole) c.push_item.ensures.pushed;
-            front = rw (w.sent-is, w.writer-is) c.loop-item.invariant.front;
-            bound = omega (arith, grown, ap length text_is);
-          }
-    ]
+    let inside : c.loop-item.item-index < length c.args.items.now = omega arith in
+    let piece : c.as_slice.result.now ≡ item_text c.item-item.result = c.as_slice.ensures.value ∙ c.set_item.ensures.set in
+    let count = c.in_ok-put.ensures.counted in
+    let short = c.as_slice.ensures.fits in
+    let few = c.loop-item.invariant.short in
+    record {
+      carried =
+          subst (λ v. Carries (g.W.ByteOut.written c.args.writer.now) (g.W.ByteOut.written c.put.new.writer) c.put.new.self v)
+          (text_more c.args.items.now c.loop-item.item-index c.item-item.result _ inside c.item-item.is piece)
+          (c.in_ok-put.ensures.ok _ _ c.loop-item.invariant.carried);
+      short = omega (arith, count, short, few);
+    }
+
+pub returns-in_err-put-clause-err : goal.returns-in_err-put-clause-err
+returns-in_err-put-clause-err g c =
+    let inside : c.loop-item.item-index < length c.args.items.now = omega arith in
+    let piece : c.as_slice.result.now ≡ item_text c.item-item.result = c.as_slice.ensures.value ∙ c.set_item.ensures.set in
+    let p = err_from_is_err_and c.from_residual.result c.from_residual.ensures.1 in
+    rw (p.1, p.2) (subst (λ v. StopsIn (g.W.ByteOut.written c.args.writer.now) (g.W.ByteOut.written c.put.new.writer) v c.in_err-put.field-0.0.written)
+    (text_around c.args.items.now c.loop-item.item-index c.item-item.result _ inside c.item-item.is piece)
+    (c.in_err-put.ensures.err _ _ _ c.loop-item.invariant.carried))
+
+pub returns-clause-ok : goal.returns-clause-ok
+returns-clause-ok g c =
+    let all : length c.args.items.now ≤ c.loop-item.item-index = omega arith in
+    on_ok_weaker c.flush.result (λ out. subst (λ v. Appends (g.W.ByteOut.written c.args.writer.now) (g.W.ByteOut.written c.flush.new.writer) v)
+    (text_all c.args.items.now c.loop-item.item-index all) (out _ _ c.loop-item.invariant.carried)) c.flush.ensures.ok
+
+pub returns-clause-err : goal.returns-clause-err
+returns-clause-err g c =
+    let all : length c.args.items.now ≤ c.loop-item.item-index = omega arith in
+    IfErr-weaker c.flush.result _ _ (λ device stops. subst (λ v. StopsIn (g.W.ByteOut.written c.args.writer.now) (g.W.ByteOut.written c.flush.new.writer) v device.written)
+    (append-nil _ ∙ text_all c.args.items.now c.loop-item.item-index all) (stops _ _ [] c.loop-item.invariant.carried)) c.flush.ensures.err

@@ -8,4 +8,4 @@ returns-clause-ok g c =
 
 pub returns-clause-err : goal.returns-clause-err
 returns-clause-err g c =
-    IfErr-weaker c.empty.result _ _ (λ device s first total w. stops_at_end first _ _ c.args.self.now total device.written s w) c.empty.ensures.err
+    IfErr-weaker c.empty.result _ _ (λ device s first total more w. stops_at_end first _ _ c.args.self.now total more device.written s w) c.empty.ensures.err

@@ -11,4 +11,4 @@ returns-clause-counted g c = on_ok_weaker c.hand_on.result (λ h. count_on _ _ c
 
 pub returns-clause-err : goal.returns-clause-err
 returns-clause-err g c =
-    IfErr-weaker c.hand_on.result _ _ (λ device s first total w. stops_at_piece first _ _ c.args.self.now total c.args.bytes.now device.written s w) c.hand_on.ensures.err
+    IfErr-weaker c.hand_on.result _ _ (λ device s first total more w. stops_at_piece first _ _ c.args.self.now total c.args.bytes.now more device.written s w) c.hand_on.ensures.err
