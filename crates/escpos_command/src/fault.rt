@@ -39,6 +39,12 @@ impl FaultReason {
 }
 
 impl fmt::Display for FaultReason {
+    ghost use Rattle.std.specs.Prelude.{Some, ◌++◌, ◌∷◌, decimal};
+    ghost use Rattle.escpos_command.specs.Places.{number_of, name_of};
+
+    // The number and the name, with a space between.
+    ghost output = { λ why. Some (decimal (number_of why) ++ 0x20 ∷ name_of why) };
+
     fn fmt<W: fmt::Write>(&self, f: &mut fmt::Formatter<W>) -> fmt::Result {
         write!(f, "{} {}", self.number(), self.name())
     }
