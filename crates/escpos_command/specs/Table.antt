@@ -3,7 +3,7 @@
 -- Each kind has one line in each definition. The bytes are those of the ESC/POS Command Reference, with
 -- the parameters as sent in their places.
 use Rattle.std.specs.Prelude.{ℕ, ◌≡◌, List, [], ◌∷◌, ◌++◌, IsTrue, option_to_list}
-use Rattle.std.specs.List.{flat_map}
+use Rattle.std.specs.List.{flat_map, AllByRecursion}
 use Rattle.escpos_command.specs.declared.bytes.TheConstants.{LF, CR, DLE, ESC, GS, EOT}
 use Rattle.escpos_command.specs.declared.command.Command.{Command}
 use Rattle.escpos_command.specs.declared.command.Command.TheVariants.{Char, LineFeed, Return, Init, Mode, Emphasis, Underline, Font, Table, Align, FeedLines, Size, BarHeight, BarWidth, HriPlace, HriFont, Cut, Status, Mark}
@@ -30,6 +30,10 @@ IsCommand (HriFont n) = IsTrue (is_one_of_two n)
 IsCommand (Cut cut) = IsTrue (is_cut cut.0 cut.1)
 IsCommand (Status n) = IsTrue (is_status_kind n)
 IsCommand (Mark id) = IsTrue (is_mark_id id)
+
+-- All of these are commands.
+abbrev pub AreCommands : List Command → Type 0
+AreCommands cs = AllByRecursion IsCommand cs
 
 -- The row of the table, with the parameters put in.
 abbrev pub row : Command → List ℕ

@@ -1,14 +1,16 @@
 //! The laws of the grammar. Each is a function that does nothing and whose contract is the law, so that
-//! the law is proved with the crate and another crate can cite it by calling the function.
+//! the law is proved with the crate and another crate can cite it by calling the function. (`in_range` looks
+//! at the parameter, since its range is known where it is looked at.)
 
 ghost use Rattle.std.specs.Prelude.{ℕ, ◌≡◌, ◌+◌, ◌<◌, ◌≤◌, ◌⊎◌, List, [], ◌++◌, length, IsTrue};
-ghost use Rattle.escpos_command.specs.declared.command.Command.{Command};
 ghost use Rattle.escpos_command.specs.declared.fault.FaultReason.{FaultReason};
 ghost use Rattle.escpos_command.specs.Table.{Spells, IsCommand, row, spell};
 ghost use Rattle.escpos_command.specs.Grammar.{Viable, Half, Reads, FaultAt};
 ghost use Rattle.escpos_command.specs.Parameters.{is_mark_id};
 ghost use Rattle.escpos_command.specs.Digits.{mark_count, mark_of};
 ghost use Rattle.escpos_command.specs.Laws.{longest_spelling, IsRead, IsRefused};
+
+use crate::command::Command;
 
 /// Unique spellings: each command has one spelling, of at most 11 bytes; two commands with one spelling
 /// are equal; no spelling begins another.
@@ -45,3 +47,28 @@ pub fn mark_numbers()
     ensures ids { (n : ℕ) → n < mark_count → IsTrue (is_mark_id (mark_of n)) }
     ensures one_number { (m n : ℕ) → m < mark_count → n < mark_count → mark_of m ≡ mark_of n → m ≡ n }
 {}
+
+/// Commands are in range: the parameters of a value of `Command` are those that the command table allows.
+pub fn in_range(command: &Command)
+    ensures { IsCommand command.now }
+{
+    let _byte = match command {
+        Command::LineFeed | Command::Return | Command::Init => 0,
+        Command::Char(character) => character.byte(),
+        Command::Mode(mode) => mode.byte(),
+        Command::Emphasis(emphasis) => emphasis.byte(),
+        Command::Underline(underline) => underline.byte(),
+        Command::Font(font) => font.byte(),
+        Command::Table(table) => table.byte(),
+        Command::Align(align) => align.byte(),
+        Command::FeedLines(feed) => feed.byte(),
+        Command::Size(size) => size.byte(),
+        Command::BarHeight(height) => height.byte(),
+        Command::BarWidth(width) => width.byte(),
+        Command::HriPlace(place) => place.byte(),
+        Command::HriFont(font) => font.byte(),
+        Command::Cut(cut) => cut.mode(),
+        Command::Status(kind) => kind.byte(),
+        Command::Mark(id) => id.bytes()[0],
+    };
+}

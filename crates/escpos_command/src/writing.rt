@@ -10,13 +10,14 @@ use crate::device::{ByteOut, Device, Gather};
 
 /// Puts the spellings of `commands`, one behind another, into `writer`. Takes no memory.
 ///
-/// On `Err` the writer has failed, and exactly the first `written` bytes of the spellings are out, fewer
-/// than there are.
+/// On `Ok` the writer has not failed, unless it had before. On `Err` it has failed, and exactly the first
+/// `written` bytes of the spellings are out, fewer than there are.
 pub fn write_commands<W: ByteOut>(commands: &[Command], writer: &mut W) -> Result<(), Device>
     ensures ok { OnOk result (Appends (W.written writer.old) (W.written writer.new) (spell commands.now)) }
     ensures err { IfErr result (λ device.
         StopsIn (W.written writer.old) (W.written writer.new) (spell commands.now) device.written) }
     ensures failed { IfErr result (λ _. IsTrue (W.failed writer.new)) }
+    ensures not_failed { OnOk result (¬ IsTrue (W.failed writer.old) → ¬ IsTrue (W.failed writer.new)) }
 {
     let mut gather = Gather::new();
     for command in commands {

@@ -55,6 +55,7 @@ impl Gather {
             Carries first (W.written writer.old) self.old total →
             StopsIn first (W.written writer.new) (total ++ bytes.now ++ more) device.written) }
         ensures failed { IfErr result (λ _. IsTrue (W.failed writer.new)) }
+        ensures not_failed { OnOk result (¬ IsTrue (W.failed writer.old) → ¬ IsTrue (W.failed writer.new)) }
     {
         self.hand_on(bytes, writer)
     }
@@ -71,6 +72,7 @@ impl Gather {
         ensures err { IfErr result (λ device. (first : Option (List ℕ)) (total more : List ℕ) →
             Carries first (W.written writer.old) self.old total → StopsIn first (W.written writer.new) (total ++ more) device.written) }
         ensures failed { IfErr result (λ _. IsTrue (W.failed writer.new)) }
+        ensures not_failed { OnOk result (¬ IsTrue (W.failed writer.old) → ¬ IsTrue (W.failed writer.new)) }
     {
         self.empty(writer)
     }
@@ -82,6 +84,7 @@ impl Gather {
         ensures err { IfErr result (λ device.
             StopsWithin (W.written writer.old) (W.written writer.new) self.old (self.old.0 ++ bytes.now) device.written) }
         ensures failed { IfErr result (λ _. IsTrue (W.failed writer.new)) }
+        ensures not_failed { OnOk result (¬ IsTrue (W.failed writer.old) → ¬ IsTrue (W.failed writer.new)) }
     {
         if bytes.len() <= self.piece.remaining_capacity() {
             self.piece.try_extend_from_slice(bytes).unwrap();
@@ -111,6 +114,7 @@ impl Gather {
         ensures err { IfErr result (λ device.
             StopsWithin (W.written writer.old) (W.written writer.new) self.old self.old.0 device.written) }
         ensures failed { IfErr result (λ _. IsTrue (W.failed writer.new)) }
+        ensures not_failed { OnOk result (¬ IsTrue (W.failed writer.old) → ¬ IsTrue (W.failed writer.new)) }
     {
         match put_all(self.piece.as_slice(), writer) {
             Ok(()) => {
