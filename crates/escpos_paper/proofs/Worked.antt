@@ -13,6 +13,7 @@ use Rattle.escpos_paper.specs.ItemsText.{items_text}
 use Rattle.escpos_paper.proofs.AllCuts.{rows_filled}
 use Rattle.std.specs.Prelude.{codes}
 use Rattle.std.specs.Fmt.{digits}
+use Rattle.hex.specs.Hex.{encode_with}
 
 -- Init, H, i, LF, a cut
 five_commands : printed (Init ∷ Char 0x48 ∷ Char 0x69 ∷ LineFeed ∷ Cut (0, None) ∷ [])
@@ -80,5 +81,5 @@ mode_text = refl
 
 cut_text : items_text (printed (Char 0x5C ∷ Char 0xE9 ∷ Cut (0x41, Some 5) ∷ []))
     ≡ codes "row left " ++ 0x5C ∷ codes "5c" ++ 0x5C ∷ codes "e9" ++ 10 ∷ [] ++ codes "feed 1" ++ 10 ∷ [] ++ codes "cut full 5" ++ 10 ∷ []
-unfolding digits
+unfolding digits encode_with
 cut_text = refl

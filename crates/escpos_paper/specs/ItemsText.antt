@@ -1,5 +1,6 @@
 -- The paper as text: one line for each item.
-use Rattle.std.specs.Prelude.{ℕ, ◌+◌, ◌-◌, ◌/◌, ◌%◌, ◌==◌, ◌&&◌, nat_le, nat_lt, not, Bool, true, false, List, [], ◌∷◌, ◌++◌, Option, None, Some, flat_map, codes, decimal, if◌then◌else◌}
+use Rattle.hex.specs.Hex.{encode_lower}
+use Rattle.std.specs.Prelude.{ℕ, ◌==◌, ◌&&◌, nat_le, not, Bool, List, [], ◌∷◌, ◌++◌, Option, None, Some, flat_map, codes, decimal, if◌then◌else◌}
 use Rattle.escpos_command.specs.declared.bytes.TheConstants.{LF}
 use Rattle.escpos_command.specs.declared.parameter.choices.FontFace.{FontFace}
 use Rattle.escpos_command.specs.declared.parameter.choices.FontFace.TheVariants.{A, B}
@@ -9,18 +10,15 @@ use Rattle.escpos_paper.specs.declared.cell.Cell.{Cell}
 use Rattle.escpos_paper.specs.declared.style.Style.{Style}
 use Rattle.escpos_paper.specs.declared.item.Item.{Item}
 use Rattle.escpos_paper.specs.declared.item.Item.TheVariants.{Row, Feed, Cut}
-use Rattle.escpos_paper.specs.Styles.{power_on}
+use Rattle.escpos_paper.specs.Styles.{power_on, same_style}
 use Rattle.escpos_paper.specs.Cells.{cell_style}
 
 -- A byte 20 to 7E hexadecimal other than [ and \ is itself; any other is \ and two hexadecimal digits.
 abbrev pub is_plain : ℕ → Bool
 is_plain b = nat_le 0x20 b && nat_le b 0x7E && not (b == 0x5B) && not (b == 0x5C)
 
-abbrev pub hexadecimal_digit : ℕ → ℕ
-hexadecimal_digit d = if nat_lt d 10 then 0x30 + d else 0x61 + (d - 10)
-
 abbrev pub byte_text : ℕ → List ℕ
-byte_text b = if is_plain b then b ∷ [] else 0x5C ∷ hexadecimal_digit (b / 16) ∷ hexadecimal_digit (b % 16) ∷ []
+byte_text b = if is_plain b then b ∷ [] else 0x5C ∷ encode_lower (b ∷ [])
 
 -- A style: [F,W,H,B,U,T] with the font A or B, width, height, emphasis as 1 or 0, underline and table.
 abbrev pub face_name : FontFace → List ℕ
@@ -34,21 +32,6 @@ abbrev pub style_text : Style → List ℕ
 style_text s =
     codes "[" ++ face_name s.font ++ codes "," ++ decimal s.width ++ codes "," ++ decimal s.height ++ codes "," ++ bold_text s.bold
     ++ codes "," ++ decimal s.underline ++ codes "," ++ decimal s.table ++ codes "]"
-
-abbrev pub same_face : FontFace → FontFace → Bool
-same_face A A = true
-same_face A B = false
-same_face B A = false
-same_face B B = true
-
-abbrev pub same_flag : Bool → Bool → Bool
-same_flag true b = b
-same_flag false b = not b
-
-abbrev pub same_style : Style → Style → Bool
-same_style s t =
-    s.table == t.table && same_face s.font t.font && s.width == t.width && s.height == t.height && same_flag s.bold t.bold
-    && s.underline == t.underline
 
 -- A cell behind one of the style `before`: its style, where that differs, and its byte.
 abbrev pub cell_text : Style → Cell → List ℕ

@@ -1,6 +1,7 @@
 -- What a page is seen as, and which commands it stands for.
-use Rattle.std.specs.Prelude.{◌≡◌, Bool, List, ◌++◌}
+use Rattle.std.specs.Prelude.{ℕ, ◌≡◌, List, ◌++◌}
 use Rattle.escpos_command.specs.declared.command.Command.{Command}
+use Rattle.escpos_command.specs.Table.{AreCommands}
 use Rattle.escpos_command.specs.declared.parameter.choices.Alignment.{Alignment}
 use Rattle.escpos_paper.specs.declared.cell.Cell.{Cell}
 use Rattle.escpos_paper.specs.declared.item.Item.{Item}
@@ -16,12 +17,12 @@ pub record Sheet : Type 0 where
   pub alignment : Alignment
   pub line : List Cell
 
--- A page: its sheet, and beside it whether there is room for what any one command prints.
+-- A page: its sheet, and beside it for how many more items there is room.
 pub record Seen : Type 0 where
   pub sheet : Sheet
-  pub has_room : Bool
+  pub room : ℕ
 
--- The page is what the commands leave on paper that held the items `kept`, from power-on styles and an
+-- The page is what these commands leave on paper that held the items `kept`, from power-on styles and an
 -- empty line.
 abbrev pub PageIs : Seen → List Item → List Command → Type 0
 PageIs page kept cs = page.sheet ≡ record {
@@ -30,3 +31,10 @@ PageIs page kept cs = page.sheet ≡ record {
   alignment = alignment cs;
   line = line cs;
 }
+
+-- The page is what some commands leave, on paper that held some items.
+pub record IsReached (page : Seen) : Type 0 where
+  pub kept : List Item
+  pub commands : List Command
+  pub in_range : AreCommands commands
+  pub page_is : PageIs page kept commands

@@ -1,7 +1,7 @@
 -- What commands print.
 use Rattle.std.specs.Prelude.{nat_lt, List, [], ◌∷◌, ◌++◌, length, if◌then◌else◌}
 use Rattle.escpos_command.specs.declared.command.Command.{Command}
-use Rattle.escpos_command.specs.declared.command.Command.TheVariants.{Char, LineFeed, FeedLines, Cut}
+use Rattle.escpos_command.specs.declared.command.Command.TheVariants.{Char, LineFeed, Return, Init, Mode, Emphasis, Underline, Font, Table, Align, FeedLines, Size, BarHeight, BarWidth, HriPlace, HriFont, Cut, Status, Mark}
 use Rattle.escpos_command.specs.declared.parameter.choices.Alignment.{Alignment}
 use Rattle.escpos_command.specs.Meanings.{leaves_a_point}
 use Rattle.escpos_paper.specs.declared.cell.Cell.{Cell}
@@ -29,7 +29,21 @@ prints before (Char b) =
 prints before LineFeed = row_of (alignment before) (line before) ++ Feed 1 ∷ []
 prints before (FeedLines n) = row_of (alignment before) (line before) ++ Feed n ∷ []
 prints before (Cut cut) = row_and_feed (alignment before) (line before) ++ Cutting (leaves_a_point cut.0) cut.1 ∷ []
-prints before _ = []
+prints before Return = []
+prints before Init = []
+prints before (Mode n) = []
+prints before (Emphasis n) = []
+prints before (Underline n) = []
+prints before (Font n) = []
+prints before (Table n) = []
+prints before (Align n) = []
+prints before (Size n) = []
+prints before (BarHeight n) = []
+prints before (BarWidth n) = []
+prints before (HriPlace n) = []
+prints before (HriFont n) = []
+prints before (Status n) = []
+prints before (Mark id) = []
 
 -- What a list of commands prints: at each place, what the command there prints behind those before it.
 abbrev pub printed : List Command → List Item

@@ -1,12 +1,12 @@
 -- The styles behind a list of commands: for each attribute the last command that sets it decides, looked
 -- for in the list behind its last Init, and if there is none the power-on value. (Reference: ESC !, ESC -,
 -- ESC E, ESC M, ESC a, ESC t, GS !, ESC @.)
-use Rattle.std.specs.Prelude.{ℕ, ◌&&◌, not, Bool, true, false, List, [], ◌∷◌, ◌++◌, Option, None, Some, filter_map, if◌then◌else◌}
+use Rattle.std.specs.Prelude.{ℕ, ◌==◌, ◌&&◌, not, Bool, true, false, List, [], ◌∷◌, ◌++◌, Option, None, Some, filter_map, if◌then◌else◌}
 use Rattle.std.specs.List.{list_any}
 use Rattle.escpos_command.specs.declared.command.Command.{Command}
 use Rattle.escpos_command.specs.declared.command.Command.TheVariants.{Init, Mode, Emphasis, Underline, Font, Table, Align, Size}
 use Rattle.escpos_command.specs.declared.parameter.choices.FontFace.{FontFace}
-use Rattle.escpos_command.specs.declared.parameter.choices.FontFace.TheVariants.{A}
+use Rattle.escpos_command.specs.declared.parameter.choices.FontFace.TheVariants.{A, B}
 use Rattle.escpos_command.specs.declared.parameter.choices.Alignment.{Alignment}
 use Rattle.escpos_command.specs.declared.parameter.choices.Alignment.TheVariants.{Left}
 use Rattle.escpos_command.specs.Meanings.{has_bit, choice, face_of, alignment_of, face_of_mode, magnified, underline_of_mode, size_width, size_height}
@@ -69,6 +69,22 @@ decided sets power_on cs = last_or power_on (filter_map sets (behind_init cs))
 -- The style of a printer just switched on.
 abbrev pub power_on : Style
 power_on = record { table = 0; font = A; width = 1; height = 1; bold = false; underline = 0 }
+
+-- Whether two styles are one.
+abbrev pub same_face : FontFace → FontFace → Bool
+same_face A A = true
+same_face A B = false
+same_face B A = false
+same_face B B = true
+
+abbrev pub same_flag : Bool → Bool → Bool
+same_flag true b = b
+same_flag false b = not b
+
+abbrev pub same_style : Style → Style → Bool
+same_style s t =
+    s.table == t.table && same_face s.font t.font && s.width == t.width && s.height == t.height && same_flag s.bold t.bold
+    && s.underline == t.underline
 
 -- The style that a character behind the commands gets.
 abbrev pub style : List Command → Style

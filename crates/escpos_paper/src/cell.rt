@@ -69,7 +69,7 @@ fn face_dots(face: FontFace) -> usize
 impl Default for Cell {
     ghost is_default = { λ cell. cell ≡ styled power_on 0x20 };
 
-    // A space as a printer just switched on prints it.
+    // A space as a printer just switched on prints it. `ArrayVec` wants some cell for its empty places.
     fn default() -> Self {
         Style::power_on().cell(b' ')
     }

@@ -20,5 +20,6 @@ pub mod write;
 pub use cell::{Cell, Cells, LINE_CELLS, LINE_DOTS};
 pub use item::Item;
 pub use page::Page;
+pub use paper::MOST_ITEMS;
 pub use style::Style;
 pub use write::write_items;

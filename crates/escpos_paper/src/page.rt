@@ -4,16 +4,16 @@
 //! line; that these are what the definitions find by looking back in the whole list of commands is the
 //! invariant of its type.
 
-ghost use Rattle.std.specs.Prelude.{◌≡◌, IsTrue, IsOk, IfErr, OnOk, OnErr, true, List, [], ◌∷◌, ◌++◌};
+ghost use Rattle.std.specs.Prelude.{◌≡◌, ◌≤◌, nat_le, IsOk, IfErr, OnOk, OnErr, List, [], ◌∷◌, ◌++◌};
 ghost use Rattle.escpos_command.specs.declared.command.Command.{Command};
 ghost use Rattle.escpos_paper.specs.declared.item.Item.{Item};
-ghost use Rattle.escpos_paper.specs.Page.{PageIs};
+ghost use Rattle.escpos_paper.specs.Page.{PageIs, IsReached};
 
 use crate::item::Item;
 use crate::line::Line;
-use crate::paper::{MOST_ITEMS, run};
+use crate::paper::{MOST_ITEMS, carry_out};
 use crate::style::{Style, alignment_behind};
-use escpos_command::{Alignment, Command};
+use escpos_command::{Alignment, Command, laws};
 use std::alloc::{AllocError, Global};
 use std::marker::Model;
 
@@ -27,23 +27,20 @@ pub struct Page {
 }
 
 impl Model for Page {
-    ghost use Rattle.std.specs.Prelude.{List, nat_le, ◌+◌, vec_len, vec_capacity};
-    ghost use Rattle.escpos_command.specs.declared.command.Command.{Command};
-    ghost use Rattle.escpos_paper.specs.declared.item.Item.{Item};
-    ghost use Rattle.escpos_paper.specs.declared.paper.TheConstants.{MOST_ITEMS};
-    ghost use Rattle.escpos_paper.specs.Page.{Seen, PageIs};
+    ghost use Rattle.std.specs.Prelude.{◌-◌, vec_len, vec_capacity};
+    ghost use Rattle.escpos_paper.specs.Page.{Seen, IsReached};
 
     ghost Value = { Seen };
 
     ghost view = { λ p. record {
       sheet = record { items = p.items.items; style = p.style; alignment = p.align; line = p.line };
-      has_room = nat_le (vec_len p.items + MOST_ITEMS) (vec_capacity p.items);
+      room = vec_capacity p.items - vec_len p.items;
     } };
 
-    ghost invariant = { λ p. (kept : List Item) × (cs : List Command) × PageIs (record {
+    ghost invariant = { λ p. IsReached (record {
       sheet = record { items = p.items.items; style = p.style; alignment = p.align; line = p.line };
-      has_room = nat_le (vec_len p.items + MOST_ITEMS) (vec_capacity p.items);
-    }) kept cs };
+      room = vec_capacity p.items - vec_len p.items;
+    }) };
 }
 
 impl Page {
@@ -59,20 +56,20 @@ impl Page {
         }
     }
 
-    /// Makes room for any one command. The error is want of memory.
+    /// Makes room for the items of any one command. The error is want of memory.
     ///
     /// Items, styles and line stay as they are, whatever the answer.
     pub fn ready(&mut self) -> Result<(), AllocError>
         ensures same { self.new.sheet ≡ self.old.sheet }
-        ensures room { OnOk result (IsTrue self.new.has_room) }
-        ensures kept_room { IsTrue self.old.has_room → IsOk result }
+        ensures room { OnOk result (MOST_ITEMS ≤ self.new.room) }
+        ensures no_memory { MOST_ITEMS ≤ self.old.room → IsOk result }
     {
         self.items.reserve(MOST_ITEMS)
     }
 
     /// Whether there is room for any one command. Takes no memory.
     pub fn has_room(&self) -> bool
-        ensures { result ≡ self.now.has_room }
+        ensures { result ≡ nat_le MOST_ITEMS self.now.room }
     {
         self.items.capacity() - self.items.len() >= MOST_ITEMS
     }
@@ -84,15 +81,15 @@ impl Page {
             PageIs self.old kept cs → PageIs self.new kept (cs ++ command ∷ [])) }
         ensures same { OnErr result (self.new.sheet ≡ self.old.sheet) }
         ensures given_back { IfErr result (λ back. back ≡ command) }
-        ensures no_memory { IsTrue self.old.has_room → IsOk result }
+        ensures no_memory { MOST_ITEMS ≤ self.old.room → IsOk result }
     {
-        let items = &mut self.items;
-        if items.reserve(MOST_ITEMS).is_err() {
+        laws::in_range(&command);
+        if self.ready().is_err() {
             return Err(command);
         }
         let style = self.style.behind(&command);
         let align = alignment_behind(self.line.is_empty(), self.align, &command);
-        run(
+        carry_out(
             &mut self.items,
             &mut self.line,
             self.align,
@@ -107,7 +104,7 @@ impl Page {
     /// What stands on paper, from top to bottom.
     pub fn items(&self) -> &[Item]
         ensures items { result.now ≡ self.now.sheet.items }
-        ensures reached { (kept : List Item) × (cs : List Command) × PageIs self.now kept cs }
+        ensures reached { IsReached self.now }
     {
         self.items.as_slice()
     }
@@ -116,7 +113,7 @@ impl Page {
     /// Takes no memory.
     pub fn restart(&mut self)
         ensures forgotten { PageIs self.new self.old.sheet.items [] }
-        ensures same_room { self.new.has_room ≡ self.old.has_room }
+        ensures same_room { self.new.room ≡ self.old.room }
     {
         self.style = Style::power_on();
         self.align = Alignment::Left;

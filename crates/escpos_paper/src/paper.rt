@@ -1,9 +1,11 @@
 //! What one command prints and leaves of the line. The page makes room first, so nothing here can fail.
 
-ghost use Rattle.std.specs.Prelude.{◌≡◌, ◌+◌, ◌≤◌, [], ◌∷◌, ◌++◌, vec_len, vec_capacity};
+ghost use Rattle.std.specs.Prelude.{◌≡◌, ◌+◌, ◌≤◌, [], ◌∷◌, ◌++◌, if◌then◌else◌, vec_len, vec_capacity};
 ghost use Rattle.escpos_paper.specs.Printed.{row_of, row_and_feed};
-ghost use Rattle.escpos_paper.specs.Steps.{step_prints, line_behind};
+ghost use Rattle.escpos_paper.specs.Rows.{fits};
+ghost use Rattle.escpos_paper.specs.Steps.{step_prints, line_behind, with_cell};
 
+use crate::cell::Cell;
 use crate::item::Item;
 use crate::line::Line;
 use crate::style::Style;
@@ -13,7 +15,7 @@ use escpos_command::{Alignment, Command};
 pub const MOST_ITEMS: usize = 3;
 
 /// Carries out a command but for the styles that it sets.
-pub fn run(
+pub fn carry_out(
     items: &mut Vec<Item>,
     line: &mut Line,
     align: Alignment,
@@ -27,13 +29,7 @@ pub fn run(
     ensures left { line.new ≡ line_behind style line.old command.now }
 {
     match command {
-        Command::Char(character) => {
-            let cell = style.cell(character.byte());
-            if !line.has_room_for(&cell) {
-                end_line(items, line, align);
-            }
-            line.push(cell);
-        }
+        Command::Char(character) => put_cell(items, line, align, style.cell(character.byte())),
         Command::LineFeed => {
             print_line(items, line, align);
             items.push_reserved(Item::Feed(1));
@@ -65,6 +61,21 @@ pub fn run(
         | Command::Status(_)
         | Command::Mark(_) => {}
     }
+}
+
+// Puts a cell into the line, and ends the line before it where it doesn't fit.
+fn put_cell(items: &mut Vec<Item>, line: &mut Line, align: Alignment, cell: Cell)
+    requires room { vec_len items.old + 2 ≤ vec_capacity items.old }
+    requires visible { 1 ≤ cell.width }
+    requires narrow { cell.width ≤ 8 }
+    ensures printed { items.new.items ≡ items.old.items
+        ++ (if fits (line.old ++ cell ∷ []) then [] else row_and_feed align line.old) }
+    ensures left { line.new ≡ with_cell line.old cell }
+{
+    if !line.has_room_for(&cell) {
+        end_line(items, line, align);
+    }
+    line.push(cell);
 }
 
 // Prints the line as a row, if it has a cell.

@@ -1,13 +1,13 @@
 //! The styles that the next character gets.
 
-ghost use Rattle.std.specs.Prelude.{◌≡◌};
-ghost use Rattle.escpos_paper.specs.Styles.{power_on};
+ghost use Rattle.std.specs.Prelude.{◌≡◌, ◌↔◌, IsTrue};
+ghost use Rattle.escpos_command.specs.declared.command.Command.TheVariants as kind;
+ghost use Rattle.escpos_paper.specs.Styles.{power_on, same_style, same_face};
 ghost use Rattle.escpos_paper.specs.Cells.{styled};
-ghost use Rattle.escpos_paper.specs.ItemsText.{same_style, same_face};
 ghost use Rattle.escpos_paper.specs.Steps.{style_behind, alignment_behind};
 
 use crate::cell::Cell;
-use escpos_command::{Alignment, Command, FontFace};
+use escpos_command::{Alignment, Command, FontFace, Mode};
 
 /// How a character is printed.
 #[derive(Clone, Copy, Debug, PartialEq, Eq)]
@@ -56,7 +56,8 @@ impl Style {
 
     /// Whether the two styles are one.
     pub fn is_same(&self, other: &Style) -> bool
-        ensures { result ≡ same_style self.now other.now }
+        ensures value { result ≡ same_style self.now other.now }
+        ensures same { IsTrue result ↔ (self.now ≡ other.now) }
     {
         self.table == other.table
             && is_same_face(self.font, other.font)
@@ -66,20 +67,27 @@ impl Style {
             && self.underline == other.underline
     }
 
+    // The style behind ESC !, which sets all but the table.
+    fn in_mode(self, mode: Mode) -> Self
+        ensures { result ≡ style_behind self (kind.Mode mode) }
+    {
+        Style {
+            table: self.table,
+            font: mode.face(),
+            width: mode.width(),
+            height: mode.height(),
+            bold: mode.is_emphasised(),
+            underline: mode.underline(),
+        }
+    }
+
     // The style behind a command.
     pub(crate) fn behind(self, command: &Command) -> Self
         ensures { result ≡ style_behind self command.now }
     {
         match command {
             Command::Init => Style::power_on(),
-            Command::Mode(mode) => Style {
-                table: self.table,
-                font: mode.face(),
-                width: mode.width(),
-                height: mode.height(),
-                bold: mode.is_emphasised(),
-                underline: mode.underline(),
-            },
+            Command::Mode(mode) => self.in_mode(*mode),
             Command::Size(size) => Style {
                 width: size.width(),
                 height: size.height(),

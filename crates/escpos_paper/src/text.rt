@@ -1,11 +1,12 @@
 //! The text of a single item, put together in a buffer that takes no memory.
 //!
-//! Each function here appends to the buffer and says how much at most; `write` sends the buffer off.
+//! `set_item` fills the buffer; each other function appends to it and says how much at most. `write` sends
+//! the buffer off.
 
 ghost use Rattle.std.specs.Prelude.{◌≡◌, ◌+◌, ◌*◌, ◌≤◌, ◌<◌, [], ◌∷◌, ◌++◌, length, decimal, Bool};
 ghost use Rattle.arrayvec.specs.ArrayVec.{array_vec_len};
 ghost use Rattle.escpos_paper.specs.Styles.{power_on};
-ghost use Rattle.escpos_paper.specs.ItemsText.{byte_text, hexadecimal_digit, style_text, face_name, bold_text, cell_text, cells_text, align_name, words, item_text};
+ghost use Rattle.escpos_paper.specs.ItemsText.{byte_text, style_text, face_name, bold_text, cell_text, cells_text, align_name, words, item_text};
 
 use crate::cell::{Cell, Cells};
 use crate::item::Item;
@@ -30,7 +31,7 @@ pub fn set_item(text: &mut Text, item: &Item)
     text.push(LF);
 }
 
-// Appends the line of an item without its end.
+// The line of an item without its end, in an empty buffer.
 fn push_words(text: &mut Text, item: &Item)
     requires { text.old.items ≡ [] }
     ensures pushed { text.new.items ≡ words item.now }
@@ -142,25 +143,9 @@ fn push_byte(text: &mut Text, byte: u8)
     if matches!(byte, 0x20..=0x7E) && byte != b'[' && byte != b'\\' {
         text.push(byte);
     } else {
-        push(
-            text,
-            &[
-                b'\\',
-                hexadecimal_digit(byte / 16),
-                hexadecimal_digit(byte % 16),
-            ],
-        );
-    }
-}
-
-fn hexadecimal_digit(digit: u8) -> u8
-    requires { digit < 16 }
-    ensures { result ≡ hexadecimal_digit digit }
-{
-    if digit < 10 {
-        b'0' + digit
-    } else {
-        b'a' + (digit - 10)
+        let mut escaped = [b'\\'; 3];
+        hex::encode_to_slice([byte], &mut escaped[1..]).unwrap();
+        push(text, &escaped);
     }
 }
 

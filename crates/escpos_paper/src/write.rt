@@ -17,13 +17,14 @@ use escpos_command::{ByteOut, Device, Gather};
 /// that of the cell before it, or for the first cell the power-on style, stands `[F,W,H,B,U,T]`: font,
 /// width, height, emphasis, underline and table.
 ///
-/// On `Err` the writer has failed, and exactly the first `written` bytes of that text are out, fewer than
-/// there are.
+/// On `Ok` the writer has not failed, unless it had before. On `Err` it has failed, and exactly the first
+/// `written` bytes of that text are out, fewer than there are.
 pub fn write_items<W: ByteOut>(items: &[Item], writer: &mut W) -> Result<(), Device>
     ensures ok { OnOk result (Appends (W.written writer.old) (W.written writer.new) (items_text items.now)) }
     ensures err { IfErr result (λ device.
         StopsIn (W.written writer.old) (W.written writer.new) (items_text items.now) device.written) }
     ensures failed { IfErr result (λ _. IsTrue (W.failed writer.new)) }
+    ensures not_failed { OnOk result (¬ IsTrue (W.failed writer.old) → ¬ IsTrue (W.failed writer.new)) }
 {
     let mut text = Text::new();
     let mut gather = Gather::new();

@@ -19,6 +19,7 @@ loop-item-preserved g c =
           (text_more c.args.items.now c.loop-item.item-index c.item-item.result _ inside c.item-item.is piece)
           (c.in_ok-put.ensures.ok _ _ c.loop-item.invariant.carried);
       short = omega (arith, count, short, few);
+      not_failed = λ well. c.in_ok-put.ensures.not_failed (c.loop-item.invariant.not_failed well);
     }
 
 pub returns-in_err-put-clause-err : goal.returns-in_err-put-clause-err
@@ -41,3 +42,7 @@ returns-clause-err g c =
     let all : length c.args.items.now ≤ c.loop-item.item-index = omega arith in
     IfErr-weaker c.flush.result _ _ (λ device stops. subst (λ v. StopsIn (g.W.ByteOut.written c.args.writer.now) (g.W.ByteOut.written c.flush.new.writer) v device.written)
     (append-nil _ ∙ text_all c.args.items.now c.loop-item.item-index all) (stops _ _ [] c.loop-item.invariant.carried)) c.flush.ensures.err
+
+pub returns-clause-not_failed : goal.returns-clause-not_failed
+returns-clause-not_failed g c =
+    on_ok_weaker c.flush.result (λ h well. h (c.loop-item.invariant.not_failed well)) c.flush.ensures.not_failed

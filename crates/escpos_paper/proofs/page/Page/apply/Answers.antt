@@ -3,6 +3,7 @@ use Rattle.std.proofs.Common.{◌≡◌, List, [], ◌∷◌, ◌++◌, ap, sym,
 use Rattle.escpos_paper.specs.declared.item.Item.{Item}
 use Rattle.escpos_paper.specs.declared.style.Style.{Style}
 use Rattle.escpos_command.specs.declared.command.Command.{Command}
+use Rattle.escpos_command.specs.Table.{IsCommand, AreCommands}
 use Rattle.escpos_paper.specs.Page.{Sheet, Seen}
 use Rattle.escpos_paper.proofs.Sheets.{sheet_of, sheet_step}
 use Rattle.escpos_paper.proofs.Widths.{IsWidth, width_in_range}
@@ -12,25 +13,31 @@ use Rattle.escpos_paper.proofs.page.Page.apply.Goals as goal
 width_of : (s : Style) (sheet : Sheet) (kept : List Item) (cs : List Command) → sheet.style ≡ s → sheet ≡ sheet_of kept cs → IsWidth s.width
 width_of s sheet kept cs e is = subst (λ (t : Style). IsWidth t.width) (sym (ap (λ (t : Sheet). t.style) is) ∙ e) (width_in_range cs)
 
-pub run-requires-clause-visible : goal.run-requires-clause-visible
-run-requires-clause-visible c =
-    (width_of c.self.inside.style _ c.self.invariant.0 c.self.invariant.1 refl c.self.invariant.2).least
+one_more : (cs : List Command) (c : Command) → AreCommands cs → IsCommand c → AreCommands (cs ++ c ∷ [])
+one_more [] c h k = (k, tt)
+one_more (d ∷ cs) c h k = (h.0, one_more cs c h.1 k)
 
-pub run-requires-clause-narrow : goal.run-requires-clause-narrow
-run-requires-clause-narrow c =
-    (width_of c.self.inside.style _ c.self.invariant.0 c.self.invariant.1 refl c.self.invariant.2).most
+pub carry_out-requires-clause-visible : goal.carry_out-requires-clause-visible
+carry_out-requires-clause-visible c =
+    (width_of c.self.inside.style _ c.self.invariant.kept c.self.invariant.commands refl c.self.invariant.page_is).least
 
-pub invariant_of-self-2 : goal.invariant_of-self-2
-invariant_of-self-2 c = (
-  c.self.invariant.0,
-  c.self.invariant.1 ++ c.args.command ∷ [],
-  sheet_step _ _ c.self.invariant.0 c.self.invariant.1 c.args.command
-      (cc (c.run.ensures.printed, c.reserve.ensures.items, c.run.ensures.left, c.behind-style.ensures, c.alignment_behind-align.ensures, c.is_empty.ensures))
-      c.self.invariant.2,
-)
+pub carry_out-requires-clause-narrow : goal.carry_out-requires-clause-narrow
+carry_out-requires-clause-narrow c =
+    (width_of c.self.inside.style _ c.self.invariant.kept c.self.invariant.commands refl c.self.invariant.page_is).most
+
+pub invariant_of-self : goal.invariant_of-self
+invariant_of-self c = record {
+  kept = c.self.invariant.kept;
+  commands = c.self.invariant.commands ++ c.args.command ∷ [];
+  in_range = one_more c.self.invariant.commands c.args.command c.self.invariant.in_range c.in_range.ensures;
+  page_is =
+      sheet_step _ _ c.self.invariant.kept c.self.invariant.commands c.args.command
+      (cc (c.carry_out.ensures.printed, c.carry_out.ensures.left, c.behind-style.ensures, c.alignment_behind-align.ensures, c.is_empty.ensures))
+      c.self.invariant.page_is;
+}
 
 pub returns-clause-taken : goal.returns-clause-taken
 returns-clause-taken c = λ kept cs is.
     sheet_step _ _ kept cs c.args.command
-    (cc (c.run.ensures.printed, c.reserve.ensures.items, c.run.ensures.left, c.behind-style.ensures, c.alignment_behind-align.ensures, c.is_empty.ensures))
-    (ap (λ (seen : Seen). seen.sheet) c.self.view_is ∙ is)
+    (cc (c.carry_out.ensures.printed, c.carry_out.ensures.left, c.behind-style.ensures, c.alignment_behind-align.ensures, c.is_empty.ensures))
+    (ap (λ (seen : Seen). seen.sheet) c.self.view_is ∙ c.ready.ensures.same ∙ is)
