@@ -69,6 +69,7 @@ impl Gather {
         ensures ok { OnOk result ((first : Option (List ℕ)) (total : List ℕ) →
             Carries first (W.written writer.old) self.old total → Appends first (W.written writer.new) total) }
         ensures empty { OnOk result (self.new.0 ≡ []) }
+        ensures counted { OnOk result (self.new.1 ≡ self.old.1 + length self.old.0) }
         ensures err { IfErr result (λ device. (first : Option (List ℕ)) (total more : List ℕ) →
             Carries first (W.written writer.old) self.old total → StopsIn first (W.written writer.new) (total ++ more) device.written) }
         ensures failed { IfErr result (λ _. IsTrue (W.failed writer.new)) }
