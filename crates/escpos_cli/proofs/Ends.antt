@@ -10,9 +10,10 @@ use Rattle.escpos_command.specs.Gather.{Carries}
 use Rattle.escpos_cli.specs.declared.listing.Listing.{Listing}
 use Rattle.escpos_cli.specs.declared.status.Status.{Status}
 use Rattle.escpos_cli.specs.declared.status.Status.TheVariants.{Good, Refused, Device}
-use Rattle.escpos_cli.specs.Check.{Lists, IsOfContent, StatusFits}
+use Rattle.escpos_cli.specs.Check.{Lists, IsOfContent}
 use Rattle.escpos_cli.specs.Lines.{command_lines, end_line, fault_line}
 use Rattle.escpos_cli.specs.Listing.{Listed, RefusedAt}
+use Rattle.escpos_cli.specs.Saying.{StatusFits}
 
 -- What `finish` answers: the status that it is given, or that the sink has failed.
 abbrev pub Finished : Type 0 → Status → Status → Type 0

@@ -14,10 +14,10 @@ use Rattle.escpos_paper.specs.declared.item.Item.{Item}
 use Rattle.escpos_cli.specs.declared.printing.Printing.{Printing}
 use Rattle.escpos_cli.specs.declared.status.Status.{Status}
 use Rattle.escpos_cli.specs.declared.status.Status.TheVariants.{Refused, Device}
-use Rattle.escpos_cli.specs.Check.{StatusFits}
 use Rattle.escpos_cli.specs.Lines.{fault_line}
 use Rattle.escpos_cli.specs.Printing.{OnPaper, StopsOnPaper}
 use Rattle.escpos_cli.specs.Render.{Renders, pending_line}
+use Rattle.escpos_cli.specs.Saying.{StatusFits}
 use Rattle.escpos_cli.proofs.Listings.{Reading, Faults, FirstFault, reads_command, fault_behind}
 use Rattle.escpos_cli.proofs.Ends.{Finished, no_device, given, good_fits, refused_fits}
 

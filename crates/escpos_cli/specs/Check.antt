@@ -1,5 +1,5 @@
 -- What `check` prints, and its exit status.
-use Rattle.std.specs.Prelude.{ℕ, ◌≡◌, ◌≢◌, ◌<◌, ◌≤◌, ◌⊎◌, List, [], ◌++◌, length, codes, Option, IsErr}
+use Rattle.std.specs.Prelude.{ℕ, ◌≡◌, ◌<◌, ◌≤◌, ◌⊎◌, List, [], ◌++◌, length, codes, Option, IsErr}
 use Rattle.std.specs.Io.KnownBytes.{Appends}
 use Rattle.hex.specs.Hex.{decode_of}
 use Rattle.escpos_command.specs.declared.command.Command.{Command}
@@ -10,6 +10,7 @@ use Rattle.escpos_cli.specs.declared.status.Status.{Status}
 use Rattle.escpos_cli.specs.declared.status.Status.TheVariants.{Good, Refused}
 use Rattle.escpos_cli.specs.Hexadecimal.{IsHexadecimal, digits_of}
 use Rattle.escpos_cli.specs.Lines.{command_lines, end_line, fault_line}
+use Rattle.escpos_cli.specs.Saying.{Refuses}
 
 -- The listing of a byte list: a line for each command that is read, and the last line. There is one, since
 -- a byte list has exactly one reading or one fault.
@@ -32,17 +33,8 @@ pub record Lists (first sink : Option (List ℕ)) (bytes : List ℕ) (status : S
   pub good : status ≡ Good → IsAllRead bytes
   pub refused : status ≡ Refused → IsAllRead bytes → ⊥
 
--- What the program does with input that it can't read as bytes: one line goes out.
-pub record Refuses (first sink : Option (List ℕ)) (line : List ℕ) (status : Status) : Type 0 where
-  pub never_good : status ≢ Good
-  pub refusal : status ≡ Refused → Appends first sink line
-
 -- What `check` does with its input: too long, not hexadecimal, or bytes.
 pub record Checks (first sink : Option (List ℕ)) (input : List ℕ) (status : Status) : Type 0 where
   pub too_long : INPUT_LIMIT < length input → Refuses first sink (codes "refused input\n") status
   pub not_hexadecimal : length input ≤ INPUT_LIMIT → IsErr (decode_of (digits_of input)) → Refuses first sink (codes "refused hex\n") status
   pub hexadecimal : (bytes : List ℕ) → length input ≤ INPUT_LIMIT → IsHexadecimal input bytes → Lists first sink bytes status
-
--- Good where no byte is pending, else refused.
-abbrev pub StatusFits : Status → ℕ → Type 0
-StatusFits status pending = ((status ≡ Good) × (pending ≡ 0)) ⊎ ((status ≡ Refused) × (pending ≢ 0))

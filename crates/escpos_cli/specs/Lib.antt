@@ -6,3 +6,4 @@ pub mod Task
 pub mod Listing
 pub mod Printing
 pub mod Render
+pub mod Saying

@@ -12,7 +12,8 @@ use Rattle.escpos_cli.specs.declared.status.Status.{Status}
 use Rattle.escpos_cli.specs.declared.status.Status.TheVariants.{Good, Refused}
 use Rattle.escpos_cli.specs.Hexadecimal.{IsHexadecimal, digits_of}
 use Rattle.escpos_cli.specs.Lines.{end_line, fault_line}
-use Rattle.escpos_cli.specs.Check.{IsOfContent, IsAllRead, Refuses}
+use Rattle.escpos_cli.specs.Check.{IsOfContent, IsAllRead}
+use Rattle.escpos_cli.specs.Saying.{Refuses}
 
 -- The last line of the listing, where bytes are pending.
 abbrev pub pending_line : ℕ → ℕ → List ℕ

@@ -5,11 +5,11 @@ ghost use Rattle.std.specs.Io.KnownBytes.{Appends};
 ghost use Rattle.escpos_paper.specs.ItemsText.{items_text};
 ghost use Rattle.escpos_cli.specs.Render.{Renders, RendersInput, pending_line};
 
-use crate::check::{MEMORY, say, status_of};
-use crate::input::{InputFault, hexadecimal_input};
+use crate::input::hexadecimal_input;
 use crate::lines::{Line, line_of_end, line_of_fault};
 use crate::listing::Ending;
 use crate::printing::Printing;
+use crate::saying::{MEMORY, refuse, say, status_of};
 use crate::status::Status;
 use escpos_command::{ByteIn, ByteOut, laws, put_all};
 use escpos_paper::{Item, write_items};
@@ -26,10 +26,7 @@ pub fn render<R: ByteIn, W: ByteOut>(alloc: Global, input: &mut R, output: &mut 
 {
     match hexadecimal_input(alloc, input) {
         Ok(bytes) => print(alloc, &bytes, output),
-        Err(InputFault::TooLong) => say(b"refused input\n", output, Status::Refused),
-        Err(InputFault::NotHexadecimal) => say(b"refused hex\n", output, Status::Refused),
-        Err(InputFault::Device) => Status::Device,
-        Err(InputFault::Memory) => say(MEMORY, output, Status::Memory),
+        Err(fault) => refuse(fault, output),
     }
 }
 

@@ -1,6 +1,7 @@
 //! What no clause says: that calls succeed, the texts, and the worked rows through the jobs.
 use crate::check::check;
 use crate::hexadecimal::{HexFault, bytes_of};
+use crate::perform::perform;
 use crate::render::render;
 use crate::status::Status;
 use crate::task::{HELP, NoTask, Task, USAGE, task_of};
@@ -242,6 +243,34 @@ fn a_long_listing_goes_out_in_pieces(rt: HostRuntime) -> Result<(), Fail> {
     assert!(rt; written.starts_with(b"0 char 44\n1 char 44\n"));
     assert!(rt; written.ends_with(b"\n1999 char 44\nend 2000 pending 0\n"));
     Ok(())
+}
+
+#[test]
+fn each_thing_asked_for(rt: HostRuntime) {
+    let rows: [(Result<Task, NoTask>, &[u8], Status); 5] = [
+        (
+            Ok(Task::Check),
+            b"0 char 41\n1 lf\nend 2 pending 0\n",
+            Status::Good,
+        ),
+        (Ok(Task::Render), b"row left A\nfeed 1\n", Status::Good),
+        (Err(NoTask::Help), HELP.as_bytes(), Status::Good),
+        (Err(NoTask::Usage), USAGE.as_bytes(), Status::Usage),
+        (Err(NoTask::Memory), b"memory\n", Status::Memory),
+    ];
+    let mut room = [0; 4096];
+    for (asked, output, status) in rows {
+        let mut source = MemoryIn::new(b"41 0A", 100);
+        let mut sink = MemoryOut::new(&mut room);
+        assert_eq!(rt; perform(rt.alloc(), asked, &mut source, &mut sink), status);
+        assert_eq!(rt; sink.written(), output);
+        let mut source = MemoryIn::new(b"41 0A", 100);
+        let mut sink = MemoryOut::new(&mut room[..3]);
+        assert_eq!(rt;
+            perform(rt.alloc(), asked, &mut source, &mut sink),
+            Status::Device
+        );
+    }
 }
 
 #[test]
