@@ -19,7 +19,7 @@ use Rattle.escpos_cli.specs.Printing.{OnPaper, StopsOnPaper}
 use Rattle.escpos_cli.specs.Render.{Renders, pending_line}
 use Rattle.escpos_cli.specs.Saying.{StatusFits}
 use Rattle.escpos_cli.proofs.Listings.{Reading, Faults, FirstFault, reads_command, fault_behind}
-use Rattle.escpos_cli.proofs.Ends.{Finished, no_device, given, good_fits, refused_fits}
+use Rattle.escpos_cli.proofs.Ends.{Finished, no_device, no_memory, memory_never_fits, given, good_fits, refused_fits}
 
 -- The byte ends a command, which the page carries out.
 pub paper_done : Reading → (old new : Printing) (a : List ℕ) (b : ℕ) (c : Command) → OnPaper old a → Spells c (old.decoder ++ b ∷ []) → new.decoder ≡ []
@@ -72,6 +72,7 @@ renders_read one {F} first next printing bytes line items pending status result 
       let some = refused_fits status pending fits (sym (given result status fin (no_device result (inr e))) ∙ e) in
       let same = one bytes w.commands all.0 printing.decoder [] w.read all.1 in
       some (p ∙ ap length same.1);
+  memory = λ e. absurd (memory_never_fits status pending fits (sym (given result status fin (no_memory result e)) ∙ e));
 }
 
 pub renders_refused : ((bs : List ℕ) → IsRead bs → IsRefused bs → ⊥)
@@ -93,4 +94,5 @@ renders_refused not_both {F} first next printing bytes line items place why resu
   );
   good = λ e. let k = sym e ∙ given result Refused fin (no_device result (inl e)) in absurd cc;
   refused = λ e all. not_both bytes (all.0, [], all.1) (w.commands, w.rest, place, why, w.fault);
+  memory = λ e. let k = sym e ∙ given result Refused fin (no_memory result e) in absurd cc;
 }

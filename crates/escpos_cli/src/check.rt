@@ -15,8 +15,9 @@ use std::alloc::Global;
 ///
 /// The status is `Good` where all bytes are read with nothing left, and `Refused` behind a fault, with a
 /// half command at the end, or for input that is too long or no hexadecimal, which prints one line of its
-/// own. `Device` comes only where `input` or `output` has failed, `Memory` for want of memory, with a last
-/// line `memory`, and `Usage` never.
+/// own. `Memory` comes for want of memory: then the line `memory` stands behind the lines of the commands so
+/// far. `Device` comes only where `input` or `output` has failed, and `Usage` never.
+#[tactic(auto, using(crate::proofs::Ends::cut_short_at_once))]
 pub fn check<R: ByteIn, W: ByteOut>(alloc: Global, input: &mut R, output: &mut W) -> Status
     ensures checks { IfSome (R.to_come input.old) (λ text. Checks (W.written output.old) (W.written output.new) text result) }
     ensures device { result ≡ Status.Device → IsTrue (R.failed input.new) ⊎ IsTrue (W.failed output.new) }

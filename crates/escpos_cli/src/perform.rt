@@ -1,10 +1,10 @@
 //! What the program does for the words that it was given, over any source and sink: a job, or a text.
 
-ghost use Rattle.std.specs.Prelude.{◌≡◌, ◌⊎◌, IfSome, IsTrue, codes};
+ghost use Rattle.std.specs.Prelude.{◌≡◌, ◌⊎◌, IfSome, IsTrue};
 ghost use Rattle.escpos_cli.specs.declared.task.TheConstants.{HELP, USAGE};
 ghost use Rattle.escpos_cli.specs.Check.{Checks};
 ghost use Rattle.escpos_cli.specs.Render.{RendersInput};
-ghost use Rattle.escpos_cli.specs.Saying.{Says};
+ghost use Rattle.escpos_cli.specs.Saying.{Says, memory_line};
 
 use crate::check::check;
 use crate::render::render;
@@ -34,7 +34,7 @@ pub fn perform<R: ByteIn, W: ByteOut>(
     ensures usage { asked ≡ Err NoTask.Usage →
         Says (W.written output.old) (W.written output.new) (W.failed output.new) USAGE.now Status.Usage result }
     ensures memory { asked ≡ Err NoTask.Memory →
-        Says (W.written output.old) (W.written output.new) (W.failed output.new) (codes "memory\n") Status.Memory result }
+        Says (W.written output.old) (W.written output.new) (W.failed output.new) memory_line Status.Memory result }
     ensures device { result ≡ Status.Device → IsTrue (R.failed input.new) ⊎ IsTrue (W.failed output.new) }
     ensures usage_only { result ≡ Status.Usage → asked ≡ Err NoTask.Usage }
 {

@@ -18,7 +18,7 @@ use std::alloc::Global;
 /// Reads a stream in hexadecimal from `input` and writes the paper that it prints to `output`, an item a
 /// line, and the last line of the listing behind a fault or with a half command at the end.
 ///
-/// The statuses are those of `check`.
+/// The statuses are those of `check`. At `Memory` the line `memory` is all that goes out.
 pub fn render<R: ByteIn, W: ByteOut>(alloc: Global, input: &mut R, output: &mut W) -> Status
     ensures renders { IfSome (R.to_come input.old) (λ text. RendersInput (W.written output.old) (W.written output.new) text result) }
     ensures device { result ≡ Status.Device → IsTrue (R.failed input.new) ⊎ IsTrue (W.failed output.new) }

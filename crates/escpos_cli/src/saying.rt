@@ -2,7 +2,7 @@
 //! status that goes with it.
 
 ghost use Rattle.std.specs.Prelude.{◌≡◌, ◌≢◌, ◌⊎◌, IsTrue, codes};
-ghost use Rattle.escpos_cli.specs.Saying.{Says, StatusFits};
+ghost use Rattle.escpos_cli.specs.Saying.{Says, StatusFits, memory_line};
 
 use crate::input::InputFault;
 use crate::status::Status;
@@ -30,7 +30,7 @@ pub fn refuse<W: ByteOut>(fault: InputFault, output: &mut W) -> Status
     ensures not_hexadecimal { fault ≡ InputFault.NotHexadecimal →
         Says (W.written output.old) (W.written output.new) (W.failed output.new) (codes "refused hex\n") Status.Refused result }
     ensures memory { fault ≡ InputFault.Memory →
-        Says (W.written output.old) (W.written output.new) (W.failed output.new) (codes "memory\n") Status.Memory result }
+        Says (W.written output.old) (W.written output.new) (W.failed output.new) memory_line Status.Memory result }
     ensures device { fault ≡ InputFault.Device → result ≡ Status.Device }
 {
     match fault {
