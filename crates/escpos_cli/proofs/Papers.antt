@@ -1,5 +1,6 @@
 -- What one byte more makes of a paper, and how a paper ends.
-use Rattle.std.proofs.Common.{◌≡◌, ◌≢◌, ℕ, inl, inr, List, [], ◌∷◌, ◌++◌, length, sym, ◌∙◌, ap, subst, Option}
+use Rattle.std.proofs.Common.{◌≡◌, ◌≢◌, ℕ, ◌+◌, ◌<◌, inl, inr, List, [], ◌∷◌, ◌++◌, length, take, drop, Err, sym, ◌∙◌, ap, subst, Option}
+use Rattle.std.specs.Prelude.{slice_index}
 use Rattle.std.specs.Io.KnownBytes.{Appends}
 use Rattle.std.proofs.lemmas.List.{nil_from_length}
 use Rattle.escpos_command.specs.declared.command.Command.{Command}
@@ -12,13 +13,15 @@ use Rattle.escpos_paper.specs.Printed.{printed}
 use Rattle.escpos_paper.specs.ItemsText.{items_text}
 use Rattle.escpos_paper.specs.declared.item.Item.{Item}
 use Rattle.escpos_cli.specs.declared.printing.Printing.{Printing}
+use Rattle.escpos_cli.specs.declared.printing.PrintFault.{PrintFault}
+use Rattle.escpos_cli.specs.declared.printing.PrintFault.TheVariants as fault
 use Rattle.escpos_cli.specs.declared.status.Status.{Status}
 use Rattle.escpos_cli.specs.declared.status.Status.TheVariants.{Refused, Device}
 use Rattle.escpos_cli.specs.Lines.{fault_line}
-use Rattle.escpos_cli.specs.Printing.{OnPaper, StopsOnPaper}
+use Rattle.escpos_cli.specs.Printing.{OnPaper, StopsOnPaper, Prints, EndsOnPaper}
 use Rattle.escpos_cli.specs.Render.{Renders, pending_line}
 use Rattle.escpos_cli.specs.Saying.{StatusFits}
-use Rattle.escpos_cli.proofs.Listings.{Reading, Faults, FirstFault, reads_command, fault_behind}
+use Rattle.escpos_cli.proofs.Listings.{Reading, Faults, FirstFault, reads_command, fault_behind, bytes_around, length-front}
 use Rattle.escpos_cli.proofs.Ends.{Finished, no_device, no_memory, memory_never_fits, given, good_fits, refused_fits}
 
 -- The byte ends a command, which the page carries out.
@@ -45,6 +48,13 @@ paper_along printing a b e w = subst (λ v. OnPaper printing v) e w
 
 pub stops_along : (printing : Printing) (a b : List ℕ) (k l : ℕ) (why : FaultReason) → a ≡ b → k ≡ l → StopsOnPaper printing a k why → StopsOnPaper printing b l why
 stops_along printing a b k l why e f w = subst (λ n. StopsOnPaper printing b n why) f (subst (λ v. StopsOnPaper printing v k why) e w)
+
+-- A byte that isn't taken ends the paper.
+pub stops_at : (old now new : Printing) (bytes : List ℕ) (place : ℕ) (fault : PrintFault) → place < length bytes → (OnPaper old [] → OnPaper now (take place bytes))
+    → Prints (Err fault) now new (slice_index bytes place) place → EndsOnPaper (Err fault) old new bytes
+stops_at old now new bytes place (fault.Refused at why) inside taken stopped = λ w.
+    subst (λ v. StopsOnPaper new v at why) (bytes_around bytes place inside) (stopped (take place bytes) (drop (place + 1) bytes) (length-front bytes place inside) (taken w))
+stops_at old now new bytes place fault.Memory inside taken stopped = tt
 
 -- What is on paper is what the commands print.
 items_of : (page : Seen) (cs : List Command) → PageIs page [] cs → page.sheet.items ≡ printed cs

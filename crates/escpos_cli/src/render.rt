@@ -7,8 +7,7 @@ ghost use Rattle.escpos_cli.specs.Render.{Renders, RendersInput, pending_line};
 
 use crate::input::hexadecimal_input;
 use crate::lines::{Line, line_of_end, line_of_fault};
-use crate::listing::Ending;
-use crate::printing::Printing;
+use crate::printing::{PrintFault, Printing};
 use crate::saying::{MEMORY, refuse, say, status_of};
 use crate::status::Status;
 use escpos_command::{ByteIn, ByteOut, laws, put_all};
@@ -39,7 +38,7 @@ fn print<W: ByteOut>(alloc: Global, bytes: &[u8], output: &mut W) -> Status
     laws::one_reading();
     let mut printing = Printing::new(alloc);
     match printing.take_all(bytes) {
-        Ending::Read => {
+        Ok(()) => {
             let pending = printing.decoder.pending_len();
             let line = line_of_pending(bytes.len(), pending);
             put_paper(
@@ -49,7 +48,7 @@ fn print<W: ByteOut>(alloc: Global, bytes: &[u8], output: &mut W) -> Status
                 status_of(pending),
             )
         }
-        Ending::Refused { place, why } => {
+        Err(PrintFault::Refused { place, why }) => {
             let line = line_of_fault(place, why);
             put_paper(
                 printing.page.items(),
@@ -58,7 +57,7 @@ fn print<W: ByteOut>(alloc: Global, bytes: &[u8], output: &mut W) -> Status
                 Status::Refused,
             )
         }
-        Ending::Memory | Ending::Device => say(MEMORY, output, Status::Memory),
+        Err(PrintFault::Memory) => say(MEMORY, output, Status::Memory),
     }
 }
 

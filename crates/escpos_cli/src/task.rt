@@ -47,8 +47,9 @@ escpos_cli tells what an ESC/POS byte stream says to a receipt printer, or the
 exact byte at which the stream is refused.
 
 Both jobs read the stream from standard input, as hexadecimal digits of either
-case; spaces, tabs and line ends between them count for nothing. At most
-16777216 bytes are read.
+case; spaces, tabs and line ends between them count for nothing. Input of more
+than 16777216 bytes gives the one line `refused input`, any other that isn't
+hexadecimal `refused hex`. A last line `memory` says that memory has run out.
 
   escpos_cli check
       Lists the commands. Each gives one line: the number of bytes before it, its
@@ -73,6 +74,11 @@ case; spaces, tabs and line ends between them count for nothing. At most
           row left Hi
           feed 1
           cut full
+
+      A style is [F,W,H,B,U,T]: font A or B, width, height, emphasis 1 or 0,
+      underline 0 to 2, code table. It stands before a character whose style isn't
+      that of the one before it; the first of a row is compared with the style at
+      power-on, [A,1,1,0,0,0].
 
   escpos_cli help
       Prints this text; so do --help and -h.

@@ -282,52 +282,39 @@ fn usage_and_help(rt: HostRuntime) {
     assert!(rt; HELP.contains("0 good, 1 refused content, 2 usage, 3 device, 4 memory"));
 }
 
+// Words, and what they ask for.
+type Asked = (&'static [&'static str], Result<Task, NoTask>);
+
+const ASKED: [Asked; 22] = [
+    (&["check"], Ok(Task::Check)),
+    (&["render"], Ok(Task::Render)),
+    (&["help"], Err(NoTask::Help)),
+    (&["--help"], Err(NoTask::Help)),
+    (&["-h"], Err(NoTask::Help)),
+    (&["check", "--help"], Err(NoTask::Help)),
+    (&["render", "--help"], Err(NoTask::Help)),
+    (&[], Err(NoTask::Usage)),
+    (&[""], Err(NoTask::Usage)),
+    (&["-"], Err(NoTask::Usage)),
+    (&["--"], Err(NoTask::Usage)),
+    (&["nosuch"], Err(NoTask::Usage)),
+    (&["Check"], Err(NoTask::Usage)),
+    (&["chec"], Err(NoTask::Usage)),
+    (&["--nosuch"], Err(NoTask::Usage)),
+    (&["-V"], Err(NoTask::Usage)),
+    (&["--version"], Err(NoTask::Usage)),
+    (&["check", "--nosuch"], Err(NoTask::Usage)),
+    (&["check", "extra"], Err(NoTask::Usage)),
+    (&["check", "check"], Err(NoTask::Usage)),
+    (&["check", "--"], Err(NoTask::Usage)),
+    (&["check", "help"], Err(NoTask::Usage)),
+];
+
 #[test]
 fn words_name_tasks(rt: HostRuntime) {
-    for (word, task) in [("check", Task::Check), ("render", Task::Render)] {
-        let words = [word];
-        assert_eq!(rt; task_of(rt.alloc(), words.as_slice()), Ok(task));
+    for (words, asked) in ASKED {
+        assert_eq!(rt; task_of(rt.alloc(), words), asked, "{words:?}");
     }
-    for word in ["help", "--help", "-h"] {
-        let words = [word];
-        assert_eq!(rt;
-            task_of(rt.alloc(), words.as_slice()),
-            Err(NoTask::Help),
-            "{word}"
-        );
-    }
-    for word in [
-        "",
-        "-",
-        "--",
-        "nosuch",
-        "Check",
-        "chec",
-        "--nosuch",
-        "-V",
-        "--version",
-    ] {
-        let words = [word];
-        assert_eq!(rt;
-            task_of(rt.alloc(), words.as_slice()),
-            Err(NoTask::Usage),
-            "{word}"
-        );
-    }
-    for word in ["--nosuch", "extra", "check", "--", "help"] {
-        let words = ["check", word];
-        assert_eq!(rt;
-            task_of(rt.alloc(), words.as_slice()),
-            Err(NoTask::Usage),
-            "check {word}"
-        );
-    }
-    for word in ["check", "render"] {
-        let asked = [word, "--help"];
-        assert_eq!(rt; task_of(rt.alloc(), asked.as_slice()), Err(NoTask::Help));
-    }
-    let none: [&str; 0] = [];
-    assert_eq!(rt; task_of(rt.alloc(), none.as_slice()), Err(NoTask::Usage));
 }
 
 #[test]

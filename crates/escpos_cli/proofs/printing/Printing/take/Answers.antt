@@ -1,5 +1,5 @@
 use Rattle.std.proofs.Common.{refl}
-use Rattle.escpos_cli.proofs.Papers.{paper_done, paper_refused}
+use Rattle.escpos_cli.proofs.Papers.{paper_done, paper_refused, stops_along}
 use Rattle.escpos_cli.proofs.printing.Printing.take.Goals as goal
 
 pub returns-in-Ok : goal.returns-in-Ok
@@ -10,4 +10,5 @@ returns-in-Ok c =
 pub returns-in-Err-Fault : goal.returns-in-Err-Fault
 returns-in-Err-Fault c =
     let step = rw (c.in-Err-Fault.field-0-is) at c.in-Err-Fault.ensures.step in
-    λ a more w. paper_refused c.joined_readings.ensures.fault c.joined_readings.ensures.first_fault c.args.self.now _ a more c.args.byte _ _ w step.0 step.1 refl
+    λ a more at w. stops_along _ _ _ _ _ _ refl at
+    (paper_refused c.joined_readings.ensures.fault c.joined_readings.ensures.first_fault c.args.self.now _ a more c.args.byte _ _ w step.0 step.1 refl)
