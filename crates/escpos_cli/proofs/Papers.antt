@@ -1,6 +1,6 @@
 -- What one byte more makes of a paper, and how a paper ends.
-use Rattle.std.proofs.Common.{◌≡◌, ◌≢◌, ℕ, ◌+◌, ◌<◌, inl, inr, List, [], ◌∷◌, ◌++◌, length, take, drop, Err, sym, ◌∙◌, ap, subst, Option}
-use Rattle.std.specs.Prelude.{slice_index}
+use Rattle.std.proofs.Common.{◌≡◌, ◌≢◌, ℕ, ◌+◌, ◌<◌, inl, inr, List, [], ◌∷◌, ◌++◌, length, take, drop, Result, Ok, Err, OnOk, sym, ◌∙◌, ap, subst, Option}
+use Rattle.std.specs.Prelude.{⊤, slice_index}
 use Rattle.std.specs.Io.KnownBytes.{Appends}
 use Rattle.std.proofs.lemmas.List.{nil_from_length}
 use Rattle.escpos_command.specs.declared.command.Command.{Command}
@@ -22,6 +22,7 @@ use Rattle.escpos_cli.specs.Printing.{OnPaper, StopsOnPaper, Prints, EndsOnPaper
 use Rattle.escpos_cli.specs.Render.{Renders, pending_line}
 use Rattle.escpos_cli.specs.Saying.{StatusFits}
 use Rattle.escpos_cli.proofs.Listings.{Reading, Faults, FirstFault, reads_command, fault_behind, bytes_around, length-front}
+use Rattle.escpos_cli.proofs.Mapped.{IsMapped}
 use Rattle.escpos_cli.proofs.Ends.{Finished, no_device, no_memory, memory_never_fits, given, good_fits, refused_fits}
 
 -- The byte ends a command, which the page carries out.
@@ -32,6 +33,14 @@ paper_done join old new a b c w s e apply = record {
   read = subst (λ v. Reads (a ++ b ∷ []) (w.commands ++ c ∷ []) v) (sym e) (join a (b ∷ []) w.commands (c ∷ []) old.decoder [] w.read (reads_command c (old.decoder ++ b ∷ []) s));
   page = apply [] w.commands w.page;
 }
+
+-- The page takes the command, or has no memory for it.
+pub paper_applied : (F : Command → PrintFault → Type 0) (r : Result ⊤ Command) (s : Result ⊤ PrintFault) (old new : Printing) (b place : ℕ) → IsMapped F r s
+    → ((back : Command) (given : PrintFault) → F back given → given ≡ fault.Memory)
+    → OnOk r ((a : List ℕ) → OnPaper old a → OnPaper new (a ++ b ∷ [])) → Prints s old new b place
+paper_applied F (Ok done) s old new b place m only h = subst (λ v. Prints v old new b place) (sym m) h
+paper_applied F (Err back) (Ok done) old new b place m only h = absurd m
+paper_applied F (Err back) (Err given) old new b place m only h = subst (λ v. Prints (Err v) old new b place) (sym (only back given m)) tt
 
 -- The byte is refused.
 pub paper_refused : Faults → FirstFault → (old new : Printing) (a more : List ℕ) (b at : ℕ) (why : FaultReason) → OnPaper old a

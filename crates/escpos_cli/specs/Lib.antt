@@ -1,5 +1,6 @@
 pub mod Check
 pub mod Hexadecimal
+pub mod Input
 pub mod Lines
 pub mod Status
 pub mod Task

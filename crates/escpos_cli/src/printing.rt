@@ -55,10 +55,7 @@ impl Printing {
         laws::joined_readings();
         match self.decoder.push(byte) {
             Ok(Step::More) => Ok(()),
-            Ok(Step::Done(command)) => match self.page.apply(command) {
-                Ok(()) => Ok(()),
-                Err(_) => Err(PrintFault::Memory),
-            },
+            Ok(Step::Done(command)) => self.page.apply(command).map_err(|_| PrintFault::Memory),
             Err(DecodeFault::Fault { why, .. }) => Err(PrintFault::Refused { place, why }),
             Err(DecodeFault::Memory) => Err(PrintFault::Memory),
         }
