@@ -34,6 +34,18 @@ pub enum NoTask {
     Memory,
 }
 
+impl From<clap::Error> for NoTask {
+    ghost from_gives = { λ refusal fault. fault ≡ no_task_of (kind_of refusal) };
+
+    fn from(refusal: clap::Error) -> Self {
+        match refusal.kind() {
+            ErrorKind::DisplayHelp => NoTask::Help,
+            ErrorKind::OutOfMemory => NoTask::Memory,
+            _ => NoTask::Usage,
+        }
+    }
+}
+
 /// The text for words that name no task.
 pub const USAGE: &str = "\
 usage: escpos_cli check  < HEXADECIMAL
@@ -97,10 +109,8 @@ pub fn task_of<S: AsStr>(alloc: Global, words: &[S]) -> Result<Task, NoTask>
     ensures help_only { result ≡ Err NoTask.Help → (map S.text words.now ≡ codes "help" ∷ [])
         ⊎ IsAmong ErrorKind.DisplayHelp (fault_of command_words (map S.text words.now)) }
 {
-    match matches_of(alloc, words) {
-        Ok(matches) => task_named(matches.subcommand_name(), words.len()),
-        Err(refusal) => Err(no_task_by(refusal.kind())),
-    }
+    let matches = matches_of(alloc, words)?;
+    task_named(matches.subcommand_name(), words.len())
 }
 
 // What one of the program's words asks for, where so many words were given.
@@ -134,15 +144,4 @@ fn matches_of<'a, S: AsStr>(alloc: Global, words: &'a [S]) -> Result<ArgMatches<
         .subcommand(Command::new(alloc, "render"))?
         .subcommand(Command::new(alloc, "help"))?;
     command.try_get_matches_from(words)
-}
-
-// What a refusal of the words comes to.
-fn no_task_by(kind: ErrorKind) -> NoTask
-    ensures { result ≡ no_task_of kind }
-{
-    match kind {
-        ErrorKind::DisplayHelp => NoTask::Help,
-        ErrorKind::OutOfMemory => NoTask::Memory,
-        _ => NoTask::Usage,
-    }
 }
