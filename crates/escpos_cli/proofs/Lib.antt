@@ -1,4 +1,5 @@
 pub mod TaskWords
+pub mod Mapped
 pub mod Listings
 pub mod Ends
 pub mod Papers

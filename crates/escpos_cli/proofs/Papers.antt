@@ -1,5 +1,6 @@
 -- What one byte more makes of a paper, and how a paper ends.
-use Rattle.std.proofs.Common.{◌≡◌, ◌≢◌, ℕ, inl, inr, List, [], ◌∷◌, ◌++◌, length, sym, ◌∙◌, ap, subst, Option}
+use Rattle.std.proofs.Common.{◌≡◌, ◌≢◌, ℕ, ◌+◌, ◌<◌, inl, inr, List, [], ◌∷◌, ◌++◌, length, take, drop, Result, Ok, Err, OnOk, sym, ◌∙◌, ap, subst, Option}
+use Rattle.std.specs.Prelude.{⊤, slice_index}
 use Rattle.std.specs.Io.KnownBytes.{Appends}
 use Rattle.std.proofs.lemmas.List.{nil_from_length}
 use Rattle.escpos_command.specs.declared.command.Command.{Command}
@@ -12,14 +13,17 @@ use Rattle.escpos_paper.specs.Printed.{printed}
 use Rattle.escpos_paper.specs.ItemsText.{items_text}
 use Rattle.escpos_paper.specs.declared.item.Item.{Item}
 use Rattle.escpos_cli.specs.declared.printing.Printing.{Printing}
+use Rattle.escpos_cli.specs.declared.printing.PrintFault.{PrintFault}
+use Rattle.escpos_cli.specs.declared.printing.PrintFault.TheVariants as fault
 use Rattle.escpos_cli.specs.declared.status.Status.{Status}
 use Rattle.escpos_cli.specs.declared.status.Status.TheVariants.{Refused, Device}
-use Rattle.escpos_cli.specs.Check.{StatusFits}
 use Rattle.escpos_cli.specs.Lines.{fault_line}
-use Rattle.escpos_cli.specs.Printing.{OnPaper, StopsOnPaper}
+use Rattle.escpos_cli.specs.Printing.{OnPaper, StopsOnPaper, Prints, EndsOnPaper}
 use Rattle.escpos_cli.specs.Render.{Renders, pending_line}
-use Rattle.escpos_cli.proofs.Listings.{Reading, Faults, FirstFault, reads_command, fault_behind}
-use Rattle.escpos_cli.proofs.Ends.{Finished, no_device, given, good_fits, refused_fits}
+use Rattle.escpos_cli.specs.Saying.{StatusFits}
+use Rattle.escpos_cli.proofs.Listings.{Reading, Faults, FirstFault, reads_command, fault_behind, bytes_around, length-front}
+use Rattle.escpos_cli.proofs.Mapped.{IsMapped}
+use Rattle.escpos_cli.proofs.Ends.{Finished, no_device, no_memory, memory_never_fits, given, good_fits, refused_fits}
 
 -- The byte ends a command, which the page carries out.
 pub paper_done : Reading → (old new : Printing) (a : List ℕ) (b : ℕ) (c : Command) → OnPaper old a → Spells c (old.decoder ++ b ∷ []) → new.decoder ≡ []
@@ -29,6 +33,14 @@ paper_done join old new a b c w s e apply = record {
   read = subst (λ v. Reads (a ++ b ∷ []) (w.commands ++ c ∷ []) v) (sym e) (join a (b ∷ []) w.commands (c ∷ []) old.decoder [] w.read (reads_command c (old.decoder ++ b ∷ []) s));
   page = apply [] w.commands w.page;
 }
+
+-- The page takes the command, or has no memory for it.
+pub paper_applied : (F : Command → PrintFault → Type 0) (r : Result ⊤ Command) (s : Result ⊤ PrintFault) (old new : Printing) (b place : ℕ) → IsMapped F r s
+    → ((back : Command) (given : PrintFault) → F back given → given ≡ fault.Memory)
+    → OnOk r ((a : List ℕ) → OnPaper old a → OnPaper new (a ++ b ∷ [])) → Prints s old new b place
+paper_applied F (Ok done) s old new b place m only h = subst (λ v. Prints v old new b place) (sym m) h
+paper_applied F (Err back) (Ok done) old new b place m only h = absurd m
+paper_applied F (Err back) (Err given) old new b place m only h = subst (λ v. Prints (Err v) old new b place) (sym (only back given m)) tt
 
 -- The byte is refused.
 pub paper_refused : Faults → FirstFault → (old new : Printing) (a more : List ℕ) (b at : ℕ) (why : FaultReason) → OnPaper old a
@@ -45,6 +57,13 @@ paper_along printing a b e w = subst (λ v. OnPaper printing v) e w
 
 pub stops_along : (printing : Printing) (a b : List ℕ) (k l : ℕ) (why : FaultReason) → a ≡ b → k ≡ l → StopsOnPaper printing a k why → StopsOnPaper printing b l why
 stops_along printing a b k l why e f w = subst (λ n. StopsOnPaper printing b n why) f (subst (λ v. StopsOnPaper printing v k why) e w)
+
+-- A byte that isn't taken ends the paper.
+pub stops_at : (old now new : Printing) (bytes : List ℕ) (place : ℕ) (fault : PrintFault) → place < length bytes → (OnPaper old [] → OnPaper now (take place bytes))
+    → Prints (Err fault) now new (slice_index bytes place) place → EndsOnPaper (Err fault) old new bytes
+stops_at old now new bytes place (fault.Refused at why) inside taken stopped = λ w.
+    subst (λ v. StopsOnPaper new v at why) (bytes_around bytes place inside) (stopped (take place bytes) (drop (place + 1) bytes) (length-front bytes place inside) (taken w))
+stops_at old now new bytes place fault.Memory inside taken stopped = tt
 
 -- What is on paper is what the commands print.
 items_of : (page : Seen) (cs : List Command) → PageIs page [] cs → page.sheet.items ≡ printed cs
@@ -72,6 +91,7 @@ renders_read one {F} first next printing bytes line items pending status result 
       let some = refused_fits status pending fits (sym (given result status fin (no_device result (inr e))) ∙ e) in
       let same = one bytes w.commands all.0 printing.decoder [] w.read all.1 in
       some (p ∙ ap length same.1);
+  memory = λ e. absurd (memory_never_fits status pending fits (sym (given result status fin (no_memory result e)) ∙ e));
 }
 
 pub renders_refused : ((bs : List ℕ) → IsRead bs → IsRefused bs → ⊥)
@@ -93,4 +113,5 @@ renders_refused not_both {F} first next printing bytes line items place why resu
   );
   good = λ e. let k = sym e ∙ given result Refused fin (no_device result (inl e)) in absurd cc;
   refused = λ e all. not_both bytes (all.0, [], all.1) (w.commands, w.rest, place, why, w.fault);
+  memory = λ e. let k = sym e ∙ given result Refused fin (no_memory result e) in absurd cc;
 }

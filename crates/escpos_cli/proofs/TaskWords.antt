@@ -110,15 +110,15 @@ help_or_memory kinds e one h =
     elim at [ inl m ↦ inl m | inr k ↦ elim k [ inl d ↦ inr d | inr f ↦ absurd f ] ]
 
 -- what a refusal comes to where the words have these kinds
-pub refused_for_memory : (kinds : Kinds) (e : Error) (k : ErrorKind) (r : NoTask) → kinds ≡ [] → HasKind kinds e
-    → k ≡ kind_of e → r ≡ no_task_of k → r ≡ Memory
-refused_for_memory kinds e k r none h is_k is_r = is_r ∙ ap no_task_of (is_k ∙ memory_only kinds e none h)
+pub refused_for_memory : (kinds : Kinds) (e : Error) (r : NoTask) → kinds ≡ [] → HasKind kinds e
+    → r ≡ no_task_of (kind_of e) → r ≡ Memory
+refused_for_memory kinds e r none h is_r = is_r ∙ ap no_task_of (memory_only kinds e none h)
 
-pub refused_for_help : (kinds : Kinds) (e : Error) (k : ErrorKind) (r : NoTask) → kinds ≡ DisplayHelp ∷ [] → HasKind kinds e
-    → k ≡ kind_of e → r ≡ no_task_of k → (r ≡ Help) ⊎ (r ≡ Memory)
-refused_for_help kinds e k r one h is_k is_r = elim (help_or_memory kinds e one h) [
-  | inl m ↦ inr (is_r ∙ ap no_task_of (is_k ∙ m))
-  | inr d ↦ inl (is_r ∙ ap no_task_of (is_k ∙ d))
+pub refused_for_help : (kinds : Kinds) (e : Error) (r : NoTask) → kinds ≡ DisplayHelp ∷ [] → HasKind kinds e
+    → r ≡ no_task_of (kind_of e) → (r ≡ Help) ⊎ (r ≡ Memory)
+refused_for_help kinds e r one h is_r = elim (help_or_memory kinds e one h) [
+  | inl m ↦ inr (is_r ∙ ap no_task_of m)
+  | inr d ↦ inl (is_r ∙ ap no_task_of d)
 ]
 
 help_kind : (k : ErrorKind) → no_task_of k ≡ Help → k ≡ DisplayHelp
@@ -127,13 +127,13 @@ help_kind OutOfMemory e = cc
 help_kind _ e = cc
 
 -- help comes of a refusal only where its kind is among the words'
-pub help_is_among : (kinds : Kinds) (e : Error) (k : ErrorKind) (r : NoTask) → HasKind kinds e
-    → k ≡ kind_of e → r ≡ no_task_of k → r ≡ Help → IsAmong DisplayHelp kinds
-help_is_among kinds e k r h is_k is_r is_help =
-    let at : k ≡ DisplayHelp = help_kind k (sym is_r ∙ is_help) in
+pub help_is_among : (kinds : Kinds) (e : Error) (r : NoTask) → HasKind kinds e
+    → r ≡ no_task_of (kind_of e) → r ≡ Help → IsAmong DisplayHelp kinds
+help_is_among kinds e r h is_r is_help =
+    let at : kind_of e ≡ DisplayHelp = help_kind (kind_of e) (sym is_r ∙ is_help) in
     elim h [
-      | inl m ↦ let bad : OutOfMemory ≡ DisplayHelp = sym m ∙ sym is_k ∙ at in cc
-      | inr a ↦ subst (λ (x : ErrorKind). IsAmong x kinds) (sym is_k ∙ at) a
+      | inl m ↦ let bad : OutOfMemory ≡ DisplayHelp = sym m ∙ at in cc
+      | inr a ↦ subst (λ (x : ErrorKind). IsAmong x kinds) at a
     ]
 
 -- ---- one word that names a subcommand

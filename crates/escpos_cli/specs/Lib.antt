@@ -1,8 +1,10 @@
 pub mod Check
 pub mod Hexadecimal
+pub mod Input
 pub mod Lines
 pub mod Status
 pub mod Task
 pub mod Listing
 pub mod Printing
 pub mod Render
+pub mod Saying

@@ -2,12 +2,13 @@
 -- lower-case hexadecimal digits.
 use Rattle.std.specs.Prelude.{ℕ, ◌+◌, List, [], ◌∷◌, ◌++◌, length, codes, decimal, Option, None, Some}
 use Rattle.hex.specs.Hex.{encode_lower}
+use Rattle.escpos_command.specs.declared.bytes.TheConstants.{LF}
 use Rattle.escpos_command.specs.declared.command.Command.{Command}
 use Rattle.escpos_command.specs.declared.command.Command.TheVariants.{Char, LineFeed, Return, Init, Mode, Emphasis, Underline, Font, Table, Align, FeedLines, Size, BarHeight, BarWidth, HriPlace, HriFont, Cut, Status, Mark}
 use Rattle.escpos_command.specs.declared.fault.FaultReason.{FaultReason}
 use Rattle.escpos_command.specs.Places.{number_of, name_of}
 use Rattle.escpos_command.specs.Table.{row}
-use Rattle.escpos_cli.specs.declared.lines.TheConstants.{SPACE, NEW_LINE}
+use Rattle.escpos_cli.specs.declared.lines.TheConstants.{SPACE}
 
 -- The name of a command.
 abbrev pub word_of : Command → List ℕ
@@ -63,7 +64,7 @@ values_of (Mark id) = SPACE ∷ id
 
 -- The line of a command: the number of bytes before it, its name, and what it carries.
 abbrev pub command_line : ℕ → Command → List ℕ
-command_line place c = decimal place ++ SPACE ∷ [] ++ word_of c ++ values_of c ++ NEW_LINE ∷ []
+command_line place c = decimal place ++ SPACE ∷ [] ++ word_of c ++ values_of c ++ LF ∷ []
 
 -- The lines of commands, the first of which stands behind so many bytes.
 abbrev pub command_lines : ℕ → List Command → List ℕ
@@ -72,8 +73,8 @@ command_lines place (c ∷ cs) = command_line place c ++ command_lines (place + 
 
 -- The last line where all bytes were read: how many, and how many of them are a half command.
 abbrev pub end_line : ℕ → ℕ → List ℕ
-end_line count pending = codes "end " ++ decimal count ++ codes " pending " ++ decimal pending ++ NEW_LINE ∷ []
+end_line count pending = codes "end " ++ decimal count ++ codes " pending " ++ decimal pending ++ LF ∷ []
 
 -- The last line where a byte is refused: its place in the input, and the reason's number and name.
 abbrev pub fault_line : ℕ → FaultReason → List ℕ
-fault_line place why = codes "fault " ++ decimal place ++ SPACE ∷ [] ++ decimal (number_of why) ++ SPACE ∷ [] ++ name_of why ++ NEW_LINE ∷ []
+fault_line place why = codes "fault " ++ decimal place ++ SPACE ∷ [] ++ decimal (number_of why) ++ SPACE ∷ [] ++ name_of why ++ LF ∷ []

@@ -9,10 +9,11 @@ use Rattle.escpos_paper.specs.Printed.{printed}
 use Rattle.escpos_paper.specs.ItemsText.{items_text}
 use Rattle.escpos_cli.specs.declared.input.TheConstants.{INPUT_LIMIT}
 use Rattle.escpos_cli.specs.declared.status.Status.{Status}
-use Rattle.escpos_cli.specs.declared.status.Status.TheVariants.{Good, Refused}
+use Rattle.escpos_cli.specs.declared.status.Status.TheVariants.{Good, Refused, Memory}
 use Rattle.escpos_cli.specs.Hexadecimal.{IsHexadecimal, digits_of}
 use Rattle.escpos_cli.specs.Lines.{end_line, fault_line}
-use Rattle.escpos_cli.specs.Check.{IsOfContent, IsAllRead, Refuses}
+use Rattle.escpos_cli.specs.Check.{IsOfContent, IsAllRead}
+use Rattle.escpos_cli.specs.Saying.{Refuses, memory_line}
 
 -- The last line of the listing, where bytes are pending.
 abbrev pub pending_line : ℕ → ℕ → List ℕ
@@ -25,11 +26,13 @@ IsRenderText bytes text =
     ((cs : List Command) × (rest : List ℕ) × Reads bytes cs rest × (text ≡ items_text (printed cs) ++ pending_line (length bytes) (length rest)))
     ⊎ ((cs : List Command) × (rest : List ℕ) × (place : ℕ) × (why : FaultReason) × FaultAt bytes cs rest place why × (text ≡ items_text (printed cs) ++ fault_line place why))
 
--- What the program does with these bytes: the paper goes out, and the status is good exactly where all is read.
+-- What the program does with these bytes: the paper goes out, and the status is good exactly where all is
+-- read. For want of memory no paper goes out, and one line says so.
 pub record Renders (first sink : Option (List ℕ)) (bytes : List ℕ) (status : Status) : Type 0 where
   pub paper : IsOfContent status → (text : List ℕ) × IsRenderText bytes text × Appends first sink text
   pub good : status ≡ Good → IsAllRead bytes
   pub refused : status ≡ Refused → IsAllRead bytes → ⊥
+  pub memory : status ≡ Memory → Appends first sink memory_line
 
 -- What `render` does with its input: too long, not hexadecimal, or bytes.
 pub record RendersInput (first sink : Option (List ℕ)) (input : List ℕ) (status : Status) : Type 0 where

@@ -1,25 +1,23 @@
 //! The job `check`: what a byte stream says, a line for each command.
 
-ghost use Rattle.std.specs.Prelude.{◌≡◌, ◌≢◌, ◌⊎◌, ◌++◌, List, ℕ, Option, IfSome, OnOk, IsTrue, IsErr, length, codes};
-ghost use Rattle.std.specs.Io.KnownBytes.{Appends};
-ghost use Rattle.escpos_cli.specs.Check.{Checks, Lists, StatusFits};
+ghost use Rattle.std.specs.Prelude.{◌≡◌, ◌≢◌, ◌⊎◌, IfSome, IsTrue};
+ghost use Rattle.escpos_cli.specs.Check.{Checks, Lists};
 
-use crate::input::{InputFault, hexadecimal_input};
+use crate::input::hexadecimal_input;
 use crate::lines::{line_of_end, line_of_fault};
 use crate::listing::{Ending, Listing, finish};
+use crate::saying::{MEMORY, refuse, status_of};
 use crate::status::Status;
-use escpos_command::{ByteIn, ByteOut, laws, put_all};
+use escpos_command::{ByteIn, ByteOut, laws};
 use std::alloc::Global;
-
-/// What is printed last where there isn't enough memory.
-pub const MEMORY: &[u8] = b"memory\n";
 
 /// Reads a stream in hexadecimal from `input` and lists its commands on `output`.
 ///
 /// The status is `Good` where all bytes are read with nothing left, and `Refused` behind a fault, with a
 /// half command at the end, or for input that is too long or no hexadecimal, which prints one line of its
-/// own. `Device` comes only where `input` or `output` has failed, `Memory` for want of memory, with a last
-/// line `memory`, and `Usage` never.
+/// own. `Memory` comes for want of memory: then the line `memory` stands behind the lines of the commands so
+/// far. `Device` comes only where `input` or `output` has failed, and `Usage` never.
+#[tactic(auto, using(crate::proofs::Ends::cut_short_at_once))]
 pub fn check<R: ByteIn, W: ByteOut>(alloc: Global, input: &mut R, output: &mut W) -> Status
     ensures checks { IfSome (R.to_come input.old) (λ text. Checks (W.written output.old) (W.written output.new) text result) }
     ensures device { result ≡ Status.Device → IsTrue (R.failed input.new) ⊎ IsTrue (W.failed output.new) }
@@ -27,10 +25,7 @@ pub fn check<R: ByteIn, W: ByteOut>(alloc: Global, input: &mut R, output: &mut W
 {
     match hexadecimal_input(alloc, input) {
         Ok(bytes) => list(alloc, &bytes, output),
-        Err(InputFault::TooLong) => say(b"refused input\n", output, Status::Refused),
-        Err(InputFault::NotHexadecimal) => say(b"refused hex\n", output, Status::Refused),
-        Err(InputFault::Device) => Status::Device,
-        Err(InputFault::Memory) => say(MEMORY, output, Status::Memory),
+        Err(fault) => refuse(fault, output),
     }
 }
 
@@ -64,28 +59,5 @@ fn list<W: ByteOut>(alloc: Global, bytes: &[u8], output: &mut W) -> Status
         }
         Ending::Memory => finish(&mut listing.gather, MEMORY, output, Status::Memory),
         Ending::Device => Status::Device,
-    }
-}
-
-/// The status of bytes that are all read, where so many of them are a half command.
-pub fn status_of(pending: usize) -> Status
-    ensures { StatusFits result pending }
-{
-    if pending == 0 {
-        Status::Good
-    } else {
-        Status::Refused
-    }
-}
-
-/// Puts one line that says why there is nothing else. The status is the one that is given, or `Device` where
-/// `output` has failed.
-pub fn say<W: ByteOut>(line: &[u8], output: &mut W, status: Status) -> Status
-    ensures line { result ≢ Status.Device → Appends (W.written output.old) (W.written output.new) line.now }
-    ensures status { (result ≡ status) ⊎ ((result ≡ Status.Device) × IsTrue (W.failed output.new)) }
-{
-    match put_all(line, output) {
-        Ok(()) => status,
-        Err(_) => Status::Device,
     }
 }

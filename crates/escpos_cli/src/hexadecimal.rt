@@ -25,10 +25,7 @@ pub fn bytes_of(alloc: Global, mut text: Vec<u8>) -> Result<Vec<u8>, HexFault>
     ensures refused { result ≡ Err HexFault.Refused → IsErr (decode_of (digits_of text.items)) }
 {
     text.retain(|byte| !is_blank_byte(*byte));
-    match hex::decode(alloc, text.as_slice()) {
-        Ok(bytes) => Ok(bytes),
-        Err(refusal) => Err(fault_by(refusal)),
-    }
+    hex::decode(alloc, text.as_slice()).map_err(fault_by)
 }
 
 // What a refusal of the digits comes to.

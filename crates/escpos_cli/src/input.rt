@@ -3,6 +3,7 @@
 ghost use Rattle.std.specs.Prelude.{◌≡◌, ◌<◌, ◌≤◌, length, IfOk, IfSome, IsErr, IsErrOf, IsTrue};
 ghost use Rattle.hex.specs.Hex.{decode_of};
 ghost use Rattle.escpos_cli.specs.Hexadecimal.{IsHexadecimal, digits_of};
+ghost use Rattle.escpos_cli.specs.Input.{fault_of_hexadecimal, fault_of_reading};
 
 use crate::hexadecimal::{HexFault, bytes_of};
 use escpos_command::{ByteIn, ReadError, read_to_end};
@@ -29,6 +30,29 @@ pub enum InputFault {
     Memory,
 }
 
+impl From<ReadError> for InputFault {
+    ghost from_gives = { λ error fault. fault ≡ fault_of_reading error };
+
+    fn from(error: ReadError) -> Self {
+        match error {
+            ReadError::TooLong => InputFault::TooLong,
+            ReadError::Failed => InputFault::Device,
+            ReadError::Memory => InputFault::Memory,
+        }
+    }
+}
+
+impl From<HexFault> for InputFault {
+    ghost from_gives = { λ error fault. fault ≡ fault_of_hexadecimal error };
+
+    fn from(fault: HexFault) -> Self {
+        match fault {
+            HexFault::Refused => InputFault::NotHexadecimal,
+            HexFault::Memory => InputFault::Memory,
+        }
+    }
+}
+
 /// The bytes that `input` writes in hexadecimal.
 pub fn hexadecimal_input<R: ByteIn>(alloc: Global, input: &mut R) -> Result<Vec<u8>, InputFault>
     ensures bytes { IfOk result (λ bytes. IfSome (R.to_come input.old) (λ text.
@@ -38,15 +62,6 @@ pub fn hexadecimal_input<R: ByteIn>(alloc: Global, input: &mut R) -> Result<Vec<
         (length text ≤ INPUT_LIMIT) × IsErr (decode_of (digits_of text))) }
     ensures device { IsErrOf result InputFault.Device → IsTrue (R.failed input.new) }
 {
-    let text = match read_to_end(alloc, input, INPUT_LIMIT) {
-        Ok(text) => text,
-        Err(ReadError::TooLong) => return Err(InputFault::TooLong),
-        Err(ReadError::Failed) => return Err(InputFault::Device),
-        Err(ReadError::Memory) => return Err(InputFault::Memory),
-    };
-    match bytes_of(alloc, text) {
-        Ok(bytes) => Ok(bytes),
-        Err(HexFault::Refused) => Err(InputFault::NotHexadecimal),
-        Err(HexFault::Memory) => Err(InputFault::Memory),
-    }
+    let text = read_to_end(alloc, input, INPUT_LIMIT)?;
+    Ok(bytes_of(alloc, text)?)
 }

@@ -4,14 +4,12 @@ ghost use Rattle.std.specs.Prelude.{◌≡◌, ◌≤◌, ◌++◌, ◌∷◌, l
 ghost use Rattle.escpos_cli.specs.Lines.{byte_value, command_line, end_line, fault_line, values_of, word_of};
 
 use arrayvec::ArrayVec;
+use escpos_command::bytes::LF;
 use escpos_command::{Command, FaultReason};
 use itoa::Buffer;
 
 /// What stands between the parts of a line.
 pub const SPACE: u8 = 0x20;
-
-/// What ends a line.
-pub const NEW_LINE: u8 = 0x0A;
 
 /// The most bytes that a line may have.
 pub const LINE_BYTES: usize = 128;
@@ -28,7 +26,7 @@ pub fn line_of(place: usize, command: &Command) -> Line
     line.try_extend_from_slice(word(command)).unwrap();
     line.try_extend_from_slice(values(command).as_slice())
         .unwrap();
-    line.push(NEW_LINE);
+    line.push(LF);
     line
 }
 
@@ -43,7 +41,7 @@ pub fn line_of_end(count: usize, pending: usize) -> Line
     line.try_extend_from_slice(b" pending ").unwrap();
     line.try_extend_from_slice(decimal(pending).as_slice())
         .unwrap();
-    line.push(NEW_LINE);
+    line.push(LF);
     line
 }
 
@@ -60,11 +58,11 @@ pub fn line_of_fault(place: usize, why: FaultReason) -> Line
         .unwrap();
     line.push(SPACE);
     line.try_extend_from_slice(why.name().as_bytes()).unwrap();
-    line.push(NEW_LINE);
+    line.push(LF);
     line
 }
 
-// A number in decimal.
+// The digits of a number: few enough that two numbers and their words fit into a line.
 fn decimal(number: usize) -> Line
     ensures value { result.items ≡ decimal number }
     ensures short { length result.items ≤ 40 }
@@ -134,7 +132,7 @@ fn values(command: &Command) -> Values
     }
 }
 
-// One byte.
+// A byte as it was sent: a space and its two digits.
 fn value(byte: u8) -> Values
     ensures value { result.items ≡ byte_value byte }
     ensures short { length result.items ≤ 3 }
@@ -146,7 +144,7 @@ fn value(byte: u8) -> Values
     values
 }
 
-// Two bytes.
+// The parameter bytes of a cut that feeds, the mode first.
 fn two_values(first: u8, second: u8) -> Values
     ensures { result.items ≡ byte_value first ++ byte_value second }
 {
@@ -157,7 +155,7 @@ fn two_values(first: u8, second: u8) -> Values
     values
 }
 
-// An id.
+// The bytes of an id can all be printed, so they stand as they are.
 fn id_value(id: [u8; 4]) -> Values
     ensures { result.items ≡ SPACE ∷ id }
 {

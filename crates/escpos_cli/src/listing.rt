@@ -28,7 +28,7 @@ pub enum Turn {
     On,
     /// It was refused.
     Refused(FaultReason),
-    /// There was no memory for it.
+    /// There was no memory for it, and nothing has changed.
     Memory,
     /// The line that it completed couldn't be put.
     Device,
@@ -41,7 +41,7 @@ pub enum Ending {
     Read,
     /// The one at this place was refused.
     Refused { place: usize, why: FaultReason },
-    /// There was no memory for one.
+    /// There was no memory for one; those before it were taken.
     Memory,
     /// A line couldn't be put.
     Device,

@@ -2,8 +2,7 @@
 
 ghost use Rattle.std.specs.Prelude.{◌≡◌, ◌≢◌, [], List, ℕ};
 
-use crate::listing::{Ending, Turn};
-use escpos_command::laws;
+use escpos_command::{FaultReason, laws};
 use escpos_decode::{DecodeFault, Decoder, Step};
 use escpos_paper::Page;
 use std::alloc::Global;
@@ -15,6 +14,15 @@ pub struct Printing {
     pub decoder: Decoder,
     /// Holds what the commands so far have printed.
     pub page: Page,
+}
+
+/// Why not all bytes are on paper.
+#[derive(Clone, Copy, Debug, PartialEq, Eq)]
+pub enum PrintFault {
+    /// The byte at this place was refused. The commands before it are on paper.
+    Refused { place: usize, why: FaultReason },
+    /// There was no memory for one.
+    Memory,
 }
 
 impl Printing {
@@ -31,33 +39,25 @@ impl Printing {
     }
 
     /// Takes all bytes, up to one that can't be taken, and prints the commands that they complete.
-    pub fn take_all(&mut self, bytes: &[u8]) -> Ending
-        ensures ends { EndsOnPaper result self.old self.new bytes.now }
-        ensures no_device { result ≢ Ending.Device }
+    pub fn take_all(&mut self, bytes: &[u8]) -> Result<(), PrintFault>
+        ensures { EndsOnPaper result self.old self.new bytes.now }
     {
         for (place, byte) in bytes.iter().enumerate() {
-            match self.take(*byte) {
-                Turn::On => {}
-                Turn::Refused(why) => return Ending::Refused { place, why },
-                Turn::Memory | Turn::Device => return Ending::Memory,
-            }
+            self.take(*byte, place)?;
         }
-        Ending::Read
+        Ok(())
     }
 
-    // Takes one byte.
-    fn take(&mut self, byte: u8) -> Turn
-        ensures { Prints result self.old self.new byte }
+    // Takes the byte at this place.
+    fn take(&mut self, byte: u8, place: usize) -> Result<(), PrintFault>
+        ensures { Prints result self.old self.new byte place }
     {
         laws::joined_readings();
         match self.decoder.push(byte) {
-            Ok(Step::More) => Turn::On,
-            Ok(Step::Done(command)) => match self.page.apply(command) {
-                Ok(()) => Turn::On,
-                Err(_) => Turn::Memory,
-            },
-            Err(DecodeFault::Fault { why, .. }) => Turn::Refused(why),
-            Err(DecodeFault::Memory) => Turn::Memory,
+            Ok(Step::More) => Ok(()),
+            Ok(Step::Done(command)) => self.page.apply(command).map_err(|_| PrintFault::Memory),
+            Err(DecodeFault::Fault { why, .. }) => Err(PrintFault::Refused { place, why }),
+            Err(DecodeFault::Memory) => Err(PrintFault::Memory),
         }
     }
 }

@@ -5,11 +5,10 @@ ghost use Rattle.std.specs.Io.KnownBytes.{Appends};
 ghost use Rattle.escpos_paper.specs.ItemsText.{items_text};
 ghost use Rattle.escpos_cli.specs.Render.{Renders, RendersInput, pending_line};
 
-use crate::check::{MEMORY, say, status_of};
-use crate::input::{InputFault, hexadecimal_input};
+use crate::input::hexadecimal_input;
 use crate::lines::{Line, line_of_end, line_of_fault};
-use crate::listing::Ending;
-use crate::printing::Printing;
+use crate::printing::{PrintFault, Printing};
+use crate::saying::{MEMORY, refuse, say, status_of};
 use crate::status::Status;
 use escpos_command::{ByteIn, ByteOut, laws, put_all};
 use escpos_paper::{Item, write_items};
@@ -18,7 +17,7 @@ use std::alloc::Global;
 /// Reads a stream in hexadecimal from `input` and writes the paper that it prints to `output`, an item a
 /// line, and the last line of the listing behind a fault or with a half command at the end.
 ///
-/// The statuses are those of `check`.
+/// The statuses are those of `check`. At `Memory` the line `memory` is all that goes out.
 pub fn render<R: ByteIn, W: ByteOut>(alloc: Global, input: &mut R, output: &mut W) -> Status
     ensures renders { IfSome (R.to_come input.old) (λ text. RendersInput (W.written output.old) (W.written output.new) text result) }
     ensures device { result ≡ Status.Device → IsTrue (R.failed input.new) ⊎ IsTrue (W.failed output.new) }
@@ -26,10 +25,7 @@ pub fn render<R: ByteIn, W: ByteOut>(alloc: Global, input: &mut R, output: &mut 
 {
     match hexadecimal_input(alloc, input) {
         Ok(bytes) => print(alloc, &bytes, output),
-        Err(InputFault::TooLong) => say(b"refused input\n", output, Status::Refused),
-        Err(InputFault::NotHexadecimal) => say(b"refused hex\n", output, Status::Refused),
-        Err(InputFault::Device) => Status::Device,
-        Err(InputFault::Memory) => say(MEMORY, output, Status::Memory),
+        Err(fault) => refuse(fault, output),
     }
 }
 
@@ -42,7 +38,7 @@ fn print<W: ByteOut>(alloc: Global, bytes: &[u8], output: &mut W) -> Status
     laws::one_reading();
     let mut printing = Printing::new(alloc);
     match printing.take_all(bytes) {
-        Ending::Read => {
+        Ok(()) => {
             let pending = printing.decoder.pending_len();
             let line = line_of_pending(bytes.len(), pending);
             put_paper(
@@ -52,7 +48,7 @@ fn print<W: ByteOut>(alloc: Global, bytes: &[u8], output: &mut W) -> Status
                 status_of(pending),
             )
         }
-        Ending::Refused { place, why } => {
+        Err(PrintFault::Refused { place, why }) => {
             let line = line_of_fault(place, why);
             put_paper(
                 printing.page.items(),
@@ -61,7 +57,7 @@ fn print<W: ByteOut>(alloc: Global, bytes: &[u8], output: &mut W) -> Status
                 Status::Refused,
             )
         }
-        Ending::Memory | Ending::Device => say(MEMORY, output, Status::Memory),
+        Err(PrintFault::Memory) => say(MEMORY, output, Status::Memory),
     }
 }
 

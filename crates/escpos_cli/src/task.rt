@@ -34,6 +34,18 @@ pub enum NoTask {
     Memory,
 }
 
+impl From<clap::Error> for NoTask {
+    ghost from_gives = { λ refusal fault. fault ≡ no_task_of (kind_of refusal) };
+
+    fn from(refusal: clap::Error) -> Self {
+        match refusal.kind() {
+            ErrorKind::DisplayHelp => NoTask::Help,
+            ErrorKind::OutOfMemory => NoTask::Memory,
+            _ => NoTask::Usage,
+        }
+    }
+}
+
 /// The text for words that name no task.
 pub const USAGE: &str = "\
 usage: escpos_cli check  < HEXADECIMAL
@@ -47,8 +59,9 @@ escpos_cli tells what an ESC/POS byte stream says to a receipt printer, or the
 exact byte at which the stream is refused.
 
 Both jobs read the stream from standard input, as hexadecimal digits of either
-case; spaces, tabs and line ends between them count for nothing. At most
-16777216 bytes are read.
+case; spaces, tabs and line ends between them count for nothing. Input of more
+than 16777216 bytes gives the one line `refused input`, any other that isn't
+hexadecimal `refused hex`. A last line `memory` says that memory has run out.
 
   escpos_cli check
       Lists the commands. Each gives one line: the number of bytes before it, its
@@ -74,6 +87,11 @@ case; spaces, tabs and line ends between them count for nothing. At most
           feed 1
           cut full
 
+      A style is [F,W,H,B,U,T]: font A or B, width, height, emphasis 1 or 0,
+      underline 0 to 2, code table. It stands before a character whose style isn't
+      that of the one before it; the first of a row is compared with the style at
+      power-on, [A,1,1,0,0,0].
+
   escpos_cli help
       Prints this text; so do --help and -h.
 
@@ -91,10 +109,8 @@ pub fn task_of<S: AsStr>(alloc: Global, words: &[S]) -> Result<Task, NoTask>
     ensures help_only { result ≡ Err NoTask.Help → (map S.text words.now ≡ codes "help" ∷ [])
         ⊎ IsAmong ErrorKind.DisplayHelp (fault_of command_words (map S.text words.now)) }
 {
-    match matches_of(alloc, words) {
-        Ok(matches) => task_named(matches.subcommand_name(), words.len()),
-        Err(refusal) => Err(no_task_by(refusal.kind())),
-    }
+    let matches = matches_of(alloc, words)?;
+    task_named(matches.subcommand_name(), words.len())
 }
 
 // What one of the program's words asks for, where so many words were given.
@@ -128,15 +144,4 @@ fn matches_of<'a, S: AsStr>(alloc: Global, words: &'a [S]) -> Result<ArgMatches<
         .subcommand(Command::new(alloc, "render"))?
         .subcommand(Command::new(alloc, "help"))?;
     command.try_get_matches_from(words)
-}
-
-// What a refusal of the words comes to.
-fn no_task_by(kind: ErrorKind) -> NoTask
-    ensures { result ≡ no_task_of kind }
-{
-    match kind {
-        ErrorKind::DisplayHelp => NoTask::Help,
-        ErrorKind::OutOfMemory => NoTask::Memory,
-        _ => NoTask::Usage,
-    }
 }

@@ -1,6 +1,7 @@
 //! What no clause says: that calls succeed, the texts, and the worked rows through the jobs.
 use crate::check::check;
 use crate::hexadecimal::{HexFault, bytes_of};
+use crate::perform::perform;
 use crate::render::render;
 use crate::status::Status;
 use crate::task::{HELP, NoTask, Task, USAGE, task_of};
@@ -245,6 +246,34 @@ fn a_long_listing_goes_out_in_pieces(rt: HostRuntime) -> Result<(), Fail> {
 }
 
 #[test]
+fn each_thing_asked_for(rt: HostRuntime) {
+    let rows: [(Result<Task, NoTask>, &[u8], Status); 5] = [
+        (
+            Ok(Task::Check),
+            b"0 char 41\n1 lf\nend 2 pending 0\n",
+            Status::Good,
+        ),
+        (Ok(Task::Render), b"row left A\nfeed 1\n", Status::Good),
+        (Err(NoTask::Help), HELP.as_bytes(), Status::Good),
+        (Err(NoTask::Usage), USAGE.as_bytes(), Status::Usage),
+        (Err(NoTask::Memory), b"memory\n", Status::Memory),
+    ];
+    let mut room = [0; 4096];
+    for (asked, output, status) in rows {
+        let mut source = MemoryIn::new(b"41 0A", 100);
+        let mut sink = MemoryOut::new(&mut room);
+        assert_eq!(rt; perform(rt.alloc(), asked, &mut source, &mut sink), status);
+        assert_eq!(rt; sink.written(), output);
+        let mut source = MemoryIn::new(b"41 0A", 100);
+        let mut sink = MemoryOut::new(&mut room[..3]);
+        assert_eq!(rt;
+            perform(rt.alloc(), asked, &mut source, &mut sink),
+            Status::Device
+        );
+    }
+}
+
+#[test]
 fn usage_and_help(rt: HostRuntime) {
     for word in ["check", "render", "help"] {
         assert!(rt; USAGE.contains(word));
@@ -253,52 +282,39 @@ fn usage_and_help(rt: HostRuntime) {
     assert!(rt; HELP.contains("0 good, 1 refused content, 2 usage, 3 device, 4 memory"));
 }
 
+// Words, and what they ask for.
+type Asked = (&'static [&'static str], Result<Task, NoTask>);
+
+const ASKED: [Asked; 22] = [
+    (&["check"], Ok(Task::Check)),
+    (&["render"], Ok(Task::Render)),
+    (&["help"], Err(NoTask::Help)),
+    (&["--help"], Err(NoTask::Help)),
+    (&["-h"], Err(NoTask::Help)),
+    (&["check", "--help"], Err(NoTask::Help)),
+    (&["render", "--help"], Err(NoTask::Help)),
+    (&[], Err(NoTask::Usage)),
+    (&[""], Err(NoTask::Usage)),
+    (&["-"], Err(NoTask::Usage)),
+    (&["--"], Err(NoTask::Usage)),
+    (&["nosuch"], Err(NoTask::Usage)),
+    (&["Check"], Err(NoTask::Usage)),
+    (&["chec"], Err(NoTask::Usage)),
+    (&["--nosuch"], Err(NoTask::Usage)),
+    (&["-V"], Err(NoTask::Usage)),
+    (&["--version"], Err(NoTask::Usage)),
+    (&["check", "--nosuch"], Err(NoTask::Usage)),
+    (&["check", "extra"], Err(NoTask::Usage)),
+    (&["check", "check"], Err(NoTask::Usage)),
+    (&["check", "--"], Err(NoTask::Usage)),
+    (&["check", "help"], Err(NoTask::Usage)),
+];
+
 #[test]
 fn words_name_tasks(rt: HostRuntime) {
-    for (word, task) in [("check", Task::Check), ("render", Task::Render)] {
-        let words = [word];
-        assert_eq!(rt; task_of(rt.alloc(), words.as_slice()), Ok(task));
+    for (words, asked) in ASKED {
+        assert_eq!(rt; task_of(rt.alloc(), words), asked, "{words:?}");
     }
-    for word in ["help", "--help", "-h"] {
-        let words = [word];
-        assert_eq!(rt;
-            task_of(rt.alloc(), words.as_slice()),
-            Err(NoTask::Help),
-            "{word}"
-        );
-    }
-    for word in [
-        "",
-        "-",
-        "--",
-        "nosuch",
-        "Check",
-        "chec",
-        "--nosuch",
-        "-V",
-        "--version",
-    ] {
-        let words = [word];
-        assert_eq!(rt;
-            task_of(rt.alloc(), words.as_slice()),
-            Err(NoTask::Usage),
-            "{word}"
-        );
-    }
-    for word in ["--nosuch", "extra", "check", "--", "help"] {
-        let words = ["check", word];
-        assert_eq!(rt;
-            task_of(rt.alloc(), words.as_slice()),
-            Err(NoTask::Usage),
-            "check {word}"
-        );
-    }
-    for word in ["check", "render"] {
-        let asked = [word, "--help"];
-        assert_eq!(rt; task_of(rt.alloc(), asked.as_slice()), Err(NoTask::Help));
-    }
-    let none: [&str; 0] = [];
-    assert_eq!(rt; task_of(rt.alloc(), none.as_slice()), Err(NoTask::Usage));
 }
 
 #[test]

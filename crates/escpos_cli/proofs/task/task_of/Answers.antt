@@ -1,5 +1,5 @@
 use Rattle.std.proofs.Common.{◌≡◌, ◌∙◌, ap, sym, inl, inr, map, length, Err, Ok, Result, Option, Some, List, ℕ, codes}
-use Rattle.std.proofs.lemmas.Result.{IfOk-weaker}
+use Rattle.std.proofs.lemmas.Result.{IfOk-weaker, err_from_is_err_and}
 use Rattle.std.proofs.lemmas.List.{length-map}
 use Rattle.clap.specs.Words.{fault_of}
 use Rattle.escpos_cli.specs.Task.{command_words, name_of}
@@ -16,42 +16,46 @@ is_named : (result : Result Task NoTask) (name : Option (List ℕ)) (count : ℕ
 is_named result name count check render Check e one = check e one
 is_named result name count check render Render e one = render e one
 
-pub returns-in-Ok-clause-task : goal.returns-in-Ok-clause-task
-returns-in-Ok-clause-task g c =
+pub returns-clause-task : goal.returns-clause-task
+returns-clause-task g c =
     let texts = map g.S.AsStr.text c.args.words.now in
-    let met = sym c.in-Ok.ensures.named ∙ sym c.subcommand_name.ensures in
+    let met = sym c.in_ok-matches.ensures.named ∙ sym c.subcommand_name.ensures in
     IfOk-weaker c.task_named.result _ _ (λ task h. is_task texts task (met ∙ h.0) (length-map _ _ ∙ h.1)) c.task_named.ensures.task
 
-pub returns-in-Ok-clause-named : goal.returns-in-Ok-clause-named
-returns-in-Ok-clause-named g c = λ task e.
+pub returns-clause-named : goal.returns-clause-named
+returns-clause-named g c = λ task e.
     inl (is_named c.task_named.result _ _ c.task_named.ensures.check c.task_named.ensures.render task
-    (c.subcommand_name.ensures ∙ c.in-Ok.ensures.named ∙ ap met_by e ∙ task_met task) (sym (length-map _ _) ∙ ap length e))
+    (c.subcommand_name.ensures ∙ c.in_ok-matches.ensures.named ∙ ap met_by e ∙ task_met task) (sym (length-map _ _) ∙ ap length e))
 
-pub returns-in-Ok-clause-help : goal.returns-in-Ok-clause-help
-returns-in-Ok-clause-help g c = λ asks. elim (is_help (map g.S.AsStr.text c.args.words.now) asks) [
-  | inl refused ↦ let bad = sym c.in-Ok.ensures.parsed ∙ refused in cc
-  | inr e ↦ inl (c.task_named.ensures.help (c.subcommand_name.ensures ∙ c.in-Ok.ensures.named ∙ ap met_by e ∙ help_met) (sym (length-map _ _) ∙ ap length e))
+pub returns-clause-help : goal.returns-clause-help
+returns-clause-help g c = λ asks. elim (is_help (map g.S.AsStr.text c.args.words.now) asks) [
+  | inl refused ↦ let bad = sym c.in_ok-matches.ensures.parsed ∙ refused in cc
+  | inr e ↦ inl (c.task_named.ensures.help (c.subcommand_name.ensures ∙ c.in_ok-matches.ensures.named ∙ ap met_by e ∙ help_met) (sym (length-map _ _) ∙ ap length e))
 ]
 
-pub returns-in-Ok-clause-help_only : goal.returns-in-Ok-clause-help_only
-returns-in-Ok-clause-help_only g c = λ e.
+pub returns-clause-help_only : goal.returns-clause-help_only
+returns-clause-help_only g c = λ e.
     let h = c.task_named.ensures.help_only e in
-    inl (is_help_word _ (sym c.in-Ok.ensures.named ∙ sym c.subcommand_name.ensures ∙ h.0) (length-map _ _ ∙ h.1))
+    inl (is_help_word _ (sym c.in_ok-matches.ensures.named ∙ sym c.subcommand_name.ensures ∙ h.0) (length-map _ _ ∙ h.1))
 
-pub returns-in-Err-clause-named : goal.returns-in-Err-clause-named
-returns-in-Err-clause-named g c = λ task e.
-    inr (ap Err (refused_for_memory _ c.in-Err.refusal _ _ (ap (fault_of command_words) e ∙ task_passes task) c.in-Err.ensures.refused c.kind.ensures c.no_task_by.ensures))
+pub returns-in_err-matches-clause-named : goal.returns-in_err-matches-clause-named
+returns-in_err-matches-clause-named g c = λ task e.
+    let p = err_from_is_err_and c.from_residual.result c.from_residual.ensures.1 in
+    inr (p.1 ∙ ap Err (refused_for_memory _ c.in_err-matches.field-0.0 _ (ap (fault_of command_words) e ∙ task_passes task) c.in_err-matches.ensures.refused p.2))
 
-pub returns-in-Err-clause-help : goal.returns-in-Err-clause-help
-returns-in-Err-clause-help g c = λ asks. elim (is_help (map g.S.AsStr.text c.args.words.now) asks) [
-  | inl one ↦ elim (refused_for_help _ c.in-Err.refusal _ _ one c.in-Err.ensures.refused c.kind.ensures c.no_task_by.ensures) [
-    | inl h ↦ inl (ap Err h)
-    | inr m ↦ inr (ap Err m)
-  ]
-  | inr e ↦ inr (ap Err (refused_for_memory _ c.in-Err.refusal _ _ (ap (fault_of command_words) e ∙ help_passes) c.in-Err.ensures.refused c.kind.ensures c.no_task_by.ensures))
-]
+pub returns-in_err-matches-clause-help : goal.returns-in_err-matches-clause-help
+returns-in_err-matches-clause-help g c = λ asks.
+    let p = err_from_is_err_and c.from_residual.result c.from_residual.ensures.1 in
+    elim (is_help (map g.S.AsStr.text c.args.words.now) asks) [
+      | inl one ↦ elim (refused_for_help _ c.in_err-matches.field-0.0 _ one c.in_err-matches.ensures.refused p.2) [
+        | inl h ↦ inl (p.1 ∙ ap Err h)
+        | inr m ↦ inr (p.1 ∙ ap Err m)
+      ]
+      | inr e ↦ inr (p.1 ∙ ap Err (refused_for_memory _ c.in_err-matches.field-0.0 _ (ap (fault_of command_words) e ∙ help_passes) c.in_err-matches.ensures.refused p.2))
+    ]
 
-pub returns-in-Err-clause-help_only : goal.returns-in-Err-clause-help_only
-returns-in-Err-clause-help_only g c = λ e.
-    let is_help : c.no_task_by.result ≡ Help = cc in
-    inr (help_is_among _ c.in-Err.refusal _ _ c.in-Err.ensures.refused c.kind.ensures c.no_task_by.ensures is_help)
+pub returns-in_err-matches-clause-help_only : goal.returns-in_err-matches-clause-help_only
+returns-in_err-matches-clause-help_only g c = λ e.
+    let p = err_from_is_err_and c.from_residual.result c.from_residual.ensures.1 in
+    let is_help : p.0 ≡ Help = cc in
+    inr (help_is_among _ c.in_err-matches.field-0.0 _ c.in_err-matches.ensures.refused p.2 is_help)

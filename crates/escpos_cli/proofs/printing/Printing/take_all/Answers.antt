@@ -1,10 +1,10 @@
 use Rattle.std.proofs.Common.{◌<◌, length, arith}
-use Rattle.escpos_cli.proofs.Listings.{bytes_around, length-front}
-use Rattle.escpos_cli.proofs.Papers.{stops_along}
+use Rattle.std.proofs.lemmas.Result.{err_from_is_err_and}
+use Rattle.escpos_cli.proofs.Papers.{stops_at}
 use Rattle.escpos_cli.proofs.printing.Printing.take_all.Goals as goal
 
-pub returns-in-Refused-clause-ends : goal.returns-in-Refused-clause-ends
-returns-in-Refused-clause-ends c =
+pub returns-in_err-take : goal.returns-in_err-take
+returns-in_err-take c =
     let inside : c.loop-place.place < length c.args.bytes.now = omega arith in
-    λ w. stops_along _ _ _ _ _ c.in-Refused.why (bytes_around c.args.bytes.now c.loop-place.place inside) (length-front c.args.bytes.now c.loop-place.place inside)
-    (c.in-Refused.ensures _ _ (c.loop-place.invariant w))
+    let p = err_from_is_err_and c.from_residual.result c.from_residual.ensures.1 in
+    rw (p.1, p.2) (stops_at _ _ _ _ _ c.in_err-take.field-0.0 inside c.loop-place.invariant c.in_err-take.ensures)

@@ -1,0 +1,48 @@
+//! What the program does for the words that it was given, over any source and sink: a job, or a text.
+
+ghost use Rattle.std.specs.Prelude.{◌≡◌, ◌⊎◌, IfSome, IsTrue};
+ghost use Rattle.escpos_cli.specs.declared.task.TheConstants.{HELP, USAGE};
+ghost use Rattle.escpos_cli.specs.Check.{Checks};
+ghost use Rattle.escpos_cli.specs.Render.{RendersInput};
+ghost use Rattle.escpos_cli.specs.Saying.{Says, memory_line};
+
+use crate::check::check;
+use crate::render::render;
+use crate::saying::{MEMORY, say};
+use crate::status::Status;
+use crate::task::{HELP, NoTask, Task, USAGE};
+use escpos_command::{ByteIn, ByteOut};
+use std::alloc::Global;
+
+/// Does what was asked for, and answers how it went.
+///
+/// A task is its job. Without one, `output` gets the help and the status is `Good`, or the usage and the
+/// status is `Usage`, or the line `memory` and the status is `Memory`; `input` isn't read. `Device` comes
+/// only where `input` or `output` has failed.
+pub fn perform<R: ByteIn, W: ByteOut>(
+    alloc: Global,
+    asked: Result<Task, NoTask>,
+    input: &mut R,
+    output: &mut W,
+) -> Status
+    ensures check { asked ≡ Ok Task.Check →
+        IfSome (R.to_come input.old) (λ text. Checks (W.written output.old) (W.written output.new) text result) }
+    ensures render { asked ≡ Ok Task.Render →
+        IfSome (R.to_come input.old) (λ text. RendersInput (W.written output.old) (W.written output.new) text result) }
+    ensures help { asked ≡ Err NoTask.Help →
+        Says (W.written output.old) (W.written output.new) (W.failed output.new) HELP.now Status.Good result }
+    ensures usage { asked ≡ Err NoTask.Usage →
+        Says (W.written output.old) (W.written output.new) (W.failed output.new) USAGE.now Status.Usage result }
+    ensures memory { asked ≡ Err NoTask.Memory →
+        Says (W.written output.old) (W.written output.new) (W.failed output.new) memory_line Status.Memory result }
+    ensures device { result ≡ Status.Device → IsTrue (R.failed input.new) ⊎ IsTrue (W.failed output.new) }
+    ensures usage_only { result ≡ Status.Usage → asked ≡ Err NoTask.Usage }
+{
+    match asked {
+        Ok(Task::Check) => check(alloc, input, output),
+        Ok(Task::Render) => render(alloc, input, output),
+        Err(NoTask::Help) => say(HELP.as_bytes(), output, Status::Good),
+        Err(NoTask::Usage) => say(USAGE.as_bytes(), output, Status::Usage),
+        Err(NoTask::Memory) => say(MEMORY, output, Status::Memory),
+    }
+}
