@@ -1,6 +1,7 @@
 //! The job `check`: what a byte stream says, a line for each command.
 
-ghost use Rattle.std.specs.Prelude.{◌≡◌, ◌≢◌, ◌⊎◌, IfSome, IsTrue};
+ghost use Rattle.std.specs.Prelude.{◌≡◌, ◌≢◌, ◌⊎◌, ◌+◌, ◌≤◌, IfSome, IsTrue};
+ghost use Rattle.escpos_cli.specs.declared.input.TheConstants.{INPUT_LIMIT};
 ghost use Rattle.escpos_cli.specs.Check.{Checks, Lists};
 
 use crate::input::hexadecimal_input;
@@ -16,12 +17,16 @@ use std::alloc::Global;
 /// The status is `Good` where all bytes are read with nothing left, and `Refused` behind a fault, with a
 /// half command at the end, or for input that is too long or no hexadecimal, which prints one line of its
 /// own. `Memory` comes for want of memory: then the line `memory` stands behind the lines of the commands so
-/// far. `Device` comes only where `input` or `output` has failed, and `Usage` never.
+/// far. `Device` comes only where `input` or `output` has failed, and no other status hides that `output` has;
+/// `Usage` never comes. `input` is pulled at most 16,777,217 times.
 #[tactic(auto, using(crate::proofs::Ends::cut_short_at_once))]
 pub fn check<R: ByteIn, W: ByteOut>(alloc: Global, input: &mut R, output: &mut W) -> Status
     ensures checks { IfSome (R.to_come input.old) (λ text. Checks (W.written output.old) (W.written output.new) text result) }
     ensures device { result ≡ Status.Device → IsTrue (R.failed input.new) ⊎ IsTrue (W.failed output.new) }
+    ensures not_hidden { result ≢ Status.Device → ¬ IsTrue (W.failed output.old) → ¬ IsTrue (W.failed output.new) }
+    ensures all_read { result ≡ Status.Good → ¬ IsTrue (R.failed input.new) }
     ensures never_usage { result ≢ Status.Usage }
+    ensures pulls { R.pull_count input.new ≤ R.pull_count input.old + INPUT_LIMIT + 1 }
 {
     match hexadecimal_input(alloc, input) {
         Ok(bytes) => list(alloc, &bytes, output),
@@ -33,6 +38,7 @@ pub fn check<R: ByteIn, W: ByteOut>(alloc: Global, input: &mut R, output: &mut W
 fn list<W: ByteOut>(alloc: Global, bytes: &[u8], output: &mut W) -> Status
     ensures lists { Lists (W.written output.old) (W.written output.new) bytes.now result }
     ensures device { result ≡ Status.Device → IsTrue (W.failed output.new) }
+    ensures not_hidden { result ≢ Status.Device → ¬ IsTrue (W.failed output.old) → ¬ IsTrue (W.failed output.new) }
     ensures never_usage { result ≢ Status.Usage }
 {
     laws::one_reading();

@@ -1,6 +1,6 @@
 //! Hexadecimal input: all of a source, read to its end and turned into bytes.
 
-ghost use Rattle.std.specs.Prelude.{◌≡◌, ◌<◌, ◌≤◌, length, IfOk, IfSome, IsErr, IsErrOf, IsTrue};
+ghost use Rattle.std.specs.Prelude.{◌≡◌, ◌+◌, ◌<◌, ◌≤◌, length, IfOk, OnOk, IfSome, IsErr, IsErrOf, IsTrue};
 ghost use Rattle.hex.specs.Hex.{decode_of};
 ghost use Rattle.escpos_cli.specs.Hexadecimal.{IsHexadecimal, digits_of};
 ghost use Rattle.escpos_cli.specs.Input.{fault_of_hexadecimal, fault_of_reading};
@@ -53,7 +53,8 @@ impl From<HexFault> for InputFault {
     }
 }
 
-/// The bytes that `input` writes in hexadecimal.
+/// The bytes that `input` writes in hexadecimal. At most 16,777,217 bytes are pulled, in as many calls at
+/// most.
 pub fn hexadecimal_input<R: ByteIn>(alloc: Global, input: &mut R) -> Result<Vec<u8>, InputFault>
     ensures bytes { IfOk result (λ bytes. IfSome (R.to_come input.old) (λ text.
         (length text ≤ INPUT_LIMIT) × IsHexadecimal text bytes.items)) }
@@ -61,6 +62,8 @@ pub fn hexadecimal_input<R: ByteIn>(alloc: Global, input: &mut R) -> Result<Vec<
     ensures not_hexadecimal { IsErrOf result InputFault.NotHexadecimal → IfSome (R.to_come input.old) (λ text.
         (length text ≤ INPUT_LIMIT) × IsErr (decode_of (digits_of text))) }
     ensures device { IsErrOf result InputFault.Device → IsTrue (R.failed input.new) }
+    ensures not_failed { OnOk result (¬ IsTrue (R.failed input.new)) }
+    ensures pulls { R.pull_count input.new ≤ R.pull_count input.old + INPUT_LIMIT + 1 }
 {
     let text = read_to_end(alloc, input, INPUT_LIMIT)?;
     Ok(bytes_of(alloc, text)?)

@@ -68,6 +68,7 @@ impl Listing {
         ensures ends { EndsAs result (W.written output.old) (W.written output.new) self.old self.new bytes.now }
         ensures few { result ≢ Ending.Device → given_of self.new ≤ 128 * length bytes.now }
         ensures device { result ≡ Ending.Device → IsTrue (W.failed output.new) }
+        ensures not_hidden { result ≢ Ending.Device → ¬ IsTrue (W.failed output.old) → ¬ IsTrue (W.failed output.new) }
     {
         for (place, byte) in bytes.iter().enumerate() {
             match self.take(*byte, place + 1, output) {
@@ -86,6 +87,7 @@ impl Listing {
         ensures takes { Takes result (W.written output.old) (W.written output.new) self.old self.new byte count }
         ensures few { result ≢ Turn.Device → given_of self.new ≤ given_of self.old + 128 }
         ensures device { result ≡ Turn.Device → IsTrue (W.failed output.new) }
+        ensures not_hidden { result ≢ Turn.Device → ¬ IsTrue (W.failed output.old) → ¬ IsTrue (W.failed output.new) }
     {
         laws::joined_readings();
         match self.decoder.push(byte) {
@@ -119,6 +121,7 @@ pub fn finish<W: ByteOut>(
     ensures out { result ≢ Status.Device → (first : Option (List ℕ)) (total : List ℕ) →
         Carries first (W.written output.old) gather.old total → Appends first (W.written output.new) (total ++ line.now) }
     ensures status { (result ≡ status) ⊎ ((result ≡ Status.Device) × IsTrue (W.failed output.new)) }
+    ensures not_hidden { result ≢ Status.Device → ¬ IsTrue (W.failed output.old) → ¬ IsTrue (W.failed output.new) }
 {
     if gather.put(line, output).is_err() {
         return Status::Device;

@@ -1,6 +1,6 @@
 //! What the program does for the words that it was given, over any source and sink: a job, or a text.
 
-ghost use Rattle.std.specs.Prelude.{◌≡◌, ◌⊎◌, IfSome, IsTrue};
+ghost use Rattle.std.specs.Prelude.{◌≡◌, ◌≢◌, ◌⊎◌, IfSome, IsTrue};
 ghost use Rattle.escpos_cli.specs.declared.task.TheConstants.{HELP, USAGE};
 ghost use Rattle.escpos_cli.specs.Check.{Checks};
 ghost use Rattle.escpos_cli.specs.Render.{RendersInput};
@@ -36,6 +36,7 @@ pub fn perform<R: ByteIn, W: ByteOut>(
     ensures memory { asked ≡ Err NoTask.Memory →
         Says (W.written output.old) (W.written output.new) (W.failed output.new) memory_line Status.Memory result }
     ensures device { result ≡ Status.Device → IsTrue (R.failed input.new) ⊎ IsTrue (W.failed output.new) }
+    ensures not_hidden { result ≢ Status.Device → ¬ IsTrue (W.failed output.old) → ¬ IsTrue (W.failed output.new) }
     ensures usage_only { result ≡ Status.Usage → asked ≡ Err NoTask.Usage }
 {
     match asked {

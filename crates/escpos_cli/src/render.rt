@@ -1,8 +1,9 @@
 //! The job `render`: what a byte stream prints, as text.
 
-ghost use Rattle.std.specs.Prelude.{◌≡◌, ◌≢◌, ◌⊎◌, ◌++◌, IfSome, IsTrue};
+ghost use Rattle.std.specs.Prelude.{◌≡◌, ◌≢◌, ◌⊎◌, ◌+◌, ◌≤◌, ◌++◌, IfSome, IsTrue};
 ghost use Rattle.std.specs.Io.KnownBytes.{Appends};
 ghost use Rattle.escpos_paper.specs.ItemsText.{items_text};
+ghost use Rattle.escpos_cli.specs.declared.input.TheConstants.{INPUT_LIMIT};
 ghost use Rattle.escpos_cli.specs.Render.{Renders, RendersInput, pending_line};
 
 use crate::input::hexadecimal_input;
@@ -21,7 +22,10 @@ use std::alloc::Global;
 pub fn render<R: ByteIn, W: ByteOut>(alloc: Global, input: &mut R, output: &mut W) -> Status
     ensures renders { IfSome (R.to_come input.old) (λ text. RendersInput (W.written output.old) (W.written output.new) text result) }
     ensures device { result ≡ Status.Device → IsTrue (R.failed input.new) ⊎ IsTrue (W.failed output.new) }
+    ensures not_hidden { result ≢ Status.Device → ¬ IsTrue (W.failed output.old) → ¬ IsTrue (W.failed output.new) }
+    ensures all_read { result ≡ Status.Good → ¬ IsTrue (R.failed input.new) }
     ensures never_usage { result ≢ Status.Usage }
+    ensures pulls { R.pull_count input.new ≤ R.pull_count input.old + INPUT_LIMIT + 1 }
 {
     match hexadecimal_input(alloc, input) {
         Ok(bytes) => print(alloc, &bytes, output),
@@ -33,6 +37,7 @@ pub fn render<R: ByteIn, W: ByteOut>(alloc: Global, input: &mut R, output: &mut 
 fn print<W: ByteOut>(alloc: Global, bytes: &[u8], output: &mut W) -> Status
     ensures renders { Renders (W.written output.old) (W.written output.new) bytes.now result }
     ensures device { result ≡ Status.Device → IsTrue (W.failed output.new) }
+    ensures not_hidden { result ≢ Status.Device → ¬ IsTrue (W.failed output.old) → ¬ IsTrue (W.failed output.new) }
     ensures never_usage { result ≢ Status.Usage }
 {
     laws::one_reading();
@@ -77,6 +82,7 @@ fn put_paper<W: ByteOut>(items: &[Item], line: &[u8], output: &mut W, status: St
     ensures out { result ≢ Status.Device →
         Appends (W.written output.old) (W.written output.new) (items_text items.now ++ line.now) }
     ensures status { (result ≡ status) ⊎ ((result ≡ Status.Device) × IsTrue (W.failed output.new)) }
+    ensures not_hidden { result ≢ Status.Device → ¬ IsTrue (W.failed output.old) → ¬ IsTrue (W.failed output.new) }
 {
     if write_items(items, output).is_err() {
         return Status::Device;

@@ -11,9 +11,11 @@ use escpos_command::{ByteOut, put_all};
 /// What is printed last where there isn't enough memory.
 pub const MEMORY: &[u8] = b"memory\n";
 
-/// Puts a text. The status is the one that is given, or `Device` where `output` has failed.
+/// Puts a text. The status is the one that is given, or `Device` where `output` has failed: a failure is
+/// never hidden behind another status.
 pub fn say<W: ByteOut>(text: &[u8], output: &mut W, status: Status) -> Status
-    ensures { Says (W.written output.old) (W.written output.new) (W.failed output.new) text.now status result }
+    ensures says { Says (W.written output.old) (W.written output.new) (W.failed output.new) text.now status result }
+    ensures not_hidden { result ≢ Status.Device → ¬ IsTrue (W.failed output.old) → ¬ IsTrue (W.failed output.new) }
 {
     match put_all(text, output) {
         Ok(()) => status,
@@ -32,6 +34,7 @@ pub fn refuse<W: ByteOut>(fault: InputFault, output: &mut W) -> Status
     ensures memory { fault ≡ InputFault.Memory →
         Says (W.written output.old) (W.written output.new) (W.failed output.new) memory_line Status.Memory result }
     ensures device { fault ≡ InputFault.Device → result ≡ Status.Device }
+    ensures not_hidden { result ≢ Status.Device → ¬ IsTrue (W.failed output.old) → ¬ IsTrue (W.failed output.new) }
 {
     match fault {
         InputFault::TooLong => say(b"refused input\n", output, Status::Refused),
