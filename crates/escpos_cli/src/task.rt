@@ -64,10 +64,10 @@ than 16777216 bytes gives the one line `refused input`, any other that isn't
 hexadecimal `refused hex`. A last line `memory` says that memory has run out.
 
   escpos_cli check
-      Lists the commands. Each gives one line: the number of bytes before it, its
-      name, and what it carries. The last line is `end N pending P`, where N bytes
-      were read and the last P of them are a command that isn't complete, or
-      `fault K NUMBER NAME`, where the byte at place K is refused.
+      Lists the commands. Each gives one line: the number of bytes before it,
+      its name, and what it carries. The last line is `end N pending P`, where N
+      bytes were read and the last P of them are a command that isn't complete,
+      or `fault K NUMBER NAME`, where the byte at place K is refused.
 
           $ echo '1B 40 48 69 0A 1D 56 00' | escpos_cli check
           0 init
@@ -78,9 +78,10 @@ hexadecimal `refused hex`. A last line `memory` says that memory has run out.
           end 8 pending 0
 
   escpos_cli render
-      Writes the paper that the commands print, an item a line: rows of characters
-      with their alignment and styles, feeds and cuts. Behind a refused byte or a
-      command that isn't complete the last line of `check` follows.
+      Writes the paper that the commands print, an item a line: rows of
+      characters with their alignment and styles, feeds and cuts. Behind a
+      refused byte or a command that isn't complete the last line of `check`
+      follows.
 
           $ echo '1B 40 48 69 0A 1D 56 00' | escpos_cli render
           row left Hi
@@ -88,9 +89,9 @@ hexadecimal `refused hex`. A last line `memory` says that memory has run out.
           cut full
 
       A style is [F,W,H,B,U,T]: font A or B, width, height, emphasis 1 or 0,
-      underline 0 to 2, code table. It stands before a character whose style isn't
-      that of the one before it; the first of a row is compared with the style at
-      power-on, [A,1,1,0,0,0].
+      underline 0 to 2, code table. It stands in front of a character whose
+      style differs from that of the one before it, or, for the first of a row,
+      from the style at power-on, [A,1,1,0,0,0].
 
   escpos_cli help
       Prints this text; so do --help and -h.
