@@ -6,7 +6,7 @@ use Rattle.escpos_command.specs.declared.command.Command.{Command}
 use Rattle.escpos_command.specs.declared.fault.FaultReason.{FaultReason}
 use Rattle.escpos_command.specs.Grammar.{Reads}
 use Rattle.escpos_command.specs.Laws.{IsRead, IsRefused}
-use Rattle.escpos_command.specs.Gather.{Carries}
+use Rattle.escpos_io.specs.Gather.{Carries}
 use Rattle.escpos_cli.specs.declared.listing.Listing.{Listing}
 use Rattle.escpos_cli.specs.declared.status.Status.{Status}
 use Rattle.escpos_cli.specs.declared.status.Status.TheVariants.{Good, Refused, Device, Memory}

@@ -7,7 +7,7 @@ use Rattle.escpos_command.specs.declared.command.Command.{Command}
 use Rattle.escpos_command.specs.declared.fault.FaultReason.{FaultReason}
 use Rattle.escpos_command.specs.Table.{Spells, row, spell}
 use Rattle.escpos_command.specs.Grammar.{Reads, FaultAt}
-use Rattle.escpos_command.specs.Gather.{Carries}
+use Rattle.escpos_io.specs.Gather.{Carries}
 use Rattle.escpos_cli.specs.declared.listing.Listing.{Listing}
 use Rattle.escpos_cli.specs.Lines.{command_line, command_lines}
 use Rattle.escpos_cli.specs.Listing.{Listed, RefusedAt}

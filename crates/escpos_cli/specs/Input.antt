@@ -1,6 +1,6 @@
 -- Why an input gives no bytes: what the errors below it come to.
-use Rattle.escpos_command.specs.declared.device.reading.ReadError.{ReadError}
-use Rattle.escpos_command.specs.declared.device.reading.ReadError.TheVariants as reading
+use Rattle.escpos_io.specs.declared.reading.ReadError.{ReadError}
+use Rattle.escpos_io.specs.declared.reading.ReadError.TheVariants as reading
 use Rattle.escpos_cli.specs.declared.hexadecimal.HexFault.{HexFault}
 use Rattle.escpos_cli.specs.declared.hexadecimal.HexFault.TheVariants as hexadecimal
 use Rattle.escpos_cli.specs.declared.input.InputFault.{InputFault}

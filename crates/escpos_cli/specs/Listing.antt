@@ -4,7 +4,7 @@ use Rattle.escpos_command.specs.declared.command.Command.{Command}
 use Rattle.escpos_command.specs.declared.fault.FaultReason.{FaultReason}
 use Rattle.escpos_command.specs.Table.{spell}
 use Rattle.escpos_command.specs.Grammar.{Reads, FaultAt}
-use Rattle.escpos_command.specs.Gather.{Carries}
+use Rattle.escpos_io.specs.Gather.{Carries}
 use Rattle.escpos_cli.specs.declared.listing.Listing.{Listing}
 use Rattle.escpos_cli.specs.declared.listing.Turn.{Turn}
 use Rattle.escpos_cli.specs.declared.listing.Turn.TheVariants as turn

@@ -9,7 +9,8 @@ use crate::lines::{line_of_end, line_of_fault};
 use crate::listing::{Ending, Listing, finish};
 use crate::saying::{MEMORY, refuse, status_of};
 use crate::status::Status;
-use escpos_command::{ByteIn, ByteOut, laws};
+use escpos_command::laws;
+use escpos_io::{ByteIn, ByteOut};
 use std::alloc::Global;
 
 /// Reads a stream in hexadecimal from `input` and lists its commands on `output`.

@@ -6,7 +6,7 @@ ghost use Rattle.escpos_cli.specs.Hexadecimal.{IsHexadecimal, digits_of};
 ghost use Rattle.escpos_cli.specs.Input.{fault_of_hexadecimal, fault_of_reading};
 
 use crate::hexadecimal::{HexFault, bytes_of};
-use escpos_command::{ByteIn, ReadError, read_to_end};
+use escpos_io::{ByteIn, ReadError, read_to_end};
 use std::alloc::Global;
 use thiserror::Error;
 

@@ -2,11 +2,12 @@
 
 ghost use Rattle.std.specs.Prelude.{◌≡◌, ◌≢◌, ◌⊎◌, ◌+◌, ◌*◌, ◌<◌, ◌≤◌, ◌^◌, ◌++◌, [], List, ℕ, Option, IsTrue, length};
 ghost use Rattle.std.specs.Io.KnownBytes.{Appends};
-ghost use Rattle.escpos_command.specs.Gather.{Carries};
+ghost use Rattle.escpos_io.specs.Gather.{Carries};
 
 use crate::lines::line_of;
 use crate::status::Status;
-use escpos_command::{ByteOut, Command, FaultReason, Gather, laws};
+use escpos_command::{Command, FaultReason, laws};
+use escpos_io::{ByteOut, Gather};
 use escpos_decode::{DecodeFault, Decoder, Step};
 use std::alloc::Global;
 

@@ -21,7 +21,7 @@ mod task;
 #[cfg(test)]
 mod tests;
 
-use escpos_command::{Incoming, Outgoing};
+use escpos_io::{Incoming, Outgoing};
 use perform::perform;
 use std::process::ExitCode;
 use std::{env, io};

@@ -11,7 +11,7 @@ use crate::render::render;
 use crate::saying::{MEMORY, say};
 use crate::status::Status;
 use crate::task::{HELP, NoTask, Task, USAGE};
-use escpos_command::{ByteIn, ByteOut};
+use escpos_io::{ByteIn, ByteOut};
 use std::alloc::Global;
 
 /// Does what was asked for, and answers how it went.

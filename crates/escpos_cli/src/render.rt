@@ -11,7 +11,8 @@ use crate::lines::{Line, line_of_end, line_of_fault};
 use crate::printing::{PrintFault, Printing};
 use crate::saying::{MEMORY, refuse, say, status_of};
 use crate::status::Status;
-use escpos_command::{ByteIn, ByteOut, laws, put_all};
+use escpos_command::laws;
+use escpos_io::{ByteIn, ByteOut, put_all};
 use escpos_paper::{Item, write_items};
 use std::alloc::Global;
 

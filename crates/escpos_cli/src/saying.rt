@@ -6,7 +6,7 @@ ghost use Rattle.escpos_cli.specs.Saying.{Says, StatusFits, memory_line};
 
 use crate::input::InputFault;
 use crate::status::Status;
-use escpos_command::{ByteOut, put_all};
+use escpos_io::{ByteOut, put_all};
 
 /// What is printed last where there isn't enough memory.
 pub const MEMORY: &[u8] = b"memory\n";

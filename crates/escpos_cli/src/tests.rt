@@ -5,7 +5,7 @@ use crate::perform::perform;
 use crate::render::render;
 use crate::status::Status;
 use crate::task::{HELP, NoTask, Task, USAGE, task_of};
-use escpos_command::{MemoryIn, MemoryOut};
+use escpos_io::{MemoryIn, MemoryOut};
 use std::process::Abort;
 use std::test::Fail;
 

@@ -5,6 +5,5 @@ pub mod Readings
 pub mod Told
 pub mod Places
 pub mod Ids
-pub mod Gathered
 pub mod Spellings
 pub mod TextBytes

@@ -9,10 +9,5 @@ pub mod Laws
 pub mod Next
 pub mod Lead
 pub mod Reading
-pub mod Source
-pub mod Incoming
-pub mod Outgoing
-pub mod Memory
 pub mod Text
-pub mod Gather
 pub mod Chars

@@ -1,12 +1,9 @@
 //! ESC/POS commands of the Kolatennis profile: values, spellings, and the laws that join them.
-//!
-//! `device` has the readers and writers that every program core of this repository is written over.
 #![tactic(auto)]
 
 pub mod bytes;
 pub mod chars;
 pub mod command;
-pub mod device;
 pub mod fault;
 pub mod laws;
 pub mod mark;
@@ -18,10 +15,6 @@ pub mod writing;
 
 pub use chars::{CharsFault, chars_of};
 pub use command::{Command, LONGEST_SPELLING};
-pub use device::{
-    ByteIn, ByteOut, Device, Failed, Gather, Incoming, MemoryIn, MemoryOut, Outgoing, ReadError,
-    put_all, read_to_end,
-};
 pub use fault::FaultReason;
 pub use mark::MarkId;
 pub use parameter::{

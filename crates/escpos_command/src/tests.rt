@@ -3,6 +3,7 @@
 
 use super::*;
 use crate::plain::{End, read};
+use escpos_io::{Device, MemoryOut, Outgoing};
 use std::alloc::Global;
 use std::process::Abort;
 use std::test::Fail;
@@ -302,20 +303,5 @@ fn small_pieces_go_out_in_order(rt: HostRuntime) -> Result<(), Fail> {
     let mut sink = Outgoing::new(Vec::new(rt.alloc()));
     assert_eq!(rt; write_commands(&commands, &mut sink), Ok(()));
     assert_eq!(rt; sink.into_inner().as_slice(), want.as_slice());
-    Ok(())
-}
-
-// A piece that is larger than what is kept back at most goes out behind what was kept back.
-#[test]
-fn a_large_piece_goes_out_in_order(rt: HostRuntime) -> Result<(), Fail> {
-    let mut sink = Outgoing::new(Vec::new(rt.alloc()));
-    let mut gather = Gather::new();
-    gather.put(&[9], &mut sink)?;
-    gather.put(&[7; 5000], &mut sink)?;
-    gather.flush(&mut sink)?;
-    let out = sink.into_inner();
-    assert_eq!(rt; out.len(), 5001);
-    assert_eq!(rt; out[0], 9);
-    assert_eq!(rt; out[5000], 7);
     Ok(())
 }

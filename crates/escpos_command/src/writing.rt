@@ -2,11 +2,11 @@
 
 ghost use Rattle.std.specs.Prelude.{OnOk, IfErr, IsTrue};
 ghost use Rattle.std.specs.Io.KnownBytes.{Appends};
-ghost use Rattle.escpos_command.specs.Gather.{StopsIn};
+ghost use Rattle.escpos_io.specs.Gather.{StopsIn};
 ghost use Rattle.escpos_command.specs.Table.{spell};
 
 use crate::command::Command;
-use crate::device::{ByteOut, Device, Gather};
+use escpos_io::{ByteOut, Device, Gather};
 
 /// Puts the spellings of `commands`, one behind another, into `writer`. Takes no memory.
 ///

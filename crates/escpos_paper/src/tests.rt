@@ -2,7 +2,7 @@
 
 use super::*;
 use escpos_command::plain::{End, read};
-use escpos_command::{Device, MemoryOut};
+use escpos_io::{Device, MemoryOut};
 use std::alloc::Global;
 use std::process::Abort;
 use std::test::Fail;

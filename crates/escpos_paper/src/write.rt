@@ -2,12 +2,12 @@
 
 ghost use Rattle.std.specs.Prelude.{OnOk, IfErr, IsTrue};
 ghost use Rattle.std.specs.Io.KnownBytes.{Appends};
-ghost use Rattle.escpos_command.specs.Gather.{StopsIn};
+ghost use Rattle.escpos_io.specs.Gather.{StopsIn};
 ghost use Rattle.escpos_paper.specs.ItemsText.{items_text};
 
 use crate::item::Item;
 use crate::text::{Text, set_item};
-use escpos_command::{ByteOut, Device, Gather};
+use escpos_io::{ByteOut, Device, Gather};
 
 /// Writes a line for each item. Takes no memory.
 ///

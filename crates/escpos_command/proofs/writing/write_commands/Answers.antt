@@ -1,7 +1,7 @@
 use Rattle.std.proofs.Common.{◌≡◌, ◌<◌, ◌≤◌, [], length, arith, ◌∙◌, subst, append-nil}
 use Rattle.std.proofs.lemmas.Result.{err_from_is_err_and, IfErr-weaker, on_ok_weaker}
 use Rattle.std.specs.Io.KnownBytes.{Appends}
-use Rattle.escpos_command.specs.Gather.{Carries, StopsIn}
+use Rattle.escpos_io.specs.Gather.{Carries, StopsIn}
 use Rattle.escpos_command.specs.Table.{row}
 use Rattle.escpos_command.proofs.Spellings.{spell_more, spell_all, spell_around}
 use Rattle.escpos_command.proofs.writing.write_commands.Goals as goal

@@ -1,5 +1,5 @@
 use Rattle.std.proofs.Common.{◌+◌, ◌*◌, ◌≤◌, length, take, IsTrue}
-use Rattle.escpos_command.specs.Gather.{Carries}
+use Rattle.escpos_io.specs.Gather.{Carries}
 use Rattle.escpos_command.specs.Table.{spell}
 use Rattle.escpos_command.proofs.writing.write_commands.Given as goal
 

@@ -1,5 +1,5 @@
 use Rattle.std.proofs.Common.{◌+◌, ◌*◌, ◌≤◌, length, take, IsTrue}
-use Rattle.escpos_command.specs.Gather.{Carries}
+use Rattle.escpos_io.specs.Gather.{Carries}
 use Rattle.escpos_paper.specs.ItemsText.{items_text}
 use Rattle.escpos_paper.proofs.write.write_items.Given as goal
 

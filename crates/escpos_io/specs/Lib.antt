@@ -1,0 +1,5 @@
+pub mod Source
+pub mod Incoming
+pub mod Outgoing
+pub mod Memory
+pub mod Gather

@@ -1,0 +1,45 @@
+-- What a `MemoryIn` and a `MemoryOut` show.
+use Rattle.std.specs.Prelude.{ℕ, ◌-◌, List, take, drop, length, max, Option, Some}
+use Rattle.escpos_io.specs.declared.memory_in.MemoryIn.{MemoryIn}
+use Rattle.escpos_io.specs.declared.memory_out.MemoryOut.{MemoryOut}
+use Rattle.escpos_io.specs.Source.{bytes_to_come}
+
+-- the bytes of the slice that no pull gave
+abbrev pub bytes_left : MemoryIn → List ℕ
+bytes_left source = source.left.now
+
+-- what a `MemoryIn` gives from here on
+abbrev pub to_come_of : MemoryIn → Option (List ℕ)
+to_come_of source = bytes_to_come source.progress (Some source.left.now)
+
+-- how many bytes one pull gives at most
+abbrev pub most_per_pull : MemoryIn → ℕ
+most_per_pull source = max source.most 1
+
+-- the call of `pull` from which on each fails
+abbrev pub pull_failing_from : MemoryIn → Option ℕ
+pull_failing_from source = source.from_call
+
+-- the bytes put so far
+abbrev pub written_bytes : MemoryOut → List ℕ
+written_bytes sink = take sink.len sink.room.now
+
+-- what the slice has behind the bytes put so far
+abbrev pub unwritten_bytes : MemoryOut → List ℕ
+unwritten_bytes sink = drop sink.len sink.room.now
+
+-- how many more bytes the slice has room for
+abbrev pub room_left : MemoryOut → ℕ
+room_left sink = length sink.room.now - sink.len
+
+-- how many bytes one put takes at most
+abbrev pub most_per_put : MemoryOut → ℕ
+most_per_put sink = max sink.most 1
+
+-- the call of `put` from which on each fails
+abbrev pub put_failing_from : MemoryOut → Option ℕ
+put_failing_from sink = sink.from_call
+
+-- how often `put` was called
+abbrev pub put_count : MemoryOut → ℕ
+put_count sink = sink.puts

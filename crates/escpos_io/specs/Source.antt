@@ -1,0 +1,27 @@
+-- What the progress of a source says of it.
+use Rattle.std.specs.Prelude.{ℕ, Bool, true, false, List, [], Option, None, Some, ◌≤◌}
+use Rattle.escpos_io.specs.declared.source.Progress.{Progress}
+use Rattle.escpos_io.specs.declared.source.Progress.TheVariants.{Open, Ended, Failed}
+
+-- a source with this progress has failed
+abbrev pub has_failed_of : Progress → Bool
+has_failed_of Open = false
+has_failed_of Ended = false
+has_failed_of Failed = true
+
+-- a source with this progress has ended
+abbrev pub has_ended_of : Progress → Bool
+has_ended_of Open = false
+has_ended_of Ended = true
+has_ended_of Failed = false
+
+-- what a source gives from here on, over bytes of which `left` is known: after its end it gives none
+abbrev pub bytes_to_come : Progress → Option (List ℕ) → Option (List ℕ)
+bytes_to_come Open left = left
+bytes_to_come Ended left = Some []
+bytes_to_come Failed left = left
+
+-- call `call` is to fail, where the calls from a given one on do
+abbrev pub IsDue : Option ℕ → ℕ → Type 0
+IsDue None call = ⊥
+IsDue (Some from_call) call = from_call ≤ call

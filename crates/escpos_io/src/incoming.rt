@@ -1,0 +1,107 @@
+//! `Incoming`: a standard reader as a source of bytes.
+
+ghost use Rattle.std.specs.Prelude.{◌≡◌, ℕ, ◌+◌, ◌-◌, ◌^◌, ◌<◌, ◌≤◌, ◌⊎◌, ◌↔◌, min, length, take, false, Some, IsTrue, IsErr, IfOk, MatchResult};
+ghost use Rattle.std.specs.Io.KnownBytes.{Keeps, Consumes, IsAtEnd};
+ghost use Rattle.escpos_io.specs.Source.{has_failed_of, has_ended_of, bytes_to_come};
+ghost use Rattle.escpos_io.specs.Incoming.{reader_of};
+
+use crate::source::Progress;
+use crate::{ByteIn, Failed};
+use std::io::Read;
+
+/// A source over a standard reader, such as a socket or standard input.
+///
+/// Any error of the reader, an interruption too, is a failure. After a failure, and after the end, the
+/// reader is never called again.
+#[derive(Drop)]
+pub struct Incoming<R: Read> {
+    reader: R,
+    progress: Progress,
+    pulls: u64,
+}
+
+impl<R: Read> Incoming<R> {
+    /// A source of what `reader` gives from here on.
+    pub fn new(reader: R) -> Self
+        ensures reader { reader_of result ≡ reader }
+        ensures to_come { ⟦<Incoming<R> as ByteIn>⟧.to_come result ≡ R.remaining reader }
+        ensures failed { ⟦<Incoming<R> as ByteIn>⟧.failed result ≡ false }
+        ensures ended { ⟦<Incoming<R> as ByteIn>⟧.ended result ≡ false }
+        ensures pull_count { ⟦<Incoming<R> as ByteIn>⟧.pull_count result ≡ 0 }
+    {
+        Incoming {
+            reader,
+            progress: Progress::Open,
+            pulls: 0,
+        }
+    }
+
+    /// The reader, with what it hasn't given yet.
+    pub fn into_inner(self) -> R
+        ensures { result ≡ reader_of self }
+    {
+        let Incoming {
+            reader,
+            progress: _,
+            pulls: _,
+        } = self;
+        reader
+    }
+
+    // One read of a source that neither failed nor ended.
+    fn pull_open(&mut self, piece: &mut [u8]) -> Result<usize, Failed>
+        requires { self.old.progress ≡ Progress.Open }
+        ensures within { IfOk result (λ n. n ≤ length piece.old) }
+        ensures bytes { MatchResult result
+            (λ n. Consumes (R.remaining self.old.reader)
+            (bytes_to_come self.new.progress (R.remaining self.new.reader)) (take n piece.new))
+            (λ _. Keeps (R.remaining self.old.reader) (R.remaining self.new.reader)) }
+        ensures failed { (self.new.progress ≡ Progress.Failed) ↔ IsErr result }
+        ensures ended { (self.new.progress ≡ Progress.Ended)
+            ↔ ((result ≡ Ok 0) × (0 < length piece.old)) }
+        ensures same_count { self.new.pulls ≡ self.old.pulls }
+    {
+        match self.reader.read(piece) {
+            Ok(0) if !piece.is_empty() => {
+                self.progress = Progress::Ended;
+                Ok(0)
+            }
+            Ok(taken) => Ok(taken),
+            Err(_) => {
+                self.progress = Progress::Failed;
+                Err(Failed)
+            }
+        }
+    }
+}
+
+impl<R: Read> ByteIn for Incoming<R> {
+    ghost to_come = { λ source. bytes_to_come source.progress (R.remaining source.reader) };
+
+    ghost failed = { λ source. has_failed_of source.progress };
+
+    ghost ended = { λ source. has_ended_of source.progress };
+
+    ghost pull_count = { λ source. source.pulls };
+
+    fn pull(&mut self, piece: &mut [u8]) -> Result<usize, Failed> {
+        self.pulls = self.pulls.saturating_add(1);
+        match self.progress {
+            Progress::Open => self.pull_open(piece),
+            Progress::Ended => Ok(0),
+            Progress::Failed => Err(Failed),
+        }
+    }
+
+    fn has_failed(&self) -> bool {
+        self.progress.has_failed()
+    }
+
+    fn has_ended(&self) -> bool {
+        self.progress.has_ended()
+    }
+
+    fn pulls(&self) -> u64 {
+        self.pulls
+    }
+}

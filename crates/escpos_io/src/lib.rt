@@ -1,0 +1,28 @@
+//! What a core may know of the world: bytes that come in, and bytes that go out.
+//!
+//! `device` has the two traits that every core of this repository is written over, and says what they
+//! promise. `incoming` and `outgoing` are the devices of a program, standard readers and writers;
+//! `memory_in` and `memory_out` are slices, for tests. `reading` and `putting` move a whole run of bytes, and
+//! `gather` joins small pieces to large ones. Nothing here knows a command.
+#![tactic(auto)]
+
+mod device;
+mod gather;
+mod incoming;
+mod memory_in;
+mod memory_out;
+mod outgoing;
+mod putting;
+mod reading;
+mod source;
+#[cfg(test)]
+mod tests;
+
+pub use device::{ByteIn, ByteOut, Failed};
+pub use gather::{GATHERED_BYTES, Gather};
+pub use incoming::Incoming;
+pub use memory_in::MemoryIn;
+pub use memory_out::MemoryOut;
+pub use outgoing::Outgoing;
+pub use putting::{Device, put_all};
+pub use reading::{ReadError, read_to_end};

@@ -1,0 +1,134 @@
+//! `MemoryIn`: a slice as a source of bytes, for tests.
+
+ghost use Rattle.std.specs.Prelude.{◌≡◌, ℕ, ◌+◌, ◌-◌, ◌^◌, ◌<◌, ◌≤◌, ◌⊎◌, ◌↔◌, min, max, length, take, ◌++◌, ◌≢◌, false, None, Some, IsTrue, IsErr, IfOk, MatchResult};
+ghost use Rattle.std.specs.Io.KnownBytes.{Keeps, Consumes, IsAtEnd};
+ghost use Rattle.escpos_io.specs.Source.{has_failed_of, has_ended_of, IsDue};
+ghost use Rattle.escpos_io.specs.Memory.{to_come_of, bytes_left, most_per_pull, pull_failing_from};
+
+use crate::source::{Progress, is_due};
+use crate::{ByteIn, Failed};
+
+/// A source of the bytes of a slice, a few at a time, that may fail from some call on.
+#[derive(Debug, Drop)]
+pub struct MemoryIn<'a> {
+    left: &'a [u8],
+    most: usize,
+    from_call: Option<u64>,
+    progress: Progress,
+    pulls: u64,
+}
+
+impl<'a> MemoryIn<'a> {
+    /// A source of `bytes`, of which one `pull` gives at most `most`; 0 counts as 1 there.
+    pub fn new(bytes: &'a [u8], most: usize) -> Self
+        ensures to_come { ⟦<MemoryIn<'a> as ByteIn>⟧.to_come result ≡ Some bytes.now }
+        ensures failed { ⟦<MemoryIn<'a> as ByteIn>⟧.failed result ≡ false }
+        ensures ended { ⟦<MemoryIn<'a> as ByteIn>⟧.ended result ≡ false }
+        ensures pull_count { ⟦<MemoryIn<'a> as ByteIn>⟧.pull_count result ≡ 0 }
+        ensures most { most_per_pull result ≡ max most 1 }
+        ensures never_fails { pull_failing_from result ≡ None }
+    {
+        MemoryIn {
+            left: bytes,
+            most,
+            from_call: None,
+            progress: Progress::Open,
+            pulls: 0,
+        }
+    }
+
+    /// The same, where each call of `pull` from `from_call` on fails; the first call is number 1.
+    ///
+    /// Where the end was found before that call, `pull` answers 0 for good and doesn't fail.
+    pub fn failing(bytes: &'a [u8], most: usize, from_call: u64) -> Self
+        ensures to_come { ⟦<MemoryIn<'a> as ByteIn>⟧.to_come result ≡ Some bytes.now }
+        ensures failed { ⟦<MemoryIn<'a> as ByteIn>⟧.failed result ≡ false }
+        ensures ended { ⟦<MemoryIn<'a> as ByteIn>⟧.ended result ≡ false }
+        ensures pull_count { ⟦<MemoryIn<'a> as ByteIn>⟧.pull_count result ≡ 0 }
+        ensures most { most_per_pull result ≡ max most 1 }
+        ensures fails { pull_failing_from result ≡ Some from_call }
+    {
+        MemoryIn {
+            from_call: Some(from_call),
+            ..MemoryIn::new(bytes, most)
+        }
+    }
+
+    // The next bytes, of a source that neither failed nor ended.
+    fn pull_open(&mut self, piece: &mut [u8]) -> usize
+        requires { self.old.progress ≡ Progress.Open }
+        ensures amount { result
+            ≡ min (min (length (bytes_left self.old)) (length piece.old)) (most_per_pull self.old) }
+        ensures bytes { bytes_left self.old ≡ take result piece.new ++ bytes_left self.new }
+        ensures not_failed { self.new.progress ≢ Progress.Failed }
+        ensures ended { (self.new.progress ≡ Progress.Ended)
+            ↔ ((result ≡ 0) × (0 < length piece.old)) }
+        ensures same_count { self.new.pulls ≡ self.old.pulls }
+        ensures same_most { most_per_pull self.new ≡ most_per_pull self.old }
+        ensures same_failing { pull_failing_from self.new ≡ pull_failing_from self.old }
+    {
+        let taken = self.left.len().min(piece.len()).min(self.most.max(1));
+        piece[..taken].copy_from_slice(&self.left[..taken]);
+        self.left = &self.left[taken..];
+        if taken == 0 && !piece.is_empty() {
+            self.progress = Progress::Ended;
+        }
+        taken
+    }
+}
+
+impl ByteIn for MemoryIn<'_> {
+    ghost to_come = { to_come_of };
+
+    ghost failed = { λ source. has_failed_of source.progress };
+
+    ghost ended = { λ source. has_ended_of source.progress };
+
+    ghost pull_count = { λ source. source.pulls };
+
+    fn pull(&mut self, piece: &mut [u8]) -> Result<usize, Failed>
+        ensures within { IfOk result (λ n. n ≤ length piece.old) }
+        ensures bytes { MatchResult result
+            (λ n. Consumes (to_come_of self.old) (to_come_of self.new) (take n piece.new))
+            (λ _. Keeps (to_come_of self.old) (to_come_of self.new)) }
+        ensures failed { IsTrue (has_failed_of self.new.progress) ↔ IsErr result }
+        ensures stays_failed { IsTrue (has_failed_of self.old.progress) → IsErr result }
+        ensures ended { IsTrue (has_ended_of self.new.progress)
+            ↔ (IsTrue (has_ended_of self.old.progress) ⊎ ((result ≡ Ok 0) × (0 < length piece.old))) }
+        ensures stays_ended { IsTrue (has_ended_of self.old.progress) → result ≡ Ok 0 }
+        ensures at_end { IsTrue (has_ended_of self.new.progress) → IsAtEnd (to_come_of self.new) }
+        ensures counted { self.new.pulls ≡ min (self.old.pulls + 1) (2 ^ 64 - 1) }
+        ensures fails { IsErr result → IsTrue (has_failed_of self.old.progress)
+            ⊎ IsDue (pull_failing_from self.old) self.new.pulls }
+        ensures due { IsDue (pull_failing_from self.old) self.new.pulls
+            → IsErr result ⊎ IsTrue (has_ended_of self.old.progress) }
+        ensures amount { ¬ IsTrue (has_ended_of self.old.progress) → IfOk result (λ n.
+            n ≡ min (min (length (bytes_left self.old)) (length piece.old)) (most_per_pull self.old)) }
+        ensures same_most { most_per_pull self.new ≡ most_per_pull self.old }
+        ensures same_failing { pull_failing_from self.new ≡ pull_failing_from self.old }
+    {
+        self.pulls = self.pulls.saturating_add(1);
+        match self.progress {
+            Progress::Ended => return Ok(0),
+            Progress::Failed => return Err(Failed),
+            Progress::Open => {}
+        }
+        if is_due(self.from_call, self.pulls) {
+            self.progress = Progress::Failed;
+            return Err(Failed);
+        }
+        Ok(self.pull_open(piece))
+    }
+
+    fn has_failed(&self) -> bool {
+        self.progress.has_failed()
+    }
+
+    fn has_ended(&self) -> bool {
+        self.progress.has_ended()
+    }
+
+    fn pulls(&self) -> u64 {
+        self.pulls
+    }
+}

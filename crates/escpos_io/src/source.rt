@@ -1,0 +1,35 @@
+//! How far a source of bytes has come, which `Incoming` and `MemoryIn` both keep.
+//!
+//! Where the bytes come from is left to them.
+
+ghost use Rattle.std.specs.Prelude.{◌≡◌, ◌↔◌, IsTrue};
+ghost use Rattle.escpos_io.specs.Source.{has_failed_of, has_ended_of, IsDue};
+
+/// Whether a source can still give bytes. An end and a failure are both for good.
+#[derive(Clone, Copy, Debug, PartialEq, Eq)]
+pub(super) enum Progress {
+    Open,
+    Ended,
+    Failed,
+}
+
+impl Progress {
+    pub(super) fn has_failed(self) -> bool
+        ensures { result ≡ has_failed_of self }
+    {
+        matches!(self, Progress::Failed)
+    }
+
+    pub(super) fn has_ended(self) -> bool
+        ensures { result ≡ has_ended_of self }
+    {
+        matches!(self, Progress::Ended)
+    }
+}
+
+/// Whether call number `call` fails, where the calls from `from_call` on do.
+pub(super) fn is_due(from_call: Option<u64>, call: u64) -> bool
+    ensures { IsTrue result ↔ IsDue from_call call }
+{
+    from_call.is_some_and(|first| first <= call)
+}

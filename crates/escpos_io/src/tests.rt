@@ -1,0 +1,251 @@
+//! What no clause says: devices whose reader or writer fails once, and each call on its happy path.
+
+use super::*;
+use std::io;
+use std::io::{Error, ErrorKind, Read, Write};
+use std::test::Fail;
+
+// A reader whose first read is interrupted; later ones give one byte each.
+#[derive(Drop)]
+struct InterruptedOnce {
+    reads: u32,
+}
+
+impl Read for InterruptedOnce {
+    fn read(&mut self, buf: &mut [u8]) -> io::Result<usize> {
+        self.reads = self.reads.saturating_add(1);
+        if self.reads == 1 {
+            return Err(Error::from(ErrorKind::Interrupted));
+        }
+        if buf.is_empty() {
+            return Ok(0);
+        }
+        buf[0] = 7;
+        Ok(1)
+    }
+}
+
+// A writer that takes nothing at its first write, and later everything.
+#[derive(Drop)]
+struct StuckOnce {
+    writes: u32,
+}
+
+impl Write for StuckOnce {
+    fn write(&mut self, buf: &[u8]) -> io::Result<usize> {
+        self.writes = self.writes.saturating_add(1);
+        if self.writes == 1 {
+            return Ok(0);
+        }
+        Ok(buf.len())
+    }
+
+    fn flush(&mut self) -> io::Result<()> {
+        Ok(())
+    }
+}
+
+// A writer whose first write is interrupted; later ones take everything.
+#[derive(Drop)]
+struct FailingOnce {
+    writes: u32,
+}
+
+impl Write for FailingOnce {
+    fn write(&mut self, buf: &[u8]) -> io::Result<usize> {
+        self.writes = self.writes.saturating_add(1);
+        if self.writes == 1 {
+            return Err(Error::from(ErrorKind::Interrupted));
+        }
+        Ok(buf.len())
+    }
+
+    fn flush(&mut self) -> io::Result<()> {
+        Ok(())
+    }
+}
+
+#[test]
+fn memory_in_gives_a_few_bytes_a_call(rt: HostRuntime) {
+    let mut source = MemoryIn::new(b"hello", 2);
+    let mut piece = [0u8; 4];
+    assert_eq!(rt; source.pull(&mut piece), Ok(2));
+    assert_eq!(rt; piece, *b"he\0\0");
+    assert_eq!(rt; source.pull(&mut piece), Ok(2));
+    assert_eq!(rt; source.pull(&mut piece), Ok(1));
+    assert_eq!(rt; piece, *b"ol\0\0");
+    assert!(rt; !source.has_ended());
+    assert_eq!(rt; source.pull(&mut []), Ok(0));
+    assert!(rt; !source.has_ended());
+    assert_eq!(rt; source.pull(&mut piece), Ok(0));
+    assert!(rt; source.has_ended());
+    assert!(rt; !source.has_failed());
+    assert_eq!(rt; source.pulls(), 5);
+}
+
+#[test]
+fn memory_in_of_most_0_gives_a_byte_a_call(rt: HostRuntime) {
+    let mut source = MemoryIn::new(b"ab", 0);
+    let mut piece = [0u8; 4];
+    assert_eq!(rt; source.pull(&mut piece), Ok(1));
+    assert_eq!(rt; piece[0], b'a');
+}
+
+#[test]
+fn memory_in_fails_from_its_call_on(rt: HostRuntime) {
+    let mut source = MemoryIn::failing(b"hello", 2, 2);
+    let mut piece = [0u8; 4];
+    assert_eq!(rt; source.pull(&mut piece), Ok(2));
+    assert_eq!(rt; source.pull(&mut piece), Err(Failed));
+    assert!(rt; source.has_failed());
+    assert_eq!(rt; source.pull(&mut piece), Err(Failed));
+    assert_eq!(rt; source.pulls(), 3);
+}
+
+#[test]
+fn memory_in_that_ended_does_not_fail(rt: HostRuntime) {
+    let mut source = MemoryIn::failing(b"hi", 2, 3);
+    let mut piece = [0u8; 4];
+    assert_eq!(rt; source.pull(&mut piece), Ok(2));
+    assert_eq!(rt; source.pull(&mut piece), Ok(0));
+    assert_eq!(rt; source.pull(&mut piece), Ok(0));
+    assert!(rt; !source.has_failed());
+    assert_eq!(rt; source.pulls(), 3);
+}
+
+#[test]
+fn memory_out_fails_once_it_is_full(rt: HostRuntime) {
+    let mut room = [0u8; 3];
+    let mut sink = MemoryOut::new(&mut room);
+    assert_eq!(rt; sink.put(b"ab"), Ok(2));
+    assert_eq!(rt; sink.put(b"cd"), Ok(1));
+    assert_eq!(rt; sink.put(b""), Ok(0));
+    assert!(rt; !sink.has_failed());
+    assert_eq!(rt; sink.put(b"d"), Err(Failed));
+    assert!(rt; sink.has_failed());
+    assert_eq!(rt; sink.put(b""), Err(Failed));
+    assert_eq!(rt; sink.written(), b"abc".as_slice());
+}
+
+#[test]
+fn memory_out_fails_from_its_call_on(rt: HostRuntime) {
+    let mut room = [0u8; 8];
+    let mut sink = MemoryOut::failing(&mut room, 2);
+    assert_eq!(rt; sink.put(b"ab"), Ok(2));
+    assert_eq!(rt; sink.put(b"cd"), Err(Failed));
+    assert_eq!(rt; sink.put(b"ef"), Err(Failed));
+    assert_eq!(rt; sink.written(), b"ab".as_slice());
+}
+
+#[test]
+fn incoming_gives_what_its_reader_has(rt: HostRuntime) {
+    let text: &[u8] = b"abc";
+    let mut source = Incoming::new(text);
+    let mut piece = [0u8; 2];
+    assert_eq!(rt; source.pull(&mut piece), Ok(2));
+    assert_eq!(rt; piece, *b"ab");
+    assert_eq!(rt; source.pull(&mut piece), Ok(1));
+    assert_eq!(rt; source.pull(&mut piece), Ok(0));
+    assert!(rt; source.has_ended());
+    assert_eq!(rt; source.pull(&mut piece), Ok(0));
+    assert!(rt; !source.has_failed());
+    assert_eq!(rt; source.pulls(), 4);
+    assert_eq!(rt; source.into_inner().len(), 0);
+}
+
+#[test]
+fn incoming_stays_failed(rt: HostRuntime) {
+    let mut source = Incoming::new(InterruptedOnce { reads: 0 });
+    let mut piece = [0u8; 2];
+    assert_eq!(rt; source.pull(&mut piece), Err(Failed));
+    assert_eq!(rt; source.pull(&mut piece), Err(Failed));
+    assert!(rt; source.has_failed());
+    assert_eq!(rt; source.pulls(), 2);
+    assert_eq!(rt; source.into_inner().reads, 1);
+}
+
+#[test]
+fn outgoing_puts_into_its_writer(rt: HostRuntime) {
+    let mut sink = Outgoing::new(Vec::new(rt.alloc()));
+    assert_eq!(rt; sink.put(b"ab"), Ok(2));
+    assert_eq!(rt; sink.put(b""), Ok(0));
+    assert_eq!(rt; put_all(b"cde", &mut sink), Ok(()));
+    assert!(rt; !sink.has_failed());
+    assert_eq!(rt; sink.into_inner().as_slice(), b"abcde".as_slice());
+}
+
+#[test]
+fn outgoing_stays_failed(rt: HostRuntime) {
+    let mut stuck = Outgoing::new(StuckOnce { writes: 0 });
+    assert_eq!(rt; stuck.put(b"ab"), Err(Failed));
+    assert_eq!(rt; stuck.put(b"ab"), Err(Failed));
+    assert!(rt; stuck.has_failed());
+    assert_eq!(rt; stuck.into_inner().writes, 1);
+    let mut failing = Outgoing::new(FailingOnce { writes: 0 });
+    assert_eq!(rt; failing.put(b"ab"), Err(Failed));
+    assert_eq!(rt; failing.put(b"ab"), Err(Failed));
+    assert_eq!(rt; failing.into_inner().writes, 1);
+}
+
+#[test]
+fn put_all_says_how_much_was_written(rt: HostRuntime) {
+    let mut room = [0u8; 5];
+    let mut sink = MemoryOut::new(&mut room);
+    assert_eq!(rt; put_all(b"abcdefg", &mut sink), Err(Device { written: 5 }));
+    assert_eq!(rt; sink.written(), b"abcde".as_slice());
+    assert_eq!(rt; put_all(b"h", &mut sink), Err(Device { written: 0 }));
+    assert_eq!(rt; put_all(b"", &mut sink), Ok(()));
+    let mut room = [0u8; 5];
+    let mut sink = MemoryOut::taking(&mut room, 2);
+    assert_eq!(rt; put_all(b"abcde", &mut sink), Ok(()));
+    assert_eq!(rt; sink.written(), b"abcde".as_slice());
+}
+
+#[test]
+fn read_to_end_up_to_a_limit(rt: HostRuntime) -> Result<(), Fail> {
+    let mut source = MemoryIn::new(b"hello", 2);
+    let all = read_to_end(rt.alloc(), &mut source, 5).map_err(name_of)?;
+    assert_eq!(rt; all.as_slice(), b"hello".as_slice());
+    assert!(rt; source.has_ended());
+    let mut source = MemoryIn::new(b"hello", 2);
+    let all = read_to_end(rt.alloc(), &mut source, usize::MAX).map_err(name_of)?;
+    assert_eq!(rt; all.as_slice(), b"hello".as_slice());
+    let mut source = MemoryIn::new(b"hello", 9);
+    assert!(rt;
+        matches!(
+            read_to_end(rt.alloc(), &mut source, 4),
+            Err(ReadError::TooLong)
+        )
+    );
+    let mut source = MemoryIn::failing(b"hello", 2, 2);
+    assert!(rt;
+        matches!(
+            read_to_end(rt.alloc(), &mut source, 5),
+            Err(ReadError::Failed)
+        )
+    );
+    Ok(())
+}
+
+fn name_of(error: ReadError) -> &'static str {
+    match error {
+        ReadError::TooLong => "too long",
+        ReadError::Failed => "failed",
+        ReadError::Memory => "memory",
+    }
+}
+
+// A piece that is larger than what is kept back at most goes out behind what was kept back.
+#[test]
+fn a_large_piece_goes_out_in_order(rt: HostRuntime) -> Result<(), Fail> {
+    let mut sink = Outgoing::new(Vec::new(rt.alloc()));
+    let mut gather = Gather::new();
+    gather.put(&[9], &mut sink)?;
+    gather.put(&[7; 5000], &mut sink)?;
+    gather.flush(&mut sink)?;
+    let out = sink.into_inner();
+    assert_eq!(rt; out.len(), 5001);
+    assert_eq!(rt; out[0], 9);
+    assert_eq!(rt; out[5000], 7);
+    Ok(())
+}
