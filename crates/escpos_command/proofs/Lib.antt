@@ -2,8 +2,6 @@ pub mod Walks
 pub mod Combinators
 pub mod Rows
 pub mod Readings
-pub mod Told
-pub mod Places
 pub mod Ids
 pub mod Spellings
 pub mod TextBytes

@@ -11,7 +11,7 @@ use Rattle.escpos_command.specs.declared.command.Command.TheVariants.{LineFeed}
 use Rattle.escpos_command.specs.declared.fault.FaultReason.{FaultReason}
 use Rattle.escpos_command.specs.Table.{Spells, IsCommand, row, spell}
 use Rattle.escpos_command.specs.Grammar.{Viable, Half, Reads, FaultAt}
-use Rattle.escpos_command.specs.Places.{reason_behind}
+use Rattle.escpos_command.specs.Places.{reason_after}
 use Rattle.escpos_command.specs.Tree.{Tree, dead, leaf, node, walk, grammar}
 use Rattle.escpos_command.proofs.Walks.{IsLive, Good, walk-append, walk-nil, good_walk, good_live}
 use Rattle.escpos_command.proofs.Rows.{leads, good}
@@ -44,12 +44,12 @@ pub half_at_node : (bs : List ℕ) (next : ℕ → Tree) → bs ≢ [] → walk 
 half_at_node bs next begun e = record {
   begun = begun;
   viable = viable_where_live bs (subst (λ t. IsLive t) (sym e) tt);
-  unfinished = λ c s. let h = sym (leads_spelling c bs s) ∙ e in cc;
+  no_spelling = λ c s. let h = sym (leads_spelling c bs s) ∙ e in cc;
 }
 
 node_of : (bs : List ℕ) (t : Tree) → walk grammar bs ≡ t → Half bs → (next : ℕ → Tree) × (walk grammar bs ≡ node next)
 node_of bs dead e h = absurd (not_viable_at_dead bs e h.viable)
-node_of bs (leaf c) e h = absurd (h.unfinished c (spelling_at_leaf c bs e))
+node_of bs (leaf c) e h = absurd (h.no_spelling c (spelling_at_leaf c bs e))
 node_of bs (node next) e h = (next, e)
 
 pub node_at_half : (bs : List ℕ) → Half bs → (next : ℕ → Tree) × (walk grammar bs ≡ node next)
@@ -60,7 +60,7 @@ viable_prefix bs more v = (v.0, more ++ v.1, subst (λ xs. Spells v.0 xs) (appen
 
 -- ## The first command of a byte list
 
--- The command that the tree reads first, and the bytes behind it.
+-- The command that the tree reads first, and the bytes after it.
 abbrev run : Tree → List ℕ → Option (Command × List ℕ)
 run dead bs = None
 run (leaf c) bs = Some (c, bs)
@@ -88,16 +88,16 @@ run-row c more h = run-spelling grammar (row c) more c (leads c h)
 abbrev Silent : List ℕ → Type 0
 Silent bs = run grammar bs ≡ None
 
-abbrev Pending : List ℕ → Type 0
-Pending rest = (rest ≡ []) ⊎ Half rest
+abbrev IsRest : List ℕ → Type 0
+IsRest rest = (rest ≡ []) ⊎ Half rest
 
-silent_pending : (rest : List ℕ) → Pending rest → Silent rest
-silent_pending rest (inl e) = ap (run grammar) e
-silent_pending rest (inr h) =
+silent_rest : (rest : List ℕ) → IsRest rest → Silent rest
+silent_rest rest (inl e) = ap (run grammar) e
+silent_rest rest (inr h) =
     let n = node_at_half rest h in
     ap (run grammar) (sym (append-nil rest)) ∙ run-node grammar rest [] n.0 n.1
 
--- Where a byte behind a pending rest is refused, no command is whole, whatever follows.
+-- Where a byte after a rest is refused, no command is whole, whatever follows.
 silent_at_dead : (t : Tree) (rest : List ℕ) (b : ℕ) (more : List ℕ) (next : ℕ → Tree) → walk t rest ≡ node next → (walk t (rest ++ b ∷ []) ≡ dead) → run t (rest ++ b ∷ more) ≡ None
 silent_at_dead t rest b more next e d =
     let after : next b ≡ dead = sym (walk-nil (next b)) ∙ ap (λ u. walk u (b ∷ [])) (sym e) ∙ sym (walk-append t rest (b ∷ [])) ∙ d in
@@ -111,13 +111,13 @@ dead_where_refused bs (node next) e r = absurd (r (viable_where_live bs (subst (
 pub dead_at_refused : (bs : List ℕ) → (Viable bs → ⊥) → walk grammar bs ≡ dead
 dead_at_refused bs r = dead_where_refused bs (walk grammar bs) refl r
 
-node_at_pending : (rest : List ℕ) → Pending rest → (next : ℕ → Tree) × (walk grammar rest ≡ node next)
-node_at_pending rest (inl e) = (_, ap (walk grammar) e)
-node_at_pending rest (inr h) = node_at_half rest h
+node_at_rest : (rest : List ℕ) → IsRest rest → (next : ℕ → Tree) × (walk grammar rest ≡ node next)
+node_at_rest rest (inl e) = (_, ap (walk grammar) e)
+node_at_rest rest (inr h) = node_at_half rest h
 
-silent_refused : (rest : List ℕ) (b : ℕ) (more : List ℕ) → Pending rest → (Viable (rest ++ b ∷ []) → ⊥) → Silent (rest ++ b ∷ more)
+silent_refused : (rest : List ℕ) (b : ℕ) (more : List ℕ) → IsRest rest → (Viable (rest ++ b ∷ []) → ⊥) → Silent (rest ++ b ∷ more)
 silent_refused rest b more p r =
-    let n = node_at_pending rest p in silent_at_dead grammar rest b more n.0 n.1 (dead_at_refused (rest ++ b ∷ []) r)
+    let n = node_at_rest rest p in silent_at_dead grammar rest b more n.0 n.1 (dead_at_refused (rest ++ b ∷ []) r)
 
 -- ## One reading
 
@@ -136,7 +136,7 @@ some_first : (c d : Command) (x y : List ℕ) → found c x ≡ found d y → (c
 unfolding command_of rest_of
 some_first c d x y e = (ap command_of e, ap rest_of e)
 
--- Joined spellings with nothing whole behind them are of one list of commands, and of one rest.
+-- Joined spellings, followed by nothing whole, are those of one list of commands, and of one rest.
 one_split : (cs ds : List Command) (x y : List ℕ) → AllByRecursion IsCommand cs → AllByRecursion IsCommand ds → Silent x → Silent y
     → spell cs ++ x ≡ spell ds ++ y → (cs ≡ ds) × (x ≡ y)
 one_split [] [] x y hc hd sx sy e = (refl, e)
@@ -155,11 +155,11 @@ one_split (c ∷ cs) (d ∷ ds) x y hc hd sx sy e =
 
 pub one_reading : (bs : List ℕ) (cs ds : List Command) (x y : List ℕ) → Reads bs cs x → Reads bs ds y → (cs ≡ ds) × (x ≡ y)
 one_reading bs cs ds x y r s =
-    one_split cs ds x y r.commands s.commands (silent_pending x r.pending) (silent_pending y s.pending) (sym r.whole ∙ s.whole)
+    one_split cs ds x y r.commands s.commands (silent_rest x r.left) (silent_rest y s.left) (sym r.whole ∙ s.whole)
 
 -- ## One fault
 
--- A list is what is before a place, the element there, and what is behind it.
+-- A list is what is before a place, the element there, and what follows.
 around : (bs : List ℕ) (k : ℕ) → k < length bs → bs ≡ take k bs ++ slice_index bs k ∷ drop (k + 1) bs
 around bs k h = grind (arith, common_steps)
 
@@ -172,12 +172,12 @@ fault_bytes bs cs rest k why f =
 
 fault_silent : (bs : List ℕ) (cs : List Command) (rest : List ℕ) (k : ℕ) (why : FaultReason) → FaultAt bs cs rest k why
     → Silent (rest ++ slice_index bs k ∷ drop (k + 1) bs)
-fault_silent bs cs rest k why f = silent_refused rest (slice_index bs k) (drop (k + 1) bs) f.before.pending f.refused
+fault_silent bs cs rest k why f = silent_refused rest (slice_index bs k) (drop (k + 1) bs) f.before.left f.refused
 
--- What is pending can't begin with a rest and the byte that is refused behind it.
-pending_refused : (rest other : List ℕ) (b : ℕ) (more : List ℕ) → Pending other → (Viable (rest ++ b ∷ []) → ⊥) → other ≡ rest ++ b ∷ more → ⊥
-pending_refused rest other b more (inl e) r h = let longer = ap length (sym e ∙ h) ∙ length-append rest (b ∷ more) in omega arith
-pending_refused rest other b more (inr p) r h =
+-- A rest can't begin with another rest and the byte that is refused after it.
+rest_refused : (rest other : List ℕ) (b : ℕ) (more : List ℕ) → IsRest other → (Viable (rest ++ b ∷ []) → ⊥) → other ≡ rest ++ b ∷ more → ⊥
+rest_refused rest other b more (inl e) r h = let longer = ap length (sym e ∙ h) ∙ length-append rest (b ∷ more) in omega arith
+rest_refused rest other b more (inr p) r h =
     r (viable_prefix (rest ++ b ∷ []) more (subst (λ xs. Viable xs) (h ∙ sym (append_assoc rest (b ∷ []) more)) p.viable))
 
 -- Where two lists agree, one front goes no further than the other, or they are the same.
@@ -192,46 +192,46 @@ head_of b c x y e = cc
 tail_of : (b c : ℕ) (x y : List ℕ) → b ∷ x ≡ c ∷ y → x ≡ y
 tail_of b c x y e = cc
 
-meets_behind : (a d : ℕ) (x y : List ℕ) (b c : ℕ) → a ≡ d → Meets x y b c → Meets (a ∷ x) (d ∷ y) b c
-meets_behind a d x y b c e (same h) = same (ap (λ v. v ∷ x) e ∙ ap (λ v. d ∷ v) h)
-meets_behind a d x y b c e (shorter more h) = shorter more (ap (λ v. d ∷ v) h ∙ ap (λ v. v ∷ (x ++ b ∷ more)) (sym e))
-meets_behind a d x y b c e (longer more h) = longer more (ap (λ v. a ∷ v) h ∙ ap (λ v. v ∷ (y ++ c ∷ more)) e)
+meets_after : (a d : ℕ) (x y : List ℕ) (b c : ℕ) → a ≡ d → Meets x y b c → Meets (a ∷ x) (d ∷ y) b c
+meets_after a d x y b c e (same h) = same (ap (λ v. v ∷ x) e ∙ ap (λ v. d ∷ v) h)
+meets_after a d x y b c e (shorter more h) = shorter more (ap (λ v. d ∷ v) h ∙ ap (λ v. v ∷ (x ++ b ∷ more)) (sym e))
+meets_after a d x y b c e (longer more h) = longer more (ap (λ v. a ∷ v) h ∙ ap (λ v. v ∷ (y ++ c ∷ more)) e)
 
 meets : (x y : List ℕ) (b c : ℕ) (u v : List ℕ) → x ++ b ∷ u ≡ y ++ c ∷ v → Meets x y b c
 meets [] [] b c u v e = same refl
 meets [] (d ∷ y) b c u v e = shorter y (ap (λ w. w ∷ y) (sym (head_of b d u (y ++ c ∷ v) e)))
 meets (a ∷ x) [] b c u v e = longer x (ap (λ w. w ∷ x) (head_of a c (x ++ b ∷ u) v e))
 meets (a ∷ x) (d ∷ y) b c u v e =
-    meets_behind a d x y b c (head_of a d (x ++ b ∷ u) (y ++ c ∷ v) e) (meets x y b c u v (tail_of a d (x ++ b ∷ u) (y ++ c ∷ v) e))
+    meets_after a d x y b c (head_of a d (x ++ b ∷ u) (y ++ c ∷ v) e) (meets x y b c u v (tail_of a d (x ++ b ∷ u) (y ++ c ∷ v) e))
 
-one_rest : (x y : List ℕ) (b c : ℕ) → Meets x y b c → Pending x → Pending y → (Viable (x ++ b ∷ []) → ⊥) → (Viable (y ++ c ∷ []) → ⊥) → x ≡ y
+one_rest : (x y : List ℕ) (b c : ℕ) → Meets x y b c → IsRest x → IsRest y → (Viable (x ++ b ∷ []) → ⊥) → (Viable (y ++ c ∷ []) → ⊥) → x ≡ y
 one_rest x y b c (same h) px py rx ry = h
-one_rest x y b c (shorter more h) px py rx ry = absurd (pending_refused x y b more py rx h)
-one_rest x y b c (longer more h) px py rx ry = absurd (pending_refused y x c more px ry h)
+one_rest x y b c (shorter more h) px py rx ry = absurd (rest_refused x y b more py rx h)
+one_rest x y b c (longer more h) px py rx ry = absurd (rest_refused y x c more px ry h)
 
 -- The place of a fault is the number of bytes read before it.
 fault_place : (bs : List ℕ) (cs : List Command) (rest : List ℕ) (k : ℕ) (why : FaultReason) → FaultAt bs cs rest k why → k ≡ length (spell cs ++ rest)
 fault_place bs cs rest k why f = let p = f.place in let e = ap length (sym f.before.whole) in rw e (omega (arith, length-take k bs))
 
--- Two faults of one list are at one place, behind one reading, for one reason.
+-- Two faults of one list are at one place, after one reading, for one reason.
 pub one_fault : (bs : List ℕ) (cs ds : List Command) (x y : List ℕ) (k l : ℕ) (why also : FaultReason)
     → FaultAt bs cs x k why → FaultAt bs ds y l also → (cs ≡ ds) × (x ≡ y) × (k ≡ l) × (why ≡ also)
 one_fault bs cs ds x y k l why also f g =
     let split = one_split cs ds _ _ f.before.commands g.before.commands (fault_silent bs cs x k why f) (fault_silent bs ds y l also g)
     (sym (fault_bytes bs cs x k why f) ∙ fault_bytes bs ds y l also g) in
-    let rest = one_rest x y _ _ (meets x y _ _ _ _ split.1) f.before.pending g.before.pending f.refused g.refused in (
+    let rest = one_rest x y _ _ (meets x y _ _ _ _ split.1) f.before.left g.before.left f.refused g.refused in (
       split.0,
       rest,
       fault_place bs cs x k why f ∙ ap (λ v. length (spell v ++ x)) split.0 ∙ ap (λ v. length (spell ds ++ v)) rest ∙ sym (fault_place bs ds y l also g),
-      f.reason ∙ ap reason_behind rest ∙ sym g.reason,
+      f.reason ∙ ap reason_after rest ∙ sym g.reason,
     )
 
 -- What is read has no fault.
 pub not_both : (bs : List ℕ) (cs ds : List Command) (x y : List ℕ) (k : ℕ) (why : FaultReason) → Reads bs cs x → FaultAt bs ds y k why → ⊥
 not_both bs cs ds x y k why r f =
-    let split = one_split cs ds x _ r.commands f.before.commands (silent_pending x r.pending) (fault_silent bs ds y k why f)
+    let split = one_split cs ds x _ r.commands f.before.commands (silent_rest x r.left) (fault_silent bs ds y k why f)
     (sym r.whole ∙ fault_bytes bs ds y k why f) in
-    pending_refused y x (slice_index bs k) (drop (k + 1) bs) r.pending f.refused split.1
+    rest_refused y x (slice_index bs k) (drop (k + 1) bs) r.left f.refused split.1
 
 -- ## Each byte list is read or refused
 
@@ -246,25 +246,25 @@ joined a b cs ds r s h k = record {
   whole =
       ap (λ xs. xs ++ b) h.whole ∙ append_assoc (spell cs) r b ∙ ap (λ xs. spell cs ++ xs) k.whole
       ∙ sym (append_assoc (spell cs) (spell ds) s) ∙ ap (λ xs. xs ++ s) (sym (flat_map-append row cs ds));
-  pending = k.pending;
+  left = k.left;
 }
 
 pub reads_nothing : Reads [] [] []
-reads_nothing = record { commands = tt; whole = refl; pending = inl refl }
+reads_nothing = record { commands = tt; whole = refl; left = inl refl }
 
 pub reads_command : (c : Command) (bs : List ℕ) → Spells c bs → Reads bs (c ∷ []) []
-reads_command c bs s = record { commands = (s.in_range, tt); whole = s.in_table ∙ sym (append-nil (row c)) ∙ sym (append-nil (row c ++ [])); pending = inl refl }
+reads_command c bs s = record { commands = (s.in_range, tt); whole = s.in_table ∙ sym (append-nil (row c)) ∙ sym (append-nil (row c ++ [])); left = inl refl }
 
 pub reads_half : (bs : List ℕ) → Half bs → Reads bs [] bs
-reads_half bs h = record { commands = tt; whole = refl; pending = inr h }
+reads_half bs h = record { commands = tt; whole = refl; left = inr h }
 
 pub not_empty : (bs : List ℕ) (b : ℕ) → bs ++ b ∷ [] ≢ []
 not_empty bs b e = let longer = ap length e in let count = length-append bs (b ∷ []) in omega arith
 
 -- A fault at the end of the bytes is one of all bytes.
-pub fault_behind : (a : List ℕ) (b : ℕ) (more : List ℕ) (cs : List Command) (rest : List ℕ) → Reads a cs rest → (Viable (rest ++ b ∷ []) → ⊥)
-    → FaultAt (a ++ b ∷ more) cs rest (length a) (reason_behind rest)
-fault_behind a b more cs rest h r = record {
+pub fault_after : (a : List ℕ) (b : ℕ) (more : List ℕ) (cs : List Command) (rest : List ℕ) → Reads a cs rest → (Viable (rest ++ b ∷ []) → ⊥)
+    → FaultAt (a ++ b ∷ more) cs rest (length a) (reason_after rest)
+fault_after a b more cs rest h r = record {
   place = let count = length-append a (b ∷ more) in omega arith;
   before = subst (λ xs. Reads xs cs rest) (sym (take-append_seam a (b ∷ more))) h;
   refused = subst (λ x. Viable (rest ++ x ∷ []) → ⊥) (sym (get_or-append_seam a b more 0)) r;
@@ -294,7 +294,7 @@ go_on [] a cs rest h = read cs rest (subst (λ xs. Reads xs cs rest) (sym (appen
 go_on (b ∷ left) a cs rest h =
     elim (step_by a b cs rest (walk grammar (rest ++ b ∷ [])) refl h) [
       | next ds more k ↦ subst (λ xs. Outcome xs) (append_assoc a (b ∷ []) left) (go_on left (a ++ b ∷ []) ds more k)
-      | stop r ↦ refused cs rest (length a) (reason_behind rest) (fault_behind a b left cs rest h r)
+      | stop r ↦ refused cs rest (length a) (reason_after rest) (fault_after a b left cs rest h r)
     ]
 
 pub outcome : (bs : List ℕ) → Outcome bs
@@ -328,7 +328,7 @@ fault_of_front a more cs rest k why f =
     }
 
 reads_spelled : (cs : List Command) → AllByRecursion IsCommand cs → Reads (spell cs) cs []
-reads_spelled cs h = record { commands = h; whole = sym (append-nil (spell cs)); pending = inl refl }
+reads_spelled cs h = record { commands = h; whole = sym (append-nil (spell cs)); left = inl refl }
 
 -- A fault goes on where a reading stopped.
 pub fault_joined : (a b : List ℕ) (cs ds : List Command) (r s : List ℕ) (k : ℕ) (why : FaultReason) → Reads a cs r → FaultAt (r ++ b) ds s k why

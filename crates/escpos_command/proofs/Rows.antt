@@ -6,15 +6,15 @@ use Rattle.std.specs.List.{list_all}
 use Rattle.std.proofs.lemmas.Bool.Decides.{nat_tests}
 use Rattle.escpos_command.specs.declared.bytes.TheConstants.{LF, DLE, ESC, GS, EOT}
 use Rattle.escpos_command.specs.declared.command.Command.{Command}
-use Rattle.escpos_command.specs.declared.command.Command.TheVariants.{Char, LineFeed, Return, Init, Mode, Emphasis, Underline, Font, Table, Align, FeedLines, Size, BarHeight, BarWidth, HriPlace, HriFont, Cut, Status, Mark}
+use Rattle.escpos_command.specs.declared.command.Command.TheVariants as kind
 use Rattle.escpos_command.specs.Parameters.{is_character, is_one_of_two, is_one_of_three, is_one_of_four, is_size, is_bar_height, is_bar_width, is_status_kind, is_feed_cut_mode, is_byte, is_cut, is_mark_byte, is_mark_id}
 use Rattle.escpos_command.specs.Table.{Spells, IsCommand, row}
-use Rattle.escpos_command.specs.Tree.{leaf, walk, branch, none, one, first, character, behind_esc, behind_gs, behind_dle, cut, mark, grammar, counted}
+use Rattle.escpos_command.specs.Tree.{leaf, walk, branch, none, one, first, character, after_esc, after_gs, after_dle, cut, mark, grammar, counted}
 use Rattle.escpos_command.proofs.Walks.{Good}
 use Rattle.escpos_command.proofs.Combinators.{good_choice, good_one, good_branch, good_these, good_counted, walk-counted, walk-one, live_counted, and_left, and_right, both, same_number}
 
 -- A character begins no command of another kind.
-leads_character : (b : ℕ) → is_character b ≡ true → branch first character b ≡ leaf (Char b)
+leads_character : (b : ℕ) → is_character b ≡ true → branch first character b ≡ leaf (kind.Char b)
 leads_character b h =
     let line_feed : (b == 10) ≡ false = grind (arith, nat_tests) in
     let carriage_return : (b == 13) ≡ false = grind (arith, nat_tests) in
@@ -27,38 +27,38 @@ leads_character b h =
 feed_mode_apart : (m : ℕ) → is_feed_cut_mode m ≡ true → is_one_of_two m ≡ false
 feed_mode_apart m h = grind (arith, nat_tests)
 
-leads_mode : (m : ℕ) → is_one_of_two m ≡ true → cut m ≡ leaf (Cut (m, None))
+leads_mode : (m : ℕ) → is_one_of_two m ≡ true → cut m ≡ leaf (kind.Cut (m, None))
 leads_mode m h = rw h
 
-leads_feed_mode : (m : ℕ) → is_feed_cut_mode m ≡ true → cut m ≡ one is_byte (λ n. Cut (m, Some n))
+leads_feed_mode : (m : ℕ) → is_feed_cut_mode m ≡ true → cut m ≡ one is_byte (λ n. kind.Cut (m, Some n))
 leads_feed_mode m h = rw (feed_mode_apart m h, h)
 
-leads_cut : (m : ℕ) (feed : Option ℕ) → is_cut m feed ≡ true → walk (cut m) (option_to_list feed) ≡ leaf (Cut (m, feed))
+leads_cut : (m : ℕ) (feed : Option ℕ) → is_cut m feed ≡ true → walk (cut m) (option_to_list feed) ≡ leaf (kind.Cut (m, feed))
 leads_cut m None h = ap (λ t. walk t []) (leads_mode m h)
 leads_cut m (Some n) h =
-    ap (λ t. walk t (n ∷ [])) (leads_feed_mode m (and_left _ _ h)) ∙ walk-one is_byte (λ x. Cut (m, Some x)) n (and_right _ _ h)
+    ap (λ t. walk t (n ∷ [])) (leads_feed_mode m (and_left _ _ h)) ∙ walk-one is_byte (λ x. kind.Cut (m, Some x)) n (and_right _ _ h)
 
 -- Each spelling leads to its command.
 pub leads : (c : Command) → IsCommand c → walk grammar (row c) ≡ leaf c
-leads (Char b) h = ap (λ t. walk t []) (leads_character b h)
-leads LineFeed h = refl
-leads Return h = refl
-leads Init h = refl
-leads (Mode n) h = walk-one is_byte Mode n h
-leads (Emphasis n) h = walk-one is_byte Emphasis n h
-leads (Underline n) h = walk-one is_one_of_three Underline n h
-leads (Font n) h = walk-one is_one_of_two Font n h
-leads (Table n) h = walk-one is_byte Table n h
-leads (Align n) h = walk-one is_one_of_three Align n h
-leads (FeedLines n) h = walk-one is_byte FeedLines n h
-leads (Size n) h = walk-one is_size Size n h
-leads (BarHeight n) h = walk-one is_bar_height BarHeight n h
-leads (BarWidth n) h = walk-one is_bar_width BarWidth n h
-leads (HriPlace n) h = walk-one is_one_of_four HriPlace n h
-leads (HriFont n) h = walk-one is_one_of_two HriFont n h
-leads (Cut cut) h = leads_cut cut.0 cut.1 h
-leads (Status n) h = walk-one is_status_kind Status n h
-leads (Mark id) h = walk-counted 4 is_mark_byte Mark id (same_number _ _ (and_left _ _ h)) (and_right _ _ h)
+leads (kind.Char b) h = ap (λ t. walk t []) (leads_character b h)
+leads kind.LineFeed h = refl
+leads kind.Return h = refl
+leads kind.Init h = refl
+leads (kind.Mode n) h = walk-one is_byte kind.Mode n h
+leads (kind.Emphasis n) h = walk-one is_byte kind.Emphasis n h
+leads (kind.Underline n) h = walk-one is_one_of_three kind.Underline n h
+leads (kind.Font n) h = walk-one is_one_of_two kind.Font n h
+leads (kind.Table n) h = walk-one is_byte kind.Table n h
+leads (kind.Align n) h = walk-one is_one_of_three kind.Align n h
+leads (kind.FeedLines n) h = walk-one is_byte kind.FeedLines n h
+leads (kind.Size n) h = walk-one is_size kind.Size n h
+leads (kind.BarHeight n) h = walk-one is_bar_height kind.BarHeight n h
+leads (kind.BarWidth n) h = walk-one is_bar_width kind.BarWidth n h
+leads (kind.HriPlace n) h = walk-one is_one_of_four kind.HriPlace n h
+leads (kind.HriFont n) h = walk-one is_one_of_two kind.HriFont n h
+leads (kind.Cut cut) h = leads_cut cut.0 cut.1 h
+leads (kind.Status n) h = walk-one is_status_kind kind.Status n h
+leads (kind.Mark id) h = walk-counted 4 is_mark_byte kind.Mark id (same_number _ _ (and_left _ _ h)) (and_right _ _ h)
 
 -- A command at its spelling.
 at_row : (c : Command) → IsCommand c → Spells c (row c)
@@ -66,9 +66,9 @@ at_row c h = record { in_range = h; in_table = refl }
 
 good_cut : (m : ℕ) → Good (GS ∷ 0x56 ∷ m ∷ []) (cut m)
 good_cut m =
-    good_choice _ _ _ (is_one_of_two m) (λ h. at_row (Cut (m, None)) h) (λ _.
+    good_choice _ _ _ (is_one_of_two m) (λ h. at_row (kind.Cut (m, None)) h) (λ _.
     good_choice _ _ _ (is_feed_cut_mode m)
-    (λ h. good_one (GS ∷ 0x56 ∷ m ∷ []) is_byte (λ n. Cut (m, Some n)) 0 refl (λ n k. at_row (Cut (m, Some n)) (both _ _ h k)))
+    (λ h. good_one (GS ∷ 0x56 ∷ m ∷ []) is_byte (λ n. kind.Cut (m, Some n)) 0 refl (λ n k. at_row (kind.Cut (m, Some n)) (both _ _ h k)))
     (λ _. tt))
 
 -- Four bytes that each pass are an id.
@@ -77,27 +77,27 @@ is_id id long all = rw (long, all) refl
 
 good_mark : Good (GS ∷ 0x28 ∷ []) mark
 good_mark =
-    good_these (GS ∷ 0x28 ∷ []) (0x48 ∷ 0x06 ∷ 0x00 ∷ 0x30 ∷ 0x30 ∷ []) (counted 4 is_mark_byte Mark) (live_counted 4 is_mark_byte Mark)
-    (good_counted 4 (GS ∷ 0x28 ∷ 0x48 ∷ 0x06 ∷ 0x00 ∷ 0x30 ∷ 0x30 ∷ []) is_mark_byte Mark 32 refl (λ id long all. at_row (Mark id) (is_id id long all)))
+    good_these (GS ∷ 0x28 ∷ []) (0x48 ∷ 0x06 ∷ 0x00 ∷ 0x30 ∷ 0x30 ∷ []) (counted 4 is_mark_byte kind.Mark) (live_counted 4 is_mark_byte kind.Mark)
+    (good_counted 4 (GS ∷ 0x28 ∷ 0x48 ∷ 0x06 ∷ 0x00 ∷ 0x30 ∷ 0x30 ∷ []) is_mark_byte kind.Mark 32 refl (λ id long all. at_row (kind.Mark id) (is_id id long all)))
 
-good_behind_esc : (b : ℕ) → Good (ESC ∷ b ∷ []) (branch behind_esc none b)
-good_behind_esc =
-    good_branch (ESC ∷ []) behind_esc none (
-      good_one (ESC ∷ 0x21 ∷ []) is_byte Mode 0 refl (λ n h. at_row (Mode n) h),
+good_after_esc : (b : ℕ) → Good (ESC ∷ b ∷ []) (branch after_esc none b)
+good_after_esc =
+    good_branch (ESC ∷ []) after_esc none (
+      good_one (ESC ∷ 0x21 ∷ []) is_byte kind.Mode 0 refl (λ n h. at_row (kind.Mode n) h),
       (
-        good_one (ESC ∷ 0x2D ∷ []) is_one_of_three Underline 0 refl (λ n h. at_row (Underline n) h),
+        good_one (ESC ∷ 0x2D ∷ []) is_one_of_three kind.Underline 0 refl (λ n h. at_row (kind.Underline n) h),
         (
-          at_row Init tt,
+          at_row kind.Init refl,
           (
-            good_one (ESC ∷ 0x45 ∷ []) is_byte Emphasis 0 refl (λ n h. at_row (Emphasis n) h),
+            good_one (ESC ∷ 0x45 ∷ []) is_byte kind.Emphasis 0 refl (λ n h. at_row (kind.Emphasis n) h),
             (
-              good_one (ESC ∷ 0x4D ∷ []) is_one_of_two Font 0 refl (λ n h. at_row (Font n) h),
+              good_one (ESC ∷ 0x4D ∷ []) is_one_of_two kind.Font 0 refl (λ n h. at_row (kind.Font n) h),
               (
-                good_one (ESC ∷ 0x61 ∷ []) is_one_of_three Align 0 refl (λ n h. at_row (Align n) h),
+                good_one (ESC ∷ 0x61 ∷ []) is_one_of_three kind.Align 0 refl (λ n h. at_row (kind.Align n) h),
                 (
-                  good_one (ESC ∷ 0x64 ∷ []) is_byte FeedLines 0 refl (λ n h. at_row (FeedLines n) h),
+                  good_one (ESC ∷ 0x64 ∷ []) is_byte kind.FeedLines 0 refl (λ n h. at_row (kind.FeedLines n) h),
                   (
-                    good_one (ESC ∷ 0x74 ∷ []) is_byte Table 0 refl (λ n h. at_row (Table n) h),
+                    good_one (ESC ∷ 0x74 ∷ []) is_byte kind.Table 0 refl (λ n h. at_row (kind.Table n) h),
                     tt,
                   ),
                 ),
@@ -109,22 +109,22 @@ good_behind_esc =
     )
     (λ _. tt)
 
-good_behind_gs : (b : ℕ) → Good (GS ∷ b ∷ []) (branch behind_gs none b)
-good_behind_gs =
-    good_branch (GS ∷ []) behind_gs none (
-      good_one (GS ∷ 0x21 ∷ []) is_size Size 0 refl (λ n h. at_row (Size n) h),
+good_after_gs : (b : ℕ) → Good (GS ∷ b ∷ []) (branch after_gs none b)
+good_after_gs =
+    good_branch (GS ∷ []) after_gs none (
+      good_one (GS ∷ 0x21 ∷ []) is_size kind.Size 0 refl (λ n h. at_row (kind.Size n) h),
       (
         good_mark,
         (
-          good_one (GS ∷ 0x48 ∷ []) is_one_of_four HriPlace 0 refl (λ n h. at_row (HriPlace n) h),
+          good_one (GS ∷ 0x48 ∷ []) is_one_of_four kind.HriPlace 0 refl (λ n h. at_row (kind.HriPlace n) h),
           (
             ((0, tt), good_cut),
             (
-              good_one (GS ∷ 0x66 ∷ []) is_one_of_two HriFont 0 refl (λ n h. at_row (HriFont n) h),
+              good_one (GS ∷ 0x66 ∷ []) is_one_of_two kind.HriFont 0 refl (λ n h. at_row (kind.HriFont n) h),
               (
-                good_one (GS ∷ 0x68 ∷ []) is_bar_height BarHeight 1 refl (λ n h. at_row (BarHeight n) h),
+                good_one (GS ∷ 0x68 ∷ []) is_bar_height kind.BarHeight 1 refl (λ n h. at_row (kind.BarHeight n) h),
                 (
-                  good_one (GS ∷ 0x77 ∷ []) is_bar_width BarWidth 2 refl (λ n h. at_row (BarWidth n) h),
+                  good_one (GS ∷ 0x77 ∷ []) is_bar_width kind.BarWidth 2 refl (λ n h. at_row (kind.BarWidth n) h),
                   tt,
                 ),
               ),
@@ -135,19 +135,19 @@ good_behind_gs =
     )
     (λ _. tt)
 
-good_behind_dle : (b : ℕ) → Good (DLE ∷ b ∷ []) (branch behind_dle none b)
-good_behind_dle =
-    good_branch (DLE ∷ []) behind_dle none
-    (good_one (DLE ∷ EOT ∷ []) is_status_kind Status 1 refl (λ n h. at_row (Status n) h), tt)
+good_after_dle : (b : ℕ) → Good (DLE ∷ b ∷ []) (branch after_dle none b)
+good_after_dle =
+    good_branch (DLE ∷ []) after_dle none
+    (good_one (DLE ∷ EOT ∷ []) is_status_kind kind.Status 1 refl (λ n h. at_row (kind.Status n) h), tt)
     (λ _. tt)
 
 good_character : (b : ℕ) → Good (b ∷ []) (character b)
-good_character b = good_choice _ _ _ (is_character b) (λ h. at_row (Char b) h) (λ _. tt)
+good_character b = good_choice _ _ _ (is_character b) (λ h. at_row (kind.Char b) h) (λ _. tt)
 
 pub good : Good [] grammar
 good = (
   (LF, tt),
   good_branch [] first character
-      (at_row LineFeed tt, (at_row Return tt, (((EOT, tt), good_behind_dle), (((0x40, tt), good_behind_esc), (((0x56, tt), good_behind_gs), tt)))))
+      (at_row kind.LineFeed refl, (at_row kind.Return refl, (((EOT, tt), good_after_dle), (((0x40, tt), good_after_esc), (((0x56, tt), good_after_gs), tt)))))
       good_character,
 )

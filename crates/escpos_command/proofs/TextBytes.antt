@@ -1,5 +1,6 @@
 -- One byte more of a text whose bytes so far are characters.
-use Rattle.std.proofs.Common.{◌≡◌, ℕ, ◌+◌, ◌<◌, List, [], ◌∷◌, ◌++◌, length, take, sym, ◌∙◌, ap, true}
+use Rattle.std.proofs.Common.{◌≡◌, ℕ, ◌+◌, ◌<◌, List, [], ◌∷◌, ◌++◌, length, take, sym, ◌∙◌, ap, true, refl, add-one}
+use Rattle.std.proofs.Math.Seq.{take-suc}
 use Rattle.std.specs.Prelude.{slice_index, map}
 use Rattle.std.specs.List.{AllPass}
 use Rattle.std.proofs.lemmas.List.Elements.{All-more}
@@ -7,7 +8,9 @@ use Rattle.std.proofs.lemmas.List.{map-append}
 use Rattle.escpos_command.specs.declared.command.Command.{Command}
 use Rattle.escpos_command.specs.declared.command.Command.TheVariants.{Char}
 use Rattle.escpos_command.specs.Parameters.{is_character}
-use Rattle.escpos_command.proofs.Places.{take-one_more}
+
+take-one_more : (bs : List ℕ) (at : ℕ) → at < length bs → take (at + 1) bs ≡ take at bs ++ slice_index bs at ∷ []
+take-one_more bs at h = rw (add-one, take-suc bs at 0) refl
 
 pub characters_more : (text : List ℕ) (at : ℕ) (cs ds : List Command) → at < length text → cs ≡ map Char (take at text) → AllPass is_character (take at text)
     → is_character (slice_index text at) ≡ true → ds ≡ cs ++ Char (slice_index text at) ∷ []

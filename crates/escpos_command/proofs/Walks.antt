@@ -29,7 +29,7 @@ walk-append (leaf c) (b ∷ p) q = refl
 walk-append (node next) [] q = refl
 walk-append (node next) (b ∷ p) q = walk-append (next b) p q
 
--- What lies behind a good tree is good.
+-- What a good tree leads to is good.
 pub good_walk : (p : List ℕ) (t : Tree) (q : List ℕ) → Good p t → Good (p ++ q) (walk t q)
 good_walk p dead q g = tt
 good_walk p (leaf c) [] g = subst (λ xs. Spells c xs) (sym (append-nil p)) g

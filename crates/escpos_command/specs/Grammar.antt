@@ -5,7 +5,7 @@ use Rattle.std.specs.List.{AllByRecursion}
 use Rattle.escpos_command.specs.declared.command.Command.{Command}
 use Rattle.escpos_command.specs.declared.fault.FaultReason.{FaultReason}
 use Rattle.escpos_command.specs.Table.{Spells, IsCommand, spell}
-use Rattle.escpos_command.specs.Places.{reason_behind}
+use Rattle.escpos_command.specs.Places.{reason_after}
 
 -- The bytes are a prefix of some spelling, perhaps all of it. The empty list is.
 abbrev pub Viable : List ℕ → Type 0
@@ -15,13 +15,13 @@ Viable bs = (c : Command) × (more : List ℕ) × Spells c (bs ++ more)
 pub record Half (bs : List ℕ) : Type 0 where
   pub begun : bs ≢ []
   pub viable : Viable bs
-  pub unfinished : (c : Command) → Spells c bs → ⊥
+  pub no_spelling : (c : Command) → Spells c bs → ⊥
 
--- The bytes are the spellings of the commands cs, one behind another, and then nothing or a half command.
+-- The bytes are the spellings of the commands cs, one after another, and then nothing or a half command.
 pub record Reads (bs : List ℕ) (cs : List Command) (rest : List ℕ) : Type 0 where
   pub commands : AllByRecursion IsCommand cs
   pub whole : bs ≡ spell cs ++ rest
-  pub pending : (rest ≡ []) ⊎ Half rest
+  pub left : (rest ≡ []) ⊎ Half rest
 
 -- The byte at place k is refused: the k bytes before it read as cs and rest, and no spelling begins with
 -- rest and that byte. The reason follows from rest.
@@ -29,4 +29,4 @@ pub record FaultAt (bs : List ℕ) (cs : List Command) (rest : List ℕ) (k : �
   pub place : k < length bs
   pub before : Reads (take k bs) cs rest
   pub refused : Viable (rest ++ slice_index bs k ∷ []) → ⊥
-  pub reason : why ≡ reason_behind rest
+  pub reason : why ≡ reason_after rest

@@ -6,8 +6,5 @@ pub mod Places
 pub mod Grammar
 pub mod Tree
 pub mod Laws
-pub mod Next
-pub mod Lead
-pub mod Reading
 pub mod Text
 pub mod Chars

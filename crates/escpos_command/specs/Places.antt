@@ -4,16 +4,16 @@ use Rattle.escpos_command.specs.declared.bytes.TheConstants.{GS}
 use Rattle.escpos_command.specs.declared.fault.FaultReason.{FaultReason}
 use Rattle.escpos_command.specs.declared.fault.FaultReason.TheVariants.{UnknownByte, UnknownCommand, BadParameter}
 
--- The reason for the byte behind a half command, or behind none.
-abbrev pub reason_behind : List ℕ → FaultReason
+-- The reason for a byte that follows a half command, or begins a command.
+abbrev pub reason_after : List ℕ → FaultReason
 -- the first byte of a command
-reason_behind [] = UnknownByte
--- the letter behind DLE, ESC or GS
-reason_behind (b ∷ []) = UnknownCommand
--- the second letter behind GS (, or a parameter
-reason_behind (b ∷ letter ∷ []) = if b == GS && letter == 0x28 then UnknownCommand else BadParameter
+reason_after [] = UnknownByte
+-- the letter after DLE, ESC or GS
+reason_after (b ∷ []) = UnknownCommand
+-- the second letter after GS (, or a parameter
+reason_after (b ∷ letter ∷ []) = if b == GS && letter == 0x28 then UnknownCommand else BadParameter
 -- a later parameter, or a fixed byte or the id of a mark
-reason_behind (b ∷ letter ∷ parameter ∷ bs) = BadParameter
+reason_after (b ∷ letter ∷ parameter ∷ bs) = BadParameter
 
 -- The numbers that programs print.
 abbrev pub number_of : FaultReason → ℕ

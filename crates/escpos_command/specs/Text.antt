@@ -3,36 +3,36 @@
 use Rattle.std.specs.Prelude.{ℕ, Bool, true, false, List, [], ◌∷◌, ◌++◌, if◌then◌else◌}
 use Rattle.std.specs.List.{list_any}
 use Rattle.escpos_command.specs.declared.command.Command.{Command}
-use Rattle.escpos_command.specs.declared.command.Command.TheVariants.{Char, LineFeed, Return, Init, Mode, Emphasis, Underline, Font, Table, Align, FeedLines, Size, BarHeight, BarWidth, HriPlace, HriFont, Cut, Status, Mark}
+use Rattle.escpos_command.specs.declared.command.Command.TheVariants as kind
 
--- Behind this command the line is empty: it prints the line or drops it.
+-- After this command the line is empty: it prints the line or drops it.
 abbrev pub ends_text : Command → Bool
-ends_text LineFeed = true
-ends_text (FeedLines n) = true
-ends_text Init = true
-ends_text (Cut cut) = true
-ends_text (Char b) = false
-ends_text Return = false
-ends_text (Mode n) = false
-ends_text (Emphasis n) = false
-ends_text (Underline n) = false
-ends_text (Font n) = false
-ends_text (Table n) = false
-ends_text (Align n) = false
-ends_text (Size n) = false
-ends_text (BarHeight n) = false
-ends_text (BarWidth n) = false
-ends_text (HriPlace n) = false
-ends_text (HriFont n) = false
-ends_text (Status n) = false
-ends_text (Mark id) = false
+ends_text kind.LineFeed = true
+ends_text (kind.FeedLines n) = true
+ends_text kind.Init = true
+ends_text (kind.Cut cut) = true
+ends_text (kind.Char b) = false
+ends_text kind.Return = false
+ends_text (kind.Mode n) = false
+ends_text (kind.Emphasis n) = false
+ends_text (kind.Underline n) = false
+ends_text (kind.Font n) = false
+ends_text (kind.Table n) = false
+ends_text (kind.Align n) = false
+ends_text (kind.Size n) = false
+ends_text (kind.BarHeight n) = false
+ends_text (kind.BarWidth n) = false
+ends_text (kind.HriPlace n) = false
+ends_text (kind.HriFont n) = false
+ends_text (kind.Status n) = false
+ends_text (kind.Mark id) = false
 
 -- The character of a Char command, as a list of one; of any other command none.
 abbrev pub characters : Command → List ℕ
-characters (Char b) = b ∷ []
+characters (kind.Char b) = b ∷ []
 characters _ = []
 
--- The Char commands behind the last command that ends text: each that has no such command behind it.
+-- The Char commands after the last command that ends text: each that no such command follows.
 abbrev pub text : List Command → List ℕ
 text [] = []
 text (c ∷ cs) = (if list_any ends_text cs then [] else characters c) ++ text cs

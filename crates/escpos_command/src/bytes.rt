@@ -17,3 +17,6 @@ pub const GS: u8 = 0x1D;
 
 /// End of transmission, the second byte of DLE EOT.
 pub const EOT: u8 = 0x04;
+
+// The definitions cite these, so each is what the Reference says.
+const _: () = prove!(LF == 10 && CR == 13 && DLE == 16 && ESC == 27 && GS == 29 && EOT == 4);

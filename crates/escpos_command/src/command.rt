@@ -1,10 +1,11 @@
 //! The commands of the profile, and how each is spelled.
 //!
-//! A kind of command is a variant here, a row in each table of `specs/Table.antt`, a branch of the tree
-//! in `specs/Tree.antt`, and a case in each proof over those; no proof is about a pair of kinds.
+//! A kind of command is a variant here with its line in `Command::parts`, a line of the command table
+//! (`specs/Table.antt`), a branch of the tree of bytes (`specs/Tree.antt`) and a case of the proofs over that
+//! tree; no proof is about a pair of kinds. docs/ARCHITECTURE.md lists all places.
 
-ghost use Rattle.std.specs.Prelude.{◌≡◌, ◌≤◌, ◌++◌, length, OnOk, OnErr};
-ghost use Rattle.escpos_command.specs.Table.{row, IsCommand};
+ghost use Rattle.std.specs.Prelude.{◌≡◌, ◌≤◌, ◌+◌, [], ◌∷◌, ◌++◌, length, OnOk, OnErr};
+ghost use Rattle.escpos_command.specs.Table.{row, entry_of, IsCommand};
 ghost use Rattle.escpos_command.specs.declared.command.Command.TheVariants.{Mark};
 
 use crate::bytes::{CR, DLE, EOT, ESC, GS, LF};
@@ -63,6 +64,17 @@ pub enum Command {
 /// The most bytes that a spelling has.
 pub const LONGEST_SPELLING: usize = 11;
 
+const _: () = prove!(LONGEST_SPELLING == 11);
+
+/// The bytes of a command in two parts: fixed ones, and then its parameters as sent.
+#[derive(Clone, Debug, Drop)]
+pub struct Parts {
+    /// The fixed bytes that a command of this kind begins with; none for a character.
+    pub front: &'static [u8],
+    /// The parameter bytes, at most 4.
+    pub parameters: ArrayVec<u8, 4>,
+}
+
 impl Command {
     /// Appends the spelling, the command's row of the command table, to `out`.
     ///
@@ -79,48 +91,84 @@ impl Command {
         ensures row { result.items ≡ row self.now }
         ensures in_range { IsCommand self.now }
     {
+        let parts = self.parts();
+        let mut spelling = ArrayVec::new();
+        spelling.try_extend_from_slice(parts.front).unwrap();
+        spelling
+            .try_extend_from_slice(parts.parameters.as_slice())
+            .unwrap();
+        spelling
+    }
+
+    /// The two parts of the spelling. Takes no memory.
+    pub fn parts(&self) -> Parts
+        ensures front { result.front.now ≡ (entry_of self.now).front }
+        ensures parameters { result.parameters.items ≡ (entry_of self.now).parameters }
+        ensures short { length result.front.now + length result.parameters.items ≤ LONGEST_SPELLING }
+        ensures in_range { IsCommand self.now }
+    {
         match self {
-            Command::Char(character) => piece(&[character.byte()]),
-            Command::LineFeed => piece(&[LF]),
-            Command::Return => piece(&[CR]),
-            Command::Init => piece(&[ESC, b'@']),
-            Command::Mode(mode) => piece(&[ESC, b'!', mode.byte()]),
-            Command::Emphasis(emphasis) => piece(&[ESC, b'E', emphasis.byte()]),
-            Command::Underline(underline) => piece(&[ESC, b'-', underline.byte()]),
-            Command::Font(font) => piece(&[ESC, b'M', font.byte()]),
-            Command::Table(table) => piece(&[ESC, b't', table.byte()]),
-            Command::Align(align) => piece(&[ESC, b'a', align.byte()]),
-            Command::FeedLines(feed) => piece(&[ESC, b'd', feed.byte()]),
-            Command::Size(size) => piece(&[GS, b'!', size.byte()]),
-            Command::BarHeight(height) => piece(&[GS, b'h', height.byte()]),
-            Command::BarWidth(width) => piece(&[GS, b'w', width.byte()]),
-            Command::HriPlace(place) => piece(&[GS, b'H', place.byte()]),
-            Command::HriFont(font) => piece(&[GS, b'f', font.byte()]),
+            Command::Char(character) => with(&[], character.byte()),
+            Command::LineFeed => alone(&[LF]),
+            Command::Return => alone(&[CR]),
+            Command::Init => alone(&[ESC, b'@']),
+            Command::Mode(mode) => with(&[ESC, b'!'], mode.byte()),
+            Command::Emphasis(emphasis) => with(&[ESC, b'E'], emphasis.byte()),
+            Command::Underline(underline) => with(&[ESC, b'-'], underline.byte()),
+            Command::Font(font) => with(&[ESC, b'M'], font.byte()),
+            Command::Table(table) => with(&[ESC, b't'], table.byte()),
+            Command::Align(align) => with(&[ESC, b'a'], align.byte()),
+            Command::FeedLines(feed) => with(&[ESC, b'd'], feed.byte()),
+            Command::Size(size) => with(&[GS, b'!'], size.byte()),
+            Command::BarHeight(height) => with(&[GS, b'h'], height.byte()),
+            Command::BarWidth(width) => with(&[GS, b'w'], width.byte()),
+            Command::HriPlace(place) => with(&[GS, b'H'], place.byte()),
+            Command::HriFont(font) => with(&[GS, b'f'], font.byte()),
             Command::Cut(cut) => match cut.feed() {
-                None => piece(&[GS, b'V', cut.mode()]),
-                Some(feed) => piece(&[GS, b'V', cut.mode(), feed]),
+                None => with(&[GS, b'V'], cut.mode()),
+                Some(feed) => with_all(&[GS, b'V'], &[cut.mode(), feed]),
             },
-            Command::Status(kind) => piece(&[DLE, EOT, kind.byte()]),
+            Command::Status(kind) => with(&[DLE, EOT], kind.byte()),
             Command::Mark(id) => mark(*id),
         }
     }
 }
 
-// The spelling of a mark.
-fn mark(id: MarkId) -> ArrayVec<u8, LONGEST_SPELLING>
-    ensures row { result.items ≡ row (Mark id) }
-    ensures in_range { IsCommand (Mark id) }
+// Fixed bytes with no parameter.
+fn alone(front: &'static [u8]) -> Parts
+    ensures front { result.front.now ≡ front.now }
+    ensures parameters { result.parameters.items ≡ [] }
 {
-    let [d1, d2, d3, d4] = id.bytes();
-    piece(&[GS, b'(', b'H', 6, 0, b'0', b'0', d1, d2, d3, d4])
+    Parts {
+        front,
+        parameters: ArrayVec::new(),
+    }
 }
 
-// Some bytes, of a spelling.
-fn piece(bytes: &[u8]) -> ArrayVec<u8, LONGEST_SPELLING>
-    requires { length bytes.now ≤ LONGEST_SPELLING }
-    ensures { result.items ≡ bytes.now }
+// Fixed bytes with one parameter byte.
+fn with(front: &'static [u8], parameter: u8) -> Parts
+    ensures front { result.front.now ≡ front.now }
+    ensures parameters { result.parameters.items ≡ parameter ∷ [] }
 {
-    let mut piece = ArrayVec::new();
-    piece.try_extend_from_slice(bytes).unwrap();
-    piece
+    with_all(front, &[parameter])
+}
+
+// Fixed bytes with some parameter bytes.
+fn with_all(front: &'static [u8], bytes: &[u8]) -> Parts
+    requires { length bytes.now ≤ 4 }
+    ensures front { result.front.now ≡ front.now }
+    ensures parameters { result.parameters.items ≡ bytes.now }
+{
+    let mut parameters = ArrayVec::new();
+    parameters.try_extend_from_slice(bytes).unwrap();
+    Parts { front, parameters }
+}
+
+// The parts of a mark.
+fn mark(id: MarkId) -> Parts
+    ensures front { result.front.now ≡ (entry_of (Mark id)).front }
+    ensures parameters { result.parameters.items ≡ id }
+    ensures in_range { IsCommand (Mark id) }
+{
+    with_all(&[GS, b'(', b'H', 6, 0, b'0', b'0'], &id.bytes())
 }

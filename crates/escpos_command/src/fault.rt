@@ -8,7 +8,7 @@ use std::fmt;
 pub enum FaultReason {
     /// 1: no command begins with the byte.
     UnknownByte = 1,
-    /// 2: the profile has no command with this letter behind DLE, ESC or GS.
+    /// 2: the profile has no command with this letter after DLE, ESC or GS.
     UnknownCommand = 2,
     /// 3: a parameter is out of the range of the command table, or a fixed byte of a mark is another.
     BadParameter = 3,

@@ -1,13 +1,14 @@
 //! The laws of the grammar. Each is a function that does nothing and whose contract is the law, so that
-//! the law is proved with the crate and another crate can cite it by calling the function. (`in_range` looks
-//! at the parameter, since its range is known where it is looked at.)
+//! the law is proved with the crate and another crate can cite it by calling the function. (`in_range` asks
+//! the command for its parts, whose clauses say it.)
 
-ghost use Rattle.std.specs.Prelude.{ℕ, ◌≡◌, ◌+◌, ◌<◌, ◌≤◌, ◌⊎◌, List, [], ◌++◌, length, IsTrue};
+ghost use Rattle.std.specs.Prelude.{ℕ, ◌≡◌, ◌≢◌, ◌+◌, ◌<◌, ◌≤◌, ◌⊎◌, List, [], ◌++◌, length, IsTrue};
 ghost use Rattle.escpos_command.specs.declared.fault.FaultReason.{FaultReason};
 ghost use Rattle.escpos_command.specs.Table.{Spells, IsCommand, row, spell};
 ghost use Rattle.escpos_command.specs.Grammar.{Viable, Half, Reads, FaultAt};
 ghost use Rattle.escpos_command.specs.Parameters.{is_mark_id};
 ghost use Rattle.escpos_command.specs.Digits.{mark_count, mark_of};
+ghost use Rattle.escpos_command.specs.Tree.{Tree, dead, leaf, node, walk, grammar};
 ghost use Rattle.escpos_command.specs.Laws.{longest_spelling, IsRead, IsRefused};
 
 use crate::command::Command;
@@ -48,27 +49,17 @@ pub fn mark_numbers()
     ensures one_number { (m n : ℕ) → m < mark_count → n < mark_count → mark_of m ≡ mark_of n → m ≡ n }
 {}
 
+/// The tree of bytes: where a byte list leads in it says what the definitions say of the list. So a reader that
+/// walks the tree is a reader of the grammar.
+pub fn tree()
+    ensures spelling { (c : Command) (bs : List ℕ) → walk grammar bs ≡ leaf c → Spells c bs }
+    ensures half { (bs : List ℕ) (next : ℕ → Tree) → bs ≢ [] → walk grammar bs ≡ node next → Half bs }
+    ensures refused { (bs : List ℕ) → walk grammar bs ≡ dead → Viable bs → ⊥ }
+{}
+
 /// Commands are in range: the parameters of a value of `Command` are those that the command table allows.
 pub fn in_range(command: &Command)
     ensures { IsCommand command.now }
 {
-    let _byte = match command {
-        Command::LineFeed | Command::Return | Command::Init => 0,
-        Command::Char(character) => character.byte(),
-        Command::Mode(mode) => mode.byte(),
-        Command::Emphasis(emphasis) => emphasis.byte(),
-        Command::Underline(underline) => underline.byte(),
-        Command::Font(font) => font.byte(),
-        Command::Table(table) => table.byte(),
-        Command::Align(align) => align.byte(),
-        Command::FeedLines(feed) => feed.byte(),
-        Command::Size(size) => size.byte(),
-        Command::BarHeight(height) => height.byte(),
-        Command::BarWidth(width) => width.byte(),
-        Command::HriPlace(place) => place.byte(),
-        Command::HriFont(font) => font.byte(),
-        Command::Cut(cut) => cut.mode(),
-        Command::Status(kind) => kind.byte(),
-        Command::Mark(id) => id.bytes()[0],
-    };
+    let _ = command.parts();
 }

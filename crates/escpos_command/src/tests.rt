@@ -2,10 +2,8 @@
 //! command table.
 
 use super::*;
-use crate::plain::{End, read};
 use escpos_io::{Device, MemoryOut, Outgoing};
 use std::alloc::Global;
-use std::process::Abort;
 use std::test::Fail;
 
 // Init, H, i, LF, and GS V 0.
@@ -29,47 +27,13 @@ fn five_commands_of(alloc: Global) -> Result<Vec<Command>, Fail> {
     ]?)
 }
 
-// The bytes read as some commands, and that is what they spell.
-fn reads_back(rt: &impl Abort, alloc: Global, bytes: &[u8]) -> Result<(), Fail> {
-    let reading = read(alloc, bytes)?;
-    assert_eq!(rt; reading.end, End::Pending(0), "{bytes:?}");
-    assert_eq!(rt; reading.commands.len(), 1, "{bytes:?}");
-    let mut out = Vec::new(alloc);
-    for command in &reading.commands {
-        command.spell(&mut out)?;
-    }
-    assert_eq!(rt; out.as_slice(), bytes);
-    Ok(())
-}
-
-// The byte at this place is refused.
-fn is_refused(
-    rt: &impl Abort,
-    alloc: Global,
-    bytes: &[u8],
-    at: usize,
-    why: FaultReason,
-) -> Result<(), Fail> {
-    let reading = read(alloc, bytes)?;
-    assert_eq!(rt; reading.end, End::Fault { at, why }, "{bytes:?}");
-    Ok(())
-}
-
 #[test]
 fn five_commands(rt: HostRuntime) -> Result<(), Fail> {
-    let mut commands = five_commands_of(rt.alloc())?;
     let mut out = Vec::new(rt.alloc());
-    for command in &commands {
+    for command in &five_commands_of(rt.alloc())? {
         command.spell(&mut out)?;
     }
     assert_eq!(rt; out.as_slice(), FIVE.as_slice());
-    let reading = read(rt.alloc(), &FIVE)?;
-    assert_eq!(rt; reading.commands.as_slice(), commands.as_slice());
-    assert_eq!(rt; reading.end, End::Pending(0));
-    let reading = read(rt.alloc(), &FIVE[..7])?;
-    assert!(rt; commands.pop().is_some());
-    assert_eq!(rt; reading.commands.as_slice(), commands.as_slice());
-    assert_eq!(rt; reading.end, End::Pending(2));
     Ok(())
 }
 
@@ -97,48 +61,25 @@ fn mark_numbers(rt: HostRuntime) -> Result<(), Fail> {
 fn mark_35(rt: HostRuntime) -> Result<(), Fail> {
     let mark = Command::Mark(MarkId::of_number(35).ok_or("number")?);
     assert_eq!(rt; mark.spelling().as_slice(), MARK_35.as_slice());
-    let reading = read(rt.alloc(), &MARK_35)?;
-    assert_eq!(rt; reading.commands.as_slice(), [mark].as_slice());
-    assert_eq!(rt; reading.end, End::Pending(0));
-    let reading = read(rt.alloc(), &MARK_35[..10])?;
-    assert!(rt; reading.commands.is_empty());
-    assert_eq!(rt; reading.end, End::Pending(10));
+    let parts = mark.parts();
+    assert_eq!(rt; parts.front, &MARK_35[..7]);
+    assert_eq!(rt; parts.parameters.as_slice(), &MARK_35[7..]);
     Ok(())
 }
 
 #[test]
-fn unknown_bytes(rt: HostRuntime) -> Result<(), Fail> {
-    let alloc = rt.alloc();
-    is_refused(&rt, alloc, &[0x1B, 0x24], 1, FaultReason::UnknownCommand)?;
-    is_refused(&rt, alloc, &[0x06], 0, FaultReason::UnknownByte)?;
-    let bytes = [0x1B, 0x40, 0x1B, 0x24];
-    is_refused(&rt, alloc, &bytes, 3, FaultReason::UnknownCommand)?;
-    let reading = read(alloc, &bytes)?;
-    assert_eq!(rt; reading.commands.as_slice(), [Command::Init].as_slice());
-    assert_eq!(rt; FaultReason::UnknownByte.number(), 1);
-    assert_eq!(rt; FaultReason::UnknownCommand.name(), "UnknownCommand");
+fn reasons_have_numbers_and_names(rt: HostRuntime) -> Result<(), Fail> {
+    let rows = [
+        (FaultReason::UnknownByte, 1, "1 UnknownByte"),
+        (FaultReason::UnknownCommand, 2, "2 UnknownCommand"),
+        (FaultReason::BadParameter, 3, "3 BadParameter"),
+    ];
+    for (why, number, line) in rows {
+        assert_eq!(rt; why.number(), number);
+        let text = format!(in rt.alloc(); "{why}")?;
+        assert_eq!(rt; text.as_str(), line);
+    }
     Ok(())
-}
-
-#[test]
-fn mark_prefix(rt: HostRuntime) -> Result<(), Fail> {
-    let alloc = rt.alloc();
-    is_refused(
-        &rt,
-        alloc,
-        &[0x1D, 0x28, 0x49],
-        2,
-        FaultReason::UnknownCommand,
-    )?;
-    is_refused(
-        &rt,
-        alloc,
-        &[0x1D, 0x28, 0x48, 0x07],
-        3,
-        FaultReason::BadParameter,
-    )?;
-    let id = [0x1D, 0x28, 0x48, 0x06, 0x00, 0x30, 0x30, 0x1F];
-    is_refused(&rt, alloc, &id, 7, FaultReason::BadParameter)
 }
 
 #[test]
@@ -172,70 +113,7 @@ fn short_writer(rt: HostRuntime) -> Result<(), Fail> {
     Ok(())
 }
 
-// The bytes before a parameter, the parameters that are read there (the least and the greatest, and the
-// ends of each range between them), and their nearest neighbours, which are refused.
-#[test]
-fn least_and_greatest_parameters(rt: HostRuntime) -> Result<(), Fail> {
-    let table: [(&[u8], &[u8], &[u8]); 19] = [
-        (&[0x1B, 0x21], &[0, 255], &[]),
-        (&[0x1B, 0x2D], &[0, 2, 48, 50], &[3, 47, 51]),
-        (&[0x1B, 0x45], &[0, 255], &[]),
-        (&[0x1B, 0x4D], &[0, 1, 48, 49], &[2, 47, 50]),
-        (&[0x1B, 0x61], &[0, 2, 48, 50], &[3, 47, 51]),
-        (&[0x1B, 0x64], &[0, 255], &[]),
-        (&[0x1B, 0x74], &[0, 255], &[]),
-        (
-            &[0x1D, 0x21],
-            &[0x00, 0x07, 0x70, 0x77],
-            &[0x08, 0x78, 0x80],
-        ),
-        (&[0x1D, 0x48], &[0, 3, 48, 51], &[4, 47, 52]),
-        (&[0x1D, 0x56], &[0, 1, 48, 49], &[2, 47, 50, 64, 67]),
-        (&[0x1D, 0x56, 65], &[0, 255], &[]),
-        (&[0x1D, 0x56, 66], &[0, 255], &[]),
-        (&[0x1D, 0x66], &[0, 1, 48, 49], &[2, 47, 50]),
-        (&[0x1D, 0x68], &[1, 255], &[0]),
-        (&[0x1D, 0x77], &[2, 6], &[1, 7]),
-        (&[0x10, 0x04], &[1, 4], &[0, 5]),
-        (&MARK_35[..10], &[32, 126], &[31, 127]),
-        (&[], &[0x20, 0xFF], &[]),
-        (&[], &[0x0A, 0x0D], &[]),
-    ];
-    for (before, read, refused) in table {
-        let mut bytes = before.to_vec(rt.alloc())?;
-        for parameter in read {
-            bytes.push(*parameter)?;
-            reads_back(&rt, rt.alloc(), &bytes)?;
-            bytes.pop();
-        }
-        for parameter in refused {
-            bytes.push(*parameter)?;
-            is_refused(
-                &rt,
-                rt.alloc(),
-                &bytes,
-                before.len(),
-                FaultReason::BadParameter,
-            )?;
-            bytes.pop();
-        }
-    }
-    for first in [0x09, 0x0B, 0x0C, 0x0E, 0x0F, 0x11, 0x1A, 0x1C, 0x1E, 0x1F] {
-        is_refused(&rt, rt.alloc(), &[first], 0, FaultReason::UnknownByte)?;
-    }
-    for first in [0x10, 0x1B, 0x1D] {
-        is_refused(
-            &rt,
-            rt.alloc(),
-            &[first, 0x05],
-            1,
-            FaultReason::UnknownCommand,
-        )?;
-    }
-    Ok(())
-}
-
-// One bar height and one module width were each tried above; these are the bytes' meanings.
+// What the bytes of parameters mean.
 #[test]
 fn meanings_of_parameters(rt: HostRuntime) -> Result<(), Fail> {
     let mode = Mode::new(0xB9).ok_or("mode")?;

@@ -1,10 +1,10 @@
-//! The decoder. It keeps the half command as a list of bytes, and reads that list anew with each byte.
+//! The decoder: it takes one byte at a time, and keeps the half command between them.
 
 ghost use Rattle.std.specs.Prelude.{◌≡◌, ◌<◌, [], length};
-ghost use Rattle.escpos_decode.specs.Push.{IsPending, PushIs};
+ghost use Rattle.escpos_decode.specs.Push.{IsRest, PushIs, GoesOn};
 ghost use Rattle.escpos_command.specs.Laws.{longest_spelling};
 
-use escpos_command::plain::{Next, step};
+use crate::plain::{Lead, lead_of, reason_after};
 use escpos_command::{Command, FaultReason, laws};
 use std::alloc::Global;
 use std::marker::Model;
@@ -17,13 +17,13 @@ pub struct Decoder {
 
 impl Model for Decoder {
     ghost use Rattle.std.specs.Prelude.{List, ℕ};
-    ghost use Rattle.escpos_decode.specs.Push.{IsPending};
+    ghost use Rattle.escpos_decode.specs.Push.{IsRest};
 
     ghost Value = { List ℕ };
 
     ghost view = { λ d. d.half.items };
 
-    ghost invariant = { λ d. IsPending d.half.items };
+    ghost invariant = { λ d. IsRest d.half.items };
 }
 
 /// What a byte that isn't refused makes of the half command.
@@ -75,19 +75,23 @@ impl Decoder {
     /// See `DecodeFault` for what is left after each fault.
     pub fn push(&mut self, byte: u8) -> Result<Step, DecodeFault>
         ensures step { PushIs result self.old byte self.new }
-        ensures pending { IsPending self.new }
+        // Whatever bytes of a stream came before, it is read as far as this byte, or refused at its place.
+        ensures stream { GoesOn result self.old byte self.new }
+        ensures rest { IsRest self.new }
     {
-        match step(&self.half, byte) {
-            Next::Whole(command) => {
+        laws::joined_readings();
+        match lead_of(&self.half, byte) {
+            Lead::Leaf(command) => {
                 self.half.clear();
                 Ok(Step::Done(command))
             }
-            Next::Unfinished => match self.half.push(byte) {
+            Lead::Node => match self.half.push(byte) {
                 Ok(()) => Ok(Step::More),
                 Err(_) => Err(DecodeFault::Memory),
             },
-            Next::Refused(why) => {
+            Lead::Dead => {
                 let at = self.half.len();
+                let why = reason_after(&self.half);
                 self.half.clear();
                 Err(DecodeFault::Fault { at, why })
             }
@@ -97,7 +101,7 @@ impl Decoder {
     /// The number of bytes of the half command, less than the longest spelling has.
     pub fn pending_len(&self) -> usize
         ensures value { result ≡ length self.now }
-        ensures pending { IsPending self.now }
+        ensures rest { IsRest self.now }
         ensures short { result < longest_spelling }
     {
         laws::unique_spellings();

@@ -1,12 +1,15 @@
-//! A whole stream in pieces, decoded.
+//! A whole stream in pieces, decoded to a list of commands.
 
-ghost use Rattle.std.specs.Prelude.{◌≡◌, IfOk, List, ℕ};
+ghost use Rattle.std.specs.Prelude.{◌≡◌, ◌<◌, IfOk, List, ◌++◌, vec_len, vec_capacity, ⊤};
+ghost use Rattle.std.proofs.Common.{rules};
+ghost use Rattle.std.proofs.lemmas.Grind.{common_steps};
 ghost use Rattle.std.specs.List.{AllByRecursion};
 ghost use Rattle.escpos_command.specs.declared.command.Command.{Command};
 ghost use Rattle.escpos_command.specs.Table.{IsCommand, spell};
-ghost use Rattle.escpos_decode.specs.Stream.{joined, IsDecoded, TakesPiece, TakesByte, IsAllRead};
+ghost use Rattle.escpos_decode.specs.Stream.{joined, IsDecoded, LeavesNothing};
 
-use crate::decoder::{DecodeFault, Decoder, Step};
+use crate::decoder::Decoder;
+use crate::reading::{Consumer, Stop, read_piece};
 use escpos_command::{Command, FaultReason, laws};
 use std::alloc::{AllocError, Global};
 
@@ -20,9 +23,9 @@ pub struct Decoded {
 /// How a stream ends.
 #[derive(Clone, Copy, Debug, PartialEq, Eq)]
 pub enum End {
-    /// All bytes are read, and the last so many are a half command.
-    Pending(usize),
-    /// The byte at this place of the stream is refused. Bytes behind it aren't looked at.
+    /// All bytes are read, and the last `half` of them are a half command.
+    Read { half: usize },
+    /// The byte at this place of the stream is refused. The bytes that follow it aren't looked at.
     Fault { at: u128, why: FaultReason },
 }
 
@@ -34,15 +37,15 @@ pub fn decode(alloc: Global, pieces: &[&[u8]]) -> Result<Decoded, AllocError>
     ensures decoded { IfOk result (λ decoded. IsDecoded decoded (joined pieces.now)) }
     // What the encoder spells is decoded to the same commands.
     ensures encoded { IfOk result (λ decoded. (cs : List Command) → AllByRecursion IsCommand cs → joined pieces.now ≡ spell cs →
-        (decoded.commands.items ≡ cs) × IsAllRead decoded.end) }
+        (decoded.commands.items ≡ cs) × LeavesNothing decoded.end) }
     // What is decoded with nothing left is spelled so by the encoder.
-    ensures spelled_again { IfOk result (λ decoded. IsAllRead decoded.end → spell decoded.commands.items ≡ joined pieces.now) }
+    ensures spelled_again { IfOk result (λ decoded. LeavesNothing decoded.end → spell decoded.commands.items ≡ joined pieces.now) }
 {
     laws::one_reading();
     decode_pieces(alloc, pieces)
 }
 
-// The decoder over one piece behind another.
+// The decoder over the pieces, one after another.
 fn decode_pieces(alloc: Global, pieces: &[&[u8]]) -> Result<Decoded, AllocError>
     ensures { IfOk result (λ decoded. IsDecoded decoded (joined pieces.now)) }
 {
@@ -51,9 +54,9 @@ fn decode_pieces(alloc: Global, pieces: &[&[u8]]) -> Result<Decoded, AllocError>
     let mut commands = Vec::new(alloc);
     let mut length = 0u128;
     for piece in pieces {
-        match take_piece(&mut decoder, &mut commands, piece)? {
-            None => length += piece.len() as u128,
-            Some((at, why)) => {
+        match read_piece(&mut decoder, piece, &mut commands, &mut ()) {
+            Ok(()) => length += piece.len() as u128,
+            Err(Stop::Fault { at, why }) => {
                 return Ok(Decoded {
                     commands,
                     end: End::Fault {
@@ -62,49 +65,34 @@ fn decode_pieces(alloc: Global, pieces: &[&[u8]]) -> Result<Decoded, AllocError>
                     },
                 });
             }
+            Err(Stop::Memory | Stop::Refused(AllocError)) => return Err(AllocError),
         }
     }
     Ok(Decoded {
         commands,
-        end: End::Pending(decoder.pending_len()),
+        end: End::Read {
+            half: decoder.pending_len(),
+        },
     })
 }
 
-// The commands of one piece go behind `commands`, up to its end or to a refused byte, whose place in the
-// piece is answered.
-fn take_piece(
-    decoder: &mut Decoder,
-    commands: &mut Vec<Command>,
-    piece: &[u8],
-) -> Result<Option<(usize, FaultReason)>, AllocError>
-    ensures { TakesPiece result decoder.old commands.old.items piece.now decoder.new commands.new.items }
-{
-    for (at, byte) in piece.iter().enumerate() {
-        match take_byte(decoder, commands, *byte)? {
-            None => {}
-            Some(why) => return Ok(Some((at, why))),
-        }
-    }
-    Ok(None)
-}
+// A list of commands takes each at its end.
+impl Consumer<()> for Vec<Command> {
+    type Refusal = AllocError;
 
-// One byte more: where it ends a command, that goes behind `commands`; where it is refused, the reason is
-// answered.
-fn take_byte(
-    decoder: &mut Decoder,
-    commands: &mut Vec<Command>,
-    byte: u8,
-) -> Result<Option<FaultReason>, AllocError>
-    ensures { TakesByte result decoder.old commands.old.items byte decoder.new commands.new.items }
-{
-    laws::joined_readings();
-    match decoder.push(byte) {
-        Ok(Step::More) => Ok(None),
-        Ok(Step::Done(command)) => {
-            commands.push(command)?;
-            Ok(None)
-        }
-        Err(DecodeFault::Fault { why, .. }) => Ok(Some(why)),
-        Err(DecodeFault::Memory) => Err(AllocError),
+    ghost took = { λ start now cs. now.0.items ≡ start.0.items ++ cs };
+
+    ghost has_room = { λ commands. vec_len commands < vec_capacity commands };
+
+    ghost refused = { λ _ _. ⊤ };
+
+    fn ready(&mut self, _output: &mut ()) -> Result<(), AllocError> {
+        self.reserve(1)
     }
+
+    fn take(&mut self, command: Command, _place: usize) {
+        self.push_reserved(command);
+    }
+
+    ghost nothing = { λ start. Prim.search (rules, common_steps) };
 }

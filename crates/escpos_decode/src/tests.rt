@@ -10,6 +10,11 @@ use std::test::Fail;
 // Init, H, i, LF, and GS V 0.
 const FIVE: [u8; 8] = [0x1B, 0x40, 0x48, 0x69, 0x0A, 0x1D, 0x56, 0x00];
 
+// The mark with the id 000Z.
+const MARK_35: [u8; 11] = [
+    0x1D, 0x28, 0x48, 0x06, 0x00, 0x30, 0x30, 0x30, 0x30, 0x30, 0x5A,
+];
+
 fn five_commands_of(alloc: Global) -> Result<Vec<Command>, Fail> {
     let h = Character::new(0x48).ok_or("H")?;
     let i = Character::new(0x69).ok_or("i")?;
@@ -23,8 +28,8 @@ fn five_commands_of(alloc: Global) -> Result<Vec<Command>, Fail> {
     ]?)
 }
 
-// The last of these bytes is refused behind the others, which are a half command, and begins nothing: the
-// next byte begins a command.
+// The last of these bytes is refused after the others, which are a half command, and that is dropped: the next
+// byte begins a command.
 fn refuses_last(
     rt: &impl Abort,
     alloc: Global,
@@ -52,7 +57,7 @@ fn refuses_last(
 fn decodes(rt: &impl Abort, alloc: Global, bytes: &[u8], command: Command) -> Result<(), Fail> {
     let decoded = decode(alloc, &[bytes])?;
     assert_eq!(rt; decoded.commands.as_slice(), [command].as_slice());
-    assert_eq!(rt; decoded.end, End::Pending(0));
+    assert_eq!(rt; decoded.end, End::Read { half: 0 });
     let mut out = Vec::new(alloc);
     for command in &decoded.commands {
         command.spell(&mut out)?;
@@ -66,7 +71,7 @@ fn five_commands(rt: HostRuntime) -> Result<(), Fail> {
     let mut commands = five_commands_of(rt.alloc())?;
     let whole = decode(rt.alloc(), &[&FIVE])?;
     assert_eq!(rt; whole.commands.as_slice(), commands.as_slice());
-    assert_eq!(rt; whole.end, End::Pending(0));
+    assert_eq!(rt; whole.end, End::Read { half: 0 });
     for place in 1..8 {
         let in_two = decode(rt.alloc(), &[&FIVE[..place], &FIVE[place..]])?;
         assert_eq!(rt;
@@ -74,7 +79,7 @@ fn five_commands(rt: HostRuntime) -> Result<(), Fail> {
             commands.as_slice(),
             "cut at {place}"
         );
-        assert_eq!(rt; in_two.end, End::Pending(0), "cut at {place}");
+        assert_eq!(rt; in_two.end, End::Read { half: 0 }, "cut at {place}");
     }
     let mut decoder = Decoder::new(rt.alloc());
     let mut one_by_one = Vec::new(rt.alloc());
@@ -88,7 +93,7 @@ fn five_commands(rt: HostRuntime) -> Result<(), Fail> {
     let half = decode(rt.alloc(), &[&FIVE[..7]])?;
     assert!(rt; commands.pop().is_some());
     assert_eq!(rt; half.commands.as_slice(), commands.as_slice());
-    assert_eq!(rt; half.end, End::Pending(2));
+    assert_eq!(rt; half.end, End::Read { half: 2 });
     Ok(())
 }
 
@@ -157,14 +162,11 @@ fn mark_prefix(rt: HostRuntime) -> Result<(), Fail> {
 
 #[test]
 fn mark_35(rt: HostRuntime) -> Result<(), Fail> {
-    let bytes = [
-        0x1D, 0x28, 0x48, 0x06, 0x00, 0x30, 0x30, 0x30, 0x30, 0x30, 0x5A,
-    ];
     let mark = MarkId::of_number(35).ok_or("number")?;
-    decodes(&rt, rt.alloc(), &bytes, Command::Mark(mark))?;
-    let half = decode(rt.alloc(), &[&bytes[..10]])?;
+    decodes(&rt, rt.alloc(), &MARK_35, Command::Mark(mark))?;
+    let half = decode(rt.alloc(), &[&MARK_35[..10]])?;
     assert!(rt; half.commands.is_empty());
-    assert_eq!(rt; half.end, End::Pending(10));
+    assert_eq!(rt; half.end, End::Read { half: 10 });
     Ok(())
 }
 
@@ -189,3 +191,68 @@ fn clear_drops_the_half_command(rt: HostRuntime) {
     assert_eq!(rt; decoder.pending_len(), 0);
     assert_eq!(rt; decoder.push(0x0A), Ok(Step::Done(Command::LineFeed)));
 }
+
+// The bytes are the spelling of one command.
+fn reads_back(rt: &impl Abort, alloc: Global, bytes: &[u8]) -> Result<(), Fail> {
+    let decoded = decode(alloc, &[bytes])?;
+    assert_eq!(rt; decoded.commands.len(), 1, "{bytes:?}");
+    assert_eq!(rt; decoded.end, End::Read { half: 0 }, "{bytes:?}");
+    let mut out = Vec::new(alloc);
+    for command in &decoded.commands {
+        command.spell(&mut out)?;
+    }
+    assert_eq!(rt; out.as_slice(), bytes);
+    Ok(())
+}
+
+// The bytes before a parameter, the parameters that are read there (the least and the greatest, and the
+// ends of each range between them), and their nearest neighbours, which are refused.
+#[test]
+fn least_and_greatest_parameters(rt: HostRuntime) -> Result<(), Fail> {
+    let table: [(&[u8], &[u8], &[u8]); 19] = [
+        (&[0x1B, 0x21], &[0, 255], &[]),
+        (&[0x1B, 0x2D], &[0, 2, 48, 50], &[3, 47, 51]),
+        (&[0x1B, 0x45], &[0, 255], &[]),
+        (&[0x1B, 0x4D], &[0, 1, 48, 49], &[2, 47, 50]),
+        (&[0x1B, 0x61], &[0, 2, 48, 50], &[3, 47, 51]),
+        (&[0x1B, 0x64], &[0, 255], &[]),
+        (&[0x1B, 0x74], &[0, 255], &[]),
+        (
+            &[0x1D, 0x21],
+            &[0x00, 0x07, 0x70, 0x77],
+            &[0x08, 0x78, 0x80],
+        ),
+        (&[0x1D, 0x48], &[0, 3, 48, 51], &[4, 47, 52]),
+        (&[0x1D, 0x56], &[0, 1, 48, 49], &[2, 47, 50, 64, 67]),
+        (&[0x1D, 0x56, 65], &[0, 255], &[]),
+        (&[0x1D, 0x56, 66], &[0, 255], &[]),
+        (&[0x1D, 0x66], &[0, 1, 48, 49], &[2, 47, 50]),
+        (&[0x1D, 0x68], &[1, 255], &[0]),
+        (&[0x1D, 0x77], &[2, 6], &[1, 7]),
+        (&[0x10, 0x04], &[1, 4], &[0, 5]),
+        (&MARK_35[..10], &[32, 126], &[31, 127]),
+        (&[], &[0x20, 0xFF], &[]),
+        (&[], &[0x0A, 0x0D], &[]),
+    ];
+    for (before, read, refused) in table {
+        let mut bytes = before.to_vec(rt.alloc())?;
+        for parameter in read {
+            bytes.push(*parameter)?;
+            reads_back(&rt, rt.alloc(), &bytes)?;
+            bytes.pop();
+        }
+        for parameter in refused {
+            bytes.push(*parameter)?;
+            refuses_last(&rt, rt.alloc(), &bytes, FaultReason::BadParameter)?;
+            bytes.pop();
+        }
+    }
+    for first in [0x09, 0x0B, 0x0C, 0x0E, 0x0F, 0x11, 0x1A, 0x1C, 0x1E, 0x1F] {
+        refuses_last(&rt, rt.alloc(), &[first], FaultReason::UnknownByte)?;
+    }
+    for first in [0x10, 0x1B, 0x1D] {
+        refuses_last(&rt, rt.alloc(), &[first, 0x05], FaultReason::UnknownCommand)?;
+    }
+    Ok(())
+}
+

@@ -1,5 +1,5 @@
 use Rattle.std.proofs.lemmas.Result.{IfOk-weaker}
-use Rattle.escpos_decode.proofs.Streams.{again, spelled_again}
+use Rattle.escpos_decode.proofs.RoundTrip.{again, spelled_again}
 use Rattle.escpos_decode.proofs.stream.decode.Goals as goal
 
 pub returns-clause-encoded : goal.returns-clause-encoded

@@ -6,9 +6,8 @@ ghost use Rattle.escpos_command.specs.declared.command.Command.{Command};
 ghost use Rattle.escpos_command.specs.declared.command.Command.TheVariants as kind;
 ghost use Rattle.escpos_command.specs.Parameters.{is_byte, is_one_of_two, is_one_of_three, is_one_of_four, is_size, is_bar_height, is_bar_width, is_status_kind};
 
-use crate::command::Command;
-use crate::parameter::{
-    Align, BarHeight, BarWidth, Emphasis, FeedLines, Font, HriFont, HriPlace, Mode, Size,
+use escpos_command::{
+    Align, BarHeight, BarWidth, Command, Emphasis, FeedLines, Font, HriFont, HriPlace, Mode, Size,
     StatusKind, Table, Underline,
 };
 

@@ -3,24 +3,21 @@
 
 ghost use Rattle.std.specs.Prelude.{◌≡◌, ℕ, List};
 ghost use Rattle.escpos_command.specs.Parameters.{is_mark_byte};
-ghost use Rattle.escpos_command.specs.Tree.{Tree, leaf, node, walk, these, counted, branch, none, one, behind_esc, behind_gs, behind_dle, cut, mark, grammar};
-ghost use Rattle.escpos_command.specs.Lead.{Tells, TellsFront};
+ghost use Rattle.escpos_command.specs.Tree.{Tree, leaf, node, walk, these, counted, branch, none, one, after_esc, after_gs, after_dle, cut, mark, grammar};
+ghost use Rattle.escpos_decode.specs.Lead.{LeadIs, FrontIs};
 ghost use Rattle.escpos_command.specs.declared.command.Command.TheVariants.{Mark};
 
 use super::parameter::Parameter;
 use super::rest::Rest;
-use crate::bytes::{CR, DLE, EOT, ESC, GS, LF};
-use crate::command::Command;
-use crate::mark::{MarkId, is_mark_byte};
-use crate::parameter::{
-    Align, BarHeight, BarWidth, Character, Cut, Emphasis, FeedLines, Font, HriFont, HriPlace, Mode,
-    Size, StatusKind, Table, Underline,
+use escpos_command::{
+    Align, BarHeight, BarWidth, CR, Character, Command, Cut, DLE, EOT, ESC, Emphasis, FeedLines, Font,
+    GS, HriFont, HriPlace, LF, MarkId, Mode, Size, StatusKind, Table, Underline, is_mark_byte,
 };
 
 /// Where bytes lead.
 #[derive(Drop)]
 pub enum Lead {
-    /// To a whole command, and no byte behind it.
+    /// To a whole command, and no byte follows it.
     Leaf(Command),
     /// To a place from which commands go on.
     Node,
@@ -32,7 +29,7 @@ pub enum Lead {
 #[derive(Drop)]
 pub enum Front<'a> {
     /// They do, and these follow.
-    Behind(Rest<'a>),
+    Followed(Rest<'a>),
     /// They end before the fixed ones do.
     Short,
     /// They differ.
@@ -41,7 +38,7 @@ pub enum Front<'a> {
 
 // A command that is whole before `rest`.
 fn whole(command: Command, rest: Rest<'_>) -> Lead
-    ensures { Tells result (walk (leaf command) rest.entry) }
+    ensures { LeadIs result (walk (leaf command) rest.entry) }
 {
     if rest.is_empty() {
         Lead::Leaf(command)
@@ -52,10 +49,10 @@ fn whole(command: Command, rest: Rest<'_>) -> Lead
 
 // The fixed bytes at the front.
 fn fixed<'a>(bytes: &[u8], rest: Rest<'a>) -> Front<'a>
-    ensures { (t : Tree) → TellsFront result t (walk (these bytes.now t) rest.entry) }
+    ensures { (t : Tree) → FrontIs result t (walk (these bytes.now t) rest.entry) }
 {
     let Some((byte, bytes)) = bytes.split_first() else {
-        return Front::Behind(rest);
+        return Front::Followed(rest);
     };
     match rest.split_first() {
         None => Front::Short,
@@ -66,7 +63,7 @@ fn fixed<'a>(bytes: &[u8], rest: Rest<'a>) -> Front<'a>
 
 /// Any command.
 pub fn grammar(bytes: Rest<'_>) -> Lead
-    ensures { Tells result (walk grammar bytes.entry) }
+    ensures { LeadIs result (walk grammar bytes.entry) }
 {
     let Some((first, rest)) = bytes.split_first() else {
         return Lead::Node;
@@ -85,7 +82,7 @@ pub fn grammar(bytes: Rest<'_>) -> Lead
 }
 
 fn after_esc(bytes: Rest<'_>) -> Lead
-    ensures { Tells result (walk (node (branch behind_esc none)) bytes.entry) }
+    ensures { LeadIs result (walk (node (branch after_esc none)) bytes.entry) }
 {
     let Some((letter, rest)) = bytes.split_first() else {
         return Lead::Node;
@@ -104,7 +101,7 @@ fn after_esc(bytes: Rest<'_>) -> Lead
 }
 
 fn after_gs(bytes: Rest<'_>) -> Lead
-    ensures { Tells result (walk (node (branch behind_gs none)) bytes.entry) }
+    ensures { LeadIs result (walk (node (branch after_gs none)) bytes.entry) }
 {
     let Some((letter, rest)) = bytes.split_first() else {
         return Lead::Node;
@@ -122,7 +119,7 @@ fn after_gs(bytes: Rest<'_>) -> Lead
 }
 
 fn after_dle(bytes: Rest<'_>) -> Lead
-    ensures { Tells result (walk (node (branch behind_dle none)) bytes.entry) }
+    ensures { LeadIs result (walk (node (branch after_dle none)) bytes.entry) }
 {
     match bytes.split_first() {
         None => Lead::Node,
@@ -133,7 +130,7 @@ fn after_dle(bytes: Rest<'_>) -> Lead
 
 // A command with one parameter byte.
 fn one<P: Parameter>(bytes: Rest<'_>) -> Lead
-    ensures { Tells result (walk (one P.allows P.command) bytes.entry) }
+    ensures { LeadIs result (walk (one P.allows P.command) bytes.entry) }
 {
     let Some((byte, rest)) = bytes.split_first() else {
         return Lead::Node;
@@ -145,7 +142,7 @@ fn one<P: Parameter>(bytes: Rest<'_>) -> Lead
 }
 
 fn cut(bytes: Rest<'_>) -> Lead
-    ensures { Tells result (walk (node cut) bytes.entry) }
+    ensures { LeadIs result (walk (node cut) bytes.entry) }
 {
     let Some((mode, rest)) = bytes.split_first() else {
         return Lead::Node;
@@ -166,18 +163,18 @@ fn cut(bytes: Rest<'_>) -> Lead
 }
 
 fn mark(bytes: Rest<'_>) -> Lead
-    ensures { Tells result (walk mark bytes.entry) }
+    ensures { LeadIs result (walk mark bytes.entry) }
 {
     match fixed(&[b'H', 6, 0, b'0', b'0'], bytes) {
-        Front::Behind(rest) => mark_id(rest),
+        Front::Followed(rest) => mark_id(rest),
         Front::Short => Lead::Node,
         Front::Other => Lead::Dead,
     }
 }
 
-#[tactic(auto, unfolding(crate::specs::Tree::counted))]
+#[tactic(auto, unfolding(escpos_command::specs::Tree::counted))]
 fn mark_id(bytes: Rest<'_>) -> Lead
-    ensures { Tells result (walk (counted 4 is_mark_byte Mark) bytes.entry) }
+    ensures { LeadIs result (walk (counted 4 is_mark_byte Mark) bytes.entry) }
 {
     let Some((d1, rest)) = bytes.split_first() else {
         return Lead::Node;

@@ -1,5 +1,5 @@
 use Rattle.std.proofs.Common.{length}
-use Rattle.escpos_command.proofs.plain.tree.+fixed.Given as goal
+use Rattle.escpos_decode.proofs.plain.tree.+fixed.Given as goal
 
 -- the fixed bytes that are left
 abbrev pub decreases-fixed : goal.decreases-fixed

@@ -1,4 +1,4 @@
-//! The bytes that are still to be looked at: what is left of a half command, and the byte behind it.
+//! The bytes that are still to be looked at: what is left of a half command, and the byte that follows it.
 
 use std::marker::Model;
 
@@ -20,7 +20,7 @@ impl<'a> Model for Rest<'a> {
 impl<'a> Rest<'a> {
     ghost use Rattle.std.specs.Prelude.{◌≡◌, [], ◌∷◌, ◌++◌, ◌==◌, length, MatchOption, ℕ, IsTrue, ◌↔◌};
 
-    /// A byte behind a half command.
+    /// A half command, or none, and the byte that follows it.
     pub fn new(half: &'a [u8], byte: u8) -> Self
         ensures { result ≡ half.entry.now ++ byte ∷ [] }
     {
@@ -30,7 +30,7 @@ impl<'a> Rest<'a> {
         }
     }
 
-    /// The first byte, and those behind it.
+    /// The first byte, and those that follow it.
     pub fn split_first(self) -> Option<(u8, Rest<'a>)>
         ensures { MatchOption result (self.entry ≡ []) (λ p. self.entry ≡ p.0 ∷ p.1) }
     {

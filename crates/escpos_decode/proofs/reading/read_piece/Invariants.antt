@@ -1,0 +1,11 @@
+use Rattle.std.proofs.Common.{◌≡◌, List, ◌++◌, length, take}
+use Rattle.escpos_command.specs.declared.command.Command.{Command}
+use Rattle.escpos_command.specs.Table.{spell}
+use Rattle.escpos_command.specs.Grammar.{Reads}
+use Rattle.escpos_decode.proofs.Streams.{Turn}
+use Rattle.escpos_decode.proofs.reading.read_piece.Given as goal
+
+-- the bytes so far are read, and their commands taken
+abbrev pub invariant-loop-at : goal.invariant-loop-at
+invariant-loop-at g l =
+    Turn (g.C.Consumer.took (l.fn.consumer, l.fn.output) (l.consumer, l.output)) (l.fn.decoder ++ take l.at l.piece) l.decoder l.start

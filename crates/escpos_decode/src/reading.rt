@@ -1,0 +1,88 @@
+//! The loop over the bytes of a stream: a decoder takes them, and hands each command to a consumer.
+//!
+//! What is done with a command is the consumer's: a list, a listing or a page. The loop asks it to make room before
+//! each byte, so that taking a command can't fail; this is also the place at which a consumer that has to know
+//! what the byte would complete can be asked.
+
+ghost use Rattle.std.specs.Prelude.{◌≡◌, List, [], ◌∷◌, ◌++◌, length, OnOk, IfErr};
+ghost use Rattle.escpos_command.specs.declared.command.Command.{Command};
+ghost use Rattle.escpos_command.specs.Table.{spell};
+ghost use Rattle.escpos_decode.specs.Piece.{given, IsTaken, StopsAt};
+
+use crate::decoder::{DecodeFault, Decoder, Step};
+use escpos_command::{Command, FaultReason};
+
+/// What takes the commands of a stream, one after another, and may pass something on to an output `W`.
+pub trait Consumer<W> {
+    /// Why no further command can be taken.
+    type Refusal: Drop;
+
+    // Between two states of the consumer and its output these commands were taken.
+    ghost took: { Self × W → Self × W → List Command → Type 0 };
+
+    // There is room for a command.
+    ghost has_room: { Self → Type 0 };
+
+    // What holds of the output after a refusal.
+    ghost refused: { Self.Refusal → W → Type 0 };
+
+    /// Makes room for one more command.
+    fn ready(&mut self, output: &mut W) -> Result<(), Self::Refusal>
+        ensures same { OnOk result ((start : Self × W) (cs : List Command) →
+            took start (self.old, output.old) cs → took start (self.new, output.new) cs) }
+        ensures room { OnOk result (has_room self.new) }
+        ensures refused { IfErr result (λ refusal. refused refusal output.new) };
+
+    /// Takes the next command, which has `place` bytes before it.
+    fn take(&mut self, command: Command, place: usize)
+        requires { has_room self.old }
+        ensures { (start : Self × W) (output : W) (cs : List Command) → place ≡ length (spell cs) →
+            took start (self.old, output) cs → took start (self.new, output) (cs ++ command ∷ []) };
+
+    // At the start no command was taken.
+    ghost nothing: { (start : Self × W) → took start start [] };
+}
+
+/// Why the bytes of a piece weren't all taken.
+#[derive(Clone, Copy, Debug, Drop, PartialEq, Eq)]
+pub enum Stop<E> {
+    /// The byte at this place of the piece is refused. The commands before it were taken, and the half command is
+    /// dropped.
+    Fault { at: usize, why: FaultReason },
+    /// There was no memory for a byte. The commands before it were taken.
+    Memory,
+    /// The consumer couldn't make room for a command.
+    Refused(E),
+}
+
+/// Reads the bytes of `piece`, which follow the half command of `decoder`, and hands each command that they complete to
+/// `consumer`. A command's place is counted from the first byte of that half command.
+pub fn read_piece<W, C: Consumer<W>>(
+    decoder: &mut Decoder,
+    piece: &[u8],
+    consumer: &mut C,
+    output: &mut W,
+) -> Result<(), Stop<C::Refusal>>
+    ensures read { OnOk result (IsTaken (C.took (consumer.old, output.old) (consumer.new, output.new)) (decoder.old ++ piece.now) decoder.new) }
+    ensures stopped { IfErr result (λ stop.
+        StopsAt stop (C.took (consumer.old, output.old) (consumer.new, output.new)) (given decoder.old piece.now) decoder.new) }
+{
+    let before = decoder.pending_len();
+    let mut start = 0;
+    for (at, byte) in piece.iter().enumerate() {
+        consumer.ready(output).map_err(Stop::Refused)?;
+        let step = match decoder.push(*byte) {
+            Ok(step) => step,
+            Err(DecodeFault::Fault { why, .. }) => return Err(Stop::Fault { at, why }),
+            Err(DecodeFault::Memory) => return Err(Stop::Memory),
+        };
+        match step {
+            Step::More => {}
+            Step::Done(command) => {
+                consumer.take(command, start);
+                start = before + at + 1;
+            }
+        }
+    }
+    Ok(())
+}
