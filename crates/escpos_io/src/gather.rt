@@ -1,21 +1,24 @@
 //! Bytes gathered into large pieces before they are put.
 //!
-//! A sink may take a system call for each `put`. `Gather` keeps up to 4 KiB back, so that many small
-//! pieces go out as few large ones, and counts what the sink has taken. It takes no memory.
+//! A sink may take a system call for each `put`. `Gather` keeps up to 16 KiB back, so that many small
+//! pieces go out as few large ones, and counts what the sink has taken, up to the greatest u128. It takes no
+//! memory. What the bytes are is left to its users; `pieces` has the loop over values that are put as bytes.
 
-ghost use Rattle.std.specs.Prelude.{◌≡◌, ◌+◌, ◌<◌, ◌≤◌, ◌^◌, ℕ, List, [], ◌++◌, length, take, Option, OnOk, IfErr, IsTrue};
+ghost use Rattle.std.specs.Prelude.{◌≡◌, ◌+◌, ◌<◌, ◌≤◌, ◌^◌, ◌-◌, min, ℕ, List, [], ◌∷◌, ◌++◌, length, take, Ok, Option, OnOk, IfErr, IsTrue};
 ghost use Rattle.std.specs.Io.KnownBytes.{Appends};
-ghost use Rattle.escpos_io.specs.Gather.{Carries, HandsOn, StopsIn, StopsWithin};
+ghost use Rattle.escpos_io.specs.Gather.{Carries, StopsIn};
 
-use crate::{ByteOut, Device, put_all};
+use crate::{ByteOut, Device, laws, put_all};
 use arrayvec::ArrayVec;
 use std::marker::Model;
 
 /// How many bytes are gathered at most.
-pub const GATHERED_BYTES: usize = 4096;
+pub const GATHERED_BYTES: usize = 16384;
+
+const _: () = prove!(GATHERED_BYTES == 16384);
 
 /// Bytes on their way to one sink, seen as those that are kept back and the number of those that the sink
-/// has taken.
+/// has taken; at the greatest u128 that number stays.
 #[derive(Drop)]
 pub struct Gather {
     piece: ArrayVec<u8, GATHERED_BYTES>,
@@ -23,17 +26,18 @@ pub struct Gather {
 }
 
 impl Model for Gather {
-    ghost use Rattle.std.specs.Prelude.{List, ℕ};
+    ghost use Rattle.escpos_io.specs.Gather.{Gathered};
 
-    ghost Value = { List ℕ × ℕ };
+    ghost Value = { Gathered };
 
-    ghost view = { λ g. (g.piece.items, g.written) };
+    ghost view = { λ g. record { kept = g.piece.items; taken = g.written } };
 }
 
 impl Gather {
     /// Nothing kept back and nothing taken.
     pub fn new() -> Self
-        ensures empty { result ≡ ([], 0) }
+        ensures kept { result.kept ≡ [] }
+        ensures taken { result.taken ≡ 0 }
         ensures carries { (sink : Option (List ℕ)) → Carries sink sink result [] }
     {
         Gather {
@@ -42,89 +46,126 @@ impl Gather {
         }
     }
 
-    /// Takes `bytes` behind those that are kept back, and puts what doesn't fit.
+    /// Makes room for `count` more bytes: puts all that is kept back, where they don't fit after it.
     ///
     /// On `Err` the sink has failed, and took exactly the first `written` of all bytes ever given (and so
-    /// of these with any `more` behind them).
+    /// of these with any `more` after them), where these are few enough to be counted.
+    #[inline]
+    pub fn room<W: ByteOut>(&mut self, count: usize, writer: &mut W) -> Result<(), Device>
+        requires { count ≤ GATHERED_BYTES }
+        ensures ok { OnOk result ((first : Option (List ℕ)) (total : List ℕ) →
+            Carries first (W.written writer.old) self.old total → Carries first (W.written writer.new) self.new total) }
+        ensures room { OnOk result (length self.new.kept + count ≤ GATHERED_BYTES) }
+        ensures untouched { length self.old.kept + count ≤ GATHERED_BYTES
+            → (result ≡ Ok tt) × (self.new ≡ self.old) × (writer.new ≡ writer.old) }
+        ensures err { IfErr result (λ device. (first : Option (List ℕ)) (total more : List ℕ) →
+            Carries first (W.written writer.old) self.old total → length (total ++ more) < 2 ^ 128 →
+            StopsIn first (W.written writer.new) (total ++ more) device.written) }
+        ensures failed { IfErr result (λ _. IsTrue (W.failed writer.new)) }
+        ensures not_failed { OnOk result (¬ IsTrue (W.failed writer.old) → ¬ IsTrue (W.failed writer.new)) }
+    {
+        if count <= self.piece.remaining_capacity() {
+            return Ok(());
+        }
+        self.flush(writer)
+    }
+
+    /// Appends `byte` to what is kept back; `room` makes the room for it.
+    #[inline]
+    pub fn push(&mut self, byte: u8)
+        requires { length self.old.kept < GATHERED_BYTES }
+        ensures kept { self.new.kept ≡ self.old.kept ++ byte ∷ [] }
+        ensures same_count { self.new.taken ≡ self.old.taken }
+        ensures carries { (first sink : Option (List ℕ)) (total : List ℕ) →
+            Carries first sink self.old total → Carries first sink self.new (total ++ byte ∷ []) }
+    {
+        laws::appended_in_place();
+        self.piece.push(byte);
+    }
+
+    /// Appends `bytes` to what is kept back; `room` makes the room for them.
+    #[inline]
+    pub fn extend(&mut self, bytes: &[u8])
+        requires { length self.old.kept + length bytes.now ≤ GATHERED_BYTES }
+        ensures kept { self.new.kept ≡ self.old.kept ++ bytes.now }
+        ensures same_count { self.new.taken ≡ self.old.taken }
+        ensures carries { (first sink : Option (List ℕ)) (total : List ℕ) →
+            Carries first sink self.old total → Carries first sink self.new (total ++ bytes.now) }
+    {
+        laws::appended_in_place();
+        self.piece.try_extend_from_slice(bytes).unwrap();
+    }
+
+    /// Takes `bytes` after those that are kept back, and puts what doesn't fit.
+    ///
+    /// On `Err` the sink has failed, and took exactly the first `written` of all bytes ever given (and so
+    /// of these with any `more` after them), where these are few enough to be counted.
     pub fn put<W: ByteOut>(&mut self, bytes: &[u8], writer: &mut W) -> Result<(), Device>
-        requires { self.old.1 + length self.old.0 + length bytes.now < 2 ^ 128 }
         ensures ok { OnOk result ((first : Option (List ℕ)) (total : List ℕ) →
             Carries first (W.written writer.old) self.old total → Carries first (W.written writer.new) self.new (total ++ bytes.now)) }
-        ensures counted { OnOk result (self.new.1 + length self.new.0 ≡ self.old.1 + length self.old.0 + length bytes.now) }
         ensures err { IfErr result (λ device. (first : Option (List ℕ)) (total more : List ℕ) →
-            Carries first (W.written writer.old) self.old total →
+            Carries first (W.written writer.old) self.old total → length (total ++ bytes.now ++ more) < 2 ^ 128 →
             StopsIn first (W.written writer.new) (total ++ bytes.now ++ more) device.written) }
         ensures failed { IfErr result (λ _. IsTrue (W.failed writer.new)) }
         ensures not_failed { OnOk result (¬ IsTrue (W.failed writer.old) → ¬ IsTrue (W.failed writer.new)) }
     {
-        self.hand_on(bytes, writer)
+        if bytes.len() > GATHERED_BYTES {
+            self.flush(writer)?;
+            return self.put_large(bytes, writer);
+        }
+        self.room(bytes.len(), writer)?;
+        self.extend(bytes);
+        Ok(())
     }
 
     /// Puts all that is kept back.
     ///
     /// On `Err` the sink has failed, and took exactly the first `written` of all bytes ever given (and so
-    /// of these with any `more` behind them).
+    /// of these with any `more` after them), where these are few enough to be counted.
+    #[inline(never)]
     pub fn flush<W: ByteOut>(&mut self, writer: &mut W) -> Result<(), Device>
-        requires { self.old.1 + length self.old.0 < 2 ^ 128 }
         ensures ok { OnOk result ((first : Option (List ℕ)) (total : List ℕ) →
             Carries first (W.written writer.old) self.old total → Appends first (W.written writer.new) total) }
-        ensures empty { OnOk result (self.new.0 ≡ []) }
-        ensures counted { OnOk result (self.new.1 ≡ self.old.1 + length self.old.0) }
+        ensures carries { OnOk result ((first : Option (List ℕ)) (total : List ℕ) →
+            Carries first (W.written writer.old) self.old total → Carries first (W.written writer.new) self.new total) }
+        ensures empty { OnOk result (self.new.kept ≡ []) }
         ensures err { IfErr result (λ device. (first : Option (List ℕ)) (total more : List ℕ) →
-            Carries first (W.written writer.old) self.old total → StopsIn first (W.written writer.new) (total ++ more) device.written) }
-        ensures failed { IfErr result (λ _. IsTrue (W.failed writer.new)) }
-        ensures not_failed { OnOk result (¬ IsTrue (W.failed writer.old) → ¬ IsTrue (W.failed writer.new)) }
-    {
-        self.empty(writer)
-    }
-
-    // Takes bytes, and says what went out.
-    fn hand_on<W: ByteOut>(&mut self, bytes: &[u8], writer: &mut W) -> Result<(), Device>
-        requires { self.old.1 + length self.old.0 + length bytes.now < 2 ^ 128 }
-        ensures ok { OnOk result (HandsOn (W.written writer.old) (W.written writer.new) self.old self.new (self.old.0 ++ bytes.now)) }
-        ensures err { IfErr result (λ device.
-            StopsWithin (W.written writer.old) (W.written writer.new) self.old (self.old.0 ++ bytes.now) device.written) }
-        ensures failed { IfErr result (λ _. IsTrue (W.failed writer.new)) }
-        ensures not_failed { OnOk result (¬ IsTrue (W.failed writer.old) → ¬ IsTrue (W.failed writer.new)) }
-    {
-        if bytes.len() <= self.piece.remaining_capacity() {
-            self.piece.try_extend_from_slice(bytes).unwrap();
-            return Ok(());
-        }
-        self.empty(writer)?;
-        if bytes.len() <= GATHERED_BYTES {
-            self.piece.try_extend_from_slice(bytes).unwrap();
-            return Ok(());
-        }
-        match put_all(bytes, writer) {
-            Ok(()) => {
-                self.written += bytes.len() as u128;
-                Ok(())
-            }
-            Err(device) => Err(Device {
-                written: self.written + device.written,
-            }),
-        }
-    }
-
-    // Puts what is kept back, and says what went out.
-    fn empty<W: ByteOut>(&mut self, writer: &mut W) -> Result<(), Device>
-        requires { self.old.1 + length self.old.0 < 2 ^ 128 }
-        ensures ok { OnOk result (HandsOn (W.written writer.old) (W.written writer.new) self.old self.new self.old.0) }
-        ensures empty { OnOk result (self.new.0 ≡ []) }
-        ensures err { IfErr result (λ device.
-            StopsWithin (W.written writer.old) (W.written writer.new) self.old self.old.0 device.written) }
+            Carries first (W.written writer.old) self.old total → length (total ++ more) < 2 ^ 128 →
+            StopsIn first (W.written writer.new) (total ++ more) device.written) }
         ensures failed { IfErr result (λ _. IsTrue (W.failed writer.new)) }
         ensures not_failed { OnOk result (¬ IsTrue (W.failed writer.old) → ¬ IsTrue (W.failed writer.new)) }
     {
         match put_all(self.piece.as_slice(), writer) {
             Ok(()) => {
-                self.written += self.piece.len() as u128;
+                self.written = self.written.saturating_add(self.piece.len() as u128);
                 self.piece.clear();
                 Ok(())
             }
             Err(device) => Err(Device {
-                written: self.written + device.written,
+                written: self.written.saturating_add(device.written),
+            }),
+        }
+    }
+
+    // Puts `bytes` past the buffer, where nothing is kept back.
+    fn put_large<W: ByteOut>(&mut self, bytes: &[u8], writer: &mut W) -> Result<(), Device>
+        requires { self.old.kept ≡ [] }
+        ensures ok { OnOk result ((first : Option (List ℕ)) (total : List ℕ) →
+            Carries first (W.written writer.old) self.old total → Carries first (W.written writer.new) self.new (total ++ bytes.now)) }
+        ensures empty { OnOk result (self.new.kept ≡ []) }
+        ensures err { IfErr result (λ device. (first : Option (List ℕ)) (total more : List ℕ) →
+            Carries first (W.written writer.old) self.old total → length (total ++ bytes.now ++ more) < 2 ^ 128 →
+            StopsIn first (W.written writer.new) (total ++ bytes.now ++ more) device.written) }
+        ensures failed { IfErr result (λ _. IsTrue (W.failed writer.new)) }
+        ensures not_failed { OnOk result (¬ IsTrue (W.failed writer.old) → ¬ IsTrue (W.failed writer.new)) }
+    {
+        match put_all(bytes, writer) {
+            Ok(()) => {
+                self.written = self.written.saturating_add(bytes.len() as u128);
+                Ok(())
+            }
+            Err(device) => Err(Device {
+                written: self.written.saturating_add(device.written),
             }),
         }
     }

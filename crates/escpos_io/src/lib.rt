@@ -2,16 +2,19 @@
 //!
 //! `device` has the two traits that every core of this repository is written over, and says what they
 //! promise. `incoming` and `outgoing` are the devices of a program, standard readers and writers;
-//! `memory_in` and `memory_out` are slices, for tests. `reading` and `putting` move a whole run of bytes, and
-//! `gather` joins small pieces to large ones. Nothing here knows a command.
+//! `memory_in` and `memory_out` are slices, for tests. `reading` and `putting` move a whole run of bytes,
+//! `gather` joins small pieces to large ones, and `pieces` puts a list of values, each as its bytes. Nothing
+//! here knows a command.
 #![tactic(auto)]
 
 mod device;
 mod gather;
 mod incoming;
+pub mod laws;
 mod memory_in;
 mod memory_out;
 mod outgoing;
+mod pieces;
 mod putting;
 mod reading;
 mod source;
@@ -24,5 +27,6 @@ pub use incoming::Incoming;
 pub use memory_in::MemoryIn;
 pub use memory_out::MemoryOut;
 pub use outgoing::Outgoing;
+pub use pieces::{PIECE_BYTES, Piece, put_pieces};
 pub use putting::{Device, put_all};
 pub use reading::{ReadError, read_to_end};

@@ -38,7 +38,7 @@ impl From<Failed> for ReadError {
 }
 
 // How many bytes one call of `pull` asks for at most.
-const PIECE_BYTES: usize = 65536;
+const PULLED_BYTES: usize = 65536;
 
 /// Reads `reader` to its end, where that comes after `limit` bytes at most.
 ///
@@ -65,7 +65,7 @@ pub fn read_to_end<R: ByteIn>(
         × Consumes (R.to_come reader.old) (R.to_come reader.new) taken }
     ensures pulls { R.pull_count reader.new ≤ R.pull_count reader.old + limit + 1 }
 {
-    let mut piece = vec![in alloc; 0u8; PIECE_BYTES.min(limit.saturating_add(1))]?;
+    let mut piece = vec![in alloc; 0u8; PULLED_BYTES.min(limit.saturating_add(1))]?;
     let mut all = Vec::new(alloc);
     'pieces: loop {
         let taken = pull_piece(reader, &mut piece, limit - all.len())?;

@@ -1,5 +1,7 @@
 //! What no clause says: devices whose reader or writer fails once, and each call on its happy path.
 
+ghost use Rattle.std.specs.Prelude.{[], ◌∷◌};
+
 use super::*;
 use std::io;
 use std::io::{Error, ErrorKind, Read, Write};
@@ -235,17 +237,92 @@ fn name_of(error: ReadError) -> &'static str {
     }
 }
 
-// A piece that is larger than what is kept back at most goes out behind what was kept back.
+// A piece that is larger than what is kept back at most goes out after what was kept back.
 #[test]
 fn a_large_piece_goes_out_in_order(rt: HostRuntime) -> Result<(), Fail> {
     let mut sink = Outgoing::new(Vec::new(rt.alloc()));
     let mut gather = Gather::new();
     gather.put(&[9], &mut sink)?;
-    gather.put(&[7; 5000], &mut sink)?;
+    gather.put(&[7; 20000], &mut sink)?;
     gather.flush(&mut sink)?;
     let out = sink.into_inner();
-    assert_eq!(rt; out.len(), 5001);
+    assert_eq!(rt; out.len(), 20001);
     assert_eq!(rt; out[0], 9);
-    assert_eq!(rt; out[5000], 7);
+    assert_eq!(rt; out[20000], 7);
     Ok(())
+}
+
+// A byte that is put twice.
+#[derive(Clone, Copy)]
+struct Doubled(u8);
+
+impl Piece for Doubled {
+    ghost bytes = { λ doubled. doubled.0 ∷ doubled.0 ∷ [] };
+
+    fn append(&self, gather: &mut Gather) {
+        gather.push(self.0);
+        gather.extend(&[self.0]);
+    }
+}
+
+#[test]
+fn pieces_go_out_in_order(rt: HostRuntime) {
+    let pieces = [Doubled(1), Doubled(2), Doubled(3)];
+    let mut sink = Outgoing::new(Vec::new(rt.alloc()));
+    assert_eq!(rt; put_pieces(&pieces, &mut sink), Ok(()));
+    assert_eq!(rt; sink.into_inner().as_slice(), [1, 1, 2, 2, 3, 3].as_slice());
+    let mut room = [0u8; 6];
+    let mut sink = MemoryOut::taking(&mut room, 1);
+    assert_eq!(rt; put_pieces(&pieces, &mut sink), Ok(()));
+    assert_eq!(rt; sink.written(), [1, 1, 2, 2, 3, 3].as_slice());
+    let none: [Doubled; 0] = [];
+    assert_eq!(rt; put_pieces(&none, &mut sink), Ok(()));
+    assert!(rt; !sink.has_failed());
+}
+
+// Wherever the sink is full, it has the front of the bytes, and the error says how long that is.
+#[test]
+fn pieces_stop_where_the_sink_is_full(rt: HostRuntime) {
+    let pieces = [Doubled(1), Doubled(2), Doubled(3)];
+    let all = [1, 1, 2, 2, 3, 3];
+    for len in 0..6 {
+        let mut room = [0u8; 6];
+        let mut sink = MemoryOut::new(&mut room[..len]);
+        assert_eq!(rt;
+            put_pieces(&pieces, &mut sink),
+            Err(Device {
+                written: len as u128
+            })
+        );
+        assert_eq!(rt; sink.written(), &all[..len]);
+        assert!(rt; sink.has_failed());
+    }
+}
+
+// More pieces than are kept back at once; the sink is full within the first large piece, just before or
+// just after it, or within the last one.
+#[test]
+fn many_pieces_go_out_in_large_ones(rt: HostRuntime) {
+    let pieces = [Doubled(7); 10000];
+    let mut sink = Outgoing::new(Vec::new(rt.alloc()));
+    assert_eq!(rt; put_pieces(&pieces, &mut sink), Ok(()));
+    assert_eq!(rt; sink.into_inner().as_slice(), [7; 20000].as_slice());
+    for len in [0, 1, 14337, 14338, 14339, 16384, 19999] {
+        let mut room = [0u8; 20000];
+        let mut sink = MemoryOut::new(&mut room[..len]);
+        assert_eq!(rt;
+            put_pieces(&pieces, &mut sink),
+            Err(Device {
+                written: len as u128
+            })
+        );
+        assert_eq!(rt; sink.written().len(), len);
+    }
+    let mut room = [0u8; 20000];
+    let mut sink = MemoryOut::failing(&mut room, 2);
+    assert_eq!(rt;
+        put_pieces(&pieces, &mut sink),
+        Err(Device { written: 14338 })
+    );
+    assert_eq!(rt; sink.written().len(), 14338);
 }

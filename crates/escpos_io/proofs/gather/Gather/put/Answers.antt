@@ -1,14 +1,19 @@
-use Rattle.std.proofs.lemmas.Result.{on_ok_weaker, IfErr-weaker}
-use Rattle.escpos_io.proofs.Gathered.{carries_on, count_on, stops_at_piece}
+use Rattle.std.proofs.Common.{◌++◌, append_assoc}
+use Rattle.std.proofs.lemmas.Result.{err_from_is_err_and, IfErr-weaker}
 use Rattle.escpos_io.proofs.gather.Gather.put.Goals as goal
 
-pub returns-clause-ok : goal.returns-clause-ok
-returns-clause-ok g c =
-    on_ok_weaker c.hand_on.result (λ h first total w. carries_on first _ _ c.args.self.now c.hand_on.new.self total c.args.bytes.now h w) c.hand_on.ensures.ok
+pub returns-in_err-flush-clause-err : goal.returns-in_err-flush-clause-err
+returns-in_err-flush-clause-err g c =
+    let bytes = c.args.bytes.now in
+    let p = err_from_is_err_and c.from_residual.result c.from_residual.ensures.1 in
+    rw (p.1, p.2) (λ first total more w short. rw append_assoc (c.in_err-flush.ensures.err first total (bytes ++ more) w (rw append_assoc at short)))
 
-pub returns-clause-counted : goal.returns-clause-counted
-returns-clause-counted g c = on_ok_weaker c.hand_on.result (λ h. count_on _ _ c.args.self.now c.hand_on.new.self c.args.bytes.now h) c.hand_on.ensures.ok
+pub returns-then-bytes-gt-GATHERED_BYTES-clause-err : goal.returns-then-bytes-gt-GATHERED_BYTES-clause-err
+returns-then-bytes-gt-GATHERED_BYTES-clause-err g c =
+    IfErr-weaker c.put_large.result _ _ (λ device stops first total more w. stops first total more (c.in_ok-flush.ensures.carries first total w)) c.put_large.ensures.err
 
-pub returns-clause-err : goal.returns-clause-err
-returns-clause-err g c =
-    IfErr-weaker c.hand_on.result _ _ (λ device s first total more w. stops_at_piece first _ _ c.args.self.now total c.args.bytes.now more device.written s w) c.hand_on.ensures.err
+pub returns-in_err-room-clause-err : goal.returns-in_err-room-clause-err
+returns-in_err-room-clause-err g c =
+    let bytes = c.args.bytes.now in
+    let p = err_from_is_err_and c.from_residual-in_err-room.result c.from_residual-in_err-room.ensures.1 in
+    rw (p.1, p.2) (λ first total more w short. rw append_assoc (c.in_err-room.ensures.err first total (bytes ++ more) w (rw append_assoc at short)))
