@@ -9,7 +9,7 @@ use Rattle.escpos_paper.specs.declared.cell.Cell.{Cell}
 use Rattle.escpos_paper.specs.Styles.{last_or}
 use Rattle.escpos_paper.specs.Cells.{cells}
 use Rattle.escpos_paper.specs.Rows.{IsCut, is_at_width, with_first, cuts, rows}
-use Rattle.escpos_paper.proofs.Filled.{cut}
+use Rattle.escpos_paper.proofs.Filled.{filled}
 use Rattle.escpos_paper.proofs.OneCut.{is_cut, one_cut}
 
 -- ## Each way to cut is in the list
@@ -115,8 +115,8 @@ the_cut xs found h k =
 held : (xs : List Cell) (found : List (List Cell)) → IsCut xs found → Holds (cuts xs) found
 held xs found h = subst (λ t. Holds (cuts t) found) h.joined (holds_cut found h.each)
 
-pub rows_filled : (cs : List Command) → rows cs ≡ cut (cells cs)
-rows_filled cs = the_cut (cells cs) (cut (cells cs)) (is_cut cs) (held (cells cs) (cut (cells cs)) (is_cut cs))
+pub rows_filled : (cs : List Command) → rows cs ≡ filled (cells cs)
+rows_filled cs = the_cut (cells cs) (filled (cells cs)) (is_cut cs) (held (cells cs) (filled (cells cs)) (is_cut cs))
 
 pub rows_cut : (cs : List Command) → IsCut (cells cs) (rows cs)
 rows_cut cs = subst (IsCut (cells cs)) (sym (rows_filled cs)) (is_cut cs)

@@ -4,10 +4,10 @@ use Rattle.std.specs.Prelude.{List, [], ◌∷◌, ◌++◌, if◌then◌else◌
 use Rattle.escpos_paper.specs.declared.cell.Cell.{Cell}
 use Rattle.escpos_paper.specs.Rows.{fits}
 
-abbrev pub cut_from : List Cell → List Cell → List (List Cell)
-cut_from row [] = row ∷ []
-cut_from row (x ∷ xs) = if fits (row ++ x ∷ []) then cut_from (row ++ x ∷ []) xs else row ∷ cut_from (x ∷ []) xs
+abbrev pub filled_from : List Cell → List Cell → List (List Cell)
+filled_from row [] = row ∷ []
+filled_from row (x ∷ xs) = if fits (row ++ x ∷ []) then filled_from (row ++ x ∷ []) xs else row ∷ filled_from (x ∷ []) xs
 
-abbrev pub cut : List Cell → List (List Cell)
-cut [] = []
-cut (x ∷ xs) = cut_from (x ∷ []) xs
+abbrev pub filled : List Cell → List (List Cell)
+filled [] = []
+filled (x ∷ xs) = filled_from (x ∷ []) xs

@@ -1,10 +1,10 @@
-pub mod Behind
+pub mod OneMore
 pub mod Filled
 pub mod Cuts
 pub mod Widths
 pub mod OneCut
 pub mod AllCuts
 pub mod Sheets
-pub mod Initialised
+pub mod Initialisation
 pub mod Texts
 pub mod Worked

@@ -7,18 +7,18 @@ use Rattle.escpos_command.specs.Text.{text, ends_text, characters}
 use Rattle.escpos_paper.specs.declared.cell.Cell.{Cell}
 use Rattle.escpos_paper.specs.declared.item.Item.{Item}
 use Rattle.escpos_paper.specs.Styles.{is_empty, last_or, style, alignment}
-use Rattle.escpos_paper.specs.Cells.{styled, cells}
+use Rattle.escpos_paper.specs.Cells.{cell, cells}
 use Rattle.escpos_paper.specs.Rows.{fits, is_at_width, cuts, rows, line}
 use Rattle.escpos_paper.specs.Printed.{prints, printed, row_and_feed}
 use Rattle.escpos_paper.specs.Page.{Sheet}
-use Rattle.escpos_paper.specs.Steps.{with_cell, alignment_behind, line_behind, step_prints, sheet_behind}
-use Rattle.escpos_paper.proofs.Behind.{style-snoc, cells-snoc, empty_text, alignment-snoc, over-snoc}
-use Rattle.escpos_paper.proofs.Filled.{cut}
-use Rattle.escpos_paper.proofs.Cuts.{last-snoc, begun, empty_last}
+use Rattle.escpos_paper.specs.Steps.{with_cell, alignment_after, line_after, step_prints, sheet_after}
+use Rattle.escpos_paper.proofs.OneMore.{style-snoc, cells-snoc, empty_text, alignment-snoc, over-snoc}
+use Rattle.escpos_paper.proofs.Filled.{filled}
+use Rattle.escpos_paper.proofs.Cuts.{last-snoc, begins_row, empty_last}
 use Rattle.escpos_paper.proofs.AllCuts.{rows_filled}
 
 -- The line is what filling leaves.
-line_filled : (cs : List Command) → line cs ≡ last_or [] (cut (cells cs))
+line_filled : (cs : List Command) → line cs ≡ last_or [] (filled (cells cs))
 line_filled cs = ap (last_or []) (rows_filled cs)
 
 pub empty_line : (cs : List Command) → is_empty (line cs) ≡ is_empty (text cs)
@@ -32,13 +32,13 @@ line_of xs = last_or [] (last_or [] (filter is_at_width (cuts xs)))
 
 line_kept : (cs : List Command) (c : Command) → ends_text c ≡ false → characters c ≡ [] → line (cs ++ c ∷ []) ≡ line cs
 line_kept cs c h none =
-    ap line_of (cells-snoc cs c ∙ ap (λ b. cond b [] (cells cs) ++ map (styled (style cs)) (characters c)) h
-    ∙ ap (λ t. cells cs ++ map (styled (style cs)) t) none ∙ append-nil (cells cs))
+    ap line_of (cells-snoc cs c ∙ ap (λ b. cond b [] (cells cs) ++ map (cell (style cs)) (characters c)) h
+    ∙ ap (λ t. cells cs ++ map (cell (style cs)) t) none ∙ append-nil (cells cs))
 
-pub line-snoc : (cs : List Command) (c : Command) → line (cs ++ c ∷ []) ≡ line_behind (style cs) (line cs) c
+pub line-snoc : (cs : List Command) (c : Command) → line (cs ++ c ∷ []) ≡ line_after (style cs) (line cs) c
 line-snoc cs (Char b) =
-    line_filled (cs ++ Char b ∷ []) ∙ ap (λ xs. last_or [] (cut xs)) (cells-snoc cs (Char b)) ∙ last-snoc (cells cs) (styled (style cs) b)
-    ∙ ap (λ row. with_cell row (styled (style cs) b)) (sym (line_filled cs))
+    line_filled (cs ++ Char b ∷ []) ∙ ap (λ xs. last_or [] (filled xs)) (cells-snoc cs (Char b)) ∙ last-snoc (cells cs) (cell (style cs) b)
+    ∙ ap (λ row. with_cell row (cell (style cs) b)) (sym (line_filled cs))
 line-snoc cs LineFeed = ap line_of (cells-snoc cs LineFeed)
 line-snoc cs (FeedLines n) = ap line_of (cells-snoc cs (FeedLines n))
 line-snoc cs Init = ap line_of (cells-snoc cs Init)
@@ -50,10 +50,10 @@ line-snoc cs c = line_kept cs c refl refl
 pub prints_step : (cs : List Command) (c : Command) → prints cs c ≡ step_prints (style cs) (alignment cs) (line cs) c
 prints_step cs (Char b) =
     ap (λ found. cond (nat_lt (length (rows cs)) (length found)) (row_and_feed (alignment cs) (line cs)) [])
-    (rows_filled (cs ++ Char b ∷ []) ∙ ap cut (cells-snoc cs (Char b)))
-    ∙ ap (λ found. cond (nat_lt (length found) (length (cut (cells cs ++ styled (style cs) b ∷ [])))) (row_and_feed (alignment cs) (last_or [] found)) []) (rows_filled cs)
-    ∙ begun (alignment cs) (cells cs) (styled (style cs) b)
-    ∙ ap (λ row. cond (fits (row ++ styled (style cs) b ∷ [])) [] (row_and_feed (alignment cs) row)) (sym (line_filled cs))
+    (rows_filled (cs ++ Char b ∷ []) ∙ ap filled (cells-snoc cs (Char b)))
+    ∙ ap (λ found. cond (nat_lt (length found) (length (filled (cells cs ++ cell (style cs) b ∷ [])))) (row_and_feed (alignment cs) (last_or [] found)) []) (rows_filled cs)
+    ∙ begins_row (alignment cs) (cells cs) (cell (style cs) b)
+    ∙ ap (λ row. cond (fits (row ++ cell (style cs) b ∷ [])) [] (row_and_feed (alignment cs) row)) (sym (line_filled cs))
 prints_step cs LineFeed = refl
 prints_step cs (FeedLines n) = refl
 prints_step cs (Cut how) = refl
@@ -61,27 +61,27 @@ prints_step cs c = refl
 
 pub printed-snoc : (cs : List Command) (c : Command) → printed (cs ++ c ∷ []) ≡ printed cs ++ step_prints (style cs) (alignment cs) (line cs) c
 printed-snoc cs c =
-    over-snoc (λ before d behind. prints before d) (λ before d behind. prints before d) [] cs c (λ b d behind. refl)
+    over-snoc (λ before d following. prints before d) (λ before d following. prints before d) [] cs c (λ b d following. refl)
     ∙ ap (λ t. printed cs ++ t) (prints_step cs c)
 
 -- ## The sheet
 
-behind_alignment : (cs : List Command) (c : Command) → alignment (cs ++ c ∷ []) ≡ alignment_behind (is_empty (line cs)) (alignment cs) c
-behind_alignment cs c = alignment-snoc cs c ∙ ap (λ b. alignment_behind b (alignment cs) c) (sym (empty_line cs))
+alignment_step : (cs : List Command) (c : Command) → alignment (cs ++ c ∷ []) ≡ alignment_after (is_empty (line cs)) (alignment cs) c
+alignment_step cs c = alignment-snoc cs c ∙ ap (λ b. alignment_after b (alignment cs) c) (sym (empty_line cs))
 
-behind_items : (kept : List Item) (cs : List Command) (c : Command)
+items_step : (kept : List Item) (cs : List Command) (c : Command)
     → kept ++ printed (cs ++ c ∷ []) ≡ (kept ++ printed cs) ++ step_prints (style cs) (alignment cs) (line cs) c
-behind_items kept cs c =
+items_step kept cs c =
     ap (λ t. kept ++ t) (printed-snoc cs c) ∙ sym (append_assoc kept (printed cs) (step_prints (style cs) (alignment cs) (line cs) c))
 
 -- The sheet of a list of commands.
 abbrev pub sheet_of : List Item → List Command → Sheet
 sheet_of kept cs = record { items = kept ++ printed cs; style = style cs; alignment = alignment cs; line = line cs }
 
-pub sheet-snoc : (kept : List Item) (cs : List Command) (c : Command) → sheet_of kept (cs ++ c ∷ []) ≡ sheet_behind (sheet_of kept cs) c
-sheet-snoc kept cs c = cc (behind_items kept cs c, style-snoc cs c, behind_alignment cs c, line-snoc cs c)
+pub sheet-snoc : (kept : List Item) (cs : List Command) (c : Command) → sheet_of kept (cs ++ c ∷ []) ≡ sheet_after (sheet_of kept cs) c
+sheet-snoc kept cs c = cc (items_step kept cs c, style-snoc cs c, alignment_step cs c, line-snoc cs c)
 
 -- So a step from the sheet of some commands leads to the sheet of one more.
 pub sheet_step : (old new : Sheet) (kept : List Item) (cs : List Command) (c : Command)
-    → new ≡ sheet_behind old c → old ≡ sheet_of kept cs → new ≡ sheet_of kept (cs ++ c ∷ [])
-sheet_step old new kept cs c e is = e ∙ ap (λ s. sheet_behind s c) is ∙ sym (sheet-snoc kept cs c)
+    → new ≡ sheet_after old c → old ≡ sheet_of kept cs → new ≡ sheet_of kept (cs ++ c ∷ [])
+sheet_step old new kept cs c e is = e ∙ ap (λ s. sheet_after s c) is ∙ sym (sheet-snoc kept cs c)

@@ -4,7 +4,7 @@ use Rattle.std.specs.Prelude.{filter_map}
 use Rattle.escpos_command.specs.declared.command.Command.{Command}
 use Rattle.escpos_command.specs.declared.command.Command.TheVariants.{Mode, Size}
 use Rattle.escpos_command.specs.Meanings.{magnified, has_bit, size_width}
-use Rattle.escpos_paper.specs.Styles.{behind_init, last_or, sets_width, style}
+use Rattle.escpos_paper.specs.Styles.{after_init, last_or, sets_width, style}
 
 -- A width factor is 1 to 8.
 pub record IsWidth (n : ℕ) : Type 0 where
@@ -25,4 +25,4 @@ last_in_range start (Size n ∷ cs) h = last_in_range (size_width n) cs (size_in
 last_in_range start (c ∷ cs) h = last_in_range start cs h
 
 pub width_in_range : (cs : List Command) → IsWidth ((style cs).width)
-width_in_range cs = last_in_range 1 (behind_init cs) (record { least = omega arith; most = omega arith })
+width_in_range cs = last_in_range 1 (after_init cs) (record { least = omega arith; most = omega arith })

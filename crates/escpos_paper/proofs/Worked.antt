@@ -6,7 +6,7 @@ use Rattle.escpos_command.specs.declared.parameter.choices.FontFace.TheVariants.
 use Rattle.escpos_command.specs.declared.parameter.choices.Alignment.TheVariants.{Left, Center}
 use Rattle.escpos_paper.specs.declared.item.Item.TheVariants.{Row, Feed, Cut as Cutting}
 use Rattle.escpos_paper.specs.Styles.{power_on}
-use Rattle.escpos_paper.specs.Cells.{styled}
+use Rattle.escpos_paper.specs.Cells.{cell}
 use Rattle.escpos_paper.specs.Rows.{rows}
 use Rattle.escpos_paper.specs.Printed.{printed}
 use Rattle.escpos_paper.specs.ItemsText.{items_text}
@@ -17,41 +17,41 @@ use Rattle.hex.specs.Hex.{encode_with}
 
 -- Init, H, i, LF, a cut
 five_commands : printed (Init ∷ Char 0x48 ∷ Char 0x69 ∷ LineFeed ∷ Cut (0, None) ∷ [])
-    ≡ Row Left (styled power_on 0x48 ∷ styled power_on 0x69 ∷ []) ∷ Feed 1 ∷ Cutting false None ∷ []
+    ≡ Row Left (cell power_on 0x48 ∷ cell power_on 0x69 ∷ []) ∷ Feed 1 ∷ Cutting false None ∷ []
 five_commands = refl
 
 -- an Align in mid-line has no effect, one on an empty line has
 align_in_mid_line : printed (Char 0x41 ∷ Char 0x42 ∷ Align 1 ∷ Char 0x43 ∷ LineFeed ∷ Align 1 ∷ Char 0x44 ∷ LineFeed ∷ [])
-    ≡ Row Left (styled power_on 0x41 ∷ styled power_on 0x42 ∷ styled power_on 0x43 ∷ []) ∷ Feed 1 ∷ Row Center (styled power_on 0x44 ∷ []) ∷ Feed 1 ∷ []
+    ≡ Row Left (cell power_on 0x41 ∷ cell power_on 0x42 ∷ cell power_on 0x43 ∷ []) ∷ Feed 1 ∷ Row Center (cell power_on 0x44 ∷ []) ∷ Feed 1 ∷ []
 align_in_mid_line = refl
 
--- emphasis in mid-line is that of the characters behind it
+-- emphasis in mid-line is that of the characters after it
 emphasis_in_mid_line : printed (Emphasis 1 ∷ Char 0x41 ∷ Emphasis 0 ∷ Char 0x42 ∷ LineFeed ∷ [])
-    ≡ Row Left (styled (record power_on { bold = true }) 0x41 ∷ styled power_on 0x42 ∷ []) ∷ Feed 1 ∷ []
+    ≡ Row Left (cell (record power_on { bold = true }) 0x41 ∷ cell power_on 0x42 ∷ []) ∷ Feed 1 ∷ []
 emphasis_in_mid_line = refl
 
 -- ESC ! B9: font B, emphasis, double height and width, underline
 mode : printed (Mode 0xB9 ∷ Char 0x41 ∷ LineFeed ∷ [])
-    ≡ Row Left (styled (record { table = 0; font = B; width = 2; height = 2; bold = true; underline = 1 }) 0x41 ∷ []) ∷ Feed 1 ∷ []
+    ≡ Row Left (cell (record { table = 0; font = B; width = 2; height = 2; bold = true; underline = 1 }) 0x41 ∷ []) ∷ Feed 1 ∷ []
 mode = refl
 
 -- Init drops the line
-init_drops_line : printed (Char 0x41 ∷ Init ∷ Char 0x42 ∷ LineFeed ∷ []) ≡ Row Left (styled power_on 0x42 ∷ []) ∷ Feed 1 ∷ []
+init_drops_line : printed (Char 0x41 ∷ Init ∷ Char 0x42 ∷ LineFeed ∷ []) ≡ Row Left (cell power_on 0x42 ∷ []) ∷ Feed 1 ∷ []
 init_drops_line = refl
 
--- feeds of 0 and of an empty line, and a cut behind text
+-- feeds of 0 and of an empty line, and a cut after text
 feed_zero : printed (FeedLines 0 ∷ []) ≡ Feed 0 ∷ []
 feed_zero = refl
 
 feed_one : printed (LineFeed ∷ []) ≡ Feed 1 ∷ []
 feed_one = refl
 
-cut_behind_text : printed (Char 0x41 ∷ Cut (0x41, Some 5) ∷ []) ≡ Row Left (styled power_on 0x41 ∷ []) ∷ Feed 1 ∷ Cutting false (Some 5) ∷ []
-cut_behind_text = refl
+cut_after_text : printed (Char 0x41 ∷ Cut (0x41, Some 5) ∷ []) ≡ Row Left (cell power_on 0x41 ∷ []) ∷ Feed 1 ∷ Cutting false (Some 5) ∷ []
+cut_after_text = refl
 
 -- at width 8 five characters of font A fit, and the sixth begins a row
 wide : printed (Size 0x70 ∷ replicate 6 (Char 0x61) ++ LineFeed ∷ [])
-    ≡ (let x = styled (record power_on { width = 8 }) 0x61 in
+    ≡ (let x = cell (record power_on { width = 8 }) 0x61 in
     Row Left (x ∷ x ∷ x ∷ x ∷ x ∷ []) ∷ Feed 1 ∷ Row Left (x ∷ []) ∷ Feed 1 ∷ [])
 wide = refl
 

@@ -11,7 +11,6 @@ use Rattle.escpos_paper.specs.declared.style.Style.{Style}
 use Rattle.escpos_paper.specs.declared.item.Item.{Item}
 use Rattle.escpos_paper.specs.declared.item.Item.TheVariants.{Row, Feed, Cut}
 use Rattle.escpos_paper.specs.Styles.{power_on, same_style}
-use Rattle.escpos_paper.specs.Cells.{cell_style}
 
 -- A byte 20 to 7E hexadecimal other than [ and \ is itself; any other is \ and two hexadecimal digits.
 abbrev pub is_plain : ℕ → Bool
@@ -33,14 +32,14 @@ style_text s =
     codes "[" ++ face_name s.font ++ codes "," ++ decimal s.width ++ codes "," ++ decimal s.height ++ codes "," ++ bold_text s.bold
     ++ codes "," ++ decimal s.underline ++ codes "," ++ decimal s.table ++ codes "]"
 
--- A cell behind one of the style `before`: its style, where that differs, and its byte.
+-- A cell after one of the style `before`: its style, where that differs, and its byte.
 abbrev pub cell_text : Style → Cell → List ℕ
-cell_text before x = (if same_style before (cell_style x) then [] else style_text (cell_style x)) ++ byte_text x.byte
+cell_text before x = (if same_style before x.style then [] else style_text x.style) ++ byte_text x.byte
 
--- Cells behind one of the style `before`.
+-- Cells after one of the style `before`.
 abbrev pub cells_text : Style → List Cell → List ℕ
 cells_text before [] = []
-cells_text before (x ∷ xs) = cell_text before x ++ cells_text (cell_style x) xs
+cells_text before (x ∷ xs) = cell_text before x ++ cells_text x.style xs
 
 abbrev pub align_name : Alignment → List ℕ
 align_name Left = codes "left"

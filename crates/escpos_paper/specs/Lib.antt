@@ -1,4 +1,4 @@
-pub mod Places
+pub mod OverPlaces
 pub mod Styles
 pub mod Cells
 pub mod Rows

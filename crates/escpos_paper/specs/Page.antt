@@ -10,21 +10,22 @@ use Rattle.escpos_paper.specs.Styles.{style, alignment}
 use Rattle.escpos_paper.specs.Rows.{line}
 use Rattle.escpos_paper.specs.Printed.{printed}
 
--- The paper so far, the styles that are set, and the line that isn't printed yet.
+-- What commands leave: the items on paper, the style and the alignment that are set, and the line that isn't
+-- printed yet.
 pub record Sheet : Type 0 where
   pub items : List Item
   pub style : Style
   pub alignment : Alignment
   pub line : List Cell
 
--- A page: its sheet, and beside it for how many more items there is room.
-pub record Seen : Type 0 where
+-- How a page is seen: its sheet, and for how many more items it has room.
+pub record PageView : Type 0 where
   pub sheet : Sheet
   pub room : ℕ
 
 -- The page is what these commands leave on paper that held the items `kept`, from power-on styles and an
 -- empty line.
-abbrev pub PageIs : Seen → List Item → List Command → Type 0
+abbrev pub PageIs : PageView → List Item → List Command → Type 0
 PageIs page kept cs = page.sheet ≡ record {
   items = kept ++ printed cs;
   style = style cs;
@@ -33,7 +34,7 @@ PageIs page kept cs = page.sheet ≡ record {
 }
 
 -- The page is what some commands leave, on paper that held some items.
-pub record IsReached (page : Seen) : Type 0 where
+pub record IsReached (page : PageView) : Type 0 where
   pub kept : List Item
   pub commands : List Command
   pub in_range : AreCommands commands

@@ -27,8 +27,8 @@ pub record IsCut (xs : List Cell) (rows : List (List Cell)) : Type 0 where
   pub each : AllByRecursion (λ row. row ≢ []) rows
   pub at_width : IsTrue (is_at_width rows)
 
--- Every way to cut cells into rows of at least one cell: the first cell goes into the first row of what is
--- behind it, or is a row of its own.
+-- Every way to cut cells into rows of at least one cell: the cells after the first are cut in every way, and
+-- the first cell begins their first row or is a row of its own.
 abbrev pub with_first : Cell → List (List Cell) → List (List (List Cell))
 with_first x [] = ((x ∷ []) ∷ []) ∷ []
 with_first x (row ∷ rows) = ((x ∷ row) ∷ rows) ∷ ((x ∷ []) ∷ row ∷ rows) ∷ []
@@ -37,11 +37,11 @@ abbrev pub cuts : List Cell → List (List (List Cell))
 cuts [] = [] ∷ []
 cuts (x ∷ xs) = flat_map (with_first x) (cuts xs)
 
--- The rows of the line: of all ways to cut its cells the one at the width of the line. The law `one_cut` says
--- that there is exactly one.
+-- The rows of the line: of all ways to cut its cells into rows the one at the width of the line. The law
+-- `one_cut` says that there is exactly one.
 abbrev pub rows : List Command → List (List Cell)
 rows cs = last_or [] (filter is_at_width (cuts (cells cs)))
 
--- The last row, which isn't printed yet.
+-- The last of them. It isn't printed yet.
 abbrev pub line : List Command → List Cell
 line cs = last_or [] (rows cs)

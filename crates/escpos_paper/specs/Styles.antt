@@ -1,10 +1,10 @@
--- The styles behind a list of commands: for each attribute the last command that sets it decides, looked
--- for in the list behind its last Init, and if there is none the power-on value. (Reference: ESC !, ESC -,
--- ESC E, ESC M, ESC a, ESC t, GS !, ESC @.)
+-- The styles after a list of commands. For each attribute the last command that sets it decides, of those
+-- after the last Init; where none sets it, it has its power-on value. (Reference: ESC !, ESC -, ESC E,
+-- ESC M, ESC a, ESC t, GS !, ESC @.)
 use Rattle.std.specs.Prelude.{ℕ, ◌==◌, ◌&&◌, not, Bool, true, false, List, [], ◌∷◌, ◌++◌, Option, None, Some, filter_map, if◌then◌else◌}
 use Rattle.std.specs.List.{list_any}
 use Rattle.escpos_command.specs.declared.command.Command.{Command}
-use Rattle.escpos_command.specs.declared.command.Command.TheVariants.{Init, Mode, Emphasis, Underline, Font, Table, Align, Size}
+use Rattle.escpos_command.specs.declared.command.Command.TheVariants as kind
 use Rattle.escpos_command.specs.declared.parameter.choices.FontFace.{FontFace}
 use Rattle.escpos_command.specs.declared.parameter.choices.FontFace.TheVariants.{A, B}
 use Rattle.escpos_command.specs.declared.parameter.choices.Alignment.{Alignment}
@@ -12,59 +12,59 @@ use Rattle.escpos_command.specs.declared.parameter.choices.Alignment.TheVariants
 use Rattle.escpos_command.specs.Meanings.{has_bit, choice, face_of, alignment_of, face_of_mode, magnified, underline_of_mode, size_width, size_height}
 use Rattle.escpos_command.specs.Text.{text}
 use Rattle.escpos_paper.specs.declared.style.Style.{Style}
-use Rattle.escpos_paper.specs.Places.{over_places}
+use Rattle.escpos_paper.specs.OverPlaces.{over_places}
 
 -- Which commands set an attribute, and to what. ESC ! and the special command set the same attribute.
 abbrev pub sets_table : Command → Option ℕ
-sets_table (Table n) = Some n
+sets_table (kind.Table n) = Some n
 sets_table _ = None
 
 abbrev pub sets_font : Command → Option FontFace
-sets_font (Mode n) = Some (face_of_mode n)
-sets_font (Font n) = Some (face_of (choice n))
+sets_font (kind.Mode n) = Some (face_of_mode n)
+sets_font (kind.Font n) = Some (face_of (choice n))
 sets_font _ = None
 
 abbrev pub sets_width : Command → Option ℕ
-sets_width (Mode n) = Some (magnified (has_bit n 5))
-sets_width (Size n) = Some (size_width n)
+sets_width (kind.Mode n) = Some (magnified (has_bit n 5))
+sets_width (kind.Size n) = Some (size_width n)
 sets_width _ = None
 
 abbrev pub sets_height : Command → Option ℕ
-sets_height (Mode n) = Some (magnified (has_bit n 4))
-sets_height (Size n) = Some (size_height n)
+sets_height (kind.Mode n) = Some (magnified (has_bit n 4))
+sets_height (kind.Size n) = Some (size_height n)
 sets_height _ = None
 
 abbrev pub sets_bold : Command → Option Bool
-sets_bold (Mode n) = Some (has_bit n 3)
-sets_bold (Emphasis n) = Some (has_bit n 0)
+sets_bold (kind.Mode n) = Some (has_bit n 3)
+sets_bold (kind.Emphasis n) = Some (has_bit n 0)
 sets_bold _ = None
 
 abbrev pub sets_underline : Command → Option ℕ
-sets_underline (Mode n) = Some (underline_of_mode n)
-sets_underline (Underline n) = Some (choice n)
+sets_underline (kind.Mode n) = Some (underline_of_mode n)
+sets_underline (kind.Underline n) = Some (choice n)
 sets_underline _ = None
 
 abbrev pub sets_alignment : Command → Option Alignment
-sets_alignment (Align n) = Some (alignment_of (choice n))
+sets_alignment (kind.Align n) = Some (alignment_of (choice n))
 sets_alignment _ = None
 
 abbrev pub is_init : Command → Bool
-is_init Init = true
+is_init kind.Init = true
 is_init _ = false
 
--- The commands behind the last Init: each that is no Init and has none behind it.
-abbrev pub behind_init : List Command → List Command
-behind_init [] = []
-behind_init (c ∷ cs) = (if list_any is_init (c ∷ cs) then [] else c ∷ []) ++ behind_init cs
+-- The commands after the last Init: each that is no Init and that no Init follows.
+abbrev pub after_init : List Command → List Command
+after_init [] = []
+after_init (c ∷ cs) = (if list_any is_init (c ∷ cs) then [] else c ∷ []) ++ after_init cs
 
 -- The last of a list, or a value in its place.
 abbrev pub last_or : {X : Type 0} → X → List X → X
 last_or x [] = x
 last_or x (y ∷ ys) = last_or y ys
 
--- What the last command behind the last Init that sets the attribute sets it to, or the power-on value.
-abbrev pub decided : {X : Type 0} → (Command → Option X) → X → List Command → X
-decided sets power_on cs = last_or power_on (filter_map sets (behind_init cs))
+-- What the last of the commands after the last Init that set an attribute sets it to, or its power-on value.
+abbrev pub setting : {X : Type 0} → (Command → Option X) → X → List Command → X
+setting sets power_on cs = last_or power_on (filter_map sets (after_init cs))
 
 -- The style of a printer just switched on.
 abbrev pub power_on : Style
@@ -86,15 +86,15 @@ same_style s t =
     s.table == t.table && same_face s.font t.font && s.width == t.width && s.height == t.height && same_flag s.bold t.bold
     && s.underline == t.underline
 
--- The style that a character behind the commands gets.
+-- The style that a character after the commands gets.
 abbrev pub style : List Command → Style
 style cs = record {
-  table = decided sets_table 0 cs;
-  font = decided sets_font A cs;
-  width = decided sets_width 1 cs;
-  height = decided sets_height 1 cs;
-  bold = decided sets_bold false cs;
-  underline = decided sets_underline 0 cs;
+  table = setting sets_table 0 cs;
+  font = setting sets_font A cs;
+  width = setting sets_width 1 cs;
+  height = setting sets_height 1 cs;
+  bold = setting sets_bold false cs;
+  underline = setting sets_underline 0 cs;
 }
 
 abbrev pub is_empty : {X : Type 0} → List X → Bool
@@ -102,16 +102,17 @@ is_empty [] = true
 is_empty (x ∷ xs) = false
 
 abbrev pub is_align : Command → Bool
-is_align (Align n) = true
+is_align (kind.Align n) = true
 is_align _ = false
 
--- The command, unless it is an Align with text before it in its line: that one doesn't count.
+-- The command as a list of one, or none where it is an Align with text before it in its line: that one
+-- doesn't count.
 abbrev pub if_it_counts : List Command → Command → List Command → List Command
-if_it_counts before c behind = if is_align c && not (is_empty (text before)) then [] else c ∷ []
+if_it_counts before c following = if is_align c && not (is_empty (text before)) then [] else c ∷ []
 
 -- The commands without each Align that doesn't count.
-abbrev pub counting : List Command → List Command
-counting cs = over_places if_it_counts [] cs
+abbrev pub commands_that_count : List Command → List Command
+commands_that_count cs = over_places if_it_counts [] cs
 
 abbrev pub alignment : List Command → Alignment
-alignment cs = decided sets_alignment Left (counting cs)
+alignment cs = setting sets_alignment Left (commands_that_count cs)

@@ -1,7 +1,7 @@
 //! The cells of a line: characters with the styles that they are printed in.
 
 ghost use Rattle.std.specs.Prelude.{◌≡◌, ◌+◌, ◌<◌, ◌≤◌, [], ◌∷◌, ◌++◌, length};
-ghost use Rattle.escpos_paper.specs.Cells.{face_dots, cell_dots, cell_style, styled};
+ghost use Rattle.escpos_paper.specs.Cells.{face_dots, cell_dots, cell};
 ghost use Rattle.escpos_paper.specs.Styles.{power_on};
 
 use crate::style::Style;
@@ -12,46 +12,28 @@ use std::marker::Model;
 /// How wide a line is, in dots.
 pub const LINE_DOTS: usize = 512;
 
+const _: () = prove!(LINE_DOTS == 512);
+
 /// The most cells that a line has: those of font B at width 1.
 pub const LINE_CELLS: usize = 56;
 
-/// A character in a line, with the styles that were set when it came.
+const _: () = prove!(LINE_CELLS == 56);
+
+/// A character in a line.
 #[derive(Clone, Copy, Debug, PartialEq, Eq)]
 pub struct Cell {
     /// The character as sent.
     pub byte: u8,
-    /// The number of the character code table.
-    pub table: u8,
-    pub font: FontFace,
-    /// The width factor, 1 to 8.
-    pub width: u8,
-    /// The height factor, 1 to 8.
-    pub height: u8,
-    pub bold: bool,
-    /// The thickness of the underline in dots, 0 to 2.
-    pub underline: u8,
+    /// How it is printed: the style that was set when it came.
+    pub style: Style,
 }
 
 impl Cell {
-    /// The style that the character is printed in.
-    pub fn style(&self) -> Style
-        ensures { result ≡ cell_style self.now }
-    {
-        Style {
-            table: self.table,
-            font: self.font,
-            width: self.width,
-            height: self.height,
-            bold: self.bold,
-            underline: self.underline,
-        }
-    }
-
     /// How wide the cell is, in dots.
     pub fn dots(&self) -> usize
         ensures { result ≡ cell_dots self.now }
     {
-        face_dots(self.font) * self.width as usize
+        face_dots(self.style.font) * self.style.width as usize
     }
 }
 
@@ -67,7 +49,7 @@ fn face_dots(face: FontFace) -> usize
 }
 
 impl Default for Cell {
-    ghost is_default = { λ cell. cell ≡ styled power_on 0x20 };
+    ghost is_default = { λ x. x ≡ cell power_on 0x20 };
 
     // A space as a printer just switched on prints it. `ArrayVec` wants some cell for its empty places.
     fn default() -> Self {
@@ -100,7 +82,7 @@ impl Cells {
         }
     }
 
-    /// Puts a cell behind the others, where there is room.
+    /// Puts a cell after the others. There must be room.
     pub fn push(&mut self, cell: Cell)
         requires { length self.old < LINE_CELLS }
         ensures { self.new ≡ self.old ++ cell ∷ [] }

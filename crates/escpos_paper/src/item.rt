@@ -1,4 +1,4 @@
-//! What stands on paper.
+//! What is printed on paper.
 
 use crate::cell::Cells;
 use escpos_command::Alignment;
@@ -10,6 +10,7 @@ pub enum Item {
     Row { align: Alignment, cells: Cells },
     /// A feed of so many lines.
     Feed(u8),
-    /// A cut: with one point left uncut where `partial`, and behind a feed of `feed` motion units.
+    /// A cut, with one point left uncut where `partial`. Where there is a `feed`, the paper is fed by so many
+    /// motion units before it.
     Cut { partial: bool, feed: Option<u8> },
 }

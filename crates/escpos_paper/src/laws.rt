@@ -25,12 +25,12 @@ pub fn one_cut()
         IsCut xs found → IsCut xs others → found ≡ others }
 {}
 
-/// Initialisation: what is printed behind an Init is what is printed on a printer just switched on.
+/// Initialisation: what is printed after an Init is what is printed on a printer just switched on.
 pub fn initialisation()
     ensures { (a b : List Command) → printed (a ++ Init ∷ [] ++ b) ≡ printed a ++ printed b }
 {}
 
-/// Growing paper: further commands print behind what is printed, and change none of it.
+/// Growing paper: further commands print after what is printed, and change none of it.
 pub fn paper_grows()
     ensures { (a b : List Command) → (more : List Item) × (printed (a ++ b) ≡ printed a ++ more) }
 {}

@@ -5,17 +5,17 @@
 //! and look back in it instead of keeping anything.
 #![tactic(auto)]
 
-pub mod cell;
-pub mod item;
+mod cell;
+mod item;
 pub mod laws;
 mod line;
-pub mod page;
+mod page;
 mod paper;
-pub mod style;
+mod style;
 #[cfg(test)]
 mod tests;
 mod text;
-pub mod write;
+mod write;
 
 pub use cell::{Cell, Cells, LINE_CELLS, LINE_DOTS};
 pub use item::Item;

@@ -1,6 +1,6 @@
 //! The line that isn't printed yet.
 //!
-//! Whether a cell fits is all that is asked of a line, so it keeps its width beside its cells.
+//! It keeps its width in dots beside its cells, so that whether one more cell fits takes one sum.
 
 ghost use Rattle.std.specs.Prelude.{◌≡◌, ◌+◌, ◌*◌, ◌≤◌, IsTrue, [], ◌∷◌, ◌++◌, length};
 ghost use Rattle.escpos_paper.specs.Cells.{dots};
@@ -47,17 +47,17 @@ impl Line {
         self.cells.as_slice().is_empty()
     }
 
-    /// Whether the cell fits behind the others.
+    /// Whether the cell fits after the others.
     pub fn has_room_for(&self, cell: &Cell) -> bool
         ensures { result ≡ fits (self.now ++ cell.now ∷ []) }
     {
-        self.used + cell.dots() <= LINE_DOTS
+        cell.dots() <= LINE_DOTS - self.used
     }
 
-    /// Puts a cell that fits behind the others.
+    /// Puts a cell that fits after the others.
     pub fn push(&mut self, cell: Cell)
         requires room { IsTrue (fits (self.old ++ cell ∷ [])) }
-        requires visible { 1 ≤ cell.width }
+        requires visible { 1 ≤ cell.style.width }
         ensures { self.new ≡ self.old ++ cell ∷ [] }
     {
         self.used += cell.dots();

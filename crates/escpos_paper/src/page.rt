@@ -1,8 +1,8 @@
 //! The page: what the commands so far have put on paper.
 //!
-//! Everything that commands change is here and nowhere else. A page keeps one style, one alignment and one
-//! line; that these are what the definitions find by looking back in the whole list of commands is the
-//! invariant of its type.
+//! A page keeps one style, one alignment and one line. That these are what the definitions find by looking
+//! back in the whole list of commands is the invariant of its type. What each command does to them is left to
+//! `paper`; a page makes room for it.
 
 ghost use Rattle.std.specs.Prelude.{◌≡◌, ◌≤◌, nat_le, IsOk, IfErr, OnOk, OnErr, List, [], ◌∷◌, ◌++◌};
 ghost use Rattle.escpos_command.specs.declared.command.Command.{Command};
@@ -10,36 +10,41 @@ ghost use Rattle.escpos_paper.specs.declared.item.Item.{Item};
 ghost use Rattle.escpos_paper.specs.Page.{PageIs, IsReached};
 
 use crate::item::Item;
-use crate::line::Line;
-use crate::paper::{MOST_ITEMS, carry_out};
-use crate::style::{Style, alignment_behind};
-use escpos_command::{Alignment, Command, laws};
+use crate::paper::{MOST_ITEMS, Paper};
+use escpos_command::{Command, laws};
 use std::alloc::{AllocError, Global};
 use std::marker::Model;
 
 /// The paper that commands have printed so far, and what they have left for those to come.
 #[derive(Drop)]
 pub struct Page {
-    items: Vec<Item>,
-    style: Style,
-    align: Alignment,
-    line: Line,
+    paper: Paper,
 }
 
 impl Model for Page {
     ghost use Rattle.std.specs.Prelude.{◌-◌, vec_len, vec_capacity};
-    ghost use Rattle.escpos_paper.specs.Page.{Seen, IsReached};
+    ghost use Rattle.escpos_paper.specs.Page.{PageView, IsReached};
 
-    ghost Value = { Seen };
+    ghost Value = { PageView };
 
     ghost view = { λ p. record {
-      sheet = record { items = p.items.items; style = p.style; alignment = p.align; line = p.line };
-      room = vec_capacity p.items - vec_len p.items;
+      sheet = record {
+        items = p.paper.items.items;
+        style = p.paper.style;
+        alignment = p.paper.align;
+        line = p.paper.line;
+      };
+      room = vec_capacity p.paper.items - vec_len p.paper.items;
     } };
 
     ghost invariant = { λ p. IsReached (record {
-      sheet = record { items = p.items.items; style = p.style; alignment = p.align; line = p.line };
-      room = vec_capacity p.items - vec_len p.items;
+      sheet = record {
+        items = p.paper.items.items;
+        style = p.paper.style;
+        alignment = p.paper.align;
+        line = p.paper.line;
+      };
+      room = vec_capacity p.paper.items - vec_len p.paper.items;
     }) };
 }
 
@@ -49,10 +54,7 @@ impl Page {
         ensures { PageIs result [] [] }
     {
         Page {
-            items: Vec::new(alloc),
-            style: Style::power_on(),
-            align: Alignment::Left,
-            line: Line::new(),
+            paper: Paper::new(alloc),
         }
     }
 
@@ -64,14 +66,14 @@ impl Page {
         ensures room { OnOk result (MOST_ITEMS ≤ self.new.room) }
         ensures no_memory { MOST_ITEMS ≤ self.old.room → IsOk result }
     {
-        self.items.reserve(MOST_ITEMS)
+        self.paper.items.reserve(MOST_ITEMS)
     }
 
     /// Whether there is room for any one command. Takes no memory.
     pub fn has_room(&self) -> bool
         ensures { result ≡ nat_le MOST_ITEMS self.now.room }
     {
-        self.items.capacity() - self.items.len() >= MOST_ITEMS
+        self.paper.items.capacity() - self.paper.items.len() >= MOST_ITEMS
     }
 
     /// Carries out a command. `Err` gives the command back where memory is wanting, and then items, styles
@@ -87,26 +89,16 @@ impl Page {
         if self.ready().is_err() {
             return Err(command);
         }
-        let style = self.style.behind(&command);
-        let align = alignment_behind(self.line.is_empty(), self.align, &command);
-        carry_out(
-            &mut self.items,
-            &mut self.line,
-            self.align,
-            self.style,
-            &command,
-        );
-        self.style = style;
-        self.align = align;
+        self.paper.carry_out(&command);
         Ok(())
     }
 
-    /// What stands on paper, from top to bottom.
+    /// What is printed on the paper, from top to bottom.
     pub fn items(&self) -> &[Item]
         ensures items { result.now ≡ self.now.sheet.items }
         ensures reached { IsReached self.now }
     {
-        self.items.as_slice()
+        self.paper.items.as_slice()
     }
 
     /// Forgets the commands so far: drops the line and puts the power-on styles back. The paper stays.
@@ -115,8 +107,6 @@ impl Page {
         ensures forgotten { PageIs self.new self.old.sheet.items [] }
         ensures same_room { self.new.room ≡ self.old.room }
     {
-        self.style = Style::power_on();
-        self.align = Alignment::Left;
-        self.line = Line::new();
+        self.paper.initialise();
     }
 }

@@ -1,73 +1,121 @@
-//! What one command prints and leaves of the line. The page makes room first, so nothing here can fail.
+//! What one command does to the paper, the styles and the line.
+//!
+//! `Paper::carry_out` has an arm for every kind of command, and nothing else in this crate goes over the
+//! kinds. `page` makes room for the items first, so nothing here can fail.
 
 ghost use Rattle.std.specs.Prelude.{◌≡◌, ◌+◌, ◌≤◌, [], ◌∷◌, ◌++◌, if◌then◌else◌, vec_len, vec_capacity};
+ghost use Rattle.escpos_command.specs.declared.parameter.choices.Alignment.TheVariants.{Left};
 ghost use Rattle.escpos_paper.specs.Printed.{row_of, row_and_feed};
+ghost use Rattle.escpos_paper.specs.declared.item.Item.TheVariants.{Feed};
 ghost use Rattle.escpos_paper.specs.Rows.{fits};
-ghost use Rattle.escpos_paper.specs.Steps.{step_prints, line_behind, with_cell};
+ghost use Rattle.escpos_paper.specs.Styles.{power_on, is_empty};
+ghost use Rattle.escpos_paper.specs.Steps.{step_prints, style_after, alignment_after, line_after, with_cell};
 
 use crate::cell::Cell;
 use crate::item::Item;
 use crate::line::Line;
 use crate::style::Style;
 use escpos_command::{Alignment, Command};
+use std::alloc::Global;
 
 /// The most items that one command prints: a row, a feed and a cut.
 pub const MOST_ITEMS: usize = 3;
 
-/// Carries out a command but for the styles that it sets.
-pub fn carry_out(
-    items: &mut Vec<Item>,
-    line: &mut Line,
-    align: Alignment,
-    style: Style,
-    command: &Command,
-)
-    requires room { vec_len items.old + MOST_ITEMS ≤ vec_capacity items.old }
-    requires visible { 1 ≤ style.width }
-    requires narrow { style.width ≤ 8 }
-    ensures printed { items.new.items ≡ items.old.items ++ step_prints style align line.old command.now }
-    ensures left { line.new ≡ line_behind style line.old command.now }
-{
-    match command {
-        Command::Char(character) => put_cell(items, line, align, style.cell(character.byte())),
-        Command::LineFeed => {
-            print_line(items, line, align);
-            items.push_reserved(Item::Feed(1));
+const _: () = prove!(MOST_ITEMS == 3);
+
+/// What commands leave: the items on paper, the style and the alignment that are set, and the line that
+/// isn't printed yet.
+#[derive(Drop)]
+pub struct Paper {
+    pub items: Vec<Item>,
+    pub style: Style,
+    pub align: Alignment,
+    pub line: Line,
+}
+
+impl Paper {
+    /// Paper with nothing on it, power-on styles and an empty line. Takes no memory.
+    pub fn new(alloc: Global) -> Self
+        ensures items { result.items.items ≡ [] }
+        ensures style { result.style ≡ power_on }
+        ensures align { result.align ≡ Left }
+        ensures line { result.line ≡ [] }
+    {
+        Paper {
+            items: Vec::new(alloc),
+            style: Style::power_on(),
+            align: Alignment::Left,
+            line: Line::new(),
         }
-        Command::FeedLines(feed) => {
-            print_line(items, line, align);
-            items.push_reserved(Item::Feed(feed.byte()));
+    }
+
+    /// Drops the line and puts the power-on styles back. The items stay.
+    pub fn initialise(&mut self)
+        ensures items { self.new.items ≡ self.old.items }
+        ensures style { self.new.style ≡ power_on }
+        ensures align { self.new.align ≡ Left }
+        ensures line { self.new.line ≡ [] }
+    {
+        self.style = Style::power_on();
+        self.align = Alignment::Left;
+        self.line = Line::new();
+    }
+
+    /// Carries out a command. (With text in the line ESC a is ignored.)
+    pub fn carry_out(&mut self, command: &Command)
+        requires room { vec_len self.old.items + MOST_ITEMS ≤ vec_capacity self.old.items }
+        requires visible { 1 ≤ self.old.style.width }
+        requires narrow { self.old.style.width ≤ 8 }
+        ensures items { self.new.items.items
+            ≡ self.old.items.items ++ step_prints self.old.style self.old.align self.old.line command.now }
+        ensures style { self.new.style ≡ style_after self.old.style command.now }
+        ensures align { self.new.align ≡ alignment_after (is_empty self.old.line) self.old.align command.now }
+        ensures line { self.new.line ≡ line_after self.old.style self.old.line command.now }
+    {
+        match command {
+            Command::Char(character) => {
+                let cell = self.style.cell(character.byte());
+                put_cell(&mut self.items, &mut self.line, self.align, cell);
+            }
+            Command::LineFeed => feed(&mut self.items, &mut self.line, self.align, 1),
+            Command::FeedLines(lines) => {
+                feed(&mut self.items, &mut self.line, self.align, lines.byte());
+            }
+            Command::Cut(cut) => {
+                end_line(&mut self.items, &mut self.line, self.align);
+                self.items.push_reserved(Item::Cut {
+                    partial: cut.is_partial(),
+                    feed: cut.feed(),
+                });
+            }
+            Command::Init => self.initialise(),
+            Command::Mode(mode) => self.style = self.style.in_mode(*mode),
+            Command::Size(size) => self.style = self.style.in_size(*size),
+            Command::Table(table) => self.style.table = table.byte(),
+            Command::Font(font) => self.style.font = font.face(),
+            Command::Emphasis(emphasis) => self.style.bold = emphasis.is_on(),
+            Command::Underline(underline) => self.style.underline = underline.dots(),
+            Command::Align(align) => {
+                if self.line.is_empty() {
+                    self.align = align.alignment();
+                }
+            }
+            Command::Return
+            | Command::BarHeight(_)
+            | Command::BarWidth(_)
+            | Command::HriPlace(_)
+            | Command::HriFont(_)
+            | Command::Status(_)
+            | Command::Mark(_) => {}
         }
-        Command::Init => *line = Line::new(),
-        Command::Cut(cut) => {
-            end_line(items, line, align);
-            items.push_reserved(Item::Cut {
-                partial: cut.is_partial(),
-                feed: cut.feed(),
-            });
-        }
-        Command::Return
-        | Command::Mode(_)
-        | Command::Emphasis(_)
-        | Command::Underline(_)
-        | Command::Font(_)
-        | Command::Table(_)
-        | Command::Align(_)
-        | Command::Size(_)
-        | Command::BarHeight(_)
-        | Command::BarWidth(_)
-        | Command::HriPlace(_)
-        | Command::HriFont(_)
-        | Command::Status(_)
-        | Command::Mark(_) => {}
     }
 }
 
 // Puts a cell into the line, and ends the line before it where it doesn't fit.
 fn put_cell(items: &mut Vec<Item>, line: &mut Line, align: Alignment, cell: Cell)
     requires room { vec_len items.old + 2 ≤ vec_capacity items.old }
-    requires visible { 1 ≤ cell.width }
-    requires narrow { cell.width ≤ 8 }
+    requires visible { 1 ≤ cell.style.width }
+    requires narrow { cell.style.width ≤ 8 }
     ensures printed { items.new.items ≡ items.old.items
         ++ (if fits (line.old ++ cell ∷ []) then [] else row_and_feed align line.old) }
     ensures left { line.new ≡ with_cell line.old cell }
@@ -78,13 +126,23 @@ fn put_cell(items: &mut Vec<Item>, line: &mut Line, align: Alignment, cell: Cell
     line.push(cell);
 }
 
+// Prints the line and feeds some lines.
+fn feed(items: &mut Vec<Item>, line: &mut Line, align: Alignment, lines: u8)
+    requires { vec_len items.old + 2 ≤ vec_capacity items.old }
+    ensures printed { items.new.items ≡ items.old.items ++ row_of align line.old ++ Feed lines ∷ [] }
+    ensures left { line.new ≡ [] }
+{
+    print_line(items, line, align);
+    items.push_reserved(Item::Feed(lines));
+}
+
 // Prints the line as a row, if it has a cell.
 fn print_line(items: &mut Vec<Item>, line: &mut Line, align: Alignment)
     requires { vec_len items.old + 1 ≤ vec_capacity items.old }
     ensures printed { items.new.items ≡ items.old.items ++ row_of align line.old }
     ensures left { line.new ≡ [] }
     ensures room { vec_capacity items.new ≡ vec_capacity items.old }
-    ensures grown { vec_len items.new ≤ vec_len items.old + 1 }
+    ensures more { vec_len items.new ≤ vec_len items.old + 1 }
 {
     if !line.is_empty() {
         items.push_reserved(Item::Row {
@@ -94,13 +152,13 @@ fn print_line(items: &mut Vec<Item>, line: &mut Line, align: Alignment)
     }
 }
 
-// The same, with a feed of one line behind it.
+// The same, and where it has a cell feeds one line.
 fn end_line(items: &mut Vec<Item>, line: &mut Line, align: Alignment)
     requires { vec_len items.old + 2 ≤ vec_capacity items.old }
     ensures printed { items.new.items ≡ items.old.items ++ row_and_feed align line.old }
     ensures left { line.new ≡ [] }
     ensures room { vec_capacity items.new ≡ vec_capacity items.old }
-    ensures grown { vec_len items.new ≤ vec_len items.old + 2 }
+    ensures more { vec_len items.new ≤ vec_len items.old + 2 }
 {
     if !line.is_empty() {
         print_line(items, line, align);

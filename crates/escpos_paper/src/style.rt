@@ -1,13 +1,13 @@
-//! The styles that the next character gets.
+//! The style that the next character gets.
 
 ghost use Rattle.std.specs.Prelude.{◌≡◌, ◌↔◌, IsTrue};
 ghost use Rattle.escpos_command.specs.declared.command.Command.TheVariants as kind;
 ghost use Rattle.escpos_paper.specs.Styles.{power_on, same_style, same_face};
-ghost use Rattle.escpos_paper.specs.Cells.{styled};
-ghost use Rattle.escpos_paper.specs.Steps.{style_behind, alignment_behind};
+ghost use Rattle.escpos_paper.specs.Cells.{cell};
+ghost use Rattle.escpos_paper.specs.Steps.{style_after};
 
 use crate::cell::Cell;
-use escpos_command::{Alignment, Command, FontFace, Mode};
+use escpos_command::{FontFace, Mode, Size};
 
 /// How a character is printed.
 #[derive(Clone, Copy, Debug, PartialEq, Eq)]
@@ -41,17 +41,9 @@ impl Style {
 
     /// A character in this style.
     pub fn cell(self, byte: u8) -> Cell
-        ensures { result ≡ styled self byte }
+        ensures { result ≡ cell self byte }
     {
-        Cell {
-            byte,
-            table: self.table,
-            font: self.font,
-            width: self.width,
-            height: self.height,
-            bold: self.bold,
-            underline: self.underline,
-        }
+        Cell { byte, style: self }
     }
 
     /// Whether the two styles are one.
@@ -67,9 +59,9 @@ impl Style {
             && self.underline == other.underline
     }
 
-    // The style behind ESC !, which sets all but the table.
-    fn in_mode(self, mode: Mode) -> Self
-        ensures { result ≡ style_behind self (kind.Mode mode) }
+    // The style after ESC !, which sets all but the table.
+    pub(crate) fn in_mode(self, mode: Mode) -> Self
+        ensures { result ≡ style_after self (kind.Mode mode) }
     {
         Style {
             table: self.table,
@@ -81,46 +73,14 @@ impl Style {
         }
     }
 
-    // The style behind a command.
-    pub(crate) fn behind(self, command: &Command) -> Self
-        ensures { result ≡ style_behind self command.now }
+    // The style after GS !, which sets width and height.
+    pub(crate) fn in_size(self, size: Size) -> Self
+        ensures { result ≡ style_after self (kind.Size size) }
     {
-        match command {
-            Command::Init => Style::power_on(),
-            Command::Mode(mode) => self.in_mode(*mode),
-            Command::Size(size) => Style {
-                width: size.width(),
-                height: size.height(),
-                ..self
-            },
-            Command::Table(table) => Style {
-                table: table.byte(),
-                ..self
-            },
-            Command::Font(font) => Style {
-                font: font.face(),
-                ..self
-            },
-            Command::Emphasis(emphasis) => Style {
-                bold: emphasis.is_on(),
-                ..self
-            },
-            Command::Underline(underline) => Style {
-                underline: underline.dots(),
-                ..self
-            },
-            Command::Char(_)
-            | Command::LineFeed
-            | Command::Return
-            | Command::Align(_)
-            | Command::FeedLines(_)
-            | Command::BarHeight(_)
-            | Command::BarWidth(_)
-            | Command::HriPlace(_)
-            | Command::HriFont(_)
-            | Command::Cut(_)
-            | Command::Status(_)
-            | Command::Mark(_) => self,
+        Style {
+            width: size.width(),
+            height: size.height(),
+            ..self
         }
     }
 }
@@ -133,20 +93,5 @@ fn is_same_face(face: FontFace, other: FontFace) -> bool
         (FontFace::A, FontFace::B) => false,
         (FontFace::B, FontFace::A) => false,
         (FontFace::B, FontFace::B) => true,
-    }
-}
-
-/// The alignment behind a command. With text in the line ESC a is ignored.
-pub(crate) fn alignment_behind(
-    is_line_empty: bool,
-    align: Alignment,
-    command: &Command,
-) -> Alignment
-    ensures { result ≡ alignment_behind is_line_empty align command.now }
-{
-    match command {
-        Command::Init => Alignment::Left,
-        Command::Align(new) if is_line_empty => new.alignment(),
-        _ => align,
     }
 }

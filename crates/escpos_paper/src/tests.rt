@@ -1,23 +1,53 @@
 //! The worked rows, and each call on its happy path.
 
 use super::*;
-use escpos_command::plain::{End, read};
+use escpos_command::{
+    Align, Character, Command, Cut, Emphasis, FeedLines, Font, Mode, Size, Table, Underline,
+};
 use escpos_io::{Device, MemoryOut};
 use std::alloc::Global;
 use std::process::Abort;
 use std::test::Fail;
 
-// The page of a list of commands, given by their bytes.
-fn page_of(alloc: Global, bytes: &[u8]) -> Result<Page, Fail> {
-    let reading = read(alloc, bytes)?;
-    if reading.end != End::Pending(0) {
-        Err("the bytes are no list of commands")?;
+// A parameter, which has to be in its range.
+fn is<T: Drop>(parameter: Option<T>) -> Result<T, Fail> {
+    match parameter {
+        Some(parameter) => Ok(parameter),
+        None => Err("the parameter is out of range")?,
     }
+}
+
+// A page on which these commands were carried out.
+fn page_of(alloc: Global, commands: &[Command]) -> Result<Page, Fail> {
     let mut page = Page::new(alloc);
-    for command in reading.commands {
-        page.apply(command)?;
+    for command in commands {
+        page.apply(command.clone()?)?;
     }
     Ok(page)
+}
+
+// Carries out a Char for each byte.
+fn put(page: &mut Page, text: &[u8]) -> Result<(), Fail> {
+    for byte in text {
+        page.apply(ch(*byte)?)?;
+    }
+    Ok(())
+}
+
+fn ch(byte: u8) -> Result<Command, Fail> {
+    Ok(Command::Char(is(Character::new(byte))?))
+}
+
+fn feed_lines(lines: u8) -> Result<Command, Fail> {
+    Ok(Command::FeedLines(is(FeedLines::new(lines))?))
+}
+
+fn align(byte: u8) -> Result<Command, Fail> {
+    Ok(Command::Align(is(Align::new(byte))?))
+}
+
+fn emphasis(byte: u8) -> Result<Command, Fail> {
+    Ok(Command::Emphasis(is(Emphasis::new(byte))?))
 }
 
 fn expect_text(rt: &impl Abort, page: &Page, text: &[u8]) {
@@ -27,48 +57,111 @@ fn expect_text(rt: &impl Abort, page: &Page, text: &[u8]) {
     assert_eq!(rt; sink.written(), text);
 }
 
+// Init, H, i, LF and a cut.
+fn five_commands_page(alloc: Global) -> Result<Page, Fail> {
+    page_of(
+        alloc,
+        &[
+            Command::Init,
+            ch(b'H')?,
+            ch(b'i')?,
+            Command::LineFeed,
+            Command::Cut(is(Cut::new(0))?),
+        ],
+    )
+}
+
 #[test]
 fn five_commands(rt: HostRuntime) -> Result<(), Fail> {
-    let page = page_of(rt.alloc(), b"\x1B\x40Hi\x0A\x1D\x56\x00")?;
+    let page = five_commands_page(rt.alloc())?;
     expect_text(&rt, &page, b"row left Hi\nfeed 1\ncut full\n");
     Ok(())
 }
 
 #[test]
 fn line_width(rt: HostRuntime) -> Result<(), Fail> {
-    let rows: [(&[u8], &[u8]); 5] = [
+    let font_b = Command::Font(is(Font::new(1))?);
+    let wide = Command::Size(is(Size::new(0x70))?);
+    let rows: [(&Command, usize, &[u8]); 5] = [
         (
-            b"aaaaaaaaaaaaaaaaaaaaaaaaaaaaaaaaaaaaaaaaaa\x0A",
+            &Command::Init,
+            42,
             b"row left aaaaaaaaaaaaaaaaaaaaaaaaaaaaaaaaaaaaaaaaaa\nfeed 1\n",
         ),
         (
-            b"aaaaaaaaaaaaaaaaaaaaaaaaaaaaaaaaaaaaaaaaaaa\x0A",
+            &Command::Init,
+            43,
             b"row left aaaaaaaaaaaaaaaaaaaaaaaaaaaaaaaaaaaaaaaaaa\nfeed 1\nrow left a\nfeed 1\n",
         ),
         (
-            b"\x1B\x4D\x01aaaaaaaaaaaaaaaaaaaaaaaaaaaaaaaaaaaaaaaaaaaaaaaaaaaaaaaa\x0A",
+            &font_b,
+            56,
             b"row left [B,1,1,0,0,0]aaaaaaaaaaaaaaaaaaaaaaaaaaaaaaaaaaaaaaaaaaaaaaaaaaaaaaaa\nfeed 1\n",
         ),
         (
-            b"\x1B\x4D\x01aaaaaaaaaaaaaaaaaaaaaaaaaaaaaaaaaaaaaaaaaaaaaaaaaaaaaaaaa\x0A",
+            &font_b,
+            57,
             b"row left [B,1,1,0,0,0]aaaaaaaaaaaaaaaaaaaaaaaaaaaaaaaaaaaaaaaaaaaaaaaaaaaaaaaa\nfeed 1\nrow left [B,1,1,0,0,0]a\nfeed 1\n",
         ),
         (
-            b"\x1D\x21\x70aaaaaa\x0A",
+            &wide,
+            6,
             b"row left [A,8,1,0,0,0]aaaaa\nfeed 1\nrow left [A,8,1,0,0,0]a\nfeed 1\n",
         ),
     ];
-    for (bytes, text) in rows {
-        expect_text(&rt, &page_of(rt.alloc(), bytes)?, text);
+    for (command, count, text) in rows {
+        let mut page = page_of(rt.alloc(), &[command.clone()?])?;
+        for _ in 0..count {
+            page.apply(ch(b'a')?)?;
+        }
+        page.apply(Command::LineFeed)?;
+        expect_text(&rt, &page, text);
     }
+    Ok(())
+}
+
+// 41 characters of font A and 2 of font B are 510 dots of 512, and one more of font B is 519.
+#[test]
+fn two_dots_to_spare(rt: HostRuntime) -> Result<(), Fail> {
+    let mut page = Page::new(rt.alloc());
+    put(&mut page, &[b'a'; 41])?;
+    page.apply(Command::Font(is(Font::new(49))?))?;
+    put(&mut page, b"bbb")?;
+    page.apply(Command::LineFeed)?;
+    expect_text(
+        &rt,
+        &page,
+        b"row left aaaaaaaaaaaaaaaaaaaaaaaaaaaaaaaaaaaaaaaaa[B,1,1,0,0,0]bb\nfeed 1\nrow left [B,1,1,0,0,0]b\nfeed 1\n",
+    );
     Ok(())
 }
 
 #[test]
 fn styles_in_mid_line(rt: HostRuntime) -> Result<(), Fail> {
-    let page = page_of(rt.alloc(), b"AB\x1B\x61\x01C\x0A\x1B\x61\x01D\x0A")?;
+    let page = page_of(
+        rt.alloc(),
+        &[
+            ch(b'A')?,
+            ch(b'B')?,
+            align(1)?,
+            ch(b'C')?,
+            Command::LineFeed,
+            align(1)?,
+            ch(b'D')?,
+            Command::LineFeed,
+        ],
+    )?;
     expect_text(&rt, &page, b"row left ABC\nfeed 1\nrow center D\nfeed 1\n");
-    let page = page_of(rt.alloc(), b"\x1B\x45\x01A\x1B\x45\x00B\x0A")?;
+    let page = page_of(
+        rt.alloc(),
+        &[
+            emphasis(1)?,
+            ch(b'A')?,
+            emphasis(0)?,
+            ch(b'B')?,
+            Command::LineFeed,
+        ],
+    )?;
     expect_text(
         &rt,
         &page,
@@ -79,30 +172,37 @@ fn styles_in_mid_line(rt: HostRuntime) -> Result<(), Fail> {
 
 #[test]
 fn feed_zero(rt: HostRuntime) -> Result<(), Fail> {
-    expect_text(&rt, &page_of(rt.alloc(), b"\x1B\x64\x00")?, b"feed 0\n");
-    expect_text(&rt, &page_of(rt.alloc(), b"\x0A")?, b"feed 1\n");
-    let page = page_of(rt.alloc(), b"A\x1D\x56\x41\x05")?;
+    let page = page_of(rt.alloc(), &[feed_lines(0)?])?;
+    expect_text(&rt, &page, b"feed 0\n");
+    let page = page_of(rt.alloc(), &[Command::LineFeed])?;
+    expect_text(&rt, &page, b"feed 1\n");
+    let cut = Command::Cut(is(Cut::with_feed(65, 5))?);
+    let page = page_of(rt.alloc(), &[ch(b'A')?, cut])?;
     expect_text(&rt, &page, b"row left A\nfeed 1\ncut full 5\n");
     Ok(())
 }
 
 #[test]
 fn mode_b9(rt: HostRuntime) -> Result<(), Fail> {
-    let page = page_of(rt.alloc(), b"\x1B\x21\xB9A\x0A")?;
+    let mode = Command::Mode(is(Mode::new(0xB9))?);
+    let page = page_of(rt.alloc(), &[mode, ch(b'A')?, Command::LineFeed])?;
     expect_text(&rt, &page, b"row left [B,2,2,1,1,0]A\nfeed 1\n");
     Ok(())
 }
 
 #[test]
 fn init_drops_line(rt: HostRuntime) -> Result<(), Fail> {
-    let page = page_of(rt.alloc(), b"A\x1B\x40B\x0A")?;
+    let page = page_of(
+        rt.alloc(),
+        &[ch(b'A')?, Command::Init, ch(b'B')?, Command::LineFeed],
+    )?;
     expect_text(&rt, &page, b"row left B\nfeed 1\n");
     Ok(())
 }
 
 #[test]
 fn short_writer(rt: HostRuntime) -> Result<(), Fail> {
-    let page = page_of(rt.alloc(), b"\x1B\x40Hi\x0A\x1D\x56\x00")?;
+    let page = five_commands_page(rt.alloc())?;
     let mut room = [0u8; 5];
     let mut sink = MemoryOut::new(&mut room);
     assert_eq!(rt;
@@ -117,10 +217,18 @@ fn short_writer(rt: HostRuntime) -> Result<(), Fail> {
 // plain characters.
 #[test]
 fn other_texts(rt: HostRuntime) -> Result<(), Fail> {
-    let page = page_of(
+    let mut page = page_of(
         rt.alloc(),
-        b"\x1B\x61\x32\x1B\x74\xFF\x1B\x2D\x02\x1D\x21\x03[\\\x7F\xE9~ \x0D\x1D\x56\x42\xFF",
+        &[
+            align(0x32)?,
+            Command::Table(is(Table::new(0xFF))?),
+            Command::Underline(is(Underline::new(2))?),
+            Command::Size(is(Size::new(0x03))?),
+        ],
     )?;
+    put(&mut page, b"[\\\x7F\xE9~ ")?;
+    page.apply(Command::Return)?;
+    page.apply(Command::Cut(is(Cut::with_feed(66, 0xFF))?))?;
     expect_text(
         &rt,
         &page,
@@ -131,10 +239,18 @@ fn other_texts(rt: HostRuntime) -> Result<(), Fail> {
 
 #[test]
 fn restart_drops_the_line_and_keeps_the_paper(rt: HostRuntime) -> Result<(), Fail> {
-    let mut page = page_of(rt.alloc(), b"A\x0A\x1B\x45\x01\x1B\x61\x01B")?;
+    let mut page = page_of(
+        rt.alloc(),
+        &[
+            ch(b'A')?,
+            Command::LineFeed,
+            emphasis(1)?,
+            align(1)?,
+            ch(b'B')?,
+        ],
+    )?;
     page.restart();
-    let reading = read(rt.alloc(), b"\x0AC\x0A")?;
-    for command in reading.commands {
+    for command in [Command::LineFeed, ch(b'C')?, Command::LineFeed] {
         page.ready()?;
         assert!(rt; page.has_room());
         page.apply(command)?;
@@ -147,18 +263,32 @@ fn restart_drops_the_line_and_keeps_the_paper(rt: HostRuntime) -> Result<(), Fai
     Ok(())
 }
 
+// A new page has no room, and one made ready has room for all that a command can print.
+#[test]
+fn room_for_one_command(rt: HostRuntime) -> Result<(), Fail> {
+    let mut page = Page::new(rt.alloc());
+    assert!(rt; !page.has_room());
+    page.apply(ch(b'A')?)?;
+    page.ready()?;
+    assert!(rt; page.has_room());
+    page.apply(Command::Cut(is(Cut::new(49))?))?;
+    assert_eq!(rt; page.items().len(), 3);
+    expect_text(&rt, &page, b"row left A\nfeed 1\ncut partial\n");
+    Ok(())
+}
+
 // More text than is put together at once.
 #[test]
 fn long_paper(rt: HostRuntime) -> Result<(), Fail> {
-    let mut bytes = Vec::new(rt.alloc());
-    for _ in 0..600 {
-        bytes.extend_from_slice(b"\x1B\x64\xFF")?;
+    let mut page = Page::new(rt.alloc());
+    for _ in 0..2500 {
+        page.apply(feed_lines(255)?)?;
     }
-    let page = page_of(rt.alloc(), bytes.as_slice())?;
-    let mut room = [0u8; 5400];
+    assert_eq!(rt; page.items().len(), 2500);
+    let mut room = [0u8; 22500];
     let mut sink = MemoryOut::new(&mut room);
     assert_eq!(rt; write_items(page.items(), &mut sink), Ok(()));
-    assert_eq!(rt; sink.written().len(), 5400);
+    assert_eq!(rt; sink.written().len(), 22500);
     for line in sink.written().chunks(9) {
         assert_eq!(rt; line, b"feed 255\n".as_slice());
     }
@@ -170,7 +300,7 @@ fn cells_have_their_width(rt: HostRuntime) {
     let style = Style::power_on();
     let cell = style.cell(b'a');
     assert_eq!(rt; cell.dots(), 12);
-    assert!(rt; cell.style().is_same(&style));
+    assert!(rt; cell.style.is_same(&style));
     assert_eq!(rt; Cell::default().byte, b' ');
     let mut cells = Cells::new();
     cells.push(cell);

@@ -80,19 +80,18 @@ fn push_cells(text: &mut Text, cells: &Cells)
     let mut before = Style::power_on();
     for cell in row {
         push_cell(text, &before, cell);
-        before = cell.style();
+        before = cell.style;
     }
 }
 
-// A cell behind one of the style `before`.
+// A cell after one of the style `before`.
 fn push_cell(text: &mut Text, before: &Style, cell: &Cell)
     requires { array_vec_len text.old + 24 ≤ TEXT_BYTES }
     ensures pushed { text.new.items ≡ text.old.items ++ cell_text before.now cell.now }
     ensures small { length (cell_text before.now cell.now) ≤ 24 }
 {
-    let style = cell.style();
-    if !before.is_same(&style) {
-        push_style(text, &style);
+    if !before.is_same(&cell.style) {
+        push_style(text, &cell.style);
     }
     push_byte(text, cell.byte);
 }

@@ -1,4 +1,4 @@
-use Rattle.escpos_paper.proofs.Behind.{bytes_of_cells}
+use Rattle.escpos_paper.proofs.OneMore.{bytes_of_cells}
 use Rattle.escpos_paper.proofs.Sheets.{empty_line}
 use Rattle.escpos_paper.proofs.laws.cells_of_text.Goals as goal
 

@@ -1,10 +1,10 @@
--- What `apply` leaves is the sheet behind the command, which stands for the longer list of commands.
+-- What `apply` leaves is the sheet after the command, which stands for the longer list of commands.
 use Rattle.std.proofs.Common.{◌≡◌, List, [], ◌∷◌, ◌++◌, ap, sym, ◌∙◌, subst, refl}
 use Rattle.escpos_paper.specs.declared.item.Item.{Item}
 use Rattle.escpos_paper.specs.declared.style.Style.{Style}
 use Rattle.escpos_command.specs.declared.command.Command.{Command}
 use Rattle.escpos_command.specs.Table.{IsCommand, AreCommands}
-use Rattle.escpos_paper.specs.Page.{Sheet, Seen}
+use Rattle.escpos_paper.specs.Page.{Sheet, PageView}
 use Rattle.escpos_paper.proofs.Sheets.{sheet_of, sheet_step}
 use Rattle.escpos_paper.proofs.Widths.{IsWidth, width_in_range}
 use Rattle.escpos_paper.proofs.page.Page.apply.Goals as goal
@@ -19,11 +19,11 @@ one_more (d ∷ cs) c h k = (h.0, one_more cs c h.1 k)
 
 pub carry_out-requires-clause-visible : goal.carry_out-requires-clause-visible
 carry_out-requires-clause-visible c =
-    (width_of c.self.inside.style _ c.self.invariant.kept c.self.invariant.commands refl c.self.invariant.page_is).least
+    (width_of c.self.inside.paper.style _ c.self.invariant.kept c.self.invariant.commands refl c.self.invariant.page_is).least
 
 pub carry_out-requires-clause-narrow : goal.carry_out-requires-clause-narrow
 carry_out-requires-clause-narrow c =
-    (width_of c.self.inside.style _ c.self.invariant.kept c.self.invariant.commands refl c.self.invariant.page_is).most
+    (width_of c.self.inside.paper.style _ c.self.invariant.kept c.self.invariant.commands refl c.self.invariant.page_is).most
 
 pub invariant_of-self : goal.invariant_of-self
 invariant_of-self c = record {
@@ -32,12 +32,12 @@ invariant_of-self c = record {
   in_range = one_more c.self.invariant.commands c.args.command c.self.invariant.in_range c.in_range.ensures;
   page_is =
       sheet_step _ _ c.self.invariant.kept c.self.invariant.commands c.args.command
-      (cc (c.carry_out.ensures.printed, c.carry_out.ensures.left, c.behind-style.ensures, c.alignment_behind-align.ensures, c.is_empty.ensures))
+      (cc (c.carry_out.ensures.items, c.carry_out.ensures.style, c.carry_out.ensures.align, c.carry_out.ensures.line))
       c.self.invariant.page_is;
 }
 
 pub returns-clause-taken : goal.returns-clause-taken
 returns-clause-taken c = λ kept cs is.
     sheet_step _ _ kept cs c.args.command
-    (cc (c.carry_out.ensures.printed, c.carry_out.ensures.left, c.behind-style.ensures, c.alignment_behind-align.ensures, c.is_empty.ensures))
-    (ap (λ (seen : Seen). seen.sheet) c.self.view_is ∙ c.ready.ensures.same ∙ is)
+    (cc (c.carry_out.ensures.items, c.carry_out.ensures.style, c.carry_out.ensures.align, c.carry_out.ensures.line))
+    (ap (λ (page : PageView). page.sheet) c.self.view_is ∙ c.ready.ensures.same ∙ is)

@@ -13,10 +13,10 @@ use Rattle.escpos_command.specs.declared.parameter.choices.FontFace.TheVariants.
 use Rattle.escpos_command.specs.Text.{text, ends_text, characters}
 use Rattle.escpos_paper.specs.declared.cell.Cell.{Cell}
 use Rattle.escpos_paper.specs.declared.style.Style.{Style}
-use Rattle.escpos_paper.specs.Places.{over_places}
-use Rattle.escpos_paper.specs.Styles.{is_init, is_align, is_empty, behind_init, last_or, decided, style, if_it_counts, counting, alignment, sets_alignment, sets_table, sets_font, sets_width, sets_height, sets_bold, sets_underline}
-use Rattle.escpos_paper.specs.Cells.{styled, cell_at, cells}
-use Rattle.escpos_paper.specs.Steps.{set_behind, style_behind, alignment_behind}
+use Rattle.escpos_paper.specs.OverPlaces.{over_places}
+use Rattle.escpos_paper.specs.Styles.{is_init, is_align, is_empty, after_init, last_or, setting, style, if_it_counts, commands_that_count, alignment, sets_alignment, sets_table, sets_font, sets_width, sets_height, sets_bold, sets_underline}
+use Rattle.escpos_paper.specs.Cells.{cell, cell_at, cells}
+use Rattle.escpos_paper.specs.Steps.{set_after, style_after, alignment_after}
 
 -- ## Tests of a list with one more element
 
@@ -38,17 +38,17 @@ any_miss test xs x h =
 
 -- ## Attributes
 
-behind_init-hit : (cs : List Command) (c : Command) → is_init c ≡ true → behind_init (cs ++ c ∷ []) ≡ []
-behind_init-hit [] c h = ap (λ b. cond (b || false) [] (c ∷ []) ++ []) h
-behind_init-hit (d ∷ cs) c h =
-    ap (λ b. cond b [] (d ∷ []) ++ behind_init (cs ++ c ∷ [])) (any_hit is_init (d ∷ cs) c h) ∙ behind_init-hit cs c h
+after_init-hit : (cs : List Command) (c : Command) → is_init c ≡ true → after_init (cs ++ c ∷ []) ≡ []
+after_init-hit [] c h = ap (λ b. cond (b || false) [] (c ∷ []) ++ []) h
+after_init-hit (d ∷ cs) c h =
+    ap (λ b. cond b [] (d ∷ []) ++ after_init (cs ++ c ∷ [])) (any_hit is_init (d ∷ cs) c h) ∙ after_init-hit cs c h
 
-behind_init-miss : (cs : List Command) (c : Command) → is_init c ≡ false → behind_init (cs ++ c ∷ []) ≡ behind_init cs ++ c ∷ []
-behind_init-miss [] c h = ap (λ b. cond (b || false) [] (c ∷ []) ++ []) h
-behind_init-miss (d ∷ cs) c h =
-    ap (λ b. cond b [] (d ∷ []) ++ behind_init (cs ++ c ∷ [])) (any_miss is_init (d ∷ cs) c h)
-    ∙ ap (λ t. cond (list_any is_init (d ∷ cs)) [] (d ∷ []) ++ t) (behind_init-miss cs c h)
-    ∙ sym (append_assoc (cond (list_any is_init (d ∷ cs)) [] (d ∷ [])) (behind_init cs) (c ∷ []))
+after_init-miss : (cs : List Command) (c : Command) → is_init c ≡ false → after_init (cs ++ c ∷ []) ≡ after_init cs ++ c ∷ []
+after_init-miss [] c h = ap (λ b. cond (b || false) [] (c ∷ []) ++ []) h
+after_init-miss (d ∷ cs) c h =
+    ap (λ b. cond b [] (d ∷ []) ++ after_init (cs ++ c ∷ [])) (any_miss is_init (d ∷ cs) c h)
+    ∙ ap (λ t. cond (list_any is_init (d ∷ cs)) [] (d ∷ []) ++ t) (after_init-miss cs c h)
+    ∙ sym (append_assoc (cond (list_any is_init (d ∷ cs)) [] (d ∷ [])) (after_init cs) (c ∷ []))
 
 last_or-snoc : {X : Type 0} (d : X) (xs : List X) (x : X) → last_or d (xs ++ x ∷ []) ≡ x
 last_or-snoc d [] x = refl
@@ -61,34 +61,34 @@ last_or-option d xs (Some x) = last_or-snoc d xs x
 filter_map-one : {X Y : Type 0} (h : X → Option Y) (x : X) → filter_map h (x ∷ []) ≡ option_to_list (h x)
 filter_map-one h x = elim (h x) as (λ o. filter_map (λ y. o) (x ∷ []) ≡ option_to_list o) [ None ↦ refl | Some y ↦ refl ]
 
-decided_by : {X : Type 0} (sets : Command → Option X) (start : X) (cs : List Command) (c : Command) (b : Bool) → is_init c ≡ b
-    → decided sets start (cs ++ c ∷ []) ≡ cond b start (unwrap_or (sets c) (decided sets start cs))
-decided_by sets start cs c true h = ap (λ ds. last_or start (filter_map sets ds)) (behind_init-hit cs c h)
-decided_by sets start cs c false h =
-    ap (λ ds. last_or start (filter_map sets ds)) (behind_init-miss cs c h)
-    ∙ ap (last_or start) (filter_map-append sets (behind_init cs) (c ∷ []) ∙ ap (λ t. filter_map sets (behind_init cs) ++ t) (filter_map-one sets c))
-    ∙ last_or-option start (filter_map sets (behind_init cs)) (sets c)
+setting_by : {X : Type 0} (sets : Command → Option X) (start : X) (cs : List Command) (c : Command) (b : Bool) → is_init c ≡ b
+    → setting sets start (cs ++ c ∷ []) ≡ cond b start (unwrap_or (sets c) (setting sets start cs))
+setting_by sets start cs c true h = ap (λ ds. last_or start (filter_map sets ds)) (after_init-hit cs c h)
+setting_by sets start cs c false h =
+    ap (λ ds. last_or start (filter_map sets ds)) (after_init-miss cs c h)
+    ∙ ap (last_or start) (filter_map-append sets (after_init cs) (c ∷ []) ∙ ap (λ t. filter_map sets (after_init cs) ++ t) (filter_map-one sets c))
+    ∙ last_or-option start (filter_map sets (after_init cs)) (sets c)
 
-pub decided-snoc : {X : Type 0} (sets : Command → Option X) (start : X) (cs : List Command) (c : Command)
-    → decided sets start (cs ++ c ∷ []) ≡ set_behind sets start (decided sets start cs) c
-decided-snoc sets start cs c = decided_by sets start cs c (is_init c) refl
+pub setting-snoc : {X : Type 0} (sets : Command → Option X) (start : X) (cs : List Command) (c : Command)
+    → setting sets start (cs ++ c ∷ []) ≡ set_after sets start (setting sets start cs) c
+setting-snoc sets start cs c = setting_by sets start cs c (is_init c) refl
 
-pub style-snoc : (cs : List Command) (c : Command) → style (cs ++ c ∷ []) ≡ style_behind (style cs) c
+pub style-snoc : (cs : List Command) (c : Command) → style (cs ++ c ∷ []) ≡ style_after (style cs) c
 style-snoc cs c =
     cc (
-      decided-snoc sets_table 0 cs c,
-      decided-snoc sets_font A cs c,
-      decided-snoc sets_width 1 cs c,
-      decided-snoc sets_height 1 cs c,
-      decided-snoc sets_bold false cs c,
-      decided-snoc sets_underline 0 cs c,
+      setting-snoc sets_table 0 cs c,
+      setting-snoc sets_font A cs c,
+      setting-snoc sets_width 1 cs c,
+      setting-snoc sets_height 1 cs c,
+      setting-snoc sets_bold false cs c,
+      setting-snoc sets_underline 0 cs c,
     )
 
 -- ## Places
 
 -- One more place, where each place before it gives what g gives without it.
 pub over-snoc : {X : Type 0} (f g : List Command → Command → List Command → List X) (before cs : List Command) (c : Command)
-    → ((b : List Command) (d : Command) (behind : List Command) → f b d (behind ++ c ∷ []) ≡ g b d behind)
+    → ((b : List Command) (d : Command) (following : List Command) → f b d (following ++ c ∷ []) ≡ g b d following)
     → over_places f before (cs ++ c ∷ []) ≡ over_places g before cs ++ f (before ++ cs) c []
 over-snoc f g before [] c h = append-nil (f before c []) ∙ ap (λ b. f b c []) (sym (append-nil before))
 over-snoc f g before (d ∷ cs) c h =
@@ -97,31 +97,31 @@ over-snoc f g before (d ∷ cs) c h =
     ∙ ap (λ b. g before d cs ++ (over_places g (before ++ d ∷ []) cs ++ f b c [])) (append_snoc before d cs)
     ∙ sym (append_assoc (g before d cs) (over_places g (before ++ d ∷ []) cs) (f (before ++ d ∷ cs) c []))
 
-over-nothing : {X : Type 0} (before cs : List Command) → over_places {X = X} (λ b c behind. []) before cs ≡ []
+over-nothing : {X : Type 0} (before cs : List Command) → over_places {X = X} (λ b c following. []) before cs ≡ []
 over-nothing before [] = refl
 over-nothing before (c ∷ cs) = over-nothing (before ++ c ∷ []) cs
 
 -- ## Cells
 
 cells_by : (cs : List Command) (c : Command) (b : Bool) → ends_text c ≡ b
-    → cells (cs ++ c ∷ []) ≡ cond b [] (cells cs) ++ map (styled (style cs)) (characters c)
+    → cells (cs ++ c ∷ []) ≡ cond b [] (cells cs) ++ map (cell (style cs)) (characters c)
 cells_by cs c true h =
-    over-snoc cell_at (λ b d behind. []) [] cs c (λ b d behind. ap (λ v. cond v [] (map (styled (style b)) (characters d))) (any_hit ends_text behind c h))
-    ∙ ap (λ t. t ++ map (styled (style cs)) (characters c)) (over-nothing [] cs)
+    over-snoc cell_at (λ b d following. []) [] cs c (λ b d following. ap (λ v. cond v [] (map (cell (style b)) (characters d))) (any_hit ends_text following c h))
+    ∙ ap (λ t. t ++ map (cell (style cs)) (characters c)) (over-nothing [] cs)
 cells_by cs c false h =
-    over-snoc cell_at cell_at [] cs c (λ b d behind. ap (λ v. cond v [] (map (styled (style b)) (characters d))) (any_miss ends_text behind c h))
+    over-snoc cell_at cell_at [] cs c (λ b d following. ap (λ v. cond v [] (map (cell (style b)) (characters d))) (any_miss ends_text following c h))
 
-pub cells-snoc : (cs : List Command) (c : Command) → cells (cs ++ c ∷ []) ≡ cond (ends_text c) [] (cells cs) ++ map (styled (style cs)) (characters c)
+pub cells-snoc : (cs : List Command) (c : Command) → cells (cs ++ c ∷ []) ≡ cond (ends_text c) [] (cells cs) ++ map (cell (style cs)) (characters c)
 cells-snoc cs c = cells_by cs c (ends_text c) refl
 
 -- The cells are those of the text.
-bytes_styled : (s : Style) (bs : List ℕ) → map (λ (x : Cell). x.byte) (map (styled s) bs) ≡ bs
-bytes_styled s [] = refl
-bytes_styled s (b ∷ bs) = ap (λ t. b ∷ t) (bytes_styled s bs)
+bytes_in_style : (s : Style) (bs : List ℕ) → map (λ (x : Cell). x.byte) (map (cell s) bs) ≡ bs
+bytes_in_style s [] = refl
+bytes_in_style s (b ∷ bs) = ap (λ t. b ∷ t) (bytes_in_style s bs)
 
-bytes_of_place : (s : Style) (bs : List ℕ) (b : Bool) → map (λ (x : Cell). x.byte) (cond b [] (map (styled s) bs)) ≡ cond b [] bs
+bytes_of_place : (s : Style) (bs : List ℕ) (b : Bool) → map (λ (x : Cell). x.byte) (cond b [] (map (cell s) bs)) ≡ cond b [] bs
 bytes_of_place s bs true = refl
-bytes_of_place s bs false = bytes_styled s bs
+bytes_of_place s bs false = bytes_in_style s bs
 
 bytes_from : (before cs : List Command) → map (λ (x : Cell). x.byte) (over_places cell_at before cs) ≡ text cs
 bytes_from before [] = refl
@@ -143,14 +143,14 @@ empty_text cs = ap is_empty (sym (bytes_of_cells cs)) ∙ empty_map (λ (x : Cel
 -- ## The alignment
 
 alignment_by : (cs : List Command) (c : Command) (empty align : Bool)
-    → decided sets_alignment Left (counting cs ++ cond (align && not empty) [] (c ∷ []))
-    ≡ cond empty (set_behind sets_alignment Left (alignment cs) c) (cond align (alignment cs) (set_behind sets_alignment Left (alignment cs) c))
-alignment_by cs c true true = decided-snoc sets_alignment Left (counting cs) c
-alignment_by cs c true false = decided-snoc sets_alignment Left (counting cs) c
-alignment_by cs c false true = ap (decided sets_alignment Left) (append-nil (counting cs))
-alignment_by cs c false false = decided-snoc sets_alignment Left (counting cs) c
+    → setting sets_alignment Left (commands_that_count cs ++ cond (align && not empty) [] (c ∷ []))
+    ≡ cond empty (set_after sets_alignment Left (alignment cs) c) (cond align (alignment cs) (set_after sets_alignment Left (alignment cs) c))
+alignment_by cs c true true = setting-snoc sets_alignment Left (commands_that_count cs) c
+alignment_by cs c true false = setting-snoc sets_alignment Left (commands_that_count cs) c
+alignment_by cs c false true = ap (setting sets_alignment Left) (append-nil (commands_that_count cs))
+alignment_by cs c false false = setting-snoc sets_alignment Left (commands_that_count cs) c
 
-pub alignment-snoc : (cs : List Command) (c : Command) → alignment (cs ++ c ∷ []) ≡ alignment_behind (is_empty (text cs)) (alignment cs) c
+pub alignment-snoc : (cs : List Command) (c : Command) → alignment (cs ++ c ∷ []) ≡ alignment_after (is_empty (text cs)) (alignment cs) c
 alignment-snoc cs c =
-    ap (decided sets_alignment Left) (over-snoc if_it_counts if_it_counts [] cs c (λ b d behind. refl))
+    ap (setting sets_alignment Left) (over-snoc if_it_counts if_it_counts [] cs c (λ b d following. refl))
     ∙ alignment_by cs c (is_empty (text cs)) (is_align c)
