@@ -3,5 +3,4 @@ pub mod Combinators
 pub mod Rows
 pub mod Readings
 pub mod Ids
-pub mod Spellings
 pub mod TextBytes

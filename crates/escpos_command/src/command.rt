@@ -15,6 +15,7 @@ use crate::parameter::{
     Size, StatusKind, Table, Underline,
 };
 use arrayvec::ArrayVec;
+use escpos_io::{Gather, Piece};
 use std::alloc::AllocError;
 
 /// One command of the profile. Each parameter keeps its byte as sent, so a command has one spelling.
@@ -131,6 +132,16 @@ impl Command {
             Command::Status(kind) => with(&[DLE, EOT], kind.byte()),
             Command::Mark(id) => mark(*id),
         }
+    }
+}
+
+impl Piece for Command {
+    ghost bytes = { row };
+
+    fn append(&self, gather: &mut Gather) {
+        let parts = self.parts();
+        gather.extend(parts.front);
+        gather.extend(parts.parameters.as_slice());
     }
 }
 

@@ -6,9 +6,9 @@ ghost use Rattle.escpos_io.specs.Gather.{StopsIn};
 ghost use Rattle.escpos_command.specs.Table.{spell};
 
 use crate::command::Command;
-use escpos_io::{ByteOut, Device, Gather};
+use escpos_io::{ByteOut, Device, put_pieces};
 
-/// Puts the spellings of `commands`, one behind another, into `writer`. Takes no memory.
+/// Puts the spellings of `commands`, one after another, into `writer`. Takes no memory.
 ///
 /// On `Ok` the writer has not failed, unless it had before. On `Err` it has failed, and exactly the first
 /// `written` bytes of the spellings are out, fewer than there are.
@@ -19,9 +19,5 @@ pub fn write_commands<W: ByteOut>(commands: &[Command], writer: &mut W) -> Resul
     ensures failed { IfErr result (λ _. IsTrue (W.failed writer.new)) }
     ensures not_failed { OnOk result (¬ IsTrue (W.failed writer.old) → ¬ IsTrue (W.failed writer.new)) }
 {
-    let mut gather = Gather::new();
-    for command in commands {
-        gather.put(command.spelling().as_slice(), writer)?;
-    }
-    gather.flush(writer)
+    put_pieces(commands, writer)
 }
