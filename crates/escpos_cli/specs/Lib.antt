@@ -1,10 +1,9 @@
-pub mod Check
+pub mod Status
+pub mod Outcome
 pub mod Hexadecimal
 pub mod Input
 pub mod Lines
-pub mod Status
-pub mod Task
-pub mod Listing
-pub mod Printing
+pub mod Report
+pub mod Check
 pub mod Render
-pub mod Saying
+pub mod Task

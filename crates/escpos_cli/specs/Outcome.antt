@@ -1,0 +1,40 @@
+-- How a job ended, and what all jobs say.
+use Rattle.std.specs.Prelude.{ℕ, Bool, ◌≡◌, ◌≢◌, ◌⊎◌, List, Option, IsTrue, codes}
+use Rattle.std.specs.Io.KnownBytes.{Appends}
+use Rattle.escpos_cli.specs.declared.status.Status.{Status}
+use Rattle.escpos_cli.specs.declared.status.Status.TheVariants.{Good, Refused, Device, Memory}
+
+-- The bytes that the sink had taken before the job and has taken after it, where it can name them; whether it has
+-- failed; and the status that the job answers.
+pub record Outcome : Type 0 where
+  pub before : Option (List ℕ)
+  pub after : Option (List ℕ)
+  pub failed : Bool
+  pub status : Status
+
+abbrev pub outcome : Option (List ℕ) → Option (List ℕ) → Bool → Status → Outcome
+outcome before after failed status = record { before = before; after = after; failed = failed; status = status }
+
+-- The text went out, and nothing else.
+abbrev pub Puts : Outcome → List ℕ → Type 0
+Puts o text = Appends o.before o.after text
+
+-- The text went out and the status is the one that is wanted, or the sink has failed.
+pub record Says (o : Outcome) (text : List ℕ) (wanted : Status) : Type 0 where
+  pub ends : (o.status ≡ wanted) ⊎ ((o.status ≡ Device) × IsTrue o.failed)
+  pub out : o.status ≢ Device → Puts o text
+
+-- The last line where there isn't enough memory.
+abbrev pub memory_line : List ℕ
+memory_line = codes "memory\n"
+
+-- What the program does with input that it can't read as bytes: one line goes out, this one or, for want of
+-- memory, the one that says so.
+pub record Refuses (o : Outcome) (line : List ℕ) : Type 0 where
+  pub never_good : o.status ≢ Good
+  pub refusal : o.status ≡ Refused → Puts o line
+  pub memory : o.status ≡ Memory → Puts o memory_line
+
+-- Good where no half command is left, else refused.
+abbrev pub StatusFits : Status → ℕ → Type 0
+StatusFits status half = ((status ≡ Good) × (half ≡ 0)) ⊎ ((status ≡ Refused) × (half ≢ 0))
