@@ -6,5 +6,4 @@ pub mod OneCut
 pub mod AllCuts
 pub mod Sheets
 pub mod Initialisation
-pub mod Texts
 pub mod Worked

@@ -1,59 +1,54 @@
-//! The text of a single item, put together in a buffer that takes no memory.
+//! The text of a single item, appended in place to bytes that are gathered.
 //!
-//! `set_item` fills the buffer; each other function appends to it and says how much at most. `write` sends
-//! the buffer off.
+//! Each function says what it appends and how much at most, so that `escpos_io` can make room for a whole
+//! item at once. The loop over the items is `write_items`.
 
-ghost use Rattle.std.specs.Prelude.{◌≡◌, ◌+◌, ◌*◌, ◌≤◌, ◌<◌, [], ◌∷◌, ◌++◌, length, decimal, Bool};
-ghost use Rattle.arrayvec.specs.ArrayVec.{array_vec_len};
+ghost use Rattle.std.specs.Prelude.{◌≡◌, ◌+◌, ◌≤◌, ◌<◌, [], ◌∷◌, ◌++◌, length, decimal, codes};
 ghost use Rattle.escpos_paper.specs.Styles.{power_on};
-ghost use Rattle.escpos_paper.specs.ItemsText.{byte_text, style_text, face_name, bold_text, cell_text, cells_text, align_name, words, item_text};
+ghost use Rattle.escpos_paper.specs.ItemsText.{byte_text, style_text, face_name, bold_text, cell_text, cells_text, align_name, cut_name, words, item_text};
 
 use crate::cell::{Cell, Cells};
 use crate::item::Item;
 use crate::style::Style;
-use arrayvec::ArrayVec;
 use escpos_command::bytes::LF;
 use escpos_command::{Alignment, FontFace};
+use escpos_io::{GATHERED_BYTES, Gather, PIECE_BYTES, Piece};
 use itoa::Buffer;
 
-/// More than the text of any item has: a row has at most 56 cells of at most 24 bytes.
-pub const TEXT_BYTES: usize = 1400;
+/// An item is put as its line. (A row has at most 56 cells of at most 24 bytes.)
+impl Piece for Item {
+    ghost bytes = { item_text };
 
-/// The text of an item, or the front of it.
-pub type Text = ArrayVec<u8, TEXT_BYTES>;
-
-/// Makes the text the line of an item.
-pub fn set_item(text: &mut Text, item: &Item)
-    ensures set { text.new.items ≡ item_text item.now }
-{
-    text.clear();
-    push_words(text, item);
-    text.push(LF);
+    fn append(&self, gather: &mut Gather) {
+        append_words(gather, self);
+        gather.push(LF);
+    }
 }
 
-// The line of an item without its end, in an empty buffer.
-fn push_words(text: &mut Text, item: &Item)
-    requires { text.old.items ≡ [] }
-    ensures pushed { text.new.items ≡ words item.now }
-    ensures small { array_vec_len text.new < TEXT_BYTES }
+// The line of an item without its end.
+fn append_words(gather: &mut Gather, item: &Item)
+    requires { length gather.old.kept + PIECE_BYTES ≤ GATHERED_BYTES }
+    ensures kept { gather.new.kept ≡ gather.old.kept ++ words item.now }
+    ensures same_count { gather.new.taken ≡ gather.old.taken }
+    ensures short { length (words item.now) < PIECE_BYTES }
 {
     match item {
         Item::Row { align, cells } => {
-            push(text, b"row ");
-            push(text, align_name(*align));
-            push(text, b" ");
-            push_cells(text, cells);
+            gather.extend(b"row ");
+            gather.extend(align_name(*align));
+            gather.push(b' ');
+            append_cells(gather, cells);
         }
         Item::Feed(lines) => {
-            push(text, b"feed ");
-            push_number(text, *lines);
+            gather.extend(b"feed ");
+            append_number(gather, *lines);
         }
         Item::Cut { partial, feed } => {
-            push(text, b"cut ");
-            push(text, if *partial { b"partial" } else { b"full" });
+            gather.extend(b"cut ");
+            gather.extend(cut_name(*partial));
             if let Some(feed) = feed {
-                push(text, b" ");
-                push_number(text, *feed);
+                gather.push(b' ');
+                append_number(gather, *feed);
             }
         }
     }
@@ -61,7 +56,7 @@ fn push_words(text: &mut Text, item: &Item)
 
 fn align_name(align: Alignment) -> &'static [u8]
     ensures name { result.now ≡ align_name align }
-    ensures small { length result.now ≤ 6 }
+    ensures short { length result.now ≤ 6 }
 {
     match align {
         Alignment::Left => b"left",
@@ -70,55 +65,60 @@ fn align_name(align: Alignment) -> &'static [u8]
     }
 }
 
+fn cut_name(partial: bool) -> &'static [u8]
+    ensures name { result.now ≡ cut_name partial }
+    ensures short { length result.now ≤ 7 }
+{
+    if partial { b"partial" } else { b"full" }
+}
+
 // The cells of a row.
-fn push_cells(text: &mut Text, cells: &Cells)
-    requires { array_vec_len text.old + 1350 ≤ TEXT_BYTES }
-    ensures pushed { text.new.items ≡ text.old.items ++ cells_text power_on cells.now }
-    ensures small { length (cells_text power_on cells.now) ≤ 1350 }
+fn append_cells(gather: &mut Gather, cells: &Cells)
+    requires { length gather.old.kept + 1344 ≤ GATHERED_BYTES }
+    ensures kept { gather.new.kept ≡ gather.old.kept ++ cells_text power_on cells.now }
+    ensures same_count { gather.new.taken ≡ gather.old.taken }
+    ensures short { length (cells_text power_on cells.now) ≤ 1344 }
 {
     let row = cells.as_slice();
     let mut before = Style::power_on();
     for cell in row {
-        push_cell(text, &before, cell);
+        append_cell(gather, &before, cell);
         before = cell.style;
     }
 }
 
 // A cell after one of the style `before`.
-fn push_cell(text: &mut Text, before: &Style, cell: &Cell)
-    requires { array_vec_len text.old + 24 ≤ TEXT_BYTES }
-    ensures pushed { text.new.items ≡ text.old.items ++ cell_text before.now cell.now }
-    ensures small { length (cell_text before.now cell.now) ≤ 24 }
+fn append_cell(gather: &mut Gather, before: &Style, cell: &Cell)
+    requires { length gather.old.kept + 24 ≤ GATHERED_BYTES }
+    ensures kept { gather.new.kept ≡ gather.old.kept ++ cell_text before.now cell.now }
+    ensures same_count { gather.new.taken ≡ gather.old.taken }
+    ensures short { length (cell_text before.now cell.now) ≤ 24 }
 {
     if !before.is_same(&cell.style) {
-        push_style(text, &cell.style);
+        append_style(gather, &cell.style);
     }
-    push_byte(text, cell.byte);
+    append_byte(gather, cell.byte);
 }
 
-fn push_style(text: &mut Text, style: &Style)
-    requires { array_vec_len text.old + 21 ≤ TEXT_BYTES }
-    ensures pushed { text.new.items ≡ text.old.items ++ style_text style.now }
-    ensures small { length (style_text style.now) ≤ 21 }
+fn append_style(gather: &mut Gather, style: &Style)
+    requires { length gather.old.kept + 21 ≤ GATHERED_BYTES }
+    ensures kept { gather.new.kept ≡ gather.old.kept ++ style_text style.now }
+    ensures same_count { gather.new.taken ≡ gather.old.taken }
+    ensures short { length (style_text style.now) ≤ 21 }
 {
-    push(text, b"[");
-    push(text, face_name(style.font));
-    push(text, b",");
-    push_number(text, style.width);
-    push(text, b",");
-    push_number(text, style.height);
-    push(text, b",");
-    push(text, bold_text(style.bold));
-    push(text, b",");
-    push_number(text, style.underline);
-    push(text, b",");
-    push_number(text, style.table);
-    push(text, b"]");
+    gather.push(b'[');
+    gather.extend(face_name(style.font));
+    append_attribute(gather, style.width);
+    append_attribute(gather, style.height);
+    gather.extend(bold_text(style.bold));
+    append_attribute(gather, style.underline);
+    append_attribute(gather, style.table);
+    gather.push(b']');
 }
 
 fn face_name(face: FontFace) -> &'static [u8]
     ensures name { result.now ≡ face_name face }
-    ensures small { length result.now ≡ 1 }
+    ensures short { length result.now ≡ 1 }
 {
     match face {
         FontFace::A => b"A",
@@ -126,44 +126,48 @@ fn face_name(face: FontFace) -> &'static [u8]
     }
 }
 
+// Emphasis after a comma.
 fn bold_text(bold: bool) -> &'static [u8]
-    ensures text { result.now ≡ bold_text bold }
-    ensures small { length result.now ≡ 1 }
+    ensures text { result.now ≡ codes "," ++ bold_text bold }
+    ensures short { length result.now ≡ 2 }
 {
-    if bold { b"1" } else { b"0" }
+    if bold { b",1" } else { b",0" }
+}
+
+// A number after a comma.
+fn append_attribute(gather: &mut Gather, number: u8)
+    requires { length gather.old.kept + 4 ≤ GATHERED_BYTES }
+    ensures kept { gather.new.kept ≡ gather.old.kept ++ codes "," ++ decimal number }
+    ensures same_count { gather.new.taken ≡ gather.old.taken }
+    ensures short { length (codes "," ++ decimal number) ≤ 4 }
+{
+    gather.push(b',');
+    append_number(gather, number);
 }
 
 // A character: itself, or \ and two hexadecimal digits.
-fn push_byte(text: &mut Text, byte: u8)
-    requires { array_vec_len text.old + 3 ≤ TEXT_BYTES }
-    ensures pushed { text.new.items ≡ text.old.items ++ byte_text byte }
-    ensures small { length (byte_text byte) ≤ 3 }
+fn append_byte(gather: &mut Gather, byte: u8)
+    requires { length gather.old.kept + 3 ≤ GATHERED_BYTES }
+    ensures kept { gather.new.kept ≡ gather.old.kept ++ byte_text byte }
+    ensures same_count { gather.new.taken ≡ gather.old.taken }
+    ensures short { length (byte_text byte) ≤ 3 }
 {
     if matches!(byte, 0x20..=0x7E) && byte != b'[' && byte != b'\\' {
-        text.push(byte);
+        gather.push(byte);
     } else {
         let mut escaped = [b'\\'; 3];
         hex::encode_to_slice([byte], &mut escaped[1..]).unwrap();
-        push(text, &escaped);
+        gather.extend(&escaped);
     }
 }
 
 // A number, in decimal.
-fn push_number(text: &mut Text, number: u8)
-    requires { array_vec_len text.old + 3 ≤ TEXT_BYTES }
-    ensures pushed { text.new.items ≡ text.old.items ++ decimal number }
-    ensures small { length (decimal number) ≤ 3 }
-    ensures grown { array_vec_len text.new ≤ array_vec_len text.old + 3 }
+fn append_number(gather: &mut Gather, number: u8)
+    requires { length gather.old.kept + 3 ≤ GATHERED_BYTES }
+    ensures kept { gather.new.kept ≡ gather.old.kept ++ decimal number }
+    ensures same_count { gather.new.taken ≡ gather.old.taken }
+    ensures short { length (decimal number) ≤ 3 }
 {
     let mut buffer = Buffer::new();
-    push(text, buffer.format(number).as_bytes());
-}
-
-// Some bytes.
-fn push(text: &mut Text, bytes: &[u8])
-    requires { array_vec_len text.old + length bytes.now ≤ TEXT_BYTES }
-    ensures pushed { text.new.items ≡ text.old.items ++ bytes.now }
-    ensures grown { array_vec_len text.new ≡ array_vec_len text.old + length bytes.now }
-{
-    text.try_extend_from_slice(bytes).unwrap();
+    gather.extend(buffer.format(number).as_bytes());
 }

@@ -6,8 +6,7 @@ ghost use Rattle.escpos_io.specs.Gather.{StopsIn};
 ghost use Rattle.escpos_paper.specs.ItemsText.{items_text};
 
 use crate::item::Item;
-use crate::text::{Text, set_item};
-use escpos_io::{ByteOut, Device, Gather};
+use escpos_io::{ByteOut, Device, put_pieces};
 
 /// Writes a line for each item. Takes no memory.
 ///
@@ -26,11 +25,5 @@ pub fn write_items<W: ByteOut>(items: &[Item], writer: &mut W) -> Result<(), Dev
     ensures failed { IfErr result (λ _. IsTrue (W.failed writer.new)) }
     ensures not_failed { OnOk result (¬ IsTrue (W.failed writer.old) → ¬ IsTrue (W.failed writer.new)) }
 {
-    let mut text = Text::new();
-    let mut gather = Gather::new();
-    for item in items {
-        set_item(&mut text, item);
-        gather.put(text.as_slice(), writer)?;
-    }
-    gather.flush(writer)
+    put_pieces(items, writer)
 }
