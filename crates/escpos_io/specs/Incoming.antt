@@ -12,12 +12,12 @@ abbrev pub to_come_of : {R : Type 0} → (R → Option (List ℕ)) → Incoming 
 to_come_of remaining source = bytes_to_come source.progress (remaining source.reader)
 
 -- a call of `pull` has failed
-abbrev pub failed_of : {R : Type 0} → Incoming R → Bool
-failed_of source = has_failed_of source.progress
+abbrev pub has_failed : {R : Type 0} → Incoming R → Bool
+has_failed source = has_failed_of source.progress
 
 -- a call of `pull` has found the end
-abbrev pub ended_of : {R : Type 0} → Incoming R → Bool
-ended_of source = has_ended_of source.progress
+abbrev pub has_ended : {R : Type 0} → Incoming R → Bool
+has_ended source = has_ended_of source.progress
 
 -- how often `pull` was called
 abbrev pub pull_count_of : {R : Type 0} → Incoming R → ℕ

@@ -13,12 +13,12 @@ abbrev pub to_come_of : MemoryIn → Option (List ℕ)
 to_come_of source = bytes_to_come source.progress (Some source.left.now)
 
 -- a call of `pull` has failed
-abbrev pub failed_of : MemoryIn → Bool
-failed_of source = has_failed_of source.progress
+abbrev pub has_failed : MemoryIn → Bool
+has_failed source = has_failed_of source.progress
 
 -- a call of `pull` has found the end
-abbrev pub ended_of : MemoryIn → Bool
-ended_of source = has_ended_of source.progress
+abbrev pub has_ended : MemoryIn → Bool
+has_ended source = has_ended_of source.progress
 
 -- how often `pull` was called
 abbrev pub pull_count_of : MemoryIn → ℕ

@@ -7,5 +7,5 @@ abbrev pub writer_of : {W : Type 0} → Outgoing W → W
 writer_of sink = sink.writer
 
 -- a call of `put` has failed
-abbrev pub failed_of : {W : Type 0} → Outgoing W → Bool
-failed_of sink = sink.failed
+abbrev pub has_failed : {W : Type 0} → Outgoing W → Bool
+has_failed sink = sink.failed

@@ -3,7 +3,7 @@
 ghost use Rattle.std.specs.Prelude.{◌≡◌, ℕ, ◌+◌, ◌-◌, ◌^◌, ◌<◌, ◌≤◌, ◌⊎◌, ◌↔◌, min, length, take, false, Some, IsTrue, IsErr, IfOk, MatchResult};
 ghost use Rattle.std.specs.Io.KnownBytes.{Keeps, Consumes, IsAtEnd};
 ghost use Rattle.escpos_io.specs.Source.{bytes_to_come};
-ghost use Rattle.escpos_io.specs.Incoming.{reader_of, to_come_of, failed_of, ended_of, pull_count_of};
+ghost use Rattle.escpos_io.specs.Incoming.{reader_of, to_come_of, has_failed, has_ended, pull_count_of};
 
 use crate::source::Progress;
 use crate::{ByteIn, Failed};
@@ -78,9 +78,9 @@ impl<R: Read> Incoming<R> {
 impl<R: Read> ByteIn for Incoming<R> {
     ghost to_come = { to_come_of R.remaining };
 
-    ghost failed = { failed_of };
+    ghost failed = { has_failed };
 
-    ghost ended = { ended_of };
+    ghost ended = { has_ended };
 
     ghost pull_count = { pull_count_of };
 
@@ -89,15 +89,15 @@ impl<R: Read> ByteIn for Incoming<R> {
         ensures bytes { MatchResult result
             (λ n. Consumes (to_come_of R.remaining self.old) (to_come_of R.remaining self.new) (take n piece.new))
             (λ _. Keeps (to_come_of R.remaining self.old) (to_come_of R.remaining self.new)) }
-        ensures failed { IsTrue (failed_of self.new) ↔ IsErr result }
-        ensures stays_failed { IsTrue (failed_of self.old) → IsErr result }
-        ensures ended { IsTrue (ended_of self.new) ↔ (IsTrue (ended_of self.old) ⊎ ((result ≡ Ok 0) × (0 < length piece.old))) }
-        ensures stays_ended { IsTrue (ended_of self.old) → result ≡ Ok 0 }
-        ensures at_end { IsTrue (ended_of self.new) → IsAtEnd (to_come_of R.remaining self.new) }
+        ensures failed { IsTrue (has_failed self.new) ↔ IsErr result }
+        ensures stays_failed { IsTrue (has_failed self.old) → IsErr result }
+        ensures ended { IsTrue (has_ended self.new) ↔ (IsTrue (has_ended self.old) ⊎ ((result ≡ Ok 0) × (0 < length piece.old))) }
+        ensures stays_ended { IsTrue (has_ended self.old) → result ≡ Ok 0 }
+        ensures at_end { IsTrue (has_ended self.new) → IsAtEnd (to_come_of R.remaining self.new) }
         ensures counted { pull_count_of self.new ≡ min (pull_count_of self.old + 1) (2 ^ 64 - 1) }
-        ensures not_read_after_failure { IsTrue (failed_of self.old)
+        ensures not_read_after_failure { IsTrue (has_failed self.old)
             → (reader_of self.new ≡ reader_of self.old) × (piece.new ≡ piece.old) }
-        ensures not_read_after_end { IsTrue (ended_of self.old)
+        ensures not_read_after_end { IsTrue (has_ended self.old)
             → (reader_of self.new ≡ reader_of self.old) × (piece.new ≡ piece.old) }
     {
         self.pulls = self.pulls.saturating_add(1);

@@ -3,7 +3,7 @@
 ghost use Rattle.std.specs.Prelude.{◌≡◌, ℕ, ◌+◌, ◌-◌, ◌^◌, ◌<◌, ◌≤◌, ◌⊎◌, ◌↔◌, min, max, length, take, drop, ◌++◌, ◌≢◌, false, None, Some, IsTrue, IsErr, IfOk, MatchResult};
 ghost use Rattle.std.specs.Io.KnownBytes.{Keeps, Consumes, IsAtEnd};
 ghost use Rattle.escpos_io.specs.Source.{IsDue};
-ghost use Rattle.escpos_io.specs.Memory.{to_come_of, failed_of, ended_of, pull_count_of, bytes_left, most_per_pull, pull_failing_from};
+ghost use Rattle.escpos_io.specs.Memory.{to_come_of, has_failed, has_ended, pull_count_of, bytes_left, most_per_pull, pull_failing_from};
 
 use crate::source::{Progress, is_due};
 use crate::{ByteIn, Failed};
@@ -81,9 +81,9 @@ impl<'a> MemoryIn<'a> {
 impl ByteIn for MemoryIn<'_> {
     ghost to_come = { to_come_of };
 
-    ghost failed = { failed_of };
+    ghost failed = { has_failed };
 
-    ghost ended = { ended_of };
+    ghost ended = { has_ended };
 
     ghost pull_count = { pull_count_of };
 
@@ -92,18 +92,18 @@ impl ByteIn for MemoryIn<'_> {
         ensures bytes { MatchResult result
             (λ n. Consumes (to_come_of self.old) (to_come_of self.new) (take n piece.new))
             (λ _. Keeps (to_come_of self.old) (to_come_of self.new)) }
-        ensures failed { IsTrue (failed_of self.new) ↔ IsErr result }
-        ensures stays_failed { IsTrue (failed_of self.old) → IsErr result }
-        ensures ended { IsTrue (ended_of self.new)
-            ↔ (IsTrue (ended_of self.old) ⊎ ((result ≡ Ok 0) × (0 < length piece.old))) }
-        ensures stays_ended { IsTrue (ended_of self.old) → result ≡ Ok 0 }
-        ensures at_end { IsTrue (ended_of self.new) → IsAtEnd (to_come_of self.new) }
+        ensures failed { IsTrue (has_failed self.new) ↔ IsErr result }
+        ensures stays_failed { IsTrue (has_failed self.old) → IsErr result }
+        ensures ended { IsTrue (has_ended self.new)
+            ↔ (IsTrue (has_ended self.old) ⊎ ((result ≡ Ok 0) × (0 < length piece.old))) }
+        ensures stays_ended { IsTrue (has_ended self.old) → result ≡ Ok 0 }
+        ensures at_end { IsTrue (has_ended self.new) → IsAtEnd (to_come_of self.new) }
         ensures counted { pull_count_of self.new ≡ min (pull_count_of self.old + 1) (2 ^ 64 - 1) }
-        ensures fails { IsErr result → IsTrue (failed_of self.old)
+        ensures fails { IsErr result → IsTrue (has_failed self.old)
             ⊎ IsDue (pull_failing_from self.old) (pull_count_of self.new) }
         ensures due { IsDue (pull_failing_from self.old) (pull_count_of self.new)
-            → IsErr result ⊎ IsTrue (ended_of self.old) }
-        ensures amount { ¬ IsTrue (ended_of self.old) → IfOk result (λ n.
+            → IsErr result ⊎ IsTrue (has_ended self.old) }
+        ensures amount { ¬ IsTrue (has_ended self.old) → IfOk result (λ n.
             n ≡ min (min (length (bytes_left self.old)) (length piece.old)) (most_per_pull self.old)) }
         ensures rest { MatchResult result (λ n. drop n piece.new ≡ drop n piece.old) (λ _. piece.new ≡ piece.old) }
         ensures same_most { most_per_pull self.new ≡ most_per_pull self.old }

@@ -2,7 +2,7 @@
 
 ghost use Rattle.std.specs.Prelude.{◌≡◌, ◌<◌, ◌≤◌, ◌↔◌, false, length, take, IsTrue, IsErr, IfOk, MatchResult};
 ghost use Rattle.std.specs.Io.KnownBytes.{Keeps, Appends};
-ghost use Rattle.escpos_io.specs.Outgoing.{writer_of, failed_of};
+ghost use Rattle.escpos_io.specs.Outgoing.{writer_of, has_failed};
 
 use crate::{ByteOut, Failed};
 use std::io::Write;
@@ -42,7 +42,7 @@ impl<W: Write> Outgoing<W> {
 impl<W: Write> ByteOut for Outgoing<W> {
     ghost written = { λ sink. W.contents (writer_of sink) };
 
-    ghost failed = { failed_of };
+    ghost failed = { has_failed };
 
     fn put(&mut self, piece: &[u8]) -> Result<usize, Failed>
         ensures within { IfOk result (λ n. n ≤ length piece.now) }
@@ -50,9 +50,9 @@ impl<W: Write> ByteOut for Outgoing<W> {
         ensures bytes { MatchResult result
             (λ n. Appends (W.contents (writer_of self.old)) (W.contents (writer_of self.new)) (take n piece.now))
             (λ _. Keeps (W.contents (writer_of self.old)) (W.contents (writer_of self.new))) }
-        ensures failed { IsTrue (failed_of self.new) ↔ IsErr result }
-        ensures stays_failed { IsTrue (failed_of self.old) → IsErr result }
-        ensures not_written_after_failure { IsTrue (failed_of self.old) → writer_of self.new ≡ writer_of self.old }
+        ensures failed { IsTrue (has_failed self.new) ↔ IsErr result }
+        ensures stays_failed { IsTrue (has_failed self.old) → IsErr result }
+        ensures not_written_after_failure { IsTrue (has_failed self.old) → writer_of self.new ≡ writer_of self.old }
     {
         if self.failed {
             return Err(Failed);
