@@ -68,6 +68,7 @@ impl Write for StuckOnce {
 #[derive(Drop)]
 struct FailingOnce {
     writes: u32,
+    flushes: u32,
 }
 
 impl Write for FailingOnce {
@@ -80,6 +81,7 @@ impl Write for FailingOnce {
     }
 
     fn flush(&mut self) -> io::Result<()> {
+        self.flushes = self.flushes.saturating_add(1);
         Ok(())
     }
 }
@@ -226,10 +228,26 @@ fn outgoing_stays_failed(rt: HostRuntime) {
     assert_eq!(rt; stuck.put(b"ab"), Err(Failed));
     assert!(rt; stuck.has_failed());
     assert_eq!(rt; stuck.into_inner().writes, 1);
-    let mut failing = Outgoing::new(FailingOnce { writes: 0 });
+    let mut failing = Outgoing::new(FailingOnce {
+        writes: 0,
+        flushes: 0,
+    });
     assert_eq!(rt; failing.put(b"ab"), Err(Failed));
     assert_eq!(rt; failing.put(b"ab"), Err(Failed));
     assert_eq!(rt; failing.into_inner().writes, 1);
+}
+
+// When bytes are flushed is left to the writer and its owner.
+#[test]
+fn outgoing_flushes_nothing(rt: HostRuntime) {
+    let mut sink = Outgoing::new(FailingOnce {
+        writes: 1,
+        flushes: 0,
+    });
+    assert_eq!(rt; sink.put(b"ab"), Ok(2));
+    let writer = sink.into_inner();
+    assert_eq!(rt; writer.writes, 2);
+    assert_eq!(rt; writer.flushes, 0);
 }
 
 #[test]
@@ -279,6 +297,22 @@ fn read_to_end_of_a_large_input(rt: HostRuntime) -> Result<(), Fail> {
     let mut source = MemoryIn::new(&bytes, 1 << 20);
     let all = read_to_end(rt.alloc(), &mut source, len).map_err(name_of)?;
     assert!(rt; all == bytes);
+    assert_eq!(rt; source.pulls(), 81);
+    Ok(())
+}
+
+#[test]
+fn read_to_end_up_to_no_byte(rt: HostRuntime) -> Result<(), Fail> {
+    let mut source = MemoryIn::new(b"", 1);
+    let all = read_to_end(rt.alloc(), &mut source, 0).map_err(name_of)?;
+    assert!(rt; all.is_empty());
+    let mut source = MemoryIn::new(b"a", 1);
+    assert!(rt;
+        matches!(
+            read_to_end(rt.alloc(), &mut source, 0),
+            Err(ReadError::TooLong)
+        )
+    );
     Ok(())
 }
 
