@@ -1,5 +1,4 @@
 pub mod TaskWords
 pub mod Mapped
 pub mod Listings
-pub mod Ends
-pub mod Papers
+pub mod Reports

@@ -7,3 +7,4 @@ pub mod Report
 pub mod Check
 pub mod Render
 pub mod Task
+pub mod Obstacle

@@ -1,5 +1,5 @@
 -- What `render` prints: the paper as text, and a last line only where not all bytes are read.
-use Rattle.std.specs.Prelude.{ℕ, ◌==◌, List, [], if◌then◌else◌}
+use Rattle.std.specs.Prelude.{ℕ, ◌==◌, List, [], if◌then◌else◌, refl}
 use Rattle.escpos_paper.specs.Printed.{printed}
 use Rattle.escpos_paper.specs.ItemsText.{items_text}
 use Rattle.escpos_cli.specs.Lines.{end_line}
@@ -12,7 +12,7 @@ half_line count half = if half == 0 then [] else end_line count half
 
 -- A paper goes out at its end, so where memory runs out nothing of it does.
 abbrev pub paper_shape : Shape
-paper_shape = record { gives = λ cs. items_text (printed cs); gives_early = λ cs. []; last = half_line }
+paper_shape = record { gives = λ cs. items_text (printed cs); gives_early = λ cs. []; last = half_line; starts_empty = refl }
 
 -- What `render` does with its input.
 abbrev pub RendersInput : Outcome → List ℕ → Type 0

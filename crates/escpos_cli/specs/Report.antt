@@ -13,11 +13,13 @@ use Rattle.escpos_cli.specs.Lines.{fault_line}
 use Rattle.escpos_cli.specs.Outcome.{Outcome, Puts, Refuses, memory_line}
 
 -- What distinguishes the text of one job from that of another: what commands give, how much of that is printed
--- where memory runs out, and the last line where so many bytes are read and so many of them are a half command.
+-- where memory runs out (of no command nothing), and the last line where so many bytes are read and so many of them
+-- are a half command.
 pub record Shape : Type 0 where
   pub gives : List Command → List ℕ
   pub gives_early : List Command → List ℕ
   pub last : ℕ → ℕ → List ℕ
+  pub starts_empty : gives_early [] ≡ []
 
 -- The text of a byte list: what its commands give, and the last line. There is one, since a byte list has exactly one
 -- reading or one fault.

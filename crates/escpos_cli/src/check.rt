@@ -1,70 +1,117 @@
-//! The job `check`: what a byte stream says, a line for each command.
+//! The job `check`: a byte stream as a listing of its commands. Each line goes out as its command comes.
 
-ghost use Rattle.std.specs.Prelude.{◌≡◌, ◌≢◌, ◌⊎◌, ◌+◌, ◌≤◌, IfSome, IsTrue};
+ghost use Rattle.std.specs.Prelude.{◌≡◌, ◌≢◌, ◌⊎◌, ◌+◌, ◌≤◌, ◌++◌, [], ℕ, List, Option, IfSome, IsTrue, length};
+ghost use Rattle.std.proofs.Common.{subst, sym, append-nil};
+ghost use Rattle.escpos_io.specs.Gather.{Carries};
+ghost use Rattle.escpos_io.specs.declared.gather.TheConstants.{GATHERED_BYTES};
+ghost use Rattle.escpos_cli.specs.declared.job.Obstacle.TheVariants as obstacle;
+ghost use Rattle.escpos_cli.specs.declared.lines.TheConstants.{LINE_BYTES};
 ghost use Rattle.escpos_cli.specs.declared.input.TheConstants.{INPUT_LIMIT};
-ghost use Rattle.escpos_cli.specs.Check.{Checks, Lists};
+ghost use Rattle.escpos_cli.specs.Lines.{command_lines};
+ghost use Rattle.escpos_cli.specs.Outcome.{outcome};
+ghost use Rattle.escpos_cli.specs.Obstacle.{memory_is_no_device};
+ghost use Rattle.escpos_cli.specs.Check.{Checks, listing_shape};
 
-use crate::input::hexadecimal_input;
-use crate::lines::{line_of_end, line_of_fault};
-use crate::listing::{Ending, Listing, finish};
-use crate::saying::{MEMORY, refuse, status_of};
+use crate::job::{Job, Obstacle, run};
+use crate::lines::{LINE_BYTES, Last, append_line};
+use crate::outcome::MEMORY;
 use crate::status::Status;
-use escpos_command::laws;
-use escpos_io::{ByteIn, ByteOut};
+use escpos_command::Command;
+use escpos_decode::Consumer;
+use escpos_io::{ByteIn, ByteOut, Gather, PIECE_BYTES, Piece, laws};
 use std::alloc::Global;
 
 /// Reads a stream in hexadecimal from `input` and lists its commands on `output`.
 ///
-/// The status is `Good` where all bytes are read with nothing left, and `Refused` behind a fault, with a
-/// half command at the end, or for input that is too long or no hexadecimal, which prints one line of its
-/// own. `Memory` comes for want of memory: then the line `memory` stands behind the lines of the commands so
-/// far. `Device` comes only where `input` or `output` has failed, and no other status hides that `output` has;
-/// `Usage` never comes. `input` is pulled at most 16,777,217 times.
-#[tactic(auto, using(crate::proofs::Ends::cut_short_at_once))]
+/// `run` says which status comes when. At `Memory` the line `memory` follows the lines of the commands so far.
 pub fn check<R: ByteIn, W: ByteOut>(alloc: Global, input: &mut R, output: &mut W) -> Status
-    ensures checks { IfSome (R.to_come input.old) (λ text. Checks (W.written output.old) (W.written output.new) text result) }
+    ensures checks { IfSome (R.to_come input.old) (λ text.
+        Checks (outcome (W.written output.old) (W.written output.new) (W.failed output.new) result) text) }
     ensures device { result ≡ Status.Device → IsTrue (R.failed input.new) ⊎ IsTrue (W.failed output.new) }
     ensures not_hidden { result ≢ Status.Device → ¬ IsTrue (W.failed output.old) → ¬ IsTrue (W.failed output.new) }
-    ensures all_read { result ≡ Status.Good → ¬ IsTrue (R.failed input.new) }
+    ensures all_read { result ≢ Status.Device → ¬ IsTrue (R.failed input.new) }
     ensures never_usage { result ≢ Status.Usage }
     ensures pulls { R.pull_count input.new ≤ R.pull_count input.old + INPUT_LIMIT + 1 }
 {
-    match hexadecimal_input(alloc, input) {
-        Ok(bytes) => list(alloc, &bytes, output),
-        Err(fault) => refuse(fault, output),
-    }
+    run::<R, W, Listing>(alloc, input, output)
 }
 
-// Lists the commands of these bytes.
-fn list<W: ByteOut>(alloc: Global, bytes: &[u8], output: &mut W) -> Status
-    ensures lists { Lists (W.written output.old) (W.written output.new) bytes.now result }
-    ensures device { result ≡ Status.Device → IsTrue (W.failed output.new) }
-    ensures not_hidden { result ≢ Status.Device → ¬ IsTrue (W.failed output.old) → ¬ IsTrue (W.failed output.new) }
-    ensures never_usage { result ≢ Status.Usage }
-{
-    laws::one_reading();
-    let mut listing = Listing::new(alloc);
-    match listing.take_all(bytes, output) {
-        Ending::Read => {
-            let pending = listing.decoder.pending_len();
-            let line = line_of_end(bytes.len(), pending);
-            finish(
-                &mut listing.gather,
-                line.as_slice(),
-                output,
-                status_of(pending),
-            )
+// The lines that aren't out yet.
+#[derive(Drop)]
+struct Listing {
+    gather: Gather,
+}
+
+impl<W: ByteOut> Consumer<W> for Listing {
+    type Refusal = Obstacle;
+
+    ghost took = { λ start now cs.
+        ((first : Option (List ℕ)) (total : List ℕ) → Carries first (W.written start.1) start.0.gather total
+            → Carries first (W.written now.1) now.0.gather (total ++ command_lines 0 cs))
+        × (¬ IsTrue (W.failed start.1) → ¬ IsTrue (W.failed now.1)) };
+
+    ghost has_room = { λ listing. length listing.gather.kept + LINE_BYTES ≤ GATHERED_BYTES };
+
+    ghost refused = { λ last now refusal. (refusal ≡ obstacle.Device) × IsTrue (W.failed now.1) };
+
+    fn ready(&mut self, output: &mut W) -> Result<(), Obstacle> {
+        match self.gather.room(LINE_BYTES, output) {
+            Ok(()) => Ok(()),
+            Err(_) => Err(Obstacle::Device),
         }
-        Ending::Refused { place, why } => {
-            let line = line_of_fault(place, why);
-            finish(
-                &mut listing.gather,
-                line.as_slice(),
-                output,
-                Status::Refused,
-            )
-        }
-        Ending::Memory => finish(&mut listing.gather, MEMORY, output, Status::Memory),
-        Ending::Device => Status::Device,
     }
+
+    fn take(&mut self, command: Command, place: usize) {
+        laws::appended_in_place();
+        append_line(&mut self.gather, place, &command);
+    }
+
+    ghost nothing = { λ start. (
+        λ first total carried. subst (Carries first (W.written start.1) start.0.gather) (sym (append-nil total)) carried,
+        λ well. well,
+    ) };
+}
+
+impl<W: ByteOut> Job<W> for Listing {
+    ghost shape = { listing_shape };
+
+    ghost is_new = { λ listing. (sink : Option (List ℕ)) → Carries sink sink listing.gather [] };
+
+    fn new(_alloc: Global) -> Self {
+        Listing {
+            gather: Gather::new(),
+        }
+    }
+
+    fn last(count: usize, half: usize) -> Last {
+        Last::End { count, half }
+    }
+
+    fn finish(&mut self, last: Last, output: &mut W, status: Status) -> Status {
+        laws::appended_in_place();
+        if self.gather.room(PIECE_BYTES, output).is_err() {
+            return Status::Device;
+        }
+        last.append(&mut self.gather);
+        match self.gather.flush(output) {
+            Ok(()) => status,
+            Err(_) => Status::Device,
+        }
+    }
+
+    fn cut_short(&mut self, output: &mut W) -> Status {
+        if self.gather.put(MEMORY, output).is_err() {
+            return Status::Device;
+        }
+        match self.gather.flush(output) {
+            Ok(()) => Status::Memory,
+            Err(_) => Status::Device,
+        }
+    }
+
+    ghost well = { λ start now cs taken. taken.1 };
+
+    ghost no_memory = { λ start last now cs taken left. absurd (memory_is_no_device left.0) };
+
+    ghost no_device = { λ last now left. left.1 };
 }

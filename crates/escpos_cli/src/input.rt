@@ -13,6 +13,8 @@ use thiserror::Error;
 /// How many bytes of standard input a job reads.
 pub const INPUT_LIMIT: usize = 16_777_216;
 
+const _: () = prove!(INPUT_LIMIT == 16_777_216);
+
 /// Why an input gave no bytes.
 #[derive(Clone, Copy, Debug, Drop, PartialEq, Eq, Error)]
 pub enum InputFault {
@@ -63,6 +65,7 @@ pub fn hexadecimal_input<R: ByteIn>(alloc: Global, input: &mut R) -> Result<Vec<
         (length text ≤ INPUT_LIMIT) × IsErr (decode_of (digits_of text))) }
     ensures device { IsErrOf result InputFault.Device → IsTrue (R.failed input.new) }
     ensures not_failed { OnOk result (¬ IsTrue (R.failed input.new)) }
+    ensures not_hidden { IsTrue (R.failed input.new) → IsErrOf result InputFault.Device }
     ensures pulls { R.pull_count input.new ≤ R.pull_count input.old + INPUT_LIMIT + 1 }
 {
     let text = read_to_end(alloc, input, INPUT_LIMIT)?;

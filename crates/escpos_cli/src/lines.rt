@@ -1,77 +1,94 @@
-//! The lines of a listing, each put together on the stack.
+//! The lines of a listing, appended in place to the bytes that go out.
 
-ghost use Rattle.std.specs.Prelude.{◌≡◌, ◌≤◌, ◌++◌, ◌∷◌, length, decimal};
-ghost use Rattle.escpos_cli.specs.Lines.{byte_value, command_line, end_line, fault_line, values_of, word_of};
+ghost use Rattle.std.specs.Prelude.{◌≡◌, ◌+◌, ◌≤◌, ◌++◌, ◌∷◌, length, decimal};
+ghost use Rattle.std.specs.List.{flat_map};
+ghost use Rattle.escpos_cli.specs.Lines.{byte_value, command_line, end_line, fault_line, last_text, values_of, word_of};
 
-use arrayvec::ArrayVec;
-use escpos_command::bytes::LF;
-use escpos_command::{Command, FaultReason};
+use escpos_command::{Command, FaultReason, LF};
+use escpos_io::{GATHERED_BYTES, Gather, PIECE_BYTES, Piece};
 use itoa::Buffer;
 
 /// What stands between the parts of a line.
 pub const SPACE: u8 = 0x20;
 
-/// The most bytes that a line may have.
-pub const LINE_BYTES: usize = 128;
+const _: () = prove!(SPACE == 32);
 
-/// A line of a listing.
-pub type Line = ArrayVec<u8, LINE_BYTES>;
+/// More than the line of any command has.
+pub const LINE_BYTES: usize = 64;
 
-/// The line of a command that stands behind `place` bytes.
-pub fn line_of(place: usize, command: &Command) -> Line
-    ensures { result.items ≡ command_line place command.now }
-{
-    let mut line = decimal(place);
-    line.push(SPACE);
-    line.try_extend_from_slice(word(command)).unwrap();
-    line.try_extend_from_slice(values(command).as_slice())
-        .unwrap();
-    line.push(LF);
-    line
+/// The last line of a text.
+#[derive(Clone, Copy, Debug, PartialEq, Eq)]
+pub enum Last {
+    /// There is none.
+    Nothing,
+    /// All of so many bytes were read, and the last `half` of them are a half command.
+    End { count: usize, half: usize },
+    /// The byte at this place was refused.
+    Fault { place: usize, why: FaultReason },
 }
 
-/// The last line of a listing whose bytes were all read.
-pub fn line_of_end(count: usize, pending: usize) -> Line
-    ensures { result.items ≡ end_line count pending }
-{
-    let mut line = Line::new();
-    line.try_extend_from_slice(b"end ").unwrap();
-    line.try_extend_from_slice(decimal(count).as_slice())
-        .unwrap();
-    line.try_extend_from_slice(b" pending ").unwrap();
-    line.try_extend_from_slice(decimal(pending).as_slice())
-        .unwrap();
-    line.push(LF);
-    line
+impl Piece for Last {
+    ghost bytes = { last_text };
+
+    fn append(&self, gather: &mut Gather) {
+        match self {
+            Last::Nothing => {}
+            Last::End { count, half } => append_end(gather, *count, *half),
+            Last::Fault { place, why } => append_fault(gather, *place, *why),
+        }
+    }
 }
 
-/// The last line of a listing that stops at a refused byte.
-pub fn line_of_fault(place: usize, why: FaultReason) -> Line
-    ensures { result.items ≡ fault_line place why }
+/// Appends the line of a command that has `place` bytes before it.
+pub fn append_line(gather: &mut Gather, place: usize, command: &Command)
+    requires { length gather.old.kept + LINE_BYTES ≤ GATHERED_BYTES }
+    ensures kept { gather.new.kept ≡ gather.old.kept ++ command_line place command.now }
+    ensures same_count { gather.new.taken ≡ gather.old.taken }
 {
-    let mut line = Line::new();
-    line.try_extend_from_slice(b"fault ").unwrap();
-    line.try_extend_from_slice(decimal(place).as_slice())
-        .unwrap();
-    line.push(SPACE);
-    line.try_extend_from_slice(decimal(usize::from(why.number())).as_slice())
-        .unwrap();
-    line.push(SPACE);
-    line.try_extend_from_slice(why.name().as_bytes()).unwrap();
-    line.push(LF);
-    line
+    append_number(gather, place);
+    gather.push(SPACE);
+    gather.extend(word(command));
+    append_values(gather, command);
+    gather.push(LF);
 }
 
-// The digits of a number: few enough that two numbers and their words fit into a line.
-fn decimal(number: usize) -> Line
-    ensures value { result.items ≡ decimal number }
-    ensures short { length result.items ≤ 40 }
+fn append_end(gather: &mut Gather, count: usize, half: usize)
+    requires { length gather.old.kept + PIECE_BYTES ≤ GATHERED_BYTES }
+    ensures kept { gather.new.kept ≡ gather.old.kept ++ end_line count half }
+    ensures same_count { gather.new.taken ≡ gather.old.taken }
+    ensures short { length (end_line count half) ≤ PIECE_BYTES }
+{
+    gather.extend(b"end ");
+    append_number(gather, count);
+    gather.extend(b" pending ");
+    append_number(gather, half);
+    gather.push(LF);
+}
+
+fn append_fault(gather: &mut Gather, place: usize, why: FaultReason)
+    requires { length gather.old.kept + PIECE_BYTES ≤ GATHERED_BYTES }
+    ensures kept { gather.new.kept ≡ gather.old.kept ++ fault_line place why }
+    ensures same_count { gather.new.taken ≡ gather.old.taken }
+    ensures short { length (fault_line place why) ≤ PIECE_BYTES }
+{
+    gather.extend(b"fault ");
+    append_number(gather, place);
+    gather.push(SPACE);
+    append_number(gather, usize::from(why.number()));
+    gather.push(SPACE);
+    gather.extend(why.name().as_bytes());
+    gather.push(LF);
+}
+
+// A number, in decimal.
+fn append_number(gather: &mut Gather, number: usize)
+    requires { length gather.old.kept + 20 ≤ GATHERED_BYTES }
+    ensures kept { gather.new.kept ≡ gather.old.kept ++ decimal number }
+    ensures same_count { gather.new.taken ≡ gather.old.taken }
+    ensures short { length (decimal number) ≤ 20 }
 {
     let mut buffer = Buffer::new();
-    let mut line = Line::new();
-    line.try_extend_from_slice(buffer.format(number).as_bytes())
-        .unwrap();
-    line
+    gather.extend(buffer.format(number).as_bytes());
 }
 
 // The name of a command.
@@ -102,65 +119,43 @@ fn word(command: &Command) -> &'static [u8]
     }
 }
 
-// What a command carries: a space and two digits for each parameter byte, or a space and an id.
-type Values = ArrayVec<u8, 6>;
-
-fn values(command: &Command) -> Values
-    ensures { result.items ≡ values_of command.now }
+// What follows the name: a space and two digits for each parameter byte, or a space and the id of a mark.
+fn append_values(gather: &mut Gather, command: &Command)
+    requires { length gather.old.kept + 13 ≤ GATHERED_BYTES }
+    ensures kept { gather.new.kept ≡ gather.old.kept ++ values_of command.now }
+    ensures same_count { gather.new.taken ≡ gather.old.taken }
+    ensures short { length (values_of command.now) ≤ 13 }
 {
-    match command {
-        Command::LineFeed | Command::Return | Command::Init => Values::new(),
-        Command::Char(character) => value(character.byte()),
-        Command::Mode(mode) => value(mode.byte()),
-        Command::Emphasis(emphasis) => value(emphasis.byte()),
-        Command::Underline(underline) => value(underline.byte()),
-        Command::Font(font) => value(font.byte()),
-        Command::Table(table) => value(table.byte()),
-        Command::Align(align) => value(align.byte()),
-        Command::FeedLines(feed) => value(feed.byte()),
-        Command::Size(size) => value(size.byte()),
-        Command::BarHeight(height) => value(height.byte()),
-        Command::BarWidth(width) => value(width.byte()),
-        Command::HriPlace(place) => value(place.byte()),
-        Command::HriFont(font) => value(font.byte()),
-        Command::Status(kind) => value(kind.byte()),
-        Command::Cut(cut) => match cut.feed() {
-            None => value(cut.mode()),
-            Some(feed) => two_values(cut.mode(), feed),
-        },
-        Command::Mark(id) => id_value(id.bytes()),
+    let parts = command.parts();
+    if let Command::Mark(_) = command {
+        gather.push(SPACE);
+        gather.extend(parts.parameters.as_slice());
+    } else {
+        append_bytes(gather, parts.parameters.as_slice());
+    }
+}
+
+// A space and two digits for each byte.
+fn append_bytes(gather: &mut Gather, bytes: &[u8])
+    requires few { length bytes.now ≤ 4 }
+    requires room { length gather.old.kept + 12 ≤ GATHERED_BYTES }
+    ensures kept { gather.new.kept ≡ gather.old.kept ++ flat_map byte_value bytes.now }
+    ensures same_count { gather.new.taken ≡ gather.old.taken }
+    ensures short { length (flat_map byte_value bytes.now) ≤ 12 }
+{
+    for byte in bytes {
+        append_byte(gather, *byte);
     }
 }
 
 // A byte as it was sent: a space and its two digits.
-fn value(byte: u8) -> Values
-    ensures value { result.items ≡ byte_value byte }
-    ensures short { length result.items ≤ 3 }
+fn append_byte(gather: &mut Gather, byte: u8)
+    requires { length gather.old.kept + 3 ≤ GATHERED_BYTES }
+    ensures kept { gather.new.kept ≡ gather.old.kept ++ byte_value byte }
+    ensures same_count { gather.new.taken ≡ gather.old.taken }
+    ensures short { length (byte_value byte) ≡ 3 }
 {
     let mut digits = [SPACE; 3];
     hex::encode_to_slice([byte], &mut digits[1..]).unwrap();
-    let mut values = Values::new();
-    values.try_extend_from_slice(&digits).unwrap();
-    values
-}
-
-// The parameter bytes of a cut that feeds, the mode first.
-fn two_values(first: u8, second: u8) -> Values
-    ensures { result.items ≡ byte_value first ++ byte_value second }
-{
-    let mut values = value(first);
-    values
-        .try_extend_from_slice(value(second).as_slice())
-        .unwrap();
-    values
-}
-
-// The bytes of an id can all be printed, so they stand as they are.
-fn id_value(id: [u8; 4]) -> Values
-    ensures { result.items ≡ SPACE ∷ id }
-{
-    let mut values = Values::new();
-    values.push(SPACE);
-    values.try_extend_from_slice(&id).unwrap();
-    values
+    gather.extend(&digits);
 }

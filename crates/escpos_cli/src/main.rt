@@ -2,20 +2,19 @@
 //!
 //! `main` joins the words of the command line, the standard streams and the exit status, and leaves the rest
 //! to its modules: `task` reads the words, `perform` does what they ask for, `input` and `hexadecimal` read
-//! the input, `check` and `render` are the jobs of those names over any source and sink, `listing` and
-//! `lines` make the lines of a listing, `printing` a paper, `saying` has what all jobs say, and `status` what
-//! the program ends with.
+//! the input, `job` has what the jobs have in common and `check` and `render` are the jobs of those names over
+//! any source and sink, `lines` has the lines of a listing, `outcome` what all jobs say, and `status` what the
+//! program ends with.
 #![tactic(auto)]
 
 mod check;
 mod hexadecimal;
 mod input;
+mod job;
 mod lines;
-mod listing;
+mod outcome;
 mod perform;
-mod printing;
 mod render;
-mod saying;
 mod status;
 mod task;
 #[cfg(test)]

@@ -1,14 +1,15 @@
 //! What the program does for the words that it was given, over any source and sink: a job, or a text.
 
-ghost use Rattle.std.specs.Prelude.{◌≡◌, ◌≢◌, ◌⊎◌, IfSome, IsTrue};
+ghost use Rattle.std.specs.Prelude.{◌≡◌, ◌≢◌, ◌⊎◌, ◌+◌, ◌≤◌, IfSome, IsTrue, IsOk, IsErr};
 ghost use Rattle.escpos_cli.specs.declared.task.TheConstants.{HELP, USAGE};
+ghost use Rattle.escpos_cli.specs.declared.input.TheConstants.{INPUT_LIMIT};
 ghost use Rattle.escpos_cli.specs.Check.{Checks};
 ghost use Rattle.escpos_cli.specs.Render.{RendersInput};
-ghost use Rattle.escpos_cli.specs.Saying.{Says, memory_line};
+ghost use Rattle.escpos_cli.specs.Outcome.{Says, memory_line, outcome};
 
 use crate::check::check;
 use crate::render::render;
-use crate::saying::{MEMORY, say};
+use crate::outcome::{MEMORY, say};
 use crate::status::Status;
 use crate::task::{HELP, NoTask, Task, USAGE};
 use escpos_io::{ByteIn, ByteOut};
@@ -26,18 +27,21 @@ pub fn perform<R: ByteIn, W: ByteOut>(
     output: &mut W,
 ) -> Status
     ensures check { asked ≡ Ok Task.Check →
-        IfSome (R.to_come input.old) (λ text. Checks (W.written output.old) (W.written output.new) text result) }
+        IfSome (R.to_come input.old) (λ text. Checks (outcome (W.written output.old) (W.written output.new) (W.failed output.new) result) text) }
     ensures render { asked ≡ Ok Task.Render →
-        IfSome (R.to_come input.old) (λ text. RendersInput (W.written output.old) (W.written output.new) text result) }
+        IfSome (R.to_come input.old) (λ text. RendersInput (outcome (W.written output.old) (W.written output.new) (W.failed output.new) result) text) }
     ensures help { asked ≡ Err NoTask.Help →
-        Says (W.written output.old) (W.written output.new) (W.failed output.new) HELP.now Status.Good result }
+        Says (outcome (W.written output.old) (W.written output.new) (W.failed output.new) result) HELP.now Status.Good }
     ensures usage { asked ≡ Err NoTask.Usage →
-        Says (W.written output.old) (W.written output.new) (W.failed output.new) USAGE.now Status.Usage result }
+        Says (outcome (W.written output.old) (W.written output.new) (W.failed output.new) result) USAGE.now Status.Usage }
     ensures memory { asked ≡ Err NoTask.Memory →
-        Says (W.written output.old) (W.written output.new) (W.failed output.new) memory_line Status.Memory result }
+        Says (outcome (W.written output.old) (W.written output.new) (W.failed output.new) result) memory_line Status.Memory }
     ensures device { result ≡ Status.Device → IsTrue (R.failed input.new) ⊎ IsTrue (W.failed output.new) }
     ensures not_hidden { result ≢ Status.Device → ¬ IsTrue (W.failed output.old) → ¬ IsTrue (W.failed output.new) }
     ensures usage_only { result ≡ Status.Usage → asked ≡ Err NoTask.Usage }
+    ensures unread { IsErr asked → input.new ≡ input.old }
+    ensures all_read { IsOk asked → result ≢ Status.Device → ¬ IsTrue (R.failed input.new) }
+    ensures pulls { R.pull_count input.new ≤ R.pull_count input.old + INPUT_LIMIT + 1 }
 {
     match asked {
         Ok(Task::Check) => check(alloc, input, output),

@@ -1,95 +1,115 @@
-//! The job `render`: what a byte stream prints, as text.
+//! The job `render`: what a byte stream prints, as text. The paper goes out when all bytes are read.
 
-ghost use Rattle.std.specs.Prelude.{◌≡◌, ◌≢◌, ◌⊎◌, ◌+◌, ◌≤◌, ◌++◌, IfSome, IsTrue};
-ghost use Rattle.std.specs.Io.KnownBytes.{Appends};
-ghost use Rattle.escpos_paper.specs.ItemsText.{items_text};
+ghost use Rattle.std.specs.Prelude.{◌≡◌, ◌≢◌, ◌⊎◌, ◌+◌, ◌≤◌, ◌++◌, [], List, IfSome, IsTrue};
+ghost use Rattle.std.proofs.Common.{refl, subst, sym, ◌∙◌, append-nil};
+ghost use Rattle.escpos_command.specs.declared.command.Command.{Command};
+ghost use Rattle.escpos_paper.specs.declared.item.Item.{Item};
+ghost use Rattle.escpos_paper.specs.declared.paper.TheConstants.{MOST_ITEMS};
+ghost use Rattle.escpos_paper.specs.Page.{PageIs};
+ghost use Rattle.escpos_cli.specs.declared.job.Obstacle.TheVariants as obstacle;
 ghost use Rattle.escpos_cli.specs.declared.input.TheConstants.{INPUT_LIMIT};
-ghost use Rattle.escpos_cli.specs.Render.{Renders, RendersInput, pending_line};
+ghost use Rattle.escpos_cli.specs.Outcome.{outcome};
+ghost use Rattle.escpos_cli.specs.Obstacle.{device_is_no_memory};
+ghost use Rattle.escpos_cli.specs.Render.{RendersInput, paper_shape};
 
-use crate::input::hexadecimal_input;
-use crate::lines::{Line, line_of_end, line_of_fault};
-use crate::printing::{PrintFault, Printing};
-use crate::saying::{MEMORY, refuse, say, status_of};
+use crate::job::{Job, Obstacle, run};
+use crate::lines::Last;
+use crate::outcome::{MEMORY, say};
 use crate::status::Status;
-use escpos_command::laws;
-use escpos_io::{ByteIn, ByteOut, put_all};
-use escpos_paper::{Item, write_items};
+use escpos_command::Command;
+use escpos_decode::Consumer;
+use escpos_io::{ByteIn, ByteOut, put_pieces};
+use escpos_paper::{Page, write_items};
 use std::alloc::Global;
 
 /// Reads a stream in hexadecimal from `input` and writes the paper that it prints to `output`, an item a
-/// line, and the last line of the listing behind a fault or with a half command at the end.
+/// line, and the last line of the listing after a fault or with a half command at the end.
 ///
-/// The statuses are those of `check`. At `Memory` the line `memory` is all that goes out.
+/// `run` says which status comes when. At `Memory` the line `memory` is all that goes out.
 pub fn render<R: ByteIn, W: ByteOut>(alloc: Global, input: &mut R, output: &mut W) -> Status
-    ensures renders { IfSome (R.to_come input.old) (λ text. RendersInput (W.written output.old) (W.written output.new) text result) }
+    ensures renders { IfSome (R.to_come input.old) (λ text.
+        RendersInput (outcome (W.written output.old) (W.written output.new) (W.failed output.new) result) text) }
     ensures device { result ≡ Status.Device → IsTrue (R.failed input.new) ⊎ IsTrue (W.failed output.new) }
     ensures not_hidden { result ≢ Status.Device → ¬ IsTrue (W.failed output.old) → ¬ IsTrue (W.failed output.new) }
-    ensures all_read { result ≡ Status.Good → ¬ IsTrue (R.failed input.new) }
+    ensures all_read { result ≢ Status.Device → ¬ IsTrue (R.failed input.new) }
     ensures never_usage { result ≢ Status.Usage }
     ensures pulls { R.pull_count input.new ≤ R.pull_count input.old + INPUT_LIMIT + 1 }
 {
-    match hexadecimal_input(alloc, input) {
-        Ok(bytes) => print(alloc, &bytes, output),
-        Err(fault) => refuse(fault, output),
-    }
+    run::<R, W, Paper>(alloc, input, output)
 }
 
-// Prints the commands of these bytes.
-fn print<W: ByteOut>(alloc: Global, bytes: &[u8], output: &mut W) -> Status
-    ensures renders { Renders (W.written output.old) (W.written output.new) bytes.now result }
-    ensures device { result ≡ Status.Device → IsTrue (W.failed output.new) }
-    ensures not_hidden { result ≢ Status.Device → ¬ IsTrue (W.failed output.old) → ¬ IsTrue (W.failed output.new) }
-    ensures never_usage { result ≢ Status.Usage }
-{
-    laws::one_reading();
-    let mut printing = Printing::new(alloc);
-    match printing.take_all(bytes) {
-        Ok(()) => {
-            let pending = printing.decoder.pending_len();
-            let line = line_of_pending(bytes.len(), pending);
-            put_paper(
-                printing.page.items(),
-                line.as_slice(),
-                output,
-                status_of(pending),
-            )
+// The page that the commands so far have printed on.
+#[derive(Drop)]
+struct Paper {
+    page: Page,
+}
+
+impl<W: ByteOut> Consumer<W> for Paper {
+    type Refusal = Obstacle;
+
+    ghost took = { λ start now cs. (now.1 ≡ start.1)
+        × ((kept : List Item) (before : List Command) → PageIs start.0.page kept before → PageIs now.0.page kept (before ++ cs)) };
+
+    ghost has_room = { λ paper. MOST_ITEMS ≤ paper.page.room };
+
+    ghost refused = { λ last now refusal. (refusal ≡ obstacle.Memory) × (now.1 ≡ last.1) × (now.0.page.sheet ≡ last.0.page.sheet) };
+
+    fn ready(&mut self, _output: &mut W) -> Result<(), Obstacle> {
+        match self.page.ready() {
+            Ok(()) => Ok(()),
+            Err(_) => Err(Obstacle::Memory),
         }
-        Err(PrintFault::Refused { place, why }) => {
-            let line = line_of_fault(place, why);
-            put_paper(
-                printing.page.items(),
-                line.as_slice(),
-                output,
-                Status::Refused,
-            )
+    }
+
+    fn take(&mut self, command: Command, _place: usize) {
+        self.page.apply(command).unwrap();
+    }
+
+    ghost nothing = { λ start. (
+        refl,
+        λ kept before is. subst (PageIs start.0.page kept) (sym (append-nil before)) is,
+    ) };
+}
+
+impl<W: ByteOut> Job<W> for Paper {
+    ghost shape = { paper_shape };
+
+    ghost is_new = { λ paper. PageIs paper.page [] [] };
+
+    fn new(alloc: Global) -> Self {
+        Paper {
+            page: Page::new(alloc),
         }
-        Err(PrintFault::Memory) => say(MEMORY, output, Status::Memory),
     }
-}
 
-// The last line where all bytes are read: none if no byte is pending.
-fn line_of_pending(count: usize, pending: usize) -> Line
-    ensures { result.items ≡ pending_line count pending }
-{
-    if pending == 0 {
-        Line::new()
-    } else {
-        line_of_end(count, pending)
+    fn last(count: usize, half: usize) -> Last {
+        if half == 0 {
+            Last::Nothing
+        } else {
+            Last::End { count, half }
+        }
     }
-}
 
-// Puts the paper, and a last line.
-fn put_paper<W: ByteOut>(items: &[Item], line: &[u8], output: &mut W, status: Status) -> Status
-    ensures out { result ≢ Status.Device →
-        Appends (W.written output.old) (W.written output.new) (items_text items.now ++ line.now) }
-    ensures status { (result ≡ status) ⊎ ((result ≡ Status.Device) × IsTrue (W.failed output.new)) }
-    ensures not_hidden { result ≢ Status.Device → ¬ IsTrue (W.failed output.old) → ¬ IsTrue (W.failed output.new) }
-{
-    if write_items(items, output).is_err() {
-        return Status::Device;
+    fn finish(&mut self, last: Last, output: &mut W, status: Status) -> Status {
+        if write_items(self.page.items(), output).is_err() {
+            return Status::Device;
+        }
+        match put_pieces(&[last], output) {
+            Ok(()) => status,
+            Err(_) => Status::Device,
+        }
     }
-    match put_all(line, output) {
-        Ok(()) => status,
-        Err(_) => Status::Device,
+
+    fn cut_short(&mut self, output: &mut W) -> Status {
+        say(MEMORY, output, Status::Memory)
     }
+
+    ghost well = { λ start now cs taken well. subst (λ output. ¬ IsTrue (W.failed output)) (sym taken.0) well };
+
+    ghost no_memory = { λ start last now cs taken left. (
+        left.1 ∙ taken.0,
+        λ kept before is. left.2 ∙ taken.1 kept before is,
+    ) };
+
+    ghost no_device = { λ last now left. absurd (device_is_no_memory left.0) };
 }

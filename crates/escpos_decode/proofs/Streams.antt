@@ -1,6 +1,6 @@
 -- The bytes of a stream as they come in pieces.
-use Rattle.std.proofs.Common.{◌≡◌, ℕ, ◌+◌, ◌<◌, ◌≤◌, List, [], ◌∷◌, ◌++◌, length, take, drop, refl, sym, ◌∙◌, ap, subst, append_assoc, append-nil, arith, length-append, add-one, drop-cons, length-take, Result, Ok, Err, MatchResult, OnOk, IsErrAnd}
-use Rattle.std.specs.Prelude.{slice_index, ⊤}
+use Rattle.std.proofs.Common.{◌≡◌, ℕ, ◌+◌, ◌<◌, ◌≤◌, List, [], ◌∷◌, ◌++◌, length, take, drop, refl, sym, ◌∙◌, ap, subst, append_assoc, append-nil, arith, length-append, add-one, drop-cons, length-take}
+use Rattle.std.specs.Prelude.{slice_index}
 use Rattle.std.proofs.lemmas.List.{take-append-drop, take_all}
 use Rattle.std.proofs.Math.Seq.{take-suc}
 use Rattle.escpos_command.specs.declared.command.Command.{Command}
@@ -29,13 +29,6 @@ pub record Turn (took : List Command → Type 0) (bytes half : List ℕ) (start 
   pub read : Reads bytes commands half
   pub taken : took commands
   pub placed : start ≡ length (spell commands)
-
--- The call whose error was mapped has succeeded.
-pub ready_ok : {E D : Type 0} (r : Result ⊤ E) (s : Result ⊤ D) (x : ⊤) (F : E → D → Type 0) (P : Type 0)
-    → MatchResult r (λ y. s ≡ Ok y) (λ e. IsErrAnd s (F e)) → s ≡ Ok x → OnOk r P → P
-ready_ok (Ok y) s x F P m e h = h
-ready_ok (Err d) (Ok y) x F P m e h = absurd m
-ready_ok (Err d) (Err y) x F P m e h = absurd cc
 
 -- The byte continues a command.
 pub turn_more : (took next : List Command → Type 0) (a piece half after : List ℕ) (at start then_start : ℕ) → at < length piece

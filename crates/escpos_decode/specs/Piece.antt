@@ -24,3 +24,9 @@ StopsAt (Fault at why) took g after =
     (cs : List Command) × (rest : List ℕ) × FaultAt (g.half ++ g.piece) cs rest (length g.half + at) why × took cs
 StopsAt Memory took g after = (k : ℕ) × IsTaken took (g.half ++ take k g.piece) after
 StopsAt (Refused refusal) took g after = Unit {0}
+
+-- A fact of the refusal, where the reading stops for one.
+abbrev pub IfRefused : {E : Type 0} → Stop E → (E → Type 0) → Type 0
+IfRefused (Fault at why) P = Unit {0}
+IfRefused Memory P = Unit {0}
+IfRefused (Refused refusal) P = P refusal

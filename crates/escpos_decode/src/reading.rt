@@ -4,10 +4,10 @@
 //! each byte, so that taking a command can't fail; this is also the place at which a consumer that has to know
 //! what the byte would complete can be asked.
 
-ghost use Rattle.std.specs.Prelude.{◌≡◌, List, [], ◌∷◌, ◌++◌, length, OnOk, IfErr};
+ghost use Rattle.std.specs.Prelude.{◌≡◌, ℕ, List, [], ◌∷◌, ◌++◌, length, take, OnOk, IfErr};
 ghost use Rattle.escpos_command.specs.declared.command.Command.{Command};
 ghost use Rattle.escpos_command.specs.Table.{spell};
-ghost use Rattle.escpos_decode.specs.Piece.{given, IsTaken, StopsAt};
+ghost use Rattle.escpos_decode.specs.Piece.{given, IsTaken, StopsAt, IfRefused};
 
 use crate::decoder::{DecodeFault, Decoder, Step};
 use escpos_command::{Command, FaultReason};
@@ -23,15 +23,15 @@ pub trait Consumer<W> {
     // There is room for a command.
     ghost has_room: { Self → Type 0 };
 
-    // What holds of the output after a refusal.
-    ghost refused: { Self.Refusal → W → Type 0 };
+    // What a refusal leaves of a state.
+    ghost refused: { Self × W → Self × W → Self.Refusal → Type 0 };
 
     /// Makes room for one more command.
     fn ready(&mut self, output: &mut W) -> Result<(), Self::Refusal>
         ensures same { OnOk result ((start : Self × W) (cs : List Command) →
             took start (self.old, output.old) cs → took start (self.new, output.new) cs) }
         ensures room { OnOk result (has_room self.new) }
-        ensures refused { IfErr result (λ refusal. refused refusal output.new) };
+        ensures refused { IfErr result (refused (self.old, output.old) (self.new, output.new)) };
 
     /// Takes the next command, which has `place` bytes before it.
     fn take(&mut self, command: Command, place: usize)
@@ -66,11 +66,16 @@ pub fn read_piece<W, C: Consumer<W>>(
     ensures read { OnOk result (IsTaken (C.took (consumer.old, output.old) (consumer.new, output.new)) (decoder.old ++ piece.now) decoder.new) }
     ensures stopped { IfErr result (λ stop.
         StopsAt stop (C.took (consumer.old, output.old) (consumer.new, output.new)) (given decoder.old piece.now) decoder.new) }
+    ensures refused { IfErr result (λ stop. IfRefused stop (λ refusal. (last : C × W) × (k : ℕ)
+        × IsTaken (C.took (consumer.old, output.old) last) (decoder.old ++ take k piece.now) decoder.new
+        × C.refused last (consumer.new, output.new) refusal)) }
 {
     let before = decoder.pending_len();
     let mut start = 0;
     for (at, byte) in piece.iter().enumerate() {
-        consumer.ready(output).map_err(Stop::Refused)?;
+        if let Err(refusal) = consumer.ready(output) {
+            return Err(Stop::Refused(refusal));
+        }
         let step = match decoder.push(*byte) {
             Ok(step) => step,
             Err(DecodeFault::Fault { why, .. }) => return Err(Stop::Fault { at, why }),

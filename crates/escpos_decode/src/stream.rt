@@ -84,7 +84,7 @@ impl Consumer<()> for Vec<Command> {
 
     ghost has_room = { λ commands. vec_len commands < vec_capacity commands };
 
-    ghost refused = { λ _ _. ⊤ };
+    ghost refused = { λ _ _ _. ⊤ };
 
     fn ready(&mut self, _output: &mut ()) -> Result<(), AllocError> {
         self.reserve(1)

@@ -10,8 +10,7 @@ ghost use Rattle.escpos_paper.specs.ItemsText.{byte_text, style_text, face_name,
 use crate::cell::{Cell, Cells};
 use crate::item::Item;
 use crate::style::Style;
-use escpos_command::bytes::LF;
-use escpos_command::{Alignment, FontFace};
+use escpos_command::{Alignment, FontFace, LF};
 use escpos_io::{GATHERED_BYTES, Gather, PIECE_BYTES, Piece};
 use itoa::Buffer;
 

@@ -1,19 +1,19 @@
 use Rattle.std.proofs.Common.{◌≡◌, ◌<◌, ◌+◌, length, arith, ◌∙◌, ap, subst, sym}
-use Rattle.escpos_decode.proofs.Streams.{turn_more, turn_done, turn_fault, ready_ok}
+use Rattle.escpos_decode.proofs.Streams.{turn_more, turn_done, turn_fault}
 use Rattle.escpos_decode.proofs.reading.read_piece.Goals as goal
 use Rattle.escpos_decode.proofs.reading.read_piece.Goals.{in-More, in-Done}
 
 pub returns-in-Err-Fault-clause-stopped : goal.returns-in-Err-Fault-clause-stopped
 returns-in-Err-Fault-clause-stopped g c =
     let inside : c.loop-at.at < length c.args.piece.now = omega arith in
-    let same = ready_ok c.ready.result c.map_err.result _ _ _ c.map_err.ensures.cases c.in_ok-map_err.was c.ready.ensures.same in
+    let same = c.in_default.ensures.same in
     let on = rw c.in-Err-Fault.field-0-is at c.in-Err-Fault.ensures.stream in
     rw c.in-Err-Fault.why-is (turn_fault _ _ c.args.decoder.now c.args.piece.now c.loop-at.decoder c.loop-at.at c.loop-at.start _ inside c.loop-at.invariant (same _) on)
 
 pub loop-at-preserved : goal.loop-at-preserved
 loop-at-preserved g c =
     let inside : c.loop-at.at < length c.args.piece.now = omega arith in
-    let same = ready_ok c.ready.result c.map_err.result _ _ _ c.map_err.ensures.cases c.in_ok-map_err.was c.ready.ensures.same in
+    let same = c.in_default.ensures.same in
     elim c.match-step.branch [
       | in-More w ↦
           let on = rw w.in-More.is at c.in-Ok.ensures.stream in
@@ -24,3 +24,8 @@ loop-at-preserved g c =
           rw w.consumer-is (turn_done _ _ c.args.decoder.now c.args.piece.now c.loop-at.decoder c.push.new.self c.loop-at.at c.loop-at.start _ _ inside c.loop-at.invariant
           (λ cs taken placed. w.take.ensures _ _ cs placed (same _ cs taken)) on step.1 (w.start-is ∙ ap (λ n. n + c.loop-at.at + 1) c.pending_len-before.ensures.value))
     ]
+
+pub returns-in-Err-clause-refused : goal.returns-in-Err-clause-refused
+returns-in-Err-clause-refused g c =
+    let turn = c.loop-at.invariant in
+    ((c.loop-at.consumer, c.loop-at.output), c.loop-at.at, (turn.commands, turn.read, turn.taken), c.in-Err.ensures.refused)

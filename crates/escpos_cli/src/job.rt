@@ -1,0 +1,115 @@
+//! What `check` and `render` have in common: input in hexadecimal is read as a stream of commands, what they give goes
+//! out, then a last line, and a status is answered.
+//!
+//! What the commands give is a job's: `check` and `render` are two.
+
+ghost use Rattle.std.specs.Prelude.{◌≡◌, ◌≢◌, ◌⊎◌, ◌+◌, ◌≤◌, ◌++◌, List, IfSome, IsTrue};
+ghost use Rattle.escpos_command.specs.declared.command.Command.{Command};
+ghost use Rattle.escpos_cli.specs.declared.input.TheConstants.{INPUT_LIMIT};
+ghost use Rattle.escpos_cli.specs.Lines.{last_text};
+ghost use Rattle.escpos_cli.specs.Outcome.{Says, memory_line, outcome};
+ghost use Rattle.escpos_cli.specs.Report.{Shape, Reports, Runs};
+
+use crate::input::hexadecimal_input;
+use crate::lines::Last;
+use crate::outcome::{refuse, status_of};
+use crate::status::Status;
+use escpos_command::laws;
+use escpos_decode::{Consumer, Decoder, Stop, read_piece};
+use escpos_io::{ByteIn, ByteOut};
+use std::alloc::Global;
+
+/// Why a job can't go on.
+#[derive(Clone, Copy, Debug, PartialEq, Eq)]
+pub enum Obstacle {
+    /// There is no memory.
+    Memory,
+    /// The output has failed.
+    Device,
+}
+
+/// A consumer of commands that prints what they give.
+pub trait Job<W: ByteOut>: Consumer<W, Refusal = Obstacle> + Drop {
+    ghost use Rattle.escpos_cli.specs.declared.job.Obstacle.TheVariants as obstacle;
+
+    // What its text is.
+    ghost shape: { Shape };
+
+    // It has given nothing yet.
+    ghost is_new: { Self → Type 0 };
+
+    /// A job that was given no command. Takes no memory.
+    fn new(alloc: Global) -> Self
+        ensures { is_new result };
+
+    /// The last line where so many bytes are read and so many of them are a half command.
+    fn last(count: usize, half: usize) -> Last
+        ensures { last_text result ≡ shape.last count half };
+
+    /// Puts all that the commands give and isn't out yet, and a last line. The status is the one that is given, or
+    /// `Device` where `output` has failed.
+    fn finish(&mut self, last: Last, output: &mut W, status: Status) -> Status
+        ensures says { (start : Self × W) (cs : List Command) → is_new start.0 → Self.took start (self.old, output.old) cs →
+            Says (outcome (W.written start.1) (W.written output.new) (W.failed output.new) result) (shape.gives cs ++ last_text last) status }
+        ensures not_hidden { result ≢ Status.Device → ¬ IsTrue (W.failed output.old) → ¬ IsTrue (W.failed output.new) };
+
+    /// Puts what is given where memory runs out, and the line that says so. The status is `Memory`, or `Device` where
+    /// `output` has failed.
+    fn cut_short(&mut self, output: &mut W) -> Status
+        ensures says { (start : Self × W) (cs : List Command) → is_new start.0 → Self.took start (self.old, output.old) cs →
+            Says (outcome (W.written start.1) (W.written output.new) (W.failed output.new) result) (shape.gives_early cs ++ memory_line) Status.Memory }
+        ensures not_hidden { result ≢ Status.Device → ¬ IsTrue (W.failed output.old) → ¬ IsTrue (W.failed output.new) };
+
+    // While commands are taken the output doesn't fail, and want of memory leaves what was taken.
+    ghost well: { (start now : Self × W) (cs : List Command) → Self.took start now cs → ¬ IsTrue (W.failed start.1) → ¬ IsTrue (W.failed now.1) };
+
+    ghost no_memory: { (start last now : Self × W) (cs : List Command) → Self.took start last cs → Self.refused last now obstacle.Memory → Self.took start now cs };
+
+    ghost no_device: { (last now : Self × W) → Self.refused last now obstacle.Device → IsTrue (W.failed now.1) };
+}
+
+/// Reads a stream in hexadecimal from `input`, and prints what the job `J` makes of it on `output`.
+///
+/// The status is `Good` where all bytes are read with nothing left, and `Refused` after a fault, with a half command
+/// at the end, or for input that is too long or no hexadecimal, which prints one line of its own. `Memory` comes for
+/// want of memory: then the line `memory` is the last. `Device` comes only where `input` or `output` has failed, and
+/// no other status hides that one of them has failed in this call; `Usage` never comes. `input` is pulled at most 16,777,217
+/// times.
+pub fn run<R: ByteIn, W: ByteOut, J: Job<W>>(alloc: Global, input: &mut R, output: &mut W) -> Status
+    ensures runs { IfSome (R.to_come input.old) (λ text.
+        Runs J.shape (outcome (W.written output.old) (W.written output.new) (W.failed output.new) result) text) }
+    ensures device { result ≡ Status.Device → IsTrue (R.failed input.new) ⊎ IsTrue (W.failed output.new) }
+    ensures not_hidden { result ≢ Status.Device → ¬ IsTrue (W.failed output.old) → ¬ IsTrue (W.failed output.new) }
+    ensures all_read { result ≢ Status.Device → ¬ IsTrue (R.failed input.new) }
+    ensures never_usage { result ≢ Status.Usage }
+    ensures pulls { R.pull_count input.new ≤ R.pull_count input.old + INPUT_LIMIT + 1 }
+{
+    match hexadecimal_input(alloc, input) {
+        Ok(bytes) => report::<W, J>(alloc, &bytes, output),
+        Err(fault) => refuse(fault, output),
+    }
+}
+
+// Prints what the job makes of these bytes.
+fn report<W: ByteOut, J: Job<W>>(alloc: Global, bytes: &[u8], output: &mut W) -> Status
+    ensures reports { Reports J.shape (outcome (W.written output.old) (W.written output.new) (W.failed output.new) result) bytes.now }
+    ensures device { result ≡ Status.Device → IsTrue (W.failed output.new) }
+    ensures not_hidden { result ≢ Status.Device → ¬ IsTrue (W.failed output.old) → ¬ IsTrue (W.failed output.new) }
+    ensures never_usage { result ≢ Status.Usage }
+{
+    laws::one_reading();
+    let mut job = J::new(alloc);
+    let mut decoder = Decoder::new(alloc);
+    match read_piece(&mut decoder, bytes, &mut job, output) {
+        Ok(()) => {
+            let half = decoder.pending_len();
+            job.finish(J::last(bytes.len(), half), output, status_of(half))
+        }
+        Err(Stop::Fault { at, why }) => {
+            job.finish(Last::Fault { place: at, why }, output, Status::Refused)
+        }
+        Err(Stop::Memory) => job.cut_short(output),
+        Err(Stop::Refused(Obstacle::Memory)) => job.cut_short(output),
+        Err(Stop::Refused(Obstacle::Device)) => Status::Device,
+    }
+}
