@@ -177,9 +177,10 @@ fn incoming_gives_what_its_reader_has(rt: HostRuntime) {
 #[test]
 fn incoming_stays_failed(rt: HostRuntime) {
     let mut source = Incoming::new(InterruptedOnce { reads: 0 });
-    let mut piece = [0u8; 2];
+    let mut piece = [9u8; 2];
     assert_eq!(rt; source.pull(&mut piece), Err(Failed));
     assert_eq!(rt; source.pull(&mut piece), Err(Failed));
+    assert_eq!(rt; piece, [9, 9]);
     assert!(rt; source.has_failed());
     assert_eq!(rt; source.pulls(), 2);
     assert_eq!(rt; source.into_inner().reads, 1);
