@@ -166,6 +166,7 @@ fn incoming_gives_what_its_reader_has(rt: HostRuntime) {
     assert_eq!(rt; source.pull(&mut piece), Ok(2));
     assert_eq!(rt; piece, *b"ab");
     assert_eq!(rt; source.pull(&mut piece), Ok(1));
+    assert_eq!(rt; piece, *b"cb");
     assert_eq!(rt; source.pull(&mut piece), Ok(0));
     assert!(rt; source.has_ended());
     assert_eq!(rt; source.pull(&mut piece), Ok(0));
