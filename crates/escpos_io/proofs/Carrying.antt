@@ -71,10 +71,10 @@ stops_after first now next out bytes count taken few front = record {
   fewer = omega (arith, few, length-append out bytes);
 }
 
--- A count of fewer bytes than are counted at most is exact.
-exact : (taken written count : ℕ) (out bytes more : List ℕ) → taken ≡ min (length out) most → written ≡ min (taken + count) most
+-- A count of fewer bytes than are counted at most is exact_count.
+exact_count : (taken written count : ℕ) (out bytes more : List ℕ) → taken ≡ min (length out) most → written ≡ min (taken + count) most
     → count < length bytes → length (out ++ bytes ++ more) < 2 ^ 128 → length out + count ≡ written
-exact taken written count out bytes more n w few short =
+exact_count taken written count out bytes more n w few short =
     let long = length-append (out ++ bytes) more in
     let front = length-append out bytes in
     omega (arith, n, w, few, short, long, front)
@@ -84,7 +84,7 @@ pub stops_in_kept : (first now next : Option (List ℕ)) (old : Gathered) (total
     → Appends now next (take count old.kept) → written ≡ min (old.taken + count) most → Carries first now old total → length (total ++ more) < 2 ^ 128
     → StopsIn first next (total ++ more) written
 stops_in_kept first now next old total more count written few front n w short =
-    let same : length w.out + count ≡ written = exact old.taken written count w.out old.kept more w.counted n few (rw w.whole at short) in
+    let same : length w.out + count ≡ written = exact_count old.taken written count w.out old.kept more w.counted n few (rw w.whole at short) in
     rw (w.whole, sym same)
     (stops_in_front first next (w.out ++ old.kept) more (length w.out + count) (stops_after first now next w.out old.kept count w.taken few front))
 
@@ -94,6 +94,6 @@ pub stops_past : (first now next : Option (List ℕ)) (old : Gathered) (total by
     → length (total ++ bytes ++ more) < 2 ^ 128 → StopsIn first next (total ++ bytes ++ more) written
 stops_past first now next old total bytes more count written e few front n w short =
     let whole : total ≡ w.out = w.whole ∙ ap (λ v. w.out ++ v) e ∙ append-nil w.out in
-    let same : length w.out + count ≡ written = exact old.taken written count w.out bytes more w.counted n few (rw whole at short) in
+    let same : length w.out + count ≡ written = exact_count old.taken written count w.out bytes more w.counted n few (rw whole at short) in
     rw (whole, sym same)
     (stops_in_front first next (w.out ++ bytes) more (length w.out + count) (stops_after first now next w.out bytes count w.taken few front))

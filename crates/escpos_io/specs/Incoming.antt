@@ -1,6 +1,24 @@
 -- What an `Incoming` shows.
+use Rattle.std.specs.Prelude.{ℕ, Bool, List, Option}
 use Rattle.escpos_io.specs.declared.incoming.Incoming.{Incoming}
+use Rattle.escpos_io.specs.Source.{has_failed_of, has_ended_of, bytes_to_come}
 
 -- the reader inside
 abbrev pub reader_of : {R : Type 0} → Incoming R → R
 reader_of source = source.reader
+
+-- what it gives from here on, where `remaining` says what its reader does
+abbrev pub to_come_of : {R : Type 0} → (R → Option (List ℕ)) → Incoming R → Option (List ℕ)
+to_come_of remaining source = bytes_to_come source.progress (remaining source.reader)
+
+-- a call of `pull` has failed
+abbrev pub has_failed : {R : Type 0} → Incoming R → Bool
+has_failed source = has_failed_of source.progress
+
+-- a call of `pull` has found the end
+abbrev pub has_ended : {R : Type 0} → Incoming R → Bool
+has_ended source = has_ended_of source.progress
+
+-- how often `pull` was called
+abbrev pub pull_count_of : {R : Type 0} → Incoming R → ℕ
+pull_count_of source = source.pulls

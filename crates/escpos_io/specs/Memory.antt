@@ -1,8 +1,8 @@
 -- What a `MemoryIn` and a `MemoryOut` show.
-use Rattle.std.specs.Prelude.{ℕ, ◌-◌, List, take, drop, length, max, Option, Some}
+use Rattle.std.specs.Prelude.{ℕ, Bool, ◌-◌, List, take, drop, length, max, Option, Some}
 use Rattle.escpos_io.specs.declared.memory_in.MemoryIn.{MemoryIn}
 use Rattle.escpos_io.specs.declared.memory_out.MemoryOut.{MemoryOut}
-use Rattle.escpos_io.specs.Source.{bytes_to_come}
+use Rattle.escpos_io.specs.Source.{has_failed_of, has_ended_of, bytes_to_come}
 
 -- the bytes of the slice that no pull gave
 abbrev pub bytes_left : MemoryIn → List ℕ
@@ -11,6 +11,18 @@ bytes_left source = source.left.now
 -- what a `MemoryIn` gives from here on
 abbrev pub to_come_of : MemoryIn → Option (List ℕ)
 to_come_of source = bytes_to_come source.progress (Some source.left.now)
+
+-- a call of `pull` has failed
+abbrev pub has_failed : MemoryIn → Bool
+has_failed source = has_failed_of source.progress
+
+-- a call of `pull` has found the end
+abbrev pub has_ended : MemoryIn → Bool
+has_ended source = has_ended_of source.progress
+
+-- how often `pull` was called
+abbrev pub pull_count_of : MemoryIn → ℕ
+pull_count_of source = source.pulls
 
 -- how many bytes one pull gives at most
 abbrev pub most_per_pull : MemoryIn → ℕ
@@ -24,7 +36,7 @@ pull_failing_from source = source.from_call
 abbrev pub written_bytes : MemoryOut → List ℕ
 written_bytes sink = take sink.len sink.room.now
 
--- what the slice has behind the bytes put so far
+-- what the slice has after the bytes put so far
 abbrev pub unwritten_bytes : MemoryOut → List ℕ
 unwritten_bytes sink = drop sink.len sink.room.now
 

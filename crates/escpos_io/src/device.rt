@@ -13,7 +13,7 @@ pub struct Failed;
 
 /// A source of bytes, such as one end of a link, standard input or a slice.
 pub trait ByteIn {
-    // The bytes still to come, where the source tells them; `None` claims nothing.
+    // The bytes still to come, where they are known; `None` claims nothing.
     ghost to_come: { Self → Option (List ℕ) };
 
     // A call has failed.
@@ -56,7 +56,7 @@ pub trait ByteIn {
 
 /// A sink of bytes, such as the other end of a link, standard output or a slice.
 pub trait ByteOut {
-    // The bytes put so far, where the sink tells them; `None` claims nothing.
+    // The bytes put so far, where they are known; `None` claims nothing.
     ghost written: { Self → Option (List ℕ) };
 
     // A call has failed.

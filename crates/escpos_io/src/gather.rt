@@ -19,6 +19,8 @@ const _: () = prove!(GATHERED_BYTES == 16384);
 
 /// Bytes on their way to one sink, seen as those that are kept back and the number of those that the sink
 /// has taken; at the greatest u128 that number stays.
+///
+/// After an `Err` the sink takes no more, and what a later call says was written means nothing.
 #[derive(Drop)]
 pub struct Gather {
     piece: ArrayVec<u8, GATHERED_BYTES>,
@@ -103,6 +105,8 @@ impl Gather {
     pub fn put<W: ByteOut>(&mut self, bytes: &[u8], writer: &mut W) -> Result<(), Device>
         ensures ok { OnOk result ((first : Option (List ℕ)) (total : List ℕ) →
             Carries first (W.written writer.old) self.old total → Carries first (W.written writer.new) self.new (total ++ bytes.now)) }
+        ensures kept_back { length self.old.kept + length bytes.now ≤ GATHERED_BYTES
+            → (result ≡ Ok tt) × (self.new.kept ≡ self.old.kept ++ bytes.now) × (writer.new ≡ writer.old) }
         ensures err { IfErr result (λ device. (first : Option (List ℕ)) (total more : List ℕ) →
             Carries first (W.written writer.old) self.old total → length (total ++ bytes.now ++ more) < 2 ^ 128 →
             StopsIn first (W.written writer.new) (total ++ bytes.now ++ more) device.written) }
@@ -129,6 +133,7 @@ impl Gather {
         ensures carries { OnOk result ((first : Option (List ℕ)) (total : List ℕ) →
             Carries first (W.written writer.old) self.old total → Carries first (W.written writer.new) self.new total) }
         ensures empty { OnOk result (self.new.kept ≡ []) }
+        ensures untouched { self.old.kept ≡ [] → (result ≡ Ok tt) × (self.new ≡ self.old) × (writer.new ≡ writer.old) }
         ensures err { IfErr result (λ device. (first : Option (List ℕ)) (total more : List ℕ) →
             Carries first (W.written writer.old) self.old total → length (total ++ more) < 2 ^ 128 →
             StopsIn first (W.written writer.new) (total ++ more) device.written) }

@@ -2,8 +2,8 @@
 
 ghost use Rattle.std.specs.Prelude.{◌≡◌, ℕ, ◌+◌, ◌-◌, ◌^◌, ◌<◌, ◌≤◌, ◌⊎◌, ◌↔◌, min, length, take, false, Some, IsTrue, IsErr, IfOk, MatchResult};
 ghost use Rattle.std.specs.Io.KnownBytes.{Keeps, Consumes, IsAtEnd};
-ghost use Rattle.escpos_io.specs.Source.{has_failed_of, has_ended_of, bytes_to_come};
-ghost use Rattle.escpos_io.specs.Incoming.{reader_of};
+ghost use Rattle.escpos_io.specs.Source.{bytes_to_come};
+ghost use Rattle.escpos_io.specs.Incoming.{reader_of, to_come_of, has_failed, has_ended, pull_count_of};
 
 use crate::source::Progress;
 use crate::{ByteIn, Failed};
@@ -76,15 +76,30 @@ impl<R: Read> Incoming<R> {
 }
 
 impl<R: Read> ByteIn for Incoming<R> {
-    ghost to_come = { λ source. bytes_to_come source.progress (R.remaining source.reader) };
+    ghost to_come = { to_come_of R.remaining };
 
-    ghost failed = { λ source. has_failed_of source.progress };
+    ghost failed = { has_failed };
 
-    ghost ended = { λ source. has_ended_of source.progress };
+    ghost ended = { has_ended };
 
-    ghost pull_count = { λ source. source.pulls };
+    ghost pull_count = { pull_count_of };
 
-    fn pull(&mut self, piece: &mut [u8]) -> Result<usize, Failed> {
+    fn pull(&mut self, piece: &mut [u8]) -> Result<usize, Failed>
+        ensures within { IfOk result (λ n. n ≤ length piece.old) }
+        ensures bytes { MatchResult result
+            (λ n. Consumes (to_come_of R.remaining self.old) (to_come_of R.remaining self.new) (take n piece.new))
+            (λ _. Keeps (to_come_of R.remaining self.old) (to_come_of R.remaining self.new)) }
+        ensures failed { IsTrue (has_failed self.new) ↔ IsErr result }
+        ensures stays_failed { IsTrue (has_failed self.old) → IsErr result }
+        ensures ended { IsTrue (has_ended self.new) ↔ (IsTrue (has_ended self.old) ⊎ ((result ≡ Ok 0) × (0 < length piece.old))) }
+        ensures stays_ended { IsTrue (has_ended self.old) → result ≡ Ok 0 }
+        ensures at_end { IsTrue (has_ended self.new) → IsAtEnd (to_come_of R.remaining self.new) }
+        ensures counted { pull_count_of self.new ≡ min (pull_count_of self.old + 1) (2 ^ 64 - 1) }
+        ensures not_read_after_failure { IsTrue (has_failed self.old)
+            → (reader_of self.new ≡ reader_of self.old) × (piece.new ≡ piece.old) }
+        ensures not_read_after_end { IsTrue (has_ended self.old)
+            → (reader_of self.new ≡ reader_of self.old) × (piece.new ≡ piece.old) }
+    {
         self.pulls = self.pulls.saturating_add(1);
         match self.progress {
             Progress::Open => self.pull_open(piece),

@@ -15,7 +15,7 @@ pub fn appended_in_place()
 
 /// A sink that stopped within some bytes stopped within these with any others after them.
 #[inline]
-pub fn stopped_in_the_front()
+pub fn stop_in_the_front()
     ensures { (sink_old sink_new : Option (List ℕ)) (front more : List ℕ) (written : ℕ) →
         StopsIn sink_old sink_new front written → StopsIn sink_old sink_new (front ++ more) written }
 {}

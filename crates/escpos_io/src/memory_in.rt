@@ -1,9 +1,9 @@
 //! `MemoryIn`: a slice as a source of bytes, for tests.
 
-ghost use Rattle.std.specs.Prelude.{◌≡◌, ℕ, ◌+◌, ◌-◌, ◌^◌, ◌<◌, ◌≤◌, ◌⊎◌, ◌↔◌, min, max, length, take, ◌++◌, ◌≢◌, false, None, Some, IsTrue, IsErr, IfOk, MatchResult};
+ghost use Rattle.std.specs.Prelude.{◌≡◌, ℕ, ◌+◌, ◌-◌, ◌^◌, ◌<◌, ◌≤◌, ◌⊎◌, ◌↔◌, min, max, length, take, drop, ◌++◌, ◌≢◌, false, None, Some, IsTrue, IsErr, IfOk, MatchResult};
 ghost use Rattle.std.specs.Io.KnownBytes.{Keeps, Consumes, IsAtEnd};
-ghost use Rattle.escpos_io.specs.Source.{has_failed_of, has_ended_of, IsDue};
-ghost use Rattle.escpos_io.specs.Memory.{to_come_of, bytes_left, most_per_pull, pull_failing_from};
+ghost use Rattle.escpos_io.specs.Source.{IsDue};
+ghost use Rattle.escpos_io.specs.Memory.{to_come_of, has_failed, has_ended, pull_count_of, bytes_left, most_per_pull, pull_failing_from};
 
 use crate::source::{Progress, is_due};
 use crate::{ByteIn, Failed};
@@ -60,6 +60,7 @@ impl<'a> MemoryIn<'a> {
         ensures amount { result
             ≡ min (min (length (bytes_left self.old)) (length piece.old)) (most_per_pull self.old) }
         ensures bytes { bytes_left self.old ≡ take result piece.new ++ bytes_left self.new }
+        ensures rest { drop result piece.new ≡ drop result piece.old }
         ensures not_failed { self.new.progress ≢ Progress.Failed }
         ensures ended { (self.new.progress ≡ Progress.Ended)
             ↔ ((result ≡ 0) × (0 < length piece.old)) }
@@ -80,30 +81,31 @@ impl<'a> MemoryIn<'a> {
 impl ByteIn for MemoryIn<'_> {
     ghost to_come = { to_come_of };
 
-    ghost failed = { λ source. has_failed_of source.progress };
+    ghost failed = { has_failed };
 
-    ghost ended = { λ source. has_ended_of source.progress };
+    ghost ended = { has_ended };
 
-    ghost pull_count = { λ source. source.pulls };
+    ghost pull_count = { pull_count_of };
 
     fn pull(&mut self, piece: &mut [u8]) -> Result<usize, Failed>
         ensures within { IfOk result (λ n. n ≤ length piece.old) }
         ensures bytes { MatchResult result
             (λ n. Consumes (to_come_of self.old) (to_come_of self.new) (take n piece.new))
             (λ _. Keeps (to_come_of self.old) (to_come_of self.new)) }
-        ensures failed { IsTrue (has_failed_of self.new.progress) ↔ IsErr result }
-        ensures stays_failed { IsTrue (has_failed_of self.old.progress) → IsErr result }
-        ensures ended { IsTrue (has_ended_of self.new.progress)
-            ↔ (IsTrue (has_ended_of self.old.progress) ⊎ ((result ≡ Ok 0) × (0 < length piece.old))) }
-        ensures stays_ended { IsTrue (has_ended_of self.old.progress) → result ≡ Ok 0 }
-        ensures at_end { IsTrue (has_ended_of self.new.progress) → IsAtEnd (to_come_of self.new) }
-        ensures counted { self.new.pulls ≡ min (self.old.pulls + 1) (2 ^ 64 - 1) }
-        ensures fails { IsErr result → IsTrue (has_failed_of self.old.progress)
-            ⊎ IsDue (pull_failing_from self.old) self.new.pulls }
-        ensures due { IsDue (pull_failing_from self.old) self.new.pulls
-            → IsErr result ⊎ IsTrue (has_ended_of self.old.progress) }
-        ensures amount { ¬ IsTrue (has_ended_of self.old.progress) → IfOk result (λ n.
+        ensures failed { IsTrue (has_failed self.new) ↔ IsErr result }
+        ensures stays_failed { IsTrue (has_failed self.old) → IsErr result }
+        ensures ended { IsTrue (has_ended self.new)
+            ↔ (IsTrue (has_ended self.old) ⊎ ((result ≡ Ok 0) × (0 < length piece.old))) }
+        ensures stays_ended { IsTrue (has_ended self.old) → result ≡ Ok 0 }
+        ensures at_end { IsTrue (has_ended self.new) → IsAtEnd (to_come_of self.new) }
+        ensures counted { pull_count_of self.new ≡ min (pull_count_of self.old + 1) (2 ^ 64 - 1) }
+        ensures fails { IsErr result → IsTrue (has_failed self.old)
+            ⊎ IsDue (pull_failing_from self.old) (pull_count_of self.new) }
+        ensures due { IsDue (pull_failing_from self.old) (pull_count_of self.new)
+            → IsErr result ⊎ IsTrue (has_ended self.old) }
+        ensures amount { ¬ IsTrue (has_ended self.old) → IfOk result (λ n.
             n ≡ min (min (length (bytes_left self.old)) (length piece.old)) (most_per_pull self.old)) }
+        ensures rest { MatchResult result (λ n. drop n piece.new ≡ drop n piece.old) (λ _. piece.new ≡ piece.old) }
         ensures same_most { most_per_pull self.new ≡ most_per_pull self.old }
         ensures same_failing { pull_failing_from self.new ≡ pull_failing_from self.old }
     {

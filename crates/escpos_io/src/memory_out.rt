@@ -32,14 +32,7 @@ impl<'a> MemoryOut<'a> {
         ensures same_reference { result.room.ghost_name ≡ room.entry.ghost_name }
         ensures same_room { result.room.now ≡ room.old }
     {
-        MemoryOut {
-            room,
-            len: 0,
-            most: usize::MAX,
-            from_call: None,
-            puts: 0,
-            failed: false,
-        }
+        MemoryOut::taking(room, usize::MAX)
     }
 
     /// The same, where each call of `put` from `from_call` on fails; the first call is number 1.
@@ -53,14 +46,9 @@ impl<'a> MemoryOut<'a> {
         ensures same_reference { result.room.ghost_name ≡ room.entry.ghost_name }
         ensures same_room { result.room.now ≡ room.old }
     {
-        MemoryOut {
-            room,
-            len: 0,
-            most: usize::MAX,
-            from_call: Some(from_call),
-            puts: 0,
-            failed: false,
-        }
+        let mut sink = MemoryOut::new(room);
+        sink.from_call = Some(from_call);
+        sink
     }
 
     /// A sink that takes at most `most` bytes of a piece, with room for as many bytes as `room` has; a
@@ -92,7 +80,7 @@ impl<'a> MemoryOut<'a> {
         &self.room[..self.len]
     }
 
-    // Puts the front of `piece` behind what was put, as much as one call takes, and says how much.
+    // Puts the front of `piece` after what was put, as much as one call takes, and says how much.
     fn put_front(&mut self, piece: &[u8]) -> usize
         ensures amount { result
             ≡ min (min (length piece.now) (room_left self.old)) (most_per_put self.old) }

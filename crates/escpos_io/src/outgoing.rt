@@ -1,7 +1,8 @@
 //! `Outgoing`: a standard writer as a sink of bytes.
 
-ghost use Rattle.std.specs.Prelude.{◌≡◌, false};
-ghost use Rattle.escpos_io.specs.Outgoing.{writer_of};
+ghost use Rattle.std.specs.Prelude.{◌≡◌, ◌<◌, ◌≤◌, ◌↔◌, false, length, take, IsTrue, IsErr, IfOk, MatchResult};
+ghost use Rattle.std.specs.Io.KnownBytes.{Keeps, Appends};
+ghost use Rattle.escpos_io.specs.Outgoing.{writer_of, has_failed};
 
 use crate::{ByteOut, Failed};
 use std::io::Write;
@@ -39,11 +40,20 @@ impl<W: Write> Outgoing<W> {
 }
 
 impl<W: Write> ByteOut for Outgoing<W> {
-    ghost written = { λ sink. W.contents sink.writer };
+    ghost written = { λ sink. W.contents (writer_of sink) };
 
-    ghost failed = { λ sink. sink.failed };
+    ghost failed = { has_failed };
 
-    fn put(&mut self, piece: &[u8]) -> Result<usize, Failed> {
+    fn put(&mut self, piece: &[u8]) -> Result<usize, Failed>
+        ensures within { IfOk result (λ n. n ≤ length piece.now) }
+        ensures progress { 0 < length piece.now → IfOk result (λ n. 0 < n) }
+        ensures bytes { MatchResult result
+            (λ n. Appends (W.contents (writer_of self.old)) (W.contents (writer_of self.new)) (take n piece.now))
+            (λ _. Keeps (W.contents (writer_of self.old)) (W.contents (writer_of self.new))) }
+        ensures failed { IsTrue (has_failed self.new) ↔ IsErr result }
+        ensures stays_failed { IsTrue (has_failed self.old) → IsErr result }
+        ensures not_written_after_failure { IsTrue (has_failed self.old) → writer_of self.new ≡ writer_of self.old }
+    {
         if self.failed {
             return Err(Failed);
         }

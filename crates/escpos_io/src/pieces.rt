@@ -2,7 +2,7 @@
 //!
 //! Which values these are, commands or lines of text, is left to the crates that implement `Piece`.
 
-ghost use Rattle.std.specs.Prelude.{◌≡◌, ◌+◌, ◌≤◌, ℕ, List, ◌++◌, length, OnOk, IfErr, IsTrue};
+ghost use Rattle.std.specs.Prelude.{◌≡◌, ◌+◌, ◌≤◌, ℕ, List, ◌++◌, length, Ok, OnOk, IfErr, IsTrue};
 ghost use Rattle.std.specs.List.{flat_map};
 ghost use Rattle.std.specs.Io.KnownBytes.{Appends};
 ghost use Rattle.escpos_io.specs.Gather.{StopsIn};
@@ -29,12 +29,13 @@ pub trait Piece {
 
 /// Puts the bytes of `pieces`, one after another, into `writer`. Takes no memory.
 ///
-/// On `Ok` the writer has not failed, unless it had before. On `Err` it has failed, and exactly the first
+/// On `Ok` the writer has not failed, unless it had before; where there are no pieces it is not called. On `Err` it has failed, and exactly the first
 /// `written` of these bytes are out, fewer than there are.
 pub fn put_pieces<P: Piece, W: ByteOut>(pieces: &[P], writer: &mut W) -> Result<(), Device>
     ensures ok { OnOk result (Appends (W.written writer.old) (W.written writer.new) (flat_map P.bytes pieces.now)) }
     ensures err { IfErr result (λ device.
         StopsIn (W.written writer.old) (W.written writer.new) (flat_map P.bytes pieces.now) device.written) }
+    ensures untouched { length pieces.now ≡ 0 → (result ≡ Ok tt) × (writer.new ≡ writer.old) }
     ensures failed { IfErr result (λ _. IsTrue (W.failed writer.new)) }
     ensures not_failed { OnOk result (¬ IsTrue (W.failed writer.old) → ¬ IsTrue (W.failed writer.new)) }
 {

@@ -43,8 +43,9 @@ const PULLED_BYTES: usize = 65536;
 /// Reads `reader` to its end, where that comes after `limit` bytes at most.
 ///
 /// It takes at most `limit` + 1 bytes, in pieces of up to 64 KiB, and calls `pull` at most `limit` + 1
-/// times. After `TooLong` the source stands behind the byte that was too many; after `Memory` some of
-/// its bytes may be lost.
+/// times. A source that has failed before or fails on the way gives `Failed`, and nothing else does. After
+/// `TooLong` the source stands after the byte that was too many; after `Memory` some of its bytes may be
+/// lost.
 pub fn read_to_end<R: ByteIn>(
     alloc: Global,
     reader: &mut R,
@@ -59,12 +60,16 @@ pub fn read_to_end<R: ByteIn>(
     ensures too_long { IsErrOf result ReadError.TooLong
         → IfSome (R.to_come reader.old) (λ bytes. limit < length bytes) }
     ensures failed { IsErrOf result ReadError.Failed → IsTrue (R.failed reader.new) }
+    ensures only_failed { IsTrue (R.failed reader.new) → IsErrOf result ReadError.Failed }
     ensures not_failed { OnOk result (¬ IsTrue (R.failed reader.new)) }
     ensures stays_failed { IsTrue (R.failed reader.old) → IsErr result }
     ensures at_most { (taken : List ℕ) × (length taken ≤ limit + 1)
         × Consumes (R.to_come reader.old) (R.to_come reader.new) taken }
     ensures pulls { R.pull_count reader.new ≤ R.pull_count reader.old + limit + 1 }
 {
+    if reader.has_failed() {
+        return Err(ReadError::Failed);
+    }
     let mut piece = vec![in alloc; 0u8; PULLED_BYTES.min(limit.saturating_add(1))]?;
     let mut all = Vec::new(alloc);
     'pieces: loop {
@@ -88,6 +93,7 @@ fn pull_piece<R: ByteIn>(reader: &mut R, piece: &mut [u8], room: usize) -> Resul
         × (room < length piece.new) }
     ensures at_end { IfOk result (λ n. n ≡ 0 → IsAtEnd (R.to_come reader.new)) }
     ensures failed { IsErrOf result ReadError.Failed → IsTrue (R.failed reader.new) }
+    ensures only_failed { IsTrue (R.failed reader.new) → IsErrOf result ReadError.Failed }
     ensures not_failed { OnOk result (¬ IsTrue (R.failed reader.new)) }
     ensures stays_failed { IsTrue (R.failed reader.old) → IsErr result }
     ensures at_most { (taken : List ℕ) × (length taken ≤ room + 1)

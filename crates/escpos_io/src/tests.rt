@@ -27,6 +27,23 @@ impl Read for InterruptedOnce {
     }
 }
 
+// A reader whose first read finds the end; later ones give one byte each.
+#[derive(Drop)]
+struct EndingOnce {
+    reads: u32,
+}
+
+impl Read for EndingOnce {
+    fn read(&mut self, buf: &mut [u8]) -> io::Result<usize> {
+        self.reads = self.reads.saturating_add(1);
+        if self.reads == 1 || buf.is_empty() {
+            return Ok(0);
+        }
+        buf[0] = 7;
+        Ok(1)
+    }
+}
+
 // A writer that takes nothing at its first write, and later everything.
 #[derive(Drop)]
 struct StuckOnce {
@@ -51,6 +68,7 @@ impl Write for StuckOnce {
 #[derive(Drop)]
 struct FailingOnce {
     writes: u32,
+    flushes: u32,
 }
 
 impl Write for FailingOnce {
@@ -63,6 +81,7 @@ impl Write for FailingOnce {
     }
 
     fn flush(&mut self) -> io::Result<()> {
+        self.flushes = self.flushes.saturating_add(1);
         Ok(())
     }
 }
@@ -167,6 +186,32 @@ fn incoming_stays_failed(rt: HostRuntime) {
 }
 
 #[test]
+fn incoming_stays_at_its_end(rt: HostRuntime) {
+    let mut source = Incoming::new(EndingOnce { reads: 0 });
+    let mut piece = [9u8; 2];
+    assert_eq!(rt; source.pull(&mut piece), Ok(0));
+    assert!(rt; source.has_ended());
+    assert_eq!(rt; source.pull(&mut piece), Ok(0));
+    assert_eq!(rt; piece, [9, 9]);
+    assert!(rt; source.has_ended());
+    assert!(rt; !source.has_failed());
+    assert_eq!(rt; source.pulls(), 2);
+    assert_eq!(rt; source.into_inner().reads, 1);
+}
+
+// A read into no room gives 0, and that is no end.
+#[test]
+fn incoming_does_not_end_at_an_empty_piece(rt: HostRuntime) {
+    let text: &[u8] = b"a";
+    let mut source = Incoming::new(text);
+    assert_eq!(rt; source.pull(&mut []), Ok(0));
+    assert!(rt; !source.has_ended());
+    let mut piece = [0u8; 2];
+    assert_eq!(rt; source.pull(&mut piece), Ok(1));
+    assert_eq!(rt; piece[0], b'a');
+}
+
+#[test]
 fn outgoing_puts_into_its_writer(rt: HostRuntime) {
     let mut sink = Outgoing::new(Vec::new(rt.alloc()));
     assert_eq!(rt; sink.put(b"ab"), Ok(2));
@@ -183,10 +228,26 @@ fn outgoing_stays_failed(rt: HostRuntime) {
     assert_eq!(rt; stuck.put(b"ab"), Err(Failed));
     assert!(rt; stuck.has_failed());
     assert_eq!(rt; stuck.into_inner().writes, 1);
-    let mut failing = Outgoing::new(FailingOnce { writes: 0 });
+    let mut failing = Outgoing::new(FailingOnce {
+        writes: 0,
+        flushes: 0,
+    });
     assert_eq!(rt; failing.put(b"ab"), Err(Failed));
     assert_eq!(rt; failing.put(b"ab"), Err(Failed));
     assert_eq!(rt; failing.into_inner().writes, 1);
+}
+
+// When bytes are flushed is left to the writer and its owner.
+#[test]
+fn outgoing_flushes_nothing(rt: HostRuntime) {
+    let mut sink = Outgoing::new(FailingOnce {
+        writes: 1,
+        flushes: 0,
+    });
+    assert_eq!(rt; sink.put(b"ab"), Ok(2));
+    let writer = sink.into_inner();
+    assert_eq!(rt; writer.writes, 2);
+    assert_eq!(rt; writer.flushes, 0);
 }
 
 #[test]
@@ -227,6 +288,55 @@ fn read_to_end_up_to_a_limit(rt: HostRuntime) -> Result<(), Fail> {
         )
     );
     Ok(())
+}
+
+#[test]
+fn read_to_end_of_a_large_input(rt: HostRuntime) -> Result<(), Fail> {
+    let len = 5 << 20;
+    let bytes = vec![in rt.alloc(); 7u8; len]?;
+    let mut source = MemoryIn::new(&bytes, 1 << 20);
+    let all = read_to_end(rt.alloc(), &mut source, len).map_err(name_of)?;
+    assert!(rt; all == bytes);
+    assert_eq!(rt; source.pulls(), 81);
+    Ok(())
+}
+
+#[test]
+fn read_to_end_up_to_no_byte(rt: HostRuntime) -> Result<(), Fail> {
+    let mut source = MemoryIn::new(b"", 1);
+    let all = read_to_end(rt.alloc(), &mut source, 0).map_err(name_of)?;
+    assert!(rt; all.is_empty());
+    let mut source = MemoryIn::new(b"a", 1);
+    assert!(rt;
+        matches!(
+            read_to_end(rt.alloc(), &mut source, 0),
+            Err(ReadError::TooLong)
+        )
+    );
+    Ok(())
+}
+
+// A source that has failed before is not called; one that fails after the limit is reached has failed, and is
+// not too long.
+#[test]
+fn read_to_end_of_a_failed_source(rt: HostRuntime) {
+    let mut source = MemoryIn::failing(b"hello", 2, 1);
+    assert_eq!(rt; source.pull(&mut [0]), Err(Failed));
+    assert!(rt;
+        matches!(
+            read_to_end(rt.alloc(), &mut source, 5),
+            Err(ReadError::Failed)
+        )
+    );
+    assert_eq!(rt; source.pulls(), 1);
+    let mut source = MemoryIn::failing(b"hello", 5, 2);
+    assert!(rt;
+        matches!(
+            read_to_end(rt.alloc(), &mut source, 5),
+            Err(ReadError::Failed)
+        )
+    );
+    assert_eq!(rt; source.pulls(), 2);
 }
 
 fn name_of(error: ReadError) -> &'static str {
@@ -325,4 +435,43 @@ fn many_pieces_go_out_in_large_ones(rt: HostRuntime) {
         Err(Device { written: 14338 })
     );
     assert_eq!(rt; sink.written().len(), 14338);
+}
+
+// As many bytes as a piece has at most.
+#[derive(Clone, Copy)]
+struct Block([u8; PIECE_BYTES]);
+
+impl Piece for Block {
+    ghost bytes = { λ block. block.0 };
+
+    fn append(&self, gather: &mut Gather) {
+        gather.extend(&self.0);
+    }
+}
+
+#[test]
+fn pieces_of_the_greatest_length(rt: HostRuntime) {
+    let pieces = [Block([7; PIECE_BYTES]); 20];
+    let mut sink = Outgoing::new(Vec::new(rt.alloc()));
+    assert_eq!(rt; put_pieces(&pieces, &mut sink), Ok(()));
+    assert_eq!(rt;
+        sink.into_inner().as_slice(),
+        [7; 20 * PIECE_BYTES].as_slice()
+    );
+}
+
+// Room is made by putting what is kept back, and only where there is none.
+#[test]
+fn room_puts_what_is_kept_back(rt: HostRuntime) -> Result<(), Fail> {
+    let mut room = [0u8; 3];
+    let mut sink = MemoryOut::new(&mut room);
+    let mut gather = Gather::new();
+    gather.put(b"abc", &mut sink)?;
+    gather.room(GATHERED_BYTES - 3, &mut sink)?;
+    assert_eq!(rt; sink.written().len(), 0);
+    gather.room(GATHERED_BYTES - 2, &mut sink)?;
+    assert_eq!(rt; sink.written(), b"abc".as_slice());
+    gather.push(b'd');
+    assert_eq!(rt; gather.flush(&mut sink), Err(Device { written: 3 }));
+    Ok(())
 }

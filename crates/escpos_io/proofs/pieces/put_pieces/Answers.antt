@@ -1,4 +1,4 @@
-use Rattle.std.proofs.Common.{◌<◌, ◌≤◌, ◌^◌, ◌++◌, [], length, take, drop, arith, ◌∙◌, ap, subst, append-nil, length-append}
+use Rattle.std.proofs.Common.{◌≡◌, ◌<◌, ◌≤◌, ◌^◌, ◌++◌, [], length, take, drop, arith, ◌∙◌, ap, subst, append-nil, length-append}
 use Rattle.std.proofs.lemmas.Result.{err_from_is_err_and, IfErr-weaker, on_ok_weaker}
 use Rattle.std.specs.List.{flat_map}
 use Rattle.std.specs.Io.KnownBytes.{Appends}
@@ -21,6 +21,7 @@ loop-piece-preserved g c =
           (carries_appended _ _ c.room.new.self c.append.new.gather _ _ (c.in_ok-room.ensures.ok _ _ c.loop-piece.invariant.carried)
           c.append.ensures.appended c.append.ensures.same_count);
       few = rw (← grown, length-append front (g.P.Piece.bytes piece)) (omega (arith, few, short));
+      untouched = λ none. absurd (omega arith);
       not_failed = λ well. c.in_ok-room.ensures.not_failed (c.loop-piece.invariant.not_failed well);
     }
 
@@ -50,6 +51,12 @@ returns-clause-err g c =
     IfErr-weaker c.flush.result _ _ (λ device stops. subst (λ v. StopsIn (g.W.ByteOut.written c.args.writer.now) (g.W.ByteOut.written c.flush.new.writer) v device.written)
     (append-nil _ ∙ all_pieces g.P.Piece.bytes c.args.pieces.now c.loop-piece.piece-index all)
     (stops _ _ [] c.loop-piece.invariant.carried (rw append-nil short))) c.flush.ensures.err
+
+pub returns-clause-untouched : goal.returns-clause-untouched
+returns-clause-untouched g c = λ none.
+    let first : c.loop-piece.piece-index ≡ 0 = omega arith in
+    let before = c.loop-piece.invariant.untouched first in
+    let flushed = c.flush.ensures.untouched before.0 in (flushed.0, flushed.2 ∙ before.1)
 
 pub returns-clause-not_failed : goal.returns-clause-not_failed
 returns-clause-not_failed g c =
