@@ -1,4 +1,4 @@
--- Of all ways to cut the cells of a line, the one at its width is the one that filling finds.
+-- Of all ways to cut the cells of a line into rows, the one at its width is the one that filling finds.
 use Rattle.std.proofs.Common.{◌≡◌, ◌≢◌, List, [], ◌∷◌, ◌++◌, refl, sym, ◌∙◌, ap, subst, append_assoc, Bool, true, false, cond, filter}
 use Rattle.std.specs.Prelude.{flat_map}
 use Rattle.std.specs.List.{AllByRecursion}

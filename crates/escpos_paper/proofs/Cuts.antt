@@ -11,7 +11,7 @@ use Rattle.escpos_paper.proofs.Filled.{filled_from, filled}
 use Rattle.escpos_paper.specs.Printed.{row_and_feed}
 use Rattle.escpos_paper.specs.Steps.{with_cell}
 
--- The last of rows that aren't none.
+-- Of rows that hold at least one, the last doesn't depend on the value that stands in for it.
 pub last_any : (a b row : List Cell) (xs : List Cell) → last_or a (filled_from row xs) ≡ last_or b (filled_from row xs)
 last_any a b row [] = refl
 last_any a b row (x ∷ xs) =
@@ -20,7 +20,7 @@ last_any a b row (x ∷ xs) =
       | false ↦ refl
     ]
 
--- One more cell goes to the last row, or begins a row where it doesn't fit.
+-- One more cell goes into the last row, or begins a new row where it doesn't fit.
 last_from : (row xs : List Cell) (x : Cell) → last_or [] (filled_from row (xs ++ x ∷ [])) ≡ with_cell (last_or [] (filled_from row xs)) x
 last_from row [] x =
     elim (fits (row ++ x ∷ [])) as (λ v. last_or [] (cond v ((row ++ x ∷ []) ∷ []) (row ∷ (x ∷ []) ∷ [])) ≡ cond v (row ++ x ∷ []) (x ∷ [])) [
@@ -42,7 +42,7 @@ suc_cond : (b : Bool) (n : ℕ) → suc (cond b n (suc n)) ≡ cond b (suc n) (s
 suc_cond true n = refl
 suc_cond false n = refl
 
--- There is a row more exactly where it doesn't fit.
+-- There is one more row exactly where the cell doesn't fit.
 count_from : (row xs : List Cell) (x : Cell)
     → length (filled_from row (xs ++ x ∷ [])) ≡ cond (fits (last_or [] (filled_from row xs) ++ x ∷ [])) (length (filled_from row xs)) (suc (length (filled_from row xs)))
 count_from row [] x =
@@ -76,7 +76,7 @@ nothing_twice : (b : Bool) → [] ≡ cond {A = List Item} b [] []
 nothing_twice true = refl
 nothing_twice false = refl
 
--- So what a character prints is setting by whether it fits.
+-- So whether a character prints the row before it depends on whether it fits.
 pub begins_row : (align : Alignment) (xs : List Cell) (x : Cell)
     → cond (nat_lt (length (filled xs)) (length (filled (xs ++ x ∷ [])))) (row_and_feed align (last_or [] (filled xs))) []
     ≡ cond (fits (last_or [] (filled xs) ++ x ∷ [])) [] (row_and_feed align (last_or [] (filled xs)))
@@ -85,7 +85,7 @@ begins_row align (y ∷ xs) x =
     ap (λ n. cond (nat_lt (length (filled (y ∷ xs))) n) (row_and_feed align (last_or [] (filled (y ∷ xs)))) []) (count_from (y ∷ []) xs x)
     ∙ prints_or_not (fits (last_or [] (filled (y ∷ xs)) ++ x ∷ [])) (length (filled (y ∷ xs))) (row_and_feed align (last_or [] (filled (y ∷ xs))))
 
--- The last row is empty where there is no cell.
+-- The last row is empty exactly where there is no cell.
 not_empty : (row : List Cell) (x : Cell) → is_empty (row ++ x ∷ []) ≡ false
 not_empty [] x = refl
 not_empty (y ∷ row) x = refl

@@ -28,7 +28,7 @@ left_twice : (b : Bool) → cond b Left Left ≡ Left
 left_twice true = refl
 left_twice false = refl
 
--- After an Init there is what was printed before it, and nothing else is left.
+-- After an Init all that is left is what was printed before it.
 sheet_of_init : (cs : List Command) → sheet_of [] (cs ++ Init ∷ []) ≡ sheet_of (printed cs) []
 sheet_of_init cs = sheet-snoc [] cs Init ∙ cc (left_twice (is_empty (line cs)))
 

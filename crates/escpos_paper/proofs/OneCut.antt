@@ -19,7 +19,7 @@ use Rattle.escpos_paper.specs.Rows.{IsCut, fits, are_full}
 use Rattle.escpos_paper.proofs.Filled.{filled_from, filled}
 use Rattle.escpos_paper.proofs.Widths.{width_in_range}
 
--- ## The tests of a cut as statements
+-- ## The tests of a cut as statements about numbers
 
 abbrev IsRow : List Cell → Type 0
 IsRow row = (row ≢ []) × (dots row ≤ 512)
@@ -29,6 +29,7 @@ AreFull [] = Unit {0}
 AreFull (row ∷ []) = Unit {0}
 AreFull (row ∷ next ∷ rows) = (512 < dots (row ++ take 1 next)) × AreFull (next ∷ rows)
 
+-- What `IsCut` says, as orders of numbers in place of tests.
 record MeansCut (xs : List Cell) (rows : List (List Cell)) : Type 0 where
   pub joined : flat_map (λ row. row) rows ≡ xs
   pub each : AllByRecursion IsRow rows
@@ -100,7 +101,7 @@ is_cut_from xs rows h = record {
 
 -- ## Existence
 
--- A cell that a line has room for.
+-- A cell that fits on an empty line.
 abbrev IsNarrow : Cell → Type 0
 IsNarrow x = cell_dots x ≤ 512
 
@@ -146,7 +147,7 @@ begins_anew row x xs r wide rest = record {
   full = full_cons row x (filled_from (x ∷ []) xs) (begins (x ∷ []) xs) wide rest.full;
 }
 
--- The cut of a line that goes on with x, by whether it fits.
+-- What filling makes of a row and one more cell x, by whether it fits.
 by_fit : (row : List Cell) (x : Cell) (xs : List Cell) (b : Bool) → fits (row ++ x ∷ []) ≡ b
     → (b ≡ true → MeansCut (row ++ x ∷ xs) (filled_from (row ++ x ∷ []) xs)) → (b ≡ false → MeansCut (row ++ x ∷ xs) (row ∷ filled_from (x ∷ []) xs))
     → MeansCut (row ++ x ∷ xs) (cond b (filled_from (row ++ x ∷ []) xs) (row ∷ filled_from (x ∷ []) xs))
@@ -188,13 +189,13 @@ narrow_from before (c ∷ cs) =
     narrow_append (cell_at before c cs) (over_places cell_at (before ++ c ∷ []) cs)
     (narrow_place (style before) (characters c) (list_any ends_text cs) (width_in_range before).most) (narrow_from (before ++ c ∷ []) cs)
 
--- So filling finds a cut of the cells of commands.
+-- So filling finds the cut of the cells of commands.
 pub is_cut : (cs : List Command) → IsCut (cells cs) (filled (cells cs))
 is_cut cs = is_cut_from (cells cs) (filled (cells cs)) (filled_means (cells cs) (narrow_from [] cs))
 
 -- ## Uniqueness
 
--- Two lists that begin one list are equal, or one of them goes on.
+-- Where two lists begin the same list, they are equal or one of them is longer.
 pub data Seam (a b c d : List Cell) : Type 0 where
   same : a ≡ c → b ≡ d → Seam a b c d
   shorter : (x : Cell) (more : List Cell) → c ≡ a ++ x ∷ more → b ≡ x ∷ more ++ d → Seam a b c d
@@ -218,7 +219,7 @@ seam (x ∷ a) b [] d e = longer x a refl (sym e)
 seam (x ∷ a) b (y ∷ c) d e =
     seam_cons x y a b c d (first_same x y (a ++ b) (c ++ d) e) (seam a b c d (rest_same x y (a ++ b) (c ++ d) e))
 
--- A row isn't the front of a wider row in another cut.
+-- A row of one cut isn't the front of a wider row in another.
 wider : (row : List Cell) (x : Cell) (more : List Cell) → dots (row ++ x ∷ []) ≤ dots (row ++ x ∷ more)
 wider row x more = omega (arith, sum_by-append cell_dots row (x ∷ []), sum_by-append cell_dots row (x ∷ more), sum_by-cons cell_dots x more, sum_by-cons cell_dots x [])
 

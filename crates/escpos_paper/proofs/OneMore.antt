@@ -86,7 +86,7 @@ style-snoc cs c =
 
 -- ## Places
 
--- One more place, where each place before it gives what g gives without it.
+-- What f gives with one more place, where with it f gives at each place before it what g gives without it.
 pub over-snoc : {X : Type 0} (f g : List Command → Command → List Command → List X) (before cs : List Command) (c : Command)
     → ((b : List Command) (d : Command) (following : List Command) → f b d (following ++ c ∷ []) ≡ g b d following)
     → over_places f before (cs ++ c ∷ []) ≡ over_places g before cs ++ f (before ++ cs) c []
@@ -114,7 +114,7 @@ cells_by cs c false h =
 pub cells-snoc : (cs : List Command) (c : Command) → cells (cs ++ c ∷ []) ≡ cond (ends_text c) [] (cells cs) ++ map (cell (style cs)) (characters c)
 cells-snoc cs c = cells_by cs c (ends_text c) refl
 
--- The cells are those of the text.
+-- The bytes of the cells are the text.
 bytes_in_style : (s : Style) (bs : List ℕ) → map (λ (x : Cell). x.byte) (map (cell s) bs) ≡ bs
 bytes_in_style s [] = refl
 bytes_in_style s (b ∷ bs) = ap (λ t. b ∷ t) (bytes_in_style s bs)

@@ -17,7 +17,7 @@ use Rattle.escpos_paper.proofs.Filled.{filled}
 use Rattle.escpos_paper.proofs.Cuts.{last-snoc, begins_row, empty_last}
 use Rattle.escpos_paper.proofs.AllCuts.{rows_filled}
 
--- The line is what filling leaves.
+-- The line is the last row that filling finds.
 line_filled : (cs : List Command) → line cs ≡ last_or [] (filled (cells cs))
 line_filled cs = ap (last_or []) (rows_filled cs)
 
@@ -26,7 +26,7 @@ empty_line cs = ap is_empty (line_filled cs) ∙ empty_last (cells cs) ∙ sym (
 
 -- ## The line
 
--- The line of some cells.
+-- The line, given its cells with those of the rows before it.
 abbrev line_of : List Cell → List Cell
 line_of xs = last_or [] (last_or [] (filter is_at_width (cuts xs)))
 

@@ -1,4 +1,4 @@
--- What a page is seen as, and which commands it stands for.
+-- How a page is seen, and which commands leave it.
 use Rattle.std.specs.Prelude.{ℕ, ◌≡◌, List, ◌++◌}
 use Rattle.escpos_command.specs.declared.command.Command.{Command}
 use Rattle.escpos_command.specs.Table.{AreCommands}

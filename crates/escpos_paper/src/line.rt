@@ -9,6 +9,7 @@ ghost use Rattle.escpos_paper.specs.Styles.{is_empty};
 
 use crate::cell::{Cell, Cells, LINE_DOTS};
 use std::marker::Model;
+use std::mem;
 
 /// Cells that aren't wider than a line, seen as a list.
 #[derive(Drop)]
@@ -69,6 +70,9 @@ impl Line {
         ensures taken { result ≡ self.old }
         ensures left { self.new ≡ [] }
     {
-        std::mem::replace(self, Line::new()).cells
+        let mut cells = Cells::new();
+        mem::swap(&mut cells, &mut self.cells);
+        self.used = 0;
+        cells
     }
 }

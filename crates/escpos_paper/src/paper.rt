@@ -137,6 +137,7 @@ fn feed(items: &mut Vec<Item>, line: &mut Line, align: Alignment, lines: u8)
 }
 
 // Prints the line as a row, if it has a cell.
+#[inline(never)]
 fn print_line(items: &mut Vec<Item>, line: &mut Line, align: Alignment)
     requires { vec_len items.old + 1 ≤ vec_capacity items.old }
     ensures printed { items.new.items ≡ items.old.items ++ row_of align line.old }
@@ -153,6 +154,7 @@ fn print_line(items: &mut Vec<Item>, line: &mut Line, align: Alignment)
 }
 
 // The same, and where it has a cell feeds one line.
+#[inline(never)]
 fn end_line(items: &mut Vec<Item>, line: &mut Line, align: Alignment)
     requires { vec_len items.old + 2 ≤ vec_capacity items.old }
     ensures printed { items.new.items ≡ items.old.items ++ row_and_feed align line.old }

@@ -2,7 +2,7 @@
 
 ghost use Rattle.std.specs.Prelude.{◌≡◌, ◌↔◌, IsTrue};
 ghost use Rattle.escpos_command.specs.declared.command.Command.TheVariants as kind;
-ghost use Rattle.escpos_paper.specs.Styles.{power_on, same_style, same_face};
+ghost use Rattle.escpos_paper.specs.Styles.{power_on, same_style};
 ghost use Rattle.escpos_paper.specs.Cells.{cell};
 ghost use Rattle.escpos_paper.specs.Steps.{style_after};
 
@@ -47,12 +47,13 @@ impl Style {
     }
 
     /// Whether the two styles are one.
+    #[inline]
     pub fn is_same(&self, other: &Style) -> bool
         ensures value { result ≡ same_style self.now other.now }
         ensures same { IsTrue result ↔ (self.now ≡ other.now) }
     {
         self.table == other.table
-            && is_same_face(self.font, other.font)
+            && self.font == other.font
             && self.width == other.width
             && self.height == other.height
             && self.bold == other.bold
@@ -82,16 +83,5 @@ impl Style {
             height: size.height(),
             ..self
         }
-    }
-}
-
-fn is_same_face(face: FontFace, other: FontFace) -> bool
-    ensures { result ≡ same_face face other }
-{
-    match (face, other) {
-        (FontFace::A, FontFace::A) => true,
-        (FontFace::A, FontFace::B) => false,
-        (FontFace::B, FontFace::A) => false,
-        (FontFace::B, FontFace::B) => true,
     }
 }

@@ -2,7 +2,8 @@
 
 use super::*;
 use escpos_command::{
-    Align, Character, Command, Cut, Emphasis, FeedLines, Font, Mode, Size, Table, Underline,
+    Align, BarHeight, BarWidth, Character, Command, Cut, Emphasis, FeedLines, Font, HriFont,
+    HriPlace, MarkId, Mode, Size, StatusKind, Table, Underline,
 };
 use escpos_io::{Device, MemoryOut};
 use std::alloc::Global;
@@ -274,6 +275,35 @@ fn room_for_one_command(rt: HostRuntime) -> Result<(), Fail> {
     page.apply(Command::Cut(is(Cut::new(49))?))?;
     assert_eq!(rt; page.items().len(), 3);
     expect_text(&rt, &page, b"row left A\nfeed 1\ncut partial\n");
+    Ok(())
+}
+
+// Each kind of command is carried out on a page without room, and these print nothing.
+#[test]
+fn commands_that_print_nothing(rt: HostRuntime) -> Result<(), Fail> {
+    let commands = [
+        ch(b'A')?,
+        Command::Return,
+        Command::Init,
+        Command::Mode(is(Mode::new(0))?),
+        emphasis(1)?,
+        Command::Underline(is(Underline::new(1))?),
+        Command::Font(is(Font::new(1))?),
+        Command::Table(is(Table::new(1))?),
+        align(2)?,
+        Command::Size(is(Size::new(0x11))?),
+        Command::BarHeight(is(BarHeight::new(1))?),
+        Command::BarWidth(is(BarWidth::new(2))?),
+        Command::HriPlace(is(HriPlace::new(1))?),
+        Command::HriFont(is(HriFont::new(1))?),
+        Command::Status(is(StatusKind::new(1))?),
+        Command::Mark(is(MarkId::new(*b"1234"))?),
+    ];
+    for command in &commands {
+        let mut page = Page::new(rt.alloc());
+        page.apply(command.clone()?)?;
+        assert!(rt; page.items().is_empty());
+    }
     Ok(())
 }
 

@@ -87,6 +87,7 @@ fn append_cells(gather: &mut Gather, cells: &Cells)
 }
 
 // A cell after one of the style `before`.
+#[inline]
 fn append_cell(gather: &mut Gather, before: &Style, cell: &Cell)
     requires { length gather.old.kept + 24 ≤ GATHERED_BYTES }
     ensures kept { gather.new.kept ≡ gather.old.kept ++ cell_text before.now cell.now }
@@ -99,6 +100,7 @@ fn append_cell(gather: &mut Gather, before: &Style, cell: &Cell)
     append_byte(gather, cell.byte);
 }
 
+#[inline(never)]
 fn append_style(gather: &mut Gather, style: &Style)
     requires { length gather.old.kept + 21 ≤ GATHERED_BYTES }
     ensures kept { gather.new.kept ≡ gather.old.kept ++ style_text style.now }
@@ -109,6 +111,7 @@ fn append_style(gather: &mut Gather, style: &Style)
     gather.extend(face_name(style.font));
     append_attribute(gather, style.width);
     append_attribute(gather, style.height);
+    gather.push(b',');
     gather.extend(bold_text(style.bold));
     append_attribute(gather, style.underline);
     append_attribute(gather, style.table);
@@ -125,12 +128,11 @@ fn face_name(face: FontFace) -> &'static [u8]
     }
 }
 
-// Emphasis after a comma.
 fn bold_text(bold: bool) -> &'static [u8]
-    ensures text { result.now ≡ codes "," ++ bold_text bold }
-    ensures short { length result.now ≡ 2 }
+    ensures text { result.now ≡ bold_text bold }
+    ensures short { length result.now ≡ 1 }
 {
-    if bold { b",1" } else { b",0" }
+    if bold { b"1" } else { b"0" }
 }
 
 // A number after a comma.
@@ -145,6 +147,7 @@ fn append_attribute(gather: &mut Gather, number: u8)
 }
 
 // A character: itself, or \ and two hexadecimal digits.
+#[inline]
 fn append_byte(gather: &mut Gather, byte: u8)
     requires { length gather.old.kept + 3 ≤ GATHERED_BYTES }
     ensures kept { gather.new.kept ≡ gather.old.kept ++ byte_text byte }

@@ -10,11 +10,11 @@ use escpos_io::{ByteOut, Device, put_pieces};
 
 /// Writes a line for each item. Takes no memory.
 ///
-/// A row is `row ALIGN CELLS`, a feed `feed N`, a cut `cut full` or `cut partial`, and then its
-/// feed, if it has one; numbers are decimal and each line is ended by 0A. In CELLS a byte 20 to 7E other than 5B
-/// and 5C is itself, and any other is `\` and two hexadecimal digits. In front of a cell whose style isn't
-/// that of the cell before it, or for the first cell the power-on style, stands `[F,W,H,B,U,T]`: font,
-/// width, height, emphasis, underline and table.
+/// A row is `row ALIGN CELLS`, a feed `feed N`, a cut `cut full` or `cut partial`, and then its feed, if it
+/// has one. Numbers are decimal, and each line ends with 0A. In CELLS a byte 20 to 7E other than 5B and 5C is
+/// itself, and any other is `\` and two hexadecimal digits. A cell whose style isn't that of the cell before
+/// it, or for the first cell not the power-on style, has `[F,W,H,B,U,T]` before it: font, width, height,
+/// emphasis, underline and table.
 ///
 /// On `Ok` the writer has not failed, unless it had before. On `Err` it has failed, and exactly the first
 /// `written` bytes of that text are out, fewer than there are.

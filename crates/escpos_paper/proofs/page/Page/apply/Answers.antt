@@ -1,4 +1,4 @@
--- What `apply` leaves is the sheet after the command, which stands for the longer list of commands.
+-- What `apply` leaves is the sheet after the command, and so the sheet of the list with one more command.
 use Rattle.std.proofs.Common.{◌≡◌, List, [], ◌∷◌, ◌++◌, ap, sym, ◌∙◌, subst, refl}
 use Rattle.escpos_paper.specs.declared.item.Item.{Item}
 use Rattle.escpos_paper.specs.declared.style.Style.{Style}
