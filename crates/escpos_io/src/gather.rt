@@ -4,7 +4,7 @@
 //! pieces go out as few large ones, and counts what the sink has taken, up to the greatest u128. It takes no
 //! memory. What the bytes are is left to its users; `pieces` has the loop over values that are put as bytes.
 
-ghost use Rattle.std.specs.Prelude.{◌≡◌, ◌+◌, ◌<◌, ◌≤◌, ◌^◌, ◌-◌, min, ℕ, List, [], ◌∷◌, ◌++◌, length, take, Ok, Option, OnOk, IfErr, IsTrue};
+ghost use Rattle.std.specs.Prelude.{◌≡◌, ◌+◌, ◌<◌, ◌≤◌, ◌^◌, ℕ, List, [], ◌∷◌, ◌++◌, length, Ok, Option, OnOk, IfErr, IsTrue};
 ghost use Rattle.std.specs.Io.KnownBytes.{Appends};
 ghost use Rattle.escpos_io.specs.Gather.{Carries, StopsIn};
 

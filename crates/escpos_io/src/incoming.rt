@@ -1,6 +1,8 @@
 //! `Incoming`: a standard reader as a source of bytes.
+//!
+//! It keeps what a reader need not keep: that an end and a failure are for good. `source` has that state.
 
-ghost use Rattle.std.specs.Prelude.{◌≡◌, ℕ, ◌+◌, ◌-◌, ◌^◌, ◌<◌, ◌≤◌, ◌⊎◌, ◌↔◌, min, length, take, false, Some, IsTrue, IsErr, IfOk, MatchResult};
+ghost use Rattle.std.specs.Prelude.{◌≡◌, ◌+◌, ◌-◌, ◌^◌, ◌<◌, ◌≤◌, ◌⊎◌, ◌↔◌, min, length, take, false, IsTrue, IsErr, IfOk, MatchResult};
 ghost use Rattle.std.specs.Io.KnownBytes.{Keeps, Consumes, IsAtEnd};
 ghost use Rattle.escpos_io.specs.Source.{bytes_to_come};
 ghost use Rattle.escpos_io.specs.Incoming.{reader_of, to_come_of, has_failed, has_ended, pull_count_of};

@@ -1,6 +1,8 @@
 //! `MemoryIn`: a slice as a source of bytes, for tests.
+//!
+//! It gives few bytes a call, or fails from a given call on, as a test asks; a program reads by `Incoming`.
 
-ghost use Rattle.std.specs.Prelude.{◌≡◌, ℕ, ◌+◌, ◌-◌, ◌^◌, ◌<◌, ◌≤◌, ◌⊎◌, ◌↔◌, min, max, length, take, drop, ◌++◌, ◌≢◌, false, None, Some, IsTrue, IsErr, IfOk, MatchResult};
+ghost use Rattle.std.specs.Prelude.{◌≡◌, ◌+◌, ◌-◌, ◌^◌, ◌<◌, ◌≤◌, ◌⊎◌, ◌↔◌, min, max, length, take, drop, ◌++◌, ◌≢◌, false, None, Some, IsTrue, IsErr, IfOk, MatchResult};
 ghost use Rattle.std.specs.Io.KnownBytes.{Keeps, Consumes, IsAtEnd};
 ghost use Rattle.escpos_io.specs.Source.{IsDue};
 ghost use Rattle.escpos_io.specs.Memory.{to_come_of, has_failed, has_ended, pull_count_of, bytes_left, most_per_pull, pull_failing_from};

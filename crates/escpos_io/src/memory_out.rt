@@ -1,4 +1,6 @@
 //! `MemoryOut`: a slice as a sink of bytes, for tests.
+//!
+//! It takes few bytes a call, or fails from a given call on, as a test asks; a program writes by `Outgoing`.
 
 ghost use Rattle.std.specs.Prelude.{◌≡◌, ◌≤◌, length};
 
@@ -105,7 +107,7 @@ impl<'a> MemoryOut<'a> {
 }
 
 impl ByteOut for MemoryOut<'_> {
-    ghost use Rattle.std.specs.Prelude.{◌≡◌, ℕ, ◌+◌, ◌-◌, ◌^◌, ◌<◌, ◌≤◌, ◌↔◌, ◌⊎◌, min, length, take, Some, IsTrue, IsErr, IfOk, MatchResult, ◌++◌, drop};
+    ghost use Rattle.std.specs.Prelude.{◌≡◌, ◌+◌, ◌-◌, ◌^◌, ◌<◌, ◌≤◌, ◌↔◌, ◌⊎◌, min, length, take, Some, IsTrue, IsErr, IfOk, MatchResult, ◌++◌, drop};
     ghost use Rattle.escpos_io.specs.Source.{IsDue};
     ghost use Rattle.escpos_io.specs.Memory.{written_bytes, unwritten_bytes, room_left, most_per_put, put_failing_from, put_count};
 

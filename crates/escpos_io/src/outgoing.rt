@@ -1,4 +1,6 @@
 //! `Outgoing`: a standard writer as a sink of bytes.
+//!
+//! It keeps what a writer need not keep: that a failure is for good. Buffers and flushes are left to the writer.
 
 ghost use Rattle.std.specs.Prelude.{◌≡◌, ◌<◌, ◌≤◌, ◌↔◌, false, length, take, IsTrue, IsErr, IfOk, MatchResult};
 ghost use Rattle.std.specs.Io.KnownBytes.{Keeps, Appends};

@@ -1,6 +1,8 @@
-//! Putting a whole run of bytes into a sink.
+//! Putting a whole run of bytes into a sink, and the error that says how many of them it took.
+//!
+//! Bytes that come in small pieces are for `gather`, which puts them with the function here.
 
-ghost use Rattle.std.specs.Prelude.{◌≡◌, ℕ, ◌-◌, ◌<◌, length, take, IsTrue, OnOk, IfErr};
+ghost use Rattle.std.specs.Prelude.{◌≡◌, ◌-◌, ◌<◌, length, take, IsTrue, OnOk, IfErr};
 ghost use Rattle.std.specs.Io.KnownBytes.{Appends};
 ghost use Rattle.escpos_io.specs.declared.putting.Device.{Device};
 

@@ -1,4 +1,6 @@
 //! Reading a whole input up to a limit.
+//!
+//! What the bytes mean, and what a program says of an error, is left to the callers.
 
 ghost use Rattle.std.specs.Prelude.{◌≡◌, ℕ, ◌+◌, ◌-◌, ◌<◌, ◌≤◌, List, length, take, vec_len, IsTrue, IfOk, OnOk, IfSome, IsErr, IsErrOf};
 ghost use Rattle.std.specs.Io.KnownBytes.{Consumes, IsAtEnd};

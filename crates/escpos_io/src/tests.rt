@@ -166,6 +166,7 @@ fn incoming_gives_what_its_reader_has(rt: HostRuntime) {
     assert_eq!(rt; source.pull(&mut piece), Ok(2));
     assert_eq!(rt; piece, *b"ab");
     assert_eq!(rt; source.pull(&mut piece), Ok(1));
+    assert_eq!(rt; piece, *b"cb");
     assert_eq!(rt; source.pull(&mut piece), Ok(0));
     assert!(rt; source.has_ended());
     assert_eq!(rt; source.pull(&mut piece), Ok(0));
@@ -177,9 +178,10 @@ fn incoming_gives_what_its_reader_has(rt: HostRuntime) {
 #[test]
 fn incoming_stays_failed(rt: HostRuntime) {
     let mut source = Incoming::new(InterruptedOnce { reads: 0 });
-    let mut piece = [0u8; 2];
+    let mut piece = [9u8; 2];
     assert_eq!(rt; source.pull(&mut piece), Err(Failed));
     assert_eq!(rt; source.pull(&mut piece), Err(Failed));
+    assert_eq!(rt; piece, [9, 9]);
     assert!(rt; source.has_failed());
     assert_eq!(rt; source.pulls(), 2);
     assert_eq!(rt; source.into_inner().reads, 1);
