@@ -5,7 +5,7 @@ use crate::perform::perform;
 use crate::render::render;
 use crate::status::Status;
 use crate::task::{HELP, NoTask, Task, USAGE, task_of};
-use escpos_io::{MemoryIn, MemoryOut};
+use escpos_io::{ByteIn, MemoryIn, MemoryOut, Outgoing};
 use std::process::Abort;
 use std::test::Fail;
 
@@ -191,6 +191,43 @@ fn the_limit_of_the_input(rt: HostRuntime) -> Result<(), Fail> {
     Ok(())
 }
 
+// A fault far into a stream is found at its place: here after five million bytes that print nothing.
+#[test]
+fn a_fault_far_into_a_stream(rt: HostRuntime) -> Result<(), Fail> {
+    let mut text = vec![in rt.alloc(); b'D'; 10_000_000]?;
+    for digit in text.iter_mut().step_by(2) {
+        *digit = b'0';
+    }
+    text.extend_from_slice(b"06")?;
+    let mut room = [0; 64];
+    let mut source = MemoryIn::new(text.as_slice(), 1_000_000);
+    let mut sink = MemoryOut::new(&mut room);
+    assert_eq!(rt; render(rt.alloc(), &mut source, &mut sink), Status::Refused);
+    assert_eq!(rt; sink.written(), b"fault 5000000 1 UnknownByte\n".as_slice());
+    Ok(())
+}
+
+// A listing of 100,000 commands, each line of it.
+#[test]
+fn a_listing_of_many_commands(rt: HostRuntime) -> Result<(), Fail> {
+    let text = vec![in rt.alloc(); b'A'; 200_000]?;
+    let mut source = MemoryIn::new(text.as_slice(), 1_000_000);
+    let mut sink = Outgoing::new(Vec::new(rt.alloc()));
+    assert_eq!(rt; check(rt.alloc(), &mut source, &mut sink), Status::Good);
+    let out = sink.into_inner();
+    let mut count = 0;
+    for (number, line) in out.as_slice().split(|byte| *byte == b'\n').enumerate() {
+        if number < 100_000 {
+            let wanted = format!(in rt.alloc(); "{number} char aa")?;
+            assert_eq!(rt; line, wanted.as_bytes());
+            count += 1;
+        }
+    }
+    assert_eq!(rt; count, 100_000);
+    assert!(rt; out.as_slice().ends_with(b"\nend 100000 pending 0\n"));
+    Ok(())
+}
+
 #[test]
 fn a_source_fails(rt: HostRuntime) {
     let mut room = [0; 64];
@@ -264,6 +301,7 @@ fn each_thing_asked_for(rt: HostRuntime) {
         let mut sink = MemoryOut::new(&mut room);
         assert_eq!(rt; perform(rt.alloc(), asked, &mut source, &mut sink), status);
         assert_eq!(rt; sink.written(), output);
+        assert_eq!(rt; source.pulls() > 0, asked.is_ok());
         let mut source = MemoryIn::new(b"41 0A", 100);
         let mut sink = MemoryOut::new(&mut room[..3]);
         assert_eq!(rt;

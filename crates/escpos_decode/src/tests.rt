@@ -2,7 +2,7 @@
 //! command table.
 
 use super::*;
-use escpos_command::{Align, Character, Command, Cut, FaultReason, MarkId, Size};
+use escpos_command::{Align, Character, Command, Cut, FaultReason, MarkId, Size, laws};
 use std::alloc::Global;
 use std::process::Abort;
 use std::test::Fail;
@@ -256,3 +256,25 @@ fn least_and_greatest_parameters(rt: HostRuntime) -> Result<(), Fail> {
     Ok(())
 }
 
+// Many commands in many pieces, and a fault far into the stream.
+#[test]
+fn long_streams(rt: HostRuntime) -> Result<(), Fail> {
+    let piece = vec![in rt.alloc(); 0x0D; 1_000_000]?;
+    let decoded = decode(rt.alloc(), &[&piece, &piece, &piece, &piece, &piece])?;
+    assert_eq!(rt; decoded.commands.len(), 5_000_000);
+    assert_eq!(rt; decoded.end, End::Read { half: 0 });
+    let refused = decode(rt.alloc(), &[&piece, &[0x1B], &[0x40], &piece, &[0x1D, 0x06]])?;
+    assert_eq!(rt; refused.commands.len(), 2_000_001);
+    let why = FaultReason::UnknownCommand;
+    assert_eq!(rt; refused.end, End::Fault { at: 2_000_003, why });
+    Ok(())
+}
+
+// Each kind of command clones to itself.
+#[test]
+fn clones(rt: HostRuntime) -> Result<(), Fail> {
+    for command in five_commands_of(rt.alloc())? {
+        assert_eq!(rt; laws::same_clone(&command)?, command);
+    }
+    Ok(())
+}
