@@ -1,9 +1,12 @@
 -- What a job prints of a byte stream, from how far the stream was read.
-use Rattle.std.proofs.Common.{◌≡◌, ◌≢◌, ℕ, ◌⊎◌, refl, inl, inr, List, [], ◌++◌, length, take, sym, ◌∙◌, ap, subst, arith, Result, Ok, Err, OnOk, false}
+use Rattle.std.proofs.Common.{◌≡◌, ◌≢◌, ℕ, ◌⊎◌, refl, inl, inr, List, [], ◌∷◌, ◌++◌, length, take, drop, append_assoc, append-nil, sym, ◌∙◌, ap, subst, arith, Result, Ok, Err, OnOk, false}
 use Rattle.std.specs.Prelude.{is_err, IsTrue, IsErr, IfSome, Option, Some, None, codes, ◌<◌, ◌≤◌}
 use Rattle.hex.specs.Hex.{decode_of}
 use Rattle.std.specs.Io.KnownBytes.{Appends}
-use Rattle.std.proofs.lemmas.List.{nil_from_length}
+use Rattle.std.specs.List.{AllByRecursion}
+use Rattle.std.proofs.lemmas.Grind.{flat_map-append}
+use Rattle.std.proofs.lemmas.List.{nil_from_length, take-append-le, take-append-drop, take_all}
+use Rattle.escpos_command.specs.Table.{IsCommand, row, spell}
 use Rattle.escpos_command.specs.declared.command.Command.{Command}
 use Rattle.escpos_command.specs.declared.fault.FaultReason.{FaultReason}
 use Rattle.escpos_command.specs.Grammar.{Reads, FaultAt}
@@ -103,6 +106,23 @@ reports_cut_short shape o bytes half k cs r s = record {
   refused = λ e all. let h = sym e ∙ as_wanted o _ Memory s (no_device o (inr e)) in cc;
   memory = λ e. (shape.gives_early cs ++ memory_line, (k, cs, half, r, refl), s.out (memory_no_device o e));
 }
+
+all_front : (cs ds : List Command) → AllByRecursion IsCommand (cs ++ ds) → AllByRecursion IsCommand cs
+all_front [] ds h = tt
+all_front (c ∷ cs) ds h = (h.0, all_front cs ds h.1)
+
+take_front : (front more : List ℕ) → take (length front) (front ++ more) ≡ front
+take_front front more = let within : length front ≤ length front = omega arith in rw (take-append-le (length front) front more within) (take_all (length front) front within)
+
+-- A front that ends in a command has a front without it.
+pub front_without : (bytes : List ℕ) (k : ℕ) (cs : List Command) (c : Command) → Reads (take k bytes) (cs ++ c ∷ []) []
+    → (j : ℕ) × Reads (take j bytes) cs []
+front_without bytes k cs c r =
+    let whole : bytes ≡ spell cs ++ ((spell (c ∷ []) ++ []) ++ drop k bytes) =
+    sym (take-append-drop k bytes) ∙ ap (λ v. v ++ drop k bytes) (r.whole ∙ ap (λ v. v ++ []) (flat_map-append row cs (c ∷ [])) ∙ append_assoc (spell cs) (spell (c ∷ [])) [])
+    ∙ append_assoc (spell cs) (spell (c ∷ []) ++ []) (drop k bytes) in
+    let front : take (length (spell cs)) bytes ≡ spell cs = ap (take (length (spell cs))) whole ∙ take_front (spell cs) _ in
+    (length (spell cs), record { commands = all_front cs (c ∷ []) r.commands; whole = front ∙ sym (append-nil (spell cs)); left = inl refl })
 
 reads_nothing : Reads [] [] []
 reads_nothing = record { commands = tt; whole = refl; left = inl refl }

@@ -1,11 +1,9 @@
 //! The job `check`: a byte stream as a listing of its commands. Each line goes out as its command comes.
 
-ghost use Rattle.std.specs.Prelude.{◌≡◌, ◌≢◌, ◌⊎◌, ◌+◌, ◌≤◌, ◌++◌, [], ℕ, List, Option, IfSome, IsTrue, length};
+ghost use Rattle.std.specs.Prelude.{◌≡◌, ◌≢◌, ◌⊎◌, ◌+◌, ◌≤◌, ◌++◌, [], ℕ, List, Option, IfSome, IsTrue};
 ghost use Rattle.std.proofs.Common.{subst, sym, append-nil};
 ghost use Rattle.escpos_io.specs.Gather.{Carries};
-ghost use Rattle.escpos_io.specs.declared.gather.TheConstants.{GATHERED_BYTES};
 ghost use Rattle.escpos_cli.specs.declared.job.Obstacle.TheVariants as obstacle;
-ghost use Rattle.escpos_cli.specs.declared.lines.TheConstants.{LINE_BYTES};
 ghost use Rattle.escpos_cli.specs.declared.input.TheConstants.{INPUT_LIMIT};
 ghost use Rattle.escpos_cli.specs.Lines.{command_lines};
 ghost use Rattle.escpos_cli.specs.Outcome.{outcome};
@@ -50,20 +48,15 @@ impl<W: ByteOut> Consumer<W> for Listing {
             → Carries first (W.written now.1) now.0.gather (total ++ command_lines 0 cs))
         × (¬ IsTrue (W.failed start.1) → ¬ IsTrue (W.failed now.1)) };
 
-    ghost has_room = { λ listing. length listing.gather.kept + LINE_BYTES ≤ GATHERED_BYTES };
-
     ghost refused = { λ last now refusal. (refusal ≡ obstacle.Device) × IsTrue (W.failed now.1) };
 
-    fn ready(&mut self, output: &mut W) -> Result<(), Obstacle> {
-        match self.gather.room(LINE_BYTES, output) {
-            Ok(()) => Ok(()),
-            Err(_) => Err(Obstacle::Device),
-        }
-    }
-
-    fn take(&mut self, command: Command, place: usize) {
+    fn take(&mut self, command: Command, place: usize, output: &mut W) -> Result<(), Obstacle> {
         laws::appended_in_place();
+        if let Err(_) = self.gather.room(LINE_BYTES, output) {
+            return Err(Obstacle::Device);
+        }
         append_line(&mut self.gather, place, &command);
+        Ok(())
     }
 
     ghost nothing = { λ start. (

@@ -26,25 +26,22 @@ use escpos_io::{Incoming, Outgoing};
 use perform::perform;
 use std::process::ExitCode;
 use std::{env, io};
-use task::{NoTask, Task, task_of};
+use task::{NoTask, Task, task_of, without_name};
 
 fn main(rt: HostRuntime) -> ExitCode {
     let mut input = Incoming::new(rt.stdin());
     let mut output = Outgoing::new(io::writer(&rt));
     let status = perform(rt.alloc(), asked(&rt), &mut input, &mut output);
-    ExitCode::from(status.code())
+    ExitCode::from(status)
 }
 
-// What the words behind the program's name ask for.
+// What the words after the program's name ask for.
 fn asked(rt: &HostRuntime) -> Result<Task, NoTask> {
     let words = words_of(rt).map_err(|fault| match fault.kind() {
         io::ErrorKind::OutOfMemory => NoTask::Memory,
         _ => NoTask::Usage,
     })?;
-    match words.as_slice() {
-        [_, given @ ..] => task_of(rt.alloc(), given),
-        [] => task_of(rt.alloc(), words.as_slice()),
-    }
+    task_of(rt.alloc(), without_name(words.as_slice()))
 }
 
 // The words of the command line, the program's name first. One that is no text makes this fail.

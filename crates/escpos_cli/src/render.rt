@@ -4,7 +4,6 @@ ghost use Rattle.std.specs.Prelude.{◌≡◌, ◌≢◌, ◌⊎◌, ◌+◌, �
 ghost use Rattle.std.proofs.Common.{refl, subst, sym, ◌∙◌, append-nil};
 ghost use Rattle.escpos_command.specs.declared.command.Command.{Command};
 ghost use Rattle.escpos_paper.specs.declared.item.Item.{Item};
-ghost use Rattle.escpos_paper.specs.declared.paper.TheConstants.{MOST_ITEMS};
 ghost use Rattle.escpos_paper.specs.Page.{PageIs};
 ghost use Rattle.escpos_cli.specs.declared.job.Obstacle.TheVariants as obstacle;
 ghost use Rattle.escpos_cli.specs.declared.input.TheConstants.{INPUT_LIMIT};
@@ -50,19 +49,13 @@ impl<W: ByteOut> Consumer<W> for Paper {
     ghost took = { λ start now cs. (now.1 ≡ start.1)
         × ((kept : List Item) (before : List Command) → PageIs start.0.page kept before → PageIs now.0.page kept (before ++ cs)) };
 
-    ghost has_room = { λ paper. MOST_ITEMS ≤ paper.page.room };
-
     ghost refused = { λ last now refusal. (refusal ≡ obstacle.Memory) × (now.1 ≡ last.1) × (now.0.page.sheet ≡ last.0.page.sheet) };
 
-    fn ready(&mut self, _output: &mut W) -> Result<(), Obstacle> {
-        match self.page.ready() {
+    fn take(&mut self, command: Command, _place: usize, _output: &mut W) -> Result<(), Obstacle> {
+        match self.page.apply(command) {
             Ok(()) => Ok(()),
             Err(_) => Err(Obstacle::Memory),
         }
-    }
-
-    fn take(&mut self, command: Command, _place: usize) {
-        self.page.apply(command).unwrap();
     }
 
     ghost nothing = { λ start. (

@@ -1,7 +1,10 @@
 //! What the program ends with.
 
 ghost use Rattle.std.specs.Prelude.{◌≡◌};
+ghost use Rattle.std.specs.Process.{exit_status};
 ghost use Rattle.escpos_cli.specs.Status.{status_code};
+
+use std::process::ExitCode;
 
 /// How a run of the program went.
 #[derive(Clone, Copy, Debug, PartialEq, Eq)]
@@ -10,7 +13,7 @@ pub enum Status {
     Good,
     /// The input was read and isn't what it should be.
     Refused,
-    /// The words behind the program's name name no task.
+    /// The words after the program's name name no task.
     Usage,
     /// A stream, a link or another device failed.
     Device,
@@ -30,5 +33,13 @@ impl Status {
             Status::Device => 3,
             Status::Memory => 4,
         }
+    }
+}
+
+impl From<Status> for ExitCode {
+    ghost from_gives = { λ status code. exit_status code ≡ status_code status };
+
+    fn from(status: Status) -> ExitCode {
+        ExitCode::from(status.code())
     }
 }

@@ -1,6 +1,6 @@
 //! The words of the command line: which task they name, and what is said where they name none.
 
-ghost use Rattle.std.specs.Prelude.{◌≡◌, ◌⊎◌, [], ◌∷◌, IfErr, IfOk, Contains, codes, map, option_map};
+ghost use Rattle.std.specs.Prelude.{◌≡◌, ◌⊎◌, [], ◌∷◌, IfErr, IfOk, Contains, codes, drop, map, option_map};
 ghost use Rattle.clap.specs.Words.{HasKind, IsAmong, fault_of, kind_of, subcommand_name_of, subcommand_of};
 ghost use Rattle.escpos_cli.specs.declared.task.Task.{Task};
 ghost use Rattle.escpos_cli.specs.Task.{command_words, help_words, name_of, no_task_of, words_of};
@@ -79,7 +79,7 @@ hexadecimal `refused hex`. A last line `memory` says that memory has run out.
 
   escpos_cli render
       Writes the paper that the commands print, an item a line: rows of
-      characters with their alignment and styles, feeds and cuts. Behind a
+      characters with their alignment and styles, feeds and cuts. After a
       refused byte or a command that isn't complete the last line of `check`
       follows.
 
@@ -98,6 +98,16 @@ hexadecimal `refused hex`. A last line `memory` says that memory has run out.
 
 Exit status: 0 good, 1 refused content, 2 usage, 3 device, 4 memory.
 ";
+
+/// The words that follow the program's name, which is the first; of no words none.
+pub fn without_name<S>(words: &[S]) -> &[S]
+    ensures { result.now ≡ drop 1 words.now }
+{
+    match words {
+        [_, given @ ..] => given,
+        [] => words,
+    }
+}
 
 /// The task that the words name. The program's own name isn't among them.
 ///

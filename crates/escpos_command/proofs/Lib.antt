@@ -3,4 +3,3 @@ pub mod Combinators
 pub mod Rows
 pub mod Readings
 pub mod Ids
-pub mod TextBytes

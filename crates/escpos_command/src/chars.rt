@@ -8,14 +8,14 @@ ghost use Rattle.escpos_command.specs.Chars.{IsFirstControl};
 
 use crate::command::Command;
 use crate::parameter::Character;
-use std::alloc::{AllocError, AllocFailed, Global};
+use std::alloc::{AllocError, Global};
 
 /// Why a text is no list of characters.
 #[derive(Clone, Copy, Debug, PartialEq, Eq)]
 pub enum CharsFault {
     /// The byte at this place, the first such one, is below 20 hexadecimal.
     ControlByte { at: usize },
-    /// There is no memory for the commands. It may come before a control byte is found.
+    /// There is no memory for the commands of a text with no control byte.
     Memory,
 }
 
@@ -30,29 +30,28 @@ impl From<AllocError> for CharsFault {
     }
 }
 
-impl<T: Drop> From<AllocFailed<T>> for CharsFault {
-    ghost use Rattle.std.specs.Prelude.{◌≡◌};
-    ghost use Rattle.escpos_command.specs.declared.chars.CharsFault.TheVariants.{Memory};
-
-    ghost from_gives = { λ _ fault. fault ≡ Memory };
-
-    fn from(_failed: AllocFailed<T>) -> CharsFault {
-        CharsFault::Memory
-    }
-}
-
-/// One `Char` for each byte of `text`.
+/// One `Char` for each byte of `text`. A control byte is found before memory is asked for.
 pub fn chars_of(alloc: Global, text: &[u8]) -> Result<Vec<Command>, CharsFault>
     ensures chars { IfOk result (λ commands. commands.items ≡ map Char text.now) }
     ensures printing { IfOk result (λ _. AllPass is_character text.now) }
     ensures control { IfErr result (λ fault. IsFirstControl fault text.now) }
 {
+    if let Some(at) = text.iter().position(|byte| !is_character(*byte)) {
+        return Err(CharsFault::ControlByte { at });
+    }
     let mut commands = Vec::with_capacity(alloc, text.len())?;
-    for (at, byte) in text.iter().enumerate() {
+    for byte in text {
         match Character::new(*byte) {
-            Some(character) => commands.push(Command::Char(character))?,
-            None => return Err(CharsFault::ControlByte { at }),
+            Some(character) => commands.push_reserved(Command::Char(character)),
+            None => unreachable!(),
         }
     }
     Ok(commands)
+}
+
+// Whether the byte is a character.
+fn is_character(byte: u8) -> bool
+    ensures { result ≡ is_character byte }
+{
+    byte >= 0x20
 }

@@ -1,8 +1,8 @@
 //! The laws of the grammar. Each is a function that does nothing and whose contract is the law, so that
 //! the law is proved with the crate and another crate can cite it by calling the function. (`in_range` asks
-//! the command for its parts, whose clauses say it.)
+//! the command for its parts, whose clauses say it, and `same_clone` clones it.)
 
-ghost use Rattle.std.specs.Prelude.{ℕ, ◌≡◌, ◌≢◌, ◌+◌, ◌<◌, ◌≤◌, ◌⊎◌, List, [], ◌++◌, length, IsTrue};
+ghost use Rattle.std.specs.Prelude.{ℕ, ◌≡◌, ◌≢◌, ◌+◌, ◌<◌, ◌≤◌, ◌⊎◌, List, [], ◌++◌, length, IsTrue, IfOk};
 ghost use Rattle.escpos_command.specs.declared.fault.FaultReason.{FaultReason};
 ghost use Rattle.escpos_command.specs.Table.{Spells, IsCommand, row, spell};
 ghost use Rattle.escpos_command.specs.Grammar.{Viable, Half, Reads, FaultAt};
@@ -12,6 +12,7 @@ ghost use Rattle.escpos_command.specs.Tree.{Tree, dead, leaf, node, walk, gramma
 ghost use Rattle.escpos_command.specs.Laws.{longest_spelling, IsRead, IsRefused};
 
 use crate::command::Command;
+use std::alloc::AllocError;
 
 /// Unique spellings: each command has one spelling, of at most 11 bytes; two commands with one spelling
 /// are equal; no spelling begins another.
@@ -62,4 +63,11 @@ pub fn in_range(command: &Command)
     ensures { IsCommand command.now }
 {
     let _ = command.parts();
+}
+
+/// A clone of a command is that command. The error is want of memory.
+pub fn same_clone(command: &Command) -> Result<Command, AllocError>
+    ensures { IfOk result (λ clone. clone ≡ command.now) }
+{
+    command.clone()
 }

@@ -31,14 +31,14 @@ pub record Turn (took : List Command → Type 0) (bytes half : List ℕ) (start 
   pub placed : start ≡ length (spell commands)
 
 -- The byte continues a command.
-pub turn_more : (took next : List Command → Type 0) (a piece half after : List ℕ) (at start then_start : ℕ) → at < length piece
-    → Turn took (a ++ take at piece) half start → ((cs : List Command) → took cs → next cs)
+pub turn_more : (took : List Command → Type 0) (a piece half after : List ℕ) (at start then_start : ℕ) → at < length piece
+    → Turn took (a ++ take at piece) half start
     → ((b : List ℕ) (cs : List Command) → Reads b cs half → Reads (b ++ slice_index piece at ∷ []) cs after) → then_start ≡ start
-    → Turn next (a ++ take (at + 1) piece) after then_start
-turn_more took next a piece half after at start then_start h t same on e = record {
+    → Turn took (a ++ take (at + 1) piece) after then_start
+turn_more took a piece half after at start then_start h t on e = record {
   commands = t.commands;
   read = subst (λ bs. Reads bs t.commands after) (piece_more a piece at h) (on (a ++ take at piece) t.commands t.read);
-  taken = same t.commands t.taken;
+  taken = t.taken;
   placed = e ∙ t.placed;
 }
 
@@ -58,15 +58,27 @@ turn_done took next a piece half after at start then_start c h t take_it on none
     }
 
 -- The byte is refused.
-pub turn_fault : (took next : List Command → Type 0) (a piece half : List ℕ) (at start : ℕ) (why : FaultReason) → at < length piece
-    → Turn took (a ++ take at piece) half start → ((cs : List Command) → took cs → next cs)
+pub turn_fault : (took : List Command → Type 0) (a piece half : List ℕ) (at start : ℕ) (why : FaultReason) → at < length piece
+    → Turn took (a ++ take at piece) half start
     → ((b more : List ℕ) (cs : List Command) → Reads b cs half → FaultAt (b ++ slice_index piece at ∷ more) cs half (length b) why)
-    → (cs : List Command) × (rest : List ℕ) × FaultAt (a ++ piece) cs rest (length a + at) why × next cs
-turn_fault took next a piece half at start why h t same refused =
+    → (cs : List Command) × (rest : List ℕ) × FaultAt (a ++ piece) cs rest (length a + at) why × took cs
+turn_fault took a piece half at start why h t refused =
     let found = refused (a ++ take at piece) (drop (at + 1) piece) t.commands t.read in (
       t.commands,
       half,
       subst (λ n. FaultAt (a ++ piece) t.commands half n why) (length-before a piece at h)
           (subst (λ xs. FaultAt xs t.commands half (length (a ++ take at piece)) why) (piece_around a piece at h) found),
-      same t.commands t.taken,
+      t.taken,
     )
+
+-- The byte ends a command, which isn't taken.
+pub turn_refused : (took : List Command → Type 0) (a piece half after : List ℕ) (at start : ℕ) (c : Command) → at < length piece
+    → Turn took (a ++ take at piece) half start
+    → ((b : List ℕ) (cs : List Command) → Reads b cs half → Reads (b ++ slice_index piece at ∷ []) (cs ++ c ∷ []) after)
+    → after ≡ [] → (cs : List Command) × Reads (a ++ take (at + 1) piece) (cs ++ c ∷ []) [] × took cs
+turn_refused took a piece half after at start c h t on none = (
+  t.commands,
+  subst (λ v. Reads (a ++ take (at + 1) piece) (t.commands ++ c ∷ []) v) none
+      (subst (λ bs. Reads bs (t.commands ++ c ∷ []) after) (piece_more a piece at h) (on (a ++ take at piece) t.commands t.read)),
+  t.taken,
+)

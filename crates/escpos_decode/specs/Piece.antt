@@ -1,7 +1,7 @@
 -- What reading a piece of a stream comes to.
-use Rattle.std.specs.Prelude.{ℕ, ◌+◌, List, ◌++◌, length, take}
+use Rattle.std.specs.Prelude.{ℕ, ◌+◌, ◌<◌, List, [], ◌∷◌, ◌++◌, length, take, slice_index}
 use Rattle.escpos_command.specs.declared.command.Command.{Command}
-use Rattle.escpos_command.specs.Grammar.{Reads, FaultAt}
+use Rattle.escpos_command.specs.Grammar.{Half, Reads, FaultAt}
 use Rattle.escpos_decode.specs.declared.reading.Stop.{Stop}
 use Rattle.escpos_decode.specs.declared.reading.Stop.TheVariants.{Fault, Memory, Refused}
 
@@ -17,13 +17,18 @@ given half piece = record { half = half; piece = piece }
 abbrev pub IsTaken : (List Command → Type 0) → List ℕ → List ℕ → Type 0
 IsTaken took bytes half = (cs : List Command) × Reads bytes cs half × took cs
 
--- Where the reading stops before the end of the piece, and the half command then: at a fault; for want of memory,
--- with a front of the piece read; or where no further command can be taken.
+-- Where the reading stops before the end of the piece, and the half command then: at a fault; for want of memory at a
+-- byte that isn't refused, with the front before it read; or where a command isn't taken.
 abbrev pub StopsAt : {E : Type 0} → Stop E → (List Command → Type 0) → Given → List ℕ → Type 0
 StopsAt (Fault at why) took g after =
     (cs : List Command) × (rest : List ℕ) × FaultAt (g.half ++ g.piece) cs rest (length g.half + at) why × took cs
-StopsAt Memory took g after = (k : ℕ) × IsTaken took (g.half ++ take k g.piece) after
+StopsAt Memory took g after =
+    (k : ℕ) × (k < length g.piece) × IsTaken took (g.half ++ take k g.piece) after × Half (after ++ slice_index g.piece k ∷ [])
 StopsAt (Refused refusal) took g after = Unit {0}
+
+-- The bytes read as commands, of which all but this last one were taken.
+abbrev pub EndsWith : Command → (List Command → Type 0) → List ℕ → Type 0
+EndsWith command took bytes = (cs : List Command) × Reads bytes (cs ++ command ∷ []) [] × took cs
 
 -- A fact of the refusal, where the reading stops for one.
 abbrev pub IfRefused : {E : Type 0} → Stop E → (E → Type 0) → Type 0

@@ -1,13 +1,13 @@
 //! The loop over the bytes of a stream: a decoder takes them, and hands each command to a consumer.
 //!
-//! What is done with a command is the consumer's: a list, a listing or a page. The loop asks it to make room before
-//! each byte, so that taking a command can't fail; this is also the place at which a consumer that has to know
-//! what the byte would complete can be asked.
+//! What is done with a command is the consumer's: a list, a listing or a page. A byte is refused before anything is asked
+//! of the consumer, so that no want of memory hides a fault. A consumer that has to know what a byte would complete,
+//! before the byte is taken, is to be asked at the head of the loop.
 
 ghost use Rattle.std.specs.Prelude.{◌≡◌, ℕ, List, [], ◌∷◌, ◌++◌, length, take, OnOk, IfErr};
 ghost use Rattle.escpos_command.specs.declared.command.Command.{Command};
 ghost use Rattle.escpos_command.specs.Table.{spell};
-ghost use Rattle.escpos_decode.specs.Piece.{given, IsTaken, StopsAt, IfRefused};
+ghost use Rattle.escpos_decode.specs.Piece.{given, IsTaken, StopsAt, EndsWith, IfRefused};
 
 use crate::decoder::{DecodeFault, Decoder, Step};
 use escpos_command::{Command, FaultReason};
@@ -20,24 +20,14 @@ pub trait Consumer<W> {
     // Between two states of the consumer and its output these commands were taken.
     ghost took: { Self × W → Self × W → List Command → Type 0 };
 
-    // There is room for a command.
-    ghost has_room: { Self → Type 0 };
-
     // What a refusal leaves of a state.
     ghost refused: { Self × W → Self × W → Self.Refusal → Type 0 };
 
-    /// Makes room for one more command.
-    fn ready(&mut self, output: &mut W) -> Result<(), Self::Refusal>
-        ensures same { OnOk result ((start : Self × W) (cs : List Command) →
-            took start (self.old, output.old) cs → took start (self.new, output.new) cs) }
-        ensures room { OnOk result (has_room self.new) }
-        ensures refused { IfErr result (refused (self.old, output.old) (self.new, output.new)) };
-
     /// Takes the next command, which has `place` bytes before it.
-    fn take(&mut self, command: Command, place: usize)
-        requires { has_room self.old }
-        ensures { (start : Self × W) (output : W) (cs : List Command) → place ≡ length (spell cs) →
-            took start (self.old, output) cs → took start (self.new, output) (cs ++ command ∷ []) };
+    fn take(&mut self, command: Command, place: usize, output: &mut W) -> Result<(), Self::Refusal>
+        ensures taken { OnOk result ((start : Self × W) (cs : List Command) → place ≡ length (spell cs) →
+            took start (self.old, output.old) cs → took start (self.new, output.new) (cs ++ command ∷ [])) }
+        ensures refused { IfErr result (refused (self.old, output.old) (self.new, output.new)) };
 
     // At the start no command was taken.
     ghost nothing: { (start : Self × W) → took start start [] };
@@ -49,9 +39,9 @@ pub enum Stop<E> {
     /// The byte at this place of the piece is refused. The commands before it were taken, and the half command is
     /// dropped.
     Fault { at: usize, why: FaultReason },
-    /// There was no memory for a byte. The commands before it were taken.
+    /// There was no memory for a byte that isn't refused. The commands before it were taken.
     Memory,
-    /// The consumer couldn't make room for a command.
+    /// The consumer didn't take a command. Those before it were taken.
     Refused(E),
 }
 
@@ -66,16 +56,13 @@ pub fn read_piece<W, C: Consumer<W>>(
     ensures read { OnOk result (IsTaken (C.took (consumer.old, output.old) (consumer.new, output.new)) (decoder.old ++ piece.now) decoder.new) }
     ensures stopped { IfErr result (λ stop.
         StopsAt stop (C.took (consumer.old, output.old) (consumer.new, output.new)) (given decoder.old piece.now) decoder.new) }
-    ensures refused { IfErr result (λ stop. IfRefused stop (λ refusal. (last : C × W) × (k : ℕ)
-        × IsTaken (C.took (consumer.old, output.old) last) (decoder.old ++ take k piece.now) decoder.new
+    ensures refused { IfErr result (λ stop. IfRefused stop (λ refusal. (last : C × W) × (k : ℕ) × (command : Command)
+        × EndsWith command (C.took (consumer.old, output.old) last) (decoder.old ++ take k piece.now)
         × C.refused last (consumer.new, output.new) refusal)) }
 {
     let before = decoder.pending_len();
     let mut start = 0;
     for (at, byte) in piece.iter().enumerate() {
-        if let Err(refusal) = consumer.ready(output) {
-            return Err(Stop::Refused(refusal));
-        }
         let step = match decoder.push(*byte) {
             Ok(step) => step,
             Err(DecodeFault::Fault { why, .. }) => return Err(Stop::Fault { at, why }),
@@ -84,7 +71,9 @@ pub fn read_piece<W, C: Consumer<W>>(
         match step {
             Step::More => {}
             Step::Done(command) => {
-                consumer.take(command, start);
+                if let Err(refusal) = consumer.take(command, start, output) {
+                    return Err(Stop::Refused(refusal));
+                }
                 start = before + at + 1;
             }
         }

@@ -1,6 +1,6 @@
 //! A whole stream in pieces, decoded to a list of commands.
 
-ghost use Rattle.std.specs.Prelude.{◌≡◌, ◌<◌, IfOk, List, ◌++◌, vec_len, vec_capacity, ⊤};
+ghost use Rattle.std.specs.Prelude.{◌≡◌, IfOk, List, ◌++◌, ⊤};
 ghost use Rattle.std.proofs.Common.{rules};
 ghost use Rattle.std.proofs.lemmas.Grind.{common_steps};
 ghost use Rattle.std.specs.List.{AllByRecursion};
@@ -82,16 +82,13 @@ impl Consumer<()> for Vec<Command> {
 
     ghost took = { λ start now cs. now.0.items ≡ start.0.items ++ cs };
 
-    ghost has_room = { λ commands. vec_len commands < vec_capacity commands };
-
     ghost refused = { λ _ _ _. ⊤ };
 
-    fn ready(&mut self, _output: &mut ()) -> Result<(), AllocError> {
-        self.reserve(1)
-    }
-
-    fn take(&mut self, command: Command, _place: usize) {
-        self.push_reserved(command);
+    fn take(&mut self, command: Command, _place: usize, _output: &mut ()) -> Result<(), AllocError> {
+        match self.push(command) {
+            Ok(()) => Ok(()),
+            Err(_) => Err(AllocError),
+        }
     }
 
     ghost nothing = { λ start. Prim.search (rules, common_steps) };

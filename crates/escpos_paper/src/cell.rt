@@ -51,13 +51,13 @@ fn face_dots(face: FontFace) -> usize
 impl Default for Cell {
     ghost is_default = { λ x. x ≡ cell power_on 0x20 };
 
-    // A space as a printer just switched on prints it. `ArrayVec` wants some cell for its empty places.
+    // A space as a printer just switched on prints it. `ArrayVec` puts one into each of its unused places.
     fn default() -> Self {
         Style::power_on().cell(b' ')
     }
 }
 
-/// The cells of a row, in order, in place: at most 56.
+/// The cells of a row, in order: at most 56. They lie in the value itself, so they take no memory.
 #[derive(Debug, Drop)]
 pub struct Cells {
     cells: ArrayVec<Cell, LINE_CELLS>,

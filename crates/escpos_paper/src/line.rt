@@ -11,7 +11,7 @@ use crate::cell::{Cell, Cells, LINE_DOTS};
 use std::marker::Model;
 use std::mem;
 
-/// Cells that aren't wider than a line, seen as a list.
+/// Cells that together aren't wider than a line. In contracts a line is the list of its cells.
 #[derive(Drop)]
 pub struct Line {
     cells: Cells,

@@ -31,7 +31,7 @@ impl Model for Page {
       sheet = record {
         items = p.paper.items.items;
         style = p.paper.style;
-        alignment = p.paper.align;
+        alignment = p.paper.alignment;
         line = p.paper.line;
       };
       room = vec_capacity p.paper.items - vec_len p.paper.items;
@@ -41,7 +41,7 @@ impl Model for Page {
       sheet = record {
         items = p.paper.items.items;
         style = p.paper.style;
-        alignment = p.paper.align;
+        alignment = p.paper.alignment;
         line = p.paper.line;
       };
       room = vec_capacity p.paper.items - vec_len p.paper.items;

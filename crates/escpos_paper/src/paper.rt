@@ -4,9 +4,11 @@
 //! kinds. `page` makes room for the items first, so nothing here can fail.
 
 ghost use Rattle.std.specs.Prelude.{◌≡◌, ◌+◌, ◌≤◌, [], ◌∷◌, ◌++◌, if◌then◌else◌, vec_len, vec_capacity};
+ghost use Rattle.escpos_command.specs.declared.command.Command.TheVariants as kind;
+ghost use Rattle.escpos_command.specs.Meanings.{leaves_a_point};
 ghost use Rattle.escpos_command.specs.declared.parameter.choices.Alignment.TheVariants.{Left};
 ghost use Rattle.escpos_paper.specs.Printed.{row_of, row_and_feed};
-ghost use Rattle.escpos_paper.specs.declared.item.Item.TheVariants.{Feed};
+ghost use Rattle.escpos_paper.specs.declared.item.Item.TheVariants as item;
 ghost use Rattle.escpos_paper.specs.Rows.{fits};
 ghost use Rattle.escpos_paper.specs.Styles.{power_on, is_empty};
 ghost use Rattle.escpos_paper.specs.Steps.{step_prints, style_after, alignment_after, line_after, with_cell};
@@ -15,7 +17,7 @@ use crate::cell::Cell;
 use crate::item::Item;
 use crate::line::Line;
 use crate::style::Style;
-use escpos_command::{Alignment, Command};
+use escpos_command::{Align, Alignment, Command, Cut};
 use std::alloc::Global;
 
 /// The most items that one command prints: a row, a feed and a cut.
@@ -29,7 +31,7 @@ const _: () = prove!(MOST_ITEMS == 3);
 pub struct Paper {
     pub items: Vec<Item>,
     pub style: Style,
-    pub align: Alignment,
+    pub alignment: Alignment,
     pub line: Line,
 }
 
@@ -38,13 +40,13 @@ impl Paper {
     pub fn new(alloc: Global) -> Self
         ensures items { result.items.items ≡ [] }
         ensures style { result.style ≡ power_on }
-        ensures align { result.align ≡ Left }
+        ensures alignment { result.alignment ≡ Left }
         ensures line { result.line ≡ [] }
     {
         Paper {
             items: Vec::new(alloc),
             style: Style::power_on(),
-            align: Alignment::Left,
+            alignment: Alignment::Left,
             line: Line::new(),
         }
     }
@@ -53,41 +55,40 @@ impl Paper {
     pub fn initialise(&mut self)
         ensures items { self.new.items ≡ self.old.items }
         ensures style { self.new.style ≡ power_on }
-        ensures align { self.new.align ≡ Left }
+        ensures alignment { self.new.alignment ≡ Left }
         ensures line { self.new.line ≡ [] }
     {
         self.style = Style::power_on();
-        self.align = Alignment::Left;
+        self.alignment = Alignment::Left;
         self.line = Line::new();
     }
 
-    /// Carries out a command. (With text in the line ESC a is ignored.)
+    /// Carries out a command.
     pub fn carry_out(&mut self, command: &Command)
         requires room { vec_len self.old.items + MOST_ITEMS ≤ vec_capacity self.old.items }
         requires visible { 1 ≤ self.old.style.width }
         requires narrow { self.old.style.width ≤ 8 }
         ensures items { self.new.items.items
-            ≡ self.old.items.items ++ step_prints self.old.style self.old.align self.old.line command.now }
+            ≡ self.old.items.items ++ step_prints self.old.style self.old.alignment self.old.line command.now }
         ensures style { self.new.style ≡ style_after self.old.style command.now }
-        ensures align { self.new.align ≡ alignment_after (is_empty self.old.line) self.old.align command.now }
+        ensures alignment { self.new.alignment ≡ alignment_after (is_empty self.old.line) self.old.alignment command.now }
         ensures line { self.new.line ≡ line_after self.old.style self.old.line command.now }
     {
         match command {
             Command::Char(character) => {
                 let cell = self.style.cell(character.byte());
-                put_cell(&mut self.items, &mut self.line, self.align, cell);
+                put_cell(&mut self.items, &mut self.line, self.alignment, cell);
             }
-            Command::LineFeed => feed(&mut self.items, &mut self.line, self.align, 1),
+            Command::LineFeed => feed(&mut self.items, &mut self.line, self.alignment, 1),
             Command::FeedLines(lines) => {
-                feed(&mut self.items, &mut self.line, self.align, lines.byte());
+                feed(
+                    &mut self.items,
+                    &mut self.line,
+                    self.alignment,
+                    lines.byte(),
+                );
             }
-            Command::Cut(cut) => {
-                end_line(&mut self.items, &mut self.line, self.align);
-                self.items.push_reserved(Item::Cut {
-                    partial: cut.is_partial(),
-                    feed: cut.feed(),
-                });
-            }
+            Command::Cut(cut) => cut_paper(&mut self.items, &mut self.line, self.alignment, *cut),
             Command::Init => self.initialise(),
             Command::Mode(mode) => self.style = self.style.in_mode(*mode),
             Command::Size(size) => self.style = self.style.in_size(*size),
@@ -96,9 +97,7 @@ impl Paper {
             Command::Emphasis(emphasis) => self.style.bold = emphasis.is_on(),
             Command::Underline(underline) => self.style.underline = underline.dots(),
             Command::Align(align) => {
-                if self.line.is_empty() {
-                    self.align = align.alignment();
-                }
+                self.alignment = alignment_after(self.line.is_empty(), self.alignment, *align);
             }
             Command::Return
             | Command::BarHeight(_)
@@ -112,42 +111,67 @@ impl Paper {
 }
 
 // Puts a cell into the line, and ends the line before it where it doesn't fit.
-fn put_cell(items: &mut Vec<Item>, line: &mut Line, align: Alignment, cell: Cell)
+fn put_cell(items: &mut Vec<Item>, line: &mut Line, alignment: Alignment, cell: Cell)
     requires room { vec_len items.old + 2 ≤ vec_capacity items.old }
     requires visible { 1 ≤ cell.style.width }
     requires narrow { cell.style.width ≤ 8 }
     ensures printed { items.new.items ≡ items.old.items
-        ++ (if fits (line.old ++ cell ∷ []) then [] else row_and_feed align line.old) }
+        ++ (if fits (line.old ++ cell ∷ []) then [] else row_and_feed alignment line.old) }
     ensures left { line.new ≡ with_cell line.old cell }
 {
     if !line.has_room_for(&cell) {
-        end_line(items, line, align);
+        end_line(items, line, alignment);
     }
     line.push(cell);
 }
 
 // Prints the line and feeds some lines.
-fn feed(items: &mut Vec<Item>, line: &mut Line, align: Alignment, lines: u8)
+fn feed(items: &mut Vec<Item>, line: &mut Line, alignment: Alignment, lines: u8)
     requires { vec_len items.old + 2 ≤ vec_capacity items.old }
-    ensures printed { items.new.items ≡ items.old.items ++ row_of align line.old ++ Feed lines ∷ [] }
+    ensures printed { items.new.items ≡ items.old.items ++ row_of alignment line.old ++ item.Feed lines ∷ [] }
     ensures left { line.new ≡ [] }
 {
-    print_line(items, line, align);
+    print_line(items, line, alignment);
     items.push_reserved(Item::Feed(lines));
+}
+
+// Ends the line and cuts the paper.
+fn cut_paper(items: &mut Vec<Item>, line: &mut Line, alignment: Alignment, cut: Cut)
+    requires { vec_len items.old + MOST_ITEMS ≤ vec_capacity items.old }
+    ensures printed { items.new.items
+        ≡ items.old.items ++ row_and_feed alignment line.old ++ item.Cut (leaves_a_point cut.0) cut.1 ∷ [] }
+    ensures left { line.new ≡ [] }
+{
+    end_line(items, line, alignment);
+    items.push_reserved(Item::Cut {
+        partial: cut.is_partial(),
+        feed: cut.feed(),
+    });
+}
+
+// The alignment after ESC a, which is ignored where the line has text.
+fn alignment_after(is_line_empty: bool, alignment: Alignment, align: Align) -> Alignment
+    ensures { result ≡ alignment_after is_line_empty alignment (kind.Align align) }
+{
+    if is_line_empty {
+        align.alignment()
+    } else {
+        alignment
+    }
 }
 
 // Prints the line as a row, if it has a cell.
 #[inline(never)]
-fn print_line(items: &mut Vec<Item>, line: &mut Line, align: Alignment)
+fn print_line(items: &mut Vec<Item>, line: &mut Line, alignment: Alignment)
     requires { vec_len items.old + 1 ≤ vec_capacity items.old }
-    ensures printed { items.new.items ≡ items.old.items ++ row_of align line.old }
+    ensures printed { items.new.items ≡ items.old.items ++ row_of alignment line.old }
     ensures left { line.new ≡ [] }
     ensures room { vec_capacity items.new ≡ vec_capacity items.old }
     ensures more { vec_len items.new ≤ vec_len items.old + 1 }
 {
     if !line.is_empty() {
         items.push_reserved(Item::Row {
-            align,
+            align: alignment,
             cells: line.take(),
         });
     }
@@ -155,15 +179,15 @@ fn print_line(items: &mut Vec<Item>, line: &mut Line, align: Alignment)
 
 // The same, and where it has a cell feeds one line.
 #[inline(never)]
-fn end_line(items: &mut Vec<Item>, line: &mut Line, align: Alignment)
+fn end_line(items: &mut Vec<Item>, line: &mut Line, alignment: Alignment)
     requires { vec_len items.old + 2 ≤ vec_capacity items.old }
-    ensures printed { items.new.items ≡ items.old.items ++ row_and_feed align line.old }
+    ensures printed { items.new.items ≡ items.old.items ++ row_and_feed alignment line.old }
     ensures left { line.new ≡ [] }
     ensures room { vec_capacity items.new ≡ vec_capacity items.old }
     ensures more { vec_len items.new ≤ vec_len items.old + 2 }
 {
     if !line.is_empty() {
-        print_line(items, line, align);
+        print_line(items, line, alignment);
         items.push_reserved(Item::Feed(1));
     }
 }

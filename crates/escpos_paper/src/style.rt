@@ -1,4 +1,5 @@
-//! The style that the next character gets.
+//! How characters are printed. What each command does to the style is left to `paper`, but for the two
+//! commands that set more than one attribute.
 
 ghost use Rattle.std.specs.Prelude.{◌≡◌, ◌↔◌, IsTrue};
 ghost use Rattle.escpos_command.specs.declared.command.Command.TheVariants as kind;

@@ -1,7 +1,7 @@
 use Rattle.std.proofs.Common.{◌∙◌, refl, ap, sym, subst, length, zero-add}
 use Rattle.escpos_cli.specs.Lines.{fault_line}
 use Rattle.escpos_cli.specs.Outcome.{StatusFits}
-use Rattle.escpos_cli.proofs.Reports.{reports_read, reports_refused, reports_cut_short, device_failed, never_usage, memory_is_no_device, memory_is_no_usage}
+use Rattle.escpos_cli.proofs.Reports.{reports_read, reports_refused, reports_cut_short, front_without, device_failed, never_usage, memory_is_no_device, memory_is_no_usage}
 use Rattle.escpos_cli.proofs.job.report.Goals as goal
 
 pub returns-in-Ok-clause-reports : goal.returns-in-Ok-clause-reports
@@ -20,27 +20,28 @@ returns-in-Err-Fault-clause-reports g c =
 
 pub returns-in-Err-Memory-clause-reports : goal.returns-in-Err-Memory-clause-reports
 returns-in-Err-Memory-clause-reports g c =
-    let (k, (cs, read, taken)) = rw c.new-decoder.ensures at (rw c.in-Err-Memory.field-0-is at c.in-Err-Memory.ensures.stopped) in
+    let (k, inside, (cs, read, taken), next) = rw c.new-decoder.ensures at (rw c.in-Err-Memory.field-0-is at c.in-Err-Memory.ensures.stopped) in
     reports_cut_short g.J.Job.shape _ c.args.bytes.now _ k cs read (c.cut_short.ensures.says _ cs c.new-job.ensures taken)
 
--- The consumer had no room: what was taken before stands.
+-- A command wasn't taken: what was taken before it stands.
 pub returns-in-Err-Refused-Memory-clause-reports : goal.returns-in-Err-Refused-Memory-clause-reports
 returns-in-Err-Refused-Memory-clause-reports g c =
-    let (last, k, (cs, read, taken), left) = rw c.new-decoder.ensures at (rw (c.in-Err-Refused-Memory.field-0-is, c.in-Err-Refused-Memory.field-0-0-is) at c.in-Err-Refused-Memory.ensures.refused) in
-    reports_cut_short g.J.Job.shape _ c.args.bytes.now _ k cs read
+    let (last, k, command, (cs, read, taken), left) = rw c.new-decoder.ensures at (rw (c.in-Err-Refused-Memory.field-0-is, c.in-Err-Refused-Memory.field-0-0-is) at c.in-Err-Refused-Memory.ensures.refused) in
+    let front = front_without c.args.bytes.now k cs command read in
+    reports_cut_short g.J.Job.shape _ c.args.bytes.now _ front.0 cs front.1
     (c.cut_short-in-Err-Refused-Memory.ensures.says _ cs c.new-job.ensures (g.met.J.Job.no_memory _ last _ cs taken left))
 
 pub returns-in-Err-Refused-Memory-clause-device : goal.returns-in-Err-Refused-Memory-clause-device
 returns-in-Err-Refused-Memory-clause-device g c =
-    let (last, k, (cs, read, taken), left) = rw c.new-decoder.ensures at (rw (c.in-Err-Refused-Memory.field-0-is, c.in-Err-Refused-Memory.field-0-0-is) at c.in-Err-Refused-Memory.ensures.refused) in
+    let (last, k, command, (cs, read, taken), left) = rw c.new-decoder.ensures at (rw (c.in-Err-Refused-Memory.field-0-is, c.in-Err-Refused-Memory.field-0-0-is) at c.in-Err-Refused-Memory.ensures.refused) in
     device_failed _ _ _ (c.cut_short-in-Err-Refused-Memory.ensures.says _ cs c.new-job.ensures (g.met.J.Job.no_memory _ last _ cs taken left)) memory_is_no_device
 
 pub returns-in-Err-Refused-Memory-clause-not_hidden : goal.returns-in-Err-Refused-Memory-clause-not_hidden
 returns-in-Err-Refused-Memory-clause-not_hidden g c = λ status well.
-    let (last, k, (cs, read, taken), left) = rw c.new-decoder.ensures at (rw (c.in-Err-Refused-Memory.field-0-is, c.in-Err-Refused-Memory.field-0-0-is) at c.in-Err-Refused-Memory.ensures.refused) in
+    let (last, k, command, (cs, read, taken), left) = rw c.new-decoder.ensures at (rw (c.in-Err-Refused-Memory.field-0-is, c.in-Err-Refused-Memory.field-0-0-is) at c.in-Err-Refused-Memory.ensures.refused) in
     c.cut_short-in-Err-Refused-Memory.ensures.not_hidden status (g.met.J.Job.well _ _ cs (g.met.J.Job.no_memory _ last _ cs taken left) well)
 
 pub returns-in-Err-Refused-Memory-clause-never_usage : goal.returns-in-Err-Refused-Memory-clause-never_usage
 returns-in-Err-Refused-Memory-clause-never_usage g c =
-    let (last, k, (cs, read, taken), left) = rw c.new-decoder.ensures at (rw (c.in-Err-Refused-Memory.field-0-is, c.in-Err-Refused-Memory.field-0-0-is) at c.in-Err-Refused-Memory.ensures.refused) in
+    let (last, k, command, (cs, read, taken), left) = rw c.new-decoder.ensures at (rw (c.in-Err-Refused-Memory.field-0-is, c.in-Err-Refused-Memory.field-0-0-is) at c.in-Err-Refused-Memory.ensures.refused) in
     never_usage _ _ _ (c.cut_short-in-Err-Refused-Memory.ensures.says _ cs c.new-job.ensures (g.met.J.Job.no_memory _ last _ cs taken left)) memory_is_no_usage

@@ -32,12 +32,12 @@ invariant_of-self c = record {
   in_range = one_more c.self.invariant.commands c.args.command c.self.invariant.in_range c.in_range.ensures;
   page_is =
       sheet_step _ _ c.self.invariant.kept c.self.invariant.commands c.args.command
-      (cc (c.carry_out.ensures.items, c.carry_out.ensures.style, c.carry_out.ensures.align, c.carry_out.ensures.line))
+      (cc (c.carry_out.ensures.items, c.carry_out.ensures.style, c.carry_out.ensures.alignment, c.carry_out.ensures.line))
       c.self.invariant.page_is;
 }
 
 pub returns-clause-taken : goal.returns-clause-taken
 returns-clause-taken c = λ kept cs is.
     sheet_step _ _ kept cs c.args.command
-    (cc (c.carry_out.ensures.items, c.carry_out.ensures.style, c.carry_out.ensures.align, c.carry_out.ensures.line))
+    (cc (c.carry_out.ensures.items, c.carry_out.ensures.style, c.carry_out.ensures.alignment, c.carry_out.ensures.line))
     (ap (λ (page : PageView). page.sheet) c.self.view_is ∙ c.ready.ensures.same ∙ is)
