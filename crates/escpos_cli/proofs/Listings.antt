@@ -3,7 +3,7 @@ use Rattle.std.proofs.Common.{◌≡◌, ℕ, ◌+◌, List, [], ◌∷◌, ◌+
 use Rattle.escpos_command.specs.declared.command.Command.{Command}
 use Rattle.std.specs.Prelude.{Option}
 use Rattle.escpos_io.specs.Gather.{Carries, Gathered}
-use Rattle.escpos_command.specs.Table.{row, spell}
+use Rattle.escpos_command.specs.CommandTable.{row, spell}
 use Rattle.escpos_cli.specs.Lines.{command_line, command_lines}
 
 -- One line more.

@@ -6,7 +6,7 @@ use Rattle.std.specs.Io.KnownBytes.{Appends}
 use Rattle.std.specs.List.{AllByRecursion}
 use Rattle.std.proofs.lemmas.Grind.{flat_map-append}
 use Rattle.std.proofs.lemmas.List.{nil_from_length, take-append-le, take-append-drop, take_all}
-use Rattle.escpos_command.specs.Table.{IsCommand, row, spell}
+use Rattle.escpos_command.specs.CommandTable.{IsCommand, row, spell}
 use Rattle.escpos_command.specs.declared.command.Command.{Command}
 use Rattle.escpos_command.specs.declared.fault.FaultReason.{FaultReason}
 use Rattle.escpos_command.specs.Grammar.{Reads, FaultAt}

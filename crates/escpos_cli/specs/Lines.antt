@@ -8,7 +8,7 @@ use Rattle.escpos_command.specs.declared.command.Command.{Command}
 use Rattle.escpos_command.specs.declared.command.Command.TheVariants as kind
 use Rattle.escpos_command.specs.declared.fault.FaultReason.{FaultReason}
 use Rattle.escpos_command.specs.Places.{number_of, name_of}
-use Rattle.escpos_command.specs.Table.{row, entry_of}
+use Rattle.escpos_command.specs.CommandTable.{row, entry_of}
 use Rattle.escpos_cli.specs.declared.lines.TheConstants.{SPACE}
 use Rattle.escpos_cli.specs.declared.lines.Last.{Last}
 use Rattle.escpos_cli.specs.declared.lines.Last.TheVariants.{Nothing, End, Fault}

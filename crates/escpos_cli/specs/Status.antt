@@ -1,4 +1,4 @@
--- What the program tells the shell.
+-- What a shell learns of a run.
 use Rattle.std.specs.Prelude.{ℕ}
 use Rattle.escpos_cli.specs.declared.status.Status.{Status}
 use Rattle.escpos_cli.specs.declared.status.Status.TheVariants.{Good, Refused, Usage, Device, Memory}

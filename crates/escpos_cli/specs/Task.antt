@@ -24,7 +24,7 @@ help_words = (codes "help" ∷ []) ∷ (codes "--help" ∷ []) ∷ (codes "-h" �
     ∷ (codes "check" ∷ codes "--help" ∷ []) ∷ (codes "check" ∷ codes "-h" ∷ [])
     ∷ (codes "render" ∷ codes "--help" ∷ []) ∷ (codes "render" ∷ codes "-h" ∷ []) ∷ []
 
--- the program's words, as `clap` reads them: one of the three, with none behind it
+-- the program's words, as `clap` reads them: one of the three, and no other
 abbrev pub command_words : App
 command_words = with_subcommand (with_subcommand (with_subcommand (on_top (λ s. record s {
   no_binary_name = true;

@@ -55,7 +55,7 @@ usage: escpos_cli check  < HEXADECIMAL
 
 /// The text that `help` asks for.
 pub const HELP: &str = "\
-escpos_cli tells what an ESC/POS byte stream says to a receipt printer, or the
+escpos_cli shows what an ESC/POS byte stream says to a receipt printer, or the
 exact byte at which the stream is refused.
 
 Both jobs read the stream from standard input, as hexadecimal digits of either

@@ -104,7 +104,7 @@ const RENDERED: [Row; 10] = [
     ),
     // init_drops_line
     (b"41 1B 40 42 0A", b"row left B\nfeed 1\n", Status::Good),
-    // the last line of the listing behind a half command and behind a fault
+    // the last line of the listing after a half command and after a fault
     (b"0A 1D 56", b"feed 1\nend 3 pending 2\n", Status::Refused),
     (
         b"0A 41 06",
@@ -163,7 +163,7 @@ fn bad_input_at_each_edge(rt: HostRuntime) {
     }
 }
 
-// A text of blanks, of so many bytes, behind the digits of a line feed.
+// A text of so many bytes: the digits of a line feed, and then blanks.
 fn blanks(rt: &HostRuntime, count: usize) -> Result<Vec<u8>, Fail> {
     let mut text = vec![in rt.alloc(); b' '; count]?;
     for (place, digit) in b"0A".iter().enumerate() {

@@ -5,7 +5,7 @@ use Rattle.std.specs.Prelude.{◌==◌, ◌&&◌}
 use Rattle.std.specs.List.{list_all, AllByRecursion}
 use Rattle.std.proofs.lemmas.Bool.Decides.{nat_tests}
 use Rattle.escpos_command.specs.declared.command.Command.{Command}
-use Rattle.escpos_command.specs.Table.{Spells}
+use Rattle.escpos_command.specs.CommandTable.{Spells}
 use Rattle.escpos_command.specs.Tree.{Tree, dead, leaf, walk, these, passing, one, counted, branch}
 use Rattle.escpos_command.proofs.Walks.{IsLive, Good}
 

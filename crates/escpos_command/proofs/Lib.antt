@@ -1,5 +1,5 @@
 pub mod Walks
 pub mod Combinators
-pub mod Rows
+pub mod TableTree
 pub mod Readings
 pub mod Ids

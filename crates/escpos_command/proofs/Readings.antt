@@ -1,4 +1,4 @@
--- The laws of the grammar, from the two facts of Rows and nothing else about the kinds of commands.
+-- The laws of the grammar, from the two facts of TableTree and nothing else about the kinds of commands.
 use Rattle.std.proofs.Common.{◌≡◌, ◌≢◌, ℕ, ◌+◌, ◌<◌, ◌≤◌, ◌⊎◌, inl, inr, List, [], ◌∷◌, ◌++◌, length, take, refl, sym, length-take, ◌∙◌, ap, subst, append_assoc, arith, append-nil, Option, Some, None, drop}
 use Rattle.std.specs.Prelude.{slice_index}
 use Rattle.std.specs.List.{AllByRecursion}
@@ -9,12 +9,12 @@ use Rattle.std.proofs.Math.ListN.{length-append}
 use Rattle.escpos_command.specs.declared.command.Command.{Command}
 use Rattle.escpos_command.specs.declared.command.Command.TheVariants.{LineFeed}
 use Rattle.escpos_command.specs.declared.fault.FaultReason.{FaultReason}
-use Rattle.escpos_command.specs.Table.{Spells, IsCommand, row, spell}
+use Rattle.escpos_command.specs.CommandTable.{Spells, IsCommand, row, spell}
 use Rattle.escpos_command.specs.Grammar.{Viable, Half, Reads, FaultAt}
 use Rattle.escpos_command.specs.Places.{reason_after}
 use Rattle.escpos_command.specs.Tree.{Tree, dead, leaf, node, walk, grammar}
 use Rattle.escpos_command.proofs.Walks.{IsLive, Good, walk-append, walk-nil, good_walk, good_live}
-use Rattle.escpos_command.proofs.Rows.{leads, good}
+use Rattle.escpos_command.proofs.TableTree.{leads, good}
 
 -- ## Where bytes lead in the tree says what they are
 

@@ -2,7 +2,7 @@
 -- from each command leading to its leaf, all laws of the grammar follow at once for every kind.
 use Rattle.std.proofs.Common.{◌≡◌, ℕ, List, [], ◌∷◌, ◌++◌, refl, sym, subst, append_assoc, append-nil}
 use Rattle.escpos_command.specs.declared.command.Command.{Command}
-use Rattle.escpos_command.specs.Table.{Spells}
+use Rattle.escpos_command.specs.CommandTable.{Spells}
 use Rattle.escpos_command.specs.Tree.{Tree, dead, leaf, node, walk}
 
 -- The tree leads to some command.

@@ -4,7 +4,7 @@ use Rattle.std.specs.Prelude.{ℕ, ◌≡◌, ◌≢◌, ◌<◌, ◌⊎◌, Lis
 use Rattle.std.specs.List.{AllByRecursion}
 use Rattle.escpos_command.specs.declared.command.Command.{Command}
 use Rattle.escpos_command.specs.declared.fault.FaultReason.{FaultReason}
-use Rattle.escpos_command.specs.Table.{Spells, IsCommand, spell}
+use Rattle.escpos_command.specs.CommandTable.{Spells, IsCommand, spell}
 use Rattle.escpos_command.specs.Places.{reason_after}
 
 -- The bytes are a prefix of some spelling, perhaps all of it. The empty list is.

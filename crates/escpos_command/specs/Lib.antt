@@ -1,7 +1,7 @@
 pub mod Parameters
 pub mod Meanings
 pub mod Digits
-pub mod Table
+pub mod CommandTable
 pub mod Places
 pub mod Grammar
 pub mod Tree

@@ -1,11 +1,11 @@
 //! The commands of the profile, and how each is spelled.
 //!
 //! A kind of command is a variant here with its line in `Command::parts`, a line of the command table
-//! (`specs/Table.antt`), a branch of the tree of bytes (`specs/Tree.antt`) and a case of the proofs over that
+//! (`specs/CommandTable.antt`), a branch of the tree of bytes (`specs/Tree.antt`) and a case of the proofs over that
 //! tree; no proof is about a pair of kinds. docs/ARCHITECTURE.md lists all places.
 
 ghost use Rattle.std.specs.Prelude.{◌≡◌, ◌≤◌, ◌+◌, [], ◌∷◌, ◌++◌, length, OnOk, OnErr};
-ghost use Rattle.escpos_command.specs.Table.{row, entry_of, IsCommand};
+ghost use Rattle.escpos_command.specs.CommandTable.{row, entry_of, IsCommand};
 ghost use Rattle.escpos_command.specs.declared.command.Command.TheVariants.{Mark};
 
 use crate::bytes::{CR, DLE, EOT, ESC, GS, LF};

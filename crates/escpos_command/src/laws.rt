@@ -4,7 +4,7 @@
 
 ghost use Rattle.std.specs.Prelude.{ℕ, ◌≡◌, ◌≢◌, ◌+◌, ◌<◌, ◌≤◌, ◌⊎◌, List, [], ◌++◌, length, IsTrue, IfOk};
 ghost use Rattle.escpos_command.specs.declared.fault.FaultReason.{FaultReason};
-ghost use Rattle.escpos_command.specs.Table.{Spells, IsCommand, row, spell};
+ghost use Rattle.escpos_command.specs.CommandTable.{Spells, IsCommand, row, spell};
 ghost use Rattle.escpos_command.specs.Grammar.{Viable, Half, Reads, FaultAt};
 ghost use Rattle.escpos_command.specs.Parameters.{is_mark_id};
 ghost use Rattle.escpos_command.specs.Digits.{mark_count, mark_of};

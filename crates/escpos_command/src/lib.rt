@@ -1,6 +1,6 @@
 //! ESC/POS commands of the Kolatennis profile: values, spellings, and the laws that join them.
 //!
-//! `command` has the commands and `parameter` their parameters; `mark` has the ids of marks. `specs/Table.antt` is
+//! `command` has the commands and `parameter` their parameters; `mark` has the ids of marks. `specs/CommandTable.antt` is
 //! the command table, `specs/Grammar.antt` says what a byte list is by that table alone, and `laws` offers what
 //! follows from it. Bytes are read in the crate above.
 #![tactic(auto)]

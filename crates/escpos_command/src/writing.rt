@@ -3,7 +3,7 @@
 ghost use Rattle.std.specs.Prelude.{OnOk, IfErr, IsTrue};
 ghost use Rattle.std.specs.Io.KnownBytes.{Appends};
 ghost use Rattle.escpos_io.specs.Gather.{StopsIn};
-ghost use Rattle.escpos_command.specs.Table.{spell};
+ghost use Rattle.escpos_command.specs.CommandTable.{spell};
 
 use crate::command::Command;
 use escpos_io::{ByteOut, Device, put_pieces};

@@ -1,7 +1,7 @@
 -- From where bytes lead in the tree to what the definitions say of them.
 use Rattle.std.proofs.Common.{◌≡◌, ◌≢◌, ℕ, ◌+◌, ◌<◌, List, [], ◌∷◌, ◌++◌, length, refl, sym, ap, arith, length-append}
 use Rattle.escpos_command.specs.declared.command.Command.{Command}
-use Rattle.escpos_command.specs.Table.{Spells}
+use Rattle.escpos_command.specs.CommandTable.{Spells}
 use Rattle.escpos_command.specs.Grammar.{Viable, Half}
 use Rattle.escpos_command.specs.Tree.{Tree, dead, leaf, node, walk, grammar}
 use Rattle.escpos_decode.specs.declared.plain.tree.Lead.TheVariants.{Leaf, Node, Dead}

@@ -6,7 +6,7 @@ use Rattle.std.proofs.lemmas.List.{take-append-drop}
 use Rattle.std.proofs.Math.Seq.{drop-cons}
 use Rattle.escpos_command.specs.declared.command.Command.{Command}
 use Rattle.escpos_command.specs.declared.fault.FaultReason.{FaultReason}
-use Rattle.escpos_command.specs.Table.{spell}
+use Rattle.escpos_command.specs.CommandTable.{spell}
 use Rattle.escpos_command.specs.Grammar.{Reads, FaultAt}
 use Rattle.escpos_decode.specs.Stream.{joined}
 

@@ -3,7 +3,7 @@ use Rattle.std.proofs.Common.{◌≡◌, ℕ, inl, List, [], ◌++◌, length, r
 use Rattle.std.specs.List.{AllByRecursion}
 use Rattle.std.proofs.lemmas.List.{nil_from_length}
 use Rattle.escpos_command.specs.declared.command.Command.{Command}
-use Rattle.escpos_command.specs.Table.{IsCommand, spell}
+use Rattle.escpos_command.specs.CommandTable.{IsCommand, spell}
 use Rattle.escpos_command.specs.Laws.{IsRead, IsRefused}
 use Rattle.escpos_command.specs.Grammar.{Reads}
 use Rattle.escpos_decode.specs.declared.stream.End.{End}

@@ -5,7 +5,7 @@ use Rattle.std.proofs.lemmas.List.{take-append-drop, take_all}
 use Rattle.std.proofs.Math.Seq.{take-suc}
 use Rattle.escpos_command.specs.declared.command.Command.{Command}
 use Rattle.escpos_command.specs.declared.fault.FaultReason.{FaultReason}
-use Rattle.escpos_command.specs.Table.{spell}
+use Rattle.escpos_command.specs.CommandTable.{spell}
 use Rattle.escpos_command.specs.Grammar.{Reads, FaultAt}
 
 -- ## The bytes of a piece that follows the bytes a

@@ -4,7 +4,7 @@ use Rattle.escpos_decode.specs.declared.plain.tree.Lead.{Lead}
 use Rattle.escpos_decode.specs.declared.plain.tree.Lead.TheVariants.{Leaf, Node, Dead}
 use Rattle.escpos_decode.specs.declared.plain.tree.Front.{Front}
 use Rattle.escpos_decode.specs.declared.plain.tree.Front.TheVariants.{Followed, Short, Other}
-use Rattle.escpos_command.specs.Table.{Spells}
+use Rattle.escpos_command.specs.CommandTable.{Spells}
 use Rattle.escpos_command.specs.Grammar.{Viable, Half}
 use Rattle.escpos_command.specs.Tree.{Tree, dead, leaf, node, walk}
 

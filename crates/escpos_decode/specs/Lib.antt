@@ -1,4 +1,4 @@
 pub mod Lead
 pub mod Push
-pub mod Piece
+pub mod Reading
 pub mod Stream

@@ -5,7 +5,7 @@ use Rattle.escpos_decode.specs.declared.decoder.Step.TheVariants.{More, Done}
 use Rattle.escpos_decode.specs.declared.decoder.DecodeFault.{DecodeFault}
 use Rattle.escpos_decode.specs.declared.decoder.DecodeFault.TheVariants.{Fault, Memory}
 use Rattle.escpos_command.specs.declared.command.Command.{Command}
-use Rattle.escpos_command.specs.Table.{Spells}
+use Rattle.escpos_command.specs.CommandTable.{Spells}
 use Rattle.escpos_command.specs.Grammar.{Half, Reads, FaultAt}
 use Rattle.escpos_command.specs.Places.{number_of}
 

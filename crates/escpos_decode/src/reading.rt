@@ -6,8 +6,8 @@
 
 ghost use Rattle.std.specs.Prelude.{◌≡◌, ℕ, List, [], ◌∷◌, ◌++◌, length, take, OnOk, IfErr};
 ghost use Rattle.escpos_command.specs.declared.command.Command.{Command};
-ghost use Rattle.escpos_command.specs.Table.{spell};
-ghost use Rattle.escpos_decode.specs.Piece.{given, IsTaken, StopsAt, EndsWith, IfRefused};
+ghost use Rattle.escpos_command.specs.CommandTable.{spell};
+ghost use Rattle.escpos_decode.specs.Reading.{given, IsTaken, StopsAt, EndsWith, IfRefused};
 
 use crate::decoder::{DecodeFault, Decoder, Step};
 use escpos_command::{Command, FaultReason};

@@ -5,7 +5,7 @@ ghost use Rattle.std.proofs.Common.{rules};
 ghost use Rattle.std.proofs.lemmas.Grind.{common_steps};
 ghost use Rattle.std.specs.List.{AllByRecursion};
 ghost use Rattle.escpos_command.specs.declared.command.Command.{Command};
-ghost use Rattle.escpos_command.specs.Table.{IsCommand, spell};
+ghost use Rattle.escpos_command.specs.CommandTable.{IsCommand, spell};
 ghost use Rattle.escpos_decode.specs.Stream.{joined, IsDecoded, LeavesNothing};
 
 use crate::decoder::Decoder;

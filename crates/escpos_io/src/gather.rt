@@ -17,7 +17,7 @@ pub const GATHERED_BYTES: usize = 16384;
 
 const _: () = prove!(GATHERED_BYTES == 16384);
 
-/// Bytes on their way to one sink, seen as those that are kept back and the number of those that the sink
+/// The bytes for one sink, seen as those that are kept back and the number of those that the sink
 /// has taken; at the greatest u128 that number stays.
 ///
 /// After an `Err` the sink takes no more, and what a later call says was written means nothing.

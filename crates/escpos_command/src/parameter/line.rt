@@ -52,7 +52,7 @@ impl Align {
     }
 }
 
-/// How many lines the paper is fed behind the line. (Reference: ESC d.)
+/// How many lines the paper is fed after the line. (Reference: ESC d.)
 #[derive(Clone, Copy, Debug, PartialEq, Eq)]
 pub struct FeedLines {
     byte: u8,
@@ -120,7 +120,7 @@ impl Cut {
         }
     }
 
-    /// A cut behind a feed of `feed` motion units; `None` for all modes but 65 and 66.
+    /// A cut after a feed of `feed` motion units; `None` for all modes but 65 and 66.
     pub fn with_feed(mode: u8, feed: u8) -> Option<Self>
         ensures { SomeIff result (IsTrue (is_cut mode (Some feed))) (mode, Some feed) }
     {
@@ -133,7 +133,7 @@ impl Cut {
         }
     }
 
-    /// The mode as sent: 0, 1, 48 or 49 for a cut at once, 65 or 66 behind a feed.
+    /// The mode as sent: 0, 1, 48 or 49 for a cut at once, 65 or 66 after a feed.
     pub fn mode(self) -> u8
         ensures kept { result ≡ self.0 }
         ensures range { IsTrue (is_cut self.0 self.1) }

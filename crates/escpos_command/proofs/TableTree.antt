@@ -8,7 +8,7 @@ use Rattle.escpos_command.specs.declared.bytes.TheConstants.{LF, DLE, ESC, GS, E
 use Rattle.escpos_command.specs.declared.command.Command.{Command}
 use Rattle.escpos_command.specs.declared.command.Command.TheVariants as kind
 use Rattle.escpos_command.specs.Parameters.{is_character, is_one_of_two, is_one_of_three, is_one_of_four, is_size, is_bar_height, is_bar_width, is_status_kind, is_feed_cut_mode, is_byte, is_cut, is_mark_byte, is_mark_id}
-use Rattle.escpos_command.specs.Table.{Spells, IsCommand, row}
+use Rattle.escpos_command.specs.CommandTable.{Spells, IsCommand, row}
 use Rattle.escpos_command.specs.Tree.{leaf, walk, branch, none, one, first, character, after_esc, after_gs, after_dle, cut, mark, grammar, counted}
 use Rattle.escpos_command.proofs.Walks.{Good}
 use Rattle.escpos_command.proofs.Combinators.{good_choice, good_one, good_branch, good_these, good_counted, walk-counted, walk-one, live_counted, and_left, and_right, both, same_number}
