@@ -5,7 +5,7 @@ ghost use Rattle.escpos_decode.specs.Push.{IsRest, PushIs, GoesOn};
 ghost use Rattle.escpos_command.specs.Laws.{longest_spelling};
 
 use crate::plain::{Lead, lead_of, reason_after};
-use escpos_command::{Command, FaultReason, laws};
+use escpos_command::{Character, Command, FaultReason, laws};
 use std::alloc::Global;
 use std::marker::Model;
 
@@ -80,6 +80,12 @@ impl Decoder {
         ensures rest { IsRest self.new }
     {
         laws::joined_readings();
+        // Most bytes of a receipt are characters, which need no look at the tree.
+        if self.half.is_empty()
+            && let Some(character) = Character::new(byte)
+        {
+            return Ok(Step::Done(Command::Char(character)));
+        }
         match lead_of(&self.half, byte) {
             Lead::Leaf(command) => {
                 self.half.clear();
