@@ -8,6 +8,8 @@
 #![tactic(auto)]
 
 mod check;
+#[cfg(test)]
+mod examples;
 mod hexadecimal;
 mod input;
 mod job;
