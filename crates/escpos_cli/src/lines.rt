@@ -16,6 +16,8 @@ const _: () = prove!(SPACE == 32);
 /// More than the line of any command has.
 pub const LINE_BYTES: usize = 64;
 
+const _: () = prove!(LINE_BYTES == 64);
+
 /// The last line of a text.
 #[derive(Clone, Copy, Debug, PartialEq, Eq)]
 pub enum Last {

@@ -58,17 +58,18 @@ turn_done took next a piece half after at start then_start c h t take_it on none
     }
 
 -- The byte is refused.
-pub turn_fault : (took : List Command → Type 0) (a piece half : List ℕ) (at start : ℕ) (why : FaultReason) → at < length piece
+pub turn_fault : (took : List Command → Type 0) (a piece half after : List ℕ) (at start : ℕ) (why : FaultReason) → at < length piece
     → Turn took (a ++ take at piece) half start
     → ((b more : List ℕ) (cs : List Command) → Reads b cs half → FaultAt (b ++ slice_index piece at ∷ more) cs half (length b) why)
-    → (cs : List Command) × (rest : List ℕ) × FaultAt (a ++ piece) cs rest (length a + at) why × took cs
-turn_fault took a piece half at start why h t refused =
+    → after ≡ [] → (cs : List Command) × (rest : List ℕ) × FaultAt (a ++ piece) cs rest (length a + at) why × took cs × (after ≡ [])
+turn_fault took a piece half after at start why h t refused none =
     let found = refused (a ++ take at piece) (drop (at + 1) piece) t.commands t.read in (
       t.commands,
       half,
       subst (λ n. FaultAt (a ++ piece) t.commands half n why) (length-before a piece at h)
           (subst (λ xs. FaultAt xs t.commands half (length (a ++ take at piece)) why) (piece_around a piece at h) found),
       t.taken,
+      none,
     )
 
 -- The byte ends a command, which isn't taken.

@@ -1,5 +1,5 @@
 -- What reading a piece of a stream comes to.
-use Rattle.std.specs.Prelude.{ℕ, ◌+◌, ◌<◌, List, [], ◌∷◌, ◌++◌, length, take, slice_index}
+use Rattle.std.specs.Prelude.{ℕ, ◌≡◌, ◌+◌, ◌<◌, List, [], ◌∷◌, ◌++◌, length, take, slice_index}
 use Rattle.escpos_command.specs.declared.command.Command.{Command}
 use Rattle.escpos_command.specs.Grammar.{Half, Reads, FaultAt}
 use Rattle.escpos_decode.specs.declared.reading.Stop.{Stop}
@@ -17,11 +17,11 @@ given half piece = record { half = half; piece = piece }
 abbrev pub IsTaken : (List Command → Type 0) → List ℕ → List ℕ → Type 0
 IsTaken took bytes half = (cs : List Command) × Reads bytes cs half × took cs
 
--- Where the reading stops before the end of the piece, and the half command then: at a fault; for want of memory at a
--- byte that isn't refused, with the front before it read; or where a command isn't taken.
+-- Where the reading stops before the end of the piece, and the half command then: at a fault, and no half command is
+-- left; for want of memory at a byte that isn't refused, with the front before it read; or where a command isn't taken.
 abbrev pub StopsAt : {E : Type 0} → Stop E → (List Command → Type 0) → Given → List ℕ → Type 0
 StopsAt (Fault at why) took g after =
-    (cs : List Command) × (rest : List ℕ) × FaultAt (g.half ++ g.piece) cs rest (length g.half + at) why × took cs
+    (cs : List Command) × (rest : List ℕ) × FaultAt (g.half ++ g.piece) cs rest (length g.half + at) why × took cs × (after ≡ [])
 StopsAt Memory took g after =
     (k : ℕ) × (k < length g.piece) × IsTaken took (g.half ++ take k g.piece) after × Half (after ++ slice_index g.piece k ∷ [])
 StopsAt (Refused refusal) took g after = Unit {0}

@@ -58,7 +58,7 @@ pub fn read_piece<W, C: Consumer<W>>(
         StopsAt stop (C.took (consumer.old, output.old) (consumer.new, output.new)) (given decoder.old piece.now) decoder.new) }
     ensures refused { IfErr result (λ stop. IfRefused stop (λ refusal. (last : C × W) × (k : ℕ) × (command : Command)
         × EndsWith command (C.took (consumer.old, output.old) last) (decoder.old ++ take k piece.now)
-        × C.refused last (consumer.new, output.new) refusal)) }
+        × C.refused last (consumer.new, output.new) refusal × (decoder.new ≡ []))) }
 {
     let before = decoder.pending_len();
     let mut start = 0;

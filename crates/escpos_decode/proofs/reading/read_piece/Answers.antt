@@ -7,7 +7,8 @@ pub returns-in-Err-Fault-clause-stopped : goal.returns-in-Err-Fault-clause-stopp
 returns-in-Err-Fault-clause-stopped g c =
     let inside : c.loop-at.at < length c.args.piece.now = omega arith in
     let on = rw c.in-Err-Fault.field-0-is at c.in-Err-Fault.ensures.stream in
-    rw c.in-Err-Fault.why-is (turn_fault _ c.args.decoder.now c.args.piece.now c.loop-at.decoder c.loop-at.at c.loop-at.start _ inside c.loop-at.invariant on)
+    let step = rw c.in-Err-Fault.field-0-is at c.in-Err-Fault.ensures.step in
+    rw c.in-Err-Fault.why-is (turn_fault _ c.args.decoder.now c.args.piece.now c.loop-at.decoder _ c.loop-at.at c.loop-at.start _ inside c.loop-at.invariant on step.2)
 
 pub loop-at-preserved : goal.loop-at-preserved
 loop-at-preserved g c =
@@ -34,4 +35,5 @@ returns-in-Err-clause-refused g c =
       c.in-Done.command,
       turn_refused _ c.args.decoder.now c.args.piece.now c.loop-at.decoder c.push.new.self c.loop-at.at c.loop-at.start c.in-Done.command inside c.loop-at.invariant on step.1,
       c.in-Err.ensures.refused,
+      step.1,
     )
