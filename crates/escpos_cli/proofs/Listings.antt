@@ -1,8 +1,6 @@
 -- Lines of commands as they come.
-use Rattle.std.proofs.Common.{◌≡◌, ℕ, ◌+◌, List, [], ◌∷◌, ◌++◌, length, sym, ◌∙◌, ap, append_assoc, append-nil, arith, length-append, subst}
+use Rattle.std.proofs.Common.{◌≡◌, ℕ, ◌+◌, List, [], ◌∷◌, ◌++◌, length, sym, ◌∙◌, ap, append_assoc, append-nil, arith, length-append}
 use Rattle.escpos_command.specs.declared.command.Command.{Command}
-use Rattle.std.specs.Prelude.{Option}
-use Rattle.escpos_io.specs.Gather.{Carries, Gathered}
 use Rattle.escpos_command.specs.CommandTable.{row, spell}
 use Rattle.escpos_cli.specs.Lines.{command_line, command_lines}
 

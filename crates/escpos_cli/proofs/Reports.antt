@@ -1,5 +1,5 @@
 -- What a job prints of a byte stream, from how far the stream was read.
-use Rattle.std.proofs.Common.{◌≡◌, ◌≢◌, ℕ, ◌⊎◌, refl, inl, inr, List, [], ◌∷◌, ◌++◌, length, take, drop, append_assoc, append-nil, sym, ◌∙◌, ap, subst, arith, Result, Ok, Err, OnOk, false}
+use Rattle.std.proofs.Common.{◌≡◌, ◌≢◌, ℕ, refl, inl, inr, List, [], ◌∷◌, ◌++◌, length, take, drop, append_assoc, append-nil, sym, ◌∙◌, ap, subst, arith, Result, Ok, Err, OnOk, false}
 use Rattle.std.specs.Prelude.{is_err, IsTrue, IsErr, IfSome, Option, Some, None, codes, ◌<◌, ◌≤◌}
 use Rattle.hex.specs.Hex.{decode_of}
 use Rattle.std.specs.Io.KnownBytes.{Appends}

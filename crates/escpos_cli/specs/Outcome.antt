@@ -1,8 +1,9 @@
 -- How a job ended, and what all jobs say.
-use Rattle.std.specs.Prelude.{ℕ, Bool, ◌≡◌, ◌≢◌, ◌⊎◌, List, Option, IsTrue, codes}
+use Rattle.std.specs.Prelude.{ℕ, Bool, ◌≡◌, ◌≢◌, ◌⊎◌, ◌+◌, ◌≤◌, List, Option, IsTrue, codes}
 use Rattle.std.specs.Io.KnownBytes.{Appends}
+use Rattle.escpos_cli.specs.declared.input.TheConstants.{INPUT_LIMIT}
 use Rattle.escpos_cli.specs.declared.status.Status.{Status}
-use Rattle.escpos_cli.specs.declared.status.Status.TheVariants.{Good, Refused, Device, Memory}
+use Rattle.escpos_cli.specs.declared.status.Status.TheVariants.{Good, Refused, Usage, Device, Memory}
 
 -- The bytes that the sink had taken before the job and has taken after it, where it can name them; whether it has
 -- failed; and the status that the job answers.
@@ -38,3 +39,22 @@ pub record Refuses (o : Outcome) (line : List ℕ) : Type 0 where
 -- Good where no half command is left, else refused.
 abbrev pub StatusFits : Status → ℕ → Type 0
 StatusFits status half = ((status ≡ Good) × (half ≡ 0)) ⊎ ((status ≡ Refused) × (half ≢ 0))
+
+-- The devices of a job: whether its source has failed, whether its sink had failed before and has failed, and how often
+-- the source was pulled before and in all.
+pub record Devices : Type 0 where
+  pub source_failed : Bool
+  pub sink_had_failed : Bool
+  pub sink_failed : Bool
+  pub pulled_before : ℕ
+  pub pulled : ℕ
+
+-- What a status says of the devices, whatever they are: `Device` comes only where one of them has failed, and no other
+-- status where the source has failed, or the sink in this job; `Usage` never comes; the source isn't pulled once it
+-- has given one byte more than the limit.
+pub record IsFair (d : Devices) (status : Status) : Type 0 where
+  pub device : status ≡ Device → IsTrue d.source_failed ⊎ IsTrue d.sink_failed
+  pub not_hidden : status ≢ Device → ¬ IsTrue d.sink_had_failed → ¬ IsTrue d.sink_failed
+  pub all_read : status ≢ Device → ¬ IsTrue d.source_failed
+  pub never_usage : status ≢ Usage
+  pub pulls : d.pulled ≤ d.pulled_before + INPUT_LIMIT + 1

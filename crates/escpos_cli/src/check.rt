@@ -4,9 +4,8 @@ ghost use Rattle.std.specs.Prelude.{◌≡◌, ◌≢◌, ◌⊎◌, ◌+◌, �
 ghost use Rattle.std.proofs.Common.{subst, sym, append-nil};
 ghost use Rattle.escpos_io.specs.Gather.{Carries};
 ghost use Rattle.escpos_cli.specs.declared.job.Obstacle.TheVariants as obstacle;
-ghost use Rattle.escpos_cli.specs.declared.input.TheConstants.{INPUT_LIMIT};
 ghost use Rattle.escpos_cli.specs.Lines.{command_lines};
-ghost use Rattle.escpos_cli.specs.Outcome.{outcome};
+ghost use Rattle.escpos_cli.specs.Outcome.{IsFair, outcome};
 ghost use Rattle.escpos_cli.specs.Obstacle.{memory_is_no_device};
 ghost use Rattle.escpos_cli.specs.Check.{Checks, listing_shape};
 
@@ -25,11 +24,13 @@ use std::alloc::Global;
 pub fn check<R: ByteIn, W: ByteOut>(alloc: Global, input: &mut R, output: &mut W) -> Status
     ensures checks { IfSome (R.to_come input.old) (λ text.
         Checks (outcome (W.written output.old) (W.written output.new) (W.failed output.new) result) text) }
-    ensures device { result ≡ Status.Device → IsTrue (R.failed input.new) ⊎ IsTrue (W.failed output.new) }
-    ensures not_hidden { result ≢ Status.Device → ¬ IsTrue (W.failed output.old) → ¬ IsTrue (W.failed output.new) }
-    ensures all_read { result ≢ Status.Device → ¬ IsTrue (R.failed input.new) }
-    ensures never_usage { result ≢ Status.Usage }
-    ensures pulls { R.pull_count input.new ≤ R.pull_count input.old + INPUT_LIMIT + 1 }
+    ensures fair { IsFair (record {
+      source_failed = R.failed input.new;
+      sink_had_failed = W.failed output.old;
+      sink_failed = W.failed output.new;
+      pulled_before = R.pull_count input.old;
+      pulled = R.pull_count input.new;
+    }) result }
 {
     run::<R, W, Listing>(alloc, input, output)
 }
@@ -45,7 +46,7 @@ impl<W: ByteOut> Consumer<W> for Listing {
 
     ghost took = { λ start now cs.
         ((first : Option (List ℕ)) (total : List ℕ) → Carries first (W.written start.1) start.0.gather total
-            → Carries first (W.written now.1) now.0.gather (total ++ command_lines 0 cs))
+        → Carries first (W.written now.1) now.0.gather (total ++ command_lines 0 cs))
         × (¬ IsTrue (W.failed start.1) → ¬ IsTrue (W.failed now.1)) };
 
     ghost refused = { λ last now refusal. (refusal ≡ obstacle.Device) × IsTrue (W.failed now.1) };
@@ -60,8 +61,8 @@ impl<W: ByteOut> Consumer<W> for Listing {
     }
 
     ghost nothing = { λ start. (
-        λ first total carried. subst (Carries first (W.written start.1) start.0.gather) (sym (append-nil total)) carried,
-        λ well. well,
+      λ first total carried. subst (Carries first (W.written start.1) start.0.gather) (sym (append-nil total)) carried,
+      λ well. well,
     ) };
 }
 

@@ -5,9 +5,8 @@
 
 ghost use Rattle.std.specs.Prelude.{◌≡◌, ◌≢◌, ◌⊎◌, ◌+◌, ◌≤◌, ◌++◌, List, IfSome, IsTrue};
 ghost use Rattle.escpos_command.specs.declared.command.Command.{Command};
-ghost use Rattle.escpos_cli.specs.declared.input.TheConstants.{INPUT_LIMIT};
 ghost use Rattle.escpos_cli.specs.Lines.{last_text};
-ghost use Rattle.escpos_cli.specs.Outcome.{Says, memory_line, outcome};
+ghost use Rattle.escpos_cli.specs.Outcome.{IsFair, Says, memory_line, outcome};
 ghost use Rattle.escpos_cli.specs.Report.{Shape, Reports, Runs};
 
 use crate::input::hexadecimal_input;
@@ -78,11 +77,13 @@ pub trait Job<W: ByteOut>: Consumer<W, Refusal = Obstacle> + Drop {
 pub fn run<R: ByteIn, W: ByteOut, J: Job<W>>(alloc: Global, input: &mut R, output: &mut W) -> Status
     ensures runs { IfSome (R.to_come input.old) (λ text.
         Runs J.shape (outcome (W.written output.old) (W.written output.new) (W.failed output.new) result) text) }
-    ensures device { result ≡ Status.Device → IsTrue (R.failed input.new) ⊎ IsTrue (W.failed output.new) }
-    ensures not_hidden { result ≢ Status.Device → ¬ IsTrue (W.failed output.old) → ¬ IsTrue (W.failed output.new) }
-    ensures all_read { result ≢ Status.Device → ¬ IsTrue (R.failed input.new) }
-    ensures never_usage { result ≢ Status.Usage }
-    ensures pulls { R.pull_count input.new ≤ R.pull_count input.old + INPUT_LIMIT + 1 }
+    ensures fair { IsFair (record {
+      source_failed = R.failed input.new;
+      sink_had_failed = W.failed output.old;
+      sink_failed = W.failed output.new;
+      pulled_before = R.pull_count input.old;
+      pulled = R.pull_count input.new;
+    }) result }
 {
     match hexadecimal_input(alloc, input) {
         Ok(bytes) => report::<W, J>(alloc, &bytes, output),

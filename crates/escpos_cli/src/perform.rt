@@ -8,8 +8,8 @@ ghost use Rattle.escpos_cli.specs.Render.{RendersInput};
 ghost use Rattle.escpos_cli.specs.Outcome.{Says, memory_line, outcome};
 
 use crate::check::check;
-use crate::render::render;
 use crate::outcome::{MEMORY, say};
+use crate::render::render;
 use crate::status::Status;
 use crate::task::{HELP, NoTask, Task, USAGE};
 use escpos_io::{ByteIn, ByteOut};

@@ -6,8 +6,7 @@ ghost use Rattle.escpos_command.specs.declared.command.Command.{Command};
 ghost use Rattle.escpos_paper.specs.declared.item.Item.{Item};
 ghost use Rattle.escpos_paper.specs.Page.{PageIs};
 ghost use Rattle.escpos_cli.specs.declared.job.Obstacle.TheVariants as obstacle;
-ghost use Rattle.escpos_cli.specs.declared.input.TheConstants.{INPUT_LIMIT};
-ghost use Rattle.escpos_cli.specs.Outcome.{outcome};
+ghost use Rattle.escpos_cli.specs.Outcome.{IsFair, outcome};
 ghost use Rattle.escpos_cli.specs.Obstacle.{device_is_no_memory};
 ghost use Rattle.escpos_cli.specs.Render.{RendersInput, paper_shape};
 
@@ -28,22 +27,24 @@ use std::alloc::Global;
 pub fn render<R: ByteIn, W: ByteOut>(alloc: Global, input: &mut R, output: &mut W) -> Status
     ensures renders { IfSome (R.to_come input.old) (λ text.
         RendersInput (outcome (W.written output.old) (W.written output.new) (W.failed output.new) result) text) }
-    ensures device { result ≡ Status.Device → IsTrue (R.failed input.new) ⊎ IsTrue (W.failed output.new) }
-    ensures not_hidden { result ≢ Status.Device → ¬ IsTrue (W.failed output.old) → ¬ IsTrue (W.failed output.new) }
-    ensures all_read { result ≢ Status.Device → ¬ IsTrue (R.failed input.new) }
-    ensures never_usage { result ≢ Status.Usage }
-    ensures pulls { R.pull_count input.new ≤ R.pull_count input.old + INPUT_LIMIT + 1 }
+    ensures fair { IsFair (record {
+      source_failed = R.failed input.new;
+      sink_had_failed = W.failed output.old;
+      sink_failed = W.failed output.new;
+      pulled_before = R.pull_count input.old;
+      pulled = R.pull_count input.new;
+    }) result }
 {
-    run::<R, W, Paper>(alloc, input, output)
+    run::<R, W, Rendering>(alloc, input, output)
 }
 
 // The page that the commands so far have printed on.
 #[derive(Drop)]
-struct Paper {
+struct Rendering {
     page: Page,
 }
 
-impl<W: ByteOut> Consumer<W> for Paper {
+impl<W: ByteOut> Consumer<W> for Rendering {
     type Refusal = Obstacle;
 
     ghost took = { λ start now cs. (now.1 ≡ start.1)
@@ -59,18 +60,18 @@ impl<W: ByteOut> Consumer<W> for Paper {
     }
 
     ghost nothing = { λ start. (
-        refl,
-        λ kept before is. subst (PageIs start.0.page kept) (sym (append-nil before)) is,
+      refl,
+      λ kept before is. subst (PageIs start.0.page kept) (sym (append-nil before)) is,
     ) };
 }
 
-impl<W: ByteOut> Job<W> for Paper {
+impl<W: ByteOut> Job<W> for Rendering {
     ghost shape = { paper_shape };
 
-    ghost is_new = { λ paper. PageIs paper.page [] [] };
+    ghost is_new = { λ rendering. PageIs rendering.page [] [] };
 
     fn new(alloc: Global) -> Self {
-        Paper {
+        Rendering {
             page: Page::new(alloc),
         }
     }
@@ -100,8 +101,8 @@ impl<W: ByteOut> Job<W> for Paper {
     ghost well = { λ start now cs taken well. subst (λ output. ¬ IsTrue (W.failed output)) (sym taken.0) well };
 
     ghost no_memory = { λ start last now cs taken left. (
-        left.1 ∙ taken.0,
-        λ kept before is. left.2 ∙ taken.1 kept before is,
+      left.1 ∙ taken.0,
+      λ kept before is. left.2 ∙ taken.1 kept before is,
     ) };
 
     ghost no_device = { λ last now left. absurd (device_is_no_memory left.0) };

@@ -1,8 +1,6 @@
 //! Commands written to a sink.
 
-ghost use Rattle.std.specs.Prelude.{OnOk, IfErr, IsTrue};
-ghost use Rattle.std.specs.Io.KnownBytes.{Appends};
-ghost use Rattle.escpos_io.specs.Gather.{StopsIn};
+ghost use Rattle.escpos_io.specs.Putting.{IsPut, passage};
 ghost use Rattle.escpos_command.specs.CommandTable.{spell};
 
 use crate::command::Command;
@@ -13,11 +11,7 @@ use escpos_io::{ByteOut, Device, put_pieces};
 /// On `Ok` the writer has not failed, unless it had before. On `Err` it has failed, and exactly the first
 /// `written` bytes of the spellings are out, fewer than there are.
 pub fn write_commands<W: ByteOut>(commands: &[Command], writer: &mut W) -> Result<(), Device>
-    ensures ok { OnOk result (Appends (W.written writer.old) (W.written writer.new) (spell commands.now)) }
-    ensures err { IfErr result (λ device.
-        StopsIn (W.written writer.old) (W.written writer.new) (spell commands.now) device.written) }
-    ensures failed { IfErr result (λ _. IsTrue (W.failed writer.new)) }
-    ensures not_failed { OnOk result (¬ IsTrue (W.failed writer.old) → ¬ IsTrue (W.failed writer.new)) }
+    ensures { IsPut result (passage (W.written writer.old) (W.written writer.new) (W.failed writer.old) (W.failed writer.new)) (spell commands.now) }
 {
     put_pieces(commands, writer)
 }

@@ -1,5 +1,5 @@
 -- A stream in pieces: the pieces before one, that piece, and those that follow it.
-use Rattle.std.proofs.Common.{◌≡◌, ℕ, ◌+◌, ◌<◌, List, [], ◌∷◌, ◌++◌, length, take, drop, refl, sym, ◌∙◌, ap, subst, append_assoc, arith, length-append, get_or, suc}
+use Rattle.std.proofs.Common.{◌≡◌, ℕ, ◌+◌, ◌<◌, List, ◌∷◌, ◌++◌, length, take, drop, sym, ◌∙◌, ap, subst, append_assoc, arith, length-append, get_or, suc}
 use Rattle.std.specs.Borrow.{Bor}
 use Rattle.std.proofs.lemmas.Grind.{flat_map-append}
 use Rattle.std.proofs.lemmas.List.{take-append-drop}
@@ -30,7 +30,9 @@ stream_fault law pieces i d cs ds all half rest at n why h r e f same =
     let a = joined (take i pieces) in
     let found = law.fault a (get_or pieces i d).now cs ds half rest (length half + at) why r f in
     let count : length (spell cs) + (length half + at) ≡ n + at = omega (arith, e, ap length r.whole ∙ length-append (spell cs) half) in
-    let whole = law.first_fault (a ++ (get_or pieces i d).now) (joined (drop (suc i) pieces)) (cs ++ ds) rest (length (spell cs) + (length half + at)) why found in
-    (rest, subst (λ v. FaultAt (joined pieces) v rest (n + at) why) (sym same)
-    (subst (λ m. FaultAt (joined pieces) (cs ++ ds) rest m why) count
-    (subst (λ xs. FaultAt xs (cs ++ ds) rest (length (spell cs) + (length half + at)) why) (joined_around pieces i d h) whole)))
+    let whole = law.first_fault (a ++ (get_or pieces i d).now) (joined (drop (suc i) pieces)) (cs ++ ds) rest (length (spell cs) + (length half + at)) why found in (
+      rest,
+      subst (λ v. FaultAt (joined pieces) v rest (n + at) why) (sym same)
+          (subst (λ m. FaultAt (joined pieces) (cs ++ ds) rest m why) count
+          (subst (λ xs. FaultAt xs (cs ++ ds) rest (length (spell cs) + (length half + at)) why) (joined_around pieces i d h) whole)),
+    )

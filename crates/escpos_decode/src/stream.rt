@@ -84,7 +84,12 @@ impl Consumer<()> for Vec<Command> {
 
     ghost refused = { λ _ _ _. ⊤ };
 
-    fn take(&mut self, command: Command, _place: usize, _output: &mut ()) -> Result<(), AllocError> {
+    fn take(
+        &mut self,
+        command: Command,
+        _place: usize,
+        _output: &mut (),
+    ) -> Result<(), AllocError> {
         match self.push(command) {
             Ok(()) => Ok(()),
             Err(_) => Err(AllocError),

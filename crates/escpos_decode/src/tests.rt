@@ -263,7 +263,10 @@ fn long_streams(rt: HostRuntime) -> Result<(), Fail> {
     let decoded = decode(rt.alloc(), &[&piece, &piece, &piece, &piece, &piece])?;
     assert_eq!(rt; decoded.commands.len(), 5_000_000);
     assert_eq!(rt; decoded.end, End::Read { half: 0 });
-    let refused = decode(rt.alloc(), &[&piece, &[0x1B], &[0x40], &piece, &[0x1D, 0x06]])?;
+    let refused = decode(
+        rt.alloc(),
+        &[&piece, &[0x1B], &[0x40], &piece, &[0x1D, 0x06]],
+    )?;
     assert_eq!(rt; refused.commands.len(), 2_000_001);
     let why = FaultReason::UnknownCommand;
     assert_eq!(rt; refused.end, End::Fault { at: 2_000_003, why });

@@ -3,3 +3,4 @@ pub mod Incoming
 pub mod Outgoing
 pub mod Memory
 pub mod Gather
+pub mod Putting

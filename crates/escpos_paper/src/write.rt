@@ -1,8 +1,6 @@
 //! The paper as text, sent off to a writer.
 
-ghost use Rattle.std.specs.Prelude.{OnOk, IfErr, IsTrue};
-ghost use Rattle.std.specs.Io.KnownBytes.{Appends};
-ghost use Rattle.escpos_io.specs.Gather.{StopsIn};
+ghost use Rattle.escpos_io.specs.Putting.{IsPut, passage};
 ghost use Rattle.escpos_paper.specs.ItemsText.{items_text};
 
 use crate::item::Item;
@@ -19,11 +17,7 @@ use escpos_io::{ByteOut, Device, put_pieces};
 /// On `Ok` the writer has not failed, unless it had before. On `Err` it has failed, and exactly the first
 /// `written` bytes of that text are out, fewer than there are.
 pub fn write_items<W: ByteOut>(items: &[Item], writer: &mut W) -> Result<(), Device>
-    ensures ok { OnOk result (Appends (W.written writer.old) (W.written writer.new) (items_text items.now)) }
-    ensures err { IfErr result (λ device.
-        StopsIn (W.written writer.old) (W.written writer.new) (items_text items.now) device.written) }
-    ensures failed { IfErr result (λ _. IsTrue (W.failed writer.new)) }
-    ensures not_failed { OnOk result (¬ IsTrue (W.failed writer.old) → ¬ IsTrue (W.failed writer.new)) }
+    ensures { IsPut result (passage (W.written writer.old) (W.written writer.new) (W.failed writer.old) (W.failed writer.new)) (items_text items.now) }
 {
     put_pieces(items, writer)
 }

@@ -10,8 +10,9 @@ ghost use Rattle.escpos_command.specs.declared.command.Command.TheVariants.{Mark
 use super::parameter::Parameter;
 use super::rest::Rest;
 use escpos_command::{
-    Align, BarHeight, BarWidth, CR, Character, Command, Cut, DLE, EOT, ESC, Emphasis, FeedLines, Font,
-    GS, HriFont, HriPlace, LF, MarkId, Mode, Size, StatusKind, Table, Underline, is_mark_byte,
+    Align, BarHeight, BarWidth, CR, Character, Command, Cut, DLE, EOT, ESC, Emphasis, FeedLines,
+    Font, GS, HriFont, HriPlace, LF, MarkId, Mode, Size, StatusKind, Table, Underline,
+    is_mark_byte,
 };
 
 /// Where bytes lead.

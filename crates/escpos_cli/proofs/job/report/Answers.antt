@@ -1,4 +1,4 @@
-use Rattle.std.proofs.Common.{◌∙◌, refl, ap, sym, subst, length, zero-add}
+use Rattle.std.proofs.Common.{◌∙◌, ap, sym, subst, length, zero-add}
 use Rattle.escpos_cli.specs.Lines.{fault_line}
 use Rattle.escpos_cli.specs.Outcome.{StatusFits}
 use Rattle.escpos_cli.proofs.Reports.{reports_read, reports_refused, reports_cut_short, front_without, device_failed, never_usage, memory_is_no_device, memory_is_no_usage}

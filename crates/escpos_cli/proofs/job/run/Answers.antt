@@ -1,4 +1,4 @@
-use Rattle.std.proofs.Common.{refl, ap}
+use Rattle.std.proofs.Common.{ap}
 use Rattle.std.specs.Prelude.{Err}
 use Rattle.escpos_cli.proofs.Reports.{runs_refused}
 use Rattle.escpos_cli.proofs.job.run.Goals as goal

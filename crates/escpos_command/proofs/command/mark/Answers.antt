@@ -1,4 +1,4 @@
-use Rattle.std.proofs.Common.{ap, sym, ◌∙◌, subst}
+use Rattle.std.proofs.Common.{◌∙◌, subst}
 use Rattle.std.specs.Prelude.{IsTrue}
 use Rattle.escpos_command.specs.Parameters.{is_mark_id}
 use Rattle.escpos_command.proofs.command.mark.Goals as goal

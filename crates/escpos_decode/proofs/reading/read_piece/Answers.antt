@@ -1,4 +1,4 @@
-use Rattle.std.proofs.Common.{◌≡◌, ◌<◌, ◌+◌, length, arith, ◌∙◌, ap}
+use Rattle.std.proofs.Common.{◌<◌, ◌+◌, length, arith, ◌∙◌, ap}
 use Rattle.escpos_decode.proofs.Streams.{turn_more, turn_done, turn_fault, turn_refused}
 use Rattle.escpos_decode.proofs.reading.read_piece.Goals as goal
 use Rattle.escpos_decode.proofs.reading.read_piece.Goals.{in-More, in-Done+in_default}
@@ -28,8 +28,7 @@ pub returns-in-Err-clause-refused : goal.returns-in-Err-clause-refused
 returns-in-Err-clause-refused g c =
     let inside : c.loop-at.at < length c.args.piece.now = omega arith in
     let on = rw c.in-Done.is at c.in-Ok.ensures.stream in
-    let step = rw c.in-Done.is at c.in-Ok.ensures.step in
-    (
+    let step = rw c.in-Done.is at c.in-Ok.ensures.step in (
       (c.loop-at.consumer, c.loop-at.output),
       c.loop-at.at + 1,
       c.in-Done.command,

@@ -1,7 +1,4 @@
-use Rattle.std.proofs.Common.{◌≡◌, List, ◌++◌, length, take}
-use Rattle.escpos_command.specs.declared.command.Command.{Command}
-use Rattle.escpos_command.specs.CommandTable.{spell}
-use Rattle.escpos_command.specs.Grammar.{Reads}
+use Rattle.std.proofs.Common.{◌++◌, take}
 use Rattle.escpos_decode.proofs.Streams.{Turn}
 use Rattle.escpos_decode.proofs.reading.read_piece.Given as goal
 

@@ -1,11 +1,11 @@
-use Rattle.std.proofs.Common.{inl, refl, [], ◌++◌, ◌∙◌, ap, subst, sym, append-nil}
+use Rattle.std.proofs.Common.{inl, refl, [], ◌++◌, ◌∙◌, ap, subst, append-nil}
 use Rattle.std.proofs.KnownBytes.{Appends-trans}
 use Rattle.std.specs.Io.KnownBytes.{Appends}
 use Rattle.escpos_paper.specs.ItemsText.{items_text}
 use Rattle.escpos_paper.specs.Printed.{printed}
 use Rattle.escpos_cli.specs.Lines.{last_text}
 use Rattle.escpos_cli.proofs.Reports.{succeeded}
-use Rattle.escpos_cli.proofs.render.PaperJob.finish.Goals as goal
+use Rattle.escpos_cli.proofs.render.RenderingJob.finish.Goals as goal
 
 pub returns-in-Ok-clause-says : goal.returns-in-Ok-clause-says
 returns-in-Ok-clause-says g c = λ start cs new taken.
