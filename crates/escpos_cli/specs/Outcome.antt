@@ -40,21 +40,13 @@ pub record Refuses (o : Outcome) (line : List ℕ) : Type 0 where
 abbrev pub StatusFits : Status → ℕ → Type 0
 StatusFits status half = ((status ≡ Good) × (half ≡ 0)) ⊎ ((status ≡ Refused) × (half ≢ 0))
 
--- The devices of a job: whether its source has failed, whether its sink had failed before and has failed, and how often
--- the source was pulled before and in all.
-pub record Devices : Type 0 where
-  pub source_failed : Bool
-  pub sink_had_failed : Bool
-  pub sink_failed : Bool
-  pub pulled_before : ℕ
-  pub pulled : ℕ
-
--- What a status says of the devices, whatever they are: `Device` comes only where one of them has failed, and no other
--- status where the source has failed, or the sink in this job; `Usage` never comes; the source isn't pulled once it
--- has given one byte more than the limit.
-pub record IsFair (d : Devices) (status : Status) : Type 0 where
-  pub device : status ≡ Device → IsTrue d.source_failed ⊎ IsTrue d.sink_failed
-  pub not_hidden : status ≢ Device → ¬ IsTrue d.sink_had_failed → ¬ IsTrue d.sink_failed
-  pub all_read : status ≢ Device → ¬ IsTrue d.source_failed
+-- What a status says of a job's devices, whatever they are. Of the source it is seen whether it has failed, and how often
+-- it was pulled before the job and after it; of the sink whether it had failed before and has failed after it.
+-- `Device` comes only where one of them has failed, and no other status where the source has failed, or the sink in
+-- this job; `Usage` never comes; and the source is pulled at most once more than the limit has bytes.
+pub record IsFair (status : Status) (source_failed : Bool) (sink : Bool × Bool) (pulls : ℕ × ℕ) : Type 0 where
+  pub device : status ≡ Device → IsTrue source_failed ⊎ IsTrue sink.1
+  pub not_hidden : status ≢ Device → ¬ IsTrue sink.0 → ¬ IsTrue sink.1
+  pub all_read : status ≢ Device → ¬ IsTrue source_failed
   pub never_usage : status ≢ Usage
-  pub pulls : d.pulled ≤ d.pulled_before + INPUT_LIMIT + 1
+  pub few_pulls : pulls.1 ≤ pulls.0 + INPUT_LIMIT + 1

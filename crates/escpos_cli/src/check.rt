@@ -22,15 +22,9 @@ use std::alloc::Global;
 ///
 /// `run` says which status comes when. At `Memory` the line `memory` follows the lines of the commands so far.
 pub fn check<R: ByteIn, W: ByteOut>(alloc: Global, input: &mut R, output: &mut W) -> Status
-    ensures checks { IfSome (R.to_come input.old) (λ text.
-        Checks (outcome (W.written output.old) (W.written output.new) (W.failed output.new) result) text) }
-    ensures fair { IsFair (record {
-      source_failed = R.failed input.new;
-      sink_had_failed = W.failed output.old;
-      sink_failed = W.failed output.new;
-      pulled_before = R.pull_count input.old;
-      pulled = R.pull_count input.new;
-    }) result }
+    ensures checks { IfSome (R.to_come input.old) (λ text. Checks (outcome (W.written output.old) (W.written output.new) (W.failed output.new) result) text) }
+    ensures fair { IsFair result (R.failed input.new) (W.failed output.old, W.failed output.new)
+        (R.pull_count input.old, R.pull_count input.new) }
 {
     run::<R, W, Listing>(alloc, input, output)
 }

@@ -77,13 +77,8 @@ pub trait Job<W: ByteOut>: Consumer<W, Refusal = Obstacle> + Drop {
 pub fn run<R: ByteIn, W: ByteOut, J: Job<W>>(alloc: Global, input: &mut R, output: &mut W) -> Status
     ensures runs { IfSome (R.to_come input.old) (λ text.
         Runs J.shape (outcome (W.written output.old) (W.written output.new) (W.failed output.new) result) text) }
-    ensures fair { IsFair (record {
-      source_failed = R.failed input.new;
-      sink_had_failed = W.failed output.old;
-      sink_failed = W.failed output.new;
-      pulled_before = R.pull_count input.old;
-      pulled = R.pull_count input.new;
-    }) result }
+    ensures fair { IsFair result (R.failed input.new) (W.failed output.old, W.failed output.new)
+        (R.pull_count input.old, R.pull_count input.new) }
 {
     match hexadecimal_input(alloc, input) {
         Ok(bytes) => report::<W, J>(alloc, &bytes, output),

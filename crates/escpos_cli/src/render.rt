@@ -20,24 +20,6 @@ use escpos_io::{ByteIn, ByteOut, put_pieces};
 use escpos_paper::{Page, write_items};
 use std::alloc::Global;
 
-/// Reads a stream in hexadecimal from `input` and writes the paper that it prints to `output`, an item a
-/// line, and the last line of the listing after a fault or with a half command at the end.
-///
-/// `run` says which status comes when. At `Memory` the line `memory` is all that goes out.
-pub fn render<R: ByteIn, W: ByteOut>(alloc: Global, input: &mut R, output: &mut W) -> Status
-    ensures renders { IfSome (R.to_come input.old) (λ text.
-        RendersInput (outcome (W.written output.old) (W.written output.new) (W.failed output.new) result) text) }
-    ensures fair { IsFair (record {
-      source_failed = R.failed input.new;
-      sink_had_failed = W.failed output.old;
-      sink_failed = W.failed output.new;
-      pulled_before = R.pull_count input.old;
-      pulled = R.pull_count input.new;
-    }) result }
-{
-    run::<R, W, Rendering>(alloc, input, output)
-}
-
 // The page that the commands so far have printed on.
 #[derive(Drop)]
 struct Rendering {
@@ -106,4 +88,16 @@ impl<W: ByteOut> Job<W> for Rendering {
     ) };
 
     ghost no_device = { λ last now left. absurd (device_is_no_memory left.0) };
+}
+
+/// Reads a stream in hexadecimal from `input` and writes the paper that it prints to `output`, an item a
+/// line, and the last line of the listing after a fault or with a half command at the end.
+///
+/// `run` says which status comes when. At `Memory` the line `memory` is all that goes out.
+pub fn render<R: ByteIn, W: ByteOut>(alloc: Global, input: &mut R, output: &mut W) -> Status
+    ensures renders { IfSome (R.to_come input.old) (λ text. RendersInput (outcome (W.written output.old) (W.written output.new) (W.failed output.new) result) text) }
+    ensures fair { IsFair result (R.failed input.new) (W.failed output.old, W.failed output.new)
+        (R.pull_count input.old, R.pull_count input.new) }
+{
+    run::<R, W, Rendering>(alloc, input, output)
 }

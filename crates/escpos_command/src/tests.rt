@@ -6,25 +6,22 @@ use escpos_io::{Device, MemoryOut, Outgoing};
 use std::alloc::Global;
 use std::test::Fail;
 
-// Init, H, i, LF, and GS V 0.
-const FIVE: [u8; 8] = [0x1B, 0x40, 0x48, 0x69, 0x0A, 0x1D, 0x56, 0x00];
+// What five_commands_of spells.
+const FIVE: &[u8] = b"\x1B@Hi\x0A\x1DV\x00";
 
 // The mark with the id 000Z.
-const MARK_35: [u8; 11] = [
-    0x1D, 0x28, 0x48, 0x06, 0x00, 0x30, 0x30, 0x30, 0x30, 0x30, 0x5A,
-];
+const MARK_35: &[u8] = b"\x1D(H\x06\x0000000Z";
 
+// Initialise, H, i, a line feed and a cut.
 fn five_commands_of(alloc: Global) -> Result<Vec<Command>, Fail> {
-    let h = Character::new(0x48).ok_or("H")?;
-    let i = Character::new(0x69).ok_or("i")?;
-    let cut = Cut::new(0).ok_or("cut")?;
-    Ok(vec![in alloc;
-        Command::Init,
-        Command::Char(h),
-        Command::Char(i),
-        Command::LineFeed,
-        Command::Cut(cut),
-    ]?)
+    let mut commands = Vec::new(alloc);
+    commands.push(Command::Init)?;
+    for character in chars_of(alloc, b"Hi")? {
+        commands.push(character)?;
+    }
+    commands.push(Command::LineFeed)?;
+    commands.push(Command::Cut(Cut::new(0).ok_or("cut")?))?;
+    Ok(commands)
 }
 
 #[test]
@@ -33,7 +30,7 @@ fn five_commands(rt: HostRuntime) -> Result<(), Fail> {
     for command in &five_commands_of(rt.alloc())? {
         command.spell(&mut out)?;
     }
-    assert_eq!(rt; out.as_slice(), FIVE.as_slice());
+    assert_eq!(rt; out.as_slice(), FIVE);
     Ok(())
 }
 
@@ -60,7 +57,7 @@ fn mark_numbers(rt: HostRuntime) -> Result<(), Fail> {
 #[test]
 fn mark_35(rt: HostRuntime) -> Result<(), Fail> {
     let mark = Command::Mark(MarkId::of_number(35).ok_or("number")?);
-    assert_eq!(rt; mark.spelling().as_slice(), MARK_35.as_slice());
+    assert_eq!(rt; mark.spelling().as_slice(), MARK_35);
     let parts = mark.parts();
     assert_eq!(rt; parts.front, &MARK_35[..7]);
     assert_eq!(rt; parts.parameters.as_slice(), &MARK_35[7..]);
@@ -109,7 +106,7 @@ fn short_writer(rt: HostRuntime) -> Result<(), Fail> {
     let mut room = [0u8; 9];
     let mut sink = MemoryOut::new(&mut room);
     assert_eq!(rt; write_commands(&commands, &mut sink), Ok(()));
-    assert_eq!(rt; sink.written(), FIVE.as_slice());
+    assert_eq!(rt; sink.written(), FIVE);
     Ok(())
 }
 

@@ -7,6 +7,9 @@ use std::alloc::Global;
 use std::process::Abort;
 use std::test::Fail;
 
+// Why a byte out of the range of a parameter is refused.
+const BAD: FaultReason = FaultReason::BadParameter;
+
 // Init, H, i, LF, and GS V 0.
 const FIVE: [u8; 8] = [0x1B, 0x40, 0x48, 0x69, 0x0A, 0x1D, 0x56, 0x00];
 
@@ -99,12 +102,7 @@ fn five_commands(rt: HostRuntime) -> Result<(), Fail> {
 
 #[test]
 fn align_range(rt: HostRuntime) -> Result<(), Fail> {
-    refuses_last(
-        &rt,
-        rt.alloc(),
-        &[0x1B, 0x61, 0x03],
-        FaultReason::BadParameter,
-    )?;
+    refuses_last(&rt, rt.alloc(), &[0x1B, 0x61, 0x03], BAD)?;
     let align = Align::new(0x32).ok_or("align")?;
     decodes(&rt, rt.alloc(), &[0x1B, 0x61, 0x32], Command::Align(align))
 }
@@ -130,18 +128,8 @@ fn unknown_bytes(rt: HostRuntime) -> Result<(), Fail> {
 
 #[test]
 fn size_bits(rt: HostRuntime) -> Result<(), Fail> {
-    refuses_last(
-        &rt,
-        rt.alloc(),
-        &[0x1D, 0x21, 0x08],
-        FaultReason::BadParameter,
-    )?;
-    refuses_last(
-        &rt,
-        rt.alloc(),
-        &[0x1D, 0x21, 0x80],
-        FaultReason::BadParameter,
-    )?;
+    refuses_last(&rt, rt.alloc(), &[0x1D, 0x21, 0x08], BAD)?;
+    refuses_last(&rt, rt.alloc(), &[0x1D, 0x21, 0x80], BAD)?;
     let size = Size::new(0x77).ok_or("size")?;
     decodes(&rt, rt.alloc(), &[0x1D, 0x21, 0x77], Command::Size(size))
 }
@@ -155,9 +143,9 @@ fn mark_prefix(rt: HostRuntime) -> Result<(), Fail> {
         FaultReason::UnknownCommand,
     )?;
     let bytes = [0x1D, 0x28, 0x48, 0x07];
-    refuses_last(&rt, rt.alloc(), &bytes, FaultReason::BadParameter)?;
+    refuses_last(&rt, rt.alloc(), &bytes, BAD)?;
     let bytes = [0x1D, 0x28, 0x48, 0x06, 0x00, 0x30, 0x30, 0x1F];
-    refuses_last(&rt, rt.alloc(), &bytes, FaultReason::BadParameter)
+    refuses_last(&rt, rt.alloc(), &bytes, BAD)
 }
 
 #[test]
@@ -243,7 +231,7 @@ fn least_and_greatest_parameters(rt: HostRuntime) -> Result<(), Fail> {
         }
         for parameter in refused {
             bytes.push(*parameter)?;
-            refuses_last(&rt, rt.alloc(), &bytes, FaultReason::BadParameter)?;
+            refuses_last(&rt, rt.alloc(), &bytes, BAD)?;
             bytes.pop();
         }
     }
