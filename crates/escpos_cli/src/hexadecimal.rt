@@ -1,6 +1,6 @@
 //! Bytes from the hexadecimal text that a person writes: digits of either case, with blanks anywhere.
 
-ghost use Rattle.std.specs.Prelude.{◌≡◌, ◌≢◌, IfOk, IsErr};
+ghost use Rattle.std.specs.Prelude.{◌≡◌, ◌≢◌, ◌%◌, length, IfOk, IsErr};
 ghost use Rattle.hex.specs.Hex.{decode_of};
 ghost use Rattle.escpos_cli.specs.Hexadecimal.{IsHexadecimal, digits_of, is_blank};
 
@@ -22,6 +22,7 @@ pub enum HexFault {
 /// The bytes that the text writes, spaces, tabs, CR and LF left out.
 pub fn bytes_of(alloc: Global, mut text: Vec<u8>) -> Result<Vec<u8>, HexFault>
     ensures bytes { IfOk result (λ v. IsHexadecimal text.items v.items) }
+    ensures memory { result ≡ Err HexFault.Memory → length (digits_of text.items) % 2 ≢ 1 }
     ensures refused { result ≡ Err HexFault.Refused → IsErr (decode_of (digits_of text.items)) }
 {
     text.retain(|byte| !is_blank_byte(*byte));
@@ -30,7 +31,8 @@ pub fn bytes_of(alloc: Global, mut text: Vec<u8>) -> Result<Vec<u8>, HexFault>
 
 // What a refusal of the digits comes to.
 fn fault_by(refusal: FromHexError) -> HexFault
-    ensures { result ≡ HexFault.Refused → refusal ≢ FromHexError.OutOfMemory }
+    ensures refused { result ≡ HexFault.Refused → refusal ≢ FromHexError.OutOfMemory }
+    ensures memory { result ≡ HexFault.Memory → refusal ≡ FromHexError.OutOfMemory }
 {
     match refusal {
         FromHexError::OutOfMemory => HexFault::Memory,

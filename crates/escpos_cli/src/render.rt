@@ -1,10 +1,11 @@
 //! The job `render`: what a byte stream prints, as text. The paper goes out when all bytes are read.
 
-ghost use Rattle.std.specs.Prelude.{◌≡◌, ◌≢◌, ◌⊎◌, ◌+◌, ◌≤◌, ◌++◌, [], List, IfSome, IsTrue};
+ghost use Rattle.std.specs.Prelude.{◌≡◌, ◌≢◌, ◌⊎◌, ◌+◌, ◌≤◌, ◌<◌, ◌++◌, [], List, IfSome, IsTrue};
 ghost use Rattle.std.proofs.Common.{refl, subst, sym, ◌∙◌, append-nil};
 ghost use Rattle.escpos_command.specs.declared.command.Command.{Command};
 ghost use Rattle.escpos_paper.specs.declared.item.Item.{Item};
 ghost use Rattle.escpos_paper.specs.Page.{PageIs};
+ghost use Rattle.escpos_paper.specs.declared.paper.TheConstants.{MOST_ITEMS};
 ghost use Rattle.escpos_cli.specs.declared.job.Obstacle.TheVariants as obstacle;
 ghost use Rattle.escpos_cli.specs.Outcome.{IsFair, outcome};
 ghost use Rattle.escpos_cli.specs.Obstacle.{device_is_no_memory};
@@ -32,7 +33,7 @@ impl<W: ByteOut> Consumer<W> for Rendering {
     ghost took = { λ start now cs. (now.1 ≡ start.1)
         × ((kept : List Item) (before : List Command) → PageIs start.0.page kept before → PageIs now.0.page kept (before ++ cs)) };
 
-    ghost refused = { λ last now refusal. (refusal ≡ obstacle.Memory) × (now.1 ≡ last.1) × (now.0.page.sheet ≡ last.0.page.sheet) };
+    ghost refused = { λ last now refusal. (refusal ≡ obstacle.Memory) × (last.0.page.room < MOST_ITEMS) × (now.1 ≡ last.1) × (now.0.page.sheet ≡ last.0.page.sheet) };
 
     fn take(&mut self, command: Command, _place: usize, _output: &mut W) -> Result<(), Obstacle> {
         match self.page.apply(command) {
@@ -83,8 +84,8 @@ impl<W: ByteOut> Job<W> for Rendering {
     ghost well = { λ start now cs taken well. subst (λ output. ¬ IsTrue (W.failed output)) (sym taken.0) well };
 
     ghost no_memory = { λ start last now cs taken left. (
-      left.1 ∙ taken.0,
-      λ kept before is. left.2 ∙ taken.1 kept before is,
+      left.2 ∙ taken.0,
+      λ kept before is. left.3 ∙ taken.1 kept before is,
     ) };
 
     ghost no_device = { λ last now left. absurd (device_is_no_memory left.0) };

@@ -4,7 +4,7 @@
 //! (`specs/CommandTable.antt`), a branch of the tree of bytes (`specs/Tree.antt`) and a case of the proofs over that
 //! tree; no proof is about a pair of kinds. docs/ARCHITECTURE.md lists all places.
 
-ghost use Rattle.std.specs.Prelude.{◌≡◌, ◌≤◌, ◌+◌, [], ◌∷◌, ◌++◌, length, OnOk, OnErr};
+ghost use Rattle.std.specs.Prelude.{◌≡◌, ◌≤◌, ◌+◌, [], ◌∷◌, ◌++◌, length, OnOk, OnErr, IsOk, vec_len, vec_capacity};
 ghost use Rattle.escpos_command.specs.CommandTable.{row, entry_of, IsCommand};
 ghost use Rattle.escpos_command.specs.declared.command.Command.TheVariants.{Mark};
 
@@ -68,7 +68,7 @@ pub const LONGEST_SPELLING: usize = 11;
 const _: () = prove!(LONGEST_SPELLING == 11);
 
 /// The bytes of a command in two parts: fixed ones, and then its parameters as sent.
-#[derive(Clone, Debug, Drop)]
+#[derive(Debug, Drop)]
 pub struct Parts {
     /// The fixed bytes that a command of this kind begins with; none for a character.
     pub front: &'static [u8],
@@ -83,6 +83,7 @@ impl Command {
     pub fn spell(&self, out: &mut Vec<u8>) -> Result<(), AllocError>
         ensures ok { OnOk result (out.new.items ≡ out.old.items ++ row self.now) }
         ensures err { OnErr result (out.new.items ≡ out.old.items) }
+        ensures no_memory { vec_len out.old + length (row self.now) ≤ vec_capacity out.old → IsOk result }
     {
         out.extend_from_slice(self.spelling().as_slice())
     }

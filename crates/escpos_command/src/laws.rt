@@ -2,7 +2,7 @@
 //! the law is proved with the crate and another crate can cite it by calling the function. (`in_range` asks
 //! the command for its parts, whose clauses say it, and `same_clone` clones it.)
 
-ghost use Rattle.std.specs.Prelude.{ℕ, ◌≡◌, ◌≢◌, ◌+◌, ◌<◌, ◌≤◌, ◌⊎◌, List, [], ◌++◌, length, IsTrue, IfOk};
+ghost use Rattle.std.specs.Prelude.{ℕ, ◌≡◌, ◌≢◌, ◌+◌, ◌<◌, ◌≤◌, ◌⊎◌, List, [], ◌++◌, length, IsTrue, Ok};
 ghost use Rattle.escpos_command.specs.declared.fault.FaultReason.{FaultReason};
 ghost use Rattle.escpos_command.specs.CommandTable.{Spells, IsCommand, row, spell};
 ghost use Rattle.escpos_command.specs.Grammar.{Viable, Half, Reads, FaultAt};
@@ -67,7 +67,7 @@ pub fn in_range(command: &Command)
 
 /// A clone of a command is that command. The error is want of memory.
 pub fn same_clone(command: &Command) -> Result<Command, AllocError>
-    ensures { IfOk result (λ clone. clone ≡ command.now) }
+    ensures { result ≡ Ok command.now }
 {
     command.clone()
 }

@@ -1,6 +1,6 @@
 //! A whole stream in pieces, decoded to a list of commands.
 
-ghost use Rattle.std.specs.Prelude.{◌≡◌, IfOk, List, ◌++◌, ⊤};
+ghost use Rattle.std.specs.Prelude.{◌≡◌, IfOk, List, ◌++◌, ◌≤◌, vec_len, vec_capacity};
 ghost use Rattle.std.proofs.Common.{rules};
 ghost use Rattle.std.proofs.lemmas.Grind.{common_steps};
 ghost use Rattle.std.specs.List.{AllByRecursion};
@@ -82,7 +82,7 @@ impl Consumer<()> for Vec<Command> {
 
     ghost took = { λ start now cs. now.0.items ≡ start.0.items ++ cs };
 
-    ghost refused = { λ _ _ _. ⊤ };
+    ghost refused = { λ last now _. (now.0.items ≡ last.0.items) × (vec_capacity last.0 ≤ vec_len last.0) };
 
     fn take(
         &mut self,

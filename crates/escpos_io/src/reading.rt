@@ -42,6 +42,8 @@ impl From<Failed> for ReadError {
 // How many bytes one call of `pull` asks for at most.
 const PULLED_BYTES: usize = 65536;
 
+const _: () = prove!(PULLED_BYTES == 65_536);
+
 /// Reads `reader` to its end, where that comes after `limit` bytes at most.
 ///
 /// It takes at most `limit` + 1 bytes, in pieces of up to 64 KiB, and calls `pull` at most `limit` + 1
@@ -66,6 +68,8 @@ pub fn read_to_end<R: ByteIn>(
     ensures not_failed { OnOk result (¬ IsTrue (R.failed reader.new)) }
     ensures stays_failed { IsTrue (R.failed reader.old) → IsErr result }
     ensures at_most { (taken : List ℕ) × (length taken ≤ limit + 1)
+        × Consumes (R.to_come reader.old) (R.to_come reader.new) taken }
+    ensures memory { IsErrOf result ReadError.Memory → (taken : List ℕ) × (length taken ≤ limit)
         × Consumes (R.to_come reader.old) (R.to_come reader.new) taken }
     ensures pulls { R.pull_count reader.new ≤ R.pull_count reader.old + limit + 1 }
 {

@@ -1,5 +1,5 @@
 -- What the whole call took is what it kept before, and then what the last pull took.
-use Rattle.std.proofs.Common.{◌≡◌, ℕ, List, ◌++◌, arith, length-append, sym, append-nil}
+use Rattle.std.proofs.Common.{◌≡◌, ℕ, List, ◌++◌, arith, length-append, length-take, sym, append-nil}
 use Rattle.std.proofs.KnownBytes.{Consumes-trans, Consumes-whole}
 use Rattle.escpos_io.proofs.reading.read_to_end.Goals as goal
 
@@ -21,3 +21,7 @@ pub returns-in_err-extend_from_slice-clause-at_most : goal.returns-in_err-extend
 returns-in_err-extend_from_slice-clause-at_most g c =
     let (taken, few, consumed) = c.in_ok-taken.ensures.at_most in
     (c.pieces.all.items ++ taken, rw length-append (omega (arith, c.pieces.all.ok.0)), Consumes-trans _ _ _ _ _ c.pieces.invariant.front consumed)
+
+pub returns-in_err-extend_from_slice-clause-memory : goal.returns-in_err-extend_from_slice-clause-memory
+returns-in_err-extend_from_slice-clause-memory g c = λ e.
+    (c.pieces.all.items ++ _, rw (length-append, length-take) (omega (arith, c.pieces.all.ok.0, c.in_ok-taken.ensures.within)), Consumes-trans _ _ _ _ _ c.pieces.invariant.front c.in_ok-taken.ensures.bytes)
