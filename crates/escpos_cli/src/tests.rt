@@ -207,6 +207,21 @@ fn a_fault_far_into_a_stream(rt: HostRuntime) -> Result<(), Fail> {
     Ok(())
 }
 
+// A byte that is no digit is refused wherever it stands.
+#[test]
+fn a_bad_digit_far_into_the_input(rt: HostRuntime) -> Result<(), Fail> {
+    let mut room = [0; 64];
+    for last in [b"0".as_slice(), b"g0"] {
+        let mut text = vec![in rt.alloc(); b'A'; 10_000_000]?;
+        text.extend_from_slice(last)?;
+        let mut source = MemoryIn::new(text.as_slice(), 1_000_000);
+        let mut sink = MemoryOut::new(&mut room);
+        assert_eq!(rt; check(rt.alloc(), &mut source, &mut sink), Status::Refused);
+        assert_eq!(rt; sink.written(), b"refused hex\n".as_slice());
+    }
+    Ok(())
+}
+
 // A listing of 100,000 commands, each line of it.
 #[test]
 fn a_listing_of_many_commands(rt: HostRuntime) -> Result<(), Fail> {
@@ -313,6 +328,33 @@ fn usage_and_help(rt: HostRuntime) {
         assert!(rt; HELP.contains(word));
     }
     assert!(rt; HELP.contains("0 good, 1 refused content, 2 usage, 3 device, 4 memory"));
+    assert!(rt; HELP.contains("than 16777216 bytes"));
+    assert!(rt; HELP.contains("[F,W,H,B,U,T]"));
+}
+
+// What the help shows of each job is what the job writes.
+#[test]
+fn help_shows_what_the_jobs_write(rt: HostRuntime) -> Result<(), Fail> {
+    let input = b"1B 40 48 69 0A 1D 56 00";
+    for (name, task) in [("check", Task::Check), ("render", Task::Render)] {
+        let mut source = MemoryIn::new(input, 100);
+        let mut sink = Outgoing::new(Vec::new(rt.alloc()));
+        assert_eq!(rt;
+            perform(rt.alloc(), Ok(task), &mut source, &mut sink),
+            Status::Good
+        );
+        let mut shown = format!(in rt.alloc();
+            "$ echo '1B 40 48 69 0A 1D 56 00' | escpos_cli {name}\n"
+        )?;
+        let written = sink.into_inner();
+        for line in str::from_utf8(&written)?.lines() {
+            shown.push_str("          ")?;
+            shown.push_str(line)?;
+            shown.push_str("\n")?;
+        }
+        assert!(rt; HELP.contains(shown.as_str()));
+    }
+    Ok(())
 }
 
 // Words, and what they ask for.
@@ -347,6 +389,9 @@ const ASKED: [Asked; 22] = [
 fn words_name_tasks(rt: HostRuntime) {
     for (words, asked) in ASKED {
         assert_eq!(rt; task_of(rt.alloc(), words), asked, "{words:?}");
+    }
+    for words in [["check"; 4].as_slice(), &["check"; 100], &["--"; 100]] {
+        assert_eq!(rt; task_of(rt.alloc(), words), Err(NoTask::Usage), "{words:?}");
     }
 }
 

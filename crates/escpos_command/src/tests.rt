@@ -76,6 +76,9 @@ fn reasons_have_numbers_and_names(rt: HostRuntime) -> Result<(), Fail> {
         let text = format!(in rt.alloc(); "{why}")?;
         assert_eq!(rt; text.as_str(), line);
     }
+    assert!(rt; FaultReason::UnknownByte != FaultReason::UnknownCommand);
+    assert!(rt; FaultReason::UnknownCommand != FaultReason::BadParameter);
+    assert!(rt; FaultReason::BadParameter != FaultReason::UnknownByte);
     Ok(())
 }
 
@@ -90,6 +93,18 @@ fn chars_of_text(rt: HostRuntime) -> Result<(), Fail> {
         commands.as_slice(),
         [Command::Char(a), Command::Char(b)].as_slice()
     );
+    Ok(())
+}
+
+#[test]
+fn chars_of_a_long_text(rt: HostRuntime) -> Result<(), Fail> {
+    let mut text = vec![in rt.alloc(); b'A'; 5000]?;
+    let commands = chars_of(rt.alloc(), &text)?;
+    let a = Character::new(b'A').ok_or("A")?;
+    assert!(rt; commands == vec![in rt.alloc(); Command::Char(a); 5000]?);
+    text.push(0x1B)?;
+    let refused = chars_of(rt.alloc(), &text);
+    assert!(rt; matches!(refused, Err(CharsFault::ControlByte { at: 5000 })));
     Ok(())
 }
 

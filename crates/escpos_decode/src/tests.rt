@@ -100,6 +100,22 @@ fn five_commands(rt: HostRuntime) -> Result<(), Fail> {
     Ok(())
 }
 
+// Each printable ASCII byte at each place of a mark's id.
+#[test]
+fn bytes_of_a_mark(rt: HostRuntime) -> Result<(), Fail> {
+    for byte in 0x20..0x7F {
+        for place in 0..4 {
+            let mut id = *b"0000";
+            id[place] = byte;
+            let mark = MarkId::new(id).ok_or("id")?;
+            let mut bytes = MARK_35;
+            bytes[7..].copy_from_slice(&id);
+            decodes(&rt, rt.alloc(), &bytes, Command::Mark(mark))?;
+        }
+    }
+    Ok(())
+}
+
 #[test]
 fn align_range(rt: HostRuntime) -> Result<(), Fail> {
     refuses_last(&rt, rt.alloc(), &[0x1B, 0x61, 0x03], BAD)?;

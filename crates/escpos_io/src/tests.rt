@@ -7,17 +7,18 @@ use std::io;
 use std::io::{Error, ErrorKind, Read, Write};
 use std::test::Fail;
 
-// A reader whose first read is interrupted; later ones give one byte each.
+// A reader whose first read gives an error of this kind; later ones give one byte each.
 #[derive(Drop)]
-struct InterruptedOnce {
+struct ErringOnce {
+    kind: ErrorKind,
     reads: u32,
 }
 
-impl Read for InterruptedOnce {
+impl Read for ErringOnce {
     fn read(&mut self, buf: &mut [u8]) -> io::Result<usize> {
         self.reads = self.reads.saturating_add(1);
         if self.reads == 1 {
-            return Err(Error::from(ErrorKind::Interrupted));
+            return Err(Error::from(self.kind));
         }
         if buf.is_empty() {
             return Ok(0);
@@ -177,14 +178,35 @@ fn incoming_gives_what_its_reader_has(rt: HostRuntime) {
 
 #[test]
 fn incoming_stays_failed(rt: HostRuntime) {
-    let mut source = Incoming::new(InterruptedOnce { reads: 0 });
-    let mut piece = [9u8; 2];
-    assert_eq!(rt; source.pull(&mut piece), Err(Failed));
-    assert_eq!(rt; source.pull(&mut piece), Err(Failed));
-    assert_eq!(rt; piece, [9, 9]);
-    assert!(rt; source.has_failed());
-    assert_eq!(rt; source.pulls(), 2);
-    assert_eq!(rt; source.into_inner().reads, 1);
+    for kind in [
+        ErrorKind::Interrupted,
+        ErrorKind::WouldBlock,
+        ErrorKind::UnexpectedEof,
+        ErrorKind::Other,
+    ] {
+        let mut source = Incoming::new(ErringOnce { kind, reads: 0 });
+        let mut piece = [9u8; 2];
+        assert_eq!(rt; source.pull(&mut piece), Err(Failed));
+        assert_eq!(rt; source.pull(&mut piece), Err(Failed));
+        assert_eq!(rt; piece, [9, 9]);
+        assert!(rt; source.has_failed());
+        assert_eq!(rt; source.pulls(), 2);
+        assert_eq!(rt; source.into_inner().reads, 1);
+    }
+}
+
+// A reader that gives a byte a read, and no end, is read as often as bytes are taken.
+#[test]
+fn incoming_goes_on_for_many_reads(rt: HostRuntime) {
+    let mut source = Incoming::new(EndingOnce { reads: 1 });
+    assert!(rt;
+        matches!(
+            read_to_end(rt.alloc(), &mut source, 1999),
+            Err(ReadError::TooLong)
+        )
+    );
+    assert_eq!(rt; source.pulls(), 2000);
+    assert_eq!(rt; source.into_inner().reads, 2001);
 }
 
 #[test]
@@ -221,6 +243,16 @@ fn outgoing_puts_into_its_writer(rt: HostRuntime) {
     assert_eq!(rt; put_all(b"cde", &mut sink), Ok(()));
     assert!(rt; !sink.has_failed());
     assert_eq!(rt; sink.into_inner().as_slice(), b"abcde".as_slice());
+}
+
+// However large a piece is, a writer that takes it gets it whole.
+#[test]
+fn outgoing_takes_a_large_piece(rt: HostRuntime) -> Result<(), Fail> {
+    let bytes = vec![in rt.alloc(); 7u8; 100_000]?;
+    let mut sink = Outgoing::new(Vec::new(rt.alloc()));
+    assert_eq!(rt; put_all(&bytes, &mut sink), Ok(()));
+    assert!(rt; sink.into_inner() == bytes);
+    Ok(())
 }
 
 #[test]

@@ -5,7 +5,7 @@ use escpos_command::{
     Align, BarHeight, BarWidth, Character, Command, Cut, Emphasis, FeedLines, Font, HriFont,
     HriPlace, MarkId, Mode, Size, StatusKind, Table, Underline,
 };
-use escpos_io::{Device, MemoryOut};
+use escpos_io::{Device, MemoryOut, Outgoing};
 use std::alloc::Global;
 use std::process::Abort;
 use std::test::Fail;
@@ -311,15 +311,15 @@ fn commands_that_print_nothing(rt: HostRuntime) -> Result<(), Fail> {
 #[test]
 fn long_paper(rt: HostRuntime) -> Result<(), Fail> {
     let mut page = Page::new(rt.alloc());
-    for _ in 0..2500 {
+    for _ in 0..100_000 {
         page.apply(feed_lines(255)?)?;
     }
-    assert_eq!(rt; page.items().len(), 2500);
-    let mut room = [0u8; 22500];
-    let mut sink = MemoryOut::new(&mut room);
+    assert_eq!(rt; page.items().len(), 100_000);
+    let mut sink = Outgoing::new(Vec::new(rt.alloc()));
     assert_eq!(rt; write_items(page.items(), &mut sink), Ok(()));
-    assert_eq!(rt; sink.written().len(), 22500);
-    for line in sink.written().chunks(9) {
+    let written = sink.into_inner();
+    assert_eq!(rt; written.len(), 900_000);
+    for line in written.chunks(9) {
         assert_eq!(rt; line, b"feed 255\n".as_slice());
     }
     Ok(())
@@ -331,6 +331,14 @@ fn cells_have_their_width(rt: HostRuntime) {
     let cell = style.cell(b'a');
     assert_eq!(rt; cell.dots(), 12);
     assert!(rt; cell.style.is_same(&style));
+    let bold = Style {
+        bold: true,
+        ..Style::power_on()
+    };
+    assert!(rt; !bold.is_same(&style));
+    assert!(rt; bold != style);
+    assert!(rt; bold.cell(b'a') != cell);
+    assert!(rt; style.cell(b'b') != cell);
     assert_eq!(rt; Cell::default().byte, b' ');
     let mut cells = Cells::new();
     cells.push(cell);
