@@ -29,8 +29,8 @@ pub trait Piece {
 
 /// Puts the bytes of `pieces`, one after another, into `writer`. Takes no memory.
 ///
-/// On `Ok` the writer has not failed, unless it had before; where there are no pieces it is not called. On `Err` it has failed, and exactly the first
-/// `written` of these bytes are out, fewer than there are.
+/// On `Ok` the writer has not failed, unless it had before; where there are no pieces it is not called. On `Err` it
+/// has failed, and exactly the first `written` of these bytes are out, fewer than there are.
 pub fn put_pieces<P: Piece, W: ByteOut>(pieces: &[P], writer: &mut W) -> Result<(), Device>
     ensures ok { OnOk result (Appends (W.written writer.old) (W.written writer.new) (flat_map P.bytes pieces.now)) }
     ensures err { IfErr result (λ device.
