@@ -1,3 +1,4 @@
+pub mod CheckDigits
 pub mod TaskWords
 pub mod Mapped
 pub mod Listings

@@ -2,6 +2,7 @@ pub mod Status
 pub mod Outcome
 pub mod Hexadecimal
 pub mod Input
+pub mod Notes
 pub mod Lines
 pub mod Report
 pub mod Check

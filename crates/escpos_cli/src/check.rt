@@ -15,7 +15,7 @@ use crate::outcome::MEMORY;
 use crate::status::Status;
 use escpos_command::Command;
 use escpos_decode::Consumer;
-use escpos_io::{ByteIn, ByteOut, Gather, PIECE_BYTES, Piece, laws};
+use escpos_io::{ByteIn, ByteOut, Gather, Piece, laws};
 use std::alloc::Global;
 
 /// Reads a stream in hexadecimal from `input` and lists its commands on `output`.
@@ -46,7 +46,7 @@ impl<W: ByteOut> Consumer<W> for Listing {
     ghost refused = { λ last now refusal. (refusal ≡ obstacle.Device) × IsTrue (W.failed now.1) };
 
     fn take(&mut self, command: Command, place: usize, output: &mut W) -> Result<(), Obstacle> {
-        laws::appended_in_place();
+        laws::given_in_place();
         if let Err(_) = self.gather.room(LINE_BYTES, output) {
             return Err(Obstacle::Device);
         }
@@ -76,11 +76,9 @@ impl<W: ByteOut> Job<W> for Listing {
     }
 
     fn finish(&mut self, last: Last, output: &mut W, status: Status) -> Status {
-        laws::appended_in_place();
-        if self.gather.room(PIECE_BYTES, output).is_err() {
+        if last.put(&mut self.gather, output).is_err() {
             return Status::Device;
         }
-        last.append(&mut self.gather);
         match self.gather.flush(output) {
             Ok(()) => status,
             Err(_) => Status::Device,

@@ -9,11 +9,14 @@
 
 mod check;
 #[cfg(test)]
+mod content_tests;
+#[cfg(test)]
 mod examples;
 mod hexadecimal;
 mod input;
 mod job;
 mod lines;
+mod notes;
 mod outcome;
 mod perform;
 mod render;

@@ -67,7 +67,8 @@ hexadecimal `refused hex`. A last line `memory` says that memory has run out.
       Lists the commands. Each gives one line: the number of bytes before it,
       its name, and what it carries. The last line is `end N pending P`, where N
       bytes were read and the last P of them are a command that isn't complete,
-      or `fault K NUMBER NAME`, where the byte at place K is refused.
+      or `fault K NUMBER NAME`, where the byte at place K is refused. A barcode
+      with a wrong check digit is followed by a line `note`.
 
           $ echo '1B 40 48 69 0A 1D 56 00' | escpos_cli check
           0 init
@@ -79,7 +80,8 @@ hexadecimal `refused hex`. A last line `memory` says that memory has run out.
 
   escpos_cli render
       Writes the paper that the commands print, an item a line: rows of
-      characters with their alignment and styles, feeds and cuts. After a
+      characters with their alignment and styles, barcodes, rasters, feeds of
+      lines (`feed`) and of motion units (`units`), and cuts. After a
       refused byte or a command that isn't complete the last line of `check`
       follows.
 
@@ -92,6 +94,14 @@ hexadecimal `refused hex`. A last line `memory` says that memory has run out.
       underline 0 to 2, code table. It stands in front of a character whose
       style differs from that of the one before it, or, for the first of a row,
       from the style at power-on, [A,1,1,0,0,0].
+
+      A barcode is `bars ALIGN SYMBOLOGY HEIGHT MODULE PLACE FONT CONTENT`: its
+      height and module width in dots, where its text stands and in which font,
+      and its content with the check digit, if that had to be added. A raster is
+      `raster ALIGN SCALE X Y DOTS`: X bytes in each of Y rows, in hexadecimal.
+
+          $ echo '1D 6B 44 07 35 35 31 32 33 34 35' | escpos_cli render
+          bars left ean8 162 3 none A 55123457
 
   escpos_cli help
       Prints this text; so do --help and -h.

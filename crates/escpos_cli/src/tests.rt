@@ -194,7 +194,7 @@ fn the_limit_of_the_input(rt: HostRuntime) -> Result<(), Fail> {
 // A fault far into a stream is found at its place: here after five million bytes that print nothing.
 #[test]
 fn a_fault_far_into_a_stream(rt: HostRuntime) -> Result<(), Fail> {
-    let mut text = vec![in rt.alloc(); b'D'; 10_000_000]?;
+    let mut text = vec![in rt.alloc(); b'D'; 4_000_000]?;
     for digit in text.iter_mut().step_by(2) {
         *digit = b'0';
     }
@@ -203,7 +203,7 @@ fn a_fault_far_into_a_stream(rt: HostRuntime) -> Result<(), Fail> {
     let mut source = MemoryIn::new(text.as_slice(), 1_000_000);
     let mut sink = MemoryOut::new(&mut room);
     assert_eq!(rt; render(rt.alloc(), &mut source, &mut sink), Status::Refused);
-    assert_eq!(rt; sink.written(), b"fault 5000000 1 UnknownByte\n".as_slice());
+    assert_eq!(rt; sink.written(), b"fault 2000000 1 UnknownByte\n".as_slice());
     Ok(())
 }
 

@@ -1,5 +1,10 @@
 pub mod Walks
+pub mod Bytewise
 pub mod Combinators
+pub mod BarcodeTree
+pub mod RasterTree
 pub mod TableTree
 pub mod Readings
+pub mod FirstProfile
 pub mod Ids
+pub mod Copied

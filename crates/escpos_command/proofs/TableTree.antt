@@ -1,17 +1,19 @@
 -- The rows of the command table in the tree: each spelling leads to its command, and the tree is good. A
 -- kind of command adds a case to `leads` and an entry to the proof of its table.
-use Rattle.std.proofs.Common.{◌≡◌, ℕ, List, [], ◌∷◌, refl, ◌∙◌, ap, arith, true, false, IsTrue, length}
-use Rattle.std.specs.Prelude.{◌==◌, Option, None, Some, option_to_list}
+use Rattle.std.proofs.Common.{◌≡◌, ℕ, List, [], ◌∷◌, ◌++◌, refl, ◌∙◌, ap, sym, subst, append-nil, cond, arith, true, false, IsTrue, length}
+use Rattle.std.specs.Prelude.{◌==◌, ◌&&◌, Option, None, Some, option_to_list}
 use Rattle.std.specs.List.{list_all}
 use Rattle.std.proofs.lemmas.Bool.Decides.{nat_tests}
 use Rattle.escpos_command.specs.declared.bytes.TheConstants.{LF, DLE, ESC, GS, EOT}
 use Rattle.escpos_command.specs.declared.command.Command.{Command}
 use Rattle.escpos_command.specs.declared.command.Command.TheVariants as kind
-use Rattle.escpos_command.specs.Parameters.{is_character, is_one_of_two, is_one_of_three, is_one_of_four, is_size, is_bar_height, is_bar_width, is_status_kind, is_feed_cut_mode, is_byte, is_cut, is_mark_byte, is_mark_id}
+use Rattle.escpos_command.specs.Parameters.{is_character, is_one_of_two, is_one_of_three, is_one_of_four, is_size, is_bar_height, is_bar_width, is_status_kind, is_feed_cut_mode, is_byte, is_cut, is_pulse, is_mark_byte, is_mark_id}
 use Rattle.escpos_command.specs.CommandTable.{Spells, IsCommand, row}
-use Rattle.escpos_command.specs.Tree.{leaf, walk, branch, none, one, first, character, after_esc, after_gs, after_dle, cut, mark, grammar, counted}
+use Rattle.escpos_command.specs.Tree.{leaf, dead, walk, branch, none, one, passing, first, character, after_esc, after_gs, after_dle, cut, mark, pulse, barcodes, raster, grammar, counted}
+use Rattle.escpos_command.proofs.BarcodeTree.{leads_barcode, good_barcodes}
+use Rattle.escpos_command.proofs.RasterTree.{leads_raster, good_raster}
 use Rattle.escpos_command.proofs.Walks.{Good}
-use Rattle.escpos_command.proofs.Combinators.{good_choice, good_one, good_branch, good_these, good_counted, walk-counted, walk-one, live_counted, and_left, and_right, both, same_number}
+use Rattle.escpos_command.proofs.Combinators.{good_choice, good_passing, good_one, good_branch, good_these, good_counted, walk-counted, walk-one, live_counted, all_from_all, and_left, and_right, both, same_number, at_row}
 
 -- A character begins no command of another kind.
 leads_character : (b : ℕ) → is_character b ≡ true → branch first character b ≡ leaf (kind.Char b)
@@ -38,6 +40,19 @@ leads_cut m None h = ap (λ t. walk t []) (leads_mode m h)
 leads_cut m (Some n) h =
     ap (λ t. walk t (n ∷ [])) (leads_feed_mode m (and_left _ _ h)) ∙ walk-one is_byte (λ x. kind.Cut (m, Some x)) n (and_right _ _ h)
 
+leads_mark : (id : List ℕ) → is_mark_id id ≡ true → walk (counted 4 (λ _. is_mark_byte) kind.Mark []) id ≡ leaf (kind.Mark id)
+leads_mark id h =
+    walk-counted 4 (λ _. is_mark_byte) kind.Mark [] id (same_number _ _ (and_left _ _ h))
+    (all_from_all 0 is_mark_byte id ∙ and_right (length id == 4) _ h)
+
+leads_pulse : (m on off : ℕ) → is_pulse (m, on, off) ≡ true → walk pulse (m ∷ on ∷ off ∷ []) ≡ leaf (kind.Pulse (m, on, off))
+leads_pulse m on off h =
+    let pin = and_left (is_one_of_two m) (is_byte on) (and_left (is_one_of_two m && is_byte on) (is_byte off) h) in
+    let first = and_right (is_one_of_two m) (is_byte on) (and_left (is_one_of_two m && is_byte on) (is_byte off) h) in
+    ap (λ v. walk (cond v (passing is_byte (λ on. one is_byte (λ off. kind.Pulse (m, on, off)))) dead) (on ∷ off ∷ [])) pin
+    ∙ ap (λ v. walk (cond v (one is_byte (λ off. kind.Pulse (m, on, off))) dead) (off ∷ [])) first
+    ∙ walk-one is_byte (λ off. kind.Pulse (m, on, off)) off (and_right (is_one_of_two m && is_byte on) (is_byte off) h)
+
 -- Each spelling leads to its command.
 pub leads : (c : Command) → IsCommand c → walk grammar (row c) ≡ leaf c
 leads (kind.Char b) h = ap (λ t. walk t []) (leads_character b h)
@@ -51,18 +66,19 @@ leads (kind.Font n) h = walk-one is_one_of_two kind.Font n h
 leads (kind.Table n) h = walk-one is_byte kind.Table n h
 leads (kind.Align n) h = walk-one is_one_of_three kind.Align n h
 leads (kind.FeedLines n) h = walk-one is_byte kind.FeedLines n h
+leads (kind.FeedUnits n) h = walk-one is_byte kind.FeedUnits n h
+leads (kind.Pulse p) h = leads_pulse p.0 p.1 p.2 h
 leads (kind.Size n) h = walk-one is_size kind.Size n h
 leads (kind.BarHeight n) h = walk-one is_bar_height kind.BarHeight n h
 leads (kind.BarWidth n) h = walk-one is_bar_width kind.BarWidth n h
 leads (kind.HriPlace n) h = walk-one is_one_of_four kind.HriPlace n h
 leads (kind.HriFont n) h = walk-one is_one_of_two kind.HriFont n h
-leads (kind.Cut cut) h = leads_cut cut.0 cut.1 h
+leads (kind.Bars bars) h = leads_barcode bars.form bars.symbology bars.content h
+leads (kind.Raster r) h = leads_raster r.scale r.width r.height r.dots h
+leads (kind.Cut c) h =
+    ap (walk (cut c.0)) (append-nil (option_to_list c.1 ++ []) ∙ append-nil (option_to_list c.1)) ∙ leads_cut c.0 c.1 h
 leads (kind.Status n) h = walk-one is_status_kind kind.Status n h
-leads (kind.Mark id) h = walk-counted 4 is_mark_byte kind.Mark id (same_number _ _ (and_left _ _ h)) (and_right _ _ h)
-
--- A command at its spelling.
-at_row : (c : Command) → IsCommand c → Spells c (row c)
-at_row c h = record { in_range = h; in_table = refl }
+leads (kind.Mark id) h = ap (walk (counted 4 (λ _. is_mark_byte) kind.Mark [])) (append-nil (id ++ []) ∙ append-nil id) ∙ leads_mark id h
 
 good_cut : (m : ℕ) → Good (GS ∷ 0x56 ∷ m ∷ []) (cut m)
 good_cut m =
@@ -77,8 +93,17 @@ is_id id long all = rw (long, all) refl
 
 good_mark : Good (GS ∷ 0x28 ∷ []) mark
 good_mark =
-    good_these (GS ∷ 0x28 ∷ []) (0x48 ∷ 0x06 ∷ 0x00 ∷ 0x30 ∷ 0x30 ∷ []) (counted 4 is_mark_byte kind.Mark) (live_counted 4 is_mark_byte kind.Mark)
-    (good_counted 4 (GS ∷ 0x28 ∷ 0x48 ∷ 0x06 ∷ 0x00 ∷ 0x30 ∷ 0x30 ∷ []) is_mark_byte kind.Mark 32 refl (λ id long all. at_row (kind.Mark id) (is_id id long all)))
+    good_these (GS ∷ 0x28 ∷ []) (0x48 ∷ 0x06 ∷ 0x00 ∷ 0x30 ∷ 0x30 ∷ []) (counted 4 (λ _. is_mark_byte) kind.Mark []) (live_counted 4 (λ _. is_mark_byte) kind.Mark [])
+    (good_counted 4 (GS ∷ 0x28 ∷ 0x48 ∷ 0x06 ∷ 0x00 ∷ 0x30 ∷ 0x30 ∷ []) (λ _. is_mark_byte) kind.Mark [] (λ _. (32, refl)) (λ id long all.
+    subst (λ v. Spells (kind.Mark id) (GS ∷ 0x28 ∷ 0x48 ∷ 0x06 ∷ 0x00 ∷ 0x30 ∷ 0x30 ∷ v)) (append-nil (id ++ []) ∙ append-nil id)
+    (at_row (kind.Mark id) (is_id id long (sym (all_from_all 0 is_mark_byte id) ∙ all)))))
+
+good_pulse : Good (ESC ∷ 0x70 ∷ []) pulse
+good_pulse =
+    good_passing (ESC ∷ 0x70 ∷ []) is_one_of_two _ 0 refl tt (λ m pin.
+    good_passing (ESC ∷ 0x70 ∷ m ∷ []) is_byte _ 0 refl tt (λ on first.
+    good_one (ESC ∷ 0x70 ∷ m ∷ on ∷ []) is_byte (λ off. kind.Pulse (m, on, off)) 0 refl
+    (λ off second. at_row (kind.Pulse (m, on, off)) (both _ _ (both _ _ pin first) second))))
 
 good_after_esc : (b : ℕ) → Good (ESC ∷ b ∷ []) (branch after_esc none b)
 good_after_esc =
@@ -91,14 +116,20 @@ good_after_esc =
           (
             good_one (ESC ∷ 0x45 ∷ []) is_byte kind.Emphasis 0 refl (λ n h. at_row (kind.Emphasis n) h),
             (
-              good_one (ESC ∷ 0x4D ∷ []) is_one_of_two kind.Font 0 refl (λ n h. at_row (kind.Font n) h),
+              good_one (ESC ∷ 0x4A ∷ []) is_byte kind.FeedUnits 0 refl (λ n h. at_row (kind.FeedUnits n) h),
               (
-                good_one (ESC ∷ 0x61 ∷ []) is_one_of_three kind.Align 0 refl (λ n h. at_row (kind.Align n) h),
+                good_one (ESC ∷ 0x4D ∷ []) is_one_of_two kind.Font 0 refl (λ n h. at_row (kind.Font n) h),
                 (
-                  good_one (ESC ∷ 0x64 ∷ []) is_byte kind.FeedLines 0 refl (λ n h. at_row (kind.FeedLines n) h),
+                  good_one (ESC ∷ 0x61 ∷ []) is_one_of_three kind.Align 0 refl (λ n h. at_row (kind.Align n) h),
                   (
-                    good_one (ESC ∷ 0x74 ∷ []) is_byte kind.Table 0 refl (λ n h. at_row (kind.Table n) h),
-                    tt,
+                    good_one (ESC ∷ 0x64 ∷ []) is_byte kind.FeedLines 0 refl (λ n h. at_row (kind.FeedLines n) h),
+                    (
+                      good_pulse,
+                      (
+                        good_one (ESC ∷ 0x74 ∷ []) is_byte kind.Table 0 refl (λ n h. at_row (kind.Table n) h),
+                        tt,
+                      ),
+                    ),
                   ),
                 ),
               ),
@@ -124,8 +155,14 @@ good_after_gs =
               (
                 good_one (GS ∷ 0x68 ∷ []) is_bar_height kind.BarHeight 1 refl (λ n h. at_row (kind.BarHeight n) h),
                 (
-                  good_one (GS ∷ 0x77 ∷ []) is_bar_width kind.BarWidth 2 refl (λ n h. at_row (kind.BarWidth n) h),
-                  tt,
+                  ((65, tt), good_barcodes),
+                  (
+                    good_raster,
+                    (
+                      good_one (GS ∷ 0x77 ∷ []) is_bar_width kind.BarWidth 2 refl (λ n h. at_row (kind.BarWidth n) h),
+                      tt,
+                    ),
+                  ),
                 ),
               ),
             ),

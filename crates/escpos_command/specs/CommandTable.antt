@@ -1,21 +1,58 @@
 -- The command table, with one line for each kind of command.
 --
 -- The bytes are those of the ESC/POS Command Reference, with the parameters as sent in their places.
-use Rattle.std.specs.Prelude.{ℕ, ◌≡◌, Bool, true, List, [], ◌∷◌, ◌++◌, IsTrue, option_to_list}
+use Rattle.std.specs.Prelude.{ℕ, ◌≡◌, ◌/◌, ◌%◌, Bool, true, List, [], ◌∷◌, ◌++◌, length, IsTrue, option_to_list}
 use Rattle.std.specs.List.{flat_map, AllByRecursion}
 use Rattle.escpos_command.specs.declared.bytes.TheConstants.{LF, CR, DLE, ESC, GS, EOT}
 use Rattle.escpos_command.specs.declared.command.Command.{Command}
 use Rattle.escpos_command.specs.declared.command.Command.TheVariants as kind
-use Rattle.escpos_command.specs.Parameters.{is_byte, is_character, is_one_of_two, is_one_of_three, is_one_of_four, is_size, is_bar_height, is_bar_width, is_status_kind, is_cut, is_mark_id}
+use Rattle.escpos_command.specs.declared.bars.Form.{Form}
+use Rattle.escpos_command.specs.declared.bars.Form.TheVariants.{A, B}
+use Rattle.escpos_command.specs.Parameters.{is_byte, is_character, is_one_of_two, is_one_of_three, is_one_of_four, is_size, is_bar_height, is_bar_width, is_status_kind, is_cut, is_pulse, is_mark_id}
+use Rattle.escpos_command.specs.Barcodes.{Barcode, barcode_mode, is_barcode}
+use Rattle.escpos_command.specs.Rasters.{Picture, is_raster}
 
--- A line of the table: the fixed bytes, the parameter bytes that follow them, and whether these are in range.
+-- A line of the table: the fixed bytes, the parameter bytes that follow them, the content of a barcode or the dots of a
+-- raster, a closing byte, and whether parameters and content are in range.
 pub record Entry : Type 0 where
   pub front : List ℕ
   pub parameters : List ℕ
+  pub content : List ℕ
+  pub closing : List ℕ
   pub in_range : Bool
 
+-- A line with no content.
 abbrev pub entry : List ℕ → List ℕ → Bool → Entry
-entry front parameters in_range = record { front = front; parameters = parameters; in_range = in_range }
+entry front parameters in_range =
+    record { front = front; parameters = parameters; content = []; closing = []; in_range = in_range }
+
+-- Form A of a barcode is closed by 00; form B has the length of the content before it.
+abbrev pub sent_length : Form → ℕ → List ℕ
+sent_length A n = []
+sent_length B n = n ∷ []
+
+abbrev pub sent_closing : Form → List ℕ
+sent_closing A = 0x00 ∷ []
+sent_closing B = []
+
+abbrev pub barcode_entry : Barcode → Entry
+barcode_entry bars = record {
+  front = GS ∷ 0x6B ∷ [];
+  parameters = barcode_mode bars.form bars.symbology ∷ sent_length bars.form (length bars.content);
+  content = bars.content;
+  closing = sent_closing bars.form;
+  in_range = is_barcode bars;
+}
+
+-- The size of a raster is sent as four bytes, the low one of each number first.
+abbrev pub raster_entry : Picture → Entry
+raster_entry raster = record {
+  front = GS ∷ 0x76 ∷ 0x30 ∷ [];
+  parameters = raster.scale ∷ raster.width % 256 ∷ raster.width / 256 ∷ raster.height % 256 ∷ raster.height / 256 ∷ [];
+  content = raster.dots;
+  closing = [];
+  in_range = is_raster raster;
+}
 
 -- The line for a command.
 abbrev pub entry_of : Command → Entry
@@ -30,11 +67,15 @@ entry_of (kind.Font n) = entry (ESC ∷ 0x4D ∷ []) (n ∷ []) (is_one_of_two n
 entry_of (kind.Table n) = entry (ESC ∷ 0x74 ∷ []) (n ∷ []) (is_byte n)  -- ESC t
 entry_of (kind.Align n) = entry (ESC ∷ 0x61 ∷ []) (n ∷ []) (is_one_of_three n)  -- ESC a
 entry_of (kind.FeedLines n) = entry (ESC ∷ 0x64 ∷ []) (n ∷ []) (is_byte n)  -- ESC d
+entry_of (kind.FeedUnits n) = entry (ESC ∷ 0x4A ∷ []) (n ∷ []) (is_byte n)  -- ESC J
+entry_of (kind.Pulse pulse) = entry (ESC ∷ 0x70 ∷ []) (pulse.0 ∷ pulse.1 ∷ pulse.2 ∷ []) (is_pulse pulse)  -- ESC p
 entry_of (kind.Size n) = entry (GS ∷ 0x21 ∷ []) (n ∷ []) (is_size n)  -- GS !
 entry_of (kind.BarHeight n) = entry (GS ∷ 0x68 ∷ []) (n ∷ []) (is_bar_height n)  -- GS h
 entry_of (kind.BarWidth n) = entry (GS ∷ 0x77 ∷ []) (n ∷ []) (is_bar_width n)  -- GS w
 entry_of (kind.HriPlace n) = entry (GS ∷ 0x48 ∷ []) (n ∷ []) (is_one_of_four n)  -- GS H
 entry_of (kind.HriFont n) = entry (GS ∷ 0x66 ∷ []) (n ∷ []) (is_one_of_two n)  -- GS f
+entry_of (kind.Bars bars) = barcode_entry bars  -- GS k, form A or B
+entry_of (kind.Raster raster) = raster_entry raster  -- GS v 0
 entry_of (kind.Cut cut) = entry (GS ∷ 0x56 ∷ []) (cut.0 ∷ option_to_list cut.1) (is_cut cut.0 cut.1)  -- GS V m, or GS V m n
 entry_of (kind.Status n) = entry (DLE ∷ EOT ∷ []) (n ∷ []) (is_status_kind n)  -- DLE EOT
 entry_of (kind.Mark id) = entry (GS ∷ 0x28 ∷ 0x48 ∷ 0x06 ∷ 0x00 ∷ 0x30 ∷ 0x30 ∷ []) id (is_mark_id id)  -- GS ( H, function 48
@@ -47,9 +88,9 @@ IsCommand c = IsTrue (entry_of c).in_range
 abbrev pub AreCommands : List Command → Type 0
 AreCommands cs = AllByRecursion IsCommand cs
 
--- The bytes of the table's line, with the parameters put in.
+-- The bytes of the table's line, with the parameters and the content put in.
 abbrev pub row : Command → List ℕ
-row c = (entry_of c).front ++ (entry_of c).parameters
+row c = (entry_of c).front ++ (entry_of c).parameters ++ (entry_of c).content ++ (entry_of c).closing
 
 -- The bytes are the spelling of the command.
 pub record Spells (c : Command) (bs : List ℕ) : Type 0 where

@@ -1,10 +1,14 @@
 pub mod Parameters
 pub mod Meanings
+pub mod Barcodes
+pub mod Rasters
 pub mod Digits
 pub mod CommandTable
 pub mod Places
 pub mod Grammar
 pub mod Tree
+pub mod FirstProfile
 pub mod Laws
 pub mod Text
+pub mod Copied
 pub mod Chars

@@ -6,6 +6,8 @@ use Rattle.escpos_command.specs.declared.parameter.choices.Alignment.{Alignment}
 use Rattle.escpos_command.specs.declared.parameter.choices.Alignment.TheVariants.{Left, Center, Right}
 use Rattle.escpos_command.specs.declared.parameter.choices.HriPosition.{HriPosition}
 use Rattle.escpos_command.specs.declared.parameter.choices.HriPosition.TheVariants.{Nowhere, Above, Below, Both}
+use Rattle.escpos_command.specs.declared.parameter.choices.Scale.{Scale}
+use Rattle.escpos_command.specs.declared.parameter.choices.Scale.TheVariants as scale
 
 -- Bit k of n is set, counted from 0 for the lowest.
 abbrev pub has_bit : ℕ → ℕ → Bool
@@ -23,6 +25,10 @@ alignment_of c = if c == 0 then Left else if c == 1 then Center else Right
 
 abbrev pub hri_position_of : ℕ → HriPosition
 hri_position_of c = if c == 0 then Nowhere else if c == 1 then Above else if c == 2 then Below else Both
+
+-- How each dot of a raster is printed.
+abbrev pub scale_of : ℕ → Scale
+scale_of c = if c == 0 then scale.Normal else if c == 1 then scale.Wide else if c == 2 then scale.Tall else scale.Both
 
 -- ESC ! has the font in bit 0.
 abbrev pub face_of_mode : ℕ → FontFace

@@ -46,6 +46,10 @@ abbrev pub is_cut : ℕ → Option ℕ → Bool
 is_cut m None = is_one_of_two m
 is_cut m (Some n) = is_feed_cut_mode m && is_byte n
 
+-- A pulse to the connector of a cash drawer: which pin, and how long it is on and off.
+abbrev pub is_pulse : ℕ × ℕ × ℕ → Bool
+is_pulse pulse = is_one_of_two pulse.0 && is_byte pulse.1 && is_byte pulse.2
+
 -- A byte of a mark's id, a printing ASCII character: 32 to 126.
 abbrev pub is_mark_byte : ℕ → Bool
 is_mark_byte d = nat_le 32 d && nat_le d 126

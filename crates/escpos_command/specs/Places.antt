@@ -1,8 +1,19 @@
 -- Places of faults: the reason for which a byte is refused follows from the bytes of its command before it.
-use Rattle.std.specs.Prelude.{ℕ, List, [], ◌∷◌, ◌==◌, ◌&&◌, if◌then◌else◌, codes}
+use Rattle.std.specs.Prelude.{ℕ, Bool, List, [], ◌∷◌, ◌==◌, ◌&&◌, ◌||◌, if◌then◌else◌, codes}
 use Rattle.escpos_command.specs.declared.bytes.TheConstants.{GS}
 use Rattle.escpos_command.specs.declared.fault.FaultReason.{FaultReason}
-use Rattle.escpos_command.specs.declared.fault.FaultReason.TheVariants.{UnknownByte, UnknownCommand, BadParameter}
+use Rattle.escpos_command.specs.declared.fault.FaultReason.TheVariants.{UnknownByte, UnknownCommand, BadParameter, BadBarcode, BadSize}
+
+-- GS k begins a barcode, and GS v a raster.
+abbrev pub begins_barcode : ℕ → ℕ → Bool
+begins_barcode b letter = b == GS && letter == 0x6B
+
+abbrev pub begins_raster : ℕ → ℕ → Bool
+begins_raster b letter = b == GS && letter == 0x76
+
+-- GS ( and GS v take a second letter.
+abbrev pub has_second_letter : ℕ → ℕ → Bool
+has_second_letter b letter = b == GS && letter == 0x28 || begins_raster b letter
 
 -- The reason for a byte that follows a half command, or begins a command.
 abbrev pub reason_after : List ℕ → FaultReason
@@ -10,19 +21,26 @@ abbrev pub reason_after : List ℕ → FaultReason
 reason_after [] = UnknownByte
 -- the letter after DLE, ESC or GS
 reason_after (b ∷ []) = UnknownCommand
--- the second letter after GS (, or a parameter
-reason_after (b ∷ letter ∷ []) = if b == GS && letter == 0x28 then UnknownCommand else BadParameter
--- a later parameter, or a fixed byte or the id of a mark
-reason_after (b ∷ letter ∷ parameter ∷ bs) = BadParameter
+-- the second letter after GS ( or GS v, or a parameter
+reason_after (b ∷ letter ∷ []) = if has_second_letter b letter then UnknownCommand else BadParameter
+-- the length or the content of a barcode; the scale of a raster; or a later parameter, a fixed byte of a mark or its id
+reason_after (b ∷ letter ∷ third ∷ []) = if begins_barcode b letter then BadBarcode else BadParameter
+-- the content of a barcode; the size of a raster; or as above
+reason_after (b ∷ letter ∷ third ∷ fourth ∷ bs) =
+    if begins_barcode b letter then BadBarcode else if begins_raster b letter then BadSize else BadParameter
 
 -- The numbers that programs print.
 abbrev pub number_of : FaultReason → ℕ
 number_of UnknownByte = 1
 number_of UnknownCommand = 2
 number_of BadParameter = 3
+number_of BadBarcode = 4
+number_of BadSize = 5
 
 -- The names that programs print.
 abbrev pub name_of : FaultReason → List ℕ
 name_of UnknownByte = codes "UnknownByte"
 name_of UnknownCommand = codes "UnknownCommand"
 name_of BadParameter = codes "BadParameter"
+name_of BadBarcode = codes "BadBarcode"
+name_of BadSize = codes "BadSize"

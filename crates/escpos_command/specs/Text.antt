@@ -1,5 +1,5 @@
 -- The text of the line: the characters that no command has printed or dropped yet. (Reference: LF, ESC d,
--- ESC @, GS V.)
+-- ESC J, ESC @, GS k, GS v 0, GS V.)
 use Rattle.std.specs.Prelude.{ℕ, Bool, true, false, List, [], ◌∷◌, ◌++◌, if◌then◌else◌}
 use Rattle.std.specs.List.{list_any}
 use Rattle.escpos_command.specs.declared.command.Command.{Command}
@@ -9,7 +9,10 @@ use Rattle.escpos_command.specs.declared.command.Command.TheVariants as kind
 abbrev pub ends_text : Command → Bool
 ends_text kind.LineFeed = true
 ends_text (kind.FeedLines n) = true
+ends_text (kind.FeedUnits n) = true
 ends_text kind.Init = true
+ends_text (kind.Bars bars) = true
+ends_text (kind.Raster raster) = true
 ends_text (kind.Cut cut) = true
 ends_text (kind.Char b) = false
 ends_text kind.Return = false
@@ -19,6 +22,7 @@ ends_text (kind.Underline n) = false
 ends_text (kind.Font n) = false
 ends_text (kind.Table n) = false
 ends_text (kind.Align n) = false
+ends_text (kind.Pulse pulse) = false
 ends_text (kind.Size n) = false
 ends_text (kind.BarHeight n) = false
 ends_text (kind.BarWidth n) = false

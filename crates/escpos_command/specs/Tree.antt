@@ -1,11 +1,16 @@
 -- The command table as a tree of bytes. Proofs and private clauses alone go by it: the definitions of
--- Table and Grammar do not, and are shown to agree with it.
+-- CommandTable and Grammar do not, and are shown to agree with it.
 use Rattle.std.proofs.Common.{zero, suc}
-use Rattle.std.specs.Prelude.{ℕ, ◌==◌, Bool, List, [], ◌∷◌, if◌then◌else◌, None, Some}
+use Rattle.std.specs.Prelude.{ℕ, ◌==◌, ◌+◌, ◌*◌, Bool, List, [], ◌∷◌, ◌++◌, length, if◌then◌else◌, None, Some}
 use Rattle.escpos_command.specs.declared.bytes.TheConstants.{LF, CR, DLE, ESC, GS, EOT}
 use Rattle.escpos_command.specs.declared.command.Command.{Command}
 use Rattle.escpos_command.specs.declared.command.Command.TheVariants as kind
+use Rattle.escpos_command.specs.declared.bars.Form.TheVariants.{A, B}
+use Rattle.escpos_command.specs.declared.bars.Symbology.{Symbology}
+use Rattle.escpos_command.specs.declared.bars.Symbology.TheVariants.{UpcA, Ean13, Ean8, Code39, Itf, Codabar, Code128}
 use Rattle.escpos_command.specs.Parameters.{is_character, is_one_of_two, is_one_of_three, is_one_of_four, is_size, is_bar_height, is_bar_width, is_status_kind, is_feed_cut_mode, is_byte, is_mark_byte}
+use Rattle.escpos_command.specs.Barcodes.{barcode, has_length, allows, is_digit, is_code39, is_codabar, is_codabar_end}
+use Rattle.escpos_command.specs.Rasters.{picture, is_width, is_height}
 
 -- Where the bytes so far lead: to no command, to a whole one, or on, by the next byte.
 pub data Tree : Type 0 where
@@ -30,10 +35,32 @@ these (b ∷ bs) t = node (λ x. if x == b then these bs t else dead)
 abbrev pub passing : (ℕ → Bool) → (ℕ → Tree) → Tree
 passing test next = node (λ x. if test x then next x else dead)
 
--- n bytes that each pass a test, and the command that they make.
-unfoldable pub counted : ℕ → (ℕ → Bool) → (List ℕ → Command) → Tree
-counted zero test make = leaf (make [])
-counted (suc n) test make = passing test (λ x. counted n test (λ xs. make (x ∷ xs)))
+-- n more bytes after those read so far, each of which passes a test of its place, and the command that all of them make.
+unfoldable pub counted : ℕ → (ℕ → ℕ → Bool) → (List ℕ → Command) → List ℕ → Tree
+counted zero test make read = leaf (make read)
+counted (suc n) test make read = passing (test (length read)) (λ b. counted n test make (read ++ b ∷ []))
+
+-- The command of a content that ends here, where it is whole.
+abbrev pub ending : (List ℕ → Bool) → (List ℕ → Command) → List ℕ → Tree
+ending whole make read = if whole read then leaf (make read) else dead
+
+-- At most n more bytes after those read so far, each of which passes a test, and then 00. All of them but the 00 make the
+-- command, where they are whole.
+unfoldable pub closed : ℕ → (ℕ → Bool) → (List ℕ → Bool) → (List ℕ → Command) → List ℕ → Tree
+closed zero test whole make read = node (λ b. if b == 0 then ending whole make read else dead)
+closed (suc n) test whole make read =
+    node (λ b. if b == 0 then ending whole make read
+    else if test b then closed n test whole make (read ++ b ∷ [])
+    else dead)
+
+-- At most n more bytes after those read so far, each of which passes a test, then one that stops them, and then 00. All
+-- of them but the 00 make the command.
+unfoldable pub stopped : ℕ → (ℕ → Bool) → (ℕ → Bool) → (List ℕ → Command) → List ℕ → Tree
+stopped zero test stops make read = node (λ b. if stops b then these (0x00 ∷ []) (leaf (make (read ++ b ∷ []))) else dead)
+stopped (suc n) test stops make read =
+    node (λ b. if stops b then these (0x00 ∷ []) (leaf (make (read ++ b ∷ [])))
+    else if test b then stopped n test stops make (read ++ b ∷ [])
+    else dead)
 
 -- A table of bytes and trees, tried in order, and a tree for every other byte.
 abbrev pub branch : List (ℕ × Tree) → (ℕ → Tree) → ℕ → Tree
@@ -47,6 +74,10 @@ none x = dead
 abbrev pub one : (ℕ → Bool) → (ℕ → Command) → Tree
 one test make = passing test (λ n. leaf (make n))
 
+-- ESC p takes a pin and two times.
+abbrev pub pulse : Tree
+pulse = passing is_one_of_two (λ m. passing is_byte (λ on. one is_byte (λ off. kind.Pulse (m, on, off))))
+
 -- The commands after ESC, by their letter.
 abbrev pub after_esc : List (ℕ × Tree)
 after_esc =
@@ -54,9 +85,11 @@ after_esc =
     ∷ (0x2D, one is_one_of_three kind.Underline)
     ∷ (0x40, leaf kind.Init)
     ∷ (0x45, one is_byte kind.Emphasis)
+    ∷ (0x4A, one is_byte kind.FeedUnits)
     ∷ (0x4D, one is_one_of_two kind.Font)
     ∷ (0x61, one is_one_of_three kind.Align)
     ∷ (0x64, one is_byte kind.FeedLines)
+    ∷ (0x70, pulse)
     ∷ (0x74, one is_byte kind.Table)
     ∷ []
 
@@ -69,7 +102,69 @@ cut m =
 
 -- GS ( takes function 48 of the letter H, and an id.
 abbrev pub mark : Tree
-mark = these (0x48 ∷ 0x06 ∷ 0x00 ∷ 0x30 ∷ 0x30 ∷ []) (counted 4 is_mark_byte kind.Mark)
+mark = these (0x48 ∷ 0x06 ∷ 0x00 ∷ 0x30 ∷ 0x30 ∷ []) (counted 4 (λ place. is_mark_byte) kind.Mark [])
+
+-- ## Barcodes
+
+-- The bytes of a symbology all of whose places allow the same.
+abbrev pub plain_byte : Symbology → ℕ → Bool
+plain_byte Code39 = is_code39
+plain_byte _ = is_digit
+
+-- Form A of such a symbology, after the bytes of the content read so far; at most so many more follow, and then 00.
+abbrev pub plain_content : Symbology → ℕ → List ℕ → Tree
+plain_content symbology most read =
+    closed most (plain_byte symbology) (λ content. has_length symbology (length content)) (λ content. kind.Bars (barcode A symbology content)) read
+
+-- Form A of CODABAR, after the bytes read so far, the first among them: at most so many more follow, then the last, and
+-- then 00.
+abbrev pub codabar_content : ℕ → List ℕ → Tree
+codabar_content most read = stopped most is_codabar is_codabar_end (λ content. kind.Bars (barcode A Codabar content)) read
+
+-- Form B: the length n of the content, and then the content, of which so many bytes are still wanted.
+abbrev pub content_of : Symbology → ℕ → ℕ → List ℕ → Tree
+content_of symbology n wanted read = counted wanted (allows symbology n) (λ content. kind.Bars (barcode B symbology content)) read
+
+abbrev pub form_b : Symbology → Tree
+form_b symbology = passing (has_length symbology) (λ n. content_of symbology n n [])
+
+-- The barcodes after GS k, by the byte m.
+abbrev pub barcodes : List (ℕ × Tree)
+barcodes =
+    (0, plain_content UpcA 12 [])
+    ∷ (2, plain_content Ean13 13 [])
+    ∷ (3, plain_content Ean8 8 [])
+    ∷ (4, plain_content Code39 255 [])
+    ∷ (5, plain_content Itf 254 [])
+    ∷ (6, passing is_codabar_end (λ first. codabar_content 253 (first ∷ [])))
+    ∷ (65, form_b UpcA)
+    ∷ (67, form_b Ean13)
+    ∷ (68, form_b Ean8)
+    ∷ (69, form_b Code39)
+    ∷ (70, form_b Itf)
+    ∷ (71, form_b Codabar)
+    ∷ (73, form_b Code128)
+    ∷ []
+
+-- ## Rasters
+
+-- The dots of a raster of this scale and size, of which so many bytes are still wanted.
+abbrev pub dots_of : ℕ → ℕ → ℕ → ℕ → List ℕ → Tree
+dots_of scale width height wanted read = counted wanted (λ place. is_byte) (λ dots. kind.Raster (picture scale width height dots)) read
+
+-- GS v 0: a scale, a width whose high byte is 0, a height with its low byte first, and the dots.
+abbrev pub after_low : ℕ → ℕ → ℕ → Tree
+after_low scale width low =
+    passing (λ high. is_height (low + 256 * high)) (λ high. dots_of scale width (low + 256 * high) (width * (low + 256 * high)) [])
+
+abbrev pub after_width : ℕ → ℕ → Tree
+after_width scale width = passing is_byte (after_low scale width)
+
+abbrev pub after_scale : ℕ → Tree
+after_scale scale = passing is_width (λ width. these (0x00 ∷ []) (after_width scale width))
+
+abbrev pub raster : Tree
+raster = these (0x30 ∷ []) (passing is_one_of_four after_scale)
 
 -- The commands after GS, by their letter.
 abbrev pub after_gs : List (ℕ × Tree)
@@ -80,6 +175,8 @@ after_gs =
     ∷ (0x56, node cut)
     ∷ (0x66, one is_one_of_two kind.HriFont)
     ∷ (0x68, one is_bar_height kind.BarHeight)
+    ∷ (0x6B, node (branch barcodes none))
+    ∷ (0x76, raster)
     ∷ (0x77, one is_bar_width kind.BarWidth)
     ∷ []
 

@@ -4,19 +4,19 @@
 //! (`specs/CommandTable.antt`), a branch of the tree of bytes (`specs/Tree.antt`) and a case of the proofs over that
 //! tree; no proof is about a pair of kinds. docs/ARCHITECTURE.md lists all places.
 
-ghost use Rattle.std.specs.Prelude.{◌≡◌, ◌≤◌, ◌+◌, [], ◌∷◌, ◌++◌, length, OnOk, OnErr, IsOk, vec_len, vec_capacity};
-ghost use Rattle.escpos_command.specs.CommandTable.{row, entry_of, IsCommand};
-ghost use Rattle.escpos_command.specs.declared.command.Command.TheVariants.{Mark};
+ghost use Rattle.std.specs.Prelude.{◌≡◌, ◌≤◌, ◌+◌, [], ◌∷◌, length};
+ghost use Rattle.escpos_command.specs.CommandTable.{entry_of, barcode_entry, raster_entry, IsCommand};
+ghost use Rattle.escpos_command.specs.declared.command.Command.TheVariants as kind;
 
+use crate::bars::{Bars, Form};
 use crate::bytes::{CR, DLE, EOT, ESC, GS, LF};
 use crate::mark::MarkId;
 use crate::parameter::{
-    Align, BarHeight, BarWidth, Character, Cut, Emphasis, FeedLines, Font, HriFont, HriPlace, Mode,
-    Size, StatusKind, Table, Underline,
+    Align, BarHeight, BarWidth, Character, Cut, Emphasis, FeedLines, FeedUnits, Font, HriFont,
+    HriPlace, Mode, Pulse, Size, StatusKind, Table, Underline,
 };
+use crate::raster::Raster;
 use arrayvec::ArrayVec;
-use escpos_io::{Gather, Piece};
-use std::alloc::AllocError;
 
 /// One command of the profile. Each parameter keeps its byte as sent, so a command has one spelling.
 #[derive(Clone, Debug, Drop, PartialEq, Eq)]
@@ -43,6 +43,10 @@ pub enum Command {
     Align(Align),
     /// ESC d: prints the line and feeds some lines. (Reference: ESC d.)
     FeedLines(FeedLines),
+    /// ESC J: prints the line and feeds some motion units. (Reference: ESC J.)
+    FeedUnits(FeedUnits),
+    /// ESC p: sends a pulse to the connector of the cash drawer. (Reference: ESC p.)
+    Pulse(Pulse),
     /// GS !: sets the size of characters. (Reference: GS !.)
     Size(Size),
     /// GS h: sets the height of barcodes. (Reference: GS h.)
@@ -53,6 +57,10 @@ pub enum Command {
     HriPlace(HriPlace),
     /// GS f: sets the font of that interpretation. (Reference: GS f.)
     HriFont(HriFont),
+    /// GS k: prints a barcode. (Reference: GS k.)
+    Bars(Bars),
+    /// GS v 0: prints a raster. (Reference: GS v 0.)
+    Raster(Raster),
     /// GS V: cuts the paper. (Reference: GS V.)
     Cut(Cut),
     /// DLE EOT: asks for a status byte. (Reference: DLE EOT.)
@@ -62,51 +70,32 @@ pub enum Command {
     Mark(MarkId),
 }
 
-/// The most bytes that a spelling has.
-pub const LONGEST_SPELLING: usize = 11;
-
-const _: () = prove!(LONGEST_SPELLING == 11);
-
-/// The bytes of a command in two parts: fixed ones, and then its parameters as sent.
+/// The bytes of a command in four parts, one after another. Nothing of the size of a barcode or a raster is copied.
 #[derive(Debug, Drop)]
-pub struct Parts {
+pub struct Parts<'a> {
     /// The fixed bytes that a command of this kind begins with; none for a character.
     pub front: &'static [u8],
-    /// The parameter bytes, at most 4.
-    pub parameters: ArrayVec<u8, 4>,
+    /// The parameter bytes, at most 5.
+    pub parameters: ArrayVec<u8, 5>,
+    /// The content of a barcode or the dots of a raster; none for all other commands.
+    pub content: &'a [u8],
+    /// The byte 00 that closes a barcode of form A; none for all other commands.
+    pub closing: &'static [u8],
 }
 
+/// The most bytes that fixed bytes and parameters have.
+pub const LONGEST_FRONT: usize = 11;
+
+const _: () = prove!(LONGEST_FRONT == 11);
+
 impl Command {
-    /// Appends the spelling, the command's row of the command table, to `out`.
-    ///
-    /// On want of memory `out` is unchanged.
-    pub fn spell(&self, out: &mut Vec<u8>) -> Result<(), AllocError>
-        ensures ok { OnOk result (out.new.items ≡ out.old.items ++ row self.now) }
-        ensures err { OnErr result (out.new.items ≡ out.old.items) }
-        ensures no_memory { vec_len out.old + length (row self.now) ≤ vec_capacity out.old → IsOk result }
-    {
-        out.extend_from_slice(self.spelling().as_slice())
-    }
-
-    /// The spelling. Takes no memory.
-    pub fn spelling(&self) -> ArrayVec<u8, LONGEST_SPELLING>
-        ensures row { result.items ≡ row self.now }
-        ensures in_range { IsCommand self.now }
-    {
-        let parts = self.parts();
-        let mut spelling = ArrayVec::new();
-        spelling.try_extend_from_slice(parts.front).unwrap();
-        spelling
-            .try_extend_from_slice(parts.parameters.as_slice())
-            .unwrap();
-        spelling
-    }
-
-    /// The two parts of the spelling. Takes no memory.
-    pub fn parts(&self) -> Parts
+    /// The four parts of the spelling. Takes no memory.
+    pub fn parts(&self) -> Parts<'_>
         ensures front { result.front.now ≡ (entry_of self.now).front }
         ensures parameters { result.parameters.items ≡ (entry_of self.now).parameters }
-        ensures short { length result.front.now + length result.parameters.items ≤ LONGEST_SPELLING }
+        ensures content { result.content.now ≡ (entry_of self.now).content }
+        ensures closing { result.closing.now ≡ (entry_of self.now).closing }
+        ensures short { length result.front.now + length result.parameters.items ≤ LONGEST_FRONT }
         ensures in_range { IsCommand self.now }
     {
         match self {
@@ -121,11 +110,17 @@ impl Command {
             Command::Table(table) => with(&[ESC, b't'], table.byte()),
             Command::Align(align) => with(&[ESC, b'a'], align.byte()),
             Command::FeedLines(feed) => with(&[ESC, b'd'], feed.byte()),
+            Command::FeedUnits(feed) => with(&[ESC, b'J'], feed.byte()),
+            Command::Pulse(pulse) => {
+                with_all(&[ESC, b'p'], &[pulse.pin(), pulse.on(), pulse.off()])
+            }
             Command::Size(size) => with(&[GS, b'!'], size.byte()),
             Command::BarHeight(height) => with(&[GS, b'h'], height.byte()),
             Command::BarWidth(width) => with(&[GS, b'w'], width.byte()),
             Command::HriPlace(place) => with(&[GS, b'H'], place.byte()),
             Command::HriFont(font) => with(&[GS, b'f'], font.byte()),
+            Command::Bars(bars) => barcode(bars),
+            Command::Raster(raster) => picture(raster),
             Command::Cut(cut) => match cut.feed() {
                 None => with(&[GS, b'V'], cut.mode()),
                 Some(feed) => with_all(&[GS, b'V'], &[cut.mode(), feed]),
@@ -136,51 +131,99 @@ impl Command {
     }
 }
 
-impl Piece for Command {
-    ghost bytes = { row };
-
-    fn append(&self, gather: &mut Gather) {
-        let parts = self.parts();
-        gather.extend(parts.front);
-        gather.extend(parts.parameters.as_slice());
-    }
-}
-
 // Fixed bytes with no parameter.
-fn alone(front: &'static [u8]) -> Parts
+fn alone(front: &'static [u8]) -> Parts<'static>
     ensures front { result.front.now ≡ front.now }
     ensures parameters { result.parameters.items ≡ [] }
+    ensures content { result.content.now ≡ [] }
+    ensures closing { result.closing.now ≡ [] }
 {
-    Parts {
-        front,
-        parameters: ArrayVec::new(),
-    }
+    with_all(front, &[])
 }
 
 // Fixed bytes with one parameter byte.
-fn with(front: &'static [u8], parameter: u8) -> Parts
+fn with(front: &'static [u8], parameter: u8) -> Parts<'static>
     ensures front { result.front.now ≡ front.now }
     ensures parameters { result.parameters.items ≡ parameter ∷ [] }
+    ensures content { result.content.now ≡ [] }
+    ensures closing { result.closing.now ≡ [] }
 {
     with_all(front, &[parameter])
 }
 
 // Fixed bytes with some parameter bytes.
-fn with_all(front: &'static [u8], bytes: &[u8]) -> Parts
-    requires { length bytes.now ≤ 4 }
+fn with_all(front: &'static [u8], bytes: &[u8]) -> Parts<'static>
+    requires { length bytes.now ≤ 5 }
     ensures front { result.front.now ≡ front.now }
     ensures parameters { result.parameters.items ≡ bytes.now }
+    ensures content { result.content.now ≡ [] }
+    ensures closing { result.closing.now ≡ [] }
 {
     let mut parameters = ArrayVec::new();
     parameters.try_extend_from_slice(bytes).unwrap();
-    Parts { front, parameters }
+    Parts {
+        front,
+        parameters,
+        content: &[],
+        closing: &[],
+    }
 }
 
 // The parts of a mark.
-fn mark(id: MarkId) -> Parts
-    ensures front { result.front.now ≡ (entry_of (Mark id)).front }
+fn mark(id: MarkId) -> Parts<'static>
+    ensures front { result.front.now ≡ (entry_of (kind.Mark id)).front }
     ensures parameters { result.parameters.items ≡ id }
-    ensures in_range { IsCommand (Mark id) }
+    ensures content { result.content.now ≡ [] }
+    ensures closing { result.closing.now ≡ [] }
+    ensures in_range { IsCommand (kind.Mark id) }
 {
     with_all(&[GS, b'(', b'H', 6, 0, b'0', b'0'], &id.bytes())
+}
+
+// The parts of a barcode.
+fn barcode(bars: &Bars) -> Parts<'_>
+    ensures front { result.front.now ≡ (entry_of (kind.Bars bars.now)).front }
+    ensures parameters { result.parameters.items ≡ (entry_of (kind.Bars bars.now)).parameters }
+    ensures content { result.content.now ≡ (entry_of (kind.Bars bars.now)).content }
+    ensures closing { result.closing.now ≡ (entry_of (kind.Bars bars.now)).closing }
+    ensures few { length result.parameters.items ≤ 2 }
+    ensures in_range { IsCommand (kind.Bars bars.now) }
+{
+    let content = bars.content();
+    match bars.form() {
+        Form::A => Parts {
+            content,
+            closing: &[0],
+            ..with(&[GS, b'k'], bars.mode())
+        },
+        Form::B => Parts {
+            content,
+            ..with_all(&[GS, b'k'], &[bars.mode(), content.len() as u8])
+        },
+    }
+}
+
+// The parts of a raster.
+fn picture(raster: &Raster) -> Parts<'_>
+    ensures front { result.front.now ≡ (raster_entry raster.now).front }
+    ensures parameters { result.parameters.items ≡ (raster_entry raster.now).parameters }
+    ensures content { result.content.now ≡ raster.now.dots }
+    ensures closing { result.closing.now ≡ [] }
+    ensures in_range { IsCommand (kind.Raster raster.now) }
+{
+    let [width_low, width_high] = raster.width().to_le_bytes();
+    let [height_low, height_high] = raster.height().to_le_bytes();
+    Parts {
+        content: raster.dots(),
+        ..with_all(
+            &[GS, b'v', b'0'],
+            &[
+                raster.mode(),
+                width_low,
+                width_high,
+                height_low,
+                height_high,
+            ],
+        )
+    }
 }

@@ -12,6 +12,10 @@ pub enum FaultReason {
     UnknownCommand = 2,
     /// 3: a parameter is out of the range of the command table, or a fixed byte of a mark is another.
     BadParameter = 3,
+    /// 4: a barcode has no content of this length, or this byte can't stand here in its content.
+    BadBarcode = 4,
+    /// 5: no raster has this width or height.
+    BadSize = 5,
 }
 
 impl FaultReason {
@@ -34,6 +38,8 @@ impl FaultReason {
             FaultReason::UnknownByte => "UnknownByte",
             FaultReason::UnknownCommand => "UnknownCommand",
             FaultReason::BadParameter => "BadParameter",
+            FaultReason::BadBarcode => "BadBarcode",
+            FaultReason::BadSize => "BadSize",
         }
     }
 }

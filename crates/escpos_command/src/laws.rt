@@ -2,19 +2,20 @@
 //! the law is proved with the crate and another crate can cite it by calling the function. (`in_range` asks
 //! the command for its parts, whose clauses say it, and `same_clone` clones it.)
 
-ghost use Rattle.std.specs.Prelude.{ℕ, ◌≡◌, ◌≢◌, ◌+◌, ◌<◌, ◌≤◌, ◌⊎◌, List, [], ◌++◌, length, IsTrue, Ok};
+ghost use Rattle.std.specs.Prelude.{ℕ, ◌≡◌, ◌≢◌, ◌+◌, ◌<◌, ◌≤◌, ◌⊎◌, List, [], ◌++◌, length, slice_index, IsTrue, IfOk};
 ghost use Rattle.escpos_command.specs.declared.fault.FaultReason.{FaultReason};
 ghost use Rattle.escpos_command.specs.CommandTable.{Spells, IsCommand, row, spell};
 ghost use Rattle.escpos_command.specs.Grammar.{Viable, Half, Reads, FaultAt};
 ghost use Rattle.escpos_command.specs.Parameters.{is_mark_id};
 ghost use Rattle.escpos_command.specs.Digits.{mark_count, mark_of};
 ghost use Rattle.escpos_command.specs.Tree.{Tree, dead, leaf, node, walk, grammar};
+ghost use Rattle.escpos_command.specs.FirstProfile.{ReadsFirst, FaultAtFirst, IsNew};
 ghost use Rattle.escpos_command.specs.Laws.{longest_spelling, IsRead, IsRefused};
 
 use crate::command::Command;
 use std::alloc::AllocError;
 
-/// Unique spellings: each command has one spelling, of at most 11 bytes; two commands with one spelling
+/// Unique spellings: each command has one spelling, of at most 524,168 bytes; two commands with one spelling
 /// are equal; no spelling begins another.
 pub fn unique_spellings()
     ensures spelled { (c : Command) → IsCommand c → Spells c (row c) × (length (row c) ≤ longest_spelling) }
@@ -44,6 +45,14 @@ pub fn joined_readings()
         FaultAt a cs r k why → FaultAt (a ++ more) cs r k why }
 {}
 
+/// The first profile, which had no ESC J, no ESC p and no raster of more than 2,047 rows: what it read is read so by the
+/// whole table; and where it refused a byte, that byte is refused for the same reason, unless it is one of these.
+pub fn first_profile()
+    ensures read { (bs : List ℕ) (cs : List Command) (rest : List ℕ) → ReadsFirst bs cs rest → Reads bs cs rest }
+    ensures refused { (bs : List ℕ) (cs : List Command) (rest : List ℕ) (k : ℕ) (why : FaultReason) →
+        FaultAtFirst bs cs rest k why → FaultAt bs cs rest k why ⊎ IsNew rest (slice_index bs k) }
+{}
+
 /// Mark numbers: each of them has an id of its own.
 pub fn mark_numbers()
     ensures ids { (n : ℕ) → n < mark_count → IsTrue (is_mark_id (mark_of n)) }
@@ -67,7 +76,7 @@ pub fn in_range(command: &Command)
 
 /// A clone of a command is that command. The error is want of memory.
 pub fn same_clone(command: &Command) -> Result<Command, AllocError>
-    ensures { result ≡ Ok command.now }
+    ensures { IfOk result (λ same. same ≡ command.now) }
 {
     command.clone()
 }

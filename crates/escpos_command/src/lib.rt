@@ -5,24 +5,33 @@
 //! follows from it. Bytes are read in the crate above.
 #![tactic(auto)]
 
+mod bars;
 mod bytes;
 mod chars;
 mod command;
+mod content;
 mod fault;
 pub mod laws;
 mod mark;
 mod parameter;
+mod raster;
+mod spelling;
 #[cfg(test)]
 mod tests;
 mod writing;
 
+pub use bars::{BarFault, Bars, Form, Symbology, is_codabar, is_codabar_end, is_code39, is_digit};
 pub use bytes::{CR, DLE, EOT, ESC, GS, LF};
 pub use chars::{CharsFault, chars_of};
-pub use command::{Command, LONGEST_SPELLING, Parts};
+pub use command::{Command, LONGEST_FRONT, Parts};
+pub use content::Bytes;
 pub use fault::FaultReason;
 pub use mark::{MarkId, is_mark_byte};
 pub use parameter::{
-    Align, Alignment, BarHeight, BarWidth, Character, Cut, Emphasis, FeedLines, Font, FontFace,
-    HriFont, HriPlace, HriPosition, Mode, Size, StatusKind, Table, Underline,
+    Align, Alignment, BarHeight, BarWidth, Character, Cut, Emphasis, FeedLines, FeedUnits, Font,
+    FontFace, HriFont, HriPlace, HriPosition, Mode, Pulse, Scale, Size, StatusKind, Table,
+    Underline,
 };
+pub use raster::{HIGHEST, Raster, RasterFault, WIDEST, is_height, is_scale, is_width};
+pub use spelling::LONGEST_SPELLING;
 pub use writing::write_commands;

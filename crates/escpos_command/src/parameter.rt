@@ -12,6 +12,6 @@ mod line;
 mod text;
 
 pub use barcode::{BarHeight, BarWidth, HriFont, HriPlace};
-pub use choices::{Alignment, FontFace, HriPosition};
-pub use line::{Align, Cut, FeedLines, StatusKind};
+pub use choices::{Alignment, FontFace, HriPosition, Scale, choice, scale_of};
+pub use line::{Align, Cut, FeedLines, FeedUnits, Pulse, StatusKind};
 pub use text::{Character, Emphasis, Font, Mode, Size, Table, Underline};

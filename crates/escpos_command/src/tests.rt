@@ -1,9 +1,12 @@
 //! The worked rows of the grammar, and each call on its happy path. Expected values are those of the
 //! command table.
 
+mod values;
+
 use super::*;
 use escpos_io::{Device, MemoryOut, Outgoing};
 use std::alloc::Global;
+use std::process::Abort;
 use std::test::Fail;
 
 // What five_commands_of spells.
@@ -57,7 +60,9 @@ fn mark_numbers(rt: HostRuntime) -> Result<(), Fail> {
 #[test]
 fn mark_35(rt: HostRuntime) -> Result<(), Fail> {
     let mark = Command::Mark(MarkId::of_number(35).ok_or("number")?);
-    assert_eq!(rt; mark.spelling().as_slice(), MARK_35);
+    let mut out = Vec::new(rt.alloc());
+    mark.spell(&mut out)?;
+    assert_eq!(rt; out.as_slice(), MARK_35);
     let parts = mark.parts();
     assert_eq!(rt; parts.front, &MARK_35[..7]);
     assert_eq!(rt; parts.parameters.as_slice(), &MARK_35[7..]);
@@ -70,6 +75,8 @@ fn reasons_have_numbers_and_names(rt: HostRuntime) -> Result<(), Fail> {
         (FaultReason::UnknownByte, 1, "1 UnknownByte"),
         (FaultReason::UnknownCommand, 2, "2 UnknownCommand"),
         (FaultReason::BadParameter, 3, "3 BadParameter"),
+        (FaultReason::BadBarcode, 4, "4 BadBarcode"),
+        (FaultReason::BadSize, 5, "5 BadSize"),
     ];
     for (why, number, line) in rows {
         assert_eq!(rt; why.number(), number);
@@ -193,5 +200,253 @@ fn small_pieces_go_out_in_order(rt: HostRuntime) -> Result<(), Fail> {
     let mut sink = Outgoing::new(Vec::new(rt.alloc()));
     assert_eq!(rt; write_commands(&commands, &mut sink), Ok(()));
     assert_eq!(rt; sink.into_inner().as_slice(), want.as_slice());
+    Ok(())
+}
+
+// A barcode with this content is spelled so.
+fn expect_bars(
+    rt: &impl Abort,
+    alloc: Global,
+    form: Form,
+    symbology: Symbology,
+    content: &[u8],
+    bytes: &[u8],
+) -> Result<(), Fail> {
+    let bars = Command::Bars(Bars::new(form, symbology, content.to_vec(alloc)?)?);
+    let mut out = b"<".to_vec(alloc)?;
+    bars.spell(&mut out)?;
+    assert_eq!(rt; out.first(), Some(&b'<'));
+    assert_eq!(rt; &out[1..], bytes, "{symbology:?}");
+    assert_eq!(rt; bars.spelled_len(), bytes.len());
+    Ok(())
+}
+
+// These bytes are no content, for this reason, and come back.
+fn refuse_bars(
+    rt: &impl Abort,
+    alloc: Global,
+    form: Form,
+    symbology: Symbology,
+    content: &[u8],
+    why: BarFault,
+) -> Result<(), Fail> {
+    let refused = Bars::new(form, symbology, content.to_vec(alloc)?);
+    let Err((fault, back)) = refused else {
+        return Err(Fail::new("a barcode"));
+    };
+    assert_eq!(rt; fault, why, "{symbology:?} {content:?}");
+    assert_eq!(rt; back.as_slice(), content);
+    Ok(())
+}
+
+// The two spellings of each symbology, with the mode that the Reference gives it.
+#[test]
+fn barcodes_are_spelled(rt: HostRuntime) -> Result<(), Fail> {
+    let alloc = rt.alloc();
+    let rows: [(Form, Symbology, &[u8], &[u8]); 13] = [
+        (
+            Form::A,
+            Symbology::UpcA,
+            b"03600029145",
+            b"\x1Dk\x0003600029145\x00",
+        ),
+        (
+            Form::A,
+            Symbology::Ean13,
+            b"400638133393",
+            b"\x1Dk\x02400638133393\x00",
+        ),
+        (
+            Form::A,
+            Symbology::Ean8,
+            b"5512345",
+            b"\x1Dk\x035512345\x00",
+        ),
+        (
+            Form::A,
+            Symbology::Code39,
+            b"A $%*+-./9",
+            b"\x1Dk\x04A $%*+-./9\x00",
+        ),
+        (Form::A, Symbology::Itf, b"12", b"\x1Dk\x0512\x00"),
+        (
+            Form::A,
+            Symbology::Codabar,
+            b"A0$+-./:d",
+            b"\x1Dk\x06A0$+-./:d\x00",
+        ),
+        (
+            Form::B,
+            Symbology::UpcA,
+            b"036000291452",
+            b"\x1DkA\x0C036000291452",
+        ),
+        (
+            Form::B,
+            Symbology::Ean13,
+            b"4006381333931",
+            b"\x1DkC\x0D4006381333931",
+        ),
+        (Form::B, Symbology::Ean8, b"55123457", b"\x1DkD\x0855123457"),
+        (Form::B, Symbology::Code39, b"Z", b"\x1DkE\x01Z"),
+        (Form::B, Symbology::Itf, b"12", b"\x1DkF\x0212"),
+        (Form::B, Symbology::Codabar, b"aD", b"\x1DkG\x02aD"),
+        (
+            Form::B,
+            Symbology::Code128,
+            b"{B\x00\x7F",
+            b"\x1DkI\x04{B\x00\x7F",
+        ),
+    ];
+    for (form, symbology, content, bytes) in rows {
+        expect_bars(&rt, alloc, form, symbology, content, bytes)?;
+    }
+    Ok(())
+}
+
+#[test]
+fn barcodes_are_refused(rt: HostRuntime) -> Result<(), Fail> {
+    let alloc = rt.alloc();
+    let rows: [(Form, Symbology, &[u8], BarFault); 19] = [
+        (Form::A, Symbology::Code128, b"{A0", BarFault::Form),
+        (Form::A, Symbology::Code128, b"", BarFault::Form),
+        (Form::A, Symbology::UpcA, b"0360002914", BarFault::Length),
+        (Form::B, Symbology::UpcA, b"0360002914521", BarFault::Length),
+        (Form::B, Symbology::Ean13, b"40063813339", BarFault::Length),
+        (Form::A, Symbology::Ean8, b"551234", BarFault::Length),
+        (Form::A, Symbology::Code39, b"", BarFault::Length),
+        (Form::B, Symbology::Itf, b"123", BarFault::Length),
+        (Form::B, Symbology::Itf, b"x", BarFault::Length),
+        (Form::B, Symbology::Codabar, b"A", BarFault::Length),
+        (Form::B, Symbology::Code128, b"{", BarFault::Length),
+        (
+            Form::A,
+            Symbology::UpcA,
+            b"0360002914x",
+            BarFault::Byte { at: 10 },
+        ),
+        (Form::A, Symbology::Code39, b"AbC", BarFault::Byte { at: 1 }),
+        (Form::B, Symbology::Codabar, b"0B", BarFault::Byte { at: 0 }),
+        (
+            Form::B,
+            Symbology::Codabar,
+            b"AAB",
+            BarFault::Byte { at: 1 },
+        ),
+        (
+            Form::B,
+            Symbology::Codabar,
+            b"A00",
+            BarFault::Byte { at: 2 },
+        ),
+        (Form::B, Symbology::Code128, b"}A", BarFault::Byte { at: 0 }),
+        (Form::B, Symbology::Code128, b"{D", BarFault::Byte { at: 1 }),
+        (
+            Form::B,
+            Symbology::Code128,
+            b"{A\x80",
+            BarFault::Byte { at: 2 },
+        ),
+    ];
+    for (form, symbology, content, why) in rows {
+        refuse_bars(&rt, alloc, form, symbology, content, why)?;
+    }
+    let long = vec![in alloc; b'0'; 256]?;
+    refuse_bars(
+        &rt,
+        alloc,
+        Form::A,
+        Symbology::Code39,
+        &long,
+        BarFault::Length,
+    )?;
+    refuse_bars(&rt, alloc, Form::B, Symbology::Itf, &long, BarFault::Length)
+}
+
+// These bytes are no raster, for this reason, and come back.
+fn refuse_raster(
+    rt: &impl Abort,
+    alloc: Global,
+    mode: u8,
+    size: [u16; 2],
+    dots: &[u8],
+    why: RasterFault,
+) -> Result<(), Fail> {
+    let [width, height] = size;
+    let refused = Raster::new(mode, width, height, dots.to_vec(alloc)?);
+    let Err((fault, back)) = refused else {
+        return Err(Fail::new("a raster"));
+    };
+    assert_eq!(rt; fault, why, "{mode} {size:?}");
+    assert_eq!(rt; back.as_slice(), dots);
+    Ok(())
+}
+
+#[test]
+fn raster_refusals(rt: HostRuntime) -> Result<(), Fail> {
+    let alloc = rt.alloc();
+    refuse_raster(&rt, alloc, 0, [1, 2], &[7], RasterFault::Length)?;
+    refuse_raster(&rt, alloc, 4, [0, 2], &[7], RasterFault::Scale)?;
+    refuse_raster(&rt, alloc, 52, [1, 1], &[7], RasterFault::Scale)?;
+    refuse_raster(&rt, alloc, 3, [0, 0], &[], RasterFault::Width)?;
+    refuse_raster(&rt, alloc, 3, [129, 1], &[7; 129], RasterFault::Width)?;
+    refuse_raster(&rt, alloc, 48, [1, 0], &[], RasterFault::Height)?;
+    refuse_raster(&rt, alloc, 51, [1, 4096], &[7; 4096], RasterFault::Height)?;
+    refuse_raster(&rt, alloc, 51, [2, 3], &[7; 7], RasterFault::Length)
+}
+
+#[test]
+fn largest_raster(rt: HostRuntime) -> Result<(), Fail> {
+    let raster = Raster::new(50, 128, 4095, vec![in rt.alloc(); 0xA5; 524_160]?)?;
+    assert_eq!(rt; raster.scale(), Scale::Tall);
+    let raster = Command::Raster(raster);
+    assert_eq!(rt; raster.spelled_len(), LONGEST_SPELLING);
+    let mut want = b"\x1Dv02\x80\x00\xFF\x0F".to_vec(rt.alloc())?;
+    want.extend_from_slice(&vec![in rt.alloc(); 0xA5; 524_160]?)?;
+    let mut out = Vec::new(rt.alloc());
+    raster.spell(&mut out)?;
+    assert!(rt; out == want);
+    let mut tail = [0u8; 4];
+    assert_eq!(rt; raster.spell_at(524_166, &mut tail), 2);
+    assert_eq!(rt; tail, [0xA5, 0xA5, 0, 0]);
+    assert_eq!(rt; raster.spell_at(6, &mut tail), 4);
+    assert_eq!(rt; tail, [0xFF, 0x0F, 0xA5, 0xA5]);
+    assert!(rt; raster.clone()? == raster);
+    let mut sink = Outgoing::new(Vec::new(rt.alloc()));
+    assert_eq!(rt; write_commands(&[raster, Command::Init], &mut sink), Ok(()));
+    want.extend_from_slice(b"\x1B@")?;
+    assert!(rt; sink.into_inner() == want);
+    Ok(())
+}
+
+#[test]
+fn spell_at(rt: HostRuntime) -> Result<(), Fail> {
+    let mark = Command::Mark(MarkId::of_number(0).ok_or("number")?);
+    let mut out = [9u8; 3];
+    assert_eq!(rt; mark.spell_at(6, &mut out), 3);
+    assert_eq!(rt; out, *b"000");
+    let mut out = [9u8; 3];
+    assert_eq!(rt; mark.spell_at(11, &mut out), 0);
+    assert_eq!(rt; mark.spell_at(usize::MAX, &mut out), 0);
+    assert_eq!(rt; out, [9; 3]);
+    let bars = Command::Bars(Bars::new(Form::A, Symbology::Itf, b"12".to_vec(rt.alloc())?)?);
+    let mut out = [9u8; 4];
+    assert_eq!(rt; bars.spell_at(2, &mut out), 4);
+    assert_eq!(rt; out, *b"\x0512\x00");
+    let mut out = [9u8; 4];
+    assert_eq!(rt; bars.spell_at(4, &mut out), 2);
+    assert_eq!(rt; out, *b"2\x00\x09\x09");
+    Ok(())
+}
+
+#[test]
+fn pulses_and_units(rt: HostRuntime) -> Result<(), Fail> {
+    let pulse = Pulse::new(49, 25, 250).ok_or("pulse")?;
+    assert_eq!(rt; [pulse.pin(), pulse.on(), pulse.off()], [49, 25, 250]);
+    assert_eq!(rt; Pulse::new(2, 0, 0), None);
+    let mut out = Vec::new(rt.alloc());
+    Command::Pulse(pulse).spell(&mut out)?;
+    Command::FeedUnits(FeedUnits::new(5).ok_or("units")?).spell(&mut out)?;
+    assert_eq!(rt; out.as_slice(), b"\x1Bp1\x19\xFA\x1BJ\x05".as_slice());
     Ok(())
 }

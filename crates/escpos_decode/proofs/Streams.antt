@@ -1,8 +1,8 @@
 -- The bytes of a stream as they come in pieces.
-use Rattle.std.proofs.Common.{◌≡◌, ℕ, ◌+◌, ◌<◌, List, [], ◌∷◌, ◌++◌, length, take, drop, refl, sym, ◌∙◌, ap, subst, append_assoc, append-nil, arith, length-append, add-one, drop-cons, length-take}
+use Rattle.std.proofs.Common.{◌≡◌, ℕ, ◌+◌, ◌<◌, ◌≤◌, List, [], ◌∷◌, ◌++◌, length, take, drop, refl, sym, ◌∙◌, ap, subst, append_assoc, append-nil, arith, length-append, add-one, drop-cons, length-take, length-drop, ◌-◌}
 use Rattle.std.specs.Prelude.{slice_index}
-use Rattle.std.proofs.lemmas.List.{take-append-drop}
-use Rattle.std.proofs.Math.Seq.{take-suc}
+use Rattle.std.proofs.lemmas.List.{take-append-drop, take-take}
+use Rattle.std.proofs.Math.Seq.{take-suc, take-add}
 use Rattle.escpos_command.specs.declared.command.Command.{Command}
 use Rattle.escpos_command.specs.declared.fault.FaultReason.{FaultReason}
 use Rattle.escpos_command.specs.CommandTable.{spell}
@@ -18,8 +18,17 @@ piece_around a piece at h =
     append_assoc a (take at piece) (slice_index piece at ∷ drop (at + 1) piece)
     ∙ ap (λ v. a ++ v) (ap (λ v. take at piece ++ v) (sym (rw (add-one) (drop-cons piece at 0 h))) ∙ take-append-drop at piece)
 
+front_and_run : (a piece : List ℕ) (at n most : ℕ) → at + n ≤ length piece → n ≤ most → (a ++ take at piece) ++ take n (take most (drop at piece)) ≡ a ++ take (at + n) piece
+front_and_run a piece at n most h few =
+    append_assoc a (take at piece) (take n (take most (drop at piece)))
+    ∙ ap (λ v. a ++ (take at piece ++ v)) (take-take n most (drop at piece) few)
+    ∙ ap (λ v. a ++ v) (sym (take-add at n piece))
+
 length-before : (a piece : List ℕ) (at : ℕ) → at < length piece → length (a ++ take at piece) ≡ length a + at
 length-before a piece at h = omega (arith, length-append a (take at piece), length-take at piece)
+
+pub length-rest : (piece : List ℕ) (at n : ℕ) → at ≤ length piece → n ≤ length (take (length piece - at) (drop at piece)) → at + n ≤ length piece
+length-rest piece at n inside h = let short = length-take (length piece - at) (drop at piece) in let rest = length-drop at piece in omega arith
 
 -- ## The loop over a piece
 
@@ -41,6 +50,20 @@ turn_more took a piece half after at start then_start h t on e = record {
   taken = t.taken;
   placed = e ∙ t.placed;
 }
+
+-- More bytes of the piece continue it.
+pub turn_run : (took : List Command → Type 0) (a piece half after : List ℕ) (at n most start : ℕ) → at + n ≤ length piece → n ≤ most
+    → Turn took (a ++ take at piece) half start
+    → ((b : List ℕ) (cs : List Command) → Reads b cs half → Reads (b ++ take n (take most (drop at piece))) cs after)
+    → Turn took (a ++ take (at + n) piece) after start
+turn_run took a piece half after at n most start h few t on =
+    let run : (a ++ take at piece) ++ take n (take most (drop at piece)) ≡ a ++ take (at + n) piece = front_and_run a piece at n most h few in
+    record {
+      commands = t.commands;
+      read = subst (λ bs. Reads bs t.commands after) run (on (a ++ take at piece) t.commands t.read);
+      taken = t.taken;
+      placed = t.placed;
+    }
 
 -- The byte ends a command.
 pub turn_done : (took next : List Command → Type 0) (a piece half after : List ℕ) (at start then_start : ℕ) (c : Command) → at < length piece

@@ -1,4 +1,5 @@
-pub mod Lead
+pub mod Letters
+pub mod Place
 pub mod Push
 pub mod Reading
 pub mod Stream

@@ -4,7 +4,12 @@ use Rattle.escpos_decode.specs.declared.decoder.Step.{Step}
 use Rattle.escpos_decode.specs.declared.decoder.Step.TheVariants.{More, Done}
 use Rattle.escpos_decode.specs.declared.decoder.DecodeFault.{DecodeFault}
 use Rattle.escpos_decode.specs.declared.decoder.DecodeFault.TheVariants.{Fault, Memory}
+use Rattle.escpos_decode.specs.declared.place.Next.{Next}
+use Rattle.escpos_decode.specs.declared.place.Next.TheVariants as next
+use Rattle.escpos_decode.specs.declared.decoder.Ahead.{Ahead}
+use Rattle.escpos_decode.specs.declared.decoder.Ahead.TheVariants as ahead
 use Rattle.escpos_command.specs.declared.command.Command.{Command}
+use Rattle.escpos_command.specs.declared.command.Command.TheVariants as kind
 use Rattle.escpos_command.specs.CommandTable.{Spells}
 use Rattle.escpos_command.specs.Grammar.{Half, Reads, FaultAt}
 use Rattle.escpos_command.specs.Places.{number_of}
@@ -34,3 +39,27 @@ GoesOn (Err Memory) half b after = after ≡ half
 abbrev pub number_of_fault : DecodeFault → ℕ
 number_of_fault (Fault at why) = number_of why
 number_of_fault Memory = 6
+
+-- What is told of a command ahead: whether it is a status request, a mark, or any other.
+abbrev pub ahead_of : Command → Ahead
+ahead_of (kind.Status n) = ahead.Status
+ahead_of (kind.Mark id) = ahead.Mark
+ahead_of _ = ahead.Other
+
+-- What a byte b after the half command would complete: no command, or one of which this is told.
+abbrev pub AheadIs : Ahead → List ℕ → ℕ → Type 0
+AheadIs ahead.Nothing half b = (c : Command) → Spells c (half ++ b ∷ []) → ⊥
+AheadIs ahead.Status half b = (c : Command) × Spells c (half ++ b ∷ []) × (ahead_of c ≡ ahead.Status)
+AheadIs ahead.Mark half b = (c : Command) × Spells c (half ++ b ∷ []) × (ahead_of c ≡ ahead.Mark)
+AheadIs ahead.Other half b = (c : Command) × Spells c (half ++ b ∷ []) × (ahead_of c ≡ ahead.Other)
+
+-- What is completed where a byte leads there.
+abbrev pub completed : Next → Ahead
+completed (next.Done c) = ahead_of c
+completed (next.Last e) = ahead.Other
+completed (next.Closes e) = ahead.Other
+completed next.Refused = ahead.Nothing
+completed (next.To q) = ahead.Nothing
+completed (next.Room q count) = ahead.Nothing
+completed (next.Grow q) = ahead.Nothing
+completed (next.Keep q) = ahead.Nothing

@@ -62,21 +62,27 @@ pub fn read_piece<W, C: Consumer<W>>(
 {
     let before = decoder.pending_len();
     let mut start = 0;
-    for (at, byte) in piece.iter().enumerate() {
-        let step = match decoder.push(*byte) {
-            Ok(step) => step,
-            Err(DecodeFault::Fault { why, .. }) => return Err(Stop::Fault { at, why }),
-            Err(DecodeFault::Memory) => return Err(Stop::Memory),
-        };
-        match step {
-            Step::More => {}
-            Step::Done(command) => {
-                if let Err(refusal) = consumer.take(command, start, output) {
-                    return Err(Stop::Refused(refusal));
+    let mut at = 0;
+    while at < piece.len() {
+        let command = if let Some(character) = decoder.character(piece[at]) {
+            Command::Char(character)
+        } else {
+            match decoder.push(piece[at]) {
+                Ok(Step::Done(command)) => command,
+                Ok(Step::More) => {
+                    at += 1;
+                    at += decoder.push_dots(&piece[at..]);
+                    continue;
                 }
-                start = before + at + 1;
+                Err(DecodeFault::Fault { why, .. }) => return Err(Stop::Fault { at, why }),
+                Err(DecodeFault::Memory) => return Err(Stop::Memory),
             }
+        };
+        at += 1;
+        if let Err(refusal) = consumer.take(command, start, output) {
+            return Err(Stop::Refused(refusal));
         }
+        start = before + at;
     }
     Ok(())
 }

@@ -1,14 +1,25 @@
 //! The worked rows of the decoder, and each call on its happy path. Expected values are those of the
 //! command table.
 
+mod comparison;
+mod contents;
+mod plain;
+
 use super::*;
-use escpos_command::{Align, Character, Command, Cut, FaultReason, MarkId, Size, laws};
+use comparison::{agrees, agrees_with_neighbours};
+use escpos_command::{
+    Align, Character, Command, Cut, FaultReason, FeedUnits, MarkId, Pulse, Size, laws,
+};
 use std::alloc::Global;
 use std::process::Abort;
 use std::test::Fail;
 
-// Why a byte out of the range of a parameter is refused.
+// Why a byte out of the range of a parameter, of a barcode or of a raster's size is refused.
 const BAD: FaultReason = FaultReason::BadParameter;
+
+const BARCODE: FaultReason = FaultReason::BadBarcode;
+
+const SIZE: FaultReason = FaultReason::BadSize;
 
 // Init, H, i, LF, and GS V 0.
 const FIVE: [u8; 8] = [0x1B, 0x40, 0x48, 0x69, 0x0A, 0x1D, 0x56, 0x00];
@@ -32,7 +43,7 @@ fn five_commands_of(alloc: Global) -> Result<Vec<Command>, Fail> {
 }
 
 // The last of these bytes is refused after the others, which are a half command, and that is dropped: the next
-// byte begins a command.
+// byte begins a command. The plain reader agrees at each byte.
 fn refuses_last(
     rt: &impl Abort,
     alloc: Global,
@@ -53,20 +64,20 @@ fn refuses_last(
     );
     assert_eq!(rt; decoder.pending_len(), 0);
     assert_eq!(rt; decoder.push(0x0A), Ok(Step::Done(Command::LineFeed)));
-    Ok(())
+    agrees(rt, alloc, bytes)
 }
 
-// The bytes are the spelling of this command.
-fn decodes(rt: &impl Abort, alloc: Global, bytes: &[u8], command: Command) -> Result<(), Fail> {
-    let decoded = decode(alloc, &[bytes])?;
-    assert_eq!(rt; decoded.commands.as_slice(), [command].as_slice());
-    assert_eq!(rt; decoded.end, End::Read { half: 0 });
+// The one command that the bytes spell, and that spells them again. The plain reader agrees at each byte.
+fn reads_one(rt: &impl Abort, alloc: Global, bytes: &[u8]) -> Result<Command, Fail> {
+    let mut decoded = decode(alloc, &[bytes])?;
+    assert_eq!(rt; decoded.end, End::Read { half: 0 }, "{bytes:?}");
+    assert_eq!(rt; decoded.commands.len(), 1, "{bytes:?}");
+    let command = decoded.commands.pop().ok_or("command")?;
     let mut out = Vec::new(alloc);
-    for command in &decoded.commands {
-        command.spell(&mut out)?;
-    }
+    command.spell(&mut out)?;
     assert_eq!(rt; out.as_slice(), bytes);
-    Ok(())
+    agrees(rt, alloc, bytes)?;
+    Ok(command)
 }
 
 #[test]
@@ -97,7 +108,7 @@ fn five_commands(rt: HostRuntime) -> Result<(), Fail> {
     assert!(rt; commands.pop().is_some());
     assert_eq!(rt; half.commands.as_slice(), commands.as_slice());
     assert_eq!(rt; half.end, End::Read { half: 2 });
-    Ok(())
+    agrees(&rt, rt.alloc(), &FIVE)
 }
 
 // Each printable ASCII byte at each place of a mark's id.
@@ -110,7 +121,7 @@ fn bytes_of_a_mark(rt: HostRuntime) -> Result<(), Fail> {
             let mark = MarkId::new(id).ok_or("id")?;
             let mut bytes = MARK_35;
             bytes[7..].copy_from_slice(&id);
-            decodes(&rt, rt.alloc(), &bytes, Command::Mark(mark))?;
+            assert_eq!(rt; reads_one(&rt, rt.alloc(), &bytes)?, Command::Mark(mark));
         }
     }
     Ok(())
@@ -120,7 +131,9 @@ fn bytes_of_a_mark(rt: HostRuntime) -> Result<(), Fail> {
 fn align_range(rt: HostRuntime) -> Result<(), Fail> {
     refuses_last(&rt, rt.alloc(), &[0x1B, 0x61, 0x03], BAD)?;
     let align = Align::new(0x32).ok_or("align")?;
-    decodes(&rt, rt.alloc(), &[0x1B, 0x61, 0x32], Command::Align(align))
+    let command = reads_one(&rt, rt.alloc(), &[0x1B, 0x61, 0x32])?;
+    assert_eq!(rt; command, Command::Align(align));
+    Ok(())
 }
 
 #[test]
@@ -139,7 +152,7 @@ fn unknown_bytes(rt: HostRuntime) -> Result<(), Fail> {
     let decoded = decode(rt.alloc(), &pieces)?;
     assert_eq!(rt; decoded.commands.as_slice(), [Command::Init].as_slice());
     assert_eq!(rt; decoded.end, End::Fault { at: 3, why });
-    Ok(())
+    agrees(&rt, rt.alloc(), &[0x1B, 0x40, 0x1B, 0x24])
 }
 
 #[test]
@@ -147,7 +160,9 @@ fn size_bits(rt: HostRuntime) -> Result<(), Fail> {
     refuses_last(&rt, rt.alloc(), &[0x1D, 0x21, 0x08], BAD)?;
     refuses_last(&rt, rt.alloc(), &[0x1D, 0x21, 0x80], BAD)?;
     let size = Size::new(0x77).ok_or("size")?;
-    decodes(&rt, rt.alloc(), &[0x1D, 0x21, 0x77], Command::Size(size))
+    let command = reads_one(&rt, rt.alloc(), &[0x1D, 0x21, 0x77])?;
+    assert_eq!(rt; command, Command::Size(size));
+    Ok(())
 }
 
 #[test]
@@ -167,7 +182,7 @@ fn mark_prefix(rt: HostRuntime) -> Result<(), Fail> {
 #[test]
 fn mark_35(rt: HostRuntime) -> Result<(), Fail> {
     let mark = MarkId::of_number(35).ok_or("number")?;
-    decodes(&rt, rt.alloc(), &MARK_35, Command::Mark(mark))?;
+    assert_eq!(rt; reads_one(&rt, rt.alloc(), &MARK_35)?, Command::Mark(mark));
     let half = decode(rt.alloc(), &[&MARK_35[..10]])?;
     assert!(rt; half.commands.is_empty());
     assert_eq!(rt; half.end, End::Read { half: 10 });
@@ -177,12 +192,90 @@ fn mark_35(rt: HostRuntime) -> Result<(), Fail> {
 #[test]
 fn cut_feed(rt: HostRuntime) -> Result<(), Fail> {
     let cut = Cut::with_feed(0x41, 0x05).ok_or("cut")?;
-    decodes(
-        &rt,
-        rt.alloc(),
-        &[0x1D, 0x56, 0x41, 0x05],
-        Command::Cut(cut),
-    )
+    let command = reads_one(&rt, rt.alloc(), &[0x1D, 0x56, 0x41, 0x05])?;
+    assert_eq!(rt; command, Command::Cut(cut));
+    Ok(())
+}
+
+#[test]
+fn units_and_pulse(rt: HostRuntime) -> Result<(), Fail> {
+    let bytes = [0x41, 0x1B, 0x4A, 0x05, 0x1B, 0x70, 0x00, 0x19, 0xFA];
+    let decoded = decode(rt.alloc(), &[&bytes])?;
+    let commands = [
+        Command::Char(Character::new(0x41).ok_or("A")?),
+        Command::FeedUnits(FeedUnits::new(5).ok_or("units")?),
+        Command::Pulse(Pulse::new(0, 0x19, 0xFA).ok_or("pulse")?),
+    ];
+    assert_eq!(rt; decoded.commands.as_slice(), commands.as_slice());
+    assert_eq!(rt; decoded.end, End::Read { half: 0 });
+    agrees(&rt, rt.alloc(), &bytes)
+}
+
+// A spelling of each row of the command table, with a barcode of each symbology in each form.
+const SPELLINGS: [&[u8]; 37] = [
+    b"A",
+    b"\x0A",
+    b"\x0D",
+    b"\x1B@",
+    b"\x1B!\x00",
+    b"\x1B-\x01",
+    b"\x1BE\x01",
+    b"\x1BM\x01",
+    b"\x1Ba\x02",
+    b"\x1BJ\x00",
+    b"\x1Bd\x00",
+    b"\x1Bp\x31\x19\xFA",
+    b"\x1Bt\x00",
+    b"\x1D!\x11",
+    b"\x1D(H\x06\x0000ABCD",
+    b"\x1DH\x02",
+    b"\x1DV\x01",
+    b"\x1DV\x42\x00",
+    b"\x1Df\x30",
+    b"\x1Dh\x01",
+    b"\x1Dk\x00036000291452\x00",
+    b"\x1Dk\x024006381333931\x00",
+    b"\x1Dk\x0355123457\x00",
+    b"\x1Dk\x04A 1\x00",
+    b"\x1Dk\x051234\x00",
+    b"\x1Dk\x06A1:b\x00",
+    b"\x1DkA\x0B03600029145",
+    b"\x1DkC\x0C400638133393",
+    b"\x1DkD\x075512345",
+    b"\x1DkE\x03A 1",
+    b"\x1DkF\x041234",
+    b"\x1DkG\x04c1:D",
+    b"\x1DkI\x04{B\x00\x7F",
+    b"\x1Dv0\x33\x02\x00\x02\x00\x1B@\x0A\x00",
+    b"\x1Dw\x02",
+    b"\x10\x04\x01",
+    b"\x1DkI\x02{C",
+];
+
+// Each byte after each front of these spellings: every byte that the table doesn't have there among them.
+#[test]
+fn every_byte_after_each_front(rt: HostRuntime) -> Result<(), Fail> {
+    let mut stream = Vec::new(rt.alloc());
+    for spelling in SPELLINGS {
+        let _ = reads_one(&rt, rt.alloc(), spelling)?;
+        agrees_with_neighbours(&rt, rt.alloc(), spelling)?;
+        stream.extend_from_slice(spelling)?;
+    }
+    agrees(&rt, rt.alloc(), &stream)
+}
+
+// After each fault the next byte begins a command: spellings without their last byte, each followed by a whole one.
+#[test]
+fn begins_anew_after_a_fault(rt: HostRuntime) -> Result<(), Fail> {
+    for spelling in SPELLINGS {
+        let (_, half) = spelling.split_last().ok_or("spelling")?;
+        for next in SPELLINGS {
+            let mut stream = half.to_vec(rt.alloc())?;
+            stream.extend_from_slice(next)?;
+            agrees(&rt, rt.alloc(), &stream)?;
+        }
+    }
+    Ok(())
 }
 
 #[test]
@@ -194,19 +287,6 @@ fn clear_drops_the_half_command(rt: HostRuntime) {
     decoder.clear();
     assert_eq!(rt; decoder.pending_len(), 0);
     assert_eq!(rt; decoder.push(0x0A), Ok(Step::Done(Command::LineFeed)));
-}
-
-// The bytes are the spelling of one command.
-fn reads_back(rt: &impl Abort, alloc: Global, bytes: &[u8]) -> Result<(), Fail> {
-    let decoded = decode(alloc, &[bytes])?;
-    assert_eq!(rt; decoded.commands.len(), 1, "{bytes:?}");
-    assert_eq!(rt; decoded.end, End::Read { half: 0 }, "{bytes:?}");
-    let mut out = Vec::new(alloc);
-    for command in &decoded.commands {
-        command.spell(&mut out)?;
-    }
-    assert_eq!(rt; out.as_slice(), bytes);
-    Ok(())
 }
 
 // The bytes before a parameter, the parameters that are read there (the least and the greatest, and the
@@ -242,7 +322,7 @@ fn least_and_greatest_parameters(rt: HostRuntime) -> Result<(), Fail> {
         let mut bytes = before.to_vec(rt.alloc())?;
         for parameter in read {
             bytes.push(*parameter)?;
-            reads_back(&rt, rt.alloc(), &bytes)?;
+            let _ = reads_one(&rt, rt.alloc(), &bytes)?;
             bytes.pop();
         }
         for parameter in refused {
@@ -280,7 +360,8 @@ fn long_streams(rt: HostRuntime) -> Result<(), Fail> {
 // Each kind of command clones to itself.
 #[test]
 fn clones(rt: HostRuntime) -> Result<(), Fail> {
-    for command in five_commands_of(rt.alloc())? {
+    for spelling in SPELLINGS {
+        let command = reads_one(&rt, rt.alloc(), spelling)?;
         assert_eq!(rt; laws::same_clone(&command)?, command);
     }
     Ok(())

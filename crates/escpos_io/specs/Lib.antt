@@ -4,3 +4,4 @@ pub mod Outgoing
 pub mod Memory
 pub mod Gather
 pub mod Putting
+pub mod Giving

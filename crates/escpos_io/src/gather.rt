@@ -4,9 +4,11 @@
 //! pieces go out as few large ones, and counts what the sink has taken, up to the greatest u128. It takes no
 //! memory. What the bytes are is left to its users; `pieces` has the loop over values that are put as bytes.
 
-ghost use Rattle.std.specs.Prelude.{◌≡◌, ◌+◌, ◌<◌, ◌≤◌, ◌^◌, ℕ, List, [], ◌∷◌, ◌++◌, length, Ok, Option, OnOk, IfErr, IsTrue};
+ghost use Rattle.std.specs.Prelude.{◌≡◌, ◌+◌, ◌<◌, ◌≤◌, ℕ, List, [], ◌∷◌, ◌++◌, length, Ok, Option, OnOk, Bool};
 ghost use Rattle.std.specs.Io.KnownBytes.{Appends};
-ghost use Rattle.escpos_io.specs.Gather.{Carries, StopsIn};
+ghost use Rattle.escpos_io.specs.Gather.{Carries};
+ghost use Rattle.escpos_io.specs.Giving.{IsGiven};
+ghost use Rattle.escpos_io.specs.Putting.{passage};
 
 use crate::{ByteOut, Device, laws, put_all};
 use arrayvec::ArrayVec;
@@ -55,16 +57,11 @@ impl Gather {
     #[inline]
     pub fn room<W: ByteOut>(&mut self, count: usize, writer: &mut W) -> Result<(), Device>
         requires { count ≤ GATHERED_BYTES }
-        ensures ok { OnOk result ((first : Option (List ℕ)) (total : List ℕ) →
-            Carries first (W.written writer.old) self.old total → Carries first (W.written writer.new) self.new total) }
+        ensures given { IsGiven result (passage (W.written writer.old) (W.written writer.new) (W.failed writer.old) (W.failed writer.new))
+            self.old self.new [] }
         ensures room { OnOk result (length self.new.kept + count ≤ GATHERED_BYTES) }
         ensures untouched { length self.old.kept + count ≤ GATHERED_BYTES
             → (result ≡ Ok tt) × (self.new ≡ self.old) × (writer.new ≡ writer.old) }
-        ensures err { IfErr result (λ device. (first : Option (List ℕ)) (total more : List ℕ) →
-            Carries first (W.written writer.old) self.old total → length (total ++ more) < 2 ^ 128 →
-            StopsIn first (W.written writer.new) (total ++ more) device.written) }
-        ensures failed { IfErr result (λ _. IsTrue (W.failed writer.new)) }
-        ensures not_failed { OnOk result (¬ IsTrue (W.failed writer.old) → ¬ IsTrue (W.failed writer.new)) }
     {
         if count <= self.piece.remaining_capacity() {
             return Ok(());
@@ -78,10 +75,10 @@ impl Gather {
         requires { length self.old.kept < GATHERED_BYTES }
         ensures kept { self.new.kept ≡ self.old.kept ++ byte ∷ [] }
         ensures same_count { self.new.taken ≡ self.old.taken }
-        ensures carries { (first sink : Option (List ℕ)) (total : List ℕ) →
-            Carries first sink self.old total → Carries first sink self.new (total ++ byte ∷ []) }
+        ensures given { (sink : Option (List ℕ)) (failed : Bool) →
+            IsGiven (Ok tt) (passage sink sink failed failed) self.old self.new (byte ∷ []) }
     {
-        laws::appended_in_place();
+        laws::given_in_place();
         self.piece.push(byte);
     }
 
@@ -91,10 +88,10 @@ impl Gather {
         requires { length self.old.kept + length bytes.now ≤ GATHERED_BYTES }
         ensures kept { self.new.kept ≡ self.old.kept ++ bytes.now }
         ensures same_count { self.new.taken ≡ self.old.taken }
-        ensures carries { (first sink : Option (List ℕ)) (total : List ℕ) →
-            Carries first sink self.old total → Carries first sink self.new (total ++ bytes.now) }
+        ensures given { (sink : Option (List ℕ)) (failed : Bool) →
+            IsGiven (Ok tt) (passage sink sink failed failed) self.old self.new bytes.now }
     {
-        laws::appended_in_place();
+        laws::given_in_place();
         self.piece.try_extend_from_slice(bytes).unwrap();
     }
 
@@ -103,16 +100,14 @@ impl Gather {
     /// On `Err` the sink has failed, and took exactly the first `written` of all bytes ever given (and so
     /// of these with any `more` after them), where these are few enough to be counted.
     pub fn put<W: ByteOut>(&mut self, bytes: &[u8], writer: &mut W) -> Result<(), Device>
-        ensures ok { OnOk result ((first : Option (List ℕ)) (total : List ℕ) →
-            Carries first (W.written writer.old) self.old total → Carries first (W.written writer.new) self.new (total ++ bytes.now)) }
+        ensures given { IsGiven result (passage (W.written writer.old) (W.written writer.new) (W.failed writer.old) (W.failed writer.new))
+            self.old self.new bytes.now }
         ensures kept_back { length self.old.kept + length bytes.now ≤ GATHERED_BYTES
             → (result ≡ Ok tt) × (self.new.kept ≡ self.old.kept ++ bytes.now) × (writer.new ≡ writer.old) }
-        ensures err { IfErr result (λ device. (first : Option (List ℕ)) (total more : List ℕ) →
-            Carries first (W.written writer.old) self.old total → length (total ++ bytes.now ++ more) < 2 ^ 128 →
-            StopsIn first (W.written writer.new) (total ++ bytes.now ++ more) device.written) }
-        ensures failed { IfErr result (λ _. IsTrue (W.failed writer.new)) }
-        ensures not_failed { OnOk result (¬ IsTrue (W.failed writer.old) → ¬ IsTrue (W.failed writer.new)) }
     {
+        laws::given_in_turn();
+        laws::given_in_the_front();
+        laws::given_in_place();
         if bytes.len() > GATHERED_BYTES {
             self.flush(writer)?;
             return self.put_large(bytes, writer);
@@ -130,15 +125,10 @@ impl Gather {
     pub fn flush<W: ByteOut>(&mut self, writer: &mut W) -> Result<(), Device>
         ensures ok { OnOk result ((first : Option (List ℕ)) (total : List ℕ) →
             Carries first (W.written writer.old) self.old total → Appends first (W.written writer.new) total) }
-        ensures carries { OnOk result ((first : Option (List ℕ)) (total : List ℕ) →
-            Carries first (W.written writer.old) self.old total → Carries first (W.written writer.new) self.new total) }
+        ensures given { IsGiven result (passage (W.written writer.old) (W.written writer.new) (W.failed writer.old) (W.failed writer.new))
+            self.old self.new [] }
         ensures empty { OnOk result (self.new.kept ≡ []) }
         ensures untouched { self.old.kept ≡ [] → (result ≡ Ok tt) × (self.new ≡ self.old) × (writer.new ≡ writer.old) }
-        ensures err { IfErr result (λ device. (first : Option (List ℕ)) (total more : List ℕ) →
-            Carries first (W.written writer.old) self.old total → length (total ++ more) < 2 ^ 128 →
-            StopsIn first (W.written writer.new) (total ++ more) device.written) }
-        ensures failed { IfErr result (λ _. IsTrue (W.failed writer.new)) }
-        ensures not_failed { OnOk result (¬ IsTrue (W.failed writer.old) → ¬ IsTrue (W.failed writer.new)) }
     {
         match put_all(self.piece.as_slice(), writer) {
             Ok(()) => {
@@ -155,14 +145,9 @@ impl Gather {
     // Puts `bytes` past the buffer, where nothing is kept back.
     fn put_large<W: ByteOut>(&mut self, bytes: &[u8], writer: &mut W) -> Result<(), Device>
         requires { self.old.kept ≡ [] }
-        ensures ok { OnOk result ((first : Option (List ℕ)) (total : List ℕ) →
-            Carries first (W.written writer.old) self.old total → Carries first (W.written writer.new) self.new (total ++ bytes.now)) }
+        ensures given { IsGiven result (passage (W.written writer.old) (W.written writer.new) (W.failed writer.old) (W.failed writer.new))
+            self.old self.new bytes.now }
         ensures empty { OnOk result (self.new.kept ≡ []) }
-        ensures err { IfErr result (λ device. (first : Option (List ℕ)) (total more : List ℕ) →
-            Carries first (W.written writer.old) self.old total → length (total ++ bytes.now ++ more) < 2 ^ 128 →
-            StopsIn first (W.written writer.new) (total ++ bytes.now ++ more) device.written) }
-        ensures failed { IfErr result (λ _. IsTrue (W.failed writer.new)) }
-        ensures not_failed { OnOk result (¬ IsTrue (W.failed writer.old) → ¬ IsTrue (W.failed writer.new)) }
     {
         match put_all(bytes, writer) {
             Ok(()) => {

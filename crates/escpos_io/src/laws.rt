@@ -1,21 +1,58 @@
 //! The laws of gathered bytes. Each is a function that does nothing and whose contract is the law, so that
 //! the law is proved with the crate and another crate can cite it by calling the function.
 
-ghost use Rattle.std.specs.Prelude.{◌≡◌, ℕ, List, ◌++◌, Option};
-ghost use Rattle.escpos_io.specs.Gather.{Carries, Gathered, StopsIn};
-
-/// A gather that has more bytes after those that it kept back, and whose sink took no more, was given these
-/// bytes too.
-#[inline]
-pub fn appended_in_place()
-    ensures { (first sink : Option (List ℕ)) (old new : Gathered) (total bytes : List ℕ) →
-        Carries first sink old total → new.kept ≡ old.kept ++ bytes → new.taken ≡ old.taken
-        → Carries first sink new (total ++ bytes) }
-{}
+ghost use Rattle.std.specs.Prelude.{◌≡◌, ◌≤◌, ℕ, length, Bool, List, ◌++◌, Option, Result, Ok, Err, ⊤, IsErrAnd};
+ghost use Rattle.escpos_io.specs.Gather.{Gathered, StopsIn};
+ghost use Rattle.escpos_io.specs.Giving.{IsGiven, IsPiecePut};
+ghost use Rattle.escpos_io.specs.Putting.{Passage, passage};
+ghost use Rattle.escpos_io.specs.declared.putting.Device.{Device};
+ghost use Rattle.escpos_io.specs.declared.pieces.TheConstants.{PIECE_BYTES};
 
 /// A sink that stopped within some bytes stopped within these with any others after them.
 #[inline]
 pub fn stop_in_the_front()
     ensures { (sink_old sink_new : Option (List ℕ)) (front more : List ℕ) (written : ℕ) →
         StopsIn sink_old sink_new front written → StopsIn sink_old sink_new (front ++ more) written }
+{}
+
+/// Bytes that two calls gave, one after another, are given as by one call.
+#[inline]
+pub fn given_in_turn()
+    ensures { (result : Result ⊤ Device) (before between after : Option (List ℕ)) (failed_before failed_between failed_after : Bool)
+        (old middle new : Gathered) (front more bytes : List ℕ) →
+        IsGiven (Ok tt) (passage before between failed_before failed_between) old middle front
+        → IsGiven result (passage between after failed_between failed_after) middle new more
+        → bytes ≡ front ++ more → IsGiven result (passage before after failed_before failed_after) old new bytes }
+{}
+
+/// A call that failed within some bytes failed within these with any others after them; `result` is what a `?` gives
+/// back there.
+#[inline]
+pub fn given_in_the_front()
+    ensures { (result : Result ⊤ Device) (device : Device) (sink : Passage) (old new : Gathered) (front more bytes : List ℕ) →
+        IsErrAnd result (λ error. error ≡ device) → IsGiven (Err device) sink old new front
+        → bytes ≡ front ++ more → IsGiven result sink old new bytes }
+{}
+
+/// Bytes that were appended to what a gather keeps back, while its sink took no more, are given as by a call.
+#[inline]
+pub fn given_in_place()
+    ensures { (sink : Option (List ℕ)) (failed : Bool) (old new : Gathered) (bytes : List ℕ) →
+        new.kept ≡ old.kept ++ bytes → new.taken ≡ old.taken → IsGiven (Ok tt) (passage sink sink failed failed) old new bytes }
+{}
+
+/// A call that gave all bytes of a piece, or failed within them, is a `Piece::put`, where they are few.
+#[inline]
+pub fn piece_put()
+    ensures { (result : Result ⊤ Device) (sink : Passage) (old new : Gathered) (bytes : List ℕ) →
+        IsGiven result sink old new bytes → length bytes ≤ PIECE_BYTES → IsPiecePut result sink old new bytes }
+{}
+
+/// A call that failed within the first bytes of a piece is a `Piece::put` that failed, where those are few, however many
+/// follow; `result` is what a `?` gives back there.
+#[inline]
+pub fn piece_stopped()
+    ensures { (result : Result ⊤ Device) (device : Device) (sink : Passage) (old new : Gathered) (front rest bytes : List ℕ) →
+        IsErrAnd result (λ error. error ≡ device) → IsGiven (Err device) sink old new front
+        → length front ≤ PIECE_BYTES → bytes ≡ front ++ rest → IsPiecePut result sink old new bytes }
 {}

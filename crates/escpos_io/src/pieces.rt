@@ -2,29 +2,37 @@
 //!
 //! Which values these are, commands or lines of text, is left to the crates that implement `Piece`.
 
-ghost use Rattle.std.specs.Prelude.{◌≡◌, ◌+◌, ◌≤◌, ℕ, List, ◌++◌, length, Ok, OnOk, IfErr, IsTrue};
+ghost use Rattle.std.specs.Prelude.{◌≡◌, ℕ, List, length, Ok, OnOk, IfErr, IsTrue};
 ghost use Rattle.std.specs.List.{flat_map};
 ghost use Rattle.std.specs.Io.KnownBytes.{Appends};
 ghost use Rattle.escpos_io.specs.Gather.{StopsIn};
+ghost use Rattle.escpos_io.specs.Giving.{IsPiecePut};
+ghost use Rattle.escpos_io.specs.Putting.{passage};
 
-use crate::{ByteOut, Device, GATHERED_BYTES, Gather};
+use crate::{ByteOut, Device, Gather};
 
-/// The most bytes that one piece has.
-pub const PIECE_BYTES: usize = 2048;
+/// The most bytes that one piece has, so that the bytes of all pieces of a slice can be counted.
+pub const PIECE_BYTES: usize = 2_097_152;
 
-const _: () = prove!(PIECE_BYTES == 2048);
+const _: () = prove!(PIECE_BYTES == 2_097_152);
 
-/// A value that is put as bytes, few enough to be appended to a gather at once.
+/// A value that is put as bytes.
+///
+/// What is short it appends to the gather in place, after it has made room; what may be long it puts as a slice, which
+/// the gather copies only where it is small. The law `given_in_turn` joins such calls to one; what `put` ensures follows
+/// by `piece_put` from a call that gave all bytes, and by `piece_stopped` where a `?` gives back an error.
 pub trait Piece {
     // The bytes that it is put as.
     ghost bytes: { Self → List ℕ };
 
-    /// Appends its bytes to what `gather` keeps back.
-    fn append(&self, gather: &mut Gather)
-        requires { length gather.old.kept + PIECE_BYTES ≤ GATHERED_BYTES }
-        ensures appended { gather.new.kept ≡ gather.old.kept ++ bytes self.now }
-        ensures same_count { gather.new.taken ≡ gather.old.taken }
-        ensures short { length (bytes self.now) ≤ PIECE_BYTES };
+    /// Gives its bytes to `gather`, which puts what it has no room for into `writer`.
+    ///
+    /// On `Ok` there were at most `PIECE_BYTES` of them. On `Err` the sink has failed, and took exactly the first `written`
+    /// of all bytes ever given to the gather, where those before the piece, and `PIECE_BYTES` more, are few enough to be
+    /// counted.
+    fn put<W: ByteOut>(&self, gather: &mut Gather, writer: &mut W) -> Result<(), Device>
+        ensures { IsPiecePut result (passage (W.written writer.old) (W.written writer.new) (W.failed writer.old) (W.failed writer.new))
+            gather.old gather.new (bytes self.now) };
 }
 
 /// Puts the bytes of `pieces`, one after another, into `writer`. Takes no memory.
@@ -41,8 +49,7 @@ pub fn put_pieces<P: Piece, W: ByteOut>(pieces: &[P], writer: &mut W) -> Result<
 {
     let mut gather = Gather::new();
     for piece in pieces {
-        gather.room(PIECE_BYTES, writer)?;
-        piece.append(&mut gather);
+        piece.put(&mut gather, writer)?;
     }
     gather.flush(writer)
 }

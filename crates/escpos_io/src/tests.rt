@@ -1,8 +1,9 @@
 //! What no clause says: devices whose reader or writer fails once, and each call on its happy path.
 
-ghost use Rattle.std.specs.Prelude.{[], ◌∷◌};
+ghost use Rattle.std.specs.Prelude.{[], ◌∷◌, ◌++◌, ◌≤◌, length};
 
 use super::*;
+use std::alloc::{AllocError, Global};
 use std::io;
 use std::io::{Error, ErrorKind, Read, Write};
 use std::test::Fail;
@@ -403,9 +404,12 @@ struct Doubled(u8);
 impl Piece for Doubled {
     ghost bytes = { λ doubled. doubled.0 ∷ doubled.0 ∷ [] };
 
-    fn append(&self, gather: &mut Gather) {
+    fn put<W: ByteOut>(&self, gather: &mut Gather, writer: &mut W) -> Result<(), Device> {
+        laws::piece_stopped();
+        gather.room(2, writer)?;
         gather.push(self.0);
         gather.extend(&[self.0]);
+        Ok(())
     }
 }
 
@@ -451,7 +455,7 @@ fn many_pieces_go_out_in_large_ones(rt: HostRuntime) {
     let mut sink = Outgoing::new(Vec::new(rt.alloc()));
     assert_eq!(rt; put_pieces(&pieces, &mut sink), Ok(()));
     assert_eq!(rt; sink.into_inner().as_slice(), [7; 20000].as_slice());
-    for len in [0, 1, 14337, 14338, 14339, 16384, 19999] {
+    for len in [0, 1, 16383, 16384, 16385, 19999] {
         let mut room = [0u8; 20000];
         let mut sink = MemoryOut::new(&mut room[..len]);
         assert_eq!(rt;
@@ -466,32 +470,92 @@ fn many_pieces_go_out_in_large_ones(rt: HostRuntime) {
     let mut sink = MemoryOut::failing(&mut room, 2);
     assert_eq!(rt;
         put_pieces(&pieces, &mut sink),
-        Err(Device { written: 14338 })
+        Err(Device { written: 16384 })
     );
-    assert_eq!(rt; sink.written().len(), 14338);
+    assert_eq!(rt; sink.written().len(), 16384);
 }
 
-// As many bytes as a piece has at most.
+// Five bytes, a slice that may be longer than what is kept back at most, and a closing byte.
 #[derive(Clone, Copy)]
-struct Block([u8; PIECE_BYTES]);
+struct Framed<'a> {
+    front: [u8; 5],
+    content: &'a [u8],
+    ghost few: { length content.now ≤ 1048500 },
+}
 
-impl Piece for Block {
-    ghost bytes = { λ block. block.0 };
-
-    fn append(&self, gather: &mut Gather) {
-        gather.extend(&self.0);
+impl<'a> Framed<'a> {
+    fn new(content: &'a [u8]) -> Self
+        requires { length content.now ≤ 1048500 }
+    {
+        Framed {
+            front: *b"front",
+            content,
+        }
     }
 }
 
+impl Piece for Framed<'_> {
+    ghost bytes = { λ framed. framed.front ++ framed.content.now ++ 0 ∷ [] };
+
+    fn put<W: ByteOut>(&self, gather: &mut Gather, writer: &mut W) -> Result<(), Device> {
+        laws::given_in_turn();
+        laws::piece_put();
+        laws::piece_stopped();
+        gather.room(5, writer)?;
+        gather.extend(&self.front);
+        gather.put(self.content, writer)?;
+        gather.put(&[0], writer)
+    }
+}
+
+// What is larger than what is kept back at most goes out in order, between what was kept back before and after it.
 #[test]
-fn pieces_of_the_greatest_length(rt: HostRuntime) {
-    let pieces = [Block([7; PIECE_BYTES]); 20];
-    let mut sink = Outgoing::new(Vec::new(rt.alloc()));
+fn large_pieces_go_out_in_order(rt: HostRuntime) -> Result<(), Fail> {
+    let content = vec![in rt.alloc(); 7u8; 50_000]?;
+    let pieces = [Framed::new(&content); 3];
+    let all = framed_bytes(rt.alloc(), 3)?;
+    let mut room = vec![in rt.alloc(); 0u8; 150_018]?;
+    let mut sink = MemoryOut::taking(&mut room, 999);
     assert_eq!(rt; put_pieces(&pieces, &mut sink), Ok(()));
-    assert_eq!(rt;
-        sink.into_inner().as_slice(),
-        [7; 20 * PIECE_BYTES].as_slice()
-    );
+    assert!(rt; sink.written() == all.as_slice());
+    Ok(())
+}
+
+// The sink is full before the second piece, within it (in its front, in its content, at its closing byte) or after it.
+#[test]
+fn large_pieces_stop_where_the_sink_is_full(rt: HostRuntime) -> Result<(), Fail> {
+    let content = vec![in rt.alloc(); 7u8; 50_000]?;
+    let pieces = [Framed::new(&content); 3];
+    let all = framed_bytes(rt.alloc(), 3)?;
+    for len in [
+        50_005, 50_006, 50_009, 50_011, 75_000, 100_010, 100_011, 100_012,
+    ] {
+        let mut room = vec![in rt.alloc(); 0u8; len]?;
+        let mut sink = MemoryOut::taking(&mut room, 999);
+        assert_eq!(rt;
+            put_pieces(&pieces, &mut sink),
+            Err(Device {
+                written: len as u128
+            })
+        );
+        assert_eq!(rt; sink.written().len(), len);
+        assert!(rt; all.starts_with(sink.written()));
+        assert!(rt; sink.has_failed());
+    }
+    Ok(())
+}
+
+// The bytes of some pieces with a content of 50,000 sevens.
+fn framed_bytes(alloc: Global, count: usize) -> Result<Vec<u8>, AllocError> {
+    let mut all = Vec::new(alloc);
+    for _ in 0..count {
+        all.extend_from_slice(b"front")?;
+        for _ in 0..50_000 {
+            all.push(7)?;
+        }
+        all.push(0)?;
+    }
+    Ok(all)
 }
 
 // Room is made by putting what is kept back, and only where there is none.

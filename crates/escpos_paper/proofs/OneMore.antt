@@ -10,13 +10,14 @@ use Rattle.std.proofs.Math.Seq.{append_snoc}
 use Rattle.escpos_command.specs.declared.command.Command.{Command}
 use Rattle.escpos_command.specs.declared.parameter.choices.Alignment.TheVariants.{Left}
 use Rattle.escpos_command.specs.declared.parameter.choices.FontFace.TheVariants.{A}
+use Rattle.escpos_command.specs.declared.parameter.choices.HriPosition.TheVariants.{Nowhere}
 use Rattle.escpos_command.specs.Text.{text, ends_text, characters}
 use Rattle.escpos_paper.specs.declared.cell.Cell.{Cell}
 use Rattle.escpos_paper.specs.declared.style.Style.{Style}
 use Rattle.escpos_paper.specs.OverPlaces.{over_places}
-use Rattle.escpos_paper.specs.Styles.{is_init, is_align, is_empty, after_init, last_or, setting, style, if_it_counts, commands_that_count, alignment, sets_alignment, sets_table, sets_font, sets_width, sets_height, sets_bold, sets_underline}
+use Rattle.escpos_paper.specs.Styles.{is_init, is_align, is_empty, after_init, last_or, setting, style, bar_style, if_it_counts, commands_that_count, alignment, sets_alignment, sets_table, sets_font, sets_width, sets_height, sets_bold, sets_underline, sets_bar_height, sets_module_width, sets_hri_place, sets_hri_font}
 use Rattle.escpos_paper.specs.Cells.{cell, cell_at, cells}
-use Rattle.escpos_paper.specs.Steps.{set_after, style_after, alignment_after}
+use Rattle.escpos_paper.specs.Steps.{set_after, style_after, bar_style_after, alignment_after}
 
 -- ## Tests of a list with one more element
 
@@ -82,6 +83,15 @@ style-snoc cs c =
       setting-snoc sets_height 1 cs c,
       setting-snoc sets_bold false cs c,
       setting-snoc sets_underline 0 cs c,
+    )
+
+pub bar_style-snoc : (cs : List Command) (c : Command) → bar_style (cs ++ c ∷ []) ≡ bar_style_after (bar_style cs) c
+bar_style-snoc cs c =
+    cc (
+      setting-snoc sets_bar_height 162 cs c,
+      setting-snoc sets_module_width 3 cs c,
+      setting-snoc sets_hri_place Nowhere cs c,
+      setting-snoc sets_hri_font A cs c,
     )
 
 -- ## Places

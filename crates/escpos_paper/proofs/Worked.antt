@@ -1,12 +1,19 @@
 -- Worked rows, computed from the definitions alone.
 use Rattle.std.proofs.Common.{◌≡◌, [], ◌∷◌, ◌++◌, refl, ap, true, false}
 use Rattle.std.specs.Prelude.{None, Some, replicate, map, length}
-use Rattle.escpos_command.specs.declared.command.Command.TheVariants.{Char, LineFeed, Init, Mode, Emphasis, Font, Align, FeedLines, Size, Cut}
-use Rattle.escpos_command.specs.declared.parameter.choices.FontFace.TheVariants.{B}
+use Rattle.escpos_command.specs.declared.command.Command.TheVariants.{Char, LineFeed, Init, Mode, Emphasis, Font, Align, FeedLines, FeedUnits, Pulse, Size, BarHeight, BarWidth, HriPlace, HriFont, Bars, Raster, Cut}
+use Rattle.escpos_command.specs.declared.parameter.choices.FontFace.TheVariants.{A, B}
+use Rattle.escpos_command.specs.declared.parameter.choices.HriPosition.TheVariants.{Nowhere, Below}
+use Rattle.escpos_command.specs.declared.parameter.choices.Scale.TheVariants.{Normal}
+use Rattle.escpos_command.specs.declared.bars.Form.TheVariants as form
+use Rattle.escpos_command.specs.declared.bars.Symbology.TheVariants.{Ean13, Itf}
+use Rattle.escpos_command.specs.Barcodes.{barcode}
+use Rattle.escpos_command.specs.Rasters.{picture}
 use Rattle.escpos_command.specs.declared.parameter.choices.Alignment.TheVariants.{Left, Center}
-use Rattle.escpos_paper.specs.declared.item.Item.TheVariants.{Row, Feed, Cut as Cutting}
+use Rattle.escpos_paper.specs.declared.item.Item.TheVariants.{Row, Feed, FeedUnits as Units, Bars as Barred, Raster as Dotted, Cut as Cutting}
 use Rattle.escpos_paper.specs.Styles.{power_on}
 use Rattle.escpos_paper.specs.Cells.{cell}
+use Rattle.escpos_paper.specs.CheckDigit.{digit}
 use Rattle.escpos_paper.specs.Rows.{rows}
 use Rattle.escpos_paper.specs.Printed.{printed}
 use Rattle.escpos_paper.specs.ItemsText.{items_text}
@@ -49,6 +56,35 @@ feed_one = refl
 cut_after_text : printed (Char 0x41 ∷ Cut (0x41, Some 5) ∷ []) ≡ Row Left (cell power_on 0x41 ∷ []) ∷ Feed 1 ∷ Cutting false (Some 5) ∷ []
 cut_after_text = refl
 
+-- ESC J prints the line and feeds motion units, and a pulse prints nothing
+units_and_pulse : printed (Char 0x41 ∷ FeedUnits 5 ∷ Pulse (0, 0x19, 0xFA) ∷ []) ≡ Row Left (cell power_on 0x41 ∷ []) ∷ Units 5 ∷ []
+units_and_pulse = refl
+
+-- the check digits of two public examples, and that of no digits
+ean13_digit : digit (codes "400638133393") ≡ 1
+ean13_digit = refl
+
+upca_digit : digit (codes "03600029145") ≡ 2
+upca_digit = refl
+
+no_digit : digit [] ≡ 0
+no_digit = refl
+
+-- a barcode without its check digit and one with a wrong one
+ean13 : printed (Bars (barcode form.A Ean13 (codes "400638133393")) ∷ Bars (barcode form.A Ean13 (codes "4006381333932")) ∷ [])
+    ≡ Barred Left Ean13 162 3 Nowhere A (codes "400638133393") (Some 1) ∷ Barred Left Ean13 162 3 Nowhere A (codes "4006381333932") None ∷ []
+ean13 = refl
+
+-- the settings of barcodes, and those after Init
+bar_settings : printed (BarHeight 50 ∷ BarWidth 2 ∷ HriPlace 50 ∷ HriFont 49 ∷ Bars (barcode form.B Itf (codes "12")) ∷ Init ∷ Bars (barcode form.B Itf (codes "12")) ∷ [])
+    ≡ Barred Left Itf 50 2 Below B (codes "12") None ∷ Barred Left Itf 162 3 Nowhere A (codes "12") None ∷ []
+bar_settings = refl
+
+-- a raster ends the line before it
+raster_after_text : printed (Char 0x41 ∷ Raster (picture 0 1 1 (0xFF ∷ [])) ∷ [])
+    ≡ Row Left (cell power_on 0x41 ∷ []) ∷ Feed 1 ∷ Dotted Left Normal 1 1 (0xFF ∷ []) ∷ []
+raster_after_text = refl
+
 -- at width 8 five characters of font A fit, and the sixth begins a row
 wide : printed (Size 0x70 ∷ replicate 6 (Char 0x61) ++ LineFeed ∷ [])
     ≡ (let x = cell (record power_on { width = 8 }) 0x61 in
@@ -83,3 +119,12 @@ cut_text : items_text (printed (Char 0x5C ∷ Char 0xE9 ∷ Cut (0x41, Some 5) �
     ≡ codes "row left " ++ 0x5C ∷ codes "5c" ++ 0x5C ∷ codes "e9" ++ 10 ∷ [] ++ codes "feed 1" ++ 10 ∷ [] ++ codes "cut full 5" ++ 10 ∷ []
 unfolding digits encode_with
 cut_text = refl
+
+ean13_text : items_text (printed (Bars (barcode form.A Ean13 (codes "400638133393")) ∷ []))
+    ≡ codes "bars left ean13 162 3 none A 4006381333931" ++ 10 ∷ []
+unfolding digits
+ean13_text = refl
+
+raster_text : items_text (printed (Align 2 ∷ Raster (picture 50 1 1 (0xA5 ∷ [])) ∷ [])) ≡ codes "raster right tall 1 1 a5" ++ 10 ∷ []
+unfolding digits encode_with
+raster_text = refl

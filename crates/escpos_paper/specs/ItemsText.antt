@@ -6,10 +6,16 @@ use Rattle.escpos_command.specs.declared.parameter.choices.FontFace.{FontFace}
 use Rattle.escpos_command.specs.declared.parameter.choices.FontFace.TheVariants.{A, B}
 use Rattle.escpos_command.specs.declared.parameter.choices.Alignment.{Alignment}
 use Rattle.escpos_command.specs.declared.parameter.choices.Alignment.TheVariants.{Left, Center, Right}
+use Rattle.escpos_command.specs.declared.parameter.choices.HriPosition.{HriPosition}
+use Rattle.escpos_command.specs.declared.parameter.choices.HriPosition.TheVariants as place
+use Rattle.escpos_command.specs.declared.parameter.choices.Scale.{Scale}
+use Rattle.escpos_command.specs.declared.parameter.choices.Scale.TheVariants as scale
+use Rattle.escpos_command.specs.declared.bars.Symbology.{Symbology}
+use Rattle.escpos_command.specs.declared.bars.Symbology.TheVariants.{UpcA, Ean13, Ean8, Code39, Itf, Codabar, Code128}
 use Rattle.escpos_paper.specs.declared.cell.Cell.{Cell}
 use Rattle.escpos_paper.specs.declared.style.Style.{Style}
 use Rattle.escpos_paper.specs.declared.item.Item.{Item}
-use Rattle.escpos_paper.specs.declared.item.Item.TheVariants.{Row, Feed, Cut}
+use Rattle.escpos_paper.specs.declared.item.Item.TheVariants.{Row, Feed, FeedUnits, Bars, Raster, Cut}
 use Rattle.escpos_paper.specs.Styles.{power_on, same_style}
 
 -- A byte 20 to 7E hexadecimal other than [ and \ is itself; any other is \ and two hexadecimal digits.
@@ -46,6 +52,40 @@ align_name Left = codes "left"
 align_name Center = codes "center"
 align_name Right = codes "right"
 
+abbrev pub symbology_name : Symbology → List ℕ
+symbology_name UpcA = codes "upca"
+symbology_name Ean13 = codes "ean13"
+symbology_name Ean8 = codes "ean8"
+symbology_name Code39 = codes "code39"
+symbology_name Itf = codes "itf"
+symbology_name Codabar = codes "codabar"
+symbology_name Code128 = codes "code128"
+
+abbrev pub place_name : HriPosition → List ℕ
+place_name place.Nowhere = codes "none"
+place_name place.Above = codes "above"
+place_name place.Below = codes "below"
+place_name place.Both = codes "both"
+
+abbrev pub scale_name : Scale → List ℕ
+scale_name scale.Normal = codes "normal"
+scale_name scale.Wide = codes "wide"
+scale_name scale.Tall = codes "tall"
+scale_name scale.Both = codes "both"
+
+-- The settings of a barcode: height, module width, and place and font of its interpretation.
+abbrev pub settings_text : ℕ → ℕ → HriPosition → FontFace → List ℕ
+settings_text height width place face =
+    decimal height ++ codes " " ++ decimal width ++ codes " " ++ place_name place ++ codes " " ++ face_name face
+
+-- The content of a barcode, followed by the check digit that is added, if there is one.
+abbrev pub added_text : Option ℕ → List ℕ
+added_text None = []
+added_text (Some n) = decimal n
+
+abbrev pub content_text : List ℕ → Option ℕ → List ℕ
+content_text content added = flat_map byte_text content ++ added_text added
+
 abbrev pub cut_name : Bool → List ℕ
 cut_name partial = if partial then codes "partial" else codes "full"
 
@@ -58,6 +98,13 @@ feed_text (Some n) = codes " " ++ decimal n
 abbrev pub words : Item → List ℕ
 words (Row align cells) = codes "row " ++ align_name align ++ codes " " ++ cells_text power_on cells
 words (Feed n) = codes "feed " ++ decimal n
+words (FeedUnits n) = codes "units " ++ decimal n
+words (Bars align symbology height width place face content added) =
+    codes "bars " ++ align_name align ++ codes " " ++ symbology_name symbology ++ codes " " ++ settings_text height width place face
+    ++ codes " " ++ content_text content added
+words (Raster align scale x y dots) =
+    codes "raster " ++ align_name align ++ codes " " ++ scale_name scale ++ codes " " ++ decimal x ++ codes " " ++ decimal y ++ codes " "
+    ++ encode_lower dots
 words (Cut partial feed) = codes "cut " ++ cut_name partial ++ feed_text feed
 
 abbrev pub item_text : Item → List ℕ

@@ -1,8 +1,10 @@
 pub mod OverPlaces
 pub mod Styles
 pub mod Cells
+pub mod CheckDigit
 pub mod Rows
 pub mod Printed
 pub mod Page
 pub mod Steps
 pub mod ItemsText
+pub mod Parts

@@ -5,16 +5,18 @@ use Rattle.escpos_command.specs.CommandTable.{AreCommands}
 use Rattle.escpos_command.specs.declared.parameter.choices.Alignment.{Alignment}
 use Rattle.escpos_paper.specs.declared.cell.Cell.{Cell}
 use Rattle.escpos_paper.specs.declared.item.Item.{Item}
+use Rattle.escpos_paper.specs.declared.style.BarStyle.{BarStyle}
 use Rattle.escpos_paper.specs.declared.style.Style.{Style}
-use Rattle.escpos_paper.specs.Styles.{style, alignment}
+use Rattle.escpos_paper.specs.Styles.{style, bar_style, alignment}
 use Rattle.escpos_paper.specs.Rows.{line}
 use Rattle.escpos_paper.specs.Printed.{printed}
 
--- What commands leave: the items on paper, the style and the alignment that are set, and the line that isn't
--- printed yet.
+-- What commands leave: the items on paper, the style, the settings of barcodes and the alignment that are set, and the
+-- line that isn't printed yet.
 pub record Sheet : Type 0 where
   pub items : List Item
   pub style : Style
+  pub bar_style : BarStyle
   pub alignment : Alignment
   pub line : List Cell
 
@@ -29,6 +31,7 @@ abbrev pub PageIs : PageView → List Item → List Command → Type 0
 PageIs page kept cs = page.sheet ≡ record {
   items = kept ++ printed cs;
   style = style cs;
+  bar_style = bar_style cs;
   alignment = alignment cs;
   line = line cs;
 }

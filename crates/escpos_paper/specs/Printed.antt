@@ -3,12 +3,16 @@ use Rattle.std.specs.Prelude.{nat_lt, List, [], ◌∷◌, ◌++◌, length, if�
 use Rattle.escpos_command.specs.declared.command.Command.{Command}
 use Rattle.escpos_command.specs.declared.command.Command.TheVariants as kind
 use Rattle.escpos_command.specs.declared.parameter.choices.Alignment.{Alignment}
-use Rattle.escpos_command.specs.Meanings.{leaves_a_point}
+use Rattle.escpos_command.specs.Meanings.{choice, leaves_a_point, scale_of}
+use Rattle.escpos_command.specs.Barcodes.{Barcode}
+use Rattle.escpos_command.specs.Rasters.{Picture}
 use Rattle.escpos_paper.specs.declared.cell.Cell.{Cell}
 use Rattle.escpos_paper.specs.declared.item.Item.{Item}
-use Rattle.escpos_paper.specs.declared.item.Item.TheVariants.{Row, Feed, Cut}
+use Rattle.escpos_paper.specs.declared.item.Item.TheVariants.{Row, Feed, FeedUnits, Bars, Raster, Cut}
 use Rattle.escpos_paper.specs.OverPlaces.{over_places}
-use Rattle.escpos_paper.specs.Styles.{alignment}
+use Rattle.escpos_paper.specs.declared.style.BarStyle.{BarStyle}
+use Rattle.escpos_paper.specs.Styles.{alignment, bar_style}
+use Rattle.escpos_paper.specs.CheckDigit.{added_digit}
 use Rattle.escpos_paper.specs.Rows.{rows, line}
 
 -- A line as an item, if it has a cell.
@@ -21,13 +25,27 @@ abbrev pub row_and_feed : Alignment → List Cell → List Item
 row_and_feed align [] = []
 row_and_feed align (x ∷ xs) = Row align (x ∷ xs) ∷ Feed 1 ∷ []
 
--- What a command prints after others: LF and ESC d the line and their feed; a cut the line with a feed of
--- one, and then the cut; a character that begins a row the line before it with a feed of one.
+-- A barcode as an item, in the settings of barcodes, with the check digit that its content lacks.
+abbrev pub bars_item : Alignment → BarStyle → Barcode → Item
+bars_item align style bars =
+    Bars align bars.symbology style.height style.module_width style.place style.hri_font bars.content
+    (added_digit bars.symbology bars.content)
+
+-- A raster as an item.
+abbrev pub raster_item : Alignment → Picture → Item
+raster_item align raster = Raster align (scale_of (choice raster.scale)) raster.width raster.height raster.dots
+
+-- What a command prints after others: LF, ESC d and ESC J the line and their feed; a barcode, a raster or a cut the
+-- line with a feed of one, and then the item; a character that begins a row the line before it with a feed of one.
 abbrev pub prints : List Command → Command → List Item
 prints before (kind.Char b) =
     if nat_lt (length (rows before)) (length (rows (before ++ kind.Char b ∷ []))) then row_and_feed (alignment before) (line before) else []
 prints before kind.LineFeed = row_of (alignment before) (line before) ++ Feed 1 ∷ []
 prints before (kind.FeedLines n) = row_of (alignment before) (line before) ++ Feed n ∷ []
+prints before (kind.FeedUnits n) = row_of (alignment before) (line before) ++ FeedUnits n ∷ []
+prints before (kind.Bars bars) =
+    row_and_feed (alignment before) (line before) ++ bars_item (alignment before) (bar_style before) bars ∷ []
+prints before (kind.Raster raster) = row_and_feed (alignment before) (line before) ++ raster_item (alignment before) raster ∷ []
 prints before (kind.Cut cut) = row_and_feed (alignment before) (line before) ++ Cut (leaves_a_point cut.0) cut.1 ∷ []
 prints before kind.Return = []
 prints before kind.Init = []
@@ -42,6 +60,7 @@ prints before (kind.BarHeight n) = []
 prints before (kind.BarWidth n) = []
 prints before (kind.HriPlace n) = []
 prints before (kind.HriFont n) = []
+prints before (kind.Pulse pulse) = []
 prints before (kind.Status n) = []
 prints before (kind.Mark id) = []
 

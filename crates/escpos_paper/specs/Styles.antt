@@ -1,6 +1,6 @@
 -- The styles after a list of commands. For each attribute the last command that sets it decides, of those
 -- after the last Init; where none sets it, it has its power-on value. (Reference: ESC !, ESC -, ESC E,
--- ESC M, ESC a, ESC t, GS !, ESC @.)
+-- ESC M, ESC a, ESC t, GS !, GS h, GS w, GS H, GS f, ESC @.)
 use Rattle.std.specs.Prelude.{ℕ, ◌==◌, ◌&&◌, not, Bool, true, false, List, [], ◌∷◌, ◌++◌, Option, None, Some, filter_map, if◌then◌else◌}
 use Rattle.std.specs.List.{list_any}
 use Rattle.escpos_command.specs.declared.command.Command.{Command}
@@ -9,9 +9,12 @@ use Rattle.escpos_command.specs.declared.parameter.choices.FontFace.{FontFace}
 use Rattle.escpos_command.specs.declared.parameter.choices.FontFace.TheVariants.{A, B}
 use Rattle.escpos_command.specs.declared.parameter.choices.Alignment.{Alignment}
 use Rattle.escpos_command.specs.declared.parameter.choices.Alignment.TheVariants.{Left}
-use Rattle.escpos_command.specs.Meanings.{has_bit, choice, face_of, alignment_of, face_of_mode, magnified, underline_of_mode, size_width, size_height}
+use Rattle.escpos_command.specs.declared.parameter.choices.HriPosition.{HriPosition}
+use Rattle.escpos_command.specs.declared.parameter.choices.HriPosition.TheVariants.{Nowhere}
+use Rattle.escpos_command.specs.Meanings.{has_bit, choice, face_of, alignment_of, hri_position_of, face_of_mode, magnified, underline_of_mode, size_width, size_height}
 use Rattle.escpos_command.specs.Text.{text}
 use Rattle.escpos_paper.specs.declared.style.Style.{Style}
+use Rattle.escpos_paper.specs.declared.style.BarStyle.{BarStyle}
 use Rattle.escpos_paper.specs.OverPlaces.{over_places}
 
 -- Which commands set an attribute, and to what. ESC ! and the special command set the same attribute.
@@ -48,6 +51,22 @@ abbrev pub sets_alignment : Command → Option Alignment
 sets_alignment (kind.Align n) = Some (alignment_of (choice n))
 sets_alignment _ = None
 
+abbrev pub sets_bar_height : Command → Option ℕ
+sets_bar_height (kind.BarHeight n) = Some n
+sets_bar_height _ = None
+
+abbrev pub sets_module_width : Command → Option ℕ
+sets_module_width (kind.BarWidth n) = Some n
+sets_module_width _ = None
+
+abbrev pub sets_hri_place : Command → Option HriPosition
+sets_hri_place (kind.HriPlace n) = Some (hri_position_of (choice n))
+sets_hri_place _ = None
+
+abbrev pub sets_hri_font : Command → Option FontFace
+sets_hri_font (kind.HriFont n) = Some (face_of (choice n))
+sets_hri_font _ = None
+
 abbrev pub is_init : Command → Bool
 is_init kind.Init = true
 is_init _ = false
@@ -69,6 +88,10 @@ setting sets power_on cs = last_or power_on (filter_map sets (after_init cs))
 -- The style of a printer just switched on.
 abbrev pub power_on : Style
 power_on = record { table = 0; font = A; width = 1; height = 1; bold = false; underline = 0 }
+
+-- The settings of barcodes of such a printer.
+abbrev pub power_on_bars : BarStyle
+power_on_bars = record { height = 162; module_width = 3; place = Nowhere; hri_font = A }
 
 -- Whether two styles are one.
 abbrev pub same_face : FontFace → FontFace → Bool
@@ -95,6 +118,15 @@ style cs = record {
   height = setting sets_height 1 cs;
   bold = setting sets_bold false cs;
   underline = setting sets_underline 0 cs;
+}
+
+-- The settings that a barcode after the commands gets.
+abbrev pub bar_style : List Command → BarStyle
+bar_style cs = record {
+  height = setting sets_bar_height 162 cs;
+  module_width = setting sets_module_width 3 cs;
+  place = setting sets_hri_place Nowhere cs;
+  hri_font = setting sets_hri_font A cs;
 }
 
 abbrev pub is_empty : {X : Type 0} → List X → Bool

@@ -1,16 +1,52 @@
 //! What is printed on paper.
 
 use crate::cell::Cells;
-use escpos_command::Alignment;
+use crate::content::{Content, Dots};
+use escpos_command::{Alignment, FontFace, HriPosition, Scale, Symbology};
 
 /// One item of the paper, from top to bottom.
 #[derive(Debug, Drop)]
 pub enum Item {
     /// A printed line.
-    Row { align: Alignment, cells: Cells },
+    Row {
+        align: Alignment,
+        cells: Cells,
+    },
     /// A feed of so many lines.
     Feed(u8),
+    /// A feed of so many motion units.
+    FeedUnits(u8),
+    /// A barcode.
+    Bars {
+        align: Alignment,
+        symbology: Symbology,
+        /// The height in dots, 1 to 255.
+        height: u8,
+        /// The width of a module in dots, 2 to 6.
+        module: u8,
+        /// Where the human readable interpretation stands.
+        place: HriPosition,
+        hri_font: FontFace,
+        /// The content as sent.
+        content: Content,
+        /// The check digit, 0 to 9, where the symbology has one and the content came without it.
+        added: Option<u8>,
+    },
+    /// A picture made of dots.
+    Raster {
+        align: Alignment,
+        scale: Scale,
+        /// The bytes in each row, 1 to 128.
+        x: u16,
+        /// The rows, 1 to 4,095.
+        y: u16,
+        /// The dots, row by row from the top, eight to a byte, the highest bit leftmost.
+        dots: Dots,
+    },
     /// A cut, with one point left uncut where `partial`. Where there is a `feed`, the paper is fed by so many
     /// motion units before it.
-    Cut { partial: bool, feed: Option<u8> },
+    Cut {
+        partial: bool,
+        feed: Option<u8>,
+    },
 }

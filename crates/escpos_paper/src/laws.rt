@@ -1,7 +1,7 @@
 //! The laws of printing. Each is a function that does nothing and whose contract is the law, so that the
 //! law is proved with the crate and another crate can cite it by calling the function.
 
-ghost use Rattle.std.specs.Prelude.{◌≡◌, map, List, [], ◌∷◌, ◌++◌};
+ghost use Rattle.std.specs.Prelude.{◌≡◌, ◌<◌, ℕ, IsTrue, map, List, [], ◌∷◌, ◌++◌};
 ghost use Rattle.escpos_command.specs.declared.command.Command.{Command};
 ghost use Rattle.escpos_command.specs.declared.command.Command.TheVariants.{Init};
 ghost use Rattle.escpos_paper.specs.declared.cell.Cell.{Cell};
@@ -11,6 +11,7 @@ ghost use Rattle.escpos_paper.specs.Styles.{is_empty};
 ghost use Rattle.escpos_paper.specs.Cells.{cells};
 ghost use Rattle.escpos_paper.specs.Rows.{IsCut, rows, line};
 ghost use Rattle.escpos_paper.specs.Printed.{printed};
+ghost use Rattle.escpos_paper.specs.CheckDigit.{completes, digit};
 
 /// The cells of the line are the characters of its text, and the line is empty where there is no text.
 pub fn cells_of_text()
@@ -33,4 +34,12 @@ pub fn initialisation()
 /// Growing paper: further commands print after what is printed, and change none of it.
 pub fn paper_grows()
     ensures { (a b : List Command) → (more : List Item) × (printed (a ++ b) ≡ printed a ++ more) }
+{}
+
+/// One check digit: of the numbers 0 to 9 exactly one, `digit`, makes itself plus the weighted sum of the digits a
+/// multiple of 10.
+pub fn one_check_digit()
+    ensures small { (digits : List ℕ) → digit digits < 10 }
+    ensures completes { (digits : List ℕ) → IsTrue (completes digits (digit digits)) }
+    ensures no_other { (digits : List ℕ) (n : ℕ) → n < 10 → IsTrue (completes digits n) → n ≡ digit digits }
 {}

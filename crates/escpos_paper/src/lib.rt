@@ -1,11 +1,16 @@
-//! What a printer's commands put on paper: styles, lines cut into rows, and the paper as text.
+//! What a printer's commands put on paper: styles, lines cut into rows, barcodes and rasters, and the paper as text.
 //!
 //! A `Page` takes commands one at a time and keeps the items that they print, the styles that are set and
 //! the line that isn't printed yet. The definitions of `specs/` say the same of a whole list of commands,
 //! and look back in it instead of keeping anything.
 #![tactic(auto)]
 
+mod barcode;
+#[cfg(test)]
+mod barcode_tests;
 mod cell;
+mod content;
+mod digits;
 mod item;
 pub mod laws;
 mod line;
@@ -18,8 +23,10 @@ mod text;
 mod write;
 
 pub use cell::{Cell, Cells, LINE_CELLS, LINE_DOTS};
+pub use content::{CONTENT_BYTES, Content, DOT_BYTES, Dots};
+pub use digits::{all_digits, check_digit};
 pub use item::Item;
 pub use page::Page;
 pub use paper::MOST_ITEMS;
-pub use style::Style;
+pub use style::{BarStyle, Style};
 pub use write::write_items;

@@ -1,6 +1,6 @@
 //! The page: what the commands so far have put on paper.
 //!
-//! A page keeps one style, one alignment and one line. That these are what the definitions find by looking
+//! A page keeps one style, the settings of barcodes, one alignment and one line. That these are what the definitions find by looking
 //! back in the whole list of commands is the invariant of its type. What each command does to them is left to
 //! `paper`; a page makes room for it.
 
@@ -14,6 +14,9 @@ use crate::paper::{MOST_ITEMS, Paper};
 use escpos_command::{Command, laws};
 use std::alloc::{AllocError, Global};
 use std::marker::Model;
+
+#[cfg(test)]
+mod tests;
 
 /// The paper that commands have printed so far, and what they have left for those to come.
 #[derive(Drop)]
@@ -31,6 +34,7 @@ impl Model for Page {
       sheet = record {
         items = p.paper.items.items;
         style = p.paper.style;
+        bar_style = p.paper.bar_style;
         alignment = p.paper.alignment;
         line = p.paper.line;
       };
@@ -41,6 +45,7 @@ impl Model for Page {
       sheet = record {
         items = p.paper.items.items;
         style = p.paper.style;
+        bar_style = p.paper.bar_style;
         alignment = p.paper.alignment;
         line = p.paper.line;
       };
@@ -89,7 +94,7 @@ impl Page {
         if self.ready().is_err() {
             return Err(command);
         }
-        self.paper.carry_out(&command);
+        self.paper.carry_out(command);
         Ok(())
     }
 

@@ -10,27 +10,29 @@ ghost use Rattle.escpos_command.specs.declared.parameter.choices.Alignment.TheVa
 ghost use Rattle.escpos_paper.specs.Printed.{row_of, row_and_feed};
 ghost use Rattle.escpos_paper.specs.declared.item.Item.TheVariants as item;
 ghost use Rattle.escpos_paper.specs.Rows.{fits};
-ghost use Rattle.escpos_paper.specs.Styles.{power_on, is_empty};
-ghost use Rattle.escpos_paper.specs.Steps.{step_prints, style_after, alignment_after, line_after, with_cell};
+ghost use Rattle.escpos_paper.specs.Styles.{power_on, power_on_bars, is_empty};
+ghost use Rattle.escpos_paper.specs.Steps.{step_prints, style_after, bar_style_after, alignment_after, line_after, with_cell};
 
+use crate::barcode::{bars_item, raster_item};
 use crate::cell::Cell;
 use crate::item::Item;
 use crate::line::Line;
-use crate::style::Style;
+use crate::style::{BarStyle, Style};
 use escpos_command::{Align, Alignment, Command, Cut};
 use std::alloc::Global;
 
-/// The most items that one command prints: a row, a feed and a cut.
+/// The most items that one command prints: a row, a feed and a barcode, a raster or a cut.
 pub const MOST_ITEMS: usize = 3;
 
 const _: () = prove!(MOST_ITEMS == 3);
 
-/// What commands leave: the items on paper, the style and the alignment that are set, and the line that
-/// isn't printed yet.
+/// What commands leave: the items on paper, the style, the settings of barcodes and the alignment that are set, and the
+/// line that isn't printed yet.
 #[derive(Drop)]
 pub struct Paper {
     pub items: Vec<Item>,
     pub style: Style,
+    pub bar_style: BarStyle,
     pub alignment: Alignment,
     pub line: Line,
 }
@@ -40,12 +42,14 @@ impl Paper {
     pub fn new(alloc: Global) -> Self
         ensures items { result.items.items ≡ [] }
         ensures style { result.style ≡ power_on }
+        ensures bar_style { result.bar_style ≡ power_on_bars }
         ensures alignment { result.alignment ≡ Left }
         ensures line { result.line ≡ [] }
     {
         Paper {
             items: Vec::new(alloc),
             style: Style::power_on(),
+            bar_style: BarStyle::power_on(),
             alignment: Alignment::Left,
             line: Line::new(),
         }
@@ -55,58 +59,83 @@ impl Paper {
     pub fn initialise(&mut self)
         ensures items { self.new.items ≡ self.old.items }
         ensures style { self.new.style ≡ power_on }
+        ensures bar_style { self.new.bar_style ≡ power_on_bars }
         ensures alignment { self.new.alignment ≡ Left }
         ensures line { self.new.line ≡ [] }
     {
         self.style = Style::power_on();
+        self.bar_style = BarStyle::power_on();
         self.alignment = Alignment::Left;
         self.line = Line::new();
     }
 
-    /// Carries out a command.
-    pub fn carry_out(&mut self, command: &Command)
+    /// Carries out a command. The bytes of a barcode or a raster are moved onto the paper.
+    pub fn carry_out(&mut self, command: Command)
         requires room { vec_len self.old.items + MOST_ITEMS ≤ vec_capacity self.old.items }
         requires visible { 1 ≤ self.old.style.width }
         requires narrow { self.old.style.width ≤ 8 }
         ensures items { self.new.items.items
-            ≡ self.old.items.items ++ step_prints self.old.style self.old.alignment self.old.line command.now }
-        ensures style { self.new.style ≡ style_after self.old.style command.now }
-        ensures alignment { self.new.alignment ≡ alignment_after (is_empty self.old.line) self.old.alignment command.now }
-        ensures line { self.new.line ≡ line_after self.old.style self.old.line command.now }
+            ≡ self.old.items.items ++ step_prints self.old.style self.old.bar_style self.old.alignment self.old.line command }
+        ensures style { self.new.style ≡ style_after self.old.style command }
+        ensures bar_style { self.new.bar_style ≡ bar_style_after self.old.bar_style command }
+        ensures alignment { self.new.alignment ≡ alignment_after (is_empty self.old.line) self.old.alignment command }
+        ensures line { self.new.line ≡ line_after self.old.style self.old.line command }
     {
         match command {
             Command::Char(character) => {
                 let cell = self.style.cell(character.byte());
                 put_cell(&mut self.items, &mut self.line, self.alignment, cell);
             }
-            Command::LineFeed => feed(&mut self.items, &mut self.line, self.alignment, 1),
-            Command::FeedLines(lines) => {
-                feed(
-                    &mut self.items,
-                    &mut self.line,
-                    self.alignment,
-                    lines.byte(),
-                );
-            }
-            Command::Cut(cut) => cut_paper(&mut self.items, &mut self.line, self.alignment, *cut),
+            Command::LineFeed => self.feed(Item::Feed(1)),
+            Command::FeedLines(lines) => self.feed(Item::Feed(lines.byte())),
+            Command::FeedUnits(units) => self.feed(Item::FeedUnits(units.byte())),
+            Command::Bars(bars) => self.print(bars_item(self.alignment, self.bar_style, bars)),
+            Command::Raster(raster) => self.print(raster_item(self.alignment, raster)),
+            Command::Cut(cut) => self.print(cut_item(cut)),
             Command::Init => self.initialise(),
-            Command::Mode(mode) => self.style = self.style.in_mode(*mode),
-            Command::Size(size) => self.style = self.style.in_size(*size),
+            Command::Mode(mode) => self.style = self.style.in_mode(mode),
+            Command::Size(size) => self.style = self.style.in_size(size),
             Command::Table(table) => self.style.table = table.byte(),
             Command::Font(font) => self.style.font = font.face(),
             Command::Emphasis(emphasis) => self.style.bold = emphasis.is_on(),
             Command::Underline(underline) => self.style.underline = underline.dots(),
             Command::Align(align) => {
-                self.alignment = alignment_after(self.line.is_empty(), self.alignment, *align);
+                self.alignment = alignment_after(self.line.is_empty(), self.alignment, align);
             }
-            Command::Return
-            | Command::BarHeight(_)
-            | Command::BarWidth(_)
-            | Command::HriPlace(_)
-            | Command::HriFont(_)
-            | Command::Status(_)
-            | Command::Mark(_) => {}
+            Command::BarHeight(height) => self.bar_style.height = height.byte(),
+            Command::BarWidth(width) => self.bar_style.module_width = width.byte(),
+            Command::HriPlace(place) => self.bar_style.place = place.position(),
+            Command::HriFont(font) => self.bar_style.hri_font = font.face(),
+            Command::Return | Command::Pulse(_) | Command::Status(_) | Command::Mark(_) => {}
         }
+    }
+
+    // Prints the line and then a feed.
+    fn feed(&mut self, feed: Item)
+        requires { vec_len self.old.items + 2 ≤ vec_capacity self.old.items }
+        ensures items { self.new.items.items
+            ≡ self.old.items.items ++ row_of self.old.alignment self.old.line ++ feed ∷ [] }
+        ensures style { self.new.style ≡ self.old.style }
+        ensures bar_style { self.new.bar_style ≡ self.old.bar_style }
+        ensures alignment { self.new.alignment ≡ self.old.alignment }
+        ensures line { self.new.line ≡ [] }
+    {
+        print_line(&mut self.items, &mut self.line, self.alignment);
+        self.items.push_reserved(feed);
+    }
+
+    // Ends the line and prints an item below it.
+    fn print(&mut self, item: Item)
+        requires { vec_len self.old.items + MOST_ITEMS ≤ vec_capacity self.old.items }
+        ensures items { self.new.items.items
+            ≡ self.old.items.items ++ row_and_feed self.old.alignment self.old.line ++ item ∷ [] }
+        ensures style { self.new.style ≡ self.old.style }
+        ensures bar_style { self.new.bar_style ≡ self.old.bar_style }
+        ensures alignment { self.new.alignment ≡ self.old.alignment }
+        ensures line { self.new.line ≡ [] }
+    {
+        end_line(&mut self.items, &mut self.line, self.alignment);
+        self.items.push_reserved(item);
     }
 }
 
@@ -125,28 +154,14 @@ fn put_cell(items: &mut Vec<Item>, line: &mut Line, alignment: Alignment, cell: 
     line.push(cell);
 }
 
-// Prints the line and feeds some lines.
-fn feed(items: &mut Vec<Item>, line: &mut Line, alignment: Alignment, lines: u8)
-    requires { vec_len items.old + 2 ≤ vec_capacity items.old }
-    ensures printed { items.new.items ≡ items.old.items ++ row_of alignment line.old ++ item.Feed lines ∷ [] }
-    ensures left { line.new ≡ [] }
+// A cut as an item.
+fn cut_item(cut: Cut) -> Item
+    ensures { result ≡ item.Cut (leaves_a_point cut.0) cut.1 }
 {
-    print_line(items, line, alignment);
-    items.push_reserved(Item::Feed(lines));
-}
-
-// Ends the line and cuts the paper.
-fn cut_paper(items: &mut Vec<Item>, line: &mut Line, alignment: Alignment, cut: Cut)
-    requires { vec_len items.old + MOST_ITEMS ≤ vec_capacity items.old }
-    ensures printed { items.new.items
-        ≡ items.old.items ++ row_and_feed alignment line.old ++ item.Cut (leaves_a_point cut.0) cut.1 ∷ [] }
-    ensures left { line.new ≡ [] }
-{
-    end_line(items, line, alignment);
-    items.push_reserved(Item::Cut {
+    Item::Cut {
         partial: cut.is_partial(),
         feed: cut.feed(),
-    });
+    }
 }
 
 // The alignment after ESC a, which is ignored where the line has text.

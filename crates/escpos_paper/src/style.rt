@@ -1,14 +1,14 @@
-//! How characters are printed. What each command does to the style is left to `paper`, but for the two
+//! How characters and barcodes are printed. What each command does to the styles is left to `paper`, but for the two
 //! commands that set more than one attribute.
 
 ghost use Rattle.std.specs.Prelude.{◌≡◌, ◌↔◌, IsTrue};
 ghost use Rattle.escpos_command.specs.declared.command.Command.TheVariants as kind;
-ghost use Rattle.escpos_paper.specs.Styles.{power_on, same_style};
+ghost use Rattle.escpos_paper.specs.Styles.{power_on, power_on_bars, same_style};
 ghost use Rattle.escpos_paper.specs.Cells.{cell};
 ghost use Rattle.escpos_paper.specs.Steps.{style_after};
 
 use crate::cell::Cell;
-use escpos_command::{FontFace, Mode, Size};
+use escpos_command::{FontFace, HriPosition, Mode, Size};
 
 /// How a character is printed.
 #[derive(Clone, Copy, Debug, PartialEq, Eq)]
@@ -83,6 +83,33 @@ impl Style {
             width: size.width(),
             height: size.height(),
             ..self
+        }
+    }
+}
+
+/// How a barcode is printed.
+#[derive(Clone, Copy, Debug, PartialEq, Eq)]
+pub struct BarStyle {
+    /// The height in dots, 1 to 255.
+    pub height: u8,
+    /// The width of a module in dots, 2 to 6.
+    pub module_width: u8,
+    /// Where the human readable interpretation stands.
+    pub place: HriPosition,
+    /// The font of that interpretation.
+    pub hri_font: FontFace,
+}
+
+impl BarStyle {
+    /// The settings of a printer just switched on: height 162, module width 3, no interpretation, its font A.
+    pub fn power_on() -> Self
+        ensures { result ≡ power_on_bars }
+    {
+        BarStyle {
+            height: 162,
+            module_width: 3,
+            place: HriPosition::Nowhere,
+            hri_font: FontFace::A,
         }
     }
 }

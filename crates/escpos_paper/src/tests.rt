@@ -11,7 +11,7 @@ use std::process::Abort;
 use std::test::Fail;
 
 // A parameter, which has to be in its range.
-fn is<T: Drop>(parameter: Option<T>) -> Result<T, Fail> {
+pub(crate) fn is<T: Drop>(parameter: Option<T>) -> Result<T, Fail> {
     match parameter {
         Some(parameter) => Ok(parameter),
         None => Err("the parameter is out of range")?,
@@ -19,7 +19,7 @@ fn is<T: Drop>(parameter: Option<T>) -> Result<T, Fail> {
 }
 
 // A page on which these commands were carried out.
-fn page_of(alloc: Global, commands: &[Command]) -> Result<Page, Fail> {
+pub(crate) fn page_of(alloc: Global, commands: &[Command]) -> Result<Page, Fail> {
     let mut page = Page::new(alloc);
     for command in commands {
         page.apply(command.clone()?)?;
@@ -35,7 +35,7 @@ fn put(page: &mut Page, text: &[u8]) -> Result<(), Fail> {
     Ok(())
 }
 
-fn ch(byte: u8) -> Result<Command, Fail> {
+pub(crate) fn ch(byte: u8) -> Result<Command, Fail> {
     Ok(Command::Char(is(Character::new(byte))?))
 }
 
@@ -43,7 +43,7 @@ fn feed_lines(lines: u8) -> Result<Command, Fail> {
     Ok(Command::FeedLines(is(FeedLines::new(lines))?))
 }
 
-fn align(byte: u8) -> Result<Command, Fail> {
+pub(crate) fn align(byte: u8) -> Result<Command, Fail> {
     Ok(Command::Align(is(Align::new(byte))?))
 }
 
@@ -51,7 +51,7 @@ fn emphasis(byte: u8) -> Result<Command, Fail> {
     Ok(Command::Emphasis(is(Emphasis::new(byte))?))
 }
 
-fn expect_text(rt: &impl Abort, page: &Page, text: &[u8]) {
+pub(crate) fn expect_text(rt: &impl Abort, page: &Page, text: &[u8]) {
     let mut room = [0u8; 512];
     let mut sink = MemoryOut::new(&mut room);
     assert_eq!(rt; write_items(page.items(), &mut sink), Ok(()));
@@ -347,4 +347,5 @@ fn cells_have_their_width(rt: HostRuntime) {
     laws::one_cut();
     laws::initialisation();
     laws::paper_grows();
+    laws::one_check_digit();
 }

@@ -1,46 +1,145 @@
-//! The text of a single item, appended in place to bytes that are gathered.
+//! The text of a single item, given to a gather.
 //!
-//! Each function says what it appends and how much at most, so that `escpos_io` can make room for a whole
-//! item at once. The loop over the items is `write_items`.
+//! All but the dots of a raster is short: it is appended in place to what the gather keeps back, and each function says
+//! what it appends and how much at most. The dots are put in parts. The loop over the items is `write_items`.
 
-ghost use Rattle.std.specs.Prelude.{◌≡◌, ◌+◌, ◌≤◌, ◌<◌, [], ◌∷◌, ◌++◌, length, decimal, codes};
+ghost use Rattle.std.specs.Prelude.{◌≡◌, ◌+◌, ◌*◌, ◌≤◌, ◌<◌, [], ◌∷◌, ◌++◌, length, decimal, codes, flat_map};
+ghost use Rattle.hex.specs.Hex.{encode_lower};
+ghost use Rattle.escpos_io.specs.Giving.{IsGiven};
+ghost use Rattle.escpos_io.specs.Putting.{passage};
 ghost use Rattle.escpos_paper.specs.Styles.{power_on};
-ghost use Rattle.escpos_paper.specs.ItemsText.{byte_text, style_text, face_name, bold_text, cell_text, cells_text, align_name, cut_name, words, item_text};
+ghost use Rattle.escpos_paper.specs.ItemsText.{byte_text, style_text, face_name, bold_text, cell_text, cells_text, align_name, symbology_name, place_name, scale_name, settings_text, content_text, cut_name, item_text};
+ghost use Rattle.escpos_paper.specs.Parts.{front, dots_of};
 
 use crate::cell::{Cell, Cells};
+use crate::content::{Content, DOT_BYTES};
 use crate::item::Item;
-use crate::style::Style;
-use escpos_command::{Alignment, FontFace, LF};
-use escpos_io::{GATHERED_BYTES, Gather, PIECE_BYTES, Piece};
+use crate::style::{BarStyle, Style};
+use escpos_command::{Alignment, FontFace, HriPosition, LF, Scale, Symbology};
+use escpos_io::{ByteOut, Device, GATHERED_BYTES, Gather, Piece, laws};
 use itoa::Buffer;
 
-/// An item is put as its line. (A row has at most 56 cells of at most 24 bytes.)
+/// The most bytes of a line that are appended to a gather at once: all but the dots of a raster. (A row has at most 56
+/// cells of at most 24 bytes, a barcode a content of at most 255 characters of at most 3 bytes.)
+const LINE_BYTES: usize = 2048;
+
+const _: () = prove!(LINE_BYTES == 2048);
+
+/// An item is put as its line.
 impl Piece for Item {
     ghost bytes = { item_text };
 
-    fn append(&self, gather: &mut Gather) {
-        append_words(gather, self);
-        gather.push(LF);
+    #[inline]
+    fn put<W: ByteOut>(&self, gather: &mut Gather, writer: &mut W) -> Result<(), Device> {
+        laws::given_in_turn();
+        laws::given_in_place();
+        laws::piece_put();
+        laws::piece_stopped();
+        gather.room(LINE_BYTES, writer)?;
+        append_front(gather, self);
+        put_dots(gather, dots_of(self), writer)?;
+        gather.put(&[LF], writer)
     }
 }
 
-// The line of an item without its end.
-fn append_words(gather: &mut Gather, item: &Item)
-    requires { length gather.old.kept + PIECE_BYTES ≤ GATHERED_BYTES }
-    ensures kept { gather.new.kept ≡ gather.old.kept ++ words item.now }
+// The dots of a raster; of any other item none.
+#[inline]
+fn dots_of(item: &Item) -> &[u8]
+    ensures dots { result.now ≡ dots_of item.now }
+    ensures few { length result.now ≤ DOT_BYTES }
+{
+    match item {
+        Item::Raster { dots, .. } => dots.as_slice(),
+        _ => &[],
+    }
+}
+
+/// How many bytes of dots are put at once.
+const PART_BYTES: usize = 1024;
+
+// Dots in hexadecimal, part by part.
+fn put_dots<W: ByteOut>(gather: &mut Gather, dots: &[u8], writer: &mut W) -> Result<(), Device>
+    ensures { IsGiven result (passage (W.written writer.old) (W.written writer.new) (W.failed writer.old) (W.failed writer.new))
+        gather.old gather.new (encode_lower dots.now) }
+{
+    laws::given_in_turn();
+    laws::given_in_the_front();
+    laws::given_in_place();
+    for part in dots.chunks(PART_BYTES) {
+        gather.room(2 * PART_BYTES, writer)?;
+        append_digits(gather, part);
+    }
+    Ok(())
+}
+
+// Bytes in hexadecimal.
+fn append_digits(gather: &mut Gather, bytes: &[u8])
+    requires few { length bytes.now ≤ PART_BYTES }
+    requires room { length gather.old.kept + 2 * PART_BYTES ≤ GATHERED_BYTES }
+    ensures kept { gather.new.kept ≡ gather.old.kept ++ encode_lower bytes.now }
     ensures same_count { gather.new.taken ≡ gather.old.taken }
-    ensures short { length (words item.now) < PIECE_BYTES }
+{
+    let mut room = [0; 2 * PART_BYTES];
+    let digits = &mut room[..2 * bytes.len()];
+    hex::encode_to_slice(bytes, digits).unwrap();
+    gather.extend(digits);
+}
+
+// The line of an item but for its end, and of a raster what comes before its dots.
+fn append_front(gather: &mut Gather, item: &Item)
+    requires { length gather.old.kept + LINE_BYTES ≤ GATHERED_BYTES }
+    ensures kept { gather.new.kept ≡ gather.old.kept ++ front item.now }
+    ensures same_count { gather.new.taken ≡ gather.old.taken }
+    ensures short { length (front item.now) < LINE_BYTES }
 {
     match item {
         Item::Row { align, cells } => {
             gather.extend(b"row ");
-            gather.extend(align_name(*align));
-            gather.push(b' ');
+            append_word(gather, align_name(*align));
             append_cells(gather, cells);
         }
         Item::Feed(lines) => {
             gather.extend(b"feed ");
             append_number(gather, *lines);
+        }
+        Item::FeedUnits(units) => {
+            gather.extend(b"units ");
+            append_number(gather, *units);
+        }
+        Item::Bars {
+            align,
+            symbology,
+            height,
+            module: width,
+            place,
+            hri_font,
+            content,
+            added,
+        } => {
+            let style = BarStyle {
+                height: *height,
+                module_width: *width,
+                place: *place,
+                hri_font: *hri_font,
+            };
+            gather.extend(b"bars ");
+            append_word(gather, align_name(*align));
+            append_word(gather, symbology_name(*symbology));
+            append_settings(gather, style);
+            append_content(gather, content, *added);
+        }
+        Item::Raster {
+            align,
+            scale,
+            x,
+            y,
+            ..
+        } => {
+            gather.extend(b"raster ");
+            append_word(gather, align_name(*align));
+            append_word(gather, scale_name(*scale));
+            append_size(gather, *x);
+            append_size(gather, *y);
         }
         Item::Cut { partial, feed } => {
             gather.extend(b"cut ");
@@ -53,6 +152,67 @@ fn append_words(gather: &mut Gather, item: &Item)
     }
 }
 
+// A word and a space.
+fn append_word(gather: &mut Gather, word: &[u8])
+    requires { length gather.old.kept + length word.now < GATHERED_BYTES }
+    ensures kept { gather.new.kept ≡ gather.old.kept ++ word.now ++ codes " " }
+    ensures same_count { gather.new.taken ≡ gather.old.taken }
+{
+    gather.extend(word);
+    gather.push(b' ');
+}
+
+// A number of up to five digits, in decimal, and a space.
+fn append_size(gather: &mut Gather, number: u16)
+    requires { length gather.old.kept + 6 ≤ GATHERED_BYTES }
+    ensures kept { gather.new.kept ≡ gather.old.kept ++ decimal number ++ codes " " }
+    ensures same_count { gather.new.taken ≡ gather.old.taken }
+    ensures short { length (decimal number) ≤ 5 }
+{
+    let mut buffer = Buffer::new();
+    append_word(gather, buffer.format(number).as_bytes());
+}
+
+// The settings of a barcode and a space.
+fn append_settings(gather: &mut Gather, style: BarStyle)
+    requires { length gather.old.kept + 16 ≤ GATHERED_BYTES }
+    ensures kept { gather.new.kept ≡ gather.old.kept ++ settings_text style.height style.module_width style.place style.hri_font ++ codes " " }
+    ensures same_count { gather.new.taken ≡ gather.old.taken }
+    ensures short { length (settings_text style.height style.module_width style.place style.hri_font ++ codes " ") ≤ 16 }
+{
+    append_number(gather, style.height);
+    gather.push(b' ');
+    append_number(gather, style.module_width);
+    gather.push(b' ');
+    append_word(gather, place_name(style.place));
+    append_word(gather, face_name(style.hri_font));
+}
+
+// The content of a barcode and the check digit that is added.
+fn append_content(gather: &mut Gather, content: &Content, added: Option<u8>)
+    requires { length gather.old.kept + 768 ≤ GATHERED_BYTES }
+    ensures kept { gather.new.kept ≡ gather.old.kept ++ content_text content.now added }
+    ensures same_count { gather.new.taken ≡ gather.old.taken }
+    ensures short { length (content_text content.now added) ≤ 768 }
+{
+    append_bytes(gather, content.as_slice());
+    if let Some(digit) = added {
+        append_number(gather, digit);
+    }
+}
+
+// The characters of a barcode's content.
+fn append_bytes(gather: &mut Gather, bytes: &[u8])
+    requires { length gather.old.kept + 3 * length bytes.now ≤ GATHERED_BYTES }
+    ensures kept { gather.new.kept ≡ gather.old.kept ++ flat_map byte_text bytes.now }
+    ensures same_count { gather.new.taken ≡ gather.old.taken }
+    ensures short { length gather.new.kept ≤ length gather.old.kept + 3 * length bytes.now }
+{
+    for byte in bytes {
+        append_byte(gather, *byte);
+    }
+}
+
 fn align_name(align: Alignment) -> &'static [u8]
     ensures name { result.now ≡ align_name align }
     ensures short { length result.now ≤ 6 }
@@ -61,6 +221,45 @@ fn align_name(align: Alignment) -> &'static [u8]
         Alignment::Left => b"left",
         Alignment::Center => b"center",
         Alignment::Right => b"right",
+    }
+}
+
+fn symbology_name(symbology: Symbology) -> &'static [u8]
+    ensures name { result.now ≡ symbology_name symbology }
+    ensures short { length result.now ≤ 7 }
+{
+    match symbology {
+        Symbology::UpcA => b"upca",
+        Symbology::Ean13 => b"ean13",
+        Symbology::Ean8 => b"ean8",
+        Symbology::Code39 => b"code39",
+        Symbology::Itf => b"itf",
+        Symbology::Codabar => b"codabar",
+        Symbology::Code128 => b"code128",
+    }
+}
+
+fn place_name(place: HriPosition) -> &'static [u8]
+    ensures name { result.now ≡ place_name place }
+    ensures short { length result.now ≤ 5 }
+{
+    match place {
+        HriPosition::Nowhere => b"none",
+        HriPosition::Above => b"above",
+        HriPosition::Below => b"below",
+        HriPosition::Both => b"both",
+    }
+}
+
+fn scale_name(scale: Scale) -> &'static [u8]
+    ensures name { result.now ≡ scale_name scale }
+    ensures short { length result.now ≤ 6 }
+{
+    match scale {
+        Scale::Normal => b"normal",
+        Scale::Wide => b"wide",
+        Scale::Tall => b"tall",
+        Scale::Both => b"both",
     }
 }
 

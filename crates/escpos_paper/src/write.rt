@@ -8,8 +8,10 @@ use escpos_io::{ByteOut, Device, put_pieces};
 
 /// Writes a line for each item. Takes no memory.
 ///
-/// A row is `row ALIGN CELLS`, a feed `feed N`, a cut `cut full` or `cut partial`, and then its feed, if it
-/// has one. Numbers are decimal, and each line ends with 0A. In CELLS a byte 20 to 7E other than 5B and 5C is
+/// A row is `row ALIGN CELLS`, a feed `feed N` or `units N`, a cut `cut full` or `cut partial`, and then its feed, if it
+/// has one. A barcode is `bars ALIGN SYMBOLOGY HEIGHT MODULE PLACE FONT CONTENT`, with the check digit that is added at
+/// the end of CONTENT, and a raster `raster ALIGN SCALE X Y DOTS`, with two hexadecimal digits for each byte of dots.
+/// Numbers are decimal, and each line ends with 0A. In CELLS and CONTENT a byte 20 to 7E other than 5B and 5C is
 /// itself, and any other is `\` and two hexadecimal digits. A cell whose style isn't that of the cell before
 /// it, or for the first cell not the power-on style, has `[F,W,H,B,U,T]` before it: font, width, height,
 /// emphasis, underline and table.

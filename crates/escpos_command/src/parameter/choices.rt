@@ -1,7 +1,7 @@
 //! What the bytes of parameters mean, apart from the parameters themselves.
 
 ghost use Rattle.std.specs.Prelude.{◌≡◌, ◌<◌};
-ghost use Rattle.escpos_command.specs.Meanings.{has_bit, choice, face_of, alignment_of, hri_position_of};
+ghost use Rattle.escpos_command.specs.Meanings.{has_bit, choice, face_of, alignment_of, hri_position_of, scale_of};
 
 /// A font of the printer.
 #[derive(Clone, Copy, Debug, PartialEq, Eq)]
@@ -28,6 +28,19 @@ pub enum HriPosition {
     Above,
     Below,
     /// Above and below.
+    Both,
+}
+
+/// How each dot of a raster is printed.
+#[derive(Clone, Copy, Debug, PartialEq, Eq)]
+pub enum Scale {
+    /// As one dot.
+    Normal,
+    /// Twice as wide.
+    Wide,
+    /// Twice as high.
+    Tall,
+    /// Twice as wide and twice as high.
     Both,
 }
 
@@ -74,5 +87,16 @@ pub fn hri_position_of(choice: u8) -> HriPosition
         1 => HriPosition::Above,
         2 => HriPosition::Below,
         _ => HriPosition::Both,
+    }
+}
+
+pub fn scale_of(choice: u8) -> Scale
+    ensures { result ≡ scale_of choice }
+{
+    match choice {
+        0 => Scale::Normal,
+        1 => Scale::Wide,
+        2 => Scale::Tall,
+        _ => Scale::Both,
     }
 }

@@ -2,7 +2,7 @@
 
 ghost use Rattle.std.specs.Prelude.{◌≡◌, ℕ, IsTrue, Some, None};
 ghost use Rattle.std.specs.Option.{SomeIff};
-ghost use Rattle.escpos_command.specs.Parameters.{is_byte, is_one_of_three, is_cut, is_status_kind};
+ghost use Rattle.escpos_command.specs.Parameters.{is_byte, is_one_of_three, is_cut, is_pulse, is_status_kind};
 ghost use Rattle.escpos_command.specs.Meanings.{choice, alignment_of, leaves_a_point};
 
 use super::choices::{Alignment, alignment_of, choice};
@@ -82,6 +82,95 @@ impl FeedLines {
         ensures range { IsTrue (is_byte result) }
     {
         self.byte
+    }
+}
+
+/// How many motion units the paper is fed after the line. (Reference: ESC J.)
+#[derive(Clone, Copy, Debug, PartialEq, Eq)]
+pub struct FeedUnits {
+    byte: u8,
+}
+
+impl Model for FeedUnits {
+    ghost Value = { ℕ };
+
+    ghost view = { λ p. p.byte };
+
+    ghost invariant = { λ p. IsTrue (is_byte p.byte) };
+
+    ghost inverse = { λ n. record { byte = n } };
+}
+
+impl FeedUnits {
+    /// The feed of so many motion units. Every byte is one.
+    pub fn new(byte: u8) -> Option<Self>
+        ensures { SomeIff result (IsTrue (is_byte byte)) byte }
+    {
+        Some(FeedUnits { byte })
+    }
+
+    /// The number of motion units, 0 to 255.
+    pub fn byte(self) -> u8
+        ensures kept { result ≡ self }
+        ensures range { IsTrue (is_byte result) }
+    {
+        self.byte
+    }
+}
+
+/// A pulse to the connector of the cash drawer: its pin, 0 and 48 pin 2, 1 and 49 pin 5, and how long it is on and off, in
+/// units of 2 milliseconds. (Reference: ESC p.)
+#[derive(Clone, Copy, Debug, PartialEq, Eq)]
+pub struct Pulse {
+    pin: u8,
+    on: u8,
+    off: u8,
+}
+
+impl Model for Pulse {
+    ghost use Rattle.std.specs.Prelude.{ℕ, IsTrue};
+    ghost use Rattle.escpos_command.specs.Parameters.{is_pulse};
+
+    ghost Value = { ℕ × ℕ × ℕ };
+
+    ghost view = { λ p. (p.pin, p.on, p.off) };
+
+    ghost invariant = { λ p. IsTrue (is_pulse (p.pin, p.on, p.off)) };
+
+    ghost inverse = { λ v. record { pin = v.0; on = v.1; off = v.2 } };
+}
+
+impl Pulse {
+    /// The pulse of these bytes m, t1 and t2; `None` for all pins but 0, 1, 48 and 49.
+    pub fn new(pin: u8, on: u8, off: u8) -> Option<Self>
+        ensures { SomeIff result (IsTrue (is_pulse (pin, on, off))) (pin, on, off) }
+    {
+        match pin {
+            0 | 1 | 48 | 49 => Some(Pulse { pin, on, off }),
+            _ => None,
+        }
+    }
+
+    /// The byte of the pin as sent: 0, 1, 48 or 49.
+    pub fn pin(self) -> u8
+        ensures kept { result ≡ self.0 }
+        ensures range { IsTrue (is_pulse self) }
+    {
+        self.pin
+    }
+
+    /// How long the pulse is on, in units of 2 milliseconds, 0 to 255.
+    pub fn on(self) -> u8
+        ensures { result ≡ self.1 }
+    {
+        self.on
+    }
+
+    /// How long it is off, in units of 2 milliseconds, 0 to 255.
+    pub fn off(self) -> u8
+        ensures { result ≡ self.2 }
+    {
+        self.off
     }
 }
 

@@ -1,10 +1,15 @@
 -- What `apply` leaves is the sheet after the command, and so the sheet of the list with one more command.
 use Rattle.std.proofs.Common.{◌≡◌, List, [], ◌∷◌, ◌++◌, ap, sym, ◌∙◌, subst, refl}
 use Rattle.escpos_paper.specs.declared.item.Item.{Item}
+use Rattle.escpos_paper.specs.declared.cell.Cell.{Cell}
+use Rattle.escpos_paper.specs.declared.style.BarStyle.{BarStyle}
 use Rattle.escpos_paper.specs.declared.style.Style.{Style}
 use Rattle.escpos_command.specs.declared.command.Command.{Command}
 use Rattle.escpos_command.specs.CommandTable.{IsCommand, AreCommands}
+use Rattle.escpos_command.specs.declared.parameter.choices.Alignment.{Alignment}
+use Rattle.escpos_paper.specs.Styles.{is_empty}
 use Rattle.escpos_paper.specs.Page.{Sheet, PageView}
+use Rattle.escpos_paper.specs.Steps.{style_after, bar_style_after, alignment_after, line_after, step_prints, sheet_after}
 use Rattle.escpos_paper.proofs.Sheets.{sheet_of, sheet_step}
 use Rattle.escpos_paper.proofs.Widths.{IsWidth, width_in_range}
 use Rattle.escpos_paper.proofs.page.Page.apply.Goals as goal
@@ -16,6 +21,15 @@ width_of s sheet kept cs e is = subst (λ (t : Style). IsWidth t.width) (sym (ap
 one_more : (cs : List Command) (c : Command) → AreCommands cs → IsCommand c → AreCommands (cs ++ c ∷ [])
 one_more [] c h k = (k, tt)
 one_more (d ∷ cs) c h k = (h.0, one_more cs c h.1 k)
+
+-- the sheet after a command, from its parts
+sheet_made : (items printed : List Item) (s t : Style) (b d : BarStyle) (align also : Alignment) (row rest : List Cell) (c : Command)
+    → printed ≡ items ++ step_prints s b align row c → t ≡ style_after s c → d ≡ bar_style_after b c
+    → also ≡ alignment_after (is_empty row) align c → rest ≡ line_after s row c
+    → (let new : Sheet = record { items = printed; style = t; bar_style = d; alignment = also; line = rest } in
+    let old : Sheet = record { items = items; style = s; bar_style = b; alignment = align; line = row } in
+    new ≡ sheet_after old c)
+sheet_made items printed s t b d align also row rest c p q r v w = cc
 
 pub carry_out-requires-clause-visible : goal.carry_out-requires-clause-visible
 carry_out-requires-clause-visible c =
@@ -32,12 +46,14 @@ invariant_of-self c = record {
   in_range = one_more c.self.invariant.commands c.args.command c.self.invariant.in_range c.in_range.ensures;
   page_is =
       sheet_step _ _ c.self.invariant.kept c.self.invariant.commands c.args.command
-      (cc (c.carry_out.ensures.items, c.carry_out.ensures.style, c.carry_out.ensures.alignment, c.carry_out.ensures.line))
+      (sheet_made _ _ _ _ _ _ _ _ _ _ c.args.command c.carry_out.ensures.items c.carry_out.ensures.style c.carry_out.ensures.bar_style
+      c.carry_out.ensures.alignment c.carry_out.ensures.line)
       c.self.invariant.page_is;
 }
 
 pub returns-clause-taken : goal.returns-clause-taken
 returns-clause-taken c = λ kept cs is.
     sheet_step _ _ kept cs c.args.command
-    (cc (c.carry_out.ensures.items, c.carry_out.ensures.style, c.carry_out.ensures.alignment, c.carry_out.ensures.line))
+    (sheet_made _ _ _ _ _ _ _ _ _ _ c.args.command c.carry_out.ensures.items c.carry_out.ensures.style c.carry_out.ensures.bar_style
+    c.carry_out.ensures.alignment c.carry_out.ensures.line)
     (ap (λ (page : PageView). page.sheet) c.self.view_is ∙ c.ready.ensures.same ∙ is)

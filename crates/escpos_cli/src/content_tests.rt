@@ -1,0 +1,224 @@
+//! The worked rows of barcodes, rasters, motion units and pulses through both jobs.
+
+use crate::check::check;
+use crate::render::render;
+use crate::status::Status;
+use escpos_io::{MemoryIn, MemoryOut, Outgoing};
+use std::test::Fail;
+
+// A worked row: the input, what it prints, and the status.
+type Row = (&'static [u8], &'static [u8], Status);
+
+const CHECKED: [Row; 25] = [
+    // ean13
+    (
+        b"1D 6B 02 34 30 30 36 33 38 31 33 33 33 39 33 00",
+        b"0 bars 02 343030363338313333333933\nend 16 pending 0\n",
+        Status::Good,
+    ),
+    (
+        b"41 1D 6B 02 34 30 30 36 33 38 31 33 33 33 39 33 32 00",
+        b"0 char 41\n1 bars 02 34303036333831333333393332\nnote 1 check digit 2, right 1\nend 18 pending 0\n",
+        Status::Good,
+    ),
+    (
+        b"1D 6B 02 34 30 30 36 33 38 31 33 33 33 39 33 31 00",
+        b"0 bars 02 34303036333831333333393331\nend 17 pending 0\n",
+        Status::Good,
+    ),
+    (
+        b"1D 6B 02 34 30 30 36 33 38 31 33 33 33 39 00",
+        b"fault 14 4 BadBarcode\n",
+        Status::Refused,
+    ),
+    // the check digits of UPC-A and EAN-8 in form B, the first right and the second wrong
+    (
+        b"1D 6B 41 0C 30 33 36 30 30 30 32 39 31 34 35 32",
+        b"0 bars 41 303336303030323931343532\nend 16 pending 0\n",
+        Status::Good,
+    ),
+    (
+        b"1D 6B 44 08 35 35 31 32 33 34 35 30",
+        b"0 bars 44 3535313233343530\nnote 0 check digit 0, right 7\nend 12 pending 0\n",
+        Status::Good,
+    ),
+    // ean8_lengths
+    (
+        b"1D 6B 03 35 35 31 32 33 34 00",
+        b"fault 9 4 BadBarcode\n",
+        Status::Refused,
+    ),
+    (
+        b"1D 6B 03 35 35 31 32 33 34 35 37 39",
+        b"fault 11 4 BadBarcode\n",
+        Status::Refused,
+    ),
+    // itf
+    (b"1D 6B 46 03", b"fault 3 4 BadBarcode\n", Status::Refused),
+    (
+        b"1D 6B 46 02 31 32",
+        b"0 bars 46 3132\nend 6 pending 0\n",
+        Status::Good,
+    ),
+    // raster
+    (
+        b"1D 76 30 00 01 00 02 00 F0 0F",
+        b"0 raster 00 1 2\nend 10 pending 0\n",
+        Status::Good,
+    ),
+    (b"1D 76 30 00 00", b"fault 4 5 BadSize\n", Status::Refused),
+    (b"1D 76 30 00 81", b"fault 4 5 BadSize\n", Status::Refused),
+    (
+        b"1D 76 30 00 01 01",
+        b"fault 5 5 BadSize\n",
+        Status::Refused,
+    ),
+    (
+        b"1D 76 30 00 01 00 00 00",
+        b"fault 7 5 BadSize\n",
+        Status::Refused,
+    ),
+    // wider_limits
+    (
+        b"1D 76 30 00 01 00 00 10",
+        b"fault 7 5 BadSize\n",
+        Status::Refused,
+    ),
+    (
+        b"1D 76 30 00 01 00 00 08",
+        b"end 8 pending 8\n",
+        Status::Refused,
+    ),
+    (b"1B 70 02", b"fault 2 3 BadParameter\n", Status::Refused),
+    // unfinished
+    (
+        b"1D 76 30 00 80 00 FF 0F",
+        b"end 8 pending 8\n",
+        Status::Refused,
+    ),
+    // the letter and the scale of a raster, and the mode of a barcode
+    (b"1D 76 31", b"fault 2 2 UnknownCommand\n", Status::Refused),
+    (b"1D 76 30 04", b"fault 3 3 BadParameter\n", Status::Refused),
+    (b"1D 6B 01", b"fault 2 3 BadParameter\n", Status::Refused),
+    (b"1D 6B 49 01", b"fault 3 4 BadBarcode\n", Status::Refused),
+    // units_and_pulse
+    (
+        b"41 1B 4A 05 1B 70 00 19 FA",
+        b"0 char 41\n1 units 05\n4 pulse 00 19 fa\nend 9 pending 0\n",
+        Status::Good,
+    ),
+    (b"1B 70 00 19", b"end 4 pending 4\n", Status::Refused),
+];
+
+const RENDERED: [Row; 7] = [
+    // ean13
+    (
+        b"1D 6B 02 34 30 30 36 33 38 31 33 33 33 39 33 00",
+        b"bars left ean13 162 3 none A 4006381333931\n",
+        Status::Good,
+    ),
+    (
+        b"1D 6B 02 34 30 30 36 33 38 31 33 33 33 39 33 32 00",
+        b"bars left ean13 162 3 none A 4006381333932\n",
+        Status::Good,
+    ),
+    // itf
+    (
+        b"1D 6B 46 02 31 32",
+        b"bars left itf 162 3 none A 12\n",
+        Status::Good,
+    ),
+    // raster
+    (
+        b"1D 76 30 00 01 00 02 00 F0 0F",
+        b"raster left normal 1 2 f00f\n",
+        Status::Good,
+    ),
+    (
+        b"1B 61 02 1D 76 30 32 01 00 01 00 A5",
+        b"raster right tall 1 1 a5\n",
+        Status::Good,
+    ),
+    // raster_behind_text
+    (
+        b"41 1D 76 30 00 01 00 01 00 FF",
+        b"row left A\nfeed 1\nraster left normal 1 1 ff\n",
+        Status::Good,
+    ),
+    // units_and_pulse
+    (
+        b"41 1B 4A 05 1B 70 00 19 FA",
+        b"row left A\nunits 5\n",
+        Status::Good,
+    ),
+];
+
+#[test]
+fn rows_of_check(rt: HostRuntime) {
+    let mut room = [0; 256];
+    for (input, output, status) in CHECKED {
+        for most in [1, 4096] {
+            let mut source = MemoryIn::new(input, most);
+            let mut sink = MemoryOut::new(&mut room);
+            assert_eq!(rt; check(rt.alloc(), &mut source, &mut sink), status);
+            assert_eq!(rt; sink.written(), output);
+        }
+    }
+}
+
+#[test]
+fn rows_of_render(rt: HostRuntime) {
+    let mut room = [0; 256];
+    for (input, output, status) in RENDERED {
+        let mut source = MemoryIn::new(input, 4096);
+        let mut sink = MemoryOut::new(&mut room);
+        assert_eq!(rt; render(rt.alloc(), &mut source, &mut sink), status);
+        assert_eq!(rt; sink.written(), output);
+    }
+}
+
+// The longest line of a listing: a content of 255 bytes.
+#[test]
+fn a_long_barcode(rt: HostRuntime) -> Result<(), Fail> {
+    let mut input = Vec::new(rt.alloc());
+    input.extend_from_slice(b"1D6B45FF")?;
+    let mut digits = Vec::new(rt.alloc());
+    for _ in 0..255 {
+        input.extend_from_slice(b"39")?;
+        digits.extend_from_slice(b"39")?;
+    }
+    let mut want = Vec::new(rt.alloc());
+    want.extend_from_slice(b"0 bars 45 ")?;
+    want.extend_from_slice(&digits)?;
+    want.extend_from_slice(b"\nend 259 pending 0\n")?;
+    let mut source = MemoryIn::new(&input, 4096);
+    let mut sink = Outgoing::new(Vec::new(rt.alloc()));
+    assert_eq!(rt; check(rt.alloc(), &mut source, &mut sink), Status::Good);
+    assert!(rt; sink.into_inner() == want);
+    Ok(())
+}
+
+// The largest raster, as a listing and as paper.
+#[test]
+fn the_largest_raster(rt: HostRuntime) -> Result<(), Fail> {
+    let mut input = Vec::new(rt.alloc());
+    input.extend_from_slice(b"1D7630008000FF0F")?;
+    input.extend_from_slice(&vec![in rt.alloc(); b'a'; 2 * 524_160]?)?;
+    let mut room = [0; 64];
+    let mut source = MemoryIn::new(&input, 65536);
+    let mut sink = MemoryOut::new(&mut room);
+    assert_eq!(rt; check(rt.alloc(), &mut source, &mut sink), Status::Good);
+    assert_eq!(rt;
+        sink.written(),
+        b"0 raster 00 128 4095\nend 524168 pending 0\n".as_slice()
+    );
+    let mut want = Vec::new(rt.alloc());
+    want.extend_from_slice(b"raster left normal 128 4095 ")?;
+    want.extend_from_slice(&vec![in rt.alloc(); b'a'; 2 * 524_160]?)?;
+    want.push(b'\n')?;
+    let mut source = MemoryIn::new(&input, 65536);
+    let mut sink = Outgoing::new(Vec::new(rt.alloc()));
+    assert_eq!(rt; render(rt.alloc(), &mut source, &mut sink), Status::Good);
+    assert!(rt; sink.into_inner() == want);
+    Ok(())
+}

@@ -1,0 +1,87 @@
+//! Bytes of any number that a command carries: the content of a barcode, or the dots of a raster.
+
+ghost use Rattle.std.specs.Prelude.{IsTrue};
+ghost use Rattle.std.specs.List.{list_all};
+ghost use Rattle.escpos_command.specs.Parameters.{is_byte};
+
+use std::marker::Model;
+
+/// Bytes on the heap, seen in contracts as their list. They are moved from a list to a command and on to the paper, and
+/// no step of that copies them or takes memory.
+#[derive(Clone, Debug, Drop)]
+pub struct Bytes {
+    bytes: Vec<u8>,
+}
+
+impl Model for Bytes {
+    ghost use Rattle.std.specs.Prelude.{List, ℕ, IsTrue};
+    ghost use Rattle.std.specs.List.{list_all};
+    ghost use Rattle.escpos_command.specs.Parameters.{is_byte};
+
+    ghost Value = { List ℕ };
+
+    ghost view = { λ b. b.bytes.items };
+
+    ghost invariant = { λ b. IsTrue (list_all is_byte b.bytes.items) };
+}
+
+impl Bytes {
+    ghost use Rattle.std.specs.Prelude.{◌≡◌, length, IsTrue};
+    ghost use Rattle.std.specs.List.{list_all};
+    ghost use Rattle.escpos_command.specs.Parameters.{is_byte};
+
+    /// These bytes. Takes no memory.
+    pub fn new(bytes: Vec<u8>) -> Self
+        ensures same { result ≡ bytes.items }
+        ensures bytes { IsTrue (list_all is_byte result) }
+    {
+        are_bytes(&bytes);
+        Bytes { bytes }
+    }
+
+    /// The bytes. Takes no memory.
+    pub fn as_slice(&self) -> &[u8]
+        ensures { result.now ≡ self.now }
+    {
+        self.bytes.as_slice()
+    }
+
+    /// How many there are.
+    pub fn len(&self) -> usize
+        ensures { result ≡ length self.now }
+    {
+        self.bytes.len()
+    }
+
+    /// Gives the list of the bytes back. Takes no memory.
+    pub fn into_vec(self) -> Vec<u8>
+        ensures { result.items ≡ self }
+    {
+        self.bytes
+    }
+}
+
+// Each u8 is a byte.
+fn are_bytes(bytes: &[u8])
+    ensures { IsTrue (list_all is_byte bytes.now) }
+{}
+
+impl PartialEq for Bytes {
+    ghost use Rattle.std.specs.Prelude.{nat_eq};
+    ghost use Rattle.std.specs.Cmp.Lexicographic.{pointwise, nat_list_eq_equiv};
+    ghost use Rattle.std.specs.Cmp.{partial_equiv_from_equiv};
+
+    ghost eq = { pointwise nat_eq };
+
+    ghost laws = { partial_equiv_from_equiv nat_list_eq_equiv };
+
+    fn eq(&self, other: &Bytes) -> bool {
+        self.as_slice() == other.as_slice()
+    }
+}
+
+impl Eq for Bytes {
+    ghost use Rattle.std.specs.Cmp.Lexicographic.{nat_list_eq_equiv};
+
+    ghost laws = { nat_list_eq_equiv };
+}

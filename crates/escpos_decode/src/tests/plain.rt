@@ -1,0 +1,233 @@
+//! The command table, read plainly: what a whole byte list is, a row of the table a line.
+//!
+//! It keeps nothing between two bytes and looks at all of them each time, so it shares neither places nor counts with the
+//! decoder. The tests compare the two.
+
+use escpos_command::{
+    Align, BarHeight, BarWidth, Bars, CR, Character, Command, Cut, DLE, EOT, ESC, Emphasis,
+    FaultReason, FeedLines, FeedUnits, Font, Form, GS, HriFont, HriPlace, LF, MarkId, Mode, Pulse,
+    Raster, Size, StatusKind, Symbology, Table, Underline,
+};
+use std::alloc::Global;
+use std::test::Fail;
+
+/// What a byte list is of whose bytes all but the last are nothing or a half command.
+#[derive(Debug, Drop, PartialEq)]
+pub enum Reading {
+    /// The spelling of this command.
+    Spelling(Command),
+    /// A half command: it begins a spelling and isn't one.
+    Half,
+    /// It begins no spelling: its last byte is refused for this reason.
+    Refused(FaultReason),
+}
+
+/// What these bytes are.
+pub fn read(alloc: Global, bytes: &[u8]) -> Result<Reading, Fail> {
+    let (_, before) = bytes.split_last().ok_or("no byte")?;
+    Ok(if let Some(command) = spelled(alloc, bytes)? {
+        Reading::Spelling(command)
+    } else if begins_spelling(bytes) {
+        Reading::Half
+    } else {
+        Reading::Refused(reason_after(before))
+    })
+}
+
+// The command that the bytes spell. A parameter is as the table says; that there is no such value is an error here.
+fn spelled(alloc: Global, bytes: &[u8]) -> Result<Option<Command>, Fail> {
+    let command = match bytes {
+        [b @ 32..=255] => Character::new(*b).map(Command::Char),
+        [LF] => Some(Command::LineFeed),
+        [CR] => Some(Command::Return),
+        [ESC, b'@'] => Some(Command::Init),
+        [ESC, b'!', n] => Mode::new(*n).map(Command::Mode),
+        [ESC, b'-', n @ (0..=2 | 48..=50)] => Underline::new(*n).map(Command::Underline),
+        [ESC, b'E', n] => Emphasis::new(*n).map(Command::Emphasis),
+        [ESC, b'M', n @ (0 | 1 | 48 | 49)] => Font::new(*n).map(Command::Font),
+        [ESC, b'a', n @ (0..=2 | 48..=50)] => Align::new(*n).map(Command::Align),
+        [ESC, b'J', n] => FeedUnits::new(*n).map(Command::FeedUnits),
+        [ESC, b'd', n] => FeedLines::new(*n).map(Command::FeedLines),
+        [ESC, b'p', m @ (0 | 1 | 48 | 49), on, off] => {
+            Pulse::new(*m, *on, *off).map(Command::Pulse)
+        }
+        [ESC, b't', n] => Table::new(*n).map(Command::Table),
+        [GS, b'!', n] if *n & 0b1000_1000 == 0 => Size::new(*n).map(Command::Size),
+        [GS, b'(', b'H', 6, 0, b'0', b'0', a, b, c, d] if is_id(&[*a, *b, *c, *d]) => {
+            MarkId::new([*a, *b, *c, *d]).map(Command::Mark)
+        }
+        [GS, b'H', n @ (0..=3 | 48..=51)] => HriPlace::new(*n).map(Command::HriPlace),
+        [GS, b'V', m @ (0 | 1 | 48 | 49)] => Cut::new(*m).map(Command::Cut),
+        [GS, b'V', m @ (65 | 66), n] => Cut::with_feed(*m, *n).map(Command::Cut),
+        [GS, b'f', n @ (0 | 1 | 48 | 49)] => HriFont::new(*n).map(Command::HriFont),
+        [GS, b'h', n @ 1..=255] => BarHeight::new(*n).map(Command::BarHeight),
+        [GS, b'k', m @ 0..=6, content @ .., 0] => return bars(alloc, Form::A, *m, content),
+        [GS, b'k', m @ 65..=73, n, content @ ..] if content.len() == *n as usize => {
+            return bars(alloc, Form::B, *m, content);
+        }
+        [GS, b'v', b'0', m @ (0..=3 | 48..=51), rest @ ..] => return raster(alloc, *m, rest),
+        [GS, b'w', n @ 2..=6] => BarWidth::new(*n).map(Command::BarWidth),
+        [DLE, EOT, n @ 1..=4] => StatusKind::new(*n).map(Command::Status),
+        _ => return Ok(None),
+    };
+    Ok(Some(command.ok_or("a parameter of the table")?))
+}
+
+// Whether the bytes begin a spelling and aren't one.
+fn begins_spelling(bytes: &[u8]) -> bool {
+    match bytes {
+        [DLE | ESC | GS] => true,
+        [DLE, EOT] => true,
+        [
+            ESC,
+            b'!' | b'-' | b'E' | b'M' | b'a' | b'J' | b'd' | b'p' | b't',
+        ] => true,
+        [ESC, b'p', 0 | 1 | 48 | 49] => true,
+        [ESC, b'p', 0 | 1 | 48 | 49, _] => true,
+        [
+            GS,
+            b'!' | b'(' | b'H' | b'V' | b'f' | b'h' | b'k' | b'v' | b'w',
+        ] => true,
+        [GS, b'(', b'H'] => true,
+        [GS, b'(', b'H', 6] => true,
+        [GS, b'(', b'H', 6, 0] => true,
+        [GS, b'(', b'H', 6, 0, b'0'] => true,
+        [GS, b'(', b'H', 6, 0, b'0', b'0', id @ ..] => id.len() < 4 && is_id(id),
+        [GS, b'V', 65 | 66] => true,
+        [GS, b'k', m @ 0..=6, content @ ..] => begins_form_a(*m, content),
+        [GS, b'k', m @ 65..=73, rest @ ..] => begins_form_b(*m, rest),
+        [GS, b'v', b'0'] => true,
+        [GS, b'v', b'0', 0..=3 | 48..=51, rest @ ..] => begins_raster(rest),
+        _ => false,
+    }
+}
+
+// Why a byte after these is refused.
+fn reason_after(before: &[u8]) -> FaultReason {
+    match before {
+        [] => FaultReason::UnknownByte,
+        [_] | [GS, b'(' | b'v'] => FaultReason::UnknownCommand,
+        [GS, b'k', _, ..] => FaultReason::BadBarcode,
+        [GS, b'v', _, _, ..] => FaultReason::BadSize,
+        _ => FaultReason::BadParameter,
+    }
+}
+
+// Whether each byte may stand in the id of a mark.
+fn is_id(id: &[u8]) -> bool {
+    id.iter().all(|byte| matches!(byte, 32..=126))
+}
+
+// The barcode with this content.
+fn bars(alloc: Global, form: Form, mode: u8, content: &[u8]) -> Result<Option<Command>, Fail> {
+    let Some(symbology) = symbology_of(form, mode) else {
+        return Ok(None);
+    };
+    if !begins_content(symbology, content.len(), content) {
+        return Ok(None);
+    }
+    let bars = Bars::new(form, symbology, content.to_vec(alloc)?)?;
+    Ok(Some(Command::Bars(bars)))
+}
+
+// Whether a content that begins so goes on, at some length.
+fn begins_form_a(mode: u8, content: &[u8]) -> bool {
+    symbology_of(Form::A, mode).is_some_and(|symbology| {
+        (content.len()..=255).any(|length| begins_content(symbology, length, content))
+    })
+}
+
+// Whether a length and a content that begin so go on.
+fn begins_form_b(mode: u8, rest: &[u8]) -> bool {
+    match (symbology_of(Form::B, mode), rest) {
+        (None, _) => false,
+        (Some(_), []) => true,
+        (Some(symbology), [length, content @ ..]) => {
+            let length = *length as usize;
+            content.len() < length && begins_content(symbology, length, content)
+        }
+    }
+}
+
+// The symbology with this mode.
+fn symbology_of(form: Form, mode: u8) -> Option<Symbology> {
+    match (form, mode) {
+        (Form::A, 0) | (Form::B, 65) => Some(Symbology::UpcA),
+        (Form::A, 2) | (Form::B, 67) => Some(Symbology::Ean13),
+        (Form::A, 3) | (Form::B, 68) => Some(Symbology::Ean8),
+        (Form::A, 4) | (Form::B, 69) => Some(Symbology::Code39),
+        (Form::A, 5) | (Form::B, 70) => Some(Symbology::Itf),
+        (Form::A, 6) | (Form::B, 71) => Some(Symbology::Codabar),
+        (Form::B, 73) => Some(Symbology::Code128),
+        _ => None,
+    }
+}
+
+// Whether there are contents of this length, and one of them begins with these bytes.
+fn begins_content(symbology: Symbology, length: usize, bytes: &[u8]) -> bool {
+    has_length(symbology, length)
+        && bytes
+            .iter()
+            .enumerate()
+            .all(|(place, byte)| allows(symbology, length, place, *byte))
+}
+
+// Whether there are contents of this length.
+fn has_length(symbology: Symbology, length: usize) -> bool {
+    match symbology {
+        Symbology::UpcA => [11, 12].contains(&length),
+        Symbology::Ean13 => [12, 13].contains(&length),
+        Symbology::Ean8 => [7, 8].contains(&length),
+        Symbology::Code39 => 1 <= length && length <= 255,
+        Symbology::Itf => 2 <= length && length <= 254 && length % 2 == 0,
+        Symbology::Codabar | Symbology::Code128 => 2 <= length && length <= 255,
+    }
+}
+
+// Whether a content of this length may have this byte at this place, counted from 0.
+fn allows(symbology: Symbology, length: usize, place: usize, byte: u8) -> bool {
+    let allowed: &[u8] = match (symbology, place) {
+        (Symbology::Code39, _) => b"0123456789ABCDEFGHIJKLMNOPQRSTUVWXYZ $%*+-./",
+        (Symbology::Codabar, 0) => b"ABCDabcd",
+        (Symbology::Codabar, _) if place.checked_add(1) == Some(length) => b"ABCDabcd",
+        (Symbology::Codabar, _) => b"0123456789$+-./:",
+        (Symbology::Code128, 0) => b"{",
+        (Symbology::Code128, 1) => b"ABC",
+        (Symbology::Code128, _) => return byte <= 127,
+        _ => b"0123456789",
+    };
+    allowed.contains(&byte)
+}
+
+// The raster with this size and these dots.
+fn raster(alloc: Global, mode: u8, rest: &[u8]) -> Result<Option<Command>, Fail> {
+    let [x_low, x_high, y_low, y_high, dots @ ..] = rest else {
+        return Ok(None);
+    };
+    let x = u16::from_le_bytes([*x_low, *x_high]);
+    let y = u16::from_le_bytes([*y_low, *y_high]);
+    if !begins_size(&rest[..4]) || dots.len() != x as usize * y as usize {
+        return Ok(None);
+    }
+    let raster = Raster::new(mode, x, y, dots.to_vec(alloc)?)?;
+    Ok(Some(Command::Raster(raster)))
+}
+
+// Whether a size and dots that begin so go on.
+fn begins_raster(rest: &[u8]) -> bool {
+    match rest {
+        [x_low, x_high, y_low, y_high, dots @ ..] => {
+            let x = u16::from_le_bytes([*x_low, *x_high]);
+            let y = u16::from_le_bytes([*y_low, *y_high]);
+            begins_size(&rest[..4]) && dots.len() < x as usize * y as usize
+        }
+        _ => begins_size(rest),
+    }
+}
+
+// Whether some raster's size begins with these bytes: xL, xH, yL and yH.
+fn begins_size(bytes: &[u8]) -> bool {
+    let (x, y) = bytes.split_at(bytes.len().min(2));
+    (1..=128u16).any(|width| width.to_le_bytes().starts_with(x))
+        && (1..=4095u16).any(|height| height.to_le_bytes().starts_with(y))
+}

@@ -1,0 +1,62 @@
+//! Barcodes and rasters as items of the paper. Their bytes are moved there and not copied.
+
+ghost use Rattle.std.specs.Prelude.{◌≡◌};
+ghost use Rattle.escpos_paper.specs.CheckDigit.{lacks_check_digit, added_digit};
+ghost use Rattle.escpos_paper.specs.Printed.{bars_item, raster_item};
+
+use crate::content::{Content, Dots};
+use crate::digits::check_digit;
+use crate::item::Item;
+use crate::style::BarStyle;
+use escpos_command::{Alignment, Bars, Raster, Symbology};
+
+/// A barcode in these settings, with the check digit that its content lacks.
+pub fn bars_item(align: Alignment, style: BarStyle, bars: Bars) -> Item
+    ensures { result ≡ bars_item align style bars }
+{
+    Item::Bars {
+        align,
+        symbology: bars.symbology(),
+        height: style.height,
+        module: style.module_width,
+        place: style.place,
+        hri_font: style.hri_font,
+        added: added_digit(&bars),
+        content: Content::of(bars),
+    }
+}
+
+/// A raster.
+pub fn raster_item(align: Alignment, raster: Raster) -> Item
+    ensures { result ≡ raster_item align raster }
+{
+    Item::Raster {
+        align,
+        scale: raster.scale(),
+        x: raster.width(),
+        y: raster.height(),
+        dots: Dots::of(raster),
+    }
+}
+
+// The check digit that the content of a barcode lacks.
+fn added_digit(bars: &Bars) -> Option<u8>
+    ensures { result ≡ added_digit bars.now.symbology bars.now.content }
+{
+    let content = bars.content();
+    if lacks_check_digit(bars.symbology(), content.len()) {
+        Some(check_digit(content))
+    } else {
+        None
+    }
+}
+
+// Whether a content of so many bytes has no check digit, though its symbology has one.
+fn lacks_check_digit(symbology: Symbology, length: usize) -> bool
+    ensures { result ≡ lacks_check_digit symbology length }
+{
+    matches!(
+        (symbology, length),
+        (Symbology::UpcA, 11) | (Symbology::Ean13, 12) | (Symbology::Ean8, 7)
+    )
+}

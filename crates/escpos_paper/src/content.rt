@@ -1,0 +1,93 @@
+//! The bytes that a barcode or a raster brings onto the paper. They are moved there from the command and not copied.
+
+ghost use Rattle.std.specs.Prelude.{◌≡◌, ◌≤◌, length};
+
+use escpos_command::{Bars, Bytes, Raster};
+use std::marker::Model;
+
+#[cfg(test)]
+mod tests;
+
+/// The most bytes that the content of a barcode has.
+pub const CONTENT_BYTES: usize = 255;
+
+const _: () = prove!(CONTENT_BYTES == 255);
+
+/// The most bytes that the dots of a raster have: 128 to a row, and 4,095 rows.
+pub const DOT_BYTES: usize = 524_160;
+
+const _: () = prove!(DOT_BYTES == 524_160);
+
+/// The content of a barcode: at most 255 bytes.
+#[derive(Debug, Drop)]
+pub struct Content {
+    bytes: Bytes,
+}
+
+impl Model for Content {
+    ghost use Rattle.std.specs.Prelude.{List, ℕ, ◌≤◌, length};
+    ghost use Rattle.escpos_paper.specs.declared.content.TheConstants.{CONTENT_BYTES};
+
+    ghost Value = { List ℕ };
+
+    ghost view = { λ c. c.bytes };
+
+    ghost invariant = { λ c. length c.bytes ≤ CONTENT_BYTES };
+}
+
+impl Content {
+    /// The content of a barcode. Takes no memory.
+    pub fn of(bars: Bars) -> Self
+        ensures { result ≡ bars.content }
+    {
+        let _ = bars.content();
+        Content {
+            bytes: bars.into_content(),
+        }
+    }
+
+    /// The content as a slice.
+    pub fn as_slice(&self) -> &[u8]
+        ensures content { result.now ≡ self.now }
+        ensures few { length result.now ≤ CONTENT_BYTES }
+    {
+        self.bytes.as_slice()
+    }
+}
+
+/// The dots of a raster, row by row from the top, eight to a byte: at most 524,160 bytes.
+#[derive(Debug, Drop)]
+pub struct Dots {
+    dots: Bytes,
+}
+
+impl Model for Dots {
+    ghost use Rattle.std.specs.Prelude.{List, ℕ, ◌≤◌, length};
+    ghost use Rattle.escpos_paper.specs.declared.content.TheConstants.{DOT_BYTES};
+
+    ghost Value = { List ℕ };
+
+    ghost view = { λ d. d.dots };
+
+    ghost invariant = { λ d. length d.dots ≤ DOT_BYTES };
+}
+
+impl Dots {
+    /// The dots of a raster. Takes no memory.
+    pub fn of(raster: Raster) -> Self
+        ensures { result ≡ raster.dots }
+    {
+        let _ = raster.dots();
+        Dots {
+            dots: raster.into_dots(),
+        }
+    }
+
+    /// The dots as a slice.
+    pub fn as_slice(&self) -> &[u8]
+        ensures dots { result.now ≡ self.now }
+        ensures few { length result.now ≤ DOT_BYTES }
+    {
+        self.dots.as_slice()
+    }
+}

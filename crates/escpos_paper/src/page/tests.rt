@@ -1,0 +1,16 @@
+//! The room of a long page, which no contract bounds.
+
+use super::*;
+use std::test::Fail;
+
+// It takes items in any number, and never more than twice the room that they need.
+#[test]
+fn room_is_modest(rt: HostRuntime) -> Result<(), Fail> {
+    let mut page = Page::new(rt.alloc());
+    for _ in 0..200_000 {
+        page.apply(Command::LineFeed)?;
+    }
+    assert_eq!(rt; page.items().len(), 200_000);
+    assert!(rt; page.paper.items.capacity() <= 2 * (200_000 + MOST_ITEMS));
+    Ok(())
+}
