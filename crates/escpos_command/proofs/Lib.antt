@@ -8,3 +8,5 @@ pub mod Readings
 pub mod FirstProfile
 pub mod Ids
 pub mod Copied
+pub mod Resynchronisation
+pub mod Hearing

@@ -12,3 +12,5 @@ pub mod Laws
 pub mod Text
 pub mod Copied
 pub mod Chars
+pub mod Marks
+pub mod Answers

@@ -10,6 +10,10 @@ ghost use Rattle.escpos_command.specs.Parameters.{is_mark_id};
 ghost use Rattle.escpos_command.specs.Digits.{mark_count, mark_of};
 ghost use Rattle.escpos_command.specs.Tree.{Tree, dead, leaf, node, walk, grammar};
 ghost use Rattle.escpos_command.specs.FirstProfile.{ReadsFirst, FaultAtFirst, IsNew};
+ghost use Rattle.escpos_command.specs.Marks.{IsMarkOrNone};
+ghost use Rattle.escpos_command.specs.Answers.{AnswerSpells, Hears};
+ghost use Rattle.escpos_command.specs.declared.answer.Answer.{Answer};
+ghost use Rattle.escpos_command.specs.declared.command.Command.TheVariants as kind;
 ghost use Rattle.escpos_command.specs.Laws.{longest_spelling, IsRead, IsRefused};
 
 use crate::command::Command;
@@ -57,6 +61,22 @@ pub fn first_profile()
 pub fn mark_numbers()
     ensures ids { (n : ℕ) → n < mark_count → IsTrue (is_mark_id (mark_of n)) }
     ensures one_number { (m n : ℕ) → m < mark_count → n < mark_count → mark_of m ≡ mark_of n → m ≡ n }
+{}
+
+/// Resynchronisation: whatever came before a mark, a front of it is read as no mark, or nothing stood before it and the front
+/// is all of it; then the mark is what is read. So a mark that is read was read at its own place.
+pub fn resynchronisation()
+    ensures { (half q more id : List ℕ) (cs : List Command) (rest : List ℕ) → (half ≡ []) ⊎ Half half → IsTrue (is_mark_id id) → q ≢ []
+        → row (kind.Mark id) ≡ q ++ more → Reads (half ++ q) cs rest → IsMarkOrNone half more id cs }
+{}
+
+/// Answers: each has its bytes, no answer begins another, and a list of bytes is heard in one way at most. What was heard goes
+/// on where it stopped.
+pub fn answers()
+    ensures one_answer { (a b : Answer) (bs : List ℕ) → AnswerSpells a bs → AnswerSpells b bs → a ≡ b }
+    ensures no_prefix { (a b : Answer) (bs more : List ℕ) → AnswerSpells a bs → AnswerSpells b (bs ++ more) → more ≡ [] }
+    ensures one_hearing { (bs : List ℕ) (some others : List Answer) (x y : List ℕ) → Hears bs some x → Hears bs others y → (some ≡ others) × (x ≡ y) }
+    ensures joined { (a b : List ℕ) (some others : List Answer) (r s : List ℕ) → Hears a some r → Hears (r ++ b) others s → Hears (a ++ b) (some ++ others) s }
 {}
 
 /// The tree of bytes: where a byte list leads in it says what the definitions say of the list. So a reader that

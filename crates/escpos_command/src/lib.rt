@@ -5,6 +5,7 @@
 //! follows from it. Bytes are read in the crate above.
 #![tactic(auto)]
 
+mod answer;
 mod bars;
 mod bytes;
 mod chars;
@@ -20,6 +21,7 @@ mod spelling;
 mod tests;
 mod writing;
 
+pub use answer::Answer;
 pub use bars::{BarFault, Bars, Form, Symbology, is_codabar, is_codabar_end, is_code39, is_digit};
 pub use bytes::{CR, DLE, EOT, ESC, GS, LF};
 pub use chars::{CharsFault, chars_of};

@@ -25,16 +25,20 @@ pub record PageView : Type 0 where
   pub sheet : Sheet
   pub room : ℕ
 
--- The page is what these commands leave on paper that held the items `kept`, from power-on styles and an
+-- The sheet is what these commands leave on paper that held the items `kept`, from power-on styles and an
 -- empty line.
-abbrev pub PageIs : PageView → List Item → List Command → Type 0
-PageIs page kept cs = page.sheet ≡ record {
+abbrev pub SheetIs : Sheet → List Item → List Command → Type 0
+SheetIs sheet kept cs = sheet ≡ record {
   items = kept ++ printed cs;
   style = style cs;
   bar_style = bar_style cs;
   alignment = alignment cs;
   line = line cs;
 }
+
+-- The same of a page, of whose room nothing is said.
+abbrev pub PageIs : PageView → List Item → List Command → Type 0
+PageIs page kept cs = SheetIs page.sheet kept cs
 
 -- The page is what some commands leave, on paper that held some items.
 pub record IsReached (page : PageView) : Type 0 where

@@ -1,0 +1,14 @@
+use Rattle.escpos_command.proofs.Hearing.{one_answer, no_prefix, one_hearing, joined}
+use Rattle.escpos_command.proofs.laws.answers.Goals as goal
+
+pub returns-clause-one_answer : goal.returns-clause-one_answer
+returns-clause-one_answer c = one_answer
+
+pub returns-clause-no_prefix : goal.returns-clause-no_prefix
+returns-clause-no_prefix c = no_prefix
+
+pub returns-clause-one_hearing : goal.returns-clause-one_hearing
+returns-clause-one_hearing c = one_hearing
+
+pub returns-clause-joined : goal.returns-clause-joined
+returns-clause-joined c = joined

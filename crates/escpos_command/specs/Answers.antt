@@ -1,0 +1,47 @@
+-- What a printer answers, and what a list of bytes from a printer says. As for commands, none of these definitions reads
+-- byte by byte: they ask for the bytes of an answer that exists, or speak of a whole list.
+use Rattle.std.specs.Prelude.{ℕ, ◌≡◌, ◌≢◌, ◌⊎◌, ◌&&◌, not, Bool, List, [], ◌∷◌, ◌++◌, IsTrue}
+use Rattle.std.specs.List.{flat_map, AllByRecursion}
+use Rattle.escpos_command.specs.declared.answer.Answer.{Answer}
+use Rattle.escpos_command.specs.declared.answer.Answer.TheVariants as answer
+use Rattle.escpos_command.specs.Meanings.{has_bit}
+use Rattle.escpos_command.specs.Parameters.{is_byte, is_mark_id}
+
+-- A status byte has the bits 1 and 4 set, and the bits 0 and 7 clear.
+abbrev pub is_status_byte : ℕ → Bool
+is_status_byte b = is_byte b && has_bit b 1 && has_bit b 4 && not (has_bit b 0) && not (has_bit b 7)
+
+-- The bytes of an answer: a status byte as it is, and 37 22, the id and 00 for a mark.
+abbrev pub answer_bytes : Answer → List ℕ
+answer_bytes (answer.Status b) = b ∷ []
+answer_bytes (answer.Mark id) = 0x37 ∷ 0x22 ∷ (id ++ 0x00 ∷ [])
+
+-- The answer is one that a printer gives.
+abbrev pub is_answer : Answer → Bool
+is_answer (answer.Status b) = is_status_byte b
+is_answer (answer.Mark id) = is_mark_id id
+
+-- These are the bytes of the answer.
+pub record AnswerSpells (a : Answer) (bs : List ℕ) : Type 0 where
+  pub in_range : IsTrue (is_answer a)
+  pub in_table : bs ≡ answer_bytes a
+
+-- The bytes are a front of some answer's, perhaps all of them. The empty list is.
+abbrev pub ViableAnswer : List ℕ → Type 0
+ViableAnswer bs = (a : Answer) × (more : List ℕ) × AnswerSpells a (bs ++ more)
+
+-- A half answer: some bytes of an answer, and not a whole one yet.
+pub record HalfAnswer (bs : List ℕ) : Type 0 where
+  pub begun : bs ≢ []
+  pub viable : ViableAnswer bs
+  pub no_answer : (a : Answer) → AnswerSpells a bs → ⊥
+
+-- The bytes of the answers, joined.
+abbrev pub spell_answers : List Answer → List ℕ
+spell_answers answers = flat_map answer_bytes answers
+
+-- The bytes are those of the answers, one after another, and then nothing or a half answer.
+pub record Hears (bs : List ℕ) (answers : List Answer) (rest : List ℕ) : Type 0 where
+  pub in_range : AllByRecursion (λ a. IsTrue (is_answer a)) answers
+  pub whole : bs ≡ spell_answers answers ++ rest
+  pub left : (rest ≡ []) ⊎ HalfAnswer rest

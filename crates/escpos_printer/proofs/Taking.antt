@@ -1,0 +1,265 @@
+-- What was taken, byte by byte and piece by piece.
+use Rattle.std.proofs.Common.{◌≡◌, ◌<◌, ◌≤◌, ◌+◌, ◌⊎◌, inl, inr, ℕ, List, [], ◌∷◌, ◌++◌, Bool, true, false, IsTrue, length, take, drop, add-one, ◌-◌, length-take, refl, sym, ◌∙◌, ap, subst, append_assoc, append-nil, length-append, arith, Some, None, ◌==◌, Ok, Err}
+use Rattle.std.specs.Prelude.{Result, OnErr, slice_index}
+use Rattle.std.proofs.Math.Seq.{take-suc, take-add}
+use Rattle.std.proofs.lemmas.List.{take-take}
+use Rattle.std.specs.Result.{is_err}
+use Rattle.std.specs.List.{AllByRecursion, flat_map}
+use Rattle.std.proofs.lemmas.Bool.Decides.{nat_tests}
+use Rattle.std.proofs.lemmas.Grind.{flat_map-append}
+use Rattle.escpos_command.specs.declared.answer.Answer.{Answer}
+use Rattle.escpos_command.specs.declared.command.Command.{Command}
+use Rattle.escpos_command.specs.declared.command.Command.TheVariants as kind
+use Rattle.escpos_command.specs.CommandTable.{Spells, row}
+use Rattle.escpos_command.specs.Grammar.{Viable, Half, Reads}
+use Rattle.escpos_decode.specs.declared.decoder.Ahead.{Ahead}
+use Rattle.escpos_decode.specs.declared.decoder.Ahead.TheVariants as ahead
+use Rattle.escpos_decode.specs.Push.{ahead_of, AheadIs}
+use Rattle.escpos_paper.specs.declared.item.Item.{Item}
+use Rattle.escpos_paper.specs.Page.{Sheet, SheetIs}
+use Rattle.escpos_printer.specs.declared.condition.Condition.{Condition}
+use Rattle.escpos_printer.specs.Replies.{is_offline, reply, replies}
+use Rattle.escpos_printer.specs.declared.printer.FeedStop.{FeedStop}
+use Rattle.escpos_printer.specs.declared.printer.FeedStop.TheVariants.{AnswersFull, Offline, Memory}
+use Rattle.escpos_printer.specs.Feeds.{PrinterView, Took, HasCause, IsPlace, IsLeft, PassesOffline, IsAnswered, is_status, most_waiting, is_command, obstacle}
+
+-- The law of joined readings, as the crate of the grammar offers it.
+abbrev pub JoinLaw : Type 0
+JoinLaw = (a b : List ℕ) (cs ds : List Command) (r s : List ℕ) → Reads a cs r → Reads (r ++ b) ds s → Reads (a ++ b) (cs ++ ds) s
+
+all_pass : (condition : Condition) (cs ds : List Command) → AllByRecursion (PassesOffline condition) cs → AllByRecursion (PassesOffline condition) ds → AllByRecursion (PassesOffline condition) (cs ++ ds)
+all_pass condition [] ds h k = k
+all_pass condition (c ∷ cs) ds h k = (h.0, all_pass condition cs ds h.1 k)
+
+-- What was taken after what was taken.
+pub took_on : JoinLaw → (p m q : PrinterView) (x y : List ℕ) (cs ds : List Command) → Took p x cs m → Took m y ds q → Took p (x ++ y) (cs ++ ds) q
+took_on join p m q x y cs ds t u = record {
+  reads = subst (λ v. Reads v (cs ++ ds) q.half) (append_assoc p.half x y) (join (p.half ++ x) y cs ds m.half q.half t.reads u.reads);
+  page = λ kept before h. subst (λ v. SheetIs q.sheet kept v) (append_assoc before cs ds) (u.page kept (before ++ cs) (t.page kept before h));
+  answers =
+      u.answers ∙ ap (λ v. v ++ replies m.condition ds) t.answers ∙ append_assoc p.waiting (replies p.condition cs) (replies m.condition ds)
+      ∙ ap (λ v. p.waiting ++ (replies p.condition cs ++ replies v ds)) t.condition
+      ∙ ap (λ v. p.waiting ++ v) (sym (flat_map-append (reply p.condition) cs ds));
+  condition = u.condition ∙ t.condition;
+  passes = all_pass p.condition cs ds t.passes (subst (λ v. AllByRecursion (PassesOffline v) ds) t.condition u.passes);
+  room = u.room;
+}
+
+-- Before any byte nothing was taken.
+pub took_none : (p : PrinterView) → (p.half ≡ []) ⊎ Half p.half → length p.waiting ≤ most_waiting → Took p [] [] p
+took_none p left room = record {
+  reads = record { commands = tt; whole = append-nil p.half; left = left };
+  page = λ kept before h. subst (λ v. SheetIs p.sheet kept v) (sym (append-nil before)) h;
+  answers = sym (append-nil p.waiting);
+  condition = refl;
+  passes = tt;
+  room = room;
+}
+
+-- ## What is told of a command ahead
+
+pub data Told (condition : Condition) (c : Command) : Ahead → Type 0 where
+  status : is_status c ≡ true → length (replies condition (c ∷ [])) ≡ 1 → Told condition c ahead.Status
+  mark : is_status c ≡ false → length (replies condition (c ∷ [])) ≡ 1 → Told condition c ahead.Mark
+  other : is_status c ≡ false → replies condition (c ∷ []) ≡ [] → Told condition c ahead.Other
+
+pub told : (condition : Condition) (c : Command) → Told condition c (ahead_of c)
+told condition (kind.Status n) = status refl refl
+told condition (kind.Mark id) = mark refl refl
+told condition c = other refl refl
+
+told_at : (condition : Condition) (c : Command) (a : Ahead) → ahead_of c ≡ a → Told condition c a
+told_at condition c a e = subst (λ v. Told condition c v) e (told condition c)
+
+number_is : (n : ℕ) → (n == most_waiting) ≡ true → n ≡ most_waiting
+number_is n h = grind (arith, nat_tests)
+
+fewer : (n : ℕ) → (n == most_waiting) ≡ false → n ≤ most_waiting → n < most_waiting
+fewer n h k = grind (arith, nat_tests)
+
+some_is : (a b : FeedStop) → Some a ≡ Some b → a ≡ b
+some_is a b e = cc
+
+online : (condition : Condition) → is_offline condition ≡ false → IsTrue (is_offline condition) → ⊥
+online condition e off = let h = sym e ∙ off in absurd cc
+
+-- ## A byte that isn't taken
+
+-- What stands in the way of the command that the byte would complete is a cause.
+pub blocked : (p : PrinterView) (b at : ℕ) (a : Ahead) (o f : Bool) (stop : FeedStop) → is_offline p.condition ≡ o → (length p.waiting == most_waiting) ≡ f
+    → AheadIs a p.half b → obstacle a o f ≡ Some stop → HasCause stop p b × IsPlace stop at × IsLeft stop p p
+blocked p b at ahead.Nothing o f stop eo ef h e = absurd cc
+blocked p b at ahead.Status o false stop eo ef h e = absurd cc
+blocked p b at ahead.Status o true stop eo ef h e =
+    elim (told_at p.condition h.0 ahead.Status h.2) [
+      | status is one ↦ subst (λ s. HasCause s p b × IsPlace s at × IsLeft s p p) (some_is AnswersFull stop e)
+          ((h.0, h.1, λ off. is, one, number_is (length p.waiting) ef), tt, refl)
+    ]
+blocked p b at ahead.Mark true f stop eo ef h e =
+    elim (told_at p.condition h.0 ahead.Mark h.2) [
+      | mark is one ↦ subst (λ s. HasCause s p b × IsPlace s at × IsLeft s p p) (some_is Offline stop e) ((h.0, h.1, eo, is), tt, refl)
+    ]
+blocked p b at ahead.Mark false false stop eo ef h e = absurd cc
+blocked p b at ahead.Mark false true stop eo ef h e =
+    elim (told_at p.condition h.0 ahead.Mark h.2) [
+      | mark is one ↦ subst (λ s. HasCause s p b × IsPlace s at × IsLeft s p p) (some_is AnswersFull stop e)
+          ((h.0, h.1, λ off. absurd (online p.condition eo off), one, number_is (length p.waiting) ef), tt, refl)
+    ]
+blocked p b at ahead.Other true f stop eo ef h e =
+    elim (told_at p.condition h.0 ahead.Other h.2) [
+      | other is none ↦ subst (λ s. HasCause s p b × IsPlace s at × IsLeft s p p) (some_is Offline stop e) ((h.0, h.1, eo, is), tt, refl)
+    ]
+blocked p b at ahead.Other false f stop eo ef h e = absurd cc
+
+-- The law of unique spellings: two commands with one spelling are equal.
+abbrev pub OneCommand : Type 0
+OneCommand = (c d : Command) (a : List ℕ) → Spells c a → Spells d a → c ≡ d
+
+-- What may be said of a command where nothing stands in its way.
+pub clear_way : (p : PrinterView) (c : Command) (a : Ahead) (o f : Bool) → is_offline p.condition ≡ o → (length p.waiting == most_waiting) ≡ f → length p.waiting ≤ most_waiting
+    → Told p.condition c a → obstacle a o f ≡ None → PassesOffline p.condition c × (IsAnswered p.condition c → length p.waiting < most_waiting)
+clear_way p c ahead.Nothing o f eo ef room t e = elim t [ ]
+clear_way p c ahead.Status o true eo ef room (status is one) e = absurd cc
+clear_way p c ahead.Status o false eo ef room (status is one) e = (λ off. is, λ h. fewer (length p.waiting) ef room)
+clear_way p c ahead.Mark true f eo ef room (mark is one) e = absurd cc
+clear_way p c ahead.Mark false true eo ef room (mark is one) e = absurd cc
+clear_way p c ahead.Mark false false eo ef room (mark is one) e = (λ off. absurd (online p.condition eo off), λ h. fewer (length p.waiting) ef room)
+clear_way p c ahead.Other true f eo ef room (other is none) e = absurd cc
+clear_way p c ahead.Other false f eo ef room (other is none) e = (λ off. absurd (online p.condition eo off), λ h. absurd (let k = ap length none in omega (arith, h, k)))
+
+-- What the byte would complete, where it would complete something.
+pub record Ahead_of (p : PrinterView) (b : ℕ) (a : Ahead) : Type 0 where
+  pub command : Command
+  pub spelled : Spells command (p.half ++ b ∷ [])
+  pub told : Told p.condition command a
+
+pub ahead_command : (p : PrinterView) (b : ℕ) (a : Ahead) → is_command a ≡ true → AheadIs a p.half b → Ahead_of p b a
+ahead_command p b ahead.Nothing is h = absurd cc
+ahead_command p b ahead.Status is h = record { command = h.0; spelled = h.1; told = told_at p.condition h.0 ahead.Status h.2 }
+ahead_command p b ahead.Mark is h = record { command = h.0; spelled = h.1; told = told_at p.condition h.0 ahead.Mark h.2 }
+ahead_command p b ahead.Other is h = record { command = h.0; spelled = h.1; told = told_at p.condition h.0 ahead.Other h.2 }
+
+-- For want of memory a byte that has no other cause isn't taken.
+pub unready : OneCommand → (p : PrinterView) (b : ℕ) (a : Ahead) (o f : Bool) → is_offline p.condition ≡ o → (length p.waiting == most_waiting) ≡ f → length p.waiting ≤ most_waiting
+    → is_command a ≡ true → AheadIs a p.half b → obstacle a o f ≡ None → HasCause Memory p b
+unready one p b a o f eo ef room is h e =
+    let k = ahead_command p b a is h in (
+      (k.command, [], subst (λ v. Spells k.command v) (sym (append-nil (p.half ++ b ∷ []))) k.spelled),
+      λ c s. clear_way p c a o f eo ef room (subst (λ v. Told p.condition v a) (one k.command c (p.half ++ b ∷ []) k.spelled s) k.told) e,
+    )
+
+pub where_err : {X E : Type 0} → (r : Result X E) (P : Type 0) → is_err r ≡ true → OnErr r P → P
+where_err (Ok x) P e h = absurd cc
+where_err (Err x) P e h = h
+
+pub unready_left : OneCommand → (p : PrinterView) (b at : ℕ) (a : Ahead) (o f : Bool) (sheet : Sheet) → is_offline p.condition ≡ o → (length p.waiting == most_waiting) ≡ f
+    → length p.waiting ≤ most_waiting → is_command a ≡ true → AheadIs a p.half b → obstacle a o f ≡ None → sheet ≡ p.sheet
+    → HasCause Memory p b × IsPlace Memory at × IsLeft Memory p (record { sheet = sheet; half = p.half; waiting = p.waiting; condition = p.condition })
+unready_left one p b at a o f sheet eo ef room is h e same =
+    (unready one p b a o f eo ef room is h e, tt, ap (λ v. record { sheet = v; half = p.half; waiting = p.waiting; condition = p.condition }) same)
+
+-- ## A byte that is taken
+
+-- It continues a command.
+pub more_taken : (p : PrinterView) (b : ℕ) (sheet : Sheet) (half : List ℕ) → Half (p.half ++ b ∷ []) → sheet ≡ p.sheet → half ≡ p.half ++ b ∷ [] → length p.waiting ≤ most_waiting
+    → Took p (b ∷ []) [] (record { sheet = sheet; half = half; waiting = p.waiting; condition = p.condition })
+more_taken p b sheet half h e f room = record {
+  reads = record { commands = tt; whole = sym f; left = inr (subst (λ v. Half v) (sym f) h) };
+  page = λ kept before is. subst (λ v. SheetIs sheet kept v) (sym (append-nil before)) (e ∙ is);
+  answers = sym (append-nil p.waiting);
+  condition = refl;
+  passes = tt;
+  room = room;
+}
+
+-- The command that a byte completes is the one that was told of.
+pub told_of : OneCommand → (p : PrinterView) (b : ℕ) (a : Ahead) (c : Command) → Spells c (p.half ++ b ∷ []) → AheadIs a p.half b → Told p.condition c a
+told_of one p b ahead.Nothing c s h = absurd (h c s)
+told_of one p b ahead.Status c s h = told_at p.condition c ahead.Status (ap ahead_of (one c h.0 (p.half ++ b ∷ []) s h.1) ∙ h.2)
+told_of one p b ahead.Mark c s h = told_at p.condition c ahead.Mark (ap ahead_of (one c h.0 (p.half ++ b ∷ []) s h.1) ∙ h.2)
+told_of one p b ahead.Other c s h = told_at p.condition c ahead.Other (ap ahead_of (one c h.0 (p.half ++ b ∷ []) s h.1) ∙ h.2)
+
+one_reply : (condition : Condition) (c : Command) → length (reply condition c ++ []) ≡ length (reply condition c)
+one_reply condition c = ap length (append-nil (reply condition c))
+
+-- Its answer has room.
+pub reply_fits : (p : PrinterView) (c : Command) (a : Ahead) → length p.waiting ≤ most_waiting → Told p.condition c a
+    → (IsAnswered p.condition c → length p.waiting < most_waiting) → length p.waiting + length (reply p.condition c) ≤ most_waiting
+reply_fits p c ahead.Nothing room t free = elim t [ ]
+reply_fits p c ahead.Status room (status is one) free = let k = one_reply p.condition c in let fits = free one in omega (arith, one, k, fits)
+reply_fits p c ahead.Mark room (mark is one) free = let k = one_reply p.condition c in let fits = free one in omega (arith, one, k, fits)
+reply_fits p c ahead.Other room (other is none) free = let k = one_reply p.condition c in let l = ap length none in omega (arith, l, k, room)
+
+-- It completes a command.
+pub done_taken : (p q : PrinterView) (b : ℕ) (c : Command) → Spells c (p.half ++ b ∷ [])
+    → ((kept : List Item) (cs : List Command) → SheetIs p.sheet kept cs → SheetIs q.sheet kept (cs ++ c ∷ []))
+    → q.half ≡ [] → q.waiting ≡ p.waiting ++ reply p.condition c → q.condition ≡ p.condition → PassesOffline p.condition c → length q.waiting ≤ most_waiting
+    → Took p (b ∷ []) (c ∷ []) q
+done_taken p q b c s page none waits same passes room = record {
+  reads = record {
+    commands = (s.in_range, tt);
+    whole = s.in_table ∙ sym (append-nil (row c)) ∙ sym (append-nil (row c ++ [])) ∙ ap (λ v. (row c ++ []) ++ v) (sym none);
+    left = inl none;
+  };
+  page = page;
+  answers = waits ∙ ap (λ v. p.waiting ++ v) (sym (append-nil (reply p.condition c)));
+  condition = same;
+  passes = (passes, tt);
+  room = room;
+}
+
+-- What is told of a command ahead lets it pass, and leaves room for its answer.
+pub record Passes (p : PrinterView) (c : Command) : Type 0 where
+  pub offline : PassesOffline p.condition c
+  pub fits : length p.waiting + length (reply p.condition c) ≤ most_waiting
+
+pub passes : OneCommand → (p : PrinterView) (b : ℕ) (a : Ahead) (o f : Bool) (c : Command) → is_offline p.condition ≡ o → (length p.waiting == most_waiting) ≡ f
+    → length p.waiting ≤ most_waiting → Spells c (p.half ++ b ∷ []) → AheadIs a p.half b → obstacle a o f ≡ None → Passes p c
+passes one p b a o f c eo ef room s h e =
+    let t = told_of one p b a c s h in
+    let free = clear_way p c a o f eo ef room t e in
+    record { offline = free.0; fits = reply_fits p c a room t free.1 }
+
+pub room_after : (xs ys zs : List Answer) → zs ≡ xs ++ ys → length xs + length ys ≤ most_waiting → length zs ≤ most_waiting
+room_after xs ys zs e h = let k = ap length e ∙ length-append xs ys in omega (arith, k, h)
+
+pub done_by : (p q : PrinterView) (b : ℕ) (c : Command) → Passes p c → Spells c (p.half ++ b ∷ [])
+    → ((kept : List Item) (cs : List Command) → SheetIs p.sheet kept cs → SheetIs q.sheet kept (cs ++ c ∷ []))
+    → q.half ≡ [] → q.waiting ≡ p.waiting ++ reply p.condition c → q.condition ≡ p.condition → Took p (b ∷ []) (c ∷ []) q
+done_by p q b c pass s page none waits same =
+    done_taken p q b c s page none waits same pass.offline (room_after p.waiting (reply p.condition c) q.waiting waits pass.fits)
+
+-- ## A run of dots, and a piece
+
+-- A run of bytes that end no command.
+pub run_taken : (p : PrinterView) (run half : List ℕ) → (p.half ≡ []) ⊎ Half p.half → length p.waiting ≤ most_waiting
+    → ((a : List ℕ) (cs : List Command) → Reads a cs p.half → Reads (a ++ run) cs half)
+    → Took p run [] (record { sheet = p.sheet; half = half; waiting = p.waiting; condition = p.condition })
+run_taken p run half left room on = record {
+  reads = on p.half [] (record { commands = tt; whole = refl; left = left });
+  page = λ kept before is. subst (λ v. SheetIs p.sheet kept v) (sym (append-nil before)) is;
+  answers = sym (append-nil p.waiting);
+  condition = refl;
+  passes = tt;
+  room = room;
+}
+
+-- These bytes were taken, and read as some commands.
+abbrev pub TookSome : PrinterView → List ℕ → PrinterView → Type 0
+TookSome p bytes q = (cs : List Command) × Took p bytes cs q
+
+pub some_on : JoinLaw → (p m q : PrinterView) (x y : List ℕ) → TookSome p x m → TookSome m y q → TookSome p (x ++ y) q
+some_on join p m q x y t u = (t.0 ++ u.0, took_on join p m q x y t.0 u.0 t.1 u.1)
+
+-- One more byte of a piece, and a run after it.
+pub one_and_run : JoinLaw → (p m q r : PrinterView) (piece : List ℕ) (k n most : ℕ) → k < length piece → n ≤ most → TookSome p (take k piece) m
+    → TookSome m (slice_index piece k ∷ []) q → TookSome q (take n (take most (drop (k + 1) piece))) r → TookSome p (take (k + 1 + n) piece) r
+one_and_run join p m q r piece k n most h few t u v =
+    let one : take k piece ++ slice_index piece k ∷ [] ≡ take (k + 1) piece = sym (rw (add-one, take-suc piece k 0) refl) in
+    let front = subst (λ w. TookSome p w q) one (some_on join p m q (take k piece) (slice_index piece k ∷ []) t u) in
+    let run = subst (λ w. TookSome q w r) (take-take n most (drop (k + 1) piece) few) v in
+    subst (λ w. TookSome p w r) (sym (take-add (k + 1) n piece)) (some_on join p q r (take (k + 1) piece) (take n (drop (k + 1) piece)) front run)
+
+-- The run is within the piece.
+pub run_within : (piece : List ℕ) (k n : ℕ) → k < length piece → n ≤ length (take (length piece - (k + 1)) (drop (k + 1) piece)) → n ≤ length piece - (k + 1)
+run_within piece k n h few = let short = length-take (length piece - (k + 1)) (drop (k + 1) piece) in omega arith

@@ -1,0 +1,103 @@
+-- What feeding a piece of a stream to a printer comes to. It speaks of the whole piece; the code takes it byte by byte.
+use Rattle.std.specs.Prelude.{ℕ, ◌≡◌, ◌<◌, ◌≤◌, ◌⊎◌, Bool, true, false, IsTrue, List, [], ◌∷◌, ◌++◌, length, take, slice_index, Option, Some, None, if◌then◌else◌}
+use Rattle.std.specs.List.{AllByRecursion}
+use Rattle.escpos_command.specs.declared.answer.Answer.{Answer}
+use Rattle.escpos_command.specs.declared.command.Command.{Command}
+use Rattle.escpos_command.specs.declared.command.Command.TheVariants as kind
+use Rattle.escpos_command.specs.CommandTable.{Spells}
+use Rattle.escpos_command.specs.Grammar.{Viable, Reads, FaultAt}
+use Rattle.escpos_decode.specs.declared.decoder.Ahead.{Ahead}
+use Rattle.escpos_decode.specs.declared.decoder.Ahead.TheVariants as ahead
+use Rattle.escpos_paper.specs.declared.item.Item.{Item}
+use Rattle.escpos_paper.specs.Page.{Sheet, SheetIs}
+use Rattle.escpos_printer.specs.declared.condition.Condition.{Condition}
+use Rattle.escpos_printer.specs.declared.printer.FeedStop.{FeedStop}
+use Rattle.escpos_printer.specs.declared.printer.FeedStop.TheVariants.{All, AnswersFull, Offline, Fault, Memory}
+use Rattle.escpos_printer.specs.Replies.{is_offline, replies}
+
+-- How a printer is seen: what is on its paper and what commands have left there, the half command, the answers that
+-- wait, and what its sensors say.
+pub record PrinterView : Type 0 where
+  pub sheet : Sheet
+  pub half : List ℕ
+  pub waiting : List Answer
+  pub condition : Condition
+
+-- How many answers wait at most.
+abbrev pub most_waiting : ℕ
+most_waiting = 16
+
+-- Offline no command but a status request is carried out.
+abbrev pub is_status : Command → Bool
+is_status (kind.Status n) = true
+is_status _ = false
+
+abbrev pub PassesOffline : Condition → Command → Type 0
+PassesOffline condition c = IsTrue (is_offline condition) → IsTrue (is_status c)
+
+-- A command is answered.
+abbrev pub IsAnswered : Condition → Command → Type 0
+IsAnswered condition c = length (replies condition (c ∷ [])) ≡ 1
+
+-- These bytes were taken and read as these commands: the page took the commands, their answers wait, offline all of them
+-- are status requests, and no more answers wait than may.
+pub record Took (before : PrinterView) (bytes : List ℕ) (commands : List Command) (after : PrinterView) : Type 0 where
+  pub reads : Reads (before.half ++ bytes) commands after.half
+  pub page : (kept : List Item) (cs : List Command) → SheetIs before.sheet kept cs → SheetIs after.sheet kept (cs ++ commands)
+  pub answers : after.waiting ≡ before.waiting ++ replies before.condition commands
+  pub condition : after.condition ≡ before.condition
+  pub passes : AllByRecursion (PassesOffline before.condition) commands
+  pub room : length after.waiting ≤ most_waiting
+
+-- Why the byte after the half command of this printer isn't taken. Of several causes at one byte the first of these
+-- counts: a fault, a printer that is offline, answers that would be too many, want of memory.
+abbrev pub HasCause : FeedStop → PrinterView → ℕ → Type 0
+HasCause All printer b = ⊥
+HasCause (Fault at why) printer b = FaultAt (printer.half ++ b ∷ []) [] printer.half (length printer.half) why
+HasCause Offline printer b =
+    (c : Command) × Spells c (printer.half ++ b ∷ []) × IsTrue (is_offline printer.condition) × (is_status c ≡ false)
+HasCause AnswersFull printer b =
+    (c : Command) × Spells c (printer.half ++ b ∷ []) × PassesOffline printer.condition c × IsAnswered printer.condition c
+    × (length printer.waiting ≡ most_waiting)
+HasCause Memory printer b =
+    Viable (printer.half ++ b ∷ [])
+    × ((c : Command) → Spells c (printer.half ++ b ∷ []) → PassesOffline printer.condition c
+    × (IsAnswered printer.condition c → length printer.waiting < most_waiting))
+
+-- The half command after a stop: a fault drops it.
+abbrev pub left_half : FeedStop → List ℕ → List ℕ
+left_half (Fault at why) half = []
+left_half _ half = half
+
+-- A fault names the place of the byte in the piece.
+abbrev pub IsPlace : FeedStop → ℕ → Type 0
+IsPlace (Fault at why) k = at ≡ k
+IsPlace _ k = Unit {0}
+
+-- What a stop leaves of the printer that took the bytes before it.
+abbrev pub IsLeft : FeedStop → PrinterView → PrinterView → Type 0
+IsLeft stop taken after =
+    after ≡ record { sheet = taken.sheet; half = left_half stop taken.half; waiting = taken.waiting; condition = taken.condition }
+
+-- The first k bytes of the piece were taken, and then the piece has ended, or the byte after them isn't taken for this
+-- cause. No byte before it has a cause: these bytes are read, and the commands that they complete are taken.
+pub record Feeds (before : PrinterView) (piece : List ℕ) (k : ℕ) (stop : FeedStop) (after : PrinterView) : Type 0 where
+  pub commands : List Command
+  pub taken : PrinterView
+  pub within : k ≤ length piece
+  pub took : Took before (take k piece) commands taken
+  pub cause : ((stop ≡ All) × (k ≡ length piece)) ⊎ ((k < length piece) × HasCause stop taken (slice_index piece k))
+  pub place : IsPlace stop k
+  pub left : IsLeft stop taken after
+
+-- What stands in the way of a command of which this is told. Offline only status requests are completed; where 16 answers
+-- wait, none that is answered.
+abbrev pub obstacle : Ahead → Bool → Bool → Option FeedStop
+obstacle ahead.Nothing offline full = None
+obstacle ahead.Status offline full = if full then Some AnswersFull else None
+obstacle ahead.Mark offline full = if offline then Some Offline else if full then Some AnswersFull else None
+obstacle ahead.Other offline full = if offline then Some Offline else None
+
+abbrev pub is_command : Ahead → Bool
+is_command ahead.Nothing = false
+is_command _ = true

@@ -1,0 +1,56 @@
+//! What the sensors of a printer say, and what it answers by them.
+
+ghost use Rattle.std.specs.Prelude.{◌≡◌, option_to_list};
+ghost use Rattle.escpos_printer.specs.Replies.{is_offline, where_set, status, reply};
+
+use escpos_command::{Answer, Command, StatusKind};
+
+/// What the sensors of a printer say. (Reference: DLE EOT.)
+#[derive(Clone, Copy, Debug, PartialEq, Eq)]
+pub struct Condition {
+    /// The cover is open.
+    pub cover_open: bool,
+    /// The paper is near its end.
+    pub near_end: bool,
+    /// The paper has ended.
+    pub paper_end: bool,
+}
+
+impl Condition {
+    /// Whether the printer is offline: its cover is open, or its paper has ended.
+    pub fn is_offline(self) -> bool
+        ensures { result ≡ is_offline self }
+    {
+        self.cover_open || self.paper_end
+    }
+
+    /// The status byte of this kind. (Reference: DLE EOT.)
+    pub fn status(self, kind: StatusKind) -> u8
+        ensures { result ≡ status kind self }
+    {
+        match kind.byte() {
+            1 => 0x12 + where_set(self.is_offline(), 0x08),
+            2 => 0x12 + where_set(self.cover_open, 0x04) + where_set(self.paper_end, 0x20),
+            4 => 0x12 + where_set(self.near_end, 0x0C) + where_set(self.paper_end, 0x60),
+            _ => 0x12,
+        }
+    }
+
+    /// The answer to a command: a status byte to a status request, and its id to a mark; none to all others.
+    pub fn reply(self, command: &Command) -> Option<Answer>
+        ensures { option_to_list result ≡ reply self command.now }
+    {
+        match command {
+            Command::Status(kind) => Some(Answer::Status(self.status(*kind))),
+            Command::Mark(id) => Some(Answer::Mark(*id)),
+            _ => None,
+        }
+    }
+}
+
+// These bits, where they are set.
+fn where_set(set: bool, bits: u8) -> u8
+    ensures { result ≡ where_set set bits }
+{
+    if set { bits } else { 0 }
+}

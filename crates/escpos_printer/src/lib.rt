@@ -1,0 +1,13 @@
+//! A receipt printer: it takes a stream of bytes in pieces, prints, and answers status requests and marks.
+//!
+//! `printer` has the core, which neither reads nor writes: it is fed pieces, and its answers are taken. `condition` has what
+//! its sensors say. `specs/Feeds.antt` says what feeding a piece comes to.
+#![tactic(auto)]
+
+mod condition;
+mod printer;
+#[cfg(test)]
+mod tests;
+
+pub use condition::Condition;
+pub use printer::{Fed, FeedStop, MOST_WAITING, Printer};

@@ -1,0 +1,261 @@
+//! The printer's core: it is fed pieces of a stream, prints, and keeps its answers until they are taken.
+//!
+//! Everything that changes a printer stands here. A byte is looked at before it is taken: what it would complete decides
+//! whether it may be taken now, and room on the page is made for that command; so a byte that isn't taken changes nothing.
+
+ghost use Rattle.std.specs.Prelude.{◌≡◌, ◌≤◌, ◌<◌, ◌+◌, ℕ, List, [], ◌∷◌, ◌++◌, length, take, drop, slice_get, not, true, IfOk, OnOk, OnErr, IfErr};
+ghost use Rattle.escpos_command.specs.declared.command.Command.{Command};
+ghost use Rattle.escpos_command.specs.Laws.{longest_spelling};
+ghost use Rattle.escpos_decode.specs.Push.{IsRest};
+ghost use Rattle.escpos_paper.specs.Page.{SheetIs};
+ghost use Rattle.escpos_printer.specs.Replies.{is_offline, reply};
+ghost use Rattle.escpos_printer.specs.Feeds.{Feeds, Took, HasCause, IsPlace, IsLeft, most_waiting, is_command, obstacle};
+
+use crate::condition::Condition;
+use circular_buffer::HeapCircularBuffer;
+use escpos_command::{Answer, Command, FaultReason, laws};
+use escpos_decode::{Ahead, DecodeFault, Decoder, Step};
+use escpos_paper::{Item, MOST_ITEMS, Page};
+use std::alloc::{AllocError, Global};
+use std::marker::Model;
+
+/// The most answers that wait in a printer.
+pub const MOST_WAITING: usize = 16;
+
+const _: () = prove!(MOST_WAITING == 16);
+
+/// A printer: its page, the half command, the answers that wait, and what its sensors say.
+#[derive(Drop)]
+pub struct Printer {
+    page: Page,
+    decoder: Decoder,
+    waiting: HeapCircularBuffer<Answer>,
+    condition: Condition,
+}
+
+impl Model for Printer {
+    ghost use Rattle.std.specs.Prelude.{◌≡◌, ◌≤◌, length};
+    ghost use Rattle.escpos_decode.specs.Push.{IsRest};
+    ghost use Rattle.escpos_printer.specs.Feeds.{PrinterView, most_waiting};
+
+    ghost Value = { PrinterView };
+
+    ghost view = { λ p. record {
+      sheet = p.page.sheet;
+      half = p.decoder;
+      waiting = p.waiting.items;
+      condition = p.condition;
+    } };
+
+    // It holds nothing or a half command, and no more answers than may wait.
+    ghost invariant = { λ p. IsRest p.decoder × (p.waiting.capacity ≡ most_waiting) × (length p.waiting.items ≤ most_waiting) };
+}
+
+/// Why feeding a piece ended, and where.
+#[derive(Clone, Copy, Debug, PartialEq, Eq)]
+pub enum FeedStop {
+    /// The piece has ended: all its bytes were taken.
+    All,
+    /// The next byte would complete a status request or a mark, and 16 answers wait.
+    AnswersFull,
+    /// The next byte would complete a command other than a status request, and the printer is offline.
+    Offline,
+    /// No command goes on with the next byte, the one at this place of the piece. The half command is dropped.
+    Fault { at: usize, why: FaultReason },
+    /// There is no memory for the next byte.
+    Memory,
+}
+
+/// How far a piece was fed.
+#[derive(Clone, Copy, Debug, PartialEq, Eq)]
+pub struct Fed {
+    /// The number of bytes that were taken.
+    pub consumed: usize,
+    /// Why no more were.
+    pub stop: FeedStop,
+}
+
+impl Printer {
+    /// A printer with nothing on its paper, switched on in this condition. The error is want of memory.
+    pub fn new(alloc: Global, condition: Condition) -> Result<Self, AllocError>
+        ensures sheet { IfOk result (λ printer. SheetIs printer.sheet [] []) }
+        ensures half { IfOk result (λ printer. printer.half ≡ []) }
+        ensures waiting { IfOk result (λ printer. printer.waiting ≡ []) }
+        ensures condition { IfOk result (λ printer. printer.condition ≡ condition) }
+    {
+        let waiting = HeapCircularBuffer::with_capacity(alloc, MOST_WAITING)?;
+        Ok(Printer {
+            page: Page::new(alloc),
+            decoder: Decoder::new(alloc),
+            waiting,
+            condition,
+        })
+    }
+
+    /// Takes the bytes of a piece, up to the first that can't be taken now.
+    ///
+    /// A byte that isn't taken changes nothing, but for a fault, which drops the half command. Of several causes at one
+    /// byte the first of these is given: Fault, Offline, AnswersFull, Memory.
+    pub fn feed(&mut self, piece: &[u8]) -> Fed
+        ensures { Feeds self.old piece.now result.consumed result.stop self.new }
+    {
+        laws::joined_readings();
+        self.is_sound();
+        let mut consumed = 0;
+        while consumed < piece.len() {
+            if let Err(stop) = self.feed_byte(piece[consumed], consumed) {
+                return Fed { consumed, stop };
+            }
+            consumed += 1;
+            consumed += self.feed_dots(&piece[consumed..]);
+        }
+        Fed {
+            consumed,
+            stop: FeedStop::All,
+        }
+    }
+
+    // Takes one byte, which stands at place `at` of its piece.
+    fn feed_byte(&mut self, byte: u8, at: usize) -> Result<(), FeedStop>
+        ensures taken { OnOk result ((commands : List Command) × Took self.old (byte ∷ []) commands self.new) }
+        ensures stopped { IfErr result (λ stop. HasCause stop self.old byte × IsPlace stop at × IsLeft stop self.old self.new) }
+    {
+        laws::unique_spellings();
+        let ahead = self.decoder.would_complete(byte);
+        if let Some(stop) = obstacle(ahead, self.condition.is_offline(), self.waiting.is_full()) {
+            return Err(stop);
+        }
+        if make_room(&mut self.page, ahead).is_err() {
+            return Err(FeedStop::Memory);
+        }
+        match self.decoder.push(byte) {
+            Ok(Step::More) => Ok(()),
+            Ok(Step::Done(command)) => {
+                put_reply(&mut self.waiting, self.condition, &command);
+                self.page.apply(command).unwrap();
+                Ok(())
+            }
+            Err(DecodeFault::Fault { why, .. }) => Err(FeedStop::Fault { at, why }),
+            Err(DecodeFault::Memory) => Err(FeedStop::Memory),
+        }
+    }
+
+    // Takes the dots of a raster at the front of `bytes`, all but its last, and answers how many they are.
+    fn feed_dots(&mut self, bytes: &[u8]) -> usize
+        ensures count { result ≤ length bytes.now }
+        ensures taken { Took self.old (take result bytes.now) [] self.new }
+    {
+        self.decoder.push_dots(bytes)
+    }
+
+    // It holds nothing or a half command, and no more answers than may wait.
+    fn is_sound(&self)
+        ensures rest { IsRest self.now.half }
+        ensures room { length self.now.waiting ≤ most_waiting }
+    {
+        let _ = self.decoder.pending_len();
+        let _ = self.waiting.len();
+    }
+
+    /// Hands out the answer that has waited longest. Takes no memory.
+    pub fn take_answer(&mut self) -> Option<Answer>
+        ensures answer { result ≡ slice_get self.old.waiting 0 }
+        ensures left { self.new ≡ record { sheet = self.old.sheet; half = self.old.half; waiting = drop 1 self.old.waiting; condition = self.old.condition } }
+    {
+        self.waiting.pop_front()
+    }
+
+    /// The number of answers that wait, at most 16. Takes no memory.
+    pub fn waiting(&self) -> usize
+        ensures value { result ≡ length self.now.waiting }
+        ensures most { result ≤ most_waiting }
+    {
+        self.waiting.len()
+    }
+
+    /// Sets what the sensors say. Takes no memory.
+    pub fn set_condition(&mut self, condition: Condition)
+        ensures { self.new ≡ record { sheet = self.old.sheet; half = self.old.half; waiting = self.old.waiting; condition = condition } }
+    {
+        self.condition = condition;
+    }
+
+    /// What the sensors say. Takes no memory.
+    pub fn condition(&self) -> Condition
+        ensures { result ≡ self.now.condition }
+    {
+        self.condition
+    }
+
+    /// Whether the printer is online: its cover is closed, and its paper hasn't ended. Takes no memory.
+    pub fn is_online(&self) -> bool
+        ensures { result ≡ not (is_offline self.now.condition) }
+    {
+        !self.condition.is_offline()
+    }
+
+    /// Switches the printer off and on: the half command and the answers that wait are dropped, and so is the line; the
+    /// styles are those of power-on. What is printed stays, and the condition. Takes no memory.
+    pub fn restart(&mut self)
+        ensures sheet { SheetIs self.new.sheet self.old.sheet.items [] }
+        ensures half { self.new.half ≡ [] }
+        ensures waiting { self.new.waiting ≡ [] }
+        ensures condition { self.new.condition ≡ self.old.condition }
+    {
+        self.page.restart();
+        self.decoder.clear();
+        self.waiting.clear();
+    }
+
+    /// What is printed on the paper, from top to bottom. Takes no memory.
+    pub fn items(&self) -> &[Item]
+        ensures { result.now ≡ self.now.sheet.items }
+    {
+        self.page.items()
+    }
+
+    /// The number of bytes of the half command, at most 524,167. Takes no memory.
+    pub fn pending_len(&self) -> usize
+        ensures value { result ≡ length self.now.half }
+        ensures short { result < longest_spelling }
+    {
+        self.decoder.pending_len()
+    }
+}
+
+// Makes room on the page, where a command is told of.
+fn make_room(page: &mut Page, ahead: Ahead) -> Result<(), AllocError>
+    ensures same { page.new.sheet ≡ page.old.sheet }
+    ensures room { OnOk result (is_command ahead ≡ true → MOST_ITEMS ≤ page.new.room) }
+    ensures command { OnErr result (is_command ahead ≡ true) }
+{
+    match ahead {
+        Ahead::Nothing => Ok(()),
+        Ahead::Status | Ahead::Mark | Ahead::Other => page.ready(),
+    }
+}
+
+// Puts the answer to a command, if there is one, after those that wait.
+fn put_reply(waiting: &mut HeapCircularBuffer<Answer>, condition: Condition, command: &Command)
+    requires { length waiting.old.items + length (reply condition command.now) ≤ waiting.old.capacity }
+    ensures items { waiting.new.items ≡ waiting.old.items ++ reply condition command.now }
+    ensures capacity { waiting.new.capacity ≡ waiting.old.capacity }
+{
+    if let Some(answer) = condition.reply(command) {
+        waiting.push_back(answer);
+    }
+}
+
+// Why a command that is told so may not be completed now; for want of memory it isn't asked.
+fn obstacle(ahead: Ahead, offline: bool, full: bool) -> Option<FeedStop>
+    ensures { result ≡ obstacle ahead offline full }
+{
+    match ahead {
+        Ahead::Nothing => None,
+        Ahead::Status if full => Some(FeedStop::AnswersFull),
+        Ahead::Status => None,
+        Ahead::Mark | Ahead::Other if offline => Some(FeedStop::Offline),
+        Ahead::Mark if full => Some(FeedStop::AnswersFull),
+        Ahead::Mark | Ahead::Other => None,
+    }
+}

@@ -1,0 +1,204 @@
+//! The worked rows of the printer.
+
+use super::*;
+use escpos_command::{Answer, FaultReason, MarkId};
+use escpos_paper::Item;
+use std::alloc::Global;
+use std::process::Abort;
+use std::test::Fail;
+
+const ONLINE: Condition = Condition {
+    cover_open: false,
+    near_end: false,
+    paper_end: false,
+};
+
+const OPEN: Condition = Condition {
+    cover_open: true,
+    near_end: false,
+    paper_end: false,
+};
+
+// Four status requests, of the kinds 1 to 4.
+const REQUESTS: [u8; 12] = [
+    0x10, 0x04, 0x01, 0x10, 0x04, 0x02, 0x10, 0x04, 0x03, 0x10, 0x04, 0x04,
+];
+
+fn id(number: u32) -> Result<MarkId, Fail> {
+    Ok(MarkId::of_number(number).ok_or("number")?)
+}
+
+// The bytes of the marks of these numbers.
+fn marks(alloc: Global, numbers: &[u32]) -> Result<Vec<u8>, Fail> {
+    let mut bytes = Vec::new(alloc);
+    for number in numbers {
+        bytes.extend_from_slice(b"\x1D(H\x06\x000")?;
+        bytes.extend_from_slice(b"0")?;
+        bytes.extend_from_slice(&id(*number)?.bytes())?;
+    }
+    Ok(bytes)
+}
+
+// Feeds a piece, all of which is taken.
+fn feed_all(rt: &impl Abort, printer: &mut Printer, piece: &[u8]) {
+    let consumed = piece.len();
+    let stop = FeedStop::All;
+    assert_eq!(rt; printer.feed(piece), Fed { consumed, stop });
+}
+
+#[test]
+fn status_answers(rt: HostRuntime) -> Result<(), Fail> {
+    let rows: [(Condition, [u8; 4]); 4] = [
+        (ONLINE, [0x12, 0x12, 0x12, 0x12]),
+        (
+            Condition {
+                cover_open: true,
+                near_end: false,
+                paper_end: true,
+            },
+            [0x1A, 0x36, 0x12, 0x72],
+        ),
+        (
+            Condition {
+                cover_open: false,
+                near_end: true,
+                paper_end: false,
+            },
+            [0x12, 0x12, 0x12, 0x1E],
+        ),
+        (
+            Condition {
+                cover_open: true,
+                near_end: true,
+                paper_end: true,
+            },
+            [0x1A, 0x36, 0x12, 0x7E],
+        ),
+    ];
+    for (condition, bytes) in rows {
+        let mut printer = Printer::new(rt.alloc(), condition)?;
+        feed_all(&rt, &mut printer, &REQUESTS);
+        for byte in bytes {
+            assert_eq!(rt; printer.take_answer(), Some(Answer::Status(byte)));
+        }
+        assert_eq!(rt; printer.take_answer(), None);
+    }
+    Ok(())
+}
+
+#[test]
+fn offline(rt: HostRuntime) -> Result<(), Fail> {
+    let mut printer = Printer::new(rt.alloc(), OPEN)?;
+    assert!(rt; !printer.is_online());
+    let stop = FeedStop::Offline;
+    assert_eq!(rt; printer.feed(b"A\x10\x04\x01"), Fed { consumed: 0, stop });
+    assert_eq!(rt; printer.feed(b"\x1BE\x01"), Fed { consumed: 2, stop });
+    assert_eq!(rt; printer.pending_len(), 2);
+    printer.set_condition(ONLINE);
+    assert!(rt; printer.is_online());
+    feed_all(&rt, &mut printer, b"\x01");
+    assert_eq!(rt; printer.pending_len(), 0);
+    Ok(())
+}
+
+// A raster of one byte by 30 rows that lacks its last bytes, online.
+fn cut_raster(rt: &impl Abort, alloc: Global, lacking: usize) -> Result<Printer, Fail> {
+    let mut printer = Printer::new(alloc, ONLINE)?;
+    feed_all(rt, &mut printer, b"\x1Dv0\x00\x01\x00\x1E\x00");
+    feed_all(rt, &mut printer, &vec![in alloc; 0x55; 30 - lacking]?);
+    Ok(printer)
+}
+
+#[test]
+fn lost_raster_bytes(rt: HostRuntime) -> Result<(), Fail> {
+    let three = marks(rt.alloc(), &[0, 1, 2])?;
+    for (lacking, items) in [(22, 1), (20, 1)] {
+        let mut printer = cut_raster(&rt, rt.alloc(), lacking)?;
+        feed_all(&rt, &mut printer, &three);
+        assert_eq!(rt; printer.take_answer(), Some(Answer::Mark(id(2)?)));
+        assert_eq!(rt; printer.take_answer(), None);
+        assert_eq!(rt; printer.items().len(), items);
+        feed_all(&rt, &mut printer, b"\n");
+        match printer.items() {
+            [Item::Raster { .. }, Item::Feed(1)] => assert_eq!(rt; lacking, 22),
+            [Item::Raster { .. }, Item::Row { cells, .. }, Item::Feed(1)] => {
+                assert_eq!(rt; lacking, 20);
+                let [first, second] = cells.as_slice() else {
+                    return Err(Fail::new("other cells"));
+                };
+                assert_eq!(rt; [first.byte, second.byte], *b"01");
+            }
+            _ => return Err(Fail::new("other items")),
+        }
+    }
+    let mut printer = cut_raster(&rt, rt.alloc(), 14)?;
+    let (at, why) = (14, FaultReason::UnknownByte);
+    let stop = FeedStop::Fault { at, why };
+    assert_eq!(rt; printer.feed(&three), Fed { consumed: 14, stop });
+    feed_all(&rt, &mut printer, &marks(rt.alloc(), &[3])?);
+    assert_eq!(rt; printer.take_answer(), Some(Answer::Mark(id(3)?)));
+    assert_eq!(rt; printer.take_answer(), None);
+    Ok(())
+}
+
+#[test]
+fn sixteen_waiting(rt: HostRuntime) -> Result<(), Fail> {
+    let mut numbers = Vec::new(rt.alloc());
+    for number in 0..17 {
+        numbers.push(number)?;
+    }
+    let bytes = marks(rt.alloc(), &numbers)?;
+    let mut printer = Printer::new(rt.alloc(), ONLINE)?;
+    let full = FeedStop::AnswersFull;
+    assert_eq!(rt; printer.feed(&bytes), Fed { consumed: 186, stop: full });
+    assert_eq!(rt; printer.waiting(), 16);
+    let last = &bytes[186..];
+    printer.set_condition(OPEN);
+    let stop = FeedStop::Offline;
+    assert_eq!(rt; printer.feed(last), Fed { consumed: 0, stop });
+    printer.set_condition(ONLINE);
+    assert_eq!(rt; printer.feed(last), Fed { consumed: 0, stop: full });
+    assert_eq!(rt; printer.take_answer(), Some(Answer::Mark(id(0)?)));
+    feed_all(&rt, &mut printer, last);
+    for number in 1..17 {
+        assert_eq!(rt; printer.take_answer(), Some(Answer::Mark(id(number)?)));
+    }
+    assert_eq!(rt; printer.waiting(), 0);
+    Ok(())
+}
+
+#[test]
+fn half_between_feeds(rt: HostRuntime) -> Result<(), Fail> {
+    let mut printer = Printer::new(rt.alloc(), ONLINE)?;
+    feed_all(&rt, &mut printer, b"\x1B!");
+    assert_eq!(rt; printer.pending_len(), 2);
+    feed_all(&rt, &mut printer, b"\x08");
+    assert_eq!(rt; printer.pending_len(), 0);
+    Ok(())
+}
+
+#[test]
+fn restart_drops(rt: HostRuntime) -> Result<(), Fail> {
+    let mut printer = Printer::new(rt.alloc(), ONLINE)?;
+    feed_all(&rt, &mut printer, &marks(rt.alloc(), &[0])?);
+    feed_all(&rt, &mut printer, b"A");
+    assert_eq!(rt; printer.waiting(), 1);
+    printer.restart();
+    assert_eq!(rt; printer.waiting(), 0);
+    feed_all(&rt, &mut printer, b"\n");
+    assert!(rt; matches!(printer.items(), [Item::Feed(1)]));
+    Ok(())
+}
+
+#[test]
+fn pulse_cut_off(rt: HostRuntime) -> Result<(), Fail> {
+    let mut bytes = b"\x1Bp\x00".to_vec(rt.alloc())?;
+    bytes.extend_from_slice(&marks(rt.alloc(), &[0])?)?;
+    let mut printer = Printer::new(rt.alloc(), ONLINE)?;
+    let (at, why) = (6, FaultReason::UnknownByte);
+    let stop = FeedStop::Fault { at, why };
+    assert_eq!(rt; printer.feed(&bytes), Fed { consumed: 6, stop });
+    feed_all(&rt, &mut printer, &marks(rt.alloc(), &[1])?);
+    assert_eq!(rt; printer.take_answer(), Some(Answer::Mark(id(1)?)));
+    Ok(())
+}
