@@ -202,3 +202,38 @@ fn pulse_cut_off(rt: HostRuntime) -> Result<(), Fail> {
     assert_eq!(rt; printer.take_answer(), Some(Answer::Mark(id(1)?)));
     Ok(())
 }
+
+// A line, a barcode and a raster in mid-line, a cut, a status request and a mark.
+const RECEIPT: &[u8] = b"Hi\n\x1DkD\x075512345A\x1Dv0\x00\x02\x00\x02\x00\xF0\x0F\xFF\x00\x1DV\x00\x10\x04\x01\x1D(H\x06\x00000000";
+
+// A printer that has taken so many of the first bytes of the receipt.
+fn fed(rt: &impl Abort, alloc: Global, count: usize) -> Result<Printer, Fail> {
+    let mut printer = Printer::new(alloc, ONLINE)?;
+    feed_all(rt, &mut printer, &RECEIPT[..count]);
+    Ok(printer)
+}
+
+// Where memory is refused, the printer is that of the bytes before, and takes the rest when it is fed again. Here each
+// growth succeeds: `rt try --test --fail-alloc N -- growths_refused` refuses the Nth.
+#[test]
+fn growths_refused(rt: HostRuntime) -> Result<(), Fail> {
+    let first = Printer::new(rt.alloc(), ONLINE);
+    let mut printer = match first {
+        Ok(printer) => printer,
+        Err(_) => Printer::new(rt.alloc(), ONLINE)?,
+    };
+    let Fed { consumed, stop } = printer.feed(RECEIPT);
+    if stop != FeedStop::All {
+        assert_eq!(rt; stop, FeedStop::Memory);
+        let other = fed(&rt, rt.alloc(), consumed)?;
+        assert_eq!(rt; printer.pending_len(), other.pending_len());
+        assert_eq!(rt; printer.waiting(), other.waiting());
+        assert_eq!(rt; printer.items().len(), other.items().len());
+        feed_all(&rt, &mut printer, &RECEIPT[consumed..]);
+    }
+    assert_eq!(rt; printer.items().len(), 7);
+    assert_eq!(rt; printer.take_answer(), Some(Answer::Status(0x12)));
+    assert_eq!(rt; printer.take_answer(), Some(Answer::Mark(id(0)?)));
+    assert_eq!(rt; printer.waiting(), 0);
+    Ok(())
+}
