@@ -1,10 +1,9 @@
 -- Barcodes in the tree: their spellings lead to them, and their part of the tree is good.
-use Rattle.std.proofs.Common.{◌≡◌, ◌<◌, ◌≤◌, ℕ, ◌+◌, List, [], ◌∷◌, ◌++◌, refl, ◌∙◌, ap, sym, subst, arith, true, false, length, append-nil, cond, append_assoc, length-append, zero, suc, Bool, add-one}
-use Rattle.std.specs.Prelude.{◌==◌, ◌&&◌, ◌||◌, nat_le, nat_lt}
+use Rattle.std.proofs.Common.{◌≡◌, ◌<◌, ◌≤◌, ℕ, ◌+◌, List, [], ◌∷◌, ◌++◌, refl, ◌∙◌, ap, sym, subst, arith, true, false, length, append-nil, cond, append_assoc, length-append, Bool}
+use Rattle.std.specs.Prelude.{◌==◌, ◌||◌, nat_lt}
 use Rattle.std.specs.List.{list_all}
 use Rattle.std.proofs.lemmas.Bool.Decides.{nat_tests}
 use Rattle.escpos_command.specs.declared.bytes.TheConstants.{GS}
-use Rattle.escpos_command.specs.declared.command.Command.{Command}
 use Rattle.escpos_command.specs.declared.command.Command.TheVariants as kind
 use Rattle.escpos_command.specs.declared.bars.Form.{Form}
 use Rattle.escpos_command.specs.declared.bars.Form.TheVariants.{A, B}
@@ -12,9 +11,9 @@ use Rattle.escpos_command.specs.declared.bars.Symbology.{Symbology}
 use Rattle.escpos_command.specs.declared.bars.Symbology.TheVariants.{UpcA, Ean13, Ean8, Code39, Itf, Codabar, Code128}
 use Rattle.escpos_command.specs.Barcodes.{barcode, barcode_mode, is_barcode, is_content, has_form, has_length, allows, all_from, is_digit, is_code39, is_codabar, is_codabar_end, is_code_set}
 use Rattle.escpos_command.specs.CommandTable.{Spells, row}
-use Rattle.escpos_command.specs.Tree.{leaf, dead, walk, passing, these, counted, closed, stopped, branch, none, plain_byte, plain_content, codabar_content, content_of, form_b, barcodes, grammar}
+use Rattle.escpos_command.specs.Tree.{leaf, dead, walk, passing, branch, none, plain_byte, plain_content, codabar_content, content_of, form_b, barcodes, grammar}
 use Rattle.escpos_command.proofs.Walks.{Good}
-use Rattle.escpos_command.proofs.Combinators.{good_passing, good_these, good_branch, good_counted, good_closed, good_stopped, walk-counted, walk-closed, walk-stopped, live_counted, live_stopped, all_from_all, and_left, and_right, both, same_number, number_itself, at_row}
+use Rattle.escpos_command.proofs.Combinators.{good_passing, good_branch, good_counted, good_closed, good_stopped, walk-counted, walk-closed, walk-stopped, live_counted, live_stopped, all_from_all, and_left, and_right, both, at_row}
 
 -- ## Form B
 

@@ -1,5 +1,5 @@
 -- What the first profile read and refused, by the whole table.
-use Rattle.std.proofs.Common.{◌≡◌, ◌≢◌, ◌<◌, ◌≤◌, zero, suc, cond, drop, length-append, ℕ, ◌+◌, ◌*◌, ◌/◌, ◌%◌, ◌⊎◌, inl, inr, List, [], ◌∷◌, ◌++◌, length, take, refl, sym, ◌∙◌, ap, subst, append_assoc, append-nil, arith, Bool, true, false, IsTrue}
+use Rattle.std.proofs.Common.{◌≡◌, ◌<◌, ◌≤◌, zero, suc, cond, drop, length-append, ℕ, ◌+◌, ◌*◌, ◌/◌, ◌%◌, ◌⊎◌, inl, inr, List, [], ◌∷◌, ◌++◌, length, take, refl, sym, ◌∙◌, ap, subst, append_assoc, append-nil, arith, Bool, true, false, IsTrue}
 use Rattle.std.specs.Prelude.{slice_index, nat_le}
 use Rattle.std.specs.List.{AllByRecursion}
 use Rattle.std.proofs.lemmas.Bool.Decides.{nat_tests}
@@ -8,15 +8,15 @@ use Rattle.escpos_command.specs.declared.command.Command.{Command}
 use Rattle.escpos_command.specs.declared.command.Command.TheVariants as kind
 use Rattle.escpos_command.specs.declared.fault.FaultReason.{FaultReason}
 use Rattle.escpos_command.specs.CommandTable.{Spells, IsCommand, row}
-use Rattle.escpos_command.specs.Grammar.{Viable, Half, Reads, FaultAt}
-use Rattle.escpos_command.specs.FirstProfile.{is_first, SpellsFirst, ViableFirst, HalfFirst, ReadsFirst, FaultAtFirst, IsNew, units, pulse, rows}
+use Rattle.escpos_command.specs.Grammar.{Half, Reads, FaultAt}
+use Rattle.escpos_command.specs.FirstProfile.{is_first, ViableFirst, HalfFirst, ReadsFirst, FaultAtFirst, IsNew, units, pulse, rows}
 use Rattle.escpos_command.specs.Parameters.{is_byte, is_one_of_two, is_one_of_four}
 use Rattle.escpos_command.specs.Rasters.{picture, is_width, is_height}
 use Rattle.escpos_command.specs.Tree.{Tree, dead, leaf, node, walk, one, passing, these, counted, grammar, after_scale, after_width, after_low, dots_of}
-use Rattle.escpos_command.proofs.Readings.{one_command, no_prefix, leads_spelling, not_viable_at_dead, viable_where_live}
+use Rattle.escpos_command.proofs.Readings.{no_prefix, leads_spelling, not_viable_at_dead, viable_where_live}
 use Rattle.escpos_command.proofs.Walks.{IsLive}
 use Rattle.escpos_command.proofs.Combinators.{at_row}
-use Rattle.escpos_command.proofs.RasterTree.{in_range, InRange, width_low, width_high, low_byte, height_bytes, spelled}
+use Rattle.escpos_command.proofs.RasterTree.{in_range, width_low, width_high, low_byte, height_bytes, spelled}
 use Rattle.std.proofs.lemmas.List.{take-append-drop, take-append-le}
 use Rattle.std.proofs.Math.Seq.{take-append_seam, drop-append_seam}
 use Rattle.std.specs.List.{list_all}

@@ -1,10 +1,10 @@
 -- The answers of a list of bytes: one way to hear it, and hearings join.
-use Rattle.std.proofs.Common.{◌≡◌, ◌≢◌, ℕ, ◌⊎◌, inl, inr, List, [], ◌∷◌, ◌++◌, refl, sym, ◌∙◌, ap, subst, append_assoc, append-nil, arith, IsTrue, length, get_or}
-use Rattle.std.specs.List.{AllByRecursion, flat_map}
+use Rattle.std.proofs.Common.{◌≡◌, ℕ, ◌⊎◌, inl, inr, List, [], ◌∷◌, ◌++◌, refl, sym, ◌∙◌, ap, subst, append_assoc, append-nil, IsTrue}
+use Rattle.std.specs.List.{AllByRecursion}
 use Rattle.std.proofs.lemmas.Grind.{flat_map-append}
 use Rattle.escpos_command.specs.declared.answer.Answer.{Answer}
 use Rattle.escpos_command.specs.declared.answer.Answer.TheVariants as answer
-use Rattle.escpos_command.specs.Answers.{answer_bytes, is_answer, is_status_byte, AnswerSpells, ViableAnswer, HalfAnswer, Hears, spell_answers}
+use Rattle.escpos_command.specs.Answers.{answer_bytes, is_answer, is_status_byte, AnswerSpells, HalfAnswer, Hears, spell_answers}
 use Rattle.escpos_command.specs.Parameters.{is_mark_id}
 use Rattle.escpos_command.proofs.Ids.{id_bytes}
 

@@ -1,14 +1,14 @@
 -- Rasters in the tree: their spellings lead to them, and their part of the tree is good.
-use Rattle.std.proofs.Common.{◌≡◌, ◌<◌, ◌≤◌, ℕ, ◌+◌, ◌*◌, ◌/◌, ◌%◌, List, [], ◌∷◌, ◌++◌, refl, ◌∙◌, ap, sym, subst, arith, true, false, length, append-nil, cond}
-use Rattle.std.specs.Prelude.{◌==◌, ◌&&◌, nat_le}
+use Rattle.std.proofs.Common.{◌≡◌, ◌<◌, ◌≤◌, ℕ, ◌+◌, ◌*◌, ◌/◌, ◌%◌, List, [], ◌∷◌, ◌++◌, refl, ◌∙◌, ap, sym, subst, arith, true, length, append-nil, cond}
+use Rattle.std.specs.Prelude.{◌==◌, ◌&&◌}
 use Rattle.std.specs.List.{list_all}
 use Rattle.std.proofs.lemmas.Bool.Decides.{nat_tests}
 use Rattle.escpos_command.specs.declared.bytes.TheConstants.{GS}
 use Rattle.escpos_command.specs.declared.command.Command.TheVariants as kind
 use Rattle.escpos_command.specs.Parameters.{is_byte, is_one_of_four}
 use Rattle.escpos_command.specs.Rasters.{picture, is_raster, is_width, is_height}
-use Rattle.escpos_command.specs.CommandTable.{Spells, row}
-use Rattle.escpos_command.specs.Tree.{leaf, dead, walk, passing, these, counted, dots_of, raster}
+use Rattle.escpos_command.specs.CommandTable.{Spells}
+use Rattle.escpos_command.specs.Tree.{leaf, dead, walk, passing, these, dots_of, raster}
 use Rattle.escpos_command.proofs.Walks.{Good}
 use Rattle.escpos_command.proofs.Combinators.{good_passing, good_these, good_counted, walk-counted, live_counted, all_from_all, and_left, and_right, both, same_number, number_itself, at_row}
 

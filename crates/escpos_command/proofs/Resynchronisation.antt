@@ -1,11 +1,11 @@
 -- A mark is read as one, or not at all: 1D stands at the first place of its spelling and at no other.
-use Rattle.std.proofs.Common.{◌≡◌, ◌≢◌, ℕ, ◌⊎◌, inl, inr, List, [], ◌∷◌, ◌++◌, option_to_list, refl, sym, ◌∙◌, ap, subst, append_assoc, append-nil, arith, Some, None, IsTrue, length}
-use Rattle.std.specs.List.{list_all, AllByRecursion, flat_map}
+use Rattle.std.proofs.Common.{◌≡◌, ◌≢◌, ℕ, ◌⊎◌, inl, inr, List, [], ◌∷◌, ◌++◌, option_to_list, refl, sym, ◌∙◌, ap, subst, append_assoc, append-nil, None, IsTrue}
+use Rattle.std.specs.List.{list_all, AllByRecursion}
 use Rattle.escpos_command.specs.declared.bytes.TheConstants.{GS}
 use Rattle.escpos_command.specs.declared.command.Command.{Command}
 use Rattle.escpos_command.specs.declared.command.Command.TheVariants as kind
 use Rattle.escpos_command.specs.CommandTable.{Spells, IsCommand, row, spell}
-use Rattle.escpos_command.specs.Grammar.{Viable, Half, Reads}
+use Rattle.escpos_command.specs.Grammar.{Half, Reads}
 use Rattle.escpos_command.specs.Marks.{mark_id, marks, IsMarkOrNone}
 use Rattle.escpos_command.specs.Parameters.{is_mark_id, is_mark_byte}
 use Rattle.escpos_command.proofs.Combinators.{and_left, and_right}
@@ -115,9 +115,9 @@ swallowed h t [] rest half q r = refl
 swallowed h t (c ∷ cs) rest half q r =
     elim (split (row c) (spell cs ++ rest) h GS t (sym (append_assoc (row c) (spell cs) rest) ∙ sym r.whole)) [
       | longer u e f ↦ elim (kind_of c) [
-          | other n ↦ marks_after c cs n (unmarked cs rest (quiet_end u (spell cs ++ rest) (subst (λ v. Quiet v) f q)))
-          | mark id n ↦ absurd (inside h u id half.begun (subst (λ v. IsCommand v) n r.commands.0) (sym (mark_row id) ∙ sym (ap row n) ∙ e))
-        ]
+        | other n ↦ marks_after c cs n (unmarked cs rest (quiet_end u (spell cs ++ rest) (subst (λ v. Quiet v) f q)))
+        | mark id n ↦ absurd (inside h u id half.begun (subst (λ v. IsCommand v) n r.commands.0) (sym (mark_row id) ∙ sym (ap row n) ∙ e))
+      ]
       | shorter y e ↦ absurd (not_within c h y r.commands.0 half e)
     ]
 
@@ -138,7 +138,7 @@ alone q more id [] rest ok e r = inl refl
 alone q more id (c ∷ cs) rest ok e r =
     let after = spell cs ++ rest in
     let bytes : row (kind.Mark id) ≡ row c ++ (after ++ more) =
-        e ∙ ap (λ v. v ++ more) (r.whole ∙ append_assoc (row c) (spell cs) rest) ∙ append_assoc (row c) after more in
+    e ∙ ap (λ v. v ++ more) (r.whole ∙ append_assoc (row c) (spell cs) rest) ∙ append_assoc (row c) after more in
     let none = no_prefix c (kind.Mark id) (row c) (after ++ more) (spelled c r.commands.0) (record { in_range = ok; in_table = sym bytes }) in
     let whole : row c ≡ row (kind.Mark id) = sym (append-nil (row c)) ∙ ap (λ v. row c ++ v) (sym none) ∙ sym bytes in
     let same = one_command c (kind.Mark id) (row c) (spelled c r.commands.0) (record { in_range = ok; in_table = whole }) in

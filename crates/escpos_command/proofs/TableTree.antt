@@ -9,7 +9,7 @@ use Rattle.escpos_command.specs.declared.command.Command.{Command}
 use Rattle.escpos_command.specs.declared.command.Command.TheVariants as kind
 use Rattle.escpos_command.specs.Parameters.{is_character, is_one_of_two, is_one_of_three, is_one_of_four, is_size, is_bar_height, is_bar_width, is_status_kind, is_feed_cut_mode, is_byte, is_cut, is_pulse, is_mark_byte, is_mark_id}
 use Rattle.escpos_command.specs.CommandTable.{Spells, IsCommand, row}
-use Rattle.escpos_command.specs.Tree.{leaf, dead, walk, branch, none, one, passing, first, character, after_esc, after_gs, after_dle, cut, mark, pulse, barcodes, raster, grammar, counted}
+use Rattle.escpos_command.specs.Tree.{leaf, dead, walk, branch, none, one, passing, first, character, after_esc, after_gs, after_dle, cut, mark, pulse, grammar, counted}
 use Rattle.escpos_command.proofs.BarcodeTree.{leads_barcode, good_barcodes}
 use Rattle.escpos_command.proofs.RasterTree.{leads_raster, good_raster}
 use Rattle.escpos_command.proofs.Walks.{Good}

@@ -1,7 +1,7 @@
 -- Barcode contents: which numbers a symbology has, how long its content may be, and which byte may stand where.
 -- (Reference: GS k.)
 use Rattle.std.specs.Prelude.{ℕ, ◌==◌, ◌&&◌, ◌||◌, ◌+◌, ◌%◌, ◌≡◌, ◌<◌, nat_le, nat_lt, Bool, true, false, IsTrue, List, [], ◌∷◌, length, take, slice_index, nat_eq, if◌then◌else◌}
-use Rattle.std.specs.Cmp.{IsEquivalence, partial_equiv_from_equiv}
+use Rattle.std.specs.Cmp.{IsEquivalence}
 use Rattle.std.specs.Cmp.Lexicographic.{pointwise, nat_list_eq_equiv}
 use Rattle.std.proofs.lemmas.Cmp.{and_equiv, on_equiv, nat_eq_equiv}
 use Rattle.escpos_command.specs.declared.bars.BarFault.{BarFault}

@@ -4,14 +4,14 @@ use Rattle.std.specs.Prelude.{Result, OnErr, slice_index}
 use Rattle.std.proofs.Math.Seq.{take-suc, take-add}
 use Rattle.std.proofs.lemmas.List.{take-take}
 use Rattle.std.specs.Result.{is_err}
-use Rattle.std.specs.List.{AllByRecursion, flat_map}
+use Rattle.std.specs.List.{AllByRecursion}
 use Rattle.std.proofs.lemmas.Bool.Decides.{nat_tests}
 use Rattle.std.proofs.lemmas.Grind.{flat_map-append}
 use Rattle.escpos_command.specs.declared.answer.Answer.{Answer}
 use Rattle.escpos_command.specs.declared.command.Command.{Command}
 use Rattle.escpos_command.specs.declared.command.Command.TheVariants as kind
 use Rattle.escpos_command.specs.CommandTable.{Spells, row}
-use Rattle.escpos_command.specs.Grammar.{Viable, Half, Reads}
+use Rattle.escpos_command.specs.Grammar.{Half, Reads}
 use Rattle.escpos_decode.specs.declared.decoder.Ahead.{Ahead}
 use Rattle.escpos_decode.specs.declared.decoder.Ahead.TheVariants as ahead
 use Rattle.escpos_decode.specs.Push.{ahead_of, AheadIs}

@@ -1,6 +1,7 @@
 //! What the sensors of a printer say, and what it answers by them.
 
-ghost use Rattle.std.specs.Prelude.{◌≡◌, option_to_list};
+ghost use Rattle.std.specs.Prelude.{◌≡◌, option_to_list, IsTrue};
+ghost use Rattle.escpos_command.specs.Answers.{is_status_byte};
 ghost use Rattle.escpos_printer.specs.Replies.{is_offline, where_set, status, reply};
 
 use escpos_command::{Answer, Command, StatusKind};
@@ -26,7 +27,8 @@ impl Condition {
 
     /// The status byte of this kind. (Reference: DLE EOT.)
     pub fn status(self, kind: StatusKind) -> u8
-        ensures { result ≡ status kind self }
+        ensures value { result ≡ status kind self }
+        ensures is_answer { IsTrue (is_status_byte result) }
     {
         match kind.byte() {
             1 => 0x12 + where_set(self.is_offline(), 0x08),

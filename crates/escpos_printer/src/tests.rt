@@ -101,23 +101,23 @@ fn offline(rt: HostRuntime) -> Result<(), Fail> {
     Ok(())
 }
 
-// A raster of one byte by 30 rows that lacks its last bytes, online.
-fn cut_raster(rt: &impl Abort, alloc: Global, lacking: usize) -> Result<Printer, Fail> {
+// A printer that has taken so many dots of a raster of one byte by 30 rows, online.
+fn cut_raster(rt: &impl Abort, alloc: Global, count: usize) -> Result<Printer, Fail> {
     let mut printer = Printer::new(alloc, ONLINE)?;
     feed_all(rt, &mut printer, b"\x1Dv0\x00\x01\x00\x1E\x00");
-    feed_all(rt, &mut printer, &vec![in alloc; 0x55; 30 - lacking]?);
+    feed_all(rt, &mut printer, &vec![in alloc; 0x55; count]?);
     Ok(printer)
 }
 
 #[test]
 fn lost_raster_bytes(rt: HostRuntime) -> Result<(), Fail> {
     let three = marks(rt.alloc(), &[0, 1, 2])?;
-    for (lacking, items) in [(22, 1), (20, 1)] {
-        let mut printer = cut_raster(&rt, rt.alloc(), lacking)?;
+    for (lacking, count) in [(22, 8), (20, 10)] {
+        let mut printer = cut_raster(&rt, rt.alloc(), count)?;
         feed_all(&rt, &mut printer, &three);
         assert_eq!(rt; printer.take_answer(), Some(Answer::Mark(id(2)?)));
         assert_eq!(rt; printer.take_answer(), None);
-        assert_eq!(rt; printer.items().len(), items);
+        assert_eq!(rt; printer.items().len(), 1);
         feed_all(&rt, &mut printer, b"\n");
         match printer.items() {
             [Item::Raster { .. }, Item::Feed(1)] => assert_eq!(rt; lacking, 22),
@@ -131,7 +131,7 @@ fn lost_raster_bytes(rt: HostRuntime) -> Result<(), Fail> {
             _ => return Err(Fail::new("other items")),
         }
     }
-    let mut printer = cut_raster(&rt, rt.alloc(), 14)?;
+    let mut printer = cut_raster(&rt, rt.alloc(), 16)?;
     let (at, why) = (14, FaultReason::UnknownByte);
     let stop = FeedStop::Fault { at, why };
     assert_eq!(rt; printer.feed(&three), Fed { consumed: 14, stop });
@@ -150,14 +150,26 @@ fn sixteen_waiting(rt: HostRuntime) -> Result<(), Fail> {
     let bytes = marks(rt.alloc(), &numbers)?;
     let mut printer = Printer::new(rt.alloc(), ONLINE)?;
     let full = FeedStop::AnswersFull;
-    assert_eq!(rt; printer.feed(&bytes), Fed { consumed: 186, stop: full });
+    assert_eq!(rt;
+        printer.feed(&bytes),
+        Fed {
+            consumed: 186,
+            stop: full
+        }
+    );
     assert_eq!(rt; printer.waiting(), 16);
     let last = &bytes[186..];
     printer.set_condition(OPEN);
     let stop = FeedStop::Offline;
     assert_eq!(rt; printer.feed(last), Fed { consumed: 0, stop });
     printer.set_condition(ONLINE);
-    assert_eq!(rt; printer.feed(last), Fed { consumed: 0, stop: full });
+    assert_eq!(rt;
+        printer.feed(last),
+        Fed {
+            consumed: 0,
+            stop: full
+        }
+    );
     assert_eq!(rt; printer.take_answer(), Some(Answer::Mark(id(0)?)));
     feed_all(&rt, &mut printer, last);
     for number in 1..17 {
@@ -204,12 +216,13 @@ fn pulse_cut_off(rt: HostRuntime) -> Result<(), Fail> {
 }
 
 // A line, a barcode and a raster in mid-line, a cut, a status request and a mark.
-const RECEIPT: &[u8] = b"Hi\n\x1DkD\x075512345A\x1Dv0\x00\x02\x00\x02\x00\xF0\x0F\xFF\x00\x1DV\x00\x10\x04\x01\x1D(H\x06\x00000000";
+const RECEIPT: &[u8] =
+    b"Hi\n\x1DkD\x075512345A\x1Dv0\x00\x02\x00\x02\x00\xF0\x0F\xFF\x00\x1DV\x00\x10\x04\x01\x1D(H\x06\x00000000";
 
-// A printer that has taken so many of the first bytes of the receipt.
-fn fed(rt: &impl Abort, alloc: Global, count: usize) -> Result<Printer, Fail> {
+// A printer that has taken these bytes, online.
+fn fed(rt: &impl Abort, alloc: Global, bytes: &[u8]) -> Result<Printer, Fail> {
     let mut printer = Printer::new(alloc, ONLINE)?;
-    feed_all(rt, &mut printer, &RECEIPT[..count]);
+    feed_all(rt, &mut printer, bytes);
     Ok(printer)
 }
 
@@ -225,7 +238,7 @@ fn growths_refused(rt: HostRuntime) -> Result<(), Fail> {
     let Fed { consumed, stop } = printer.feed(RECEIPT);
     if stop != FeedStop::All {
         assert_eq!(rt; stop, FeedStop::Memory);
-        let other = fed(&rt, rt.alloc(), consumed)?;
+        let other = fed(&rt, rt.alloc(), &RECEIPT[..consumed])?;
         assert_eq!(rt; printer.pending_len(), other.pending_len());
         assert_eq!(rt; printer.waiting(), other.waiting());
         assert_eq!(rt; printer.items().len(), other.items().len());

@@ -1,4 +1,4 @@
-use Rattle.std.proofs.Common.{◌≡◌, ◌-◌, ◌+◌, ◌∙◌, ◌++◌, List, ℕ, [], length, length-append, sym, ap, subst, arith}
+use Rattle.std.proofs.Common.{◌≡◌, ◌-◌, ◌∙◌, ◌++◌, ℕ, [], length, length-append, ap, subst, arith}
 use Rattle.escpos_command.specs.Copied.{Copied}
 use Rattle.escpos_command.proofs.Copied.{nothing, same_parts}
 use Rattle.escpos_command.proofs.command.Command.spell_at.Goals as goal

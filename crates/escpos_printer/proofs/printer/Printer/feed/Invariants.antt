@@ -1,4 +1,4 @@
-use Rattle.std.proofs.Common.{◌≤◌, ◌-◌, ℕ, List, take, length}
+use Rattle.std.proofs.Common.{◌≤◌, ◌-◌, take, length}
 use Rattle.escpos_printer.proofs.Taking.{TookSome}
 use Rattle.escpos_printer.proofs.printer.Printer.feed.Given as goal
 

@@ -1,6 +1,4 @@
-use Rattle.std.proofs.Common.{List, [], ◌∷◌, ◌++◌, length, refl, sym, ◌∙◌, ap, subst, ◌==◌}
-use Rattle.escpos_command.specs.declared.command.Command.{Command}
-use Rattle.escpos_paper.specs.declared.item.Item.{Item}
+use Rattle.std.proofs.Common.{[], ◌∷◌, length, refl, sym, ◌∙◌, ap, subst, ◌==◌}
 use Rattle.escpos_printer.specs.declared.printer.FeedStop.TheVariants.{Memory}
 use Rattle.escpos_printer.specs.Feeds.{PrinterView, Took, HasCause, IsPlace, IsLeft}
 use Rattle.escpos_printer.proofs.Taking.{blocked, where_err, unready_left, more_taken, done_by, Passes, passes, room_after}
@@ -9,20 +7,20 @@ use Rattle.escpos_printer.proofs.printer.Printer.feed_byte.Goals as goal
 pub returns-in-Some-clause-stopped : goal.returns-in-Some-clause-stopped
 returns-in-Some-clause-stopped c =
     subst (λ (v : PrinterView). HasCause c.in-Some.stop v c.args.byte × IsPlace c.in-Some.stop c.args.at × IsLeft c.in-Some.stop v v) c.self.view_is
-        (blocked _ c.args.byte c.args.at _ _ _ c.in-Some.stop (sym c.is_offline.ensures)
-        (ap (λ n. length c.self.inside.waiting.items == n) (sym c.self.invariant.1) ∙ sym c.is_full.ensures)
-        c.would_complete-ahead.ensures (sym c.obstacle.ensures ∙ c.in-Some.is))
+    (blocked _ c.args.byte c.args.at _ _ _ c.in-Some.stop (sym c.is_offline.ensures)
+    (ap (λ n. length c.self.inside.waiting.items == n) (sym c.self.invariant.1) ∙ sym c.is_full.ensures)
+    c.would_complete-ahead.ensures (sym c.obstacle.ensures ∙ c.in-Some.is))
 
 pub returns-then-is_err-clause-stopped : goal.returns-then-is_err-clause-stopped
 returns-then-is_err-clause-stopped c =
     subst
-        (λ (v : PrinterView). HasCause Memory v c.args.byte × IsPlace Memory c.args.at
-        × IsLeft Memory v (record { sheet = c.make_room.new.page.sheet; half = c.self.inside.decoder; waiting = c.self.inside.waiting.items; condition = c.self.inside.condition }))
-        c.self.view_is
-        (unready_left c.unique_spellings.ensures.one_command _ c.args.byte c.args.at _ _ _ c.make_room.new.page.sheet (sym c.is_offline.ensures)
-        (ap (λ n. length c.self.inside.waiting.items == n) (sym c.self.invariant.1) ∙ sym c.is_full.ensures)
-        c.self.invariant.2 (where_err c.make_room.result _ (sym c.is_err.ensures.value ∙ c.if-is_err.true) c.make_room.ensures.command)
-        c.would_complete-ahead.ensures (sym c.obstacle.ensures ∙ c.in_default.is) c.make_room.ensures.same)
+    (λ (v : PrinterView). HasCause Memory v c.args.byte × IsPlace Memory c.args.at
+    × IsLeft Memory v (record { sheet = c.make_room.new.page.sheet; half = c.self.inside.decoder; waiting = c.self.inside.waiting.items; condition = c.self.inside.condition }))
+    c.self.view_is
+    (unready_left c.unique_spellings.ensures.one_command _ c.args.byte c.args.at _ _ _ c.make_room.new.page.sheet (sym c.is_offline.ensures)
+    (ap (λ n. length c.self.inside.waiting.items == n) (sym c.self.invariant.1) ∙ sym c.is_full.ensures)
+    c.self.invariant.2 (where_err c.make_room.result _ (sym c.is_err.ensures.value ∙ c.if-is_err.true) c.make_room.ensures.command)
+    c.would_complete-ahead.ensures (sym c.obstacle.ensures ∙ c.in_default.is) c.make_room.ensures.same)
 
 pub returns-in-Ok-More-clause-taken : goal.returns-in-Ok-More-clause-taken
 returns-in-Ok-More-clause-taken c =
@@ -37,8 +35,8 @@ returns-in-Ok-More-clause-taken c =
 
 passes_at : (c : goal.After-unwrap)
     → Passes
-        (record { sheet = c.self.inside.page.sheet; half = c.self.inside.decoder; waiting = c.self.inside.waiting.items; condition = c.self.inside.condition })
-        c.in-Ok-Done.command
+    (record { sheet = c.self.inside.page.sheet; half = c.self.inside.decoder; waiting = c.self.inside.waiting.items; condition = c.self.inside.condition })
+    c.in-Ok-Done.command
 passes_at c =
     let step = rw c.in-Ok-Done.field-0-is at c.in-Ok-Done.ensures.step in
     passes c.unique_spellings.ensures.one_command _ c.args.byte _ _ _ c.in-Ok-Done.command (sym c.is_offline.ensures)
