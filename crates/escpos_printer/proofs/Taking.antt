@@ -21,7 +21,7 @@ use Rattle.escpos_printer.specs.declared.condition.Condition.{Condition}
 use Rattle.escpos_printer.specs.Replies.{is_offline, reply, replies}
 use Rattle.escpos_printer.specs.declared.printer.FeedStop.{FeedStop}
 use Rattle.escpos_printer.specs.declared.printer.FeedStop.TheVariants.{AnswersFull, Offline, Memory}
-use Rattle.escpos_printer.specs.Feeds.{PrinterView, Took, HasCause, IsPlace, IsLeft, PassesOffline, IsAnswered, is_status, most_waiting, is_command, obstacle}
+use Rattle.escpos_printer.specs.Feeds.{PrinterView, Ran, Took, HasCause, IsPlace, IsLeft, PassesOffline, IsAnswered, is_status, most_waiting, is_command, obstacle}
 
 -- The law of joined readings, as the crate of the grammar offers it.
 abbrev pub JoinLaw : Type 0
@@ -31,30 +31,37 @@ all_pass : (condition : Condition) (cs ds : List Command) → AllByRecursion (Pa
 all_pass condition [] ds h k = k
 all_pass condition (c ∷ cs) ds h k = (h.0, all_pass condition cs ds h.1 k)
 
+-- What ran after what ran.
+pub ran_on : JoinLaw → (p m q : PrinterView) (x y : List ℕ) (cs ds : List Command) → Ran p x cs m → Ran m y ds q → Ran p (x ++ y) (cs ++ ds) q
+ran_on join p m q x y cs ds t u = record {
+  reads = subst (λ v. Reads v (cs ++ ds) q.half) (append_assoc p.half x y) (join (p.half ++ x) y cs ds m.half q.half t.reads u.reads);
+  page = λ kept before h. subst (λ v. SheetIs q.sheet kept v) (append_assoc before cs ds) (u.page kept (before ++ cs) (t.page kept before h));
+  condition = u.condition ∙ t.condition;
+  passes = all_pass p.condition cs ds t.passes (subst (λ v. AllByRecursion (PassesOffline v) ds) t.condition u.passes);
+}
+
 -- What was taken after what was taken.
 pub took_on : JoinLaw → (p m q : PrinterView) (x y : List ℕ) (cs ds : List Command) → Took p x cs m → Took m y ds q → Took p (x ++ y) (cs ++ ds) q
 took_on join p m q x y cs ds t u = record {
-  reads = subst (λ v. Reads v (cs ++ ds) q.half) (append_assoc p.half x y) (join (p.half ++ x) y cs ds m.half q.half t.reads u.reads);
-  page = λ kept before h. subst (λ v. SheetIs q.sheet kept v) (append_assoc before cs ds) (u.page kept (before ++ cs) (t.page kept before h));
+  ran = ran_on join p m q x y cs ds t.ran u.ran;
   answers =
       u.answers ∙ ap (λ v. v ++ replies m.condition ds) t.answers ∙ append_assoc p.waiting (replies p.condition cs) (replies m.condition ds)
-      ∙ ap (λ v. p.waiting ++ (replies p.condition cs ++ replies v ds)) t.condition
+      ∙ ap (λ v. p.waiting ++ (replies p.condition cs ++ replies v ds)) t.ran.condition
       ∙ ap (λ v. p.waiting ++ v) (sym (flat_map-append (reply p.condition) cs ds));
-  condition = u.condition ∙ t.condition;
-  passes = all_pass p.condition cs ds t.passes (subst (λ v. AllByRecursion (PassesOffline v) ds) t.condition u.passes);
   room = u.room;
 }
 
 -- Before any byte nothing was taken.
-pub took_none : (p : PrinterView) → (p.half ≡ []) ⊎ Half p.half → length p.waiting ≤ most_waiting → Took p [] [] p
-took_none p left room = record {
+pub ran_none : (p : PrinterView) → (p.half ≡ []) ⊎ Half p.half → Ran p [] [] p
+ran_none p left = record {
   reads = record { commands = tt; whole = append-nil p.half; left = left };
   page = λ kept before h. subst (λ v. SheetIs p.sheet kept v) (sym (append-nil before)) h;
-  answers = sym (append-nil p.waiting);
   condition = refl;
   passes = tt;
-  room = room;
 }
+
+pub took_none : (p : PrinterView) → (p.half ≡ []) ⊎ Half p.half → length p.waiting ≤ most_waiting → Took p [] [] p
+took_none p left room = record { ran = ran_none p left; answers = sym (append-nil p.waiting); room = room }
 
 -- ## What is told of a command ahead
 
@@ -164,11 +171,13 @@ unready_left one p b at a o f sheet eo ef room is h e same =
 pub more_taken : (p : PrinterView) (b : ℕ) (sheet : Sheet) (half : List ℕ) → Half (p.half ++ b ∷ []) → sheet ≡ p.sheet → half ≡ p.half ++ b ∷ [] → length p.waiting ≤ most_waiting
     → Took p (b ∷ []) [] (record { sheet = sheet; half = half; waiting = p.waiting; condition = p.condition })
 more_taken p b sheet half h e f room = record {
-  reads = record { commands = tt; whole = sym f; left = inr (subst (λ v. Half v) (sym f) h) };
-  page = λ kept before is. subst (λ v. SheetIs sheet kept v) (sym (append-nil before)) (e ∙ is);
+  ran = record {
+    reads = record { commands = tt; whole = sym f; left = inr (subst (λ v. Half v) (sym f) h) };
+    page = λ kept before is. subst (λ v. SheetIs sheet kept v) (sym (append-nil before)) (e ∙ is);
+    condition = refl;
+    passes = tt;
+  };
   answers = sym (append-nil p.waiting);
-  condition = refl;
-  passes = tt;
   room = room;
 }
 
@@ -196,15 +205,17 @@ pub done_taken : (p q : PrinterView) (b : ℕ) (c : Command) → Spells c (p.hal
     → q.half ≡ [] → q.waiting ≡ p.waiting ++ reply p.condition c → q.condition ≡ p.condition → PassesOffline p.condition c → length q.waiting ≤ most_waiting
     → Took p (b ∷ []) (c ∷ []) q
 done_taken p q b c s page none waits same passes room = record {
-  reads = record {
-    commands = (s.in_range, tt);
-    whole = s.in_table ∙ sym (append-nil (row c)) ∙ sym (append-nil (row c ++ [])) ∙ ap (λ v. (row c ++ []) ++ v) (sym none);
-    left = inl none;
+  ran = record {
+    reads = record {
+      commands = (s.in_range, tt);
+      whole = s.in_table ∙ sym (append-nil (row c)) ∙ sym (append-nil (row c ++ [])) ∙ ap (λ v. (row c ++ []) ++ v) (sym none);
+      left = inl none;
+    };
+    page = page;
+    condition = same;
+    passes = (passes, tt);
   };
-  page = page;
   answers = waits ∙ ap (λ v. p.waiting ++ v) (sym (append-nil (reply p.condition c)));
-  condition = same;
-  passes = (passes, tt);
   room = room;
 }
 
@@ -236,11 +247,13 @@ pub run_taken : (p : PrinterView) (run half : List ℕ) → (p.half ≡ []) ⊎ 
     → ((a : List ℕ) (cs : List Command) → Reads a cs p.half → Reads (a ++ run) cs half)
     → Took p run [] (record { sheet = p.sheet; half = half; waiting = p.waiting; condition = p.condition })
 run_taken p run half left room on = record {
-  reads = on p.half [] (record { commands = tt; whole = refl; left = left });
-  page = λ kept before is. subst (λ v. SheetIs p.sheet kept v) (sym (append-nil before)) is;
+  ran = record {
+    reads = on p.half [] (record { commands = tt; whole = refl; left = left });
+    page = λ kept before is. subst (λ v. SheetIs p.sheet kept v) (sym (append-nil before)) is;
+    condition = refl;
+    passes = tt;
+  };
   answers = sym (append-nil p.waiting);
-  condition = refl;
-  passes = tt;
   room = room;
 }
 

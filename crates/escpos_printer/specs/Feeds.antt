@@ -39,14 +39,17 @@ PassesOffline condition c = IsTrue (is_offline condition) → IsTrue (is_status 
 abbrev pub IsAnswered : Condition → Command → Type 0
 IsAnswered condition c = length (replies condition (c ∷ [])) ≡ 1
 
--- These bytes were taken and read as these commands: the page took the commands, their answers wait, offline all of them
--- are status requests, and no more answers wait than may.
-pub record Took (before : PrinterView) (bytes : List ℕ) (commands : List Command) (after : PrinterView) : Type 0 where
+-- These bytes were read as these commands, which the page took; offline all of them are status requests.
+pub record Ran (before : PrinterView) (bytes : List ℕ) (commands : List Command) (after : PrinterView) : Type 0 where
   pub reads : Reads (before.half ++ bytes) commands after.half
   pub page : (kept : List Item) (cs : List Command) → SheetIs before.sheet kept cs → SheetIs after.sheet kept (cs ++ commands)
-  pub answers : after.waiting ≡ before.waiting ++ replies before.condition commands
   pub condition : after.condition ≡ before.condition
   pub passes : AllByRecursion (PassesOffline before.condition) commands
+
+-- These bytes were taken: beside that their answers wait, and no more wait than may.
+pub record Took (before : PrinterView) (bytes : List ℕ) (commands : List Command) (after : PrinterView) : Type 0 where
+  pub ran : Ran before bytes commands after
+  pub answers : after.waiting ≡ before.waiting ++ replies before.condition commands
   pub room : length after.waiting ≤ most_waiting
 
 -- Why the byte after the half command of this printer isn't taken. Of several causes at one byte the first of these

@@ -6,8 +6,10 @@
 
 mod condition;
 mod printer;
+mod serve;
 #[cfg(test)]
 mod tests;
 
 pub use condition::Condition;
 pub use printer::{Fed, FeedStop, MOST_WAITING, Printer};
+pub use serve::{LinkEnd, Served};

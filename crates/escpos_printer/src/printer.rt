@@ -149,7 +149,7 @@ impl Printer {
     }
 
     // It holds nothing or a half command, and no more answers than may wait.
-    fn is_sound(&self)
+    pub(crate) fn is_sound(&self)
         ensures rest { IsRest self.now.half }
         ensures room { length self.now.waiting ≤ most_waiting }
     {

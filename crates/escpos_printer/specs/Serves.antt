@@ -1,0 +1,84 @@
+-- What serving a link comes to: the bytes that came from it, what the printer made of them, and the bytes of the answers
+-- that went back. It speaks of the whole link; the code reads pieces, and writes answers between them.
+use Rattle.std.specs.Prelude.{ℕ, ◌≡◌, ◌<◌, ◌≤◌, ◌-◌, ◌⊎◌, nat_lt, List, [], ◌∷◌, ◌++◌, length, take, slice_index, Option, Some, None, if◌then◌else◌}
+use Rattle.std.specs.Io.KnownBytes.{Appends, Consumes}
+use Rattle.escpos_io.specs.Gather.{StopsIn}
+use Rattle.escpos_command.specs.declared.answer.Answer.{Answer}
+use Rattle.escpos_command.specs.declared.command.Command.{Command}
+use Rattle.escpos_command.specs.Answers.{answer_bytes, spell_answers}
+use Rattle.escpos_command.specs.Grammar.{Viable}
+use Rattle.escpos_printer.specs.declared.printer.FeedStop.{FeedStop}
+use Rattle.escpos_printer.specs.declared.printer.FeedStop.TheVariants as stop
+use Rattle.escpos_printer.specs.declared.serve.LinkEnd.{LinkEnd}
+use Rattle.escpos_printer.specs.declared.serve.LinkEnd.TheVariants.{Ended, TooLong, Fault, Offline, ReadFault, WriteFault, Memory}
+use Rattle.escpos_printer.specs.declared.serve.Carried.{Carried}
+use Rattle.escpos_printer.specs.declared.serve.Served.{Served}
+use Rattle.escpos_printer.specs.Feeds.{PrinterView, Ran, HasCause}
+use Rattle.escpos_printer.specs.Replies.{replies}
+
+-- The answers after the one that holds byte `at` of the bytes of all of them, counted from 0; where none does, none.
+abbrev pub behind : List Answer → ℕ → List Answer
+behind [] at = []
+behind (a ∷ answers) at = if nat_lt at (length (answer_bytes a)) then answers else behind answers (at - length (answer_bytes a))
+
+-- The bytes that a sink has taken, where it can name them, before and after.
+pub record Sent : Type 0 where
+  pub before : Option (List ℕ)
+  pub after : Option (List ℕ)
+
+abbrev pub sent : Option (List ℕ) → Option (List ℕ) → Sent
+sent before after = record { before = before; after = after }
+
+-- All these answers went out, `written` bytes, and none waits.
+pub record AllOut (s : Sent) (answers : List Answer) (written : ℕ) (waiting : List Answer) : Type 0 where
+  pub out : Appends s.before s.after (spell_answers answers)
+  pub count : written ≡ length (spell_answers answers)
+  pub none : waiting ≡ []
+
+-- The sink failed within these answers: exactly the first `written` of their bytes went out, the answer that holds the next
+-- byte is lost, and those after it wait.
+pub record CutOff (s : Sent) (answers : List Answer) (written : ℕ) (waiting : List Answer) : Type 0 where
+  pub out : StopsIn s.before s.after (spell_answers answers) written
+  pub later : waiting ≡ behind answers written
+
+-- How a link ends where feeding stops so; None is no end.
+abbrev pub end_of : FeedStop → Option LinkEnd
+end_of stop.All = None
+end_of stop.AnswersFull = None
+end_of (stop.Fault at why) = Some (Fault why)
+end_of stop.Offline = Some Offline
+end_of stop.Memory = Some Memory
+
+-- What went out of these answers by this end of a link; None is no end.
+abbrev pub AnswersGo : Option LinkEnd → Sent → List Answer → ℕ → List Answer → Type 0
+AnswersGo (Some WriteFault) s answers written waiting = CutOff s answers written waiting
+AnswersGo end s answers written waiting = AllOut s answers written waiting
+
+-- Why no more of the bytes were taken: there are none; or the next one has a cause. Where the writer failed nothing is said.
+abbrev pub EndsBy : Option LinkEnd → PrinterView → List ℕ → ℕ → Type 0
+EndsBy (Some (Fault why)) taken bytes consumed = (consumed < length bytes) × HasCause (stop.Fault consumed why) taken (slice_index bytes consumed)
+EndsBy (Some Offline) taken bytes consumed = (consumed < length bytes) × HasCause stop.Offline taken (slice_index bytes consumed)
+EndsBy (Some Memory) taken bytes consumed = (consumed < length bytes) × HasCause stop.Memory taken (slice_index bytes consumed)
+EndsBy (Some WriteFault) taken bytes consumed = Unit {0}
+EndsBy end taken bytes consumed = consumed ≡ length bytes
+
+-- The printer with no half command.
+abbrev pub dropped : PrinterView → PrinterView
+dropped printer = record { sheet = printer.sheet; half = []; waiting = printer.waiting; condition = printer.condition }
+
+-- What is left of the printer: a fault drops the half command, also where the writer failed after it.
+abbrev pub IsLeftBy : Option LinkEnd → PrinterView → List ℕ → ℕ → PrinterView → Type 0
+IsLeftBy (Some (Fault why)) taken bytes consumed after = after ≡ dropped taken
+IsLeftBy (Some WriteFault) taken bytes consumed after =
+    (after ≡ taken) ⊎ ((after ≡ dropped taken) × (consumed < length bytes) × (Viable (taken.half ++ slice_index bytes consumed ∷ []) → ⊥))
+IsLeftBy end taken bytes consumed after = after ≡ taken
+
+-- What a printer made of bytes that came, and how far its answers went out.
+pub record Carries (before : PrinterView) (bytes : List ℕ) (s : Sent) (carried : Carried) (after : PrinterView) : Type 0 where
+  pub commands : List Command
+  pub taken : PrinterView
+  pub within : carried.consumed ≤ length bytes
+  pub ran : Ran before (take carried.consumed bytes) commands taken
+  pub answers : AnswersGo carried.end s (before.waiting ++ replies before.condition commands) carried.written taken.waiting
+  pub cause : EndsBy carried.end taken bytes carried.consumed
+  pub left : IsLeftBy carried.end taken bytes carried.consumed after
