@@ -1,11 +1,11 @@
 -- A link, piece by piece: what ran, and which answers went out.
 use Rattle.std.proofs.Common.{◌≡◌, ◌≢◌, ◌<◌, ◌≤◌, ◌+◌, ◌-◌, ◌*◌, ◌⊎◌, inl, inr, ℕ, List, [], ◌∷◌, ◌++◌, length, take, drop, refl, sym, ◌∙◌, ap, subst, append_assoc, append-nil, length-append, length-take, length-drop, arith, Option, Some, None, zero, suc}
 use Rattle.std.specs.Prelude.{slice_index}
-use Rattle.std.proofs.Math.Seq.{take-add, get_or-append_seam}
-use Rattle.std.proofs.lemmas.List.{take-take, get_or-drop, get_or-take}
+use Rattle.std.proofs.Math.Seq.{take-add, take-length, take-append-add, get_or-append_seam}
+use Rattle.std.proofs.lemmas.List.{take-take, get_or-drop, get_or-take, get_or-append-add, take-append-le}
 use Rattle.std.proofs.lemmas.Grind.{flat_map-append}
-use Rattle.std.specs.Io.KnownBytes.{Appends}
-use Rattle.std.proofs.KnownBytes.{Appends-nil}
+use Rattle.std.specs.Io.KnownBytes.{Appends, Consumes, Keeps}
+use Rattle.std.proofs.KnownBytes.{Appends-nil, Consumes-nil, Consumes-trans}
 use Rattle.escpos_command.specs.declared.answer.Answer.{Answer}
 use Rattle.escpos_command.specs.declared.command.Command.{Command}
 use Rattle.escpos_command.specs.declared.fault.FaultReason.{FaultReason}
@@ -16,11 +16,11 @@ use Rattle.escpos_command.specs.Grammar.{Viable, Half, Reads, FaultAt}
 use Rattle.escpos_printer.specs.declared.printer.FeedStop.{FeedStop}
 use Rattle.escpos_printer.specs.declared.printer.FeedStop.TheVariants as stop
 use Rattle.escpos_printer.specs.declared.serve.LinkEnd.{LinkEnd}
-use Rattle.escpos_printer.specs.declared.serve.LinkEnd.TheVariants.{WriteFault}
+use Rattle.escpos_printer.specs.declared.serve.LinkEnd.TheVariants.{Ended, TooLong, Fault, Offline, ReadFault, WriteFault, Memory}
 use Rattle.escpos_printer.specs.declared.serve.Carried.{Carried}
 use Rattle.escpos_printer.specs.Replies.{reply, replies}
 use Rattle.escpos_printer.specs.Feeds.{PrinterView, Ran, Took, Feeds, HasCause, IsLeft, left_half, most_waiting}
-use Rattle.escpos_printer.specs.Serves.{Sent, sent, AllOut, CutOff, AnswersGo, EndsBy, IsLeftBy, Carries, dropped, end_of}
+use Rattle.escpos_printer.specs.Serves.{Sent, sent, AllOut, CutOff, AnswersGo, EndsBy, IsLeftBy, Carries, Serves, IsWithinPiece, link, dropped, end_of}
 use Rattle.escpos_printer.proofs.Taking.{JoinLaw, ran_on, ran_none}
 use Rattle.escpos_printer.proofs.Answering.{all_on, cut_on}
 
@@ -248,3 +248,217 @@ no_write_fault stop.AnswersFull e = absurd cc
 no_write_fault (stop.Fault place why) e = absurd cc
 no_write_fault stop.Offline e = absurd cc
 no_write_fault stop.Memory e = absurd cc
+
+-- ## A piece after pieces
+
+-- What is carried after bytes that passed.
+all_after : (p m : PrinterView) (cs ds : List Command) (a b c : Option (List ℕ)) (n k : ℕ) (w : List Answer) → AllOut (sent a b) (p.waiting ++ replies p.condition cs) n m.waiting
+    → m.condition ≡ p.condition → AllOut (sent b c) (m.waiting ++ replies m.condition ds) k w → AllOut (sent a c) (p.waiting ++ replies p.condition (cs ++ ds)) (n + k) w
+all_after p m cs ds a b c n k w o e h =
+    subst (λ v. AllOut (sent a c) v (n + k) w) (joined_answers p cs ds)
+        (all_on a b c (p.waiting ++ replies p.condition cs) (replies p.condition ds) m.waiting w n k o
+        (subst (λ v. AllOut (sent b c) v k w) (ap (λ v. v ++ replies m.condition ds) o.none ∙ ap (λ v. replies v ds) e) h))
+
+answers_on : (p m : PrinterView) (cs ds : List Command) (end : Option LinkEnd) (a b c : Option (List ℕ)) (n k : ℕ) (w : List Answer)
+    → AllOut (sent a b) (p.waiting ++ replies p.condition cs) n m.waiting → m.condition ≡ p.condition → AnswersGo end (sent b c) (m.waiting ++ replies m.condition ds) k w
+    → AnswersGo end (sent a c) (p.waiting ++ replies p.condition (cs ++ ds)) (n + k) w
+answers_on p m cs ds (Some WriteFault) a b c n k w o e h =
+    subst (λ v. CutOff (sent a c) v (n + k) w) (joined_answers p cs ds)
+        (cut_on a b c (p.waiting ++ replies p.condition cs) (replies p.condition ds) m.waiting w n k o
+        (subst (λ v. CutOff (sent b c) v k w) (ap (λ v. v ++ replies m.condition ds) o.none ∙ ap (λ v. replies v ds) e) h))
+answers_on p m cs ds None a b c n k w o e h = all_after p m cs ds a b c n k w o e h
+answers_on p m cs ds (Some Ended) a b c n k w o e h = all_after p m cs ds a b c n k w o e h
+answers_on p m cs ds (Some TooLong) a b c n k w o e h = all_after p m cs ds a b c n k w o e h
+answers_on p m cs ds (Some ReadFault) a b c n k w o e h = all_after p m cs ds a b c n k w o e h
+answers_on p m cs ds (Some (Fault why)) a b c n k w o e h = all_after p m cs ds a b c n k w o e h
+answers_on p m cs ds (Some Offline) a b c n k w o e h = all_after p m cs ds a b c n k w o e h
+answers_on p m cs ds (Some Memory) a b c n k w o e h = all_after p m cs ds a b c n k w o e h
+
+longer : (x y : List ℕ) (k : ℕ) → k < length y → length x + k < length (x ++ y)
+longer x y k h = let e = length-append x y in omega (arith, e, h)
+
+same_length : (x y : List ℕ) (k : ℕ) → k ≡ length y → length x + k ≡ length (x ++ y)
+same_length x y k h = ap (λ v. length x + v) h ∙ sym (length-append x y)
+
+byte_on : (x y : List ℕ) (k : ℕ) → slice_index y k ≡ slice_index (x ++ y) (length x + k)
+byte_on x y k = sym (get_or-append-add x y k 0)
+
+cause_on : (end : Option LinkEnd) (t : PrinterView) (x y : List ℕ) (k : ℕ) → EndsBy end t y k → EndsBy end t (x ++ y) (length x + k)
+cause_on None t x y k h = same_length x y k h
+cause_on (Some Ended) t x y k h = same_length x y k h
+cause_on (Some TooLong) t x y k h = same_length x y k h
+cause_on (Some ReadFault) t x y k h = same_length x y k h
+cause_on (Some WriteFault) t x y k h = tt
+cause_on (Some (Fault why)) t x y k h = (longer x y k h.0, subst (λ b. HasCause (stop.Fault k why) t b) (byte_on x y k) h.1)
+cause_on (Some Offline) t x y k h = (longer x y k h.0, subst (λ b. HasCause stop.Offline t b) (byte_on x y k) h.1)
+cause_on (Some Memory) t x y k h = (longer x y k h.0, subst (λ b. HasCause stop.Memory t b) (byte_on x y k) h.1)
+
+left_on : (end : Option LinkEnd) (t r : PrinterView) (x y : List ℕ) (k : ℕ) → IsLeftBy end t y k r → IsLeftBy end t (x ++ y) (length x + k) r
+left_on None t r x y k h = h
+left_on (Some Ended) t r x y k h = h
+left_on (Some TooLong) t r x y k h = h
+left_on (Some ReadFault) t r x y k h = h
+left_on (Some WriteFault) t r x y k (inl h) = inl h
+left_on (Some WriteFault) t r x y k (inr h) = inr (h.0, longer x y k h.1, subst (λ b. Viable (t.half ++ b ∷ []) → ⊥) (byte_on x y k) h.2)
+left_on (Some (Fault why)) t r x y k h = h
+left_on (Some Offline) t r x y k h = h
+left_on (Some Memory) t r x y k h = h
+
+pub carries_on : JoinLaw → (p m q : PrinterView) (x y : List ℕ) (a b c : Option (List ℕ)) (n : ℕ) (more : Carried) → Passed p x a b n m → Carries m y (sent b c) more q
+    → Carries p (x ++ y) (sent a c) (record { consumed = length x + more.consumed; written = n + more.written; end = more.end }) q
+carries_on join p m q x y a b c n more o h = record {
+  commands = o.commands ++ h.commands;
+  taken = h.taken;
+  within = let e = length-append x y in let few = h.within in omega (arith, e, few);
+  ran = subst (λ v. Ran p v (o.commands ++ h.commands) h.taken) (sym (take-append-add x y more.consumed))
+      (ran_on join p m h.taken x (take more.consumed y) o.commands h.commands o.ran h.ran);
+  answers = answers_on p m o.commands h.commands more.end a b c n more.written h.taken.waiting o.out o.ran.condition h.answers;
+  cause = cause_on more.end h.taken x y more.consumed h.cause;
+  left = left_on more.end h.taken q x y more.consumed h.left;
+}
+
+pub passed_of : (p q : PrinterView) (bytes : List ℕ) (a b : Option (List ℕ)) (c n : ℕ) → Carries p bytes (sent a b) (record { consumed = c; written = n; end = None }) q → Passed p bytes a b n q
+passed_of p q bytes a b c n h = record {
+  commands = h.commands;
+  ran = subst (λ v. Ran p bytes h.commands v) (sym h.left) (subst (λ v. Ran p v h.commands h.taken) (ap (λ k. take k bytes) h.cause ∙ take-length bytes) h.ran);
+  out = subst (λ (v : PrinterView). AllOut (sent a b) (p.waiting ++ replies p.condition h.commands) n v.waiting) (sym h.left) h.answers;
+}
+
+-- The bytes have ended, or no more are read.
+pub record IsClean (end : LinkEnd) : Type 0 where
+  pub answers : (s : Sent) (answers : List Answer) (written : ℕ) (w : List Answer) → AllOut s answers written w → AnswersGo (Some end) s answers written w
+  pub cause : (t : PrinterView) (bytes : List ℕ) (k : ℕ) → k ≡ length bytes → EndsBy (Some end) t bytes k
+  pub left : (t : PrinterView) (bytes : List ℕ) (k : ℕ) → IsLeftBy (Some end) t bytes k t
+
+pub clean_ended : IsClean Ended
+clean_ended = record { answers = λ s xs n w h. h; cause = λ t bytes k h. h; left = λ t bytes k. refl }
+
+pub clean_too_long : IsClean TooLong
+clean_too_long = record { answers = λ s xs n w h. h; cause = λ t bytes k h. h; left = λ t bytes k. refl }
+
+pub clean_read_fault : IsClean ReadFault
+clean_read_fault = record { answers = λ s xs n w h. h; cause = λ t bytes k h. h; left = λ t bytes k. refl }
+
+pub carries_end : (p q : PrinterView) (bytes : List ℕ) (a b : Option (List ℕ)) (c n : ℕ) (end : LinkEnd) → IsClean end → Passed p bytes a b n q → c ≡ length bytes
+    → Carries p bytes (sent a b) (record { consumed = c; written = n; end = Some end }) q
+carries_end p q bytes a b c n end clean o e = record {
+  commands = o.commands;
+  taken = q;
+  within = omega (arith, e);
+  ran = subst (λ v. Ran p v o.commands q) (sym (ap (λ k. take k bytes) e ∙ take-length bytes)) o.ran;
+  answers = clean.answers (sent a b) (p.waiting ++ replies p.condition o.commands) n q.waiting o.out;
+  cause = clean.cause q bytes c e;
+  left = clean.left q bytes c;
+}
+
+-- ## A link
+
+-- The bytes that were read so far passed.
+pub record Reading (p : PrinterView) (r0 r a b : Option (List ℕ)) (read written : ℕ) (q : PrinterView) : Type 0 where
+  pub bytes : List ℕ
+  pub came : Consumes r0 r bytes
+  pub count : read ≡ length bytes
+  pub passed : Passed p bytes a b written q
+
+-- No byte was read yet, and the answers that waited went out.
+pub reading_none : (p q : PrinterView) (r a b : Option (List ℕ)) (n : ℕ) → (p.half ≡ []) ⊎ Half p.half → AllOut (sent a b) p.waiting n q.waiting → Answered p q → Reading p r r a b 0 n q
+reading_none p q r a b n left out same = record {
+  bytes = [];
+  came = Consumes-nil r;
+  count = refl;
+  passed = record {
+    commands = [];
+    ran = subst (λ v. Ran p [] [] v) (sym (same_view q p.sheet p.half p.condition same.sheet same.half same.condition)) (ran_waits p p [] [] q.waiting (ran_none p left));
+    out = subst (λ v. AllOut (sent a b) v n q.waiting) (sym (append-nil p.waiting)) out;
+  };
+}
+
+-- A piece was read and carried, and reading goes on.
+pub reading_on : JoinLaw → (p m q : PrinterView) (y : List ℕ) (r0 r r1 a b c : Option (List ℕ)) (read n k : ℕ) (more : Carried) → Reading p r0 r a b read n m → Consumes r r1 y
+    → k ≡ length y → Carries m y (sent b c) more q → more.end ≡ None → Reading p r0 r1 a c (read + k) (n + more.written) q
+reading_on join p m q y r0 r r1 a b c read n k more h came e carries none = record {
+  bytes = h.bytes ++ y;
+  came = Consumes-trans r0 r r1 h.bytes y h.came came;
+  count = let f = h.count in let g = length-append h.bytes y in omega (arith, e, f, g);
+  passed =
+      passed_of p q (h.bytes ++ y) a c (length h.bytes + more.consumed) (n + more.written)
+      (subst (λ v. Carries p (h.bytes ++ y) (sent a c) (record { consumed = length h.bytes + more.consumed; written = n + more.written; end = v }) q) none
+      (carries_on join p m q h.bytes y a b c n more h.passed carries));
+}
+
+-- A piece was read, and the link ended in it.
+pub serves_piece : JoinLaw → (p m q : PrinterView) (y : List ℕ) (r0 r r1 a b c : Option (List ℕ)) (most read n k : ℕ) (more : Carried) (end : LinkEnd) → Reading p r0 r a b read n m → Consumes r r1 y
+    → k ≡ length y → read + k ≤ most → Carries m y (sent b c) more q → more.end ≡ Some end → end ≢ TooLong
+    → Serves p (link r0 r1 a c) most (record { read = read + k; consumed = read + more.consumed; written = n + more.written; end = end }) q
+serves_piece join p m q y r0 r r1 a b c most read n k more end h came e few carries is ne = record {
+  bytes = h.bytes ++ y;
+  came = Consumes-trans r0 r r1 h.bytes y h.came came;
+  read = let f = h.count in let g = length-append h.bytes y in omega (arith, e, f, g);
+  within = few;
+  carries =
+      subst (λ v. Carries p (h.bytes ++ y) (sent a c) (record { consumed = v + more.consumed; written = n + more.written; end = Some end }) q) (sym h.count)
+          (subst (λ v. Carries p (h.bytes ++ y) (sent a c) (record { consumed = length h.bytes + more.consumed; written = n + more.written; end = v }) q) is
+          (carries_on join p m q h.bytes y a b c n more h.passed carries));
+  too_long = λ t. absurd (ne t);
+}
+
+-- The link ended between pieces.
+pub serves_clean : (p q : PrinterView) (r0 r r1 a b : Option (List ℕ)) (most read n : ℕ) (end : LinkEnd) → IsClean end → Reading p r0 r a b read n q → Consumes r r1 [] → read ≤ most
+    → (end ≡ TooLong → read ≡ most) → Serves p (link r0 r1 a b) most (record { read = read; consumed = read; written = n; end = end }) q
+serves_clean p q r0 r r1 a b most read n end clean h came few long = record {
+  bytes = h.bytes;
+  came = subst (λ v. Consumes r0 r1 v) (append-nil h.bytes) (Consumes-trans r0 r r1 h.bytes [] h.came came);
+  read = h.count;
+  within = few;
+  carries = carries_end p q h.bytes a b read n end clean h.passed h.count;
+  too_long = long;
+}
+
+-- The writer failed before any byte was read.
+pub serves_cut : (p q : PrinterView) (r a b : Option (List ℕ)) (most n : ℕ) → (p.half ≡ []) ⊎ Half p.half → CutOff (sent a b) p.waiting n q.waiting → Answered p q
+    → Serves p (link r r a b) most (record { read = 0; consumed = 0; written = n; end = WriteFault }) q
+serves_cut p q r a b most n left out same = record {
+  bytes = [];
+  came = Consumes-nil r;
+  read = refl;
+  within = omega arith;
+  carries = record {
+    commands = [];
+    taken = q;
+    within = omega arith;
+    ran = subst (λ v. Ran p [] [] v) (sym (same_view q p.sheet p.half p.condition same.sheet same.half same.condition)) (ran_waits p p [] [] q.waiting (ran_none p left));
+    answers = subst (λ v. CutOff (sent a b) v n q.waiting) (sym (append-nil p.waiting)) out;
+    cause = tt;
+    left = inl refl;
+  };
+  too_long = λ e. absurd cc;
+}
+
+pub within_piece : (why : FeedStop) → IsWithinPiece (end_of why)
+within_piece stop.All = tt
+within_piece stop.AnswersFull = tt
+within_piece (stop.Fault place why) = tt
+within_piece stop.Offline = tt
+within_piece stop.Memory = tt
+
+-- So it ends in none of these ways.
+pub record NotBetween (end : LinkEnd) : Type 0 where
+  pub ended : end ≢ Ended
+  pub too_long : end ≢ TooLong
+  pub read_fault : end ≢ ReadFault
+
+pub not_between : (e : Option LinkEnd) (end : LinkEnd) → IsWithinPiece e → e ≡ Some end → NotBetween end
+not_between e end h is =
+    let k = subst (λ v. IsWithinPiece v) is h in
+    record {
+      ended = λ f. subst (λ v. IsWithinPiece (Some v)) f k;
+      too_long = λ f. subst (λ v. IsWithinPiece (Some v)) f k;
+      read_fault = λ f. subst (λ v. IsWithinPiece (Some v)) f k;
+    }
+
+-- The bytes at the front of a buffer into which they were pulled.
+pub pulled_front : (count : ℕ) (new rest : List ℕ) → count ≤ length new → take count (new ++ rest) ≡ take count new
+pulled_front count new rest h = take-append-le count new rest h
+
+pub pulled_length : (count : ℕ) (new : List ℕ) → count ≤ length new → count ≡ length (take count new)
+pulled_length count new h = let e = length-take count new in omega (arith, e, h)

@@ -82,3 +82,29 @@ pub record Carries (before : PrinterView) (bytes : List ℕ) (s : Sent) (carried
   pub answers : AnswersGo carried.end s (before.waiting ++ replies before.condition commands) carried.written taken.waiting
   pub cause : EndsBy carried.end taken bytes carried.consumed
   pub left : IsLeftBy carried.end taken bytes carried.consumed after
+
+-- How a link may end within a piece.
+abbrev pub IsWithinPiece : Option LinkEnd → Type 0
+IsWithinPiece (Some Ended) = ⊥
+IsWithinPiece (Some TooLong) = ⊥
+IsWithinPiece (Some ReadFault) = ⊥
+IsWithinPiece end = Unit {0}
+
+-- A link before and after: the bytes to come from the host, and the bytes that it was sent, where they are known.
+pub record LinkView : Type 0 where
+  pub came : Option (List ℕ)
+  pub left : Option (List ℕ)
+  pub sent : Sent
+
+abbrev pub link : Option (List ℕ) → Option (List ℕ) → Option (List ℕ) → Option (List ℕ) → LinkView
+link came left before after = record { came = came; left = left; sent = sent before after }
+
+-- What serving a link comes to. `read` bytes came from it, at most as many as it may have; of these the printer took
+-- `consumed`; and `written` bytes of answers went out.
+pub record Serves (before : PrinterView) (l : LinkView) (most : ℕ) (served : Served) (after : PrinterView) : Type 0 where
+  pub bytes : List ℕ
+  pub came : Consumes l.came l.left bytes
+  pub read : served.read ≡ length bytes
+  pub within : served.read ≤ most
+  pub carries : Carries before bytes l.sent (record { consumed = served.consumed; written = served.written; end = Some served.end }) after
+  pub too_long : served.end ≡ TooLong → served.read ≡ most

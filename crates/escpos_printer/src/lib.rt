@@ -12,4 +12,4 @@ mod tests;
 
 pub use condition::Condition;
 pub use printer::{Fed, FeedStop, MOST_WAITING, Printer};
-pub use serve::{LinkEnd, Served};
+pub use serve::{LinkEnd, Served, serve_link};

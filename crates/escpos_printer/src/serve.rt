@@ -5,12 +5,12 @@
 
 ghost use Rattle.std.specs.Prelude.{◌≡◌, ◌≢◌, ◌≤◌, ◌*◌, ◌+◌, [], length, Some, IsTrue, IfOk, IfErr, OnOk, OnErr};
 ghost use Rattle.escpos_printer.specs.Feeds.{most_waiting};
-ghost use Rattle.escpos_printer.specs.Serves.{AllOut, CutOff, Carries, sent, end_of};
+ghost use Rattle.escpos_printer.specs.Serves.{Serves, AllOut, CutOff, Carries, IsWithinPiece, link, sent, end_of};
 ghost use Rattle.escpos_printer.specs.declared.serve.LinkEnd.{LinkEnd};
 
 use crate::printer::{FeedStop, Printer};
 use escpos_command::{FaultReason, laws};
-use escpos_io::{ByteOut, put_all};
+use escpos_io::{ByteIn, ByteOut, Failed, put_all};
 
 /// How serving a link ended.
 #[derive(Clone, Copy, Debug, PartialEq, Eq)]
@@ -55,6 +55,89 @@ struct Carried {
     end: Option<LinkEnd>,
 }
 
+// How many bytes one call of `pull` asks for at most.
+const PIECE_BYTES: usize = 512;
+
+const _: () = prove!(PIECE_BYTES == 512);
+
+/// Serves a link until it ends: reads the host's bytes in pieces of at most 512, feeds them to the printer, and writes its
+/// answers, all of them before each read and before any end. Takes no memory but what the page and the decoder need.
+///
+/// It reads at most `max_bytes` bytes, and calls `pull` at most `max_bytes` + 1 times. Bytes that were read and not taken are
+/// lost. Where the writer fails, that is the end, whatever else has come: the answer that was being written is lost, and
+/// later ones wait.
+pub fn serve_link<R: ByteIn, W: ByteOut>(
+    printer: &mut Printer,
+    reader: &mut R,
+    writer: &mut W,
+    max_bytes: u32,
+) -> Served
+    ensures served { Serves printer.old (link (R.to_come reader.old) (R.to_come reader.new) (W.written writer.old) (W.written writer.new))
+        max_bytes result printer.new }
+    ensures ended { result.end ≡ LinkEnd.Ended → IsTrue (R.ended reader.new) }
+    ensures read_fault { result.end ≡ LinkEnd.ReadFault → IsTrue (R.failed reader.new) }
+    ensures write_fault { result.end ≡ LinkEnd.WriteFault → IsTrue (W.failed writer.new) }
+    ensures reader_well { ¬ IsTrue (R.failed reader.old) → result.end ≢ LinkEnd.ReadFault → ¬ IsTrue (R.failed reader.new) }
+    ensures writer_well { ¬ IsTrue (W.failed writer.old) → result.end ≢ LinkEnd.WriteFault → ¬ IsTrue (W.failed writer.new) }
+    ensures pulls { R.pull_count reader.new ≤ R.pull_count reader.old + max_bytes + 1 }
+{
+    laws::joined_readings();
+    printer.is_sound();
+    let most = max_bytes as usize;
+    let mut piece = [0; PIECE_BYTES];
+    let mut read = 0;
+    let mut written = match put_answers(printer, writer) {
+        Ok(count) => count,
+        Err(written) => {
+            return Served {
+                read,
+                consumed: 0,
+                written,
+                end: LinkEnd::WriteFault,
+            };
+        }
+    };
+    while read < most {
+        let asked = PIECE_BYTES.min(most - read);
+        let count = match reader.pull(&mut piece[..asked]) {
+            Ok(count) => count,
+            Err(Failed) => {
+                return Served {
+                    read,
+                    consumed: read,
+                    written,
+                    end: LinkEnd::ReadFault,
+                };
+            }
+        };
+        if count == 0 {
+            return Served {
+                read,
+                consumed: read,
+                written,
+                end: LinkEnd::Ended,
+            };
+        }
+        let carried = serve_piece(printer, writer, &piece[..count]);
+        written += carried.written;
+        if let Some(end) = carried.end {
+            return Served {
+                read: read + count,
+                consumed: read + carried.consumed,
+                written,
+                end,
+            };
+        }
+        read += count;
+    }
+    Served {
+        read,
+        consumed: read,
+        written,
+        end: LinkEnd::TooLong,
+    }
+}
+
 // Writes all answers that wait, and says how many bytes that were; `Err` where the writer failed.
 fn put_answers<W: ByteOut>(printer: &mut Printer, writer: &mut W) -> Result<usize, usize>
     ensures all { IfOk result (λ n. AllOut (sent (W.written writer.old) (W.written writer.new)) printer.old.waiting n printer.new.waiting) }
@@ -83,6 +166,7 @@ fn serve_piece<W: ByteOut>(printer: &mut Printer, writer: &mut W, piece: &[u8]) 
     requires short { length piece.now ≤ 512 }
     ensures carried { Carries printer.old piece.now (sent (W.written writer.old) (W.written writer.new)) result printer.new }
     ensures few { result.written ≤ 112 * (result.consumed + 1) }
+    ensures end { IsWithinPiece result.end }
     ensures failed { result.end ≡ Some LinkEnd.WriteFault → IsTrue (W.failed writer.new) }
     ensures not_failed { ¬ IsTrue (W.failed writer.old) → result.end ≢ Some LinkEnd.WriteFault → ¬ IsTrue (W.failed writer.new) }
 {

@@ -1,7 +1,7 @@
 use Rattle.std.proofs.Common.{arith, ◌≡◌, ◌<◌, ◌+◌, ◌-◌, ◌*◌, length, sym, ◌∙◌, subst}
 use Rattle.escpos_printer.specs.declared.printer.FeedStop.TheVariants as stop
-use Rattle.escpos_printer.specs.Serves.{Carries, sent}
-use Rattle.escpos_printer.proofs.Serving.{FedAt, passed_none, fed_at, broken, carried, go_on, some_taken, no_write_fault}
+use Rattle.escpos_printer.specs.Serves.{Carries, IsWithinPiece, sent}
+use Rattle.escpos_printer.proofs.Serving.{FedAt, passed_none, fed_at, broken, carried, go_on, some_taken, no_write_fault, within_piece}
 use Rattle.escpos_printer.proofs.serve.serve_piece.Given as given
 use Rattle.escpos_printer.proofs.serve.serve_piece.Goals as goal
 
@@ -66,6 +66,7 @@ returns-in-loop-count g c =
               c.in-Ok.ensures.all
               (record { sheet = c.in-Ok.ensures.same.0; half = c.in-Ok.ensures.same.1; condition = c.in-Ok.ensures.same.2 }));
       few = omega (arith, before, count);
+      end = subst (λ v. IsWithinPiece v) (sym c.end_of.ensures) (within_piece c.feed-fed.result.stop);
       failed = λ e. absurd (no_write_fault c.feed-fed.result.stop (sym c.end_of.ensures ∙ e));
       not_failed = λ well ne. c.in-Ok.ensures.not_failed (c.loop-count.invariant.not_failed well);
     }
