@@ -1,14 +1,12 @@
 -- The bytes of answers that go out one after another.
-use Rattle.std.proofs.Common.{◌≡◌, ◌<◌, ◌≤◌, ◌+◌, ◌-◌, ◌*◌, ℕ, List, [], ◌∷◌, ◌++◌, Bool, true, false, length, take, drop, refl, sym, ◌∙◌, ap, subst, append_assoc, append-nil, length-append, arith, Option, Some, None, cond}
+use Rattle.std.proofs.Common.{◌≡◌, ◌<◌, ◌≤◌, ◌+◌, ◌-◌, ℕ, List, [], ◌∷◌, ◌++◌, Bool, true, false, length, take, drop, refl, sym, ◌∙◌, ap, subst, append_assoc, append-nil, length-append, arith, Option, Some, None, cond}
 use Rattle.std.specs.Prelude.{slice_get, nat_lt}
-use Rattle.std.specs.List.{flat_map}
 use Rattle.std.specs.Io.KnownBytes.{Appends}
 use Rattle.std.proofs.KnownBytes.{Appends-nil, Appends-trans}
 use Rattle.std.proofs.Math.Seq.{take-append-add}
 use Rattle.std.proofs.lemmas.List.{take-append-le}
 use Rattle.std.proofs.lemmas.Bool.Decides.{nat_tests}
 use Rattle.std.proofs.lemmas.Grind.{flat_map-append}
-use Rattle.escpos_io.specs.Gather.{StopsIn}
 use Rattle.escpos_command.specs.declared.answer.Answer.{Answer}
 use Rattle.escpos_command.specs.declared.answer.Answer.TheVariants as answer
 use Rattle.escpos_command.specs.Answers.{answer_bytes, spell_answers}
@@ -92,9 +90,9 @@ out_cut w0 w v all rest a n k o few h =
     let bytes : spell_answers all ≡ spell_answers o.gone ++ (answer_bytes a ++ spell_answers rest) = ap spell_answers o.split ∙ all_bytes o.gone a rest in
     let within : k ≤ length (answer_bytes a) = omega arith in
     let front : take (n + k) (spell_answers all) ≡ spell_answers o.gone ++ take k (answer_bytes a) =
-        ap (λ m. take (m + k) (spell_answers all)) o.count ∙ ap (λ bs. take (length (spell_answers o.gone) + k) bs) bytes
-        ∙ take-append-add (spell_answers o.gone) (answer_bytes a ++ spell_answers rest) k
-        ∙ ap (λ bs. spell_answers o.gone ++ bs) (take-append-le k (answer_bytes a) (spell_answers rest) within) in
+    ap (λ m. take (m + k) (spell_answers all)) o.count ∙ ap (λ bs. take (length (spell_answers o.gone) + k) bs) bytes
+    ∙ take-append-add (spell_answers o.gone) (answer_bytes a ++ spell_answers rest) k
+    ∙ ap (λ bs. spell_answers o.gone ++ bs) (take-append-le k (answer_bytes a) (spell_answers rest) within) in
     record {
       out = record {
         front = subst (λ bs. Appends w0 v bs) (sym front) (Appends-trans w0 w v (spell_answers o.gone) (take k (answer_bytes a)) o.out h);
@@ -131,8 +129,8 @@ all_on a b c xs ys v w n k o p = record {
 pub cut_on : (a b c : Option (List ℕ)) (xs ys v w : List Answer) (n k : ℕ) → AllOut (sent a b) xs n v → CutOff (sent b c) ys k w → CutOff (sent a c) (xs ++ ys) (n + k) w
 cut_on a b c xs ys v w n k o p =
     let front : take (n + k) (spell_answers (xs ++ ys)) ≡ spell_answers xs ++ take k (spell_answers ys) =
-        ap (λ m. take (m + k) (spell_answers (xs ++ ys))) o.count ∙ ap (λ bs. take (length (spell_answers xs) + k) bs) (spell_both xs ys)
-        ∙ take-append-add (spell_answers xs) (spell_answers ys) k in
+    ap (λ m. take (m + k) (spell_answers (xs ++ ys))) o.count ∙ ap (λ bs. take (length (spell_answers xs) + k) bs) (spell_both xs ys)
+    ∙ take-append-add (spell_answers xs) (spell_answers ys) k in
     record {
       out = record {
         front = subst (λ bs. Appends a c bs) (sym front) (Appends-trans a b c (spell_answers xs) (take k (spell_answers ys)) o.out p.out.front);

@@ -1,10 +1,10 @@
 -- A link, piece by piece: what ran, and which answers went out.
-use Rattle.std.proofs.Common.{◌≡◌, ◌≢◌, ◌<◌, ◌≤◌, ◌+◌, ◌-◌, ◌*◌, ◌⊎◌, inl, inr, ℕ, List, [], ◌∷◌, ◌++◌, length, take, drop, refl, sym, ◌∙◌, ap, subst, append_assoc, append-nil, length-append, length-take, length-drop, arith, Option, Some, None, zero, suc}
+use Rattle.std.proofs.Common.{◌≡◌, ◌≢◌, ◌<◌, ◌≤◌, ◌+◌, ◌-◌, ◌⊎◌, inl, inr, ℕ, List, [], ◌∷◌, ◌++◌, length, take, drop, refl, sym, ◌∙◌, ap, subst, append_assoc, append-nil, length-append, length-take, length-drop, arith, Option, Some, None, zero, suc}
 use Rattle.std.specs.Prelude.{slice_index}
 use Rattle.std.proofs.Math.Seq.{take-add, take-length, take-append-add, get_or-append_seam}
 use Rattle.std.proofs.lemmas.List.{take-take, get_or-drop, get_or-take, get_or-append-add, take-append-le}
 use Rattle.std.proofs.lemmas.Grind.{flat_map-append}
-use Rattle.std.specs.Io.KnownBytes.{Appends, Consumes, Keeps}
+use Rattle.std.specs.Io.KnownBytes.{Appends, Consumes}
 use Rattle.std.proofs.KnownBytes.{Appends-nil, Consumes-nil, Consumes-trans}
 use Rattle.escpos_command.specs.declared.answer.Answer.{Answer}
 use Rattle.escpos_command.specs.declared.command.Command.{Command}
@@ -19,8 +19,8 @@ use Rattle.escpos_printer.specs.declared.serve.LinkEnd.{LinkEnd}
 use Rattle.escpos_printer.specs.declared.serve.LinkEnd.TheVariants.{Ended, TooLong, Fault, Offline, ReadFault, WriteFault, Memory}
 use Rattle.escpos_printer.specs.declared.serve.Carried.{Carried}
 use Rattle.escpos_printer.specs.Replies.{reply, replies}
-use Rattle.escpos_printer.specs.Feeds.{PrinterView, Ran, Took, Feeds, HasCause, IsLeft, left_half, most_waiting}
-use Rattle.escpos_printer.specs.Serves.{Sent, sent, AllOut, CutOff, AnswersGo, EndsBy, IsLeftBy, Carries, Serves, IsWithinPiece, link, dropped, end_of}
+use Rattle.escpos_printer.specs.Feeds.{PrinterView, Ran, Took, Feeds, HasCause, IsLeft, left_half}
+use Rattle.escpos_printer.specs.Serves.{Sent, sent, AllOut, CutOff, AnswersGo, EndsBy, IsLeftBy, Carries, Serves, IsWithinPiece, link, end_of}
 use Rattle.escpos_printer.proofs.Taking.{JoinLaw, ran_on, ran_none}
 use Rattle.escpos_printer.proofs.Answering.{all_on, cut_on}
 
@@ -165,7 +165,7 @@ go_on join p m q r piece a b e c k n count o f out same =
     let w = ap (λ (v : PrinterView). v.waiting) f.left in
     let on = passed_on join p m f.taken (take c piece) (take k (drop c piece)) a b e n count r.waiting f.commands o f.took (subst (λ v. AllOut (sent b e) v count r.waiting) w out) in
     subst (λ v. Passed p v a e (n + count) r) (whole_front piece c k)
-        (subst (λ v. Passed p (take c piece ++ take k (drop c piece)) a e (n + count) v) (sym (after_stop f.taken q r stop.AnswersFull f.left same)) on)
+    (subst (λ v. Passed p (take c piece ++ take k (drop c piece)) a e (n + count) v) (sym (after_stop f.taken q r stop.AnswersFull f.left same)) on)
 
 ends_by : (t : PrinterView) (piece : List ℕ) (at : ℕ) (why : FeedStop) (w : List Answer) → why ≢ stop.AnswersFull → w ≡ []
     → ((why ≡ stop.All) × (at ≡ length piece)) ⊎ ((at < length piece) × HasCause why t (slice_index piece at)) → EndsBy (end_of why) (waits t w) piece at
@@ -256,16 +256,16 @@ all_after : (p m : PrinterView) (cs ds : List Command) (a b c : Option (List ℕ
     → m.condition ≡ p.condition → AllOut (sent b c) (m.waiting ++ replies m.condition ds) k w → AllOut (sent a c) (p.waiting ++ replies p.condition (cs ++ ds)) (n + k) w
 all_after p m cs ds a b c n k w o e h =
     subst (λ v. AllOut (sent a c) v (n + k) w) (joined_answers p cs ds)
-        (all_on a b c (p.waiting ++ replies p.condition cs) (replies p.condition ds) m.waiting w n k o
-        (subst (λ v. AllOut (sent b c) v k w) (ap (λ v. v ++ replies m.condition ds) o.none ∙ ap (λ v. replies v ds) e) h))
+    (all_on a b c (p.waiting ++ replies p.condition cs) (replies p.condition ds) m.waiting w n k o
+    (subst (λ v. AllOut (sent b c) v k w) (ap (λ v. v ++ replies m.condition ds) o.none ∙ ap (λ v. replies v ds) e) h))
 
 answers_on : (p m : PrinterView) (cs ds : List Command) (end : Option LinkEnd) (a b c : Option (List ℕ)) (n k : ℕ) (w : List Answer)
     → AllOut (sent a b) (p.waiting ++ replies p.condition cs) n m.waiting → m.condition ≡ p.condition → AnswersGo end (sent b c) (m.waiting ++ replies m.condition ds) k w
     → AnswersGo end (sent a c) (p.waiting ++ replies p.condition (cs ++ ds)) (n + k) w
 answers_on p m cs ds (Some WriteFault) a b c n k w o e h =
     subst (λ v. CutOff (sent a c) v (n + k) w) (joined_answers p cs ds)
-        (cut_on a b c (p.waiting ++ replies p.condition cs) (replies p.condition ds) m.waiting w n k o
-        (subst (λ v. CutOff (sent b c) v k w) (ap (λ v. v ++ replies m.condition ds) o.none ∙ ap (λ v. replies v ds) e) h))
+    (cut_on a b c (p.waiting ++ replies p.condition cs) (replies p.condition ds) m.waiting w n k o
+    (subst (λ v. CutOff (sent b c) v k w) (ap (λ v. v ++ replies m.condition ds) o.none ∙ ap (λ v. replies v ds) e) h))
 answers_on p m cs ds None a b c n k w o e h = all_after p m cs ds a b c n k w o e h
 answers_on p m cs ds (Some Ended) a b c n k w o e h = all_after p m cs ds a b c n k w o e h
 answers_on p m cs ds (Some TooLong) a b c n k w o e h = all_after p m cs ds a b c n k w o e h
@@ -397,8 +397,8 @@ serves_piece join p m q y r0 r r1 a b c most read n k more end h came e few carr
   within = few;
   carries =
       subst (λ v. Carries p (h.bytes ++ y) (sent a c) (record { consumed = v + more.consumed; written = n + more.written; end = Some end }) q) (sym h.count)
-          (subst (λ v. Carries p (h.bytes ++ y) (sent a c) (record { consumed = length h.bytes + more.consumed; written = n + more.written; end = v }) q) is
-          (carries_on join p m q h.bytes y a b c n more h.passed carries));
+      (subst (λ v. Carries p (h.bytes ++ y) (sent a c) (record { consumed = length h.bytes + more.consumed; written = n + more.written; end = v }) q) is
+      (carries_on join p m q h.bytes y a b c n more h.passed carries));
   too_long = λ t. absurd (ne t);
 }
 

@@ -1,5 +1,7 @@
 //! The worked rows of the printer.
 
+mod link;
+
 use super::*;
 use escpos_command::{Answer, FaultReason, MarkId};
 use escpos_paper::Item;

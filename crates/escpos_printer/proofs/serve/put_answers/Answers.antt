@@ -1,6 +1,4 @@
-use Rattle.std.proofs.Common.{◌≡◌, ◌<◌, ◌+◌, ◌*◌, List, ◌∷◌, drop, length, arith, sym, ◌∙◌, ap, subst, IsTrue}
-use Rattle.std.specs.Io.KnownBytes.{Appends}
-use Rattle.escpos_command.specs.Answers.{answer_bytes}
+use Rattle.std.proofs.Common.{◌+◌, length, arith, sym, ◌∙◌, ap, subst}
 use Rattle.escpos_printer.specs.Feeds.{PrinterView}
 use Rattle.escpos_printer.specs.Serves.{CutOff, sent}
 use Rattle.escpos_printer.proofs.Answering.{Out, some_first, out_more, out_cut, answer_begins}
@@ -12,10 +10,10 @@ returns-in-Err-clause-some g c =
     let rest = ap (λ (p : PrinterView). p.waiting) c.take_answer.ensures.left in
     let bytes = c.as_slice.ensures.value ∙ c.bytes-bytes.ensures.bytes in
     subst (λ xs. CutOff (sent (g.W.ByteOut.written c.args.writer.now) (g.W.ByteOut.written c.put_all.new.writer)) c.args.printer.now.waiting (c.loop-answer.written + c.in-Err.device.written) xs)
-        (sym rest)
-        (out_cut _ _ _ _ _ c.in-Some.answer _ _
-        (subst (λ xs. Out (g.W.ByteOut.written c.args.writer.now) (g.W.ByteOut.written c.loop-answer.writer) c.args.printer.now.waiting xs c.loop-answer.written) split c.loop-answer.invariant.out)
-        (rw bytes at c.in-Err.ensures.fewer) (rw bytes at c.in-Err.ensures.some))
+    (sym rest)
+    (out_cut _ _ _ _ _ c.in-Some.answer _ _
+    (subst (λ xs. Out (g.W.ByteOut.written c.args.writer.now) (g.W.ByteOut.written c.loop-answer.writer) c.args.printer.now.waiting xs c.loop-answer.written) split c.loop-answer.invariant.out)
+    (rw bytes at c.in-Err.ensures.fewer) (rw bytes at c.in-Err.ensures.some))
 
 pub loop-answer-preserved : goal.loop-answer-preserved
 loop-answer-preserved g c =
@@ -25,9 +23,9 @@ loop-answer-preserved g c =
     let bytes = c.as_slice.ensures.value ∙ c.bytes-bytes.ensures.bytes in
     let count = c.len-written.ensures.value ∙ ap length c.bytes-bytes.ensures.bytes in
     let out =
-        out_more _ _ (g.W.ByteOut.written c.put_all.new.writer) _ _ c.in-Some.answer _
-        (subst (λ xs. Out (g.W.ByteOut.written c.args.writer.now) (g.W.ByteOut.written c.loop-answer.writer) c.args.printer.now.waiting xs c.loop-answer.written) split c.loop-answer.invariant.out)
-        (rw bytes at c.in_default-put_all.ensures.all) in
+    out_more _ _ (g.W.ByteOut.written c.put_all.new.writer) _ _ c.in-Some.answer _
+    (subst (λ xs. Out (g.W.ByteOut.written c.args.writer.now) (g.W.ByteOut.written c.loop-answer.writer) c.args.printer.now.waiting xs c.loop-answer.written) split c.loop-answer.invariant.out)
+    (rw bytes at c.in_default-put_all.ensures.all) in
     record {
       out = rw (rest, count) out;
       sheet = ap (λ (p : PrinterView). p.sheet) left ∙ c.loop-answer.invariant.sheet;

@@ -1,4 +1,4 @@
-use Rattle.std.proofs.Common.{◌≤◌, [], arith, refl, take, drop, length, length-take, length-drop, length-append}
+use Rattle.std.proofs.Common.{◌≤◌, arith, refl, take, drop, length, length-take, length-drop, length-append}
 use Rattle.escpos_printer.proofs.Serving.{serves_cut, reading_none, reading_on, serves_piece, not_between, pulled_front, pulled_length}
 use Rattle.escpos_printer.proofs.serve.serve_link.Goals as goal
 

@@ -1,4 +1,4 @@
-use Rattle.std.proofs.Common.{arith, ◌≡◌, ◌<◌, ◌+◌, ◌-◌, ◌*◌, length, sym, ◌∙◌, subst}
+use Rattle.std.proofs.Common.{arith, ◌<◌, ◌+◌, sym, ◌∙◌, subst}
 use Rattle.escpos_printer.specs.declared.printer.FeedStop.TheVariants as stop
 use Rattle.escpos_printer.specs.Serves.{Carries, IsWithinPiece, sent}
 use Rattle.escpos_printer.proofs.Serving.{FedAt, passed_none, fed_at, broken, carried, go_on, some_taken, no_write_fault, within_piece}
@@ -25,7 +25,7 @@ returns-in-Err-clause-carried g c =
 full : (g : given.Over) (c : goal.In-AnswersFull g) → FedAt c.loop-count.printer c.args.piece.now c.loop-count.consumed c.feed-fed.result.consumed stop.AnswersFull c.feed-fed.new.self
 full g c =
     subst (λ v. FedAt c.loop-count.printer c.args.piece.now c.loop-count.consumed c.feed-fed.result.consumed v c.feed-fed.new.self) c.in-AnswersFull.is
-        (fed_at c.loop-count.printer c.feed-fed.new.self c.args.piece.now c.loop-count.consumed c.feed-fed.result.consumed c.feed-fed.result.stop c.loop-count.invariant.inside c.feed-fed.ensures)
+    (fed_at c.loop-count.printer c.feed-fed.new.self c.args.piece.now c.loop-count.consumed c.feed-fed.result.consumed c.feed-fed.result.stop c.loop-count.invariant.inside c.feed-fed.ensures)
 
 some : (g : given.Over) (c : goal.In-AnswersFull g) → 0 < c.feed-fed.result.consumed
 some g c =
@@ -59,12 +59,12 @@ returns-in-loop-count g c =
       carried =
           subst (λ v. Carries c.args.printer.now c.args.piece.now (sent (g.W.ByteOut.written c.args.writer.now) (g.W.ByteOut.written c.put_answers.new.writer))
           (record { consumed = c.loop-count.consumed + c.feed-fed.result.consumed; written = c.loop-count.written + c.in-Ok.count; end = v }) c.put_answers.new.printer)
-              (sym c.end_of.ensures)
-              (carried c.joined_readings.ensures.reading c.args.printer.now c.loop-count.printer c.feed-fed.new.self c.put_answers.new.printer c.args.piece.now _ _ _
-              c.loop-count.consumed c.feed-fed.result.consumed c.loop-count.written c.in-Ok.count c.feed-fed.result.stop c.in_default.not-AnswersFull c.loop-count.invariant.passed
-              (fed_at c.loop-count.printer c.feed-fed.new.self c.args.piece.now c.loop-count.consumed c.feed-fed.result.consumed c.feed-fed.result.stop c.loop-count.invariant.inside c.feed-fed.ensures)
-              c.in-Ok.ensures.all
-              (record { sheet = c.in-Ok.ensures.same.0; half = c.in-Ok.ensures.same.1; condition = c.in-Ok.ensures.same.2 }));
+          (sym c.end_of.ensures)
+          (carried c.joined_readings.ensures.reading c.args.printer.now c.loop-count.printer c.feed-fed.new.self c.put_answers.new.printer c.args.piece.now _ _ _
+          c.loop-count.consumed c.feed-fed.result.consumed c.loop-count.written c.in-Ok.count c.feed-fed.result.stop c.in_default.not-AnswersFull c.loop-count.invariant.passed
+          (fed_at c.loop-count.printer c.feed-fed.new.self c.args.piece.now c.loop-count.consumed c.feed-fed.result.consumed c.feed-fed.result.stop c.loop-count.invariant.inside c.feed-fed.ensures)
+          c.in-Ok.ensures.all
+          (record { sheet = c.in-Ok.ensures.same.0; half = c.in-Ok.ensures.same.1; condition = c.in-Ok.ensures.same.2 }));
       few = omega (arith, before, count);
       end = subst (λ v. IsWithinPiece v) (sym c.end_of.ensures) (within_piece c.feed-fed.result.stop);
       failed = λ e. absurd (no_write_fault c.feed-fed.result.stop (sym c.end_of.ensures ∙ e));

@@ -1,0 +1,193 @@
+//! Links that are served from memory to memory.
+
+use super::*;
+use escpos_io::{MemoryIn, MemoryOut};
+
+// The answer to mark 0.
+const ANSWER: &[u8] = b"\x37\x220000\x00";
+
+// Serves a link over these bytes, and compares how it ended and what went out.
+fn serves(
+    rt: &impl Abort,
+    alloc: Global,
+    condition: Condition,
+    (input, max_bytes, room): (&[u8], u32, usize),
+    (served, out): (Served, &[u8]),
+) -> Result<(), Fail> {
+    let mut printer = Printer::new(alloc, condition)?;
+    let mut room = vec![in alloc; 0u8; room]?;
+    let mut reader = MemoryIn::new(input, 1000);
+    let mut writer = MemoryOut::new(&mut room);
+    assert_eq!(rt;
+        serve_link(&mut printer, &mut reader, &mut writer, max_bytes),
+        served
+    );
+    assert_eq!(rt; writer.written(), out);
+    Ok(())
+}
+
+fn served(read: usize, consumed: usize, written: usize, end: LinkEnd) -> Served {
+    Served {
+        read,
+        consumed,
+        written,
+        end,
+    }
+}
+
+#[test]
+fn serve_links(rt: HostRuntime) -> Result<(), Fail> {
+    let alloc = rt.alloc();
+    let mut mark = marks(alloc, &[0])?;
+    mark.push(b'A')?;
+    let mark = mark.as_slice();
+    let why = FaultReason::UnknownCommand;
+    let rows: [(Condition, (&[u8], u32, usize), (Served, &[u8])); 6] = [
+        (
+            ONLINE,
+            (mark, 100, 100),
+            (served(12, 12, 7, LinkEnd::Ended), ANSWER),
+        ),
+        (
+            ONLINE,
+            (mark, 12, 100),
+            (served(12, 12, 7, LinkEnd::TooLong), ANSWER),
+        ),
+        (
+            ONLINE,
+            (mark, 100, 3),
+            (served(12, 12, 3, LinkEnd::WriteFault), b"\x37\x220"),
+        ),
+        (
+            OPEN,
+            (b"\x10\x04\x01AB", 100, 100),
+            (served(5, 3, 1, LinkEnd::Offline), b"\x1A"),
+        ),
+        (
+            ONLINE,
+            (b"\x1B@\x1B$", 100, 100),
+            (served(4, 3, 0, LinkEnd::Fault { why }), b""),
+        ),
+        (
+            ONLINE,
+            (mark, 0, 100),
+            (served(0, 0, 0, LinkEnd::TooLong), b""),
+        ),
+    ];
+    for (condition, given, wanted) in rows {
+        serves(&rt, alloc, condition, given, wanted)?;
+    }
+    Ok(())
+}
+
+#[test]
+fn two_hundred_marks(rt: HostRuntime) -> Result<(), Fail> {
+    let mut numbers = Vec::new(rt.alloc());
+    let mut answers = Vec::new(rt.alloc());
+    for number in 0..200 {
+        numbers.push(number)?;
+        answers.extend_from_slice(Answer::Mark(id(number)?).bytes().as_slice())?;
+    }
+    let bytes = marks(rt.alloc(), &numbers)?;
+    let end = served(2200, 2200, 1400, LinkEnd::Ended);
+    serves(
+        &rt,
+        rt.alloc(),
+        ONLINE,
+        (&bytes, 100_000, 2000),
+        (end, &answers),
+    )
+}
+
+// What a link sends that fails nowhere: a line, 18 marks and a status request.
+fn long_link(alloc: Global) -> Result<Vec<u8>, Fail> {
+    let mut bytes = b"Hi\n".to_vec(alloc)?;
+    for number in 0..18 {
+        bytes.extend_from_slice(&marks(alloc, &[number])?)?;
+    }
+    bytes.extend_from_slice(b"\x10\x04\x01")?;
+    Ok(bytes)
+}
+
+// A read fails, at each place in turn: what was read before it is taken and answered.
+#[test]
+fn reader_faults(rt: HostRuntime) -> Result<(), Fail> {
+    let mut mark = marks(rt.alloc(), &[0])?;
+    mark.push(b'A')?;
+    for (call, wanted) in [
+        (1, served(0, 0, 0, LinkEnd::ReadFault)),
+        (2, served(12, 12, 7, LinkEnd::ReadFault)),
+    ] {
+        let mut printer = Printer::new(rt.alloc(), ONLINE)?;
+        let mut room = vec![in rt.alloc(); 0u8; 100]?;
+        let mut reader = MemoryIn::failing(&mark, 1000, call);
+        let mut writer = MemoryOut::new(&mut room);
+        assert_eq!(rt;
+            serve_link(&mut printer, &mut reader, &mut writer, 100),
+            wanted
+        );
+    }
+    let bytes = long_link(rt.alloc())?;
+    let rows: [(u64, usize); 7] = [
+        (1, 0),
+        (2, 40),
+        (3, 80),
+        (4, 120),
+        (5, 160),
+        (6, 200),
+        (7, 204),
+    ];
+    for (call, count) in rows {
+        let mut printer = Printer::new(rt.alloc(), ONLINE)?;
+        let mut room = vec![in rt.alloc(); 0u8; 200]?;
+        let mut reader = MemoryIn::failing(&bytes, 40, call);
+        let mut writer = MemoryOut::new(&mut room);
+        let ended = serve_link(&mut printer, &mut reader, &mut writer, 1000);
+        assert_eq!(rt; ended.end, LinkEnd::ReadFault);
+        assert_eq!(rt; ended.read, count);
+        assert_eq!(rt; ended.consumed, count);
+        assert_eq!(rt; ended.written, writer.written().len());
+        assert_eq!(rt; printer.waiting(), 0);
+    }
+    Ok(())
+}
+
+// A write fails, at each place in turn: the answer that was being written is lost, and later ones wait.
+#[test]
+fn writer_faults(rt: HostRuntime) -> Result<(), Fail> {
+    let bytes = long_link(rt.alloc())?;
+    for size in 0..128usize {
+        let mut printer = Printer::new(rt.alloc(), ONLINE)?;
+        let mut room = vec![in rt.alloc(); 0u8; size]?;
+        let mut reader = MemoryIn::new(&bytes, 1000);
+        let mut writer = MemoryOut::new(&mut room);
+        let served = serve_link(&mut printer, &mut reader, &mut writer, 1000);
+        assert_eq!(rt; served.written, size.min(127));
+        if size == 127 {
+            assert_eq!(rt; served.end, LinkEnd::Ended);
+        } else {
+            assert_eq!(rt; served.end, LinkEnd::WriteFault);
+            let answered = if size < 112 { 16 } else { 19 };
+            assert_eq!(rt; printer.waiting() + size / 7 + 1, answered);
+        }
+    }
+    Ok(())
+}
+
+// Answers that wait from an earlier link go out first.
+#[test]
+fn answers_that_waited(rt: HostRuntime) -> Result<(), Fail> {
+    let mut printer = Printer::new(rt.alloc(), ONLINE)?;
+    feed_all(&rt, &mut printer, &marks(rt.alloc(), &[0])?);
+    feed_all(&rt, &mut printer, b"\x10");
+    let mut room = vec![in rt.alloc(); 0u8; 100]?;
+    let mut reader = MemoryIn::new(b"\x04\x01", 1);
+    let mut writer = MemoryOut::new(&mut room);
+    let wanted = served(2, 2, 8, LinkEnd::Ended);
+    assert_eq!(rt;
+        serve_link(&mut printer, &mut reader, &mut writer, 100),
+        wanted
+    );
+    assert_eq!(rt; writer.written(), b"\x37\x220000\x00\x12".as_slice());
+    Ok(())
+}
