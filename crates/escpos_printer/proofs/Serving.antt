@@ -178,7 +178,7 @@ ends_by t piece at stop.Offline w ne none (inl all) = let e = all.0 in absurd cc
 ends_by t piece at stop.Offline w ne none (inr byte) = byte
 ends_by t piece at stop.Memory w ne none (inl all) = let e = all.0 in absurd cc
 ends_by t piece at stop.Memory w ne none (inr byte) =
-    (byte.0, (byte.1.0, λ c s. ((byte.1.1 c s).0, λ answered. let e = ap length none in omega (arith, e))))
+    (byte.0, (byte.1.0, λ c s. ((byte.1.1 c s).0, λ answered. let e = ap length none in omega (arith, e)), byte.1.2))
 
 answers_go : (why : FeedStop) (s : Sent) (answers : List Answer) (written : ℕ) (w : List Answer) → AllOut s answers written w → AnswersGo (end_of why) s answers written w
 answers_go stop.All s answers written w o = o

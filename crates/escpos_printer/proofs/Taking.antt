@@ -153,6 +153,7 @@ unready one p b a o f eo ef room is h e =
     let k = ahead_command p b a is h in (
       (k.command, [], subst (λ v. Spells k.command v) (sym (append-nil (p.half ++ b ∷ []))) k.spelled),
       λ c s. clear_way p c a o f eo ef room (subst (λ v. Told p.condition v a) (one k.command c (p.half ++ b ∷ []) k.spelled s) k.told) e,
+      inr (k.command, k.spelled),
     )
 
 pub where_err : {X E : Type 0} → (r : Result X E) (P : Type 0) → is_err r ≡ true → OnErr r P → P

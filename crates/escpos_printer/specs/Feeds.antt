@@ -6,6 +6,7 @@ use Rattle.escpos_command.specs.declared.command.Command.{Command}
 use Rattle.escpos_command.specs.declared.command.Command.TheVariants as kind
 use Rattle.escpos_command.specs.CommandTable.{Spells}
 use Rattle.escpos_command.specs.Grammar.{Viable, Reads, FaultAt}
+use Rattle.escpos_decode.specs.Place.{begins_content}
 use Rattle.escpos_decode.specs.declared.decoder.Ahead.{Ahead}
 use Rattle.escpos_decode.specs.declared.decoder.Ahead.TheVariants as ahead
 use Rattle.escpos_paper.specs.declared.item.Item.{Item}
@@ -66,6 +67,7 @@ HasCause Memory printer b =
     Viable (printer.half ++ b ∷ [])
     × ((c : Command) → Spells c (printer.half ++ b ∷ []) → PassesOffline printer.condition c
     × (IsAnswered printer.condition c → length printer.waiting < most_waiting))
+    × (IsTrue (begins_content (printer.half ++ b ∷ [])) ⊎ ((c : Command) × Spells c (printer.half ++ b ∷ [])))
 
 -- The half command after a stop: a fault drops it.
 abbrev pub left_half : FeedStop → List ℕ → List ℕ

@@ -3,10 +3,11 @@
 //! Everything that changes a printer stands here. A byte is looked at before it is taken: what it would complete decides
 //! whether it may be taken now, and room on the page is made for that command; so a byte that isn't taken changes nothing.
 
-ghost use Rattle.std.specs.Prelude.{◌≡◌, ◌≤◌, ◌<◌, ◌+◌, ℕ, List, [], ◌∷◌, ◌++◌, length, take, drop, slice_get, not, true, IfOk, OnOk, OnErr, IfErr};
+ghost use Rattle.std.specs.Prelude.{◌≡◌, ◌≤◌, ◌<◌, ◌+◌, ℕ, List, [], ◌∷◌, ◌++◌, length, take, drop, slice_get, not, true, false, IfOk, OnOk, OnErr, IfErr, IsOk};
 ghost use Rattle.escpos_command.specs.declared.command.Command.{Command};
 ghost use Rattle.escpos_command.specs.Laws.{longest_spelling};
 ghost use Rattle.escpos_decode.specs.Push.{IsRest};
+ghost use Rattle.escpos_paper.specs.declared.item.Item.{Item};
 ghost use Rattle.escpos_paper.specs.Page.{SheetIs};
 ghost use Rattle.escpos_printer.specs.Replies.{is_offline, reply};
 ghost use Rattle.escpos_printer.specs.Feeds.{Feeds, Took, HasCause, IsPlace, IsLeft, most_waiting, is_command, obstacle};
@@ -60,7 +61,8 @@ pub enum FeedStop {
     AnswersFull,
     /// The next byte would complete a command other than a status request, and the printer is offline.
     Offline,
-    /// No command goes on with the next byte, the one at this place of the piece. The half command is dropped.
+    /// No command goes on with the next byte, the one at this place of the piece. The half command is dropped. The byte itself
+    /// isn't taken: whoever goes on after it skips it, or it is refused again where no command begins with it.
     Fault { at: usize, why: FaultReason },
     /// There is no memory for the next byte.
     Memory,
@@ -76,7 +78,8 @@ pub struct Fed {
 }
 
 impl Printer {
-    /// A printer with nothing on its paper, switched on in this condition. The error is want of memory.
+    /// A printer with nothing on its paper, switched on in this condition. Takes room for 16 answers and no other memory; the
+    /// error is want of it.
     pub fn new(alloc: Global, condition: Condition) -> Result<Self, AllocError>
         ensures sheet { IfOk result (λ printer. SheetIs printer.sheet [] []) }
         ensures half { IfOk result (λ printer. printer.half ≡ []) }
@@ -209,7 +212,9 @@ impl Printer {
 
     /// What is printed on the paper, from top to bottom. Takes no memory.
     pub fn items(&self) -> &[Item]
-        ensures { result.now ≡ self.now.sheet.items }
+        ensures items { result.now ≡ self.now.sheet.items }
+        // Every sheet is one that commands leave, on paper that held some items.
+        ensures reached { (kept : List Item) × (cs : List Command) × SheetIs self.now.sheet kept cs }
     {
         self.page.items()
     }
@@ -217,6 +222,7 @@ impl Printer {
     /// The number of bytes of the half command, at most 524,167. Takes no memory.
     pub fn pending_len(&self) -> usize
         ensures value { result ≡ length self.now.half }
+        ensures rest { IsRest self.now.half }
         ensures short { result < longest_spelling }
     {
         self.decoder.pending_len()
@@ -228,6 +234,8 @@ fn make_room(page: &mut Page, ahead: Ahead) -> Result<(), AllocError>
     ensures same { page.new.sheet ≡ page.old.sheet }
     ensures room { OnOk result (is_command ahead ≡ true → MOST_ITEMS ≤ page.new.room) }
     ensures command { OnErr result (is_command ahead ≡ true) }
+    ensures no_memory { MOST_ITEMS ≤ page.old.room → IsOk result }
+    ensures unchanged { is_command ahead ≡ false → page.new ≡ page.old }
 {
     match ahead {
         Ahead::Nothing => Ok(()),

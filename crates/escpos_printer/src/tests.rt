@@ -252,3 +252,107 @@ fn growths_refused(rt: HostRuntime) -> Result<(), Fail> {
     assert_eq!(rt; printer.waiting(), 0);
     Ok(())
 }
+
+// Memory that is there isn't said to be wanting: not far into a piece, not after many items, not at a long command, and
+// not in any condition.
+#[test]
+fn memory_that_is_there(rt: HostRuntime) -> Result<(), Fail> {
+    for number in 0..8 {
+        let condition = Condition {
+            cover_open: number % 2 == 1,
+            near_end: number / 2 % 2 == 1,
+            paper_end: number / 4 == 1,
+        };
+        let mut printer = Printer::new(rt.alloc(), condition)?;
+        for _ in 0..4 {
+            feed_all(&rt, &mut printer, &REQUESTS);
+        }
+        assert_eq!(rt; printer.waiting(), 16);
+        assert_eq!(rt; printer.condition(), condition);
+    }
+    let near = Condition {
+        near_end: true,
+        ..ONLINE
+    };
+    let mut printer = Printer::new(rt.alloc(), near)?;
+    let mut piece = vec![in rt.alloc(); 0x0A; 100_000]?;
+    piece.extend_from_slice(b"\x1Dv0\x00\x80\x00\x00\x08")?;
+    piece.extend_from_slice(&vec![in rt.alloc(); 0x55; 262_144]?)?;
+    piece.extend_from_slice(&marks(rt.alloc(), &[0])?)?;
+    feed_all(&rt, &mut printer, &piece);
+    assert_eq!(rt; printer.items().len(), 100_001);
+    for byte in piece {
+        feed_all(&rt, &mut printer, &[byte]);
+    }
+    assert_eq!(rt; printer.items().len(), 200_002);
+    feed_all(&rt, &mut printer, &REQUESTS);
+    assert_eq!(rt; printer.waiting(), 6);
+    Ok(())
+}
+
+// Values that differ aren't equal, and a clone is.
+#[test]
+fn unequal_values(rt: HostRuntime) -> Result<(), Fail> {
+    let (at, why) = (14, FaultReason::UnknownByte);
+    let stops = [
+        FeedStop::All,
+        FeedStop::AnswersFull,
+        FeedStop::Offline,
+        FeedStop::Memory,
+        FeedStop::Fault { at, why },
+        FeedStop::Fault { at: 15, why },
+        FeedStop::Fault {
+            at,
+            why: FaultReason::BadSize,
+        },
+    ];
+    for (k, stop) in stops.iter().enumerate() {
+        for (l, other) in stops.iter().enumerate() {
+            assert_eq!(rt; *stop == *other, k == l);
+            let (fed, same) = (
+                Fed {
+                    consumed: 1,
+                    stop: *stop,
+                },
+                Fed {
+                    consumed: 1,
+                    stop: *other,
+                },
+            );
+            assert_eq!(rt; fed == same, k == l);
+            assert!(rt;
+                fed != Fed {
+                    consumed: 2,
+                    stop: *other
+                }
+            );
+        }
+    }
+    let near = Condition {
+        near_end: true,
+        ..ONLINE
+    };
+    let ended = Condition {
+        paper_end: true,
+        ..ONLINE
+    };
+    let conditions = [ONLINE, OPEN, near, ended];
+    for (k, condition) in conditions.iter().enumerate() {
+        assert_eq!(rt; condition.clone()?, *condition);
+        for (l, other) in conditions.iter().enumerate() {
+            assert_eq!(rt; *condition == *other, k == l);
+        }
+    }
+    let answers = [
+        Answer::Status(0x12),
+        Answer::Status(0x1A),
+        Answer::Mark(id(0)?),
+        Answer::Mark(id(1)?),
+    ];
+    for (k, answer) in answers.iter().enumerate() {
+        for (l, other) in answers.iter().enumerate() {
+            assert_eq!(rt; *answer == *other, k == l);
+        }
+    }
+    Ok(())
+}

@@ -191,3 +191,32 @@ fn answers_that_waited(rt: HostRuntime) -> Result<(), Fail> {
     assert_eq!(rt; writer.written(), b"\x37\x220000\x00\x12".as_slice());
     Ok(())
 }
+
+#[test]
+fn unequal_ends(rt: HostRuntime) -> Result<(), Fail> {
+    let ends = [
+        LinkEnd::Ended,
+        LinkEnd::TooLong,
+        LinkEnd::Offline,
+        LinkEnd::ReadFault,
+        LinkEnd::WriteFault,
+        LinkEnd::Memory,
+        LinkEnd::Fault {
+            why: FaultReason::BadSize,
+        },
+        LinkEnd::Fault {
+            why: FaultReason::BadBarcode,
+        },
+    ];
+    for (place, end) in ends.iter().enumerate() {
+        for (other_place, other) in ends.iter().enumerate() {
+            assert_eq!(rt; *end == *other, place == other_place);
+            let same = served(1, 2, 3, *end) == served(1, 2, 3, *other);
+            assert_eq!(rt; same, place == other_place);
+        }
+        assert!(rt; served(1, 2, 3, *end) != served(0, 2, 3, *end));
+        assert!(rt; served(1, 2, 3, *end) != served(1, 0, 3, *end));
+        assert!(rt; served(1, 2, 3, *end) != served(1, 2, 0, *end));
+    }
+    Ok(())
+}
