@@ -220,3 +220,30 @@ fn unequal_ends(rt: HostRuntime) -> Result<(), Fail> {
     }
     Ok(())
 }
+
+// Where memory is refused, the bytes that weren't taken are served again. Here each growth succeeds, as in the test of
+// `feed` above.
+#[test]
+fn link_growths_refused(rt: HostRuntime) -> Result<(), Fail> {
+    let first = Printer::new(rt.alloc(), ONLINE);
+    let mut printer = match first {
+        Ok(printer) => printer,
+        Err(_) => Printer::new(rt.alloc(), ONLINE)?,
+    };
+    let mut room = [0u8; 100];
+    let mut writer = MemoryOut::new(&mut room);
+    let mut reader = MemoryIn::new(RECEIPT, 10);
+    let ended = serve_link(&mut printer, &mut reader, &mut writer, 1000);
+    if ended.end != LinkEnd::Ended {
+        assert_eq!(rt; ended.end, LinkEnd::Memory);
+        assert_eq!(rt; printer.waiting(), 0);
+        let rest = RECEIPT.get(ended.consumed..).ok_or("rest")?;
+        let mut reader = MemoryIn::new(rest, 10);
+        let ended = serve_link(&mut printer, &mut reader, &mut writer, 1000);
+        assert_eq!(rt; ended.end, LinkEnd::Ended);
+        assert_eq!(rt; ended.consumed, rest.len());
+    }
+    assert_eq!(rt; printer.items().len(), 7);
+    assert_eq!(rt; writer.written(), b"\x12\x37\x220000\x00".as_slice());
+    Ok(())
+}
