@@ -1,7 +1,8 @@
 //! A receipt printer: it takes a stream of bytes in pieces, prints, and answers status requests and marks.
 //!
 //! `printer` has the core, which neither reads nor writes: it is fed pieces, and its answers are taken. `condition` has what
-//! its sensors say. `specs/Feeds.antt` says what feeding a piece comes to.
+//! its sensors say, and `serve` serves a link over any source and sink. `specs/Feeds.antt` says what feeding a piece comes
+//! to, and `specs/Serves.antt` what serving a link does.
 #![tactic(auto)]
 
 mod condition;
