@@ -388,9 +388,9 @@ reading_on join p m q y r0 r r1 a b c read n k more h came e carries none = reco
 
 -- A piece was read, and the link ended in it.
 pub serves_piece : JoinLaw → (p m q : PrinterView) (y : List ℕ) (r0 r r1 a b c : Option (List ℕ)) (most read n k : ℕ) (more : Carried) (end : LinkEnd) → Reading p r0 r a b read n m → Consumes r r1 y
-    → k ≡ length y → read + k ≤ most → Carries m y (sent b c) more q → more.end ≡ Some end → end ≢ TooLong
+    → k ≡ length y → read + k ≤ most → Carries m y (sent b c) more q → more.end ≡ Some end → end ≢ TooLong → end ≢ Ended → end ≢ ReadFault
     → Serves p (link r0 r1 a c) most (record { read = read + k; consumed = read + more.consumed; written = n + more.written; end = end }) q
-serves_piece join p m q y r0 r r1 a b c most read n k more end h came e few carries is ne = record {
+serves_piece join p m q y r0 r r1 a b c most read n k more end h came e few carries is ne not_ended not_failed = record {
   bytes = h.bytes ++ y;
   came = Consumes-trans r0 r r1 h.bytes y h.came came;
   read = let f = h.count in let g = length-append h.bytes y in omega (arith, e, f, g);
@@ -400,18 +400,20 @@ serves_piece join p m q y r0 r r1 a b c most read n k more end h came e few carr
       (subst (λ v. Carries p (h.bytes ++ y) (sent a c) (record { consumed = length h.bytes + more.consumed; written = n + more.written; end = v }) q) is
       (carries_on join p m q h.bytes y a b c n more h.passed carries));
   too_long = λ t. absurd (ne t);
+  early = λ t. elim t [ | inl f ↦ absurd (not_ended f) | inr f ↦ absurd (not_failed f) ];
 }
 
 -- The link ended between pieces.
 pub serves_clean : (p q : PrinterView) (r0 r r1 a b : Option (List ℕ)) (most read n : ℕ) (end : LinkEnd) → IsClean end → Reading p r0 r a b read n q → Consumes r r1 [] → read ≤ most
-    → (end ≡ TooLong → read ≡ most) → Serves p (link r0 r1 a b) most (record { read = read; consumed = read; written = n; end = end }) q
-serves_clean p q r0 r r1 a b most read n end clean h came few long = record {
+    → (end ≡ TooLong → read ≡ most) → ((end ≡ Ended) ⊎ (end ≡ ReadFault) → read < most) → Serves p (link r0 r1 a b) most (record { read = read; consumed = read; written = n; end = end }) q
+serves_clean p q r0 r r1 a b most read n end clean h came few long early = record {
   bytes = h.bytes;
   came = subst (λ v. Consumes r0 r1 v) (append-nil h.bytes) (Consumes-trans r0 r r1 h.bytes [] h.came came);
   read = h.count;
   within = few;
   carries = carries_end p q h.bytes a b read n end clean h.passed h.count;
   too_long = long;
+  early = early;
 }
 
 -- The writer failed before any byte was read.
@@ -432,6 +434,7 @@ serves_cut p q r a b most n left out same = record {
     left = inl refl;
   };
   too_long = λ e. absurd cc;
+  early = λ e. elim e [ | inl f ↦ absurd cc | inr f ↦ absurd cc ];
 }
 
 pub within_piece : (why : FeedStop) → IsWithinPiece (end_of why)

@@ -66,7 +66,8 @@ EndsBy end taken bytes consumed = consumed ≡ length bytes
 abbrev pub dropped : PrinterView → PrinterView
 dropped printer = record { sheet = printer.sheet; half = []; waiting = printer.waiting; condition = printer.condition }
 
--- What is left of the printer: a fault drops the half command, also where the writer failed after it.
+-- What is left of the printer: a fault drops the half command. Where the writer failed, it may have dropped it too: if the next
+-- byte is one that no command goes on with.
 abbrev pub IsLeftBy : Option LinkEnd → PrinterView → List ℕ → ℕ → PrinterView → Type 0
 IsLeftBy (Some (Fault why)) taken bytes consumed after = after ≡ dropped taken
 IsLeftBy (Some WriteFault) taken bytes consumed after =
@@ -100,7 +101,8 @@ abbrev pub link : Option (List ℕ) → Option (List ℕ) → Option (List ℕ) 
 link came left before after = record { came = came; left = left; sent = sent before after }
 
 -- What serving a link comes to. `read` bytes came from it, at most as many as it may have; of these the printer took
--- `consumed`; and `written` bytes of answers went out.
+-- `consumed`; and `written` bytes of answers went out. The source's end and its failure are found by a read alone, and none is
+-- tried once as many bytes were read as the link may have.
 pub record Serves (before : PrinterView) (l : LinkView) (most : ℕ) (served : Served) (after : PrinterView) : Type 0 where
   pub bytes : List ℕ
   pub came : Consumes l.came l.left bytes
@@ -108,3 +110,4 @@ pub record Serves (before : PrinterView) (l : LinkView) (most : ℕ) (served : S
   pub within : served.read ≤ most
   pub carries : Carries before bytes l.sent (record { consumed = served.consumed; written = served.written; end = Some served.end }) after
   pub too_long : served.end ≡ TooLong → served.read ≡ most
+  pub early : (served.end ≡ Ended) ⊎ (served.end ≡ ReadFault) → served.read < most

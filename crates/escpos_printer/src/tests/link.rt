@@ -1,7 +1,7 @@
 //! Links that are served from memory to memory.
 
 use super::*;
-use escpos_io::{MemoryIn, MemoryOut};
+use escpos_io::{ByteIn, MemoryIn, MemoryOut};
 
 // The answer to mark 0.
 const ANSWER: &[u8] = b"\x37\x220000\x00";
@@ -245,5 +245,120 @@ fn link_growths_refused(rt: HostRuntime) -> Result<(), Fail> {
     }
     assert_eq!(rt; printer.items().len(), 7);
     assert_eq!(rt; writer.written(), b"\x12\x37\x220000\x00".as_slice());
+    Ok(())
+}
+
+// A read asks for 512 bytes, or for what is left of the limit; none is tried once that is reached.
+#[test]
+fn pieces(rt: HostRuntime) -> Result<(), Fail> {
+    let bytes = vec![in rt.alloc(); 0x0A; 2000]?;
+    let rows: [(u32, u64, LinkEnd); 5] = [
+        (0, 0, LinkEnd::TooLong),
+        (1536, 3, LinkEnd::TooLong),
+        (1537, 4, LinkEnd::TooLong),
+        (2000, 4, LinkEnd::TooLong),
+        (3000, 5, LinkEnd::Ended),
+    ];
+    for (max_bytes, pulls, end) in rows {
+        let mut printer = Printer::new(rt.alloc(), ONLINE)?;
+        let mut room = [0u8; 1];
+        let mut reader = MemoryIn::new(&bytes, 10_000);
+        let mut writer = MemoryOut::new(&mut room);
+        let served = serve_link(&mut printer, &mut reader, &mut writer, max_bytes);
+        assert_eq!(rt; served.end, end);
+        assert_eq!(rt; reader.pulls(), pulls);
+    }
+    Ok(())
+}
+
+// Answers go out before the next read: where a write fails, nothing was read after the bytes that it answers.
+#[test]
+fn no_read_before_answers(rt: HostRuntime) -> Result<(), Fail> {
+    let bytes = marks(rt.alloc(), &[0, 1, 2, 3, 4, 5])?;
+    for size in 0..42usize {
+        let mut printer = Printer::new(rt.alloc(), ONLINE)?;
+        let mut room = vec![in rt.alloc(); 0u8; size]?;
+        let mut reader = MemoryIn::new(&bytes, 11);
+        let mut writer = MemoryOut::new(&mut room);
+        let served = serve_link(&mut printer, &mut reader, &mut writer, 1000);
+        assert_eq!(rt; served.end, LinkEnd::WriteFault);
+        assert_eq!(rt; served.read, size / 7 * 11 + 11);
+        assert_eq!(rt; served.consumed, served.read);
+        assert_eq!(rt; reader.pulls(), size as u64 / 7 + 1);
+    }
+    let mut printer = Printer::new(rt.alloc(), ONLINE)?;
+    feed_all(&rt, &mut printer, &bytes);
+    let mut room = [0u8; 9];
+    let mut reader = MemoryIn::new(b"A", 1);
+    let mut writer = MemoryOut::new(&mut room);
+    let wanted = served(0, 0, 9, LinkEnd::WriteFault);
+    assert_eq!(rt;
+        serve_link(&mut printer, &mut reader, &mut writer, 100),
+        wanted
+    );
+    assert_eq!(rt; reader.pulls(), 0);
+    assert_eq!(rt; printer.waiting(), 4);
+    Ok(())
+}
+
+// Answers that are too many end no link, however many come in one piece, or in all.
+#[test]
+fn many_requests(rt: HostRuntime) -> Result<(), Fail> {
+    let mut bytes = Vec::new(rt.alloc());
+    for _ in 0..20_000 {
+        bytes.extend_from_slice(b"\x10\x04\x01")?;
+    }
+    let answers = vec![in rt.alloc(); 0x12; 20_000]?;
+    let end = served(60_000, 60_000, 20_000, LinkEnd::Ended);
+    serves(
+        &rt,
+        rt.alloc(),
+        ONLINE,
+        (&bytes, 100_000, 20_000),
+        (end, &answers),
+    )
+}
+
+// A link that may have no byte is too long, also where its source has ended or failed before.
+#[test]
+fn no_byte_at_all(rt: HostRuntime) -> Result<(), Fail> {
+    for (mut reader, end) in [
+        (MemoryIn::new(b"A", 1), LinkEnd::Ended),
+        (MemoryIn::failing(b"A", 1, 2), LinkEnd::ReadFault),
+    ] {
+        let mut printer = Printer::new(rt.alloc(), ONLINE)?;
+        let mut room = [0u8; 1];
+        let mut writer = MemoryOut::new(&mut room);
+        for (max_bytes, wanted) in [
+            (100, served(1, 1, 0, end)),
+            (100, served(0, 0, 0, end)),
+            (0, served(0, 0, 0, LinkEnd::TooLong)),
+        ] {
+            assert_eq!(rt;
+                serve_link(&mut printer, &mut reader, &mut writer, max_bytes),
+                wanted
+            );
+        }
+    }
+    Ok(())
+}
+
+// A clone is equal, and large counts that differ are unequal.
+#[test]
+fn same_clones(rt: HostRuntime) -> Result<(), Fail> {
+    for end in [
+        LinkEnd::TooLong,
+        LinkEnd::Offline,
+        LinkEnd::Fault {
+            why: FaultReason::BadSize,
+        },
+    ] {
+        assert_eq!(rt; end.clone()?, end);
+        let large = served(1_000_000, 999_999, 700_000, end);
+        assert_eq!(rt; large.clone()?, large);
+        assert!(rt; large != served(1_000_001, 999_999, 700_000, end));
+        assert!(rt; large != served(1_000_000, 999_998, 700_000, end));
+        assert!(rt; large != served(1_000_000, 999_999, 700_001, end));
+    }
     Ok(())
 }

@@ -33,6 +33,8 @@ returns-in-Some-clause-served g c =
     (let few = c.loop-read.invariant.within in let short = length-take c.min-asked.result c.loop-read.piece in omega (arith, fits, asked, few, short))
     (rw (pulled_front c.in-Ok-pull.count c.pull.new.piece _ within) at c.serve_piece-carried.ensures.carried)
     c.in-Some.is (not_between c.serve_piece-carried.result.end c.in-Some.end c.serve_piece-carried.ensures.end c.in-Some.is).too_long
+    (not_between c.serve_piece-carried.result.end c.in-Some.end c.serve_piece-carried.ensures.end c.in-Some.is).ended
+    (not_between c.serve_piece-carried.result.end c.in-Some.end c.serve_piece-carried.ensures.end c.in-Some.is).read_fault
 
 pub returns-in-Some-clause-ended : goal.returns-in-Some-clause-ended
 returns-in-Some-clause-ended g c = λ e. absurd ((not_between c.serve_piece-carried.result.end c.in-Some.end c.serve_piece-carried.ensures.end c.in-Some.is).ended e)
