@@ -1,4 +1,4 @@
-//! The worked rows of barcodes, rasters, motion units and pulses through both jobs.
+//! The worked rows of barcodes, rasters, motion units and pulses through both jobs, and of lines and styles on paper.
 
 use crate::check::check;
 use crate::render::render;
@@ -110,7 +110,7 @@ const CHECKED: [Row; 25] = [
     (b"1B 70 00 19", b"end 4 pending 4\n", Status::Refused),
 ];
 
-const RENDERED: [Row; 7] = [
+const RENDERED: [Row; 23] = [
     // ean13
     (
         b"1D 6B 02 34 30 30 36 33 38 31 33 33 33 39 33 00",
@@ -149,6 +149,96 @@ const RENDERED: [Row; 7] = [
     (
         b"41 1B 4A 05 1B 70 00 19 FA",
         b"row left A\nunits 5\n",
+        Status::Good,
+    ),
+    // line_width, in font A, in font B and eight times as wide
+    (
+        b"6161616161616161616161616161616161616161616161616161616161616161616161616161616161610A",
+        b"row left aaaaaaaaaaaaaaaaaaaaaaaaaaaaaaaaaaaaaaaaaa\nfeed 1\n",
+        Status::Good,
+    ),
+    (
+        b"616161616161616161616161616161616161616161616161616161616161616161616161616161616161610A",
+        b"row left aaaaaaaaaaaaaaaaaaaaaaaaaaaaaaaaaaaaaaaaaa\nfeed 1\nrow left a\nfeed 1\n",
+        Status::Good,
+    ),
+    (
+        b"1B4D0161616161616161616161616161616161616161616161616161616161616161616161616161616161616161616161616161616161616161610A",
+        b"row left [B,1,1,0,0,0]aaaaaaaaaaaaaaaaaaaaaaaaaaaaaaaaaaaaaaaaaaaaaaaaaaaaaaaa\nfeed 1\n",
+        Status::Good,
+    ),
+    (
+        b"1B4D016161616161616161616161616161616161616161616161616161616161616161616161616161616161616161616161616161616161616161610A",
+        b"row left [B,1,1,0,0,0]aaaaaaaaaaaaaaaaaaaaaaaaaaaaaaaaaaaaaaaaaaaaaaaaaaaaaaaa\nfeed 1\nrow left [B,1,1,0,0,0]a\nfeed 1\n",
+        Status::Good,
+    ),
+    (
+        b"1D21706161616161610A",
+        b"row left [A,8,1,0,0,0]aaaaa\nfeed 1\nrow left [A,8,1,0,0,0]a\nfeed 1\n",
+        Status::Good,
+    ),
+    // 41 characters of font A and 2 of font B are 510 dots of 512, and one more of font B is 519
+    (
+        b"61616161616161616161616161616161616161616161616161616161616161616161616161616161611B4D316262620A",
+        b"row left aaaaaaaaaaaaaaaaaaaaaaaaaaaaaaaaaaaaaaaaa[B,1,1,0,0,0]bb\nfeed 1\nrow left [B,1,1,0,0,0]b\nfeed 1\n",
+        Status::Good,
+    ),
+    // the other forms of text
+    (
+        b"1B61321B74FF1B2D021D21035B5C7FE97E200D1D5642FF",
+        b"row right [A,1,4,0,2,255]\\5b\\5c\\7f\\e9~ \nfeed 1\ncut partial 255\n",
+        Status::Good,
+    ),
+    // settings of barcodes, which Init puts back
+    (
+        b"1D68321D77021D48011D66311D6B460231321B401D6B46023132",
+        b"bars left itf 50 2 above B 12\nbars left itf 162 3 none A 12\n",
+        Status::Good,
+    ),
+    (
+        b"1D68321D77021D48321D66311D6B460231321B401D6B46023132",
+        b"bars left itf 50 2 below B 12\nbars left itf 162 3 none A 12\n",
+        Status::Good,
+    ),
+    (
+        b"1D68321D77021D48031D66311D6B460231321B401D6B46023132",
+        b"bars left itf 50 2 both B 12\nbars left itf 162 3 none A 12\n",
+        Status::Good,
+    ),
+    // check digits of UPC-A and EAN-8
+    (
+        b"1B61311D6B410B30333630303032393134351D6B440735353132333435",
+        b"bars center upca 162 3 none A 036000291452\nbars center ean8 162 3 none A 55123457\n",
+        Status::Good,
+    ),
+    // the other symbologies have none
+    (
+        b"1D6B0441203124001D6B066131323A44001D6B49077B42005B5C5D7F",
+        b"bars left code39 162 3 none A A 1$\nbars left codabar 162 3 none A a12:D\nbars left code128 162 3 none A {B\\00\\5b\\5c]\\7f\n",
+        Status::Good,
+    ),
+    // the other scales
+    (
+        b"1D7630010200010000FF1D7630330100010009",
+        b"raster left wide 2 1 00ff\nraster left both 1 1 09\n",
+        Status::Good,
+    ),
+    // a barcode behind text
+    (
+        b"411D6B46023132",
+        b"row left A\nfeed 1\nbars left itf 162 3 none A 12\n",
+        Status::Good,
+    ),
+    // a feed of no units, and a pulse in the line
+    (
+        b"1B4A00411B700019FA0A",
+        b"units 0\nrow left A\nfeed 1\n",
+        Status::Good,
+    ),
+    // commands that print nothing
+    (
+        b"410D1B401B21001B45011B2D011B4D011B74011B61021D21111D68011D77021D48011D66011004011D28480600303031323334",
+        b"",
         Status::Good,
     ),
 ];

@@ -6,8 +6,6 @@
 #![tactic(auto)]
 
 mod barcode;
-#[cfg(test)]
-mod barcode_tests;
 mod cell;
 mod content;
 mod digits;
