@@ -70,6 +70,13 @@ fn mark_35(rt: HostRuntime) -> Result<(), Fail> {
 }
 
 #[test]
+fn unequal_reasons(rt: HostRuntime) {
+    assert!(rt; FaultReason::UnknownByte != FaultReason::UnknownCommand);
+    assert!(rt; FaultReason::UnknownCommand != FaultReason::BadParameter);
+    assert!(rt; FaultReason::BadParameter != FaultReason::UnknownByte);
+}
+
+#[test]
 fn chars_of_text(rt: HostRuntime) -> Result<(), Fail> {
     let refused = chars_of(rt.alloc(), &[0x41, 0x1B]);
     assert!(rt; matches!(refused, Err(CharsFault::ControlByte { at: 1 })));

@@ -6,8 +6,10 @@ mod contents;
 mod plain;
 
 use super::*;
-use comparison::{agrees, agrees_with_neighbours, spells};
-use escpos_command::{Character, Command, Cut, FaultReason, laws};
+use comparison::{agrees, agrees_with_neighbours};
+use escpos_command::{
+    Align, Character, Command, Cut, FaultReason, FeedUnits, MarkId, Pulse, Size, laws,
+};
 use std::alloc::Global;
 use std::process::Abort;
 use std::test::Fail;
@@ -65,16 +67,17 @@ fn refuses_last(
     agrees(rt, alloc, bytes)
 }
 
-// The bytes spell one command, which spells them again, and whose clone is the same. The plain reader agrees at each byte.
-fn reads_one(rt: &impl Abort, alloc: Global, bytes: &[u8]) -> Result<(), Fail> {
-    let decoded = decode(alloc, &[bytes])?;
+// The one command that the bytes spell, and that spells them again. The plain reader agrees at each byte.
+fn reads_one(rt: &impl Abort, alloc: Global, bytes: &[u8]) -> Result<Command, Fail> {
+    let mut decoded = decode(alloc, &[bytes])?;
     assert_eq!(rt; decoded.end, End::Read { half: 0 }, "{bytes:?}");
     assert_eq!(rt; decoded.commands.len(), 1, "{bytes:?}");
-    for command in decoded.commands.as_slice() {
-        spells(rt, alloc, command, bytes)?;
-        assert!(rt; laws::same_clone(command)? == *command, "{bytes:?}");
-    }
-    agrees(rt, alloc, bytes)
+    let command = decoded.commands.pop().ok_or("command")?;
+    let mut out = Vec::new(alloc);
+    command.spell(&mut out)?;
+    assert_eq!(rt; out.as_slice(), bytes);
+    agrees(rt, alloc, bytes)?;
+    Ok(command)
 }
 
 #[test]
@@ -112,10 +115,13 @@ fn five_commands(rt: HostRuntime) -> Result<(), Fail> {
 #[test]
 fn bytes_of_a_mark(rt: HostRuntime) -> Result<(), Fail> {
     for byte in 0x20..0x7F {
-        for place in 7..11 {
+        for place in 0..4 {
+            let mut id = *b"0000";
+            id[place] = byte;
+            let mark = MarkId::new(id).ok_or("id")?;
             let mut bytes = MARK_35;
-            bytes[place] = byte;
-            reads_one(&rt, rt.alloc(), &bytes)?;
+            bytes[7..].copy_from_slice(&id);
+            assert_eq!(rt; reads_one(&rt, rt.alloc(), &bytes)?, Command::Mark(mark));
         }
     }
     Ok(())
@@ -124,7 +130,10 @@ fn bytes_of_a_mark(rt: HostRuntime) -> Result<(), Fail> {
 #[test]
 fn align_range(rt: HostRuntime) -> Result<(), Fail> {
     refuses_last(&rt, rt.alloc(), &[0x1B, 0x61, 0x03], BAD)?;
-    reads_one(&rt, rt.alloc(), &[0x1B, 0x61, 0x32])
+    let align = Align::new(0x32).ok_or("align")?;
+    let command = reads_one(&rt, rt.alloc(), &[0x1B, 0x61, 0x32])?;
+    assert_eq!(rt; command, Command::Align(align));
+    Ok(())
 }
 
 #[test]
@@ -150,7 +159,10 @@ fn unknown_bytes(rt: HostRuntime) -> Result<(), Fail> {
 fn size_bits(rt: HostRuntime) -> Result<(), Fail> {
     refuses_last(&rt, rt.alloc(), &[0x1D, 0x21, 0x08], BAD)?;
     refuses_last(&rt, rt.alloc(), &[0x1D, 0x21, 0x80], BAD)?;
-    reads_one(&rt, rt.alloc(), &[0x1D, 0x21, 0x77])
+    let size = Size::new(0x77).ok_or("size")?;
+    let command = reads_one(&rt, rt.alloc(), &[0x1D, 0x21, 0x77])?;
+    assert_eq!(rt; command, Command::Size(size));
+    Ok(())
 }
 
 #[test]
@@ -169,7 +181,8 @@ fn mark_prefix(rt: HostRuntime) -> Result<(), Fail> {
 
 #[test]
 fn mark_35(rt: HostRuntime) -> Result<(), Fail> {
-    reads_one(&rt, rt.alloc(), &MARK_35)?;
+    let mark = MarkId::of_number(35).ok_or("number")?;
+    assert_eq!(rt; reads_one(&rt, rt.alloc(), &MARK_35)?, Command::Mark(mark));
     let half = decode(rt.alloc(), &[&MARK_35[..10]])?;
     assert!(rt; half.commands.is_empty());
     assert_eq!(rt; half.end, End::Read { half: 10 });
@@ -178,15 +191,23 @@ fn mark_35(rt: HostRuntime) -> Result<(), Fail> {
 
 #[test]
 fn cut_feed(rt: HostRuntime) -> Result<(), Fail> {
-    reads_one(&rt, rt.alloc(), &[0x1D, 0x56, 0x41, 0x05])
+    let cut = Cut::with_feed(0x41, 0x05).ok_or("cut")?;
+    let command = reads_one(&rt, rt.alloc(), &[0x1D, 0x56, 0x41, 0x05])?;
+    assert_eq!(rt; command, Command::Cut(cut));
+    Ok(())
 }
 
 #[test]
 fn units_and_pulse(rt: HostRuntime) -> Result<(), Fail> {
-    reads_one(&rt, rt.alloc(), &[0x41])?;
-    reads_one(&rt, rt.alloc(), &[0x1B, 0x4A, 0x05])?;
-    reads_one(&rt, rt.alloc(), &[0x1B, 0x70, 0x00, 0x19, 0xFA])?;
     let bytes = [0x41, 0x1B, 0x4A, 0x05, 0x1B, 0x70, 0x00, 0x19, 0xFA];
+    let decoded = decode(rt.alloc(), &[&bytes])?;
+    let commands = [
+        Command::Char(Character::new(0x41).ok_or("A")?),
+        Command::FeedUnits(FeedUnits::new(5).ok_or("units")?),
+        Command::Pulse(Pulse::new(0, 0x19, 0xFA).ok_or("pulse")?),
+    ];
+    assert_eq!(rt; decoded.commands.as_slice(), commands.as_slice());
+    assert_eq!(rt; decoded.end, End::Read { half: 0 });
     agrees(&rt, rt.alloc(), &bytes)
 }
 
@@ -236,7 +257,7 @@ const SPELLINGS: [&[u8]; 37] = [
 fn every_byte_after_each_front(rt: HostRuntime) -> Result<(), Fail> {
     let mut stream = Vec::new(rt.alloc());
     for spelling in SPELLINGS {
-        reads_one(&rt, rt.alloc(), spelling)?;
+        let _ = reads_one(&rt, rt.alloc(), spelling)?;
         agrees_with_neighbours(&rt, rt.alloc(), spelling)?;
         stream.extend_from_slice(spelling)?;
     }
@@ -301,7 +322,7 @@ fn least_and_greatest_parameters(rt: HostRuntime) -> Result<(), Fail> {
         let mut bytes = before.to_vec(rt.alloc())?;
         for parameter in read {
             bytes.push(*parameter)?;
-            reads_one(&rt, rt.alloc(), &bytes)?;
+            let _ = reads_one(&rt, rt.alloc(), &bytes)?;
             bytes.pop();
         }
         for parameter in refused {
@@ -333,5 +354,15 @@ fn long_streams(rt: HostRuntime) -> Result<(), Fail> {
     assert_eq!(rt; refused.commands.len(), 2_000_001);
     let why = FaultReason::UnknownCommand;
     assert_eq!(rt; refused.end, End::Fault { at: 2_000_003, why });
+    Ok(())
+}
+
+// Each kind of command clones to itself.
+#[test]
+fn clones(rt: HostRuntime) -> Result<(), Fail> {
+    for spelling in SPELLINGS {
+        let command = reads_one(&rt, rt.alloc(), spelling)?;
+        assert_eq!(rt; laws::same_clone(&command)?, command);
+    }
     Ok(())
 }

@@ -400,7 +400,7 @@ serves_piece join p m q y r0 r r1 a b c most read n k more end h came e few carr
       (subst (λ v. Carries p (h.bytes ++ y) (sent a c) (record { consumed = length h.bytes + more.consumed; written = n + more.written; end = v }) q) is
       (carries_on join p m q h.bytes y a b c n more h.passed carries));
   too_long = λ t. absurd (ne t);
-  early = λ t. elim t [ | inl f ↦ absurd (not_ended f) | inr f ↦ absurd (not_failed f) ];
+  early = λ t. elim t [ inl f ↦ absurd (not_ended f) | inr f ↦ absurd (not_failed f) ];
 }
 
 -- The link ended between pieces.
@@ -434,7 +434,7 @@ serves_cut p q r a b most n left out same = record {
     left = inl refl;
   };
   too_long = λ e. absurd cc;
-  early = λ e. elim e [ | inl f ↦ absurd cc | inr f ↦ absurd cc ];
+  early = λ e. elim e [ inl f ↦ absurd cc | inr f ↦ absurd cc ];
 }
 
 pub within_piece : (why : FeedStop) → IsWithinPiece (end_of why)

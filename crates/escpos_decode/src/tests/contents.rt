@@ -1,9 +1,11 @@
 //! Barcodes and rasters: their worked rows, their shortest and longest contents, and each way in which one is refused.
 
-use super::comparison::{agrees, spells};
+use super::comparison::agrees;
 use super::{BAD, BARCODE, SIZE, reads_one, refuses_last};
 use crate::{DecodeFault, Decoder, End, Step, decode};
-use escpos_command::{Command, FaultReason, Symbology};
+use escpos_command::{
+    BarFault, Bars, Character, Command, FaultReason, Form, Raster, RasterFault, Symbology,
+};
 use std::alloc::Global;
 use std::test::Fail;
 
@@ -20,11 +22,30 @@ fn bytes_of(alloc: Global, (front, byte, times, back): Stream) -> Result<Vec<u8>
     Ok(bytes)
 }
 
+fn barcode(
+    alloc: Global,
+    form: Form,
+    symbology: Symbology,
+    content: &[u8],
+) -> Result<Command, Fail> {
+    Ok(Command::Bars(Bars::new(form, symbology, content.to_vec(alloc)?)?))
+}
+
 #[test]
 fn ean13(rt: HostRuntime) -> Result<(), Fail> {
-    reads_one(&rt, rt.alloc(), b"\x1Dk\x02400638133393\x00")?;
-    reads_one(&rt, rt.alloc(), b"\x1Dk\x024006381333932\x00")?;
-    refuses_last(&rt, rt.alloc(), b"\x1Dk\x0240063813339\x00", BARCODE)
+    let alloc = rt.alloc();
+    assert_eq!(rt;
+        reads_one(&rt, alloc, b"\x1Dk\x02400638133393\x00")?,
+        barcode(alloc, Form::A, Symbology::Ean13, b"400638133393")?
+    );
+    assert_eq!(rt;
+        reads_one(&rt, alloc, b"\x1Dk\x024006381333932\x00")?,
+        barcode(alloc, Form::A, Symbology::Ean13, b"4006381333932")?
+    );
+    refuses_last(&rt, alloc, b"\x1Dk\x0240063813339\x00", BARCODE)?;
+    let refused = Bars::new(Form::A, Symbology::Code128, b"{A1".to_vec(alloc)?);
+    assert!(rt; matches!(refused, Err((BarFault::Form, _))));
+    Ok(())
 }
 
 #[test]
@@ -35,8 +56,13 @@ fn ean8_lengths(rt: HostRuntime) -> Result<(), Fail> {
 
 #[test]
 fn itf(rt: HostRuntime) -> Result<(), Fail> {
-    refuses_last(&rt, rt.alloc(), b"\x1DkF\x03", BARCODE)?;
-    reads_one(&rt, rt.alloc(), b"\x1DkF\x0212")
+    let alloc = rt.alloc();
+    refuses_last(&rt, alloc, b"\x1DkF\x03", BARCODE)?;
+    assert_eq!(rt;
+        reads_one(&rt, alloc, b"\x1DkF\x0212")?,
+        barcode(alloc, Form::B, Symbology::Itf, b"12")?
+    );
+    Ok(())
 }
 
 #[test]
@@ -116,7 +142,8 @@ fn shortest_and_longest_contents(rt: HostRuntime) -> Result<(), Fail> {
             let length = u8::try_from(content.len())?;
             let mut counted = [0x1D, 0x6B, mode_b, length].to_vec(alloc)?;
             counted.extend_from_slice(&content)?;
-            reads_one(&rt, alloc, &counted)?;
+            let command = barcode(alloc, Form::B, symbology, &content)?;
+            assert_eq!(rt; reads_one(&rt, alloc, &counted)?, command);
             let mut closed = [0x1D, 0x6B, mode_a].to_vec(alloc)?;
             if symbology == Symbology::Code128 {
                 refuses_last(&rt, alloc, &closed, BAD)?;
@@ -124,7 +151,8 @@ fn shortest_and_longest_contents(rt: HostRuntime) -> Result<(), Fail> {
             }
             closed.extend_from_slice(&content)?;
             closed.push(0)?;
-            reads_one(&rt, alloc, &closed)?;
+            let command = barcode(alloc, Form::A, symbology, &content)?;
+            assert_eq!(rt; reads_one(&rt, alloc, &closed)?, command);
         }
     }
     Ok(())
@@ -198,7 +226,9 @@ fn refused_contents(rt: HostRuntime) -> Result<(), Fail> {
 #[test]
 fn raster(rt: HostRuntime) -> Result<(), Fail> {
     let alloc = rt.alloc();
-    reads_one(&rt, alloc, b"\x1Dv0\x00\x01\x00\x02\x00\xF0\x0F")?;
+    let small = b"\x1Dv0\x00\x01\x00\x02\x00\xF0\x0F";
+    let raster = Raster::new(0, 1, 2, [0xF0, 0x0F].to_vec(alloc)?)?;
+    assert_eq!(rt; reads_one(&rt, alloc, small)?, Command::Raster(raster));
     refuses_last(&rt, alloc, b"\x1Dv0\x00\x00", SIZE)?;
     refuses_last(&rt, alloc, b"\x1Dv0\x00\x81", SIZE)?;
     refuses_last(&rt, alloc, b"\x1Dv0\x00\x01\x01", SIZE)?;
@@ -206,28 +236,29 @@ fn raster(rt: HostRuntime) -> Result<(), Fail> {
     refuses_last(&rt, alloc, b"\x1Dv0\x00\x01\x00\x00\x10", SIZE)
 }
 
-// The widest and highest raster, which has 524,160 bytes of dots: byte by byte, and cut within its dots, with a line feed
-// after it.
+// The widest and highest raster, which has 524,160 bytes of dots.
 #[test]
 fn largest_raster(rt: HostRuntime) -> Result<(), Fail> {
-    let bytes = bytes_of(rt.alloc(), (&LARGEST, 0x1D, 524_160, b""))?;
+    let dots = vec![in rt.alloc(); 0x1D; 524_160]?;
     let mut decoder = Decoder::new(rt.alloc());
-    for byte in &bytes[..524_167] {
+    for byte in LARGEST.iter().chain(&dots[1..]) {
         assert!(rt; decoder.push(*byte) == Ok(Step::More));
     }
     assert_eq!(rt; decoder.pending_len(), 524_167);
-    match decoder.push(0x1D)? {
-        Step::Done(command) => spells(&rt, rt.alloc(), &command, &bytes)?,
-        Step::More => return Err(Fail::new("no command")),
-    }
+    let raster = Raster::new(0, 128, 4095, dots)?;
+    assert!(rt; decoder.push(0x1D) == Ok(Step::Done(Command::Raster(raster))));
     assert_eq!(rt; decoder.pending_len(), 0);
-    let decoded = decode(
-        rt.alloc(),
-        &[&bytes[..8], &bytes[8..262_088], &bytes[262_088..], b"\x0A"],
-    )?;
-    assert_eq!(rt; decoded.commands.len(), 2);
-    spells(&rt, rt.alloc(), &decoded.commands[0], &bytes)?;
-    spells(&rt, rt.alloc(), &decoded.commands[1], b"\x0A")?;
+    Ok(())
+}
+
+#[test]
+fn largest_raster_in_pieces(rt: HostRuntime) -> Result<(), Fail> {
+    let piece = vec![in rt.alloc(); 0x1B; 262_080]?;
+    let decoded = decode(rt.alloc(), &[&LARGEST, &piece, &piece, b"\x0A"])?;
+    let dots = vec![in rt.alloc(); 0x1B; 524_160]?;
+    let raster = Raster::new(0, 128, 4095, dots)?;
+    let commands = [Command::Raster(raster), Command::LineFeed];
+    assert!(rt; decoded.commands.as_slice() == commands.as_slice());
     assert_eq!(rt; decoded.end, End::Read { half: 0 });
     Ok(())
 }
@@ -245,13 +276,15 @@ fn wider_limits(rt: HostRuntime) -> Result<(), Fail> {
 #[test]
 fn sizes_of_rasters(rt: HostRuntime) -> Result<(), Fail> {
     let alloc = rt.alloc();
-    let rows: [Stream; 3] = [
-        (b"\x1Dv0\x03\x01\x00\x01\x00", 0x80, 1, b""),
-        (b"\x1Dv0\x30\x80\x00\x01\x00", 0xFF, 128, b""),
-        (b"\x1Dv0\x31\x01\x00\x00\x01", 0x0A, 256, b""),
+    let rows: [(Stream, u8, u16, u16); 3] = [
+        ((b"\x1Dv0\x03\x01\x00\x01\x00", 0x80, 1, b""), 3, 1, 1),
+        ((b"\x1Dv0\x30\x80\x00\x01\x00", 0xFF, 128, b""), 48, 128, 1),
+        ((b"\x1Dv0\x31\x01\x00\x00\x01", 0x0A, 256, b""), 49, 1, 256),
     ];
-    for row in rows {
-        reads_one(&rt, alloc, &bytes_of(alloc, row)?)?;
+    for ((front, byte, times, back), mode, width, height) in rows {
+        let bytes = bytes_of(alloc, (front, byte, times, back))?;
+        let raster = Raster::new(mode, width, height, vec![in alloc; byte; times]?)?;
+        assert_eq!(rt; reads_one(&rt, alloc, &bytes)?, Command::Raster(raster));
     }
     for refused in [b"\x1Dv0\x04", b"\x1Dv0\x2F", b"\x1Dv0\x34"] {
         refuses_last(&rt, alloc, refused, BAD)?;
@@ -263,11 +296,25 @@ fn sizes_of_rasters(rt: HostRuntime) -> Result<(), Fail> {
 fn raster_behind_text(rt: HostRuntime) -> Result<(), Fail> {
     let bytes = b"A\x1Dv0\x00\x01\x00\x01\x00\xFF";
     let decoded = decode(rt.alloc(), &[bytes])?;
-    assert_eq!(rt; decoded.commands.len(), 2);
-    spells(&rt, rt.alloc(), &decoded.commands[0], b"A")?;
-    spells(&rt, rt.alloc(), &decoded.commands[1], &bytes[1..])?;
+    let raster = Raster::new(0, 1, 1, [0xFF].to_vec(rt.alloc())?)?;
+    let a = Character::new(b'A').ok_or("A")?;
+    let commands = [Command::Char(a), Command::Raster(raster)];
+    assert_eq!(rt; decoded.commands.as_slice(), commands.as_slice());
     assert_eq!(rt; decoded.end, End::Read { half: 0 });
     agrees(&rt, rt.alloc(), bytes)
+}
+
+#[test]
+fn raster_refusals(rt: HostRuntime) -> Result<(), Fail> {
+    let refused = Raster::new(0, 1, 2, [0xF0].to_vec(rt.alloc())?);
+    let Err((fault, dots)) = refused else {
+        return Err(Fail::new("a raster"));
+    };
+    assert_eq!(rt; fault, RasterFault::Length);
+    assert_eq!(rt; dots.as_slice(), [0xF0].as_slice());
+    let refused = Raster::new(4, 0, 2, Vec::new(rt.alloc()));
+    assert!(rt; matches!(refused, Err((RasterFault::Scale, _))));
+    Ok(())
 }
 
 // Barcodes and a raster in three parts: the bytes before the content, the content, and what closes it. Last come the
@@ -284,23 +331,14 @@ const GROWING: [(&[u8], &[u8], &[u8], usize, usize); 3] = [
     ),
 ];
 
-// All bytes of such a row, one after another.
-fn joined(alloc: Global, front: &[u8], content: &[u8], back: &[u8]) -> Result<Vec<u8>, Fail> {
-    let mut bytes = front.to_vec(alloc)?;
-    bytes.extend_from_slice(content)?;
-    bytes.extend_from_slice(back)?;
-    Ok(bytes)
-}
-
 // Where memory is refused, the decoder is unchanged and takes the byte when it is pushed again. Here each growth succeeds:
-// `rt try --test --fail-alloc N -- growths_refused` refuses the Nth of the eleven, of which six are the test's own.
+// `rt try --test --fail-alloc N -- growths_refused` refuses the Nth of the five.
 #[test]
 fn growths_refused(rt: HostRuntime) -> Result<(), Fail> {
     for (front, content, back, first, last) in GROWING {
         let mut decoder = Decoder::new(rt.alloc());
-        let mut done = false;
-        let bytes = joined(rt.alloc(), front, content, back)?;
-        for (place, byte) in bytes.iter().enumerate() {
+        let mut done = None;
+        for (place, byte) in front.iter().chain(content).chain(back).enumerate() {
             assert_eq!(rt; decoder.pending_len(), place);
             let step = match decoder.push(*byte) {
                 Err(DecodeFault::Memory) => {
@@ -311,11 +349,11 @@ fn growths_refused(rt: HostRuntime) -> Result<(), Fail> {
                 answer => answer?,
             };
             if let Step::Done(command) = step {
-                assert!(rt; command.parts().content == content);
-                done = true;
+                done = Some(command);
             }
         }
-        assert!(rt; done);
+        let command = done.ok_or("command")?;
+        assert_eq!(rt; command.parts().content, content);
     }
     Ok(())
 }
@@ -326,22 +364,21 @@ fn room_is_modest(rt: HostRuntime) -> Result<(), Fail> {
     for (front, content, back, _, _) in GROWING {
         let mut decoder = Decoder::new(rt.alloc());
         for byte in LARGEST {
-            assert!(rt; decoder.push(byte) == Ok(Step::More));
+            assert_eq!(rt; decoder.push(byte)?, Step::More);
         }
         decoder.clear();
-        let mut room = usize::MAX;
-        for byte in joined(rt.alloc(), front, content, back)?.as_slice() {
-            match decoder.push(*byte)? {
-                Step::Done(Command::Bars(bars)) => {
-                    room = bars.into_content().into_vec().capacity();
-                }
-                Step::Done(Command::Raster(raster)) => {
-                    room = raster.into_dots().into_vec().capacity();
-                }
-                _ => {}
+        let mut done = None;
+        for byte in front.iter().chain(content).chain(back) {
+            if let Step::Done(command) = decoder.push(*byte)? {
+                done = Some(command);
             }
         }
-        assert!(rt; room <= 64);
+        let bytes = match done.ok_or("command")? {
+            Command::Bars(bars) => bars.into_content(),
+            Command::Raster(raster) => raster.into_dots(),
+            _ => return Err(Fail::new("no content")),
+        };
+        assert!(rt; bytes.into_vec().capacity() <= 64);
     }
     Ok(())
 }

@@ -3,77 +3,74 @@
 //! It keeps nothing between two bytes and looks at all of them each time, so it shares neither places nor counts with the
 //! decoder. The tests compare the two.
 
-use crate::Ahead;
-use escpos_command::{CR, DLE, EOT, ESC, FaultReason, Form, GS, LF, Symbology};
+use escpos_command::{
+    Align, BarHeight, BarWidth, Bars, CR, Character, Command, Cut, DLE, EOT, ESC, Emphasis,
+    FaultReason, FeedLines, FeedUnits, Font, Form, GS, HriFont, HriPlace, LF, MarkId, Mode, Pulse,
+    Raster, Size, StatusKind, Symbology, Table, Underline,
+};
+use std::alloc::Global;
+use std::test::Fail;
 
 /// What a byte list is of whose bytes all but the last are nothing or a half command.
-#[derive(Clone, Copy, Debug, PartialEq)]
+#[derive(Debug, Drop, PartialEq)]
 pub enum Reading {
-    /// The spelling of a command: a status request, a mark or another.
-    Spelling(Ahead),
+    /// The spelling of this command.
+    Spelling(Command),
     /// A half command: it begins a spelling and isn't one.
     Half,
     /// It begins no spelling: its last byte is refused for this reason.
     Refused(FaultReason),
 }
 
-/// What the half command and the byte after it are.
-pub fn read(half: &[u8], bytes: &[u8]) -> Reading {
-    match spelled(bytes) {
-        Ahead::Nothing if begins_spelling(bytes) => Reading::Half,
-        Ahead::Nothing => Reading::Refused(reason_after(half)),
-        command => Reading::Spelling(command),
-    }
-}
-
-// Which command the bytes spell.
-fn spelled(bytes: &[u8]) -> Ahead {
-    let is_other = match bytes {
-        [DLE, EOT, 1..=4] => return Ahead::Status,
-        [GS, b'(', b'H', 6, 0, b'0', b'0', id @ ..] if id.len() == 4 && is_id(id) => {
-            return Ahead::Mark;
-        }
-        [32..=255] | [LF | CR] => true,
-        [ESC, letter, parameters @ ..] => is_escape(*letter, parameters),
-        [GS, letter, parameters @ ..] => is_group(*letter, parameters),
-        _ => false,
-    };
-    if is_other {
-        Ahead::Other
+/// What these bytes are.
+pub fn read(alloc: Global, bytes: &[u8]) -> Result<Reading, Fail> {
+    let (_, before) = bytes.split_last().ok_or("no byte")?;
+    Ok(if let Some(command) = spelled(alloc, bytes)? {
+        Reading::Spelling(command)
+    } else if begins_spelling(bytes) {
+        Reading::Half
     } else {
-        Ahead::Nothing
-    }
+        Reading::Refused(reason_after(before))
+    })
 }
 
-// Whether ESC and these bytes spell a command.
-fn is_escape(letter: u8, parameters: &[u8]) -> bool {
-    match (letter, parameters) {
-        (b'@', []) => true,
-        (b'!' | b'E' | b'J' | b'd' | b't', [_]) => true,
-        (b'-' | b'a', [0..=2 | 48..=50]) => true,
-        (b'M', [0 | 1 | 48 | 49]) => true,
-        (b'p', [0 | 1 | 48 | 49, _, _]) => true,
-        _ => false,
-    }
-}
-
-// Whether GS and these bytes spell a command.
-fn is_group(letter: u8, parameters: &[u8]) -> bool {
-    match (letter, parameters) {
-        (b'!', [n]) => *n & 0b1000_1000 == 0,
-        (b'H', [0..=3 | 48..=51]) => true,
-        (b'V', [0 | 1 | 48 | 49]) => true,
-        (b'V', [65 | 66, _]) => true,
-        (b'f', [0 | 1 | 48 | 49]) => true,
-        (b'h', [1..=255]) => true,
-        (b'k', [m @ 0..=6, content @ .., 0]) => is_content(Form::A, *m, content),
-        (b'k', [m @ 65..=73, n, content @ ..]) => {
-            content.len() == *n as usize && is_content(Form::B, *m, content)
+// The command that the bytes spell. A parameter is as the table says; that there is no such value is an error here.
+fn spelled(alloc: Global, bytes: &[u8]) -> Result<Option<Command>, Fail> {
+    let command = match bytes {
+        [b @ 32..=255] => Character::new(*b).map(Command::Char),
+        [LF] => Some(Command::LineFeed),
+        [CR] => Some(Command::Return),
+        [ESC, b'@'] => Some(Command::Init),
+        [ESC, b'!', n] => Mode::new(*n).map(Command::Mode),
+        [ESC, b'-', n @ (0..=2 | 48..=50)] => Underline::new(*n).map(Command::Underline),
+        [ESC, b'E', n] => Emphasis::new(*n).map(Command::Emphasis),
+        [ESC, b'M', n @ (0 | 1 | 48 | 49)] => Font::new(*n).map(Command::Font),
+        [ESC, b'a', n @ (0..=2 | 48..=50)] => Align::new(*n).map(Command::Align),
+        [ESC, b'J', n] => FeedUnits::new(*n).map(Command::FeedUnits),
+        [ESC, b'd', n] => FeedLines::new(*n).map(Command::FeedLines),
+        [ESC, b'p', m @ (0 | 1 | 48 | 49), on, off] => {
+            Pulse::new(*m, *on, *off).map(Command::Pulse)
         }
-        (b'v', [b'0', 0..=3 | 48..=51, rest @ ..]) => is_raster(rest),
-        (b'w', [2..=6]) => true,
-        _ => false,
-    }
+        [ESC, b't', n] => Table::new(*n).map(Command::Table),
+        [GS, b'!', n] if *n & 0b1000_1000 == 0 => Size::new(*n).map(Command::Size),
+        [GS, b'(', b'H', 6, 0, b'0', b'0', a, b, c, d] if is_id(&[*a, *b, *c, *d]) => {
+            MarkId::new([*a, *b, *c, *d]).map(Command::Mark)
+        }
+        [GS, b'H', n @ (0..=3 | 48..=51)] => HriPlace::new(*n).map(Command::HriPlace),
+        [GS, b'V', m @ (0 | 1 | 48 | 49)] => Cut::new(*m).map(Command::Cut),
+        [GS, b'V', m @ (65 | 66), n] => Cut::with_feed(*m, *n).map(Command::Cut),
+        [GS, b'f', n @ (0 | 1 | 48 | 49)] => HriFont::new(*n).map(Command::HriFont),
+        [GS, b'h', n @ 1..=255] => BarHeight::new(*n).map(Command::BarHeight),
+        [GS, b'k', m @ 0..=6, content @ .., 0] => return bars(alloc, Form::A, *m, content),
+        [GS, b'k', m @ 65..=73, n, content @ ..] if content.len() == *n as usize => {
+            return bars(alloc, Form::B, *m, content);
+        }
+        [GS, b'v', b'0', m @ (0..=3 | 48..=51), rest @ ..] => return raster(alloc, *m, rest),
+        [GS, b'w', n @ 2..=6] => BarWidth::new(*n).map(Command::BarWidth),
+        [DLE, EOT, n @ 1..=4] => StatusKind::new(*n).map(Command::Status),
+        _ => return Ok(None),
+    };
+    Ok(Some(command.ok_or("a parameter of the table")?))
 }
 
 // Whether the bytes begin a spelling and aren't one.
@@ -121,13 +118,16 @@ fn is_id(id: &[u8]) -> bool {
     id.iter().all(|byte| matches!(byte, 32..=126))
 }
 
-// Whether the symbology with this mode has the content.
-fn is_content(form: Form, mode: u8, content: &[u8]) -> bool {
-    symbology_of(form, mode).is_some_and(|symbology| begins_content(
-        symbology,
-        content.len(),
-        content,
-    ))
+// The barcode with this content.
+fn bars(alloc: Global, form: Form, mode: u8, content: &[u8]) -> Result<Option<Command>, Fail> {
+    let Some(symbology) = symbology_of(form, mode) else {
+        return Ok(None);
+    };
+    if !begins_content(symbology, content.len(), content) {
+        return Ok(None);
+    }
+    let bars = Bars::new(form, symbology, content.to_vec(alloc)?)?;
+    Ok(Some(Command::Bars(bars)))
 }
 
 // Whether a content that begins so goes on, at some length.
@@ -199,16 +199,18 @@ fn allows(symbology: Symbology, length: usize, place: usize, byte: u8) -> bool {
     allowed.contains(&byte)
 }
 
-// Whether these are a size, and as many dots as it says.
-fn is_raster(rest: &[u8]) -> bool {
-    match rest {
-        [x_low, x_high, y_low, y_high, dots @ ..] => {
-            let x = u16::from_le_bytes([*x_low, *x_high]);
-            let y = u16::from_le_bytes([*y_low, *y_high]);
-            begins_size(&rest[..4]) && dots.len() == x as usize * y as usize
-        }
-        _ => false,
+// The raster with this size and these dots.
+fn raster(alloc: Global, mode: u8, rest: &[u8]) -> Result<Option<Command>, Fail> {
+    let [x_low, x_high, y_low, y_high, dots @ ..] = rest else {
+        return Ok(None);
+    };
+    let x = u16::from_le_bytes([*x_low, *x_high]);
+    let y = u16::from_le_bytes([*y_low, *y_high]);
+    if !begins_size(&rest[..4]) || dots.len() != x as usize * y as usize {
+        return Ok(None);
     }
+    let raster = Raster::new(mode, x, y, dots.to_vec(alloc)?)?;
+    Ok(Some(Command::Raster(raster)))
 }
 
 // Whether a size and dots that begin so go on.
