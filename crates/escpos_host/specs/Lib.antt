@@ -1,0 +1,4 @@
+pub mod Describes
+pub mod Entries
+pub mod Refusals
+pub mod Whole

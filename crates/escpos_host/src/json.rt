@@ -1,0 +1,159 @@
+//! Receipts read from text in JSON: an array whose entries give the commands, one after another.
+
+ghost use Rattle.std.specs.Prelude.{◌≡◌, ◌≤◌, ◌⊎◌, length, IfOk, IsErrOf, map};
+ghost use Rattle.serde_json.specs.View.{view};
+ghost use Rattle.serde_json.specs.Errors.{IsMemory};
+ghost use Rattle.escpos_host.specs.Describes.{Describes, Give, IsJsonFault, IsRefusedEntry, error_at};
+ghost use Rattle.escpos_host.specs.Whole.{Whole};
+
+use crate::entry::{EntryFault, read_entry};
+use crate::receipt::{Receipt, ReceiptFault};
+use escpos_command::Command;
+use serde_json::{Category, Value};
+use std::alloc::{AllocError, Global};
+
+/// Why a text gives no receipt. What comes first in this order is given: 5; then the first entry that is refused, 6, 7 or 8
+/// with its place, counted from 0; then why its commands are no receipt, 1 to 4.
+#[derive(Clone, Copy, Debug, PartialEq, Eq)]
+pub enum JsonFault {
+    /// 1 to 4: the commands that the text describes are no receipt.
+    NotWhole(ReceiptFault),
+    /// 5: it isn't JSON in UTF-8, or it nests deeper than 127.
+    NotJson,
+    /// 6: the entry at this place has no member of the table, more than one, or one with another value than it may have. Or
+    /// the text is no array; then the place is 0.
+    BadShape { at: usize },
+    /// 7: the text of the entry at this place has a control character.
+    ControlByte { at: usize },
+    /// 8: the text of the entry at this place has a character that isn't ASCII.
+    NotAscii { at: usize },
+}
+
+impl JsonFault {
+    ghost use Rattle.escpos_host.specs.Refusals.{name_of, number_of, place_of};
+
+    /// The number that programs print.
+    pub fn number(self) -> u8
+        ensures { result ≡ number_of self }
+    {
+        match self {
+            JsonFault::NotWhole(fault) => fault.number(),
+            JsonFault::NotJson => 5,
+            JsonFault::BadShape { .. } => 6,
+            JsonFault::ControlByte { .. } => 7,
+            JsonFault::NotAscii { .. } => 8,
+        }
+    }
+
+    /// The name that programs print.
+    pub fn name(self) -> &'static str
+        ensures value { result.now ≡ name_of self }
+        ensures short { length result.now ≤ 11 }
+    {
+        match self {
+            JsonFault::NotWhole(fault) => fault.name(),
+            JsonFault::NotJson => "NotJson",
+            JsonFault::BadShape { .. } => "BadShape",
+            JsonFault::ControlByte { .. } => "ControlByte",
+            JsonFault::NotAscii { .. } => "NotAscii",
+        }
+    }
+
+    /// The place of the entry that is refused, or of the command that can't stand where it does, counted from 0, where there
+    /// is one.
+    pub fn place(self) -> Option<usize>
+        ensures { result ≡ place_of self }
+    {
+        match self {
+            JsonFault::NotWhole(fault) => fault.place(),
+            JsonFault::BadShape { at }
+            | JsonFault::ControlByte { at }
+            | JsonFault::NotAscii { at } => Some(at),
+            JsonFault::NotJson => None,
+        }
+    }
+}
+
+/// Why no receipt was read.
+#[derive(Clone, Copy, Debug, PartialEq, Eq)]
+pub enum JsonError {
+    /// The text gives none.
+    Refused(JsonFault),
+    /// There is no memory for it. This may come in place of any other answer.
+    Memory,
+}
+
+impl From<AllocError> for JsonError {
+    ghost use Rattle.std.specs.Prelude.{◌≡◌};
+    ghost use Rattle.escpos_host.specs.declared.json.JsonError.TheVariants.{Memory};
+
+    ghost from_gives = { λ _ error. error ≡ Memory };
+
+    fn from(_error: AllocError) -> Self {
+        JsonError::Memory
+    }
+}
+
+impl EntryFault {
+    // What becomes of a text whose entry at this place gives no commands.
+    fn at(self, at: usize) -> JsonError
+        ensures { result ≡ error_at at self }
+    {
+        match self {
+            EntryFault::BadShape => JsonError::Refused(JsonFault::BadShape { at }),
+            EntryFault::ControlByte => JsonError::Refused(JsonFault::ControlByte { at }),
+            EntryFault::NotAscii => JsonError::Refused(JsonFault::NotAscii { at }),
+            EntryFault::Memory => JsonError::Memory,
+        }
+    }
+}
+
+impl Receipt {
+    /// The receipt that a text in JSON describes: an array of objects with one member each, as docs/PROFILE.md has them.
+    pub fn from_json(alloc: Global, text: &[u8]) -> Result<Self, JsonError>
+        ensures receipt { IfOk result (λ receipt. Describes text.now receipt × Whole receipt) }
+        ensures refused { (fault : JsonFault) → IsErrOf result (JsonError.Refused fault) → IsJsonFault fault text.now }
+    {
+        let value = match Value::from_slice(alloc, text) {
+            Ok(value) => value,
+            Err(error) => return Err(error_of(&error)),
+        };
+        let Some(entries) = value.as_array() else {
+            return Err(JsonError::Refused(JsonFault::BadShape { at: 0 }));
+        };
+        let commands = match read_entries(alloc, entries.as_slice()) {
+            Ok(commands) => commands,
+            Err(error) => return Err(error),
+        };
+        match Receipt::new(commands) {
+            Ok(receipt) => Ok(receipt),
+            Err((fault, _)) => Err(JsonError::Refused(JsonFault::NotWhole(fault))),
+        }
+    }
+}
+
+// What becomes of a text that couldn't be read as JSON.
+fn error_of(error: &serde_json::Error) -> JsonError
+    ensures { (result ≡ JsonError.Memory) ⊎ ((result ≡ JsonError.Refused JsonFault.NotJson) × ¬ IsMemory error.now) }
+{
+    match error.classify() {
+        Category::Memory => JsonError::Memory,
+        _ => JsonError::Refused(JsonFault::NotJson),
+    }
+}
+
+// The commands of all entries, one after another.
+fn read_entries(alloc: Global, entries: &[Value]) -> Result<Vec<Command>, JsonError>
+    ensures commands { IfOk result (λ commands. Give (map view entries.now) commands.items) }
+    ensures refused { (fault : JsonFault) → IsErrOf result (JsonError.Refused fault) → IsRefusedEntry fault (map view entries.now) }
+{
+    let mut commands = Vec::new(alloc);
+    for (at, entry) in entries.iter().enumerate() {
+        let mut part = match read_entry(alloc, entry) {
+            Ok(part) => part,
+            Err(fault) => return Err(fault.at(at)),
+        };
+        commands.append(&mut part)?;
+    }
+    Ok(commands)
+}
