@@ -1,6 +1,6 @@
 //! The members that an entry of a receipt's text in JSON may have, by name.
 //!
-//! A new member is a variant here with a row in `MEMBERS`, a line in `command_of` of `entry`, and the same two lines in
+//! A new member is a variant here with a row in `MEMBERS`, a line in `short_command_of` of `entry`, and the same two lines in
 //! `specs/Entries.antt`.
 
 /// A member that an entry may have.
