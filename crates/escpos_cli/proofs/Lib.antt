@@ -3,3 +3,4 @@ pub mod TaskWords
 pub mod Mapped
 pub mod Listings
 pub mod Reports
+pub mod Spellings

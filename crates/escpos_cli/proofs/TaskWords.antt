@@ -17,7 +17,7 @@ use Rattle.escpos_cli.specs.Task.{command_words, help_words, name_of, no_task_of
 use Rattle.escpos_cli.specs.declared.task.NoTask.{NoTask}
 use Rattle.escpos_cli.specs.declared.task.NoTask.TheVariants.{Help, Memory}
 use Rattle.escpos_cli.specs.declared.task.Task.{Task}
-use Rattle.escpos_cli.specs.declared.task.Task.TheVariants.{Check, Render}
+use Rattle.escpos_cli.specs.declared.task.Task.TheVariants.{Check, Render, Encode}
 use Rattle.std.proofs.lemmas.Slice.Eq.{bytes_eq-Decides}
 
 pub is_exact : is_simple_and_free command_words ≡ true
@@ -47,6 +47,14 @@ render_passes = refl
 pub render_met : met_by (codes "render" ∷ []) ≡ Some (codes "render")
 unfolding clap_on_literals
 render_met = refl
+
+pub encode_passes : fault_of command_words (codes "encode" ∷ []) ≡ []
+unfolding clap_on_literals
+encode_passes = refl
+
+pub encode_met : met_by (codes "encode" ∷ []) ≡ Some (codes "encode")
+unfolding clap_on_literals
+encode_met = refl
 
 pub help_met : met_by (codes "help" ∷ []) ≡ Some (codes "help")
 unfolding clap_on_literals
@@ -86,6 +94,14 @@ is_help-6 : IsHelp (codes "render" ∷ codes "-h" ∷ [])
 unfolding clap_on_literals
 is_help-6 = inl refl
 
+is_help-7 : IsHelp (codes "encode" ∷ codes "--help" ∷ [])
+unfolding clap_on_literals
+is_help-7 = inl refl
+
+is_help-8 : IsHelp (codes "encode" ∷ codes "-h" ∷ [])
+unfolding clap_on_literals
+is_help-8 = inl refl
+
 pub is_help : (texts : List Text) → Contains help_words texts → IsHelp texts
 is_help texts (zero, below, at) = inr (sym at)
 is_help texts (suc zero, below, at) = subst IsHelp at is_help-1
@@ -94,7 +110,9 @@ is_help texts (suc (suc (suc zero)), below, at) = subst IsHelp at is_help-3
 is_help texts (suc (suc (suc (suc zero))), below, at) = subst IsHelp at is_help-4
 is_help texts (suc (suc (suc (suc (suc zero)))), below, at) = subst IsHelp at is_help-5
 is_help texts (suc (suc (suc (suc (suc (suc zero))))), below, at) = subst IsHelp at is_help-6
-is_help texts (suc (suc (suc (suc (suc (suc (suc k)))))), below, at) = absurd (omega arith)
+is_help texts (suc (suc (suc (suc (suc (suc (suc zero)))))), below, at) = subst IsHelp at is_help-7
+is_help texts (suc (suc (suc (suc (suc (suc (suc (suc zero))))))), below, at) = subst IsHelp at is_help-8
+is_help texts (suc (suc (suc (suc (suc (suc (suc (suc (suc k)))))))), below, at) = absurd (omega arith)
 
 -- ---- what an error says
 
@@ -184,96 +202,87 @@ stopped word = stop_at-word word (subcommand_met names idle word)
 abbrev entered_name : Option Text → Option Text
 entered_name m = option_map (λ p. p.0) (entered (built command_words) (option_map (λ name. (name, [])) m))
 
--- the three names, by which of them the word is
-abbrev met_if : Bool → Bool → Bool → Option Text
-met_if c r h = if c then Some (codes "check") else (if r then Some (codes "render") else (if h then Some (codes "help") else None))
-
-met_conds : (c r h : Bool) → option_map (λ (s : Text × List Text). s.0)
-    (if c then Some (codes "check", []) else (if r then Some (codes "render", []) else (if h then Some (codes "help", []) else None))) ≡ met_if c r h
-met_conds true r h = refl
-met_conds false true h = refl
-met_conds false false true = refl
-met_conds false false false = refl
-
 abbrev answers : Text → Text → Bool
 answers name word = answers_to word (name, [])
 
-abbrev met_of : Text → Option Text
-met_of word = met_if (answers (codes "check") word) (answers (codes "render") word) (answers (codes "help") word)
+-- the first of these names that the word is
+abbrev first_met : Text → List Text → Option Text
+first_met word [] = None
+first_met word (name ∷ others) = if answers name word then Some name else first_met word others
 
-met_word : (word : Text) → subcommand_met names idle word ≡ met_of word
-met_word word = met_conds (answers (codes "check") word) (answers (codes "render") word) (answers (codes "help") word)
+-- the names of all subcommands
+abbrev own_names : List Text
+own_names = codes "check" ∷ codes "render" ∷ codes "encode" ∷ codes "help" ∷ []
 
-abbrev first_byte : Option Text → ℕ
-first_byte (Some (x ∷ xs)) = x
-first_byte _ = 0
+-- the same for the four names, by which of them the word is
+abbrev met_if : Bool → Bool → Bool → Bool → Option Text
+met_if c r e h = if c then Some (codes "check") else (if r then Some (codes "render") else (if e then Some (codes "encode") else (if h then Some (codes "help") else None)))
 
-entered_check : (c r h : Bool) → entered_name (met_if c r h) ≡ Some (codes "check") → c ≡ true
+met_conds : (c r e h : Bool) → option_map (λ (s : Text × List Text). s.0)
+    (if c then Some (codes "check", []) else (if r then Some (codes "render", []) else (if e then Some (codes "encode", []) else (if h then Some (codes "help", []) else None))))
+    ≡ met_if c r e h
+met_conds true r e h = refl
+met_conds false true e h = refl
+met_conds false false true h = refl
+met_conds false false false true = refl
+met_conds false false false false = refl
+
+met_word : (word : Text) → subcommand_met names idle word ≡ first_met word own_names
+met_word word = met_conds (answers (codes "check") word) (answers (codes "render") word) (answers (codes "encode") word) (answers (codes "help") word)
+
+-- a name that is met is entered
+entered_if : (c r e h : Bool) → entered_name (met_if c r e h) ≡ met_if c r e h
 unfolding clap_on_literals
-entered_check true r h e = refl
-entered_check false true h e = let bad : ◌≡◌ {A = ℕ} 114 99 = ap first_byte e in absurd (omega arith)
-entered_check false false true e = let bad : ◌≡◌ {A = ℕ} 104 99 = ap first_byte e in absurd (omega arith)
-entered_check false false false e = cc
+entered_if true r e h = refl
+entered_if false true e h = refl
+entered_if false false true h = refl
+entered_if false false false true = refl
+entered_if false false false false = refl
 
-entered_render : (c r h : Bool) → entered_name (met_if c r h) ≡ Some (codes "render") → r ≡ true
-unfolding clap_on_literals
-entered_render c true h e = refl
-entered_render true false h e = let bad : ◌≡◌ {A = ℕ} 99 114 = ap first_byte e in absurd (omega arith)
-entered_render false false true e = let bad : ◌≡◌ {A = ℕ} 104 114 = ap first_byte e in absurd (omega arith)
-entered_render false false false e = cc
-
-entered_help : (c r h : Bool) → entered_name (met_if c r h) ≡ Some (codes "help") → h ≡ true
-unfolding clap_on_literals
-entered_help c r true e = refl
-entered_help true r false e = let bad : ◌≡◌ {A = ℕ} 99 104 = ap first_byte e in absurd (omega arith)
-entered_help false true false e = let bad : ◌≡◌ {A = ℕ} 114 104 = ap first_byte e in absurd (omega arith)
-entered_help false false false e = cc
+entered_met : (word : Text) → entered_name (first_met word own_names) ≡ first_met word own_names
+entered_met word = entered_if (answers (codes "check") word) (answers (codes "render") word) (answers (codes "encode") word) (answers (codes "help") word)
 
 or_false : (b : Bool) → (b || false) ≡ true → b ≡ true
 or_false true e = refl
 or_false false e = e
 
+-- the word is the name that it meets
+answers_same : (name word : Text) → answers name word ≡ true → word ≡ name
+answers_same name word h = sym ((bytes_eq-Decides name word).0 (or_false (bytes_eq name word) h))
+
+some_same : (x y : Text) → Some x ≡ Some y → x ≡ y
+some_same x y e = cc
+
+met_here : (word name found : Text) (others : List Text) (b : Bool) → (b ≡ true → word ≡ name) → (first_met word others ≡ Some found → word ≡ found)
+    → (if b then Some name else first_met word others) ≡ Some found → word ≡ found
+met_here word name found others true here there e = here refl ∙ some_same name found e
+met_here word name found others false here there e = there e
+
+is_met : (word found : Text) (others : List Text) → first_met word others ≡ Some found → word ≡ found
+is_met word found [] e = cc
+is_met word found (name ∷ others) e = met_here word name found others (answers name word) (answers_same name word) (is_met word found others) e
+
 -- the name that is met at one word
-met_at : (word name : Text) → met_by (word ∷ []) ≡ Some name → entered_name (met_of word) ≡ Some name
+met_at : (word name : Text) → met_by (word ∷ []) ≡ Some name → first_met word own_names ≡ Some name
 met_at word name e =
     let left = stopped word ∙ ap (option_map (λ (met : Text). (met, []))) (met_word word) in
-    sym (ap (λ (s : Option (Text × List Text)). option_map (λ p. p.0) (entered (built command_words) s)) left) ∙ e
+    sym (entered_met word) ∙ sym (ap (λ (s : Option (Text × List Text)). option_map (λ p. p.0) (entered (built command_words) s)) left) ∙ e
 
-answers_same : (name word : Text) → answers name word ≡ true → word ∷ [] ≡ name ∷ []
-answers_same name word h = ap (λ (w : Text). w ∷ []) (sym ((bytes_eq-Decides name word).0 (or_false (bytes_eq name word) h)))
-
-is_check : (texts : List Text) → met_by texts ≡ Some (codes "check") → length texts ≡ 1 → texts ≡ codes "check" ∷ []
-is_check [] e one = absurd (omega arith)
-is_check (word ∷ []) e one =
-    answers_same (codes "check") word
-    (entered_check (answers (codes "check") word) (answers (codes "render") word) (answers (codes "help") word) (met_at word (codes "check") e))
-is_check (word ∷ other ∷ rest) e one = absurd (omega arith)
-
-is_render : (texts : List Text) → met_by texts ≡ Some (codes "render") → length texts ≡ 1 → texts ≡ codes "render" ∷ []
-is_render [] e one = absurd (omega arith)
-is_render (word ∷ []) e one =
-    answers_same (codes "render") word
-    (entered_render (answers (codes "check") word) (answers (codes "render") word) (answers (codes "help") word) (met_at word (codes "render") e))
-is_render (word ∷ other ∷ rest) e one = absurd (omega arith)
-
-pub is_help_word : (texts : List Text) → met_by texts ≡ Some (codes "help") → length texts ≡ 1 → texts ≡ codes "help" ∷ []
-is_help_word [] e one = absurd (omega arith)
-is_help_word (word ∷ []) e one =
-    answers_same (codes "help") word
-    (entered_help (answers (codes "check") word) (answers (codes "render") word) (answers (codes "help") word) (met_at word (codes "help") e))
-is_help_word (word ∷ other ∷ rest) e one = absurd (omega arith)
-
-pub is_task : (texts : List Text) (task : Task) → met_by texts ≡ Some (name_of task) → length texts ≡ 1 → texts ≡ words_of task
-is_task texts Check e one = is_check texts e one
-is_task texts Render e one = is_render texts e one
+-- one word that meets a name is that name
+pub is_word : (texts : List Text) (name : Text) → met_by texts ≡ Some name → length texts ≡ 1 → texts ≡ name ∷ []
+is_word [] name e one = absurd (omega arith)
+is_word (word ∷ []) name e one = ap (λ (w : Text). w ∷ []) (is_met word name own_names (met_at word name e))
+is_word (word ∷ other ∷ rest) name e one = absurd (omega arith)
 
 pub task_met : (task : Task) → met_by (words_of task) ≡ Some (name_of task)
 task_met Check = check_met
 task_met Render = render_met
+task_met Encode = encode_met
 
 pub task_passes : (task : Task) → fault_of command_words (words_of task) ≡ []
 task_passes Check = check_passes
 task_passes Render = render_passes
+task_passes Encode = encode_passes
 
 -- ---- what a parse of the words gives
 

@@ -9,3 +9,5 @@ pub mod Check
 pub mod Render
 pub mod Task
 pub mod Obstacle
+pub mod Refusal
+pub mod Encode

@@ -114,8 +114,8 @@ fn append_fault(gather: &mut Gather, place: usize, why: FaultReason)
     gather.push(LF);
 }
 
-// A number, in decimal.
-fn append_number(gather: &mut Gather, number: usize)
+/// Appends a number in decimal.
+pub fn append_number(gather: &mut Gather, number: usize)
     requires { length gather.old.kept + 20 ≤ GATHERED_BYTES }
     ensures kept { gather.new.kept ≡ gather.old.kept ++ decimal number }
     ensures same_count { gather.new.taken ≡ gather.old.taken }

@@ -2,14 +2,15 @@
 //!
 //! `main` joins the words of the command line, the standard streams and the exit status, and leaves the rest
 //! to its modules: `task` reads the words, `perform` does what they ask for, `input` and `hexadecimal` read
-//! the input, `job` has what the jobs have in common and `check` and `render` are the jobs of those names over
-//! any source and sink, `lines` has the lines of a listing, `outcome` what all jobs say, and `status` what the
-//! program ends with.
+//! the input, `check`, `render` and `encode` are the jobs of those names over any source and sink and `job` has what
+//! the first two have in common, `lines` has the lines of a listing, `refusal` the line that refuses a receipt,
+//! `outcome` what all jobs say, and `status` what the program ends with.
 #![tactic(auto)]
 
 mod check;
 #[cfg(test)]
 mod content_tests;
+mod encode;
 #[cfg(test)]
 mod examples;
 mod hexadecimal;
@@ -19,6 +20,9 @@ mod lines;
 mod notes;
 mod outcome;
 mod perform;
+#[cfg(test)]
+mod receipt_tests;
+mod refusal;
 mod render;
 mod status;
 mod task;

@@ -4,10 +4,12 @@ ghost use Rattle.std.specs.Prelude.{◌≡◌, ◌≢◌, ◌⊎◌, ◌+◌, �
 ghost use Rattle.escpos_cli.specs.declared.task.TheConstants.{HELP, USAGE};
 ghost use Rattle.escpos_cli.specs.declared.input.TheConstants.{INPUT_LIMIT};
 ghost use Rattle.escpos_cli.specs.Check.{Checks};
+ghost use Rattle.escpos_cli.specs.Encode.{Encodes};
 ghost use Rattle.escpos_cli.specs.Render.{RendersInput};
 ghost use Rattle.escpos_cli.specs.Outcome.{Says, memory_line, outcome};
 
 use crate::check::check;
+use crate::encode::encode;
 use crate::outcome::{MEMORY, say};
 use crate::render::render;
 use crate::status::Status;
@@ -30,6 +32,8 @@ pub fn perform<R: ByteIn, W: ByteOut>(
         IfSome (R.to_come input.old) (λ text. Checks (outcome (W.written output.old) (W.written output.new) (W.failed output.new) result) text) }
     ensures render { asked ≡ Ok Task.Render →
         IfSome (R.to_come input.old) (λ text. RendersInput (outcome (W.written output.old) (W.written output.new) (W.failed output.new) result) text) }
+    ensures encode { asked ≡ Ok Task.Encode →
+        IfSome (R.to_come input.old) (λ text. Encodes (outcome (W.written output.old) (W.written output.new) (W.failed output.new) result) text) }
     ensures help { asked ≡ Err NoTask.Help →
         Says (outcome (W.written output.old) (W.written output.new) (W.failed output.new) result) HELP.now Status.Good }
     ensures usage { asked ≡ Err NoTask.Usage →
@@ -46,6 +50,7 @@ pub fn perform<R: ByteIn, W: ByteOut>(
     match asked {
         Ok(Task::Check) => check(alloc, input, output),
         Ok(Task::Render) => render(alloc, input, output),
+        Ok(Task::Encode) => encode(alloc, input, output),
         Err(NoTask::Help) => say(HELP.as_bytes(), output, Status::Good),
         Err(NoTask::Usage) => say(USAGE.as_bytes(), output, Status::Usage),
         Err(NoTask::Memory) => say(MEMORY, output, Status::Memory),

@@ -18,6 +18,8 @@ pub enum Task {
     Check,
     /// Write the paper that a byte stream prints.
     Render,
+    /// Write the bytes of a receipt's commands.
+    Encode,
 }
 
 /// Why the words name no task.
@@ -50,18 +52,20 @@ impl From<clap::Error> for NoTask {
 pub const USAGE: &str = "\
 usage: escpos_cli check  < HEXADECIMAL
        escpos_cli render < HEXADECIMAL
+       escpos_cli encode < RECEIPT
        escpos_cli help
 ";
 
 /// The text that `help` asks for.
 pub const HELP: &str = "\
 escpos_cli shows what an ESC/POS byte stream says to a receipt printer, or the
-exact byte at which the stream is refused.
+exact byte at which the stream is refused, and writes the stream of a receipt.
 
-Both jobs read the stream from standard input, as hexadecimal digits of either
-case; spaces, tabs and line ends between them count for nothing. Input of more
-than 16777216 bytes gives the one line `refused input`, any other that isn't
-hexadecimal `refused hex`. A last line `memory` says that memory has run out.
+`check` and `render` read the stream from standard input, as hexadecimal digits
+of either case; spaces, tabs and line ends between them count for nothing. Input
+of more than 16777216 bytes gives the one line `refused input`, any other that
+isn't hexadecimal `refused hex`. A last line `memory` says that memory has run
+out.
 
   escpos_cli check
       Lists the commands. Each gives one line: the number of bytes before it,
@@ -103,6 +107,53 @@ hexadecimal `refused hex`. A last line `memory` says that memory has run out.
           $ echo '1D 6B 44 07 35 35 31 32 33 34 35' | escpos_cli render
           bars left ean8 162 3 none A 55123457
 
+  escpos_cli encode
+      Reads a receipt in JSON from standard input, and writes the bytes of its
+      commands in hexadecimal, in one line.
+
+          $ echo '[{\"line\":\"Hi\"},{\"cut\":\"full\"}]' | escpos_cli encode
+          48690a1d5600
+
+      A receipt is an array of objects with one member each. A number is an
+      integer without sign, fraction or exponent.
+
+          {\"text\":\"Total\"}           characters 20 to 7F, hexadecimal
+          {\"line\":\"Total\"}           the same, and a line feed
+          {\"feed\":3}                 a feed of 0 to 255 lines
+          {\"units\":40}               a feed of 0 to 255 motion units
+          {\"pulse\":{\"pin\":0,\"on\":25,\"off\":250}}
+                                     a pulse at pin 0 or 1, 0 to 255 units of
+                                     2 ms on and off
+          {\"mode\":8}                 font, emphasis, height, width and underline
+                                     at once, 0 to 255 (ESC !)
+          {\"bold\":true}              emphasis, true or false
+          {\"underline\":1}            underline of 0 to 2 dots
+          {\"font\":\"B\"}               font, \"A\" or \"B\"
+          {\"table\":16}               code table, 0 to 255
+          {\"align\":\"center\"}         \"left\", \"center\" or \"right\"
+          {\"size\":[2,1]}             width and height of characters, 1 to 8 each
+          {\"bar_height\":80}          height of barcodes, 1 to 255 dots
+          {\"bar_width\":2}            module width of barcodes, 2 to 6 dots
+          {\"hri\":\"below\"}            text of barcodes: \"none\", \"above\", \"below\"
+                                     or \"both\"
+          {\"hri_font\":\"B\"}           its font, \"A\" or \"B\"
+          {\"bars\":{\"kind\":\"ean13\",\"content\":\"400638133393\"}}
+                                     a barcode: \"upca\", \"ean13\", \"ean8\",
+                                     \"code39\", \"itf\", \"codabar\" or \"code128\"
+          {\"raster\":{\"scale\":\"normal\",\"x\":1,\"y\":2,\"dots\":\"f00f\"}}
+                                     an image of x bytes, 1 to 128, in each of y
+                                     rows, 1 to 4095; \"normal\", \"wide\", \"tall\"
+                                     or \"both\"
+          {\"cut\":\"full\"}             a cut, \"full\" or \"partial\"
+          {\"feed_cut\":{\"kind\":\"partial\",\"feed\":3}}
+                                     the same after a feed of 0 to 255 units
+
+      At the end no text may be left in the line, and none may stand in it at a
+      barcode, an image or a cut. What gives no receipt gives one line `refused
+      N NAME` or `refused N NAME PLACE`: 1 Empty, 3 TextLeft, 4 MidLine (PLACE is
+      that of the command), 5 NotJson, 6 BadShape, 7 ControlByte or 8 NotAscii
+      (PLACE is that of the entry). Places are counted from 0.
+
   escpos_cli help
       Prints this text; so do --help and -h.
 
@@ -137,14 +188,14 @@ pub fn task_of<S: AsStr>(alloc: Global, words: &[S]) -> Result<Task, NoTask>
 // What one of the program's words asks for, where so many words were given.
 fn task_named(name: Option<&str>, count: usize) -> Result<Task, NoTask>
     ensures task { IfOk result (λ task. (option_map (λ s. s.now) name.entry ≡ Some (name_of task)) × (count ≡ 1)) }
-    ensures check { option_map (λ s. s.now) name.entry ≡ Some (codes "check") → count ≡ 1 → result ≡ Ok Task.Check }
-    ensures render { option_map (λ s. s.now) name.entry ≡ Some (codes "render") → count ≡ 1 → result ≡ Ok Task.Render }
+    ensures named { (task : Task) → option_map (λ s. s.now) name.entry ≡ Some (name_of task) → count ≡ 1 → result ≡ Ok task }
     ensures help { option_map (λ s. s.now) name.entry ≡ Some (codes "help") → count ≡ 1 → result ≡ Err NoTask.Help }
     ensures help_only { result ≡ Err NoTask.Help → (option_map (λ s. s.now) name.entry ≡ Some (codes "help")) × (count ≡ 1) }
 {
     match name {
         Some("check") if count == 1 => Ok(Task::Check),
         Some("render") if count == 1 => Ok(Task::Render),
+        Some("encode") if count == 1 => Ok(Task::Encode),
         Some("help") if count == 1 => Err(NoTask::Help),
         _ => Err(NoTask::Usage),
     }
@@ -163,6 +214,7 @@ fn matches_of<'a, S: AsStr>(alloc: Global, words: &'a [S]) -> Result<ArgMatches<
         .subcommand_required(true)
         .subcommand(Command::new(alloc, "check"))?
         .subcommand(Command::new(alloc, "render"))?
+        .subcommand(Command::new(alloc, "encode"))?
         .subcommand(Command::new(alloc, "help"))?;
     command.try_get_matches_from(words)
 }

@@ -1,3 +1,4 @@
 pub mod Carrying
 pub mod PieceLists
 pub mod Giving
+pub mod Digits

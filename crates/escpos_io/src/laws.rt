@@ -1,7 +1,8 @@
 //! The laws of gathered bytes. Each is a function that does nothing and whose contract is the law, so that
 //! the law is proved with the crate and another crate can cite it by calling the function.
 
-ghost use Rattle.std.specs.Prelude.{◌≡◌, ◌≤◌, ℕ, length, Bool, List, ◌++◌, Option, Result, Ok, Err, ⊤, IsErrAnd};
+ghost use Rattle.std.specs.Prelude.{◌≡◌, ◌*◌, ◌≤◌, ℕ, length, Bool, List, [], ◌++◌, Option, Result, Ok, Err, ⊤, IsErrAnd};
+ghost use Rattle.hex.specs.Hex.{encode_lower};
 ghost use Rattle.escpos_io.specs.Gather.{Gathered, StopsIn};
 ghost use Rattle.escpos_io.specs.Giving.{IsGiven, IsPiecePut};
 ghost use Rattle.escpos_io.specs.Putting.{Passage, passage};
@@ -55,4 +56,13 @@ pub fn piece_stopped()
     ensures { (result : Result ⊤ Device) (device : Device) (sink : Passage) (old new : Gathered) (front rest bytes : List ℕ) →
         IsErrAnd result (λ error. error ≡ device) → IsGiven (Err device) sink old new front
         → length front ≤ PIECE_BYTES → bytes ≡ front ++ rest → IsPiecePut result sink old new bytes }
+{}
+
+/// The digits of two runs of bytes, one after another, are those of the run that both make. Of no bytes there are none, and
+/// of each byte there are two.
+#[inline]
+pub fn digits_in_turn()
+    ensures joined { (front more : List ℕ) → encode_lower (front ++ more) ≡ encode_lower front ++ encode_lower more }
+    ensures none { encode_lower [] ≡ [] }
+    ensures count { (bytes : List ℕ) → length (encode_lower bytes) ≡ 2 * length bytes }
 {}

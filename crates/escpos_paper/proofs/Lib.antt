@@ -7,4 +7,4 @@ pub mod AllCuts
 pub mod Sheets
 pub mod Initialisation
 pub mod Worked
-pub mod DotsPut
+pub mod ItemParts

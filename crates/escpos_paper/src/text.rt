@@ -1,7 +1,7 @@
 //! The text of a single item, given to a gather.
 //!
 //! All but the dots of a raster is short: it is appended in place to what the gather keeps back, and each function says
-//! what it appends and how much at most. The dots are put in parts. The loop over the items is `write_items`.
+//! what it appends and how much at most. The dots are put as digits, in parts. The loop over the items is `write_items`.
 
 ghost use Rattle.std.specs.Prelude.{◌≡◌, ◌+◌, ◌*◌, ◌≤◌, ◌<◌, [], ◌∷◌, ◌++◌, length, decimal, codes, flat_map};
 ghost use Rattle.hex.specs.Hex.{encode_lower};
@@ -16,7 +16,7 @@ use crate::content::{Content, DOT_BYTES};
 use crate::item::Item;
 use crate::style::{BarStyle, Style};
 use escpos_command::{Alignment, FontFace, HriPosition, LF, Scale, Symbology};
-use escpos_io::{ByteOut, Device, GATHERED_BYTES, Gather, Piece, laws};
+use escpos_io::{ByteOut, Device, GATHERED_BYTES, Gather, Piece, laws, put_digits};
 use itoa::Buffer;
 
 /// The most bytes of a line that are appended to a gather at once: all but the dots of a raster. (A row has at most 56
@@ -35,9 +35,10 @@ impl Piece for Item {
         laws::given_in_place();
         laws::piece_put();
         laws::piece_stopped();
+        laws::digits_in_turn();
         gather.room(LINE_BYTES, writer)?;
         append_front(gather, self);
-        put_dots(gather, dots_of(self), writer)?;
+        put_digits(gather, dots_of(self), writer)?;
         gather.put(&[LF], writer)
     }
 }
@@ -52,37 +53,6 @@ fn dots_of(item: &Item) -> &[u8]
         Item::Raster { dots, .. } => dots.as_slice(),
         _ => &[],
     }
-}
-
-/// How many bytes of dots are put at once.
-const PART_BYTES: usize = 1024;
-
-// Dots in hexadecimal, part by part.
-fn put_dots<W: ByteOut>(gather: &mut Gather, dots: &[u8], writer: &mut W) -> Result<(), Device>
-    ensures { IsGiven result (passage (W.written writer.old) (W.written writer.new) (W.failed writer.old) (W.failed writer.new))
-        gather.old gather.new (encode_lower dots.now) }
-{
-    laws::given_in_turn();
-    laws::given_in_the_front();
-    laws::given_in_place();
-    for part in dots.chunks(PART_BYTES) {
-        gather.room(2 * PART_BYTES, writer)?;
-        append_digits(gather, part);
-    }
-    Ok(())
-}
-
-// Bytes in hexadecimal.
-fn append_digits(gather: &mut Gather, bytes: &[u8])
-    requires few { length bytes.now ≤ PART_BYTES }
-    requires room { length gather.old.kept + 2 * PART_BYTES ≤ GATHERED_BYTES }
-    ensures kept { gather.new.kept ≡ gather.old.kept ++ encode_lower bytes.now }
-    ensures same_count { gather.new.taken ≡ gather.old.taken }
-{
-    let mut room = [0; 2 * PART_BYTES];
-    let digits = &mut room[..2 * bytes.len()];
-    hex::encode_to_slice(bytes, digits).unwrap();
-    gather.extend(digits);
 }
 
 // The line of an item but for its end, and of a raster what comes before its dots.

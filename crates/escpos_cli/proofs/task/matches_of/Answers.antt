@@ -17,11 +17,13 @@ returns g c =
     let top : (a : App) → Shape = λ a. a.top in
     let check_is = ap top c.new-2.ensures.app in
     let render_is = ap top c.new-3.ensures.app in
-    let help_is = ap top c.new-4.ensures.app in
+    let encode_is = ap top c.new-4.ensures.app in
+    let help_is = ap top c.new-5.ensures.app in
     let app_is : app_of c.in_ok-command.command ≡ command_words =
-    c.in_ok-command.ensures.shape c.new-4.ensures.local
+    c.in_ok-command.ensures.shape c.new-5.ensures.local
+    ∙ ap₂ with_subcommand (c.in_ok-subcommand-3.ensures.shape c.new-4.ensures.local
     ∙ ap₂ with_subcommand (c.in_ok-subcommand-2.ensures.shape c.new-3.ensures.local
-    ∙ ap₂ with_subcommand (c.in_ok-subcommand.ensures.shape c.new-2.ensures.local ∙ ap₂ with_subcommand top_is check_is) render_is) help_is in
+    ∙ ap₂ with_subcommand (c.in_ok-subcommand.ensures.shape c.new-2.ensures.local ∙ ap₂ with_subcommand top_is check_is) render_is) encode_is) help_is in
     let texts = map g.S.AsStr.text c.args.words.now in
     let parse = c.try_get_matches_from in
     let fails = fails_by (app_of c.in_ok-command.command) texts parse.result app_is parse.ensures.kinds in

@@ -3,28 +3,22 @@ use Rattle.std.proofs.lemmas.Result.{IfOk-weaker, err_from_is_err_and}
 use Rattle.std.proofs.lemmas.List.{length-map}
 use Rattle.clap.specs.Words.{fault_of}
 use Rattle.escpos_cli.specs.Task.{command_words, name_of}
-use Rattle.escpos_cli.proofs.TaskWords.{help_is_among, help_met, help_passes, is_help, is_help_word, is_task, met_by, refused_for_help, refused_for_memory, task_met, task_passes}
+use Rattle.escpos_cli.proofs.TaskWords.{help_is_among, help_met, help_passes, is_help, is_word, met_by, refused_for_help, refused_for_memory, task_met, task_passes}
 use Rattle.escpos_cli.specs.declared.task.NoTask.{NoTask}
 use Rattle.escpos_cli.specs.declared.task.NoTask.TheVariants.{Help}
 use Rattle.escpos_cli.specs.declared.task.Task.{Task}
 use Rattle.escpos_cli.specs.declared.task.Task.TheVariants.{Check, Render}
 use Rattle.escpos_cli.proofs.task.task_of.Goals as goal
 
--- Each task is the one that its name asks for.
-is_named : (result : Result Task NoTask) (name : Option (List ℕ)) (count : ℕ) → (name ≡ Some (codes "check") → count ≡ 1 → result ≡ Ok Check)
-    → (name ≡ Some (codes "render") → count ≡ 1 → result ≡ Ok Render) → (task : Task) → name ≡ Some (name_of task) → count ≡ 1 → result ≡ Ok task
-is_named result name count check render Check e one = check e one
-is_named result name count check render Render e one = render e one
-
 pub returns-clause-task : goal.returns-clause-task
 returns-clause-task g c =
     let texts = map g.S.AsStr.text c.args.words.now in
     let met = sym c.in_ok-matches.ensures.named ∙ sym c.subcommand_name.ensures in
-    IfOk-weaker c.task_named.result _ _ (λ task h. is_task texts task (met ∙ h.0) (length-map _ _ ∙ h.1)) c.task_named.ensures.task
+    IfOk-weaker c.task_named.result _ _ (λ task h. is_word texts (name_of task) (met ∙ h.0) (length-map _ _ ∙ h.1)) c.task_named.ensures.task
 
 pub returns-clause-named : goal.returns-clause-named
 returns-clause-named g c = λ task e.
-    inl (is_named c.task_named.result _ _ c.task_named.ensures.check c.task_named.ensures.render task
+    inl (c.task_named.ensures.named task
     (c.subcommand_name.ensures ∙ c.in_ok-matches.ensures.named ∙ ap met_by e ∙ task_met task) (sym (length-map _ _) ∙ ap length e))
 
 pub returns-clause-help : goal.returns-clause-help
@@ -36,7 +30,7 @@ returns-clause-help g c = λ asks. elim (is_help (map g.S.AsStr.text c.args.word
 pub returns-clause-help_only : goal.returns-clause-help_only
 returns-clause-help_only g c = λ e.
     let h = c.task_named.ensures.help_only e in
-    inl (is_help_word _ (sym c.in_ok-matches.ensures.named ∙ sym c.subcommand_name.ensures ∙ h.0) (length-map _ _ ∙ h.1))
+    inl (is_word _ (codes "help") (sym c.in_ok-matches.ensures.named ∙ sym c.subcommand_name.ensures ∙ h.0) (length-map _ _ ∙ h.1))
 
 pub returns-in_err-matches-clause-named : goal.returns-in_err-matches-clause-named
 returns-in_err-matches-clause-named g c = λ task e.

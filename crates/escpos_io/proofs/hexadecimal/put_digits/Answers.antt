@@ -1,16 +1,16 @@
--- Each part of the dots is given after those before it; where there was no room for one, the dots so far are the front of
--- all.
+-- The digits of each part are given after those before it; where there was no room for one, the digits so far are the front
+-- of all.
 use Rattle.std.proofs.Common.{◌≡◌, ◌++◌, [], Ok, Err, refl, sym, ◌∙◌, ap, append-nil, append_assoc, arith}
 use Rattle.std.specs.Slice.Iter.{chunks_rest, chunks_size}
 use Rattle.hex.specs.Hex.{encode_lower}
-use Rattle.escpos_paper.proofs.DotsPut.{digits_append, no_digits}
-use Rattle.escpos_paper.proofs.text.put_dots.Goals as goal
+use Rattle.escpos_io.proofs.Digits.{digits_append, no_digits}
+use Rattle.escpos_io.proofs.hexadecimal.put_digits.Goals as goal
 
 pub loop-part-init : goal.loop-part-init
 loop-part-init g c =
     let kept = c.args.gather.now.kept in
     let begins = c.into_iter-part-iterator.ensures.into_iter_gives in
-    let size : chunks_size c.into_iter-part-iterator.result ≡ 1024 = ap chunks_size begins ∙ c.chunks-part-items.ensures.size in
+    let size : chunks_size c.into_iter-part-iterator.result ≡ 256 = ap chunks_size begins ∙ c.chunks-part-items.ensures.size in
     record {
       can_next = omega arith;
       is_finite = tt;
@@ -41,7 +41,7 @@ loop-part-preserved g c =
     let ready = c.given_in_turn.ensures (Ok tt) _ _ _ _ _ _ _ _ _ front [] front far.given c.in_ok-room.ensures.given (sym (append-nil front)) in
     let added = c.given_in_place.ensures (g.W.ByteOut.written c.room.new.writer) (g.W.ByteOut.failed c.room.new.writer) _ _ (encode_lower part)
     c.append_digits.ensures.kept c.append_digits.ensures.same_count in
-    let size : chunks_size c.next.new.self ≡ 1024 = steps.0 ∙ c.loop-part.invariant.size in
+    let size : chunks_size c.next.new.self ≡ 256 = steps.0 ∙ c.loop-part.invariant.size in
     record {
       can_next = omega arith;
       is_finite = tt;
