@@ -4,6 +4,7 @@ use crate::check::check;
 use crate::encode::encode;
 use crate::status::Status;
 use crate::task::HELP;
+use escpos_command::Command;
 use escpos_decode::{End, decode};
 use escpos_host::{JsonError, JsonFault, Receipt, ReceiptFault};
 use escpos_io::{ByteIn, MemoryIn, MemoryOut, Outgoing};
@@ -310,6 +311,35 @@ fn devices_of_encode_fail(rt: HostRuntime) {
         assert!(rt; status == Status::Device);
         assert!(rt; sink.written().is_empty());
     }
+}
+
+// The reason for which commands are no receipt, and how many are handed back.
+fn refused(commands: Vec<Command>) -> Option<(ReceiptFault, usize)> {
+    let (fault, back) = Receipt::new(commands).err()?;
+    Some((fault, back.len()))
+}
+
+// A receipt has no Init, and what is refused comes back.
+#[test]
+fn commands_are_handed_back(rt: HostRuntime) -> Result<(), Fail> {
+    let set_up = vec![in rt.alloc(); Command::LineFeed, Command::Init]?;
+    assert!(rt; refused(set_up) == Some((ReceiptFault::Forbidden { at: 1 }, 2)));
+    assert!(rt; refused(Vec::new(rt.alloc())) == Some((ReceiptFault::Empty, 0)));
+    let line = vec![in rt.alloc(); Command::LineFeed]?;
+    assert!(rt; refused(line).is_none());
+    Ok(())
+}
+
+// Each growth refused: `rt try --test --fail-alloc N -- growths_of_receipts` refuses the Nth. Here each succeeds.
+#[test]
+fn growths_of_receipts(rt: HostRuntime) -> Result<(), Fail> {
+    let receipt = match Receipt::from_json(rt.alloc(), EVERY_MEMBER.as_bytes()) {
+        Err(JsonError::Memory) => Receipt::from_json(rt.alloc(), EVERY_MEMBER.as_bytes()),
+        answer => answer,
+    };
+    let receipt = receipt.ok().ok_or("receipt")?;
+    assert!(rt; receipt.commands().len() == 35);
+    Ok(())
 }
 
 // Each growth refused: `rt try --test --fail-alloc N -- growths_of_encode` refuses the Nth. Here each succeeds.

@@ -12,8 +12,6 @@ mod member;
 mod names;
 mod objects;
 mod receipt;
-#[cfg(test)]
-mod tests;
 mod values;
 
 pub use json::{JsonError, JsonFault};
