@@ -1,11 +1,14 @@
 //! The worked rows of the printer.
+//!
+//! A test makes the printer and lends it to checks, which own nothing: what a function owns is proved dropped at each way
+//! out of it.
 
 mod link;
 
 use super::*;
 use escpos_command::{Answer, FaultReason, MarkId};
-use escpos_paper::Item;
-use std::alloc::Global;
+use escpos_paper::{Cell, Item};
+use std::alloc::{AllocError, Global};
 use std::process::Abort;
 use std::test::Fail;
 
@@ -21,31 +24,64 @@ const OPEN: Condition = Condition {
     paper_end: false,
 };
 
+const NEAR_END: Condition = Condition {
+    cover_open: false,
+    near_end: true,
+    paper_end: false,
+};
+
 // Four status requests, of the kinds 1 to 4.
 const REQUESTS: [u8; 12] = [
     0x10, 0x04, 0x01, 0x10, 0x04, 0x02, 0x10, 0x04, 0x03, 0x10, 0x04, 0x04,
 ];
 
-fn id(number: u32) -> Result<MarkId, Fail> {
-    Ok(MarkId::of_number(number).ok_or("number")?)
+// The answer to the mark of this number.
+fn mark(rt: &impl Abort, number: u32) -> Answer {
+    Answer::Mark(MarkId::of_number(number).expect(rt, "the number of a mark"))
 }
 
 // The bytes of the marks of these numbers.
 fn marks(alloc: Global, numbers: &[u32]) -> Result<Vec<u8>, Fail> {
     let mut bytes = Vec::new(alloc);
     for number in numbers {
-        bytes.extend_from_slice(b"\x1D(H\x06\x000")?;
-        bytes.extend_from_slice(b"0")?;
-        bytes.extend_from_slice(&id(*number)?.bytes())?;
+        push_mark(&mut bytes, *number)?;
     }
     Ok(bytes)
 }
 
+fn push_mark(bytes: &mut Vec<u8>, number: u32) -> Result<(), Fail> {
+    let id = MarkId::of_number(number).ok_or("number")?;
+    bytes.extend_from_slice(b"\x1D(H\x06\x0000")?;
+    bytes.extend_from_slice(&id.bytes())?;
+    Ok(())
+}
+
+// Feeds a piece, of which so many bytes are taken before it stops for this cause.
+fn feed(rt: &impl Abort, printer: &mut Printer, piece: &[u8], consumed: usize, stop: FeedStop) {
+    assert_eq!(rt; printer.feed(piece), Fed { consumed, stop });
+}
+
 // Feeds a piece, all of which is taken.
 fn feed_all(rt: &impl Abort, printer: &mut Printer, piece: &[u8]) {
-    let consumed = piece.len();
-    let stop = FeedStop::All;
-    assert_eq!(rt; printer.feed(piece), Fed { consumed, stop });
+    feed(rt, printer, piece, piece.len(), FeedStop::All);
+}
+
+// Takes an answer, which is this one.
+fn answers(rt: &impl Abort, printer: &mut Printer, wanted: Answer) {
+    assert_eq!(rt; printer.take_answer(), Some(wanted));
+}
+
+// No answer waits.
+fn answers_no_more(rt: &impl Abort, printer: &mut Printer) {
+    assert_eq!(rt; printer.take_answer(), None);
+}
+
+fn answers_requests(rt: &impl Abort, printer: &mut Printer, bytes: [u8; 4]) {
+    feed_all(rt, printer, &REQUESTS);
+    for byte in bytes {
+        answers(rt, printer, Answer::Status(byte));
+    }
+    answers_no_more(rt, printer);
 }
 
 #[test]
@@ -60,14 +96,7 @@ fn status_answers(rt: HostRuntime) -> Result<(), Fail> {
             },
             [0x1A, 0x36, 0x12, 0x72],
         ),
-        (
-            Condition {
-                cover_open: false,
-                near_end: true,
-                paper_end: false,
-            },
-            [0x12, 0x12, 0x12, 0x1E],
-        ),
+        (NEAR_END, [0x12, 0x12, 0x12, 0x1E]),
         (
             Condition {
                 cover_open: true,
@@ -79,141 +108,165 @@ fn status_answers(rt: HostRuntime) -> Result<(), Fail> {
     ];
     for (condition, bytes) in rows {
         let mut printer = Printer::new(rt.alloc(), condition)?;
-        feed_all(&rt, &mut printer, &REQUESTS);
-        for byte in bytes {
-            assert_eq!(rt; printer.take_answer(), Some(Answer::Status(byte)));
-        }
-        assert_eq!(rt; printer.take_answer(), None);
+        answers_requests(&rt, &mut printer, bytes);
     }
     Ok(())
+}
+
+fn is_offline_while_open(rt: &impl Abort, printer: &mut Printer) {
+    assert!(rt; !printer.is_online());
+    feed(rt, printer, b"A\x10\x04\x01", 0, FeedStop::Offline);
+    feed(rt, printer, b"\x1BE\x01", 2, FeedStop::Offline);
+    assert_eq!(rt; printer.pending_len(), 2);
+    printer.set_condition(ONLINE);
+    assert!(rt; printer.is_online());
+    feed_all(rt, printer, b"\x01");
+    assert_eq!(rt; printer.pending_len(), 0);
 }
 
 #[test]
 fn offline(rt: HostRuntime) -> Result<(), Fail> {
     let mut printer = Printer::new(rt.alloc(), OPEN)?;
-    assert!(rt; !printer.is_online());
-    let stop = FeedStop::Offline;
-    assert_eq!(rt; printer.feed(b"A\x10\x04\x01"), Fed { consumed: 0, stop });
-    assert_eq!(rt; printer.feed(b"\x1BE\x01"), Fed { consumed: 2, stop });
-    assert_eq!(rt; printer.pending_len(), 2);
-    printer.set_condition(ONLINE);
-    assert!(rt; printer.is_online());
-    feed_all(&rt, &mut printer, b"\x01");
-    assert_eq!(rt; printer.pending_len(), 0);
+    is_offline_while_open(&rt, &mut printer);
     Ok(())
 }
 
-// A printer that has taken so many dots of a raster of one byte by 30 rows, online.
-fn cut_raster(rt: &impl Abort, alloc: Global, count: usize) -> Result<Printer, Fail> {
-    let mut printer = Printer::new(alloc, ONLINE)?;
-    feed_all(rt, &mut printer, b"\x1Dv0\x00\x01\x00\x1E\x00");
-    feed_all(rt, &mut printer, &vec![in alloc; 0x55; count]?);
-    Ok(printer)
+// The bytes before the dots of a raster of one byte by 30 rows.
+const RASTER: &[u8] = b"\x1Dv0\x00\x01\x00\x1E\x00";
+
+// Feeds these dots of a raster and three marks, whose front is taken for dots; what is left of them lies on paper as text.
+fn takes_marks_for_dots(
+    rt: &impl Abort,
+    printer: &mut Printer,
+    dots: &[u8],
+    marks: &[u8],
+    left: &[u8],
+) {
+    feed_all(rt, printer, RASTER);
+    feed_all(rt, printer, dots);
+    feed_all(rt, printer, marks);
+    answers(rt, printer, mark(rt, 2));
+    answers_no_more(rt, printer);
+    assert_eq!(rt; printer.items().len(), 1);
+    feed_all(rt, printer, b"\n");
+    assert!(rt; is_raster_and_text(printer.items(), left), "{left:?}");
+}
+
+fn is_raster_and_text(items: &[Item], text: &[u8]) -> bool {
+    match items {
+        [Item::Raster { .. }, Item::Feed(1)] => text.is_empty(),
+        [Item::Raster { .. }, Item::Row { cells, .. }, Item::Feed(1)] => {
+            has_bytes(cells.as_slice(), text)
+        }
+        _ => false,
+    }
+}
+
+fn has_bytes(cells: &[Cell], bytes: &[u8]) -> bool {
+    match cells {
+        [first, second] => [first.byte, second.byte].as_slice() == bytes,
+        _ => false,
+    }
+}
+
+// Of three marks the last is cut off by a fault: the fourth, fed alone, is answered.
+fn answers_after_a_fault(rt: &impl Abort, printer: &mut Printer, marks: &[u8], fourth: &[u8]) {
+    feed_all(rt, printer, RASTER);
+    feed_all(rt, printer, &[0x55; 16]);
+    let (at, why) = (14, FaultReason::UnknownByte);
+    feed(rt, printer, marks, 14, FeedStop::Fault { at, why });
+    feed_all(rt, printer, fourth);
+    answers(rt, printer, mark(rt, 3));
+    answers_no_more(rt, printer);
 }
 
 #[test]
 fn lost_raster_bytes(rt: HostRuntime) -> Result<(), Fail> {
     let three = marks(rt.alloc(), &[0, 1, 2])?;
-    for (lacking, count) in [(22, 8), (20, 10)] {
-        let mut printer = cut_raster(&rt, rt.alloc(), count)?;
-        feed_all(&rt, &mut printer, &three);
-        assert_eq!(rt; printer.take_answer(), Some(Answer::Mark(id(2)?)));
-        assert_eq!(rt; printer.take_answer(), None);
-        assert_eq!(rt; printer.items().len(), 1);
-        feed_all(&rt, &mut printer, b"\n");
-        match printer.items() {
-            [Item::Raster { .. }, Item::Feed(1)] => assert_eq!(rt; lacking, 22),
-            [Item::Raster { .. }, Item::Row { cells, .. }, Item::Feed(1)] => {
-                assert_eq!(rt; lacking, 20);
-                let [first, second] = cells.as_slice() else {
-                    return Err(Fail::new("other cells"));
-                };
-                assert_eq!(rt; [first.byte, second.byte], *b"01");
-            }
-            _ => return Err(Fail::new("other items")),
-        }
+    let fourth = marks(rt.alloc(), &[3])?;
+    let rows: [(&[u8], &[u8]); 2] = [(&[0x55; 8], b""), (&[0x55; 10], b"01")];
+    for (dots, left) in rows {
+        let mut printer = Printer::new(rt.alloc(), ONLINE)?;
+        takes_marks_for_dots(&rt, &mut printer, dots, &three, left);
     }
-    let mut printer = cut_raster(&rt, rt.alloc(), 16)?;
-    let (at, why) = (14, FaultReason::UnknownByte);
-    let stop = FeedStop::Fault { at, why };
-    assert_eq!(rt; printer.feed(&three), Fed { consumed: 14, stop });
-    feed_all(&rt, &mut printer, &marks(rt.alloc(), &[3])?);
-    assert_eq!(rt; printer.take_answer(), Some(Answer::Mark(id(3)?)));
-    assert_eq!(rt; printer.take_answer(), None);
+    let mut printer = Printer::new(rt.alloc(), ONLINE)?;
+    answers_after_a_fault(&rt, &mut printer, &three, &fourth);
     Ok(())
+}
+
+// The last byte of the seventeenth mark waits for an answer to be taken, online.
+fn seventeenth_waits(rt: &impl Abort, printer: &mut Printer, bytes: &[u8], last: &[u8]) {
+    feed(rt, printer, bytes, 186, FeedStop::AnswersFull);
+    assert_eq!(rt; printer.waiting(), 16);
+    printer.set_condition(OPEN);
+    feed(rt, printer, last, 0, FeedStop::Offline);
+    printer.set_condition(ONLINE);
+    feed(rt, printer, last, 0, FeedStop::AnswersFull);
+    answers(rt, printer, mark(rt, 0));
+    feed_all(rt, printer, last);
+    for number in 1..17 {
+        answers(rt, printer, mark(rt, number));
+    }
+    assert_eq!(rt; printer.waiting(), 0);
 }
 
 #[test]
 fn sixteen_waiting(rt: HostRuntime) -> Result<(), Fail> {
-    let mut numbers = Vec::new(rt.alloc());
-    for number in 0..17 {
-        numbers.push(number)?;
-    }
+    let numbers = [0, 1, 2, 3, 4, 5, 6, 7, 8, 9, 10, 11, 12, 13, 14, 15, 16];
     let bytes = marks(rt.alloc(), &numbers)?;
+    let last = bytes.get(186..).ok_or("last")?;
     let mut printer = Printer::new(rt.alloc(), ONLINE)?;
-    let full = FeedStop::AnswersFull;
-    assert_eq!(rt;
-        printer.feed(&bytes),
-        Fed {
-            consumed: 186,
-            stop: full
-        }
-    );
-    assert_eq!(rt; printer.waiting(), 16);
-    let last = &bytes[186..];
-    printer.set_condition(OPEN);
-    let stop = FeedStop::Offline;
-    assert_eq!(rt; printer.feed(last), Fed { consumed: 0, stop });
-    printer.set_condition(ONLINE);
-    assert_eq!(rt;
-        printer.feed(last),
-        Fed {
-            consumed: 0,
-            stop: full
-        }
-    );
-    assert_eq!(rt; printer.take_answer(), Some(Answer::Mark(id(0)?)));
-    feed_all(&rt, &mut printer, last);
-    for number in 1..17 {
-        assert_eq!(rt; printer.take_answer(), Some(Answer::Mark(id(number)?)));
-    }
-    assert_eq!(rt; printer.waiting(), 0);
+    seventeenth_waits(&rt, &mut printer, &bytes, last);
     Ok(())
+}
+
+fn keeps_a_half_command(rt: &impl Abort, printer: &mut Printer) {
+    feed_all(rt, printer, b"\x1B!");
+    assert_eq!(rt; printer.pending_len(), 2);
+    feed_all(rt, printer, b"\x08");
+    assert_eq!(rt; printer.pending_len(), 0);
 }
 
 #[test]
 fn half_between_feeds(rt: HostRuntime) -> Result<(), Fail> {
     let mut printer = Printer::new(rt.alloc(), ONLINE)?;
-    feed_all(&rt, &mut printer, b"\x1B!");
-    assert_eq!(rt; printer.pending_len(), 2);
-    feed_all(&rt, &mut printer, b"\x08");
-    assert_eq!(rt; printer.pending_len(), 0);
+    keeps_a_half_command(&rt, &mut printer);
     Ok(())
+}
+
+fn drops_at_restart(rt: &impl Abort, printer: &mut Printer, mark: &[u8]) {
+    feed_all(rt, printer, mark);
+    feed_all(rt, printer, b"A");
+    assert_eq!(rt; printer.waiting(), 1);
+    printer.restart();
+    assert_eq!(rt; printer.waiting(), 0);
+    feed_all(rt, printer, b"\n");
+    assert!(rt; matches!(printer.items(), [Item::Feed(1)]));
 }
 
 #[test]
 fn restart_drops(rt: HostRuntime) -> Result<(), Fail> {
+    let mark = marks(rt.alloc(), &[0])?;
     let mut printer = Printer::new(rt.alloc(), ONLINE)?;
-    feed_all(&rt, &mut printer, &marks(rt.alloc(), &[0])?);
-    feed_all(&rt, &mut printer, b"A");
-    assert_eq!(rt; printer.waiting(), 1);
-    printer.restart();
-    assert_eq!(rt; printer.waiting(), 0);
-    feed_all(&rt, &mut printer, b"\n");
-    assert!(rt; matches!(printer.items(), [Item::Feed(1)]));
+    drops_at_restart(&rt, &mut printer, &mark);
     Ok(())
+}
+
+// A pulse that is cut off by a mark: the next mark is answered.
+fn answers_after_a_pulse(rt: &impl Abort, printer: &mut Printer, pulse: &[u8], next: &[u8]) {
+    let (at, why) = (6, FaultReason::UnknownByte);
+    feed(rt, printer, pulse, 6, FeedStop::Fault { at, why });
+    feed_all(rt, printer, next);
+    answers(rt, printer, mark(rt, 1));
 }
 
 #[test]
 fn pulse_cut_off(rt: HostRuntime) -> Result<(), Fail> {
-    let mut bytes = b"\x1Bp\x00".to_vec(rt.alloc())?;
-    bytes.extend_from_slice(&marks(rt.alloc(), &[0])?)?;
+    let mut pulse = b"\x1Bp\x00".to_vec(rt.alloc())?;
+    push_mark(&mut pulse, 0)?;
+    let next = marks(rt.alloc(), &[1])?;
     let mut printer = Printer::new(rt.alloc(), ONLINE)?;
-    let (at, why) = (6, FaultReason::UnknownByte);
-    let stop = FeedStop::Fault { at, why };
-    assert_eq!(rt; printer.feed(&bytes), Fed { consumed: 6, stop });
-    feed_all(&rt, &mut printer, &marks(rt.alloc(), &[1])?);
-    assert_eq!(rt; printer.take_answer(), Some(Answer::Mark(id(1)?)));
+    answers_after_a_pulse(&rt, &mut printer, &pulse, &next);
     Ok(())
 }
 
@@ -221,42 +274,82 @@ fn pulse_cut_off(rt: HostRuntime) -> Result<(), Fail> {
 const RECEIPT: &[u8] =
     b"Hi\n\x1DkD\x075512345A\x1Dv0\x00\x02\x00\x02\x00\xF0\x0F\xFF\x00\x1DV\x00\x10\x04\x01\x1D(H\x06\x00000000";
 
-// A printer that has taken these bytes, online.
-fn fed(rt: &impl Abort, alloc: Global, bytes: &[u8]) -> Result<Printer, Fail> {
-    let mut printer = Printer::new(alloc, ONLINE)?;
-    feed_all(rt, &mut printer, bytes);
-    Ok(printer)
+// A printer, online. Where its memory is refused it is asked for again.
+fn printer_at_last(alloc: Global) -> Result<Printer, AllocError> {
+    match Printer::new(alloc, ONLINE) {
+        Ok(printer) => Ok(printer),
+        Err(_) => Printer::new(alloc, ONLINE),
+    }
+}
+
+// Two printers of which nothing differs that can be seen.
+fn are_alike(rt: &impl Abort, printer: &Printer, other: &Printer) {
+    assert_eq!(rt; printer.pending_len(), other.pending_len());
+    assert_eq!(rt; printer.waiting(), other.waiting());
+    assert_eq!(rt; printer.items().len(), other.items().len());
+}
+
+fn answers_the_receipt(rt: &impl Abort, printer: &mut Printer) {
+    assert_eq!(rt; printer.items().len(), 7);
+    answers(rt, printer, Answer::Status(0x12));
+    answers(rt, printer, mark(rt, 0));
+    assert_eq!(rt; printer.waiting(), 0);
 }
 
 // Where memory is refused, the printer is that of the bytes before, and takes the rest when it is fed again. Here each
 // growth succeeds: `rt try --test --fail-alloc N -- growths_refused` refuses the Nth.
 #[test]
 fn growths_refused(rt: HostRuntime) -> Result<(), Fail> {
-    let first = Printer::new(rt.alloc(), ONLINE);
-    let mut printer = match first {
-        Ok(printer) => printer,
-        Err(_) => Printer::new(rt.alloc(), ONLINE)?,
-    };
+    let mut printer = printer_at_last(rt.alloc())?;
     let Fed { consumed, stop } = printer.feed(RECEIPT);
     if stop != FeedStop::All {
         assert_eq!(rt; stop, FeedStop::Memory);
-        let other = fed(&rt, rt.alloc(), &RECEIPT[..consumed])?;
-        assert_eq!(rt; printer.pending_len(), other.pending_len());
-        assert_eq!(rt; printer.waiting(), other.waiting());
-        assert_eq!(rt; printer.items().len(), other.items().len());
-        feed_all(&rt, &mut printer, &RECEIPT[consumed..]);
+        let (taken, left) = RECEIPT.split_at(consumed);
+        let mut other = Printer::new(rt.alloc(), ONLINE)?;
+        feed_all(&rt, &mut other, taken);
+        are_alike(&rt, &printer, &other);
+        feed_all(&rt, &mut printer, left);
     }
-    assert_eq!(rt; printer.items().len(), 7);
-    assert_eq!(rt; printer.take_answer(), Some(Answer::Status(0x12)));
-    assert_eq!(rt; printer.take_answer(), Some(Answer::Mark(id(0)?)));
-    assert_eq!(rt; printer.waiting(), 0);
+    answers_the_receipt(&rt, &mut printer);
     Ok(())
+}
+
+fn keeps_sixteen_answers(rt: &impl Abort, printer: &mut Printer, condition: Condition) {
+    for _ in 0..4 {
+        feed_all(rt, printer, &REQUESTS);
+    }
+    assert_eq!(rt; printer.waiting(), 16);
+    assert_eq!(rt; printer.condition(), condition);
+}
+
+// 100,000 line feeds, a raster of 262,144 dots and a mark.
+fn long_piece(alloc: Global) -> Result<Vec<u8>, Fail> {
+    let mut piece = vec![in alloc; 0x0A; 100_000]?;
+    piece.extend_from_slice(b"\x1Dv0\x00\x80\x00\x00\x08")?;
+    for _ in 0..262_144 {
+        piece.push(0x55)?;
+    }
+    push_mark(&mut piece, 0)?;
+    Ok(piece)
+}
+
+// Takes the long piece at once, and then a byte at a time.
+fn takes_long_pieces(rt: &impl Abort, printer: &mut Printer, piece: &[u8]) {
+    feed_all(rt, printer, piece);
+    assert_eq!(rt; printer.items().len(), 100_001);
+    for byte in piece {
+        feed_all(rt, printer, &[*byte]);
+    }
+    assert_eq!(rt; printer.items().len(), 200_002);
+    feed_all(rt, printer, &REQUESTS);
+    assert_eq!(rt; printer.waiting(), 6);
 }
 
 // Memory that is there isn't said to be wanting: not far into a piece, not after many items, not at a long command, and
 // not in any condition.
 #[test]
 fn memory_that_is_there(rt: HostRuntime) -> Result<(), Fail> {
+    let piece = long_piece(rt.alloc())?;
     for number in 0..8 {
         let condition = Condition {
             cover_open: number % 2 == 1,
@@ -264,95 +357,70 @@ fn memory_that_is_there(rt: HostRuntime) -> Result<(), Fail> {
             paper_end: number / 4 == 1,
         };
         let mut printer = Printer::new(rt.alloc(), condition)?;
-        for _ in 0..4 {
-            feed_all(&rt, &mut printer, &REQUESTS);
-        }
-        assert_eq!(rt; printer.waiting(), 16);
-        assert_eq!(rt; printer.condition(), condition);
+        keeps_sixteen_answers(&rt, &mut printer, condition);
     }
-    let near = Condition {
-        near_end: true,
-        ..ONLINE
-    };
-    let mut printer = Printer::new(rt.alloc(), near)?;
-    let mut piece = vec![in rt.alloc(); 0x0A; 100_000]?;
-    piece.extend_from_slice(b"\x1Dv0\x00\x80\x00\x00\x08")?;
-    piece.extend_from_slice(&vec![in rt.alloc(); 0x55; 262_144]?)?;
-    piece.extend_from_slice(&marks(rt.alloc(), &[0])?)?;
-    feed_all(&rt, &mut printer, &piece);
-    assert_eq!(rt; printer.items().len(), 100_001);
-    for byte in piece {
-        feed_all(&rt, &mut printer, &[byte]);
-    }
-    assert_eq!(rt; printer.items().len(), 200_002);
-    feed_all(&rt, &mut printer, &REQUESTS);
-    assert_eq!(rt; printer.waiting(), 6);
+    let mut printer = Printer::new(rt.alloc(), NEAR_END)?;
+    takes_long_pieces(&rt, &mut printer, &piece);
     Ok(())
 }
+
+// Each of these values equals itself and none of the others.
+fn differ<T: PartialEq>(rt: &impl Abort, values: &[T]) {
+    for (place, value) in values.iter().enumerate() {
+        for (other_place, other) in values.iter().enumerate() {
+            assert!(rt;
+                (value == other) == (place == other_place),
+                "at {place} and {other_place}"
+            );
+        }
+    }
+}
+
+const STOPS: [FeedStop; 7] = [
+    FeedStop::All,
+    FeedStop::AnswersFull,
+    FeedStop::Offline,
+    FeedStop::Memory,
+    FeedStop::Fault {
+        at: 14,
+        why: FaultReason::UnknownByte,
+    },
+    FeedStop::Fault {
+        at: 15,
+        why: FaultReason::UnknownByte,
+    },
+    FeedStop::Fault {
+        at: 14,
+        why: FaultReason::BadSize,
+    },
+];
 
 // Values that differ aren't equal, and a clone is.
 #[test]
 fn unequal_values(rt: HostRuntime) -> Result<(), Fail> {
-    let (at, why) = (14, FaultReason::UnknownByte);
-    let stops = [
-        FeedStop::All,
-        FeedStop::AnswersFull,
-        FeedStop::Offline,
-        FeedStop::Memory,
-        FeedStop::Fault { at, why },
-        FeedStop::Fault { at: 15, why },
-        FeedStop::Fault {
-            at,
-            why: FaultReason::BadSize,
-        },
-    ];
-    for (k, stop) in stops.iter().enumerate() {
-        for (l, other) in stops.iter().enumerate() {
-            assert_eq!(rt; *stop == *other, k == l);
-            let (fed, same) = (
-                Fed {
-                    consumed: 1,
-                    stop: *stop,
-                },
-                Fed {
-                    consumed: 1,
-                    stop: *other,
-                },
-            );
-            assert_eq!(rt; fed == same, k == l);
-            assert!(rt;
-                fed != Fed {
-                    consumed: 2,
-                    stop: *other
-                }
-            );
+    differ(&rt, &STOPS);
+    let mut feds = Vec::new(rt.alloc());
+    for consumed in [1, 2] {
+        for stop in STOPS {
+            feds.push(Fed { consumed, stop })?;
         }
     }
-    let near = Condition {
-        near_end: true,
-        ..ONLINE
-    };
+    differ(&rt, &feds);
     let ended = Condition {
         paper_end: true,
         ..ONLINE
     };
-    let conditions = [ONLINE, OPEN, near, ended];
-    for (k, condition) in conditions.iter().enumerate() {
-        assert_eq!(rt; condition.clone()?, *condition);
-        for (l, other) in conditions.iter().enumerate() {
-            assert_eq!(rt; *condition == *other, k == l);
-        }
+    let conditions = [ONLINE, OPEN, NEAR_END, ended];
+    differ(&rt, &conditions);
+    for condition in conditions {
+        assert_eq!(rt; condition.clone()?, condition);
     }
     let answers = [
         Answer::Status(0x12),
         Answer::Status(0x1A),
-        Answer::Mark(id(0)?),
-        Answer::Mark(id(1)?),
+        mark(&rt, 0),
+        mark(&rt, 1),
     ];
-    for (k, answer) in answers.iter().enumerate() {
-        for (l, other) in answers.iter().enumerate() {
-            assert_eq!(rt; *answer == *other, k == l);
-        }
-    }
+    differ(&rt, &answers);
     Ok(())
 }

@@ -6,26 +6,6 @@ use escpos_io::{ByteIn, MemoryIn, MemoryOut};
 // The answer to mark 0.
 const ANSWER: &[u8] = b"\x37\x220000\x00";
 
-// Serves a link over these bytes, and compares how it ended and what went out.
-fn serves(
-    rt: &impl Abort,
-    alloc: Global,
-    condition: Condition,
-    (input, max_bytes, room): (&[u8], u32, usize),
-    (served, out): (Served, &[u8]),
-) -> Result<(), Fail> {
-    let mut printer = Printer::new(alloc, condition)?;
-    let mut room = vec![in alloc; 0u8; room]?;
-    let mut reader = MemoryIn::new(input, 1000);
-    let mut writer = MemoryOut::new(&mut room);
-    assert_eq!(rt;
-        serve_link(&mut printer, &mut reader, &mut writer, max_bytes),
-        served
-    );
-    assert_eq!(rt; writer.written(), out);
-    Ok(())
-}
-
 fn served(read: usize, consumed: usize, written: usize, end: LinkEnd) -> Served {
     Served {
         read,
@@ -35,27 +15,56 @@ fn served(read: usize, consumed: usize, written: usize, end: LinkEnd) -> Served 
     }
 }
 
+// Serves a link, and compares how it ended.
+fn ends(
+    rt: &impl Abort,
+    printer: &mut Printer,
+    reader: &mut MemoryIn,
+    writer: &mut MemoryOut,
+    (max_bytes, wanted): (u32, Served),
+) {
+    assert_eq!(rt; serve_link(printer, reader, writer, max_bytes), wanted);
+}
+
+// The same, with what went out to a writer with this room.
+fn serves(
+    rt: &impl Abort,
+    printer: &mut Printer,
+    reader: &mut MemoryIn,
+    room: &mut [u8],
+    max_bytes: u32,
+    (wanted, out): (Served, &[u8]),
+) {
+    let mut writer = MemoryOut::new(room);
+    ends(rt, printer, reader, &mut writer, (max_bytes, wanted));
+    assert!(rt; writer.written() == out, "other bytes went out");
+}
+
+// Serves a link of at most 1,000 bytes. It says nothing of how that ends, so that its callers carry none of the contract.
+fn serve(printer: &mut Printer, reader: &mut MemoryIn, writer: &mut MemoryOut) -> Served {
+    serve_link(printer, reader, writer, 1000)
+}
+
+// A mark and a character.
+const MARK_AND_A: &[u8] = b"\x1D(H\x06\x00000000A";
+
 #[test]
 fn serve_links(rt: HostRuntime) -> Result<(), Fail> {
-    let alloc = rt.alloc();
-    let mut mark = marks(alloc, &[0])?;
-    mark.push(b'A')?;
-    let mark = mark.as_slice();
     let why = FaultReason::UnknownCommand;
     let rows: [(Condition, (&[u8], u32, usize), (Served, &[u8])); 6] = [
         (
             ONLINE,
-            (mark, 100, 100),
+            (MARK_AND_A, 100, 100),
             (served(12, 12, 7, LinkEnd::Ended), ANSWER),
         ),
         (
             ONLINE,
-            (mark, 12, 100),
+            (MARK_AND_A, 12, 100),
             (served(12, 12, 7, LinkEnd::TooLong), ANSWER),
         ),
         (
             ONLINE,
-            (mark, 100, 3),
+            (MARK_AND_A, 100, 3),
             (served(12, 12, 3, LinkEnd::WriteFault), b"\x37\x220"),
         ),
         (
@@ -70,64 +79,71 @@ fn serve_links(rt: HostRuntime) -> Result<(), Fail> {
         ),
         (
             ONLINE,
-            (mark, 0, 100),
+            (MARK_AND_A, 0, 100),
             (served(0, 0, 0, LinkEnd::TooLong), b""),
         ),
     ];
-    for (condition, given, wanted) in rows {
-        serves(&rt, alloc, condition, given, wanted)?;
+    for (condition, (input, max_bytes, size), wanted) in rows {
+        let mut printer = Printer::new(rt.alloc(), condition)?;
+        let mut reader = MemoryIn::new(input, 1000);
+        let mut room = [0u8; 100];
+        let room = &mut room[..size.min(100)];
+        serves(&rt, &mut printer, &mut reader, room, max_bytes, wanted);
     }
     Ok(())
 }
 
 #[test]
 fn two_hundred_marks(rt: HostRuntime) -> Result<(), Fail> {
-    let mut numbers = Vec::new(rt.alloc());
+    let mut bytes = Vec::new(rt.alloc());
     let mut answers = Vec::new(rt.alloc());
     for number in 0..200 {
-        numbers.push(number)?;
-        answers.extend_from_slice(Answer::Mark(id(number)?).bytes().as_slice())?;
+        push_mark(&mut bytes, number)?;
+        answers.extend_from_slice(mark(&rt, number).bytes().as_slice())?;
     }
-    let bytes = marks(rt.alloc(), &numbers)?;
-    let end = served(2200, 2200, 1400, LinkEnd::Ended);
-    serves(
-        &rt,
-        rt.alloc(),
-        ONLINE,
-        (&bytes, 100_000, 2000),
-        (end, &answers),
-    )
+    let mut printer = Printer::new(rt.alloc(), ONLINE)?;
+    let mut reader = MemoryIn::new(&bytes, 1000);
+    let mut room = [0u8; 2000];
+    let wanted = (served(2200, 2200, 1400, LinkEnd::Ended), answers.as_slice());
+    serves(&rt, &mut printer, &mut reader, &mut room, 100_000, wanted);
+    Ok(())
 }
 
 // What a link sends that fails nowhere: a line, 18 marks and a status request.
 fn long_link(alloc: Global) -> Result<Vec<u8>, Fail> {
     let mut bytes = b"Hi\n".to_vec(alloc)?;
     for number in 0..18 {
-        bytes.extend_from_slice(&marks(alloc, &[number])?)?;
+        push_mark(&mut bytes, number)?;
     }
     bytes.extend_from_slice(b"\x10\x04\x01")?;
     Ok(bytes)
 }
 
+// The read of this number fails: what was read before it, so many bytes, is taken and answered.
+fn fails_at_a_read(rt: &impl Abort, printer: &mut Printer, bytes: &[u8], call: u64, count: usize) {
+    let mut room = [0u8; 200];
+    let mut reader = MemoryIn::failing(bytes, 40, call);
+    let mut writer = MemoryOut::new(&mut room);
+    let ended = serve(printer, &mut reader, &mut writer);
+    let wanted = served(count, count, writer.written().len(), LinkEnd::ReadFault);
+    assert!(rt; ended == wanted, "at call {call}: {ended:?}");
+    assert!(rt; printer.waiting() == 0, "at call {call}");
+}
+
 // A read fails, at each place in turn: what was read before it is taken and answered.
 #[test]
 fn reader_faults(rt: HostRuntime) -> Result<(), Fail> {
-    let mut mark = marks(rt.alloc(), &[0])?;
-    mark.push(b'A')?;
-    for (call, wanted) in [
-        (1, served(0, 0, 0, LinkEnd::ReadFault)),
-        (2, served(12, 12, 7, LinkEnd::ReadFault)),
+    let bytes = long_link(rt.alloc())?;
+    for (call, (wanted, out)) in [
+        (1, (served(0, 0, 0, LinkEnd::ReadFault), b"".as_slice())),
+        (2, (served(12, 12, 7, LinkEnd::ReadFault), ANSWER)),
     ] {
         let mut printer = Printer::new(rt.alloc(), ONLINE)?;
-        let mut room = vec![in rt.alloc(); 0u8; 100]?;
-        let mut reader = MemoryIn::failing(&mark, 1000, call);
-        let mut writer = MemoryOut::new(&mut room);
-        assert_eq!(rt;
-            serve_link(&mut printer, &mut reader, &mut writer, 100),
-            wanted
-        );
+        let mut reader = MemoryIn::failing(MARK_AND_A, 1000, call);
+        let mut room = [0u8; 100];
+        let wanted = (wanted, out);
+        serves(&rt, &mut printer, &mut reader, &mut room, 100, wanted);
     }
-    let bytes = long_link(rt.alloc())?;
     let rows: [(u64, usize); 7] = [
         (1, 0),
         (2, 40),
@@ -139,119 +155,151 @@ fn reader_faults(rt: HostRuntime) -> Result<(), Fail> {
     ];
     for (call, count) in rows {
         let mut printer = Printer::new(rt.alloc(), ONLINE)?;
-        let mut room = vec![in rt.alloc(); 0u8; 200]?;
-        let mut reader = MemoryIn::failing(&bytes, 40, call);
-        let mut writer = MemoryOut::new(&mut room);
-        let ended = serve_link(&mut printer, &mut reader, &mut writer, 1000);
-        assert_eq!(rt; ended.end, LinkEnd::ReadFault);
-        assert_eq!(rt; ended.read, count);
-        assert_eq!(rt; ended.consumed, count);
-        assert_eq!(rt; ended.written, writer.written().len());
-        assert_eq!(rt; printer.waiting(), 0);
+        fails_at_a_read(&rt, &mut printer, &bytes, call, count);
     }
     Ok(())
+}
+
+// The writer has so much room, and fails at the next byte.
+fn fails_at_a_write(rt: &impl Abort, printer: &mut Printer, bytes: &[u8], room: &mut [u8]) {
+    let size = room.len();
+    let mut reader = MemoryIn::new(bytes, 1000);
+    let mut writer = MemoryOut::new(room);
+    let served = serve(printer, &mut reader, &mut writer);
+    assert!(rt; served.written == size, "in a room of {size}: {served:?}");
+    assert!(rt;
+        served.end == LinkEnd::WriteFault,
+        "in a room of {size}: {served:?}"
+    );
+    let answered = if size < 112 { 16 } else { 19 };
+    assert!(rt;
+        printer.waiting() + size / 7 + 1 == answered,
+        "in a room of {size}"
+    );
 }
 
 // A write fails, at each place in turn: the answer that was being written is lost, and later ones wait.
 #[test]
 fn writer_faults(rt: HostRuntime) -> Result<(), Fail> {
     let bytes = long_link(rt.alloc())?;
-    for size in 0..128usize {
+    let mut room = [0u8; 127];
+    for size in 0..room.len() {
         let mut printer = Printer::new(rt.alloc(), ONLINE)?;
-        let mut room = vec![in rt.alloc(); 0u8; size]?;
-        let mut reader = MemoryIn::new(&bytes, 1000);
-        let mut writer = MemoryOut::new(&mut room);
-        let served = serve_link(&mut printer, &mut reader, &mut writer, 1000);
-        assert_eq!(rt; served.written, size.min(127));
-        if size == 127 {
-            assert_eq!(rt; served.end, LinkEnd::Ended);
-        } else {
-            assert_eq!(rt; served.end, LinkEnd::WriteFault);
-            let answered = if size < 112 { 16 } else { 19 };
-            assert_eq!(rt; printer.waiting() + size / 7 + 1, answered);
-        }
+        fails_at_a_write(&rt, &mut printer, &bytes, &mut room[..size]);
     }
+    let mut printer = Printer::new(rt.alloc(), ONLINE)?;
+    let mut reader = MemoryIn::new(&bytes, 1000);
+    let mut writer = MemoryOut::new(&mut room);
+    let wanted = served(204, 204, 127, LinkEnd::Ended);
+    ends(&rt, &mut printer, &mut reader, &mut writer, (1000, wanted));
     Ok(())
 }
 
 // Answers that wait from an earlier link go out first.
 #[test]
 fn answers_that_waited(rt: HostRuntime) -> Result<(), Fail> {
+    let first = marks(rt.alloc(), &[0])?;
     let mut printer = Printer::new(rt.alloc(), ONLINE)?;
-    feed_all(&rt, &mut printer, &marks(rt.alloc(), &[0])?);
+    feed_all(&rt, &mut printer, &first);
     feed_all(&rt, &mut printer, b"\x10");
-    let mut room = vec![in rt.alloc(); 0u8; 100]?;
+    let mut room = [0u8; 100];
     let mut reader = MemoryIn::new(b"\x04\x01", 1);
-    let mut writer = MemoryOut::new(&mut room);
-    let wanted = served(2, 2, 8, LinkEnd::Ended);
-    assert_eq!(rt;
-        serve_link(&mut printer, &mut reader, &mut writer, 100),
-        wanted
+    let wanted = (
+        served(2, 2, 8, LinkEnd::Ended),
+        b"\x37\x220000\x00\x12".as_slice(),
     );
-    assert_eq!(rt; writer.written(), b"\x37\x220000\x00\x12".as_slice());
+    serves(&rt, &mut printer, &mut reader, &mut room, 100, wanted);
     Ok(())
 }
+
+const ENDS: [LinkEnd; 8] = [
+    LinkEnd::Ended,
+    LinkEnd::TooLong,
+    LinkEnd::Offline,
+    LinkEnd::ReadFault,
+    LinkEnd::WriteFault,
+    LinkEnd::Memory,
+    LinkEnd::Fault {
+        why: FaultReason::BadSize,
+    },
+    LinkEnd::Fault {
+        why: FaultReason::BadBarcode,
+    },
+];
 
 #[test]
-fn unequal_ends(rt: HostRuntime) -> Result<(), Fail> {
-    let ends = [
-        LinkEnd::Ended,
-        LinkEnd::TooLong,
-        LinkEnd::Offline,
-        LinkEnd::ReadFault,
-        LinkEnd::WriteFault,
-        LinkEnd::Memory,
-        LinkEnd::Fault {
-            why: FaultReason::BadSize,
-        },
-        LinkEnd::Fault {
-            why: FaultReason::BadBarcode,
-        },
-    ];
-    for (place, end) in ends.iter().enumerate() {
-        for (other_place, other) in ends.iter().enumerate() {
-            assert_eq!(rt; *end == *other, place == other_place);
-            let same = served(1, 2, 3, *end) == served(1, 2, 3, *other);
-            assert_eq!(rt; same, place == other_place);
-        }
-        assert!(rt; served(1, 2, 3, *end) != served(0, 2, 3, *end));
-        assert!(rt; served(1, 2, 3, *end) != served(1, 0, 3, *end));
-        assert!(rt; served(1, 2, 3, *end) != served(1, 2, 0, *end));
+fn unequal_ends(rt: HostRuntime) {
+    differ(&rt, &ENDS);
+    for end in ENDS {
+        differ(
+            &rt,
+            &[
+                served(1, 2, 3, end),
+                served(0, 2, 3, end),
+                served(1, 0, 3, end),
+                served(1, 2, 0, end),
+            ],
+        );
     }
-    Ok(())
+    for (place, end) in ENDS.iter().enumerate() {
+        for (other_place, other) in ENDS.iter().enumerate() {
+            let same = served(1, 2, 3, *end) == served(1, 2, 3, *other);
+            assert!(rt;
+                same == (place == other_place),
+                "at {place} and {other_place}"
+            );
+        }
+    }
 }
 
-// Where memory is refused, the bytes that weren't taken are served again. Here each growth succeeds, as in the test of
-// `feed` above.
+// Serves the receipt. Where memory is refused, the bytes that weren't taken are served again.
+fn serves_the_receipt(rt: &impl Abort, printer: &mut Printer, writer: &mut MemoryOut) {
+    let mut reader = MemoryIn::new(RECEIPT, 10);
+    let ended = serve(printer, &mut reader, writer);
+    if ended.end != LinkEnd::Ended {
+        assert!(rt; ended.end == LinkEnd::Memory, "{ended:?}");
+        assert!(rt; printer.waiting() == 0);
+        let rest = RECEIPT.get(ended.consumed..).expect(rt, "the rest");
+        serves_the_rest(rt, printer, writer, rest);
+    }
+}
+
+fn serves_the_rest(rt: &impl Abort, printer: &mut Printer, writer: &mut MemoryOut, rest: &[u8]) {
+    let mut reader = MemoryIn::new(rest, 10);
+    let ended = serve(printer, &mut reader, writer);
+    assert!(rt; ended.end == LinkEnd::Ended, "{ended:?}");
+    assert!(rt; ended.consumed == rest.len(), "{ended:?}");
+}
+
+// Here each growth succeeds, as in the test of `feed` above.
 #[test]
 fn link_growths_refused(rt: HostRuntime) -> Result<(), Fail> {
-    let first = Printer::new(rt.alloc(), ONLINE);
-    let mut printer = match first {
-        Ok(printer) => printer,
-        Err(_) => Printer::new(rt.alloc(), ONLINE)?,
-    };
+    let mut printer = printer_at_last(rt.alloc())?;
     let mut room = [0u8; 100];
     let mut writer = MemoryOut::new(&mut room);
-    let mut reader = MemoryIn::new(RECEIPT, 10);
-    let ended = serve_link(&mut printer, &mut reader, &mut writer, 1000);
-    if ended.end != LinkEnd::Ended {
-        assert_eq!(rt; ended.end, LinkEnd::Memory);
-        assert_eq!(rt; printer.waiting(), 0);
-        let rest = RECEIPT.get(ended.consumed..).ok_or("rest")?;
-        let mut reader = MemoryIn::new(rest, 10);
-        let ended = serve_link(&mut printer, &mut reader, &mut writer, 1000);
-        assert_eq!(rt; ended.end, LinkEnd::Ended);
-        assert_eq!(rt; ended.consumed, rest.len());
-    }
+    serves_the_receipt(&rt, &mut printer, &mut writer);
     assert_eq!(rt; printer.items().len(), 7);
     assert_eq!(rt; writer.written(), b"\x12\x37\x220000\x00".as_slice());
     Ok(())
 }
 
+// A link over 2,000 bytes ends so, after so many reads.
+fn reads_in_pieces(
+    rt: &impl Abort,
+    printer: &mut Printer,
+    (max_bytes, pulls, end): (u32, u64, LinkEnd),
+) {
+    let mut reader = MemoryIn::new(&[0x0A; 2000], 10_000);
+    let mut writer = MemoryOut::new(&mut []);
+    let read = (max_bytes as usize).min(2000);
+    let wanted = served(read, read, 0, end);
+    ends(rt, printer, &mut reader, &mut writer, (max_bytes, wanted));
+    assert!(rt; reader.pulls() == pulls, "up to {max_bytes}");
+}
+
 // A read asks for 512 bytes, or for what is left of the limit; none is tried once that is reached.
 #[test]
 fn pieces(rt: HostRuntime) -> Result<(), Fail> {
-    let bytes = vec![in rt.alloc(); 0x0A; 2000]?;
     let rows: [(u32, u64, LinkEnd); 5] = [
         (0, 0, LinkEnd::TooLong),
         (1536, 3, LinkEnd::TooLong),
@@ -259,45 +307,47 @@ fn pieces(rt: HostRuntime) -> Result<(), Fail> {
         (2000, 4, LinkEnd::TooLong),
         (3000, 5, LinkEnd::Ended),
     ];
-    for (max_bytes, pulls, end) in rows {
+    for row in rows {
         let mut printer = Printer::new(rt.alloc(), ONLINE)?;
-        let mut room = [0u8; 1];
-        let mut reader = MemoryIn::new(&bytes, 10_000);
-        let mut writer = MemoryOut::new(&mut room);
-        let served = serve_link(&mut printer, &mut reader, &mut writer, max_bytes);
-        assert_eq!(rt; served.end, end);
-        assert_eq!(rt; reader.pulls(), pulls);
+        reads_in_pieces(&rt, &mut printer, row);
     }
     Ok(())
+}
+
+// The writer has so much room, and fails at the next byte: the marks after the one that is being answered aren't read.
+fn reads_no_further(rt: &impl Abort, printer: &mut Printer, bytes: &[u8], room: &mut [u8]) {
+    let size = room.len();
+    let mut reader = MemoryIn::new(bytes, 11);
+    let mut writer = MemoryOut::new(room);
+    let marks = size / 7 + 1;
+    let wanted = served(marks * 11, marks * 11, size, LinkEnd::WriteFault);
+    ends(rt, printer, &mut reader, &mut writer, (1000, wanted));
+    assert!(rt; reader.pulls() == marks as u64, "in a room of {size}");
+}
+
+// The answers of an earlier feed don't fit: nothing is read.
+fn reads_nothing(rt: &impl Abort, printer: &mut Printer) {
+    let mut room = [0u8; 9];
+    let mut reader = MemoryIn::new(b"A", 1);
+    let mut writer = MemoryOut::new(&mut room);
+    let wanted = served(0, 0, 9, LinkEnd::WriteFault);
+    ends(rt, printer, &mut reader, &mut writer, (100, wanted));
+    assert_eq!(rt; reader.pulls(), 0);
+    assert_eq!(rt; printer.waiting(), 4);
 }
 
 // Answers go out before the next read: where a write fails, nothing was read after the bytes that it answers.
 #[test]
 fn no_read_before_answers(rt: HostRuntime) -> Result<(), Fail> {
     let bytes = marks(rt.alloc(), &[0, 1, 2, 3, 4, 5])?;
-    for size in 0..42usize {
+    let mut room = [0u8; 42];
+    for size in 0..room.len() {
         let mut printer = Printer::new(rt.alloc(), ONLINE)?;
-        let mut room = vec![in rt.alloc(); 0u8; size]?;
-        let mut reader = MemoryIn::new(&bytes, 11);
-        let mut writer = MemoryOut::new(&mut room);
-        let served = serve_link(&mut printer, &mut reader, &mut writer, 1000);
-        assert_eq!(rt; served.end, LinkEnd::WriteFault);
-        assert_eq!(rt; served.read, size / 7 * 11 + 11);
-        assert_eq!(rt; served.consumed, served.read);
-        assert_eq!(rt; reader.pulls(), size as u64 / 7 + 1);
+        reads_no_further(&rt, &mut printer, &bytes, &mut room[..size]);
     }
     let mut printer = Printer::new(rt.alloc(), ONLINE)?;
     feed_all(&rt, &mut printer, &bytes);
-    let mut room = [0u8; 9];
-    let mut reader = MemoryIn::new(b"A", 1);
-    let mut writer = MemoryOut::new(&mut room);
-    let wanted = served(0, 0, 9, LinkEnd::WriteFault);
-    assert_eq!(rt;
-        serve_link(&mut printer, &mut reader, &mut writer, 100),
-        wanted
-    );
-    assert_eq!(rt; reader.pulls(), 0);
-    assert_eq!(rt; printer.waiting(), 4);
+    reads_nothing(&rt, &mut printer);
     Ok(())
 }
 
@@ -308,15 +358,26 @@ fn many_requests(rt: HostRuntime) -> Result<(), Fail> {
     for _ in 0..20_000 {
         bytes.extend_from_slice(b"\x10\x04\x01")?;
     }
-    let answers = vec![in rt.alloc(); 0x12; 20_000]?;
-    let end = served(60_000, 60_000, 20_000, LinkEnd::Ended);
-    serves(
-        &rt,
-        rt.alloc(),
-        ONLINE,
-        (&bytes, 100_000, 20_000),
-        (end, &answers),
-    )
+    let mut room = vec![in rt.alloc(); 0u8; 20_000]?;
+    let mut printer = Printer::new(rt.alloc(), ONLINE)?;
+    let mut reader = MemoryIn::new(&bytes, 1000);
+    let wanted = (
+        served(60_000, 60_000, 20_000, LinkEnd::Ended),
+        [0x12; 20_000].as_slice(),
+    );
+    serves(&rt, &mut printer, &mut reader, &mut room, 100_000, wanted);
+    Ok(())
+}
+
+// A link that takes a byte, and two over a source that has stopped so.
+fn serves_no_byte(rt: &impl Abort, printer: &mut Printer, reader: &mut MemoryIn, end: LinkEnd) {
+    for (max_bytes, wanted) in [
+        (100, served(1, 1, 0, end)),
+        (100, served(0, 0, 0, end)),
+        (0, served(0, 0, 0, LinkEnd::TooLong)),
+    ] {
+        serves(rt, printer, reader, &mut [0], max_bytes, (wanted, b""));
+    }
 }
 
 // A link that may have no byte is too long, also where its source has ended or failed before.
@@ -327,18 +388,7 @@ fn no_byte_at_all(rt: HostRuntime) -> Result<(), Fail> {
         (MemoryIn::failing(b"A", 1, 2), LinkEnd::ReadFault),
     ] {
         let mut printer = Printer::new(rt.alloc(), ONLINE)?;
-        let mut room = [0u8; 1];
-        let mut writer = MemoryOut::new(&mut room);
-        for (max_bytes, wanted) in [
-            (100, served(1, 1, 0, end)),
-            (100, served(0, 0, 0, end)),
-            (0, served(0, 0, 0, LinkEnd::TooLong)),
-        ] {
-            assert_eq!(rt;
-                serve_link(&mut printer, &mut reader, &mut writer, max_bytes),
-                wanted
-            );
-        }
+        serves_no_byte(&rt, &mut printer, &mut reader, end);
     }
     Ok(())
 }
@@ -356,9 +406,15 @@ fn same_clones(rt: HostRuntime) -> Result<(), Fail> {
         assert_eq!(rt; end.clone()?, end);
         let large = served(1_000_000, 999_999, 700_000, end);
         assert_eq!(rt; large.clone()?, large);
-        assert!(rt; large != served(1_000_001, 999_999, 700_000, end));
-        assert!(rt; large != served(1_000_000, 999_998, 700_000, end));
-        assert!(rt; large != served(1_000_000, 999_999, 700_001, end));
+        differ(
+            &rt,
+            &[
+                large,
+                served(1_000_001, 999_999, 700_000, end),
+                served(1_000_000, 999_998, 700_000, end),
+                served(1_000_000, 999_999, 700_001, end),
+            ],
+        );
     }
     Ok(())
 }
