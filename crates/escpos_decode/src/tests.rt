@@ -42,19 +42,43 @@ fn five_commands_of(alloc: Global) -> Result<Vec<Command>, Fail> {
     ]?)
 }
 
-// The last of these bytes is refused after the others, which are a half command, and that is dropped: the next
-// byte begins a command. The plain reader agrees at each byte.
-fn refuses_last(
-    rt: &impl Abort,
-    alloc: Global,
-    bytes: &[u8],
-    why: FaultReason,
-) -> Result<(), Fail> {
-    let (last, half) = bytes.split_last().ok_or("bytes")?;
-    let mut decoder = Decoder::new(alloc);
-    for byte in half {
-        assert_eq!(rt; decoder.push(*byte), Ok(Step::More), "{bytes:?}");
+// These pieces give these commands, and end so.
+fn decodes(rt: &impl Abort, alloc: Global, pieces: &[&[u8]], commands: &[Command], end: End) {
+    let decoded = decode(alloc, pieces).expect(rt, "memory");
+    assert_eq!(rt; decoded.commands.as_slice(), commands);
+    assert_eq!(rt; decoded.end, end);
+}
+
+// Pushes a byte to a decoder, which answers so.
+fn answers(rt: &impl Abort, decoder: &mut Decoder, byte: u8, wanted: Result<Step, DecodeFault>) {
+    assert_eq!(rt; decoder.push(byte), wanted);
+}
+
+// Pushes bytes to a decoder, none of which completes a command.
+fn push_half(rt: &impl Abort, decoder: &mut Decoder, bytes: &[u8]) {
+    for byte in bytes {
+        assert!(rt;
+            decoder.push(*byte) == Ok(Step::More),
+            "at {byte} of {bytes:?}"
+        );
     }
+}
+
+// Pushes bytes to a decoder, and keeps the commands that it gives.
+fn push_all(decoder: &mut Decoder, bytes: &[u8], commands: &mut Vec<Command>) -> Result<(), Fail> {
+    for byte in bytes {
+        if let Step::Done(command) = decoder.push(*byte)? {
+            commands.push(command)?;
+        }
+    }
+    Ok(())
+}
+
+// The last of these bytes is refused after the others, which are a half command, and that is dropped: the next
+// byte begins a command.
+fn drops_half(rt: &impl Abort, decoder: &mut Decoder, bytes: &[u8], why: FaultReason) {
+    let (last, half) = bytes.split_last().expect(rt, "a byte");
+    push_half(rt, decoder, half);
     assert_eq!(rt; decoder.pending_len(), half.len());
     let at = half.len();
     assert_eq!(rt;
@@ -63,52 +87,61 @@ fn refuses_last(
         "{bytes:?}"
     );
     assert_eq!(rt; decoder.pending_len(), 0);
-    assert_eq!(rt; decoder.push(0x0A), Ok(Step::Done(Command::LineFeed)));
-    agrees(rt, alloc, bytes)
+    answers(rt, decoder, 0x0A, Ok(Step::Done(Command::LineFeed)));
+}
+
+// The last of these bytes is refused after the others. The plain reader agrees at each byte.
+fn refuses_last(rt: &impl Abort, alloc: Global, bytes: &[u8], why: FaultReason) {
+    let mut decoder = Decoder::new(alloc);
+    drops_half(rt, &mut decoder, bytes, why);
+    agrees(rt, alloc, bytes);
 }
 
 // The one command that the bytes spell, and that spells them again. The plain reader agrees at each byte.
-fn reads_one(rt: &impl Abort, alloc: Global, bytes: &[u8]) -> Result<Command, Fail> {
-    let mut decoded = decode(alloc, &[bytes])?;
+fn reads_one(rt: &impl Abort, alloc: Global, bytes: &[u8]) -> Command {
+    agrees(rt, alloc, bytes);
+    let mut decoded = decode(alloc, &[bytes]).expect(rt, "memory");
     assert_eq!(rt; decoded.end, End::Read { half: 0 }, "{bytes:?}");
     assert_eq!(rt; decoded.commands.len(), 1, "{bytes:?}");
-    let command = decoded.commands.pop().ok_or("command")?;
+    let command = decoded.commands.pop().expect(rt, "a command");
+    spells(rt, alloc, &command, bytes);
+    command
+}
+
+fn spells(rt: &impl Abort, alloc: Global, command: &Command, bytes: &[u8]) {
     let mut out = Vec::new(alloc);
-    command.spell(&mut out)?;
+    command.spell(&mut out).expect(rt, "memory");
     assert_eq!(rt; out.as_slice(), bytes);
-    agrees(rt, alloc, bytes)?;
-    Ok(command)
+}
+
+// The bytes spell this command.
+fn reads(rt: &impl Abort, alloc: Global, bytes: &[u8], wanted: &Command) {
+    let command = reads_one(rt, alloc, bytes);
+    assert_eq!(rt; command, *wanted);
+}
+
+// The five commands, from one piece, from two and from single bytes. Of seven bytes the last two are a half command.
+fn reads_five(rt: &impl Abort, alloc: Global, commands: &[Command]) {
+    let end = End::Read { half: 0 };
+    decodes(rt, alloc, &[&FIVE], commands, end);
+    for place in 1..8 {
+        decodes(rt, alloc, &[&FIVE[..place], &FIVE[place..]], commands, end);
+    }
+    let (_, four) = commands.split_last().expect(rt, "five commands");
+    decodes(rt, alloc, &[&FIVE[..7]], four, End::Read { half: 2 });
+    agrees(rt, alloc, &FIVE);
 }
 
 #[test]
 fn five_commands(rt: HostRuntime) -> Result<(), Fail> {
-    let mut commands = five_commands_of(rt.alloc())?;
-    let whole = decode(rt.alloc(), &[&FIVE])?;
-    assert_eq!(rt; whole.commands.as_slice(), commands.as_slice());
-    assert_eq!(rt; whole.end, End::Read { half: 0 });
-    for place in 1..8 {
-        let in_two = decode(rt.alloc(), &[&FIVE[..place], &FIVE[place..]])?;
-        assert_eq!(rt;
-            in_two.commands.as_slice(),
-            commands.as_slice(),
-            "cut at {place}"
-        );
-        assert_eq!(rt; in_two.end, End::Read { half: 0 }, "cut at {place}");
-    }
+    let commands = five_commands_of(rt.alloc())?;
+    reads_five(&rt, rt.alloc(), &commands);
     let mut decoder = Decoder::new(rt.alloc());
     let mut one_by_one = Vec::new(rt.alloc());
-    for byte in FIVE {
-        if let Step::Done(command) = decoder.push(byte)? {
-            one_by_one.push(command)?;
-        }
-    }
-    assert_eq!(rt; one_by_one.as_slice(), commands.as_slice());
+    push_all(&mut decoder, &FIVE, &mut one_by_one)?;
+    assert!(rt; one_by_one == commands);
     assert_eq!(rt; decoder.pending_len(), 0);
-    let half = decode(rt.alloc(), &[&FIVE[..7]])?;
-    assert!(rt; commands.pop().is_some());
-    assert_eq!(rt; half.commands.as_slice(), commands.as_slice());
-    assert_eq!(rt; half.end, End::Read { half: 2 });
-    agrees(&rt, rt.alloc(), &FIVE)
+    Ok(())
 }
 
 // Each printable ASCII byte at each place of a mark's id.
@@ -121,7 +154,7 @@ fn bytes_of_a_mark(rt: HostRuntime) -> Result<(), Fail> {
             let mark = MarkId::new(id).ok_or("id")?;
             let mut bytes = MARK_35;
             bytes[7..].copy_from_slice(&id);
-            assert_eq!(rt; reads_one(&rt, rt.alloc(), &bytes)?, Command::Mark(mark));
+            reads(&rt, rt.alloc(), &bytes, &Command::Mark(mark));
         }
     }
     Ok(())
@@ -129,86 +162,90 @@ fn bytes_of_a_mark(rt: HostRuntime) -> Result<(), Fail> {
 
 #[test]
 fn align_range(rt: HostRuntime) -> Result<(), Fail> {
-    refuses_last(&rt, rt.alloc(), &[0x1B, 0x61, 0x03], BAD)?;
+    refuses_last(&rt, rt.alloc(), &[0x1B, 0x61, 0x03], BAD);
     let align = Align::new(0x32).ok_or("align")?;
-    let command = reads_one(&rt, rt.alloc(), &[0x1B, 0x61, 0x32])?;
-    assert_eq!(rt; command, Command::Align(align));
+    reads(&rt, rt.alloc(), &[0x1B, 0x61, 0x32], &Command::Align(align));
     Ok(())
 }
 
+// The place of a fault counts from the byte after the last command.
+fn refuses_after_init(rt: &impl Abort, decoder: &mut Decoder, fault: DecodeFault) {
+    answers(rt, decoder, 0x1B, Ok(Step::More));
+    answers(rt, decoder, 0x40, Ok(Step::Done(Command::Init)));
+    answers(rt, decoder, 0x1B, Ok(Step::More));
+    answers(rt, decoder, 0x24, Err(fault));
+}
+
 #[test]
-fn unknown_bytes(rt: HostRuntime) -> Result<(), Fail> {
-    refuses_last(&rt, rt.alloc(), &[0x1B, 0x24], FaultReason::UnknownCommand)?;
-    refuses_last(&rt, rt.alloc(), &[0x06], FaultReason::UnknownByte)?;
-    let mut decoder = Decoder::new(rt.alloc());
-    assert_eq!(rt; decoder.push(0x1B), Ok(Step::More));
-    assert_eq!(rt; decoder.push(0x40), Ok(Step::Done(Command::Init)));
-    assert_eq!(rt; decoder.push(0x1B), Ok(Step::More));
+fn unknown_bytes(rt: HostRuntime) {
     let why = FaultReason::UnknownCommand;
+    refuses_last(&rt, rt.alloc(), &[0x1B, 0x24], why);
+    refuses_last(&rt, rt.alloc(), &[0x06], FaultReason::UnknownByte);
     let fault = DecodeFault::Fault { at: 1, why };
-    assert_eq!(rt; decoder.push(0x24), Err(fault));
     assert_eq!(rt; [fault.number(), DecodeFault::Memory.number()], [2, 6]);
+    let mut decoder = Decoder::new(rt.alloc());
+    refuses_after_init(&rt, &mut decoder, fault);
     let pieces: [&[u8]; 3] = [&[0x1B], &[0x40, 0x1B], &[0x24, 0x41]];
-    let decoded = decode(rt.alloc(), &pieces)?;
-    assert_eq!(rt; decoded.commands.as_slice(), [Command::Init].as_slice());
-    assert_eq!(rt; decoded.end, End::Fault { at: 3, why });
-    agrees(&rt, rt.alloc(), &[0x1B, 0x40, 0x1B, 0x24])
+    let end = End::Fault { at: 3, why };
+    decodes(&rt, rt.alloc(), &pieces, &[Command::Init], end);
+    agrees(&rt, rt.alloc(), &[0x1B, 0x40, 0x1B, 0x24]);
 }
 
 #[test]
 fn size_bits(rt: HostRuntime) -> Result<(), Fail> {
-    refuses_last(&rt, rt.alloc(), &[0x1D, 0x21, 0x08], BAD)?;
-    refuses_last(&rt, rt.alloc(), &[0x1D, 0x21, 0x80], BAD)?;
+    refuses_last(&rt, rt.alloc(), &[0x1D, 0x21, 0x08], BAD);
+    refuses_last(&rt, rt.alloc(), &[0x1D, 0x21, 0x80], BAD);
     let size = Size::new(0x77).ok_or("size")?;
-    let command = reads_one(&rt, rt.alloc(), &[0x1D, 0x21, 0x77])?;
-    assert_eq!(rt; command, Command::Size(size));
+    reads(&rt, rt.alloc(), &[0x1D, 0x21, 0x77], &Command::Size(size));
     Ok(())
 }
 
 #[test]
-fn mark_prefix(rt: HostRuntime) -> Result<(), Fail> {
-    refuses_last(
-        &rt,
-        rt.alloc(),
-        &[0x1D, 0x28, 0x49],
-        FaultReason::UnknownCommand,
-    )?;
-    let bytes = [0x1D, 0x28, 0x48, 0x07];
-    refuses_last(&rt, rt.alloc(), &bytes, BAD)?;
+fn mark_prefix(rt: HostRuntime) {
+    let alloc = rt.alloc();
+    let unknown = FaultReason::UnknownCommand;
+    refuses_last(&rt, alloc, &[0x1D, 0x28, 0x49], unknown);
+    refuses_last(&rt, alloc, &[0x1D, 0x28, 0x48, 0x07], BAD);
     let bytes = [0x1D, 0x28, 0x48, 0x06, 0x00, 0x30, 0x30, 0x1F];
-    refuses_last(&rt, rt.alloc(), &bytes, BAD)
+    refuses_last(&rt, alloc, &bytes, BAD);
 }
 
 #[test]
 fn mark_35(rt: HostRuntime) -> Result<(), Fail> {
     let mark = MarkId::of_number(35).ok_or("number")?;
-    assert_eq!(rt; reads_one(&rt, rt.alloc(), &MARK_35)?, Command::Mark(mark));
-    let half = decode(rt.alloc(), &[&MARK_35[..10]])?;
-    assert!(rt; half.commands.is_empty());
-    assert_eq!(rt; half.end, End::Read { half: 10 });
+    reads(&rt, rt.alloc(), &MARK_35, &Command::Mark(mark));
+    let end = End::Read { half: 10 };
+    decodes(&rt, rt.alloc(), &[&MARK_35[..10]], &[], end);
     Ok(())
 }
 
 #[test]
 fn cut_feed(rt: HostRuntime) -> Result<(), Fail> {
     let cut = Cut::with_feed(0x41, 0x05).ok_or("cut")?;
-    let command = reads_one(&rt, rt.alloc(), &[0x1D, 0x56, 0x41, 0x05])?;
-    assert_eq!(rt; command, Command::Cut(cut));
+    reads(
+        &rt,
+        rt.alloc(),
+        &[0x1D, 0x56, 0x41, 0x05],
+        &Command::Cut(cut),
+    );
     Ok(())
 }
 
 #[test]
 fn units_and_pulse(rt: HostRuntime) -> Result<(), Fail> {
     let bytes = [0x41, 0x1B, 0x4A, 0x05, 0x1B, 0x70, 0x00, 0x19, 0xFA];
-    let decoded = decode(rt.alloc(), &[&bytes])?;
+    let a = Character::new(0x41).ok_or("A")?;
+    let units = FeedUnits::new(5).ok_or("units")?;
+    let pulse = Pulse::new(0, 0x19, 0xFA).ok_or("pulse")?;
     let commands = [
-        Command::Char(Character::new(0x41).ok_or("A")?),
-        Command::FeedUnits(FeedUnits::new(5).ok_or("units")?),
-        Command::Pulse(Pulse::new(0, 0x19, 0xFA).ok_or("pulse")?),
+        Command::Char(a),
+        Command::FeedUnits(units),
+        Command::Pulse(pulse),
     ];
-    assert_eq!(rt; decoded.commands.as_slice(), commands.as_slice());
-    assert_eq!(rt; decoded.end, End::Read { half: 0 });
-    agrees(&rt, rt.alloc(), &bytes)
+    let end = End::Read { half: 0 };
+    decodes(&rt, rt.alloc(), &[&bytes], &commands, end);
+    agrees(&rt, rt.alloc(), &bytes);
+    Ok(())
 }
 
 // A spelling of each row of the command table, with a barcode of each symbology in each form.
@@ -252,41 +289,56 @@ const SPELLINGS: [&[u8]; 37] = [
     b"\x1DkI\x02{C",
 ];
 
+// The same as a slice: a table as long as this one costs each function that names it.
+fn spellings() -> &'static [&'static [u8]] {
+    &SPELLINGS
+}
+
 // Each byte after each front of these spellings: every byte that the table doesn't have there among them.
 #[test]
 fn every_byte_after_each_front(rt: HostRuntime) -> Result<(), Fail> {
     let mut stream = Vec::new(rt.alloc());
-    for spelling in SPELLINGS {
-        let _ = reads_one(&rt, rt.alloc(), spelling)?;
-        agrees_with_neighbours(&rt, rt.alloc(), spelling)?;
+    for spelling in spellings() {
+        let _ = reads_one(&rt, rt.alloc(), spelling);
+        agrees_with_neighbours(&rt, rt.alloc(), spelling);
         stream.extend_from_slice(spelling)?;
     }
-    agrees(&rt, rt.alloc(), &stream)
+    agrees(&rt, rt.alloc(), &stream);
+    Ok(())
+}
+
+// After these bytes each spelling is read as at the start of a stream.
+fn begins_anew(rt: &impl Abort, alloc: Global, half: &[u8]) -> Result<(), Fail> {
+    for next in spellings() {
+        let mut stream = half.to_vec(alloc)?;
+        stream.extend_from_slice(next)?;
+        agrees(rt, alloc, &stream);
+    }
+    Ok(())
 }
 
 // After each fault the next byte begins a command: spellings without their last byte, each followed by a whole one.
 #[test]
 fn begins_anew_after_a_fault(rt: HostRuntime) -> Result<(), Fail> {
-    for spelling in SPELLINGS {
+    for spelling in spellings() {
         let (_, half) = spelling.split_last().ok_or("spelling")?;
-        for next in SPELLINGS {
-            let mut stream = half.to_vec(rt.alloc())?;
-            stream.extend_from_slice(next)?;
-            agrees(&rt, rt.alloc(), &stream)?;
-        }
+        begins_anew(&rt, rt.alloc(), half)?;
     }
     Ok(())
+}
+
+fn clears_half(rt: &impl Abort, decoder: &mut Decoder) {
+    push_half(rt, decoder, &[0x1D, 0x56]);
+    assert_eq!(rt; decoder.pending_len(), 2);
+    decoder.clear();
+    assert_eq!(rt; decoder.pending_len(), 0);
+    answers(rt, decoder, 0x0A, Ok(Step::Done(Command::LineFeed)));
 }
 
 #[test]
 fn clear_drops_the_half_command(rt: HostRuntime) {
     let mut decoder = Decoder::new(rt.alloc());
-    assert_eq!(rt; decoder.push(0x1D), Ok(Step::More));
-    assert_eq!(rt; decoder.push(0x56), Ok(Step::More));
-    assert_eq!(rt; decoder.pending_len(), 2);
-    decoder.clear();
-    assert_eq!(rt; decoder.pending_len(), 0);
-    assert_eq!(rt; decoder.push(0x0A), Ok(Step::Done(Command::LineFeed)));
+    clears_half(&rt, &mut decoder);
 }
 
 // The bytes before a parameter, the parameters that are read there (the least and the greatest, and the
@@ -320,49 +372,69 @@ fn least_and_greatest_parameters(rt: HostRuntime) -> Result<(), Fail> {
     ];
     for (before, read, refused) in table {
         let mut bytes = before.to_vec(rt.alloc())?;
-        for parameter in read {
-            bytes.push(*parameter)?;
-            let _ = reads_one(&rt, rt.alloc(), &bytes)?;
-            bytes.pop();
-        }
-        for parameter in refused {
-            bytes.push(*parameter)?;
-            refuses_last(&rt, rt.alloc(), &bytes, BAD)?;
-            bytes.pop();
-        }
+        bytes.push(0)?;
+        reads_with_parameters(&rt, rt.alloc(), &mut bytes, read);
+        refuses_parameters(&rt, rt.alloc(), &mut bytes, refused);
     }
     for first in [0x09, 0x0B, 0x0C, 0x0E, 0x0F, 0x11, 0x1A, 0x1C, 0x1E, 0x1F] {
-        refuses_last(&rt, rt.alloc(), &[first], FaultReason::UnknownByte)?;
+        refuses_last(&rt, rt.alloc(), &[first], FaultReason::UnknownByte);
     }
     for first in [0x10, 0x1B, 0x1D] {
-        refuses_last(&rt, rt.alloc(), &[first, 0x05], FaultReason::UnknownCommand)?;
+        refuses_last(&rt, rt.alloc(), &[first, 0x05], FaultReason::UnknownCommand);
     }
     Ok(())
+}
+
+// The bytes spell a command with each of these as their last one.
+fn reads_with_parameters(rt: &impl Abort, alloc: Global, bytes: &mut [u8], parameters: &[u8]) {
+    for parameter in parameters {
+        set_last(bytes, *parameter);
+        let _ = reads_one(rt, alloc, bytes);
+    }
+}
+
+// Each of these is refused as the last of the bytes.
+fn refuses_parameters(rt: &impl Abort, alloc: Global, bytes: &mut [u8], parameters: &[u8]) {
+    for parameter in parameters {
+        set_last(bytes, *parameter);
+        refuses_last(rt, alloc, bytes, BAD);
+    }
+}
+
+fn set_last(bytes: &mut [u8], byte: u8) {
+    if let Some(last) = bytes.last_mut() {
+        *last = byte;
+    }
 }
 
 // Many commands in many pieces, and a fault far into the stream.
 #[test]
 fn long_streams(rt: HostRuntime) -> Result<(), Fail> {
     let piece = vec![in rt.alloc(); 0x0D; 1_000_000]?;
-    let decoded = decode(rt.alloc(), &[&piece, &piece, &piece, &piece, &piece])?;
-    assert_eq!(rt; decoded.commands.len(), 5_000_000);
-    assert_eq!(rt; decoded.end, End::Read { half: 0 });
-    let refused = decode(
-        rt.alloc(),
-        &[&piece, &[0x1B], &[0x40], &piece, &[0x1D, 0x06]],
-    )?;
-    assert_eq!(rt; refused.commands.len(), 2_000_001);
+    let piece = piece.as_slice();
+    let end = End::Read { half: 0 };
+    let whole = [piece; 5];
+    gives_so_many(&rt, rt.alloc(), &whole, 5_000_000, end);
     let why = FaultReason::UnknownCommand;
-    assert_eq!(rt; refused.end, End::Fault { at: 2_000_003, why });
+    let end = End::Fault { at: 2_000_003, why };
+    let refused: [&[u8]; 5] = [piece, &[0x1B], &[0x40], piece, &[0x1D, 0x06]];
+    gives_so_many(&rt, rt.alloc(), &refused, 2_000_001, end);
     Ok(())
+}
+
+fn gives_so_many(rt: &impl Abort, alloc: Global, pieces: &[&[u8]], count: usize, end: End) {
+    let decoded = decode(alloc, pieces).expect(rt, "memory");
+    assert_eq!(rt; decoded.commands.len(), count);
+    assert_eq!(rt; decoded.end, end);
 }
 
 // Each kind of command clones to itself.
 #[test]
 fn clones(rt: HostRuntime) -> Result<(), Fail> {
-    for spelling in SPELLINGS {
-        let command = reads_one(&rt, rt.alloc(), spelling)?;
-        assert_eq!(rt; laws::same_clone(&command)?, command);
+    for spelling in spellings() {
+        let command = reads_one(&rt, rt.alloc(), spelling);
+        let clone = laws::same_clone(&command)?;
+        assert!(rt; clone == command, "{spelling:?}");
     }
     Ok(())
 }

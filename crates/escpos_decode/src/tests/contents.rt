@@ -1,12 +1,13 @@
 //! Barcodes and rasters: their worked rows, their shortest and longest contents, and each way in which one is refused.
 
 use super::comparison::agrees;
-use super::{BAD, BARCODE, SIZE, reads_one, refuses_last};
-use crate::{DecodeFault, Decoder, End, Step, decode};
+use super::{BAD, BARCODE, SIZE, answers, decodes, push_all, push_half, reads, refuses_last};
+use crate::{DecodeFault, Decoder, End, Step};
 use escpos_command::{
     BarFault, Bars, Character, Command, FaultReason, Form, Raster, RasterFault, Symbology,
 };
 use std::alloc::Global;
+use std::process::Abort;
 use std::test::Fail;
 
 // Bytes in three parts: a front, a byte so many times, and a back.
@@ -22,61 +23,54 @@ fn bytes_of(alloc: Global, (front, byte, times, back): Stream) -> Result<Vec<u8>
     Ok(bytes)
 }
 
-fn barcode(
+// The bytes spell the barcode with this content.
+fn reads_bars(
+    rt: &impl Abort,
     alloc: Global,
-    form: Form,
-    symbology: Symbology,
+    bytes: &[u8],
+    (form, symbology): (Form, Symbology),
     content: &[u8],
-) -> Result<Command, Fail> {
-    Ok(Command::Bars(Bars::new(form, symbology, content.to_vec(alloc)?)?))
+) -> Result<(), Fail> {
+    let bars = Bars::new(form, symbology, content.to_vec(alloc)?)?;
+    reads(rt, alloc, bytes, &Command::Bars(bars));
+    Ok(())
 }
 
 #[test]
 fn ean13(rt: HostRuntime) -> Result<(), Fail> {
     let alloc = rt.alloc();
-    assert_eq!(rt;
-        reads_one(&rt, alloc, b"\x1Dk\x02400638133393\x00")?,
-        barcode(alloc, Form::A, Symbology::Ean13, b"400638133393")?
-    );
-    assert_eq!(rt;
-        reads_one(&rt, alloc, b"\x1Dk\x024006381333932\x00")?,
-        barcode(alloc, Form::A, Symbology::Ean13, b"4006381333932")?
-    );
-    refuses_last(&rt, alloc, b"\x1Dk\x0240063813339\x00", BARCODE)?;
+    let kind = (Form::A, Symbology::Ean13);
+    let bytes = b"\x1Dk\x02400638133393\x00";
+    reads_bars(&rt, alloc, bytes, kind, b"400638133393")?;
+    let bytes = b"\x1Dk\x024006381333932\x00";
+    reads_bars(&rt, alloc, bytes, kind, b"4006381333932")?;
+    refuses_last(&rt, alloc, b"\x1Dk\x0240063813339\x00", BARCODE);
     let refused = Bars::new(Form::A, Symbology::Code128, b"{A1".to_vec(alloc)?);
     assert!(rt; matches!(refused, Err((BarFault::Form, _))));
     Ok(())
 }
 
 #[test]
-fn ean8_lengths(rt: HostRuntime) -> Result<(), Fail> {
-    refuses_last(&rt, rt.alloc(), b"\x1Dk\x03551234\x00", BARCODE)?;
-    refuses_last(&rt, rt.alloc(), b"\x1Dk\x03551234577", BARCODE)
+fn ean8_lengths(rt: HostRuntime) {
+    refuses_last(&rt, rt.alloc(), b"\x1Dk\x03551234\x00", BARCODE);
+    refuses_last(&rt, rt.alloc(), b"\x1Dk\x03551234577", BARCODE);
 }
 
 #[test]
 fn itf(rt: HostRuntime) -> Result<(), Fail> {
-    let alloc = rt.alloc();
-    refuses_last(&rt, alloc, b"\x1DkF\x03", BARCODE)?;
-    assert_eq!(rt;
-        reads_one(&rt, alloc, b"\x1DkF\x0212")?,
-        barcode(alloc, Form::B, Symbology::Itf, b"12")?
-    );
-    Ok(())
+    refuses_last(&rt, rt.alloc(), b"\x1DkF\x03", BARCODE);
+    let kind = (Form::B, Symbology::Itf);
+    reads_bars(&rt, rt.alloc(), b"\x1DkF\x0212", kind, b"12")
 }
 
 #[test]
-fn unfinished(rt: HostRuntime) -> Result<(), Fail> {
+fn unfinished(rt: HostRuntime) {
     let ean13 = b"\x1Dk\x02400638133393\x00";
     for half in 1..16 {
-        let decoded = decode(rt.alloc(), &[&ean13[..half]])?;
-        assert!(rt; decoded.commands.is_empty());
-        assert_eq!(rt; decoded.end, End::Read { half });
+        decodes(&rt, rt.alloc(), &[&ean13[..half]], &[], End::Read { half });
     }
-    let decoded = decode(rt.alloc(), &[&LARGEST])?;
-    assert!(rt; decoded.commands.is_empty());
-    assert_eq!(rt; decoded.end, End::Read { half: 8 });
-    agrees(&rt, rt.alloc(), &LARGEST)
+    decodes(&rt, rt.alloc(), &[&LARGEST], &[], End::Read { half: 8 });
+    agrees(&rt, rt.alloc(), &LARGEST);
 }
 
 // Each symbology with its modes of form A and form B, its shortest and its longest content.
@@ -133,26 +127,44 @@ const CONTENTS: [(Symbology, u8, u8, Stream, Stream); 7] = [
     ),
 ];
 
+// A barcode in form B, with its length before its content.
+fn reads_counted(
+    rt: &impl Abort,
+    alloc: Global,
+    (symbology, mode): (Symbology, u8),
+    content: &[u8],
+) -> Result<(), Fail> {
+    let length = u8::try_from(content.len())?;
+    let mut counted = [0x1D, 0x6B, mode, length].to_vec(alloc)?;
+    counted.extend_from_slice(content)?;
+    reads_bars(rt, alloc, &counted, (Form::B, symbology), content)
+}
+
+// A barcode in form A, with 00 after its content.
+fn reads_closed(
+    rt: &impl Abort,
+    alloc: Global,
+    (symbology, mode): (Symbology, u8),
+    content: &[u8],
+) -> Result<(), Fail> {
+    let mut closed = [0x1D, 0x6B, mode].to_vec(alloc)?;
+    closed.extend_from_slice(content)?;
+    closed.push(0)?;
+    reads_bars(rt, alloc, &closed, (Form::A, symbology), content)
+}
+
 #[test]
 fn shortest_and_longest_contents(rt: HostRuntime) -> Result<(), Fail> {
     let alloc = rt.alloc();
     for (symbology, mode_a, mode_b, shortest, longest) in CONTENTS {
         for part in [shortest, longest] {
             let content = bytes_of(alloc, part)?;
-            let length = u8::try_from(content.len())?;
-            let mut counted = [0x1D, 0x6B, mode_b, length].to_vec(alloc)?;
-            counted.extend_from_slice(&content)?;
-            let command = barcode(alloc, Form::B, symbology, &content)?;
-            assert_eq!(rt; reads_one(&rt, alloc, &counted)?, command);
-            let mut closed = [0x1D, 0x6B, mode_a].to_vec(alloc)?;
+            reads_counted(&rt, alloc, (symbology, mode_b), &content)?;
             if symbology == Symbology::Code128 {
-                refuses_last(&rt, alloc, &closed, BAD)?;
-                continue;
+                refuses_last(&rt, alloc, &[0x1D, 0x6B, mode_a], BAD);
+            } else {
+                reads_closed(&rt, alloc, (symbology, mode_a), &content)?;
             }
-            closed.extend_from_slice(&content)?;
-            closed.push(0)?;
-            let command = barcode(alloc, Form::A, symbology, &content)?;
-            assert_eq!(rt; reads_one(&rt, alloc, &closed)?, command);
         }
     }
     Ok(())
@@ -211,29 +223,46 @@ const REFUSED: [Stream; 44] = [
     (b"\x1DkI\xFF{C", b'1', 252, b"\xFF"),
 ];
 
+fn refused() -> &'static [Stream] {
+    &REFUSED
+}
+
 #[test]
 fn refused_contents(rt: HostRuntime) -> Result<(), Fail> {
-    for stream in REFUSED {
-        let bytes = bytes_of(rt.alloc(), stream)?;
-        refuses_last(&rt, rt.alloc(), &bytes, BARCODE)?;
+    for stream in refused() {
+        let bytes = bytes_of(rt.alloc(), *stream)?;
+        refuses_last(&rt, rt.alloc(), &bytes, BARCODE);
     }
     for mode in [1, 7, 8, 64, 66, 72, 74] {
-        refuses_last(&rt, rt.alloc(), &[0x1D, 0x6B, mode], BAD)?;
+        refuses_last(&rt, rt.alloc(), &[0x1D, 0x6B, mode], BAD);
     }
     Ok(())
 }
 
+fn picture(alloc: Global, mode: u8, [x, y]: [u16; 2], dots: &[u8]) -> Result<Command, Fail> {
+    Ok(Command::Raster(Raster::new(mode, x, y, dots.to_vec(alloc)?)?))
+}
+
 #[test]
 fn raster(rt: HostRuntime) -> Result<(), Fail> {
-    let alloc = rt.alloc();
-    let small = b"\x1Dv0\x00\x01\x00\x02\x00\xF0\x0F";
-    let raster = Raster::new(0, 1, 2, [0xF0, 0x0F].to_vec(alloc)?)?;
-    assert_eq!(rt; reads_one(&rt, alloc, small)?, Command::Raster(raster));
-    refuses_last(&rt, alloc, b"\x1Dv0\x00\x00", SIZE)?;
-    refuses_last(&rt, alloc, b"\x1Dv0\x00\x81", SIZE)?;
-    refuses_last(&rt, alloc, b"\x1Dv0\x00\x01\x01", SIZE)?;
-    refuses_last(&rt, alloc, b"\x1Dv0\x00\x01\x00\x00\x00", SIZE)?;
-    refuses_last(&rt, alloc, b"\x1Dv0\x00\x01\x00\x00\x10", SIZE)
+    let small = picture(rt.alloc(), 0, [1, 2], &[0xF0, 0x0F])?;
+    reads(
+        &rt,
+        rt.alloc(),
+        b"\x1Dv0\x00\x01\x00\x02\x00\xF0\x0F",
+        &small,
+    );
+    let refused: [&[u8]; 5] = [
+        b"\x1Dv0\x00\x00",
+        b"\x1Dv0\x00\x81",
+        b"\x1Dv0\x00\x01\x01",
+        b"\x1Dv0\x00\x01\x00\x00\x00",
+        b"\x1Dv0\x00\x01\x00\x00\x10",
+    ];
+    for bytes in refused {
+        refuses_last(&rt, rt.alloc(), bytes, SIZE);
+    }
+    Ok(())
 }
 
 // The widest and highest raster, which has 524,160 bytes of dots.
@@ -241,12 +270,12 @@ fn raster(rt: HostRuntime) -> Result<(), Fail> {
 fn largest_raster(rt: HostRuntime) -> Result<(), Fail> {
     let dots = vec![in rt.alloc(); 0x1D; 524_160]?;
     let mut decoder = Decoder::new(rt.alloc());
-    for byte in LARGEST.iter().chain(&dots[1..]) {
-        assert!(rt; decoder.push(*byte) == Ok(Step::More));
-    }
+    push_half(&rt, &mut decoder, &LARGEST);
+    push_half(&rt, &mut decoder, &dots[1..]);
     assert_eq!(rt; decoder.pending_len(), 524_167);
     let raster = Raster::new(0, 128, 4095, dots)?;
-    assert!(rt; decoder.push(0x1D) == Ok(Step::Done(Command::Raster(raster))));
+    let step = Step::Done(Command::Raster(raster));
+    answers(&rt, &mut decoder, 0x1D, Ok(step));
     assert_eq!(rt; decoder.pending_len(), 0);
     Ok(())
 }
@@ -254,54 +283,51 @@ fn largest_raster(rt: HostRuntime) -> Result<(), Fail> {
 #[test]
 fn largest_raster_in_pieces(rt: HostRuntime) -> Result<(), Fail> {
     let piece = vec![in rt.alloc(); 0x1B; 262_080]?;
-    let decoded = decode(rt.alloc(), &[&LARGEST, &piece, &piece, b"\x0A"])?;
     let dots = vec![in rt.alloc(); 0x1B; 524_160]?;
     let raster = Raster::new(0, 128, 4095, dots)?;
     let commands = [Command::Raster(raster), Command::LineFeed];
-    assert!(rt; decoded.commands.as_slice() == commands.as_slice());
-    assert_eq!(rt; decoded.end, End::Read { half: 0 });
+    let pieces: [&[u8]; 4] = [&LARGEST, &piece, &piece, b"\x0A"];
+    decodes(&rt, rt.alloc(), &pieces, &commands, End::Read { half: 0 });
     Ok(())
 }
 
 #[test]
-fn wider_limits(rt: HostRuntime) -> Result<(), Fail> {
-    refuses_last(&rt, rt.alloc(), b"\x1Bp\x02", BAD)?;
-    let decoded = decode(rt.alloc(), &[b"\x1Dv0\x00\x01\x00\x00\x08"])?;
-    assert!(rt; decoded.commands.is_empty());
-    assert_eq!(rt; decoded.end, End::Read { half: 8 });
-    refuses_last(&rt, rt.alloc(), b"\x1Dv0\x00\x01\x00\x00\x10", SIZE)
+fn wider_limits(rt: HostRuntime) {
+    refuses_last(&rt, rt.alloc(), b"\x1Bp\x02", BAD);
+    let bytes = b"\x1Dv0\x00\x01\x00\x00\x08";
+    decodes(&rt, rt.alloc(), &[bytes], &[], End::Read { half: 8 });
+    refuses_last(&rt, rt.alloc(), b"\x1Dv0\x00\x01\x00\x00\x10", SIZE);
 }
 
 // The least and the greatest width, a height of two bytes, and scales.
 #[test]
 fn sizes_of_rasters(rt: HostRuntime) -> Result<(), Fail> {
-    let alloc = rt.alloc();
-    let rows: [(Stream, u8, u16, u16); 3] = [
-        ((b"\x1Dv0\x03\x01\x00\x01\x00", 0x80, 1, b""), 3, 1, 1),
-        ((b"\x1Dv0\x30\x80\x00\x01\x00", 0xFF, 128, b""), 48, 128, 1),
-        ((b"\x1Dv0\x31\x01\x00\x00\x01", 0x0A, 256, b""), 49, 1, 256),
+    let rows: [(&[u8], u8, usize, u8, [u16; 2]); 3] = [
+        (b"\x1Dv0\x03\x01\x00\x01\x00", 0x80, 1, 3, [1, 1]),
+        (b"\x1Dv0\x30\x80\x00\x01\x00", 0xFF, 128, 48, [128, 1]),
+        (b"\x1Dv0\x31\x01\x00\x00\x01", 0x0A, 256, 49, [1, 256]),
     ];
-    for ((front, byte, times, back), mode, width, height) in rows {
-        let bytes = bytes_of(alloc, (front, byte, times, back))?;
-        let raster = Raster::new(mode, width, height, vec![in alloc; byte; times]?)?;
-        assert_eq!(rt; reads_one(&rt, alloc, &bytes)?, Command::Raster(raster));
+    for (front, byte, times, mode, size) in rows {
+        let dots = bytes_of(rt.alloc(), (b"", byte, times, b""))?;
+        let bytes = bytes_of(rt.alloc(), (front, byte, times, b""))?;
+        let raster = picture(rt.alloc(), mode, size, &dots)?;
+        reads(&rt, rt.alloc(), &bytes, &raster);
     }
     for refused in [b"\x1Dv0\x04", b"\x1Dv0\x2F", b"\x1Dv0\x34"] {
-        refuses_last(&rt, alloc, refused, BAD)?;
+        refuses_last(&rt, rt.alloc(), refused, BAD);
     }
-    refuses_last(&rt, alloc, b"\x1Dv1", FaultReason::UnknownCommand)
+    refuses_last(&rt, rt.alloc(), b"\x1Dv1", FaultReason::UnknownCommand);
+    Ok(())
 }
 
 #[test]
 fn raster_behind_text(rt: HostRuntime) -> Result<(), Fail> {
     let bytes = b"A\x1Dv0\x00\x01\x00\x01\x00\xFF";
-    let decoded = decode(rt.alloc(), &[bytes])?;
-    let raster = Raster::new(0, 1, 1, [0xFF].to_vec(rt.alloc())?)?;
     let a = Character::new(b'A').ok_or("A")?;
-    let commands = [Command::Char(a), Command::Raster(raster)];
-    assert_eq!(rt; decoded.commands.as_slice(), commands.as_slice());
-    assert_eq!(rt; decoded.end, End::Read { half: 0 });
-    agrees(&rt, rt.alloc(), bytes)
+    let commands = [Command::Char(a), picture(rt.alloc(), 0, [1, 1], &[0xFF])?];
+    decodes(&rt, rt.alloc(), &[bytes], &commands, End::Read { half: 0 });
+    agrees(&rt, rt.alloc(), bytes);
+    Ok(())
 }
 
 #[test]
@@ -331,23 +357,35 @@ const GROWING: [(&[u8], &[u8], &[u8], usize, usize); 3] = [
     ),
 ];
 
-// Where memory is refused, the decoder is unchanged and takes the byte when it is pushed again. Here each growth succeeds:
-// `rt try --test --fail-alloc N -- growths_refused` refuses the Nth of the five.
+// Pushes a byte, which stands at this place of a spelling. Where memory is refused the decoder is unchanged, and takes the
+// byte when it is pushed again; that is so at these places alone.
+fn push_at_last(
+    rt: &impl Abort,
+    decoder: &mut Decoder,
+    byte: u8,
+    place: usize,
+    places: [usize; 2],
+) -> Result<Step, DecodeFault> {
+    assert_eq!(rt; decoder.pending_len(), place);
+    match decoder.push(byte) {
+        Err(DecodeFault::Memory) => {
+            let [first, last] = places;
+            assert!(rt; first <= place && place <= last, "at {place}");
+            assert_eq!(rt; decoder.pending_len(), place);
+            decoder.push(byte)
+        }
+        answer => answer,
+    }
+}
+
+// Here each growth succeeds: `rt try --test --fail-alloc N -- growths_refused` refuses the Nth of the five.
 #[test]
 fn growths_refused(rt: HostRuntime) -> Result<(), Fail> {
     for (front, content, back, first, last) in GROWING {
         let mut decoder = Decoder::new(rt.alloc());
         let mut done = None;
         for (place, byte) in front.iter().chain(content).chain(back).enumerate() {
-            assert_eq!(rt; decoder.pending_len(), place);
-            let step = match decoder.push(*byte) {
-                Err(DecodeFault::Memory) => {
-                    assert!(rt; first <= place && place <= last);
-                    assert_eq!(rt; decoder.pending_len(), place);
-                    decoder.push(*byte)?
-                }
-                answer => answer?,
-            };
+            let step = push_at_last(&rt, &mut decoder, *byte, place, [first, last])?;
             if let Step::Done(command) = step {
                 done = Some(command);
             }
@@ -358,27 +396,29 @@ fn growths_refused(rt: HostRuntime) -> Result<(), Fail> {
     Ok(())
 }
 
+// The room of the content of this command.
+fn room_of(command: Command) -> Result<usize, Fail> {
+    let bytes = match command {
+        Command::Bars(bars) => bars.into_content(),
+        Command::Raster(raster) => raster.into_dots(),
+        _ => return Err(Fail::new("no content")),
+    };
+    Ok(bytes.into_vec().capacity())
+}
+
 // A content has room of its own size, also where the decoder was cleared within the largest raster.
 #[test]
 fn room_is_modest(rt: HostRuntime) -> Result<(), Fail> {
     for (front, content, back, _, _) in GROWING {
         let mut decoder = Decoder::new(rt.alloc());
-        for byte in LARGEST {
-            assert_eq!(rt; decoder.push(byte)?, Step::More);
-        }
+        push_half(&rt, &mut decoder, &LARGEST);
         decoder.clear();
-        let mut done = None;
-        for byte in front.iter().chain(content).chain(back) {
-            if let Step::Done(command) = decoder.push(*byte)? {
-                done = Some(command);
-            }
+        let mut commands = Vec::new(rt.alloc());
+        for part in [front, content, back] {
+            push_all(&mut decoder, part, &mut commands)?;
         }
-        let bytes = match done.ok_or("command")? {
-            Command::Bars(bars) => bars.into_content(),
-            Command::Raster(raster) => raster.into_dots(),
-            _ => return Err(Fail::new("no content")),
-        };
-        assert!(rt; bytes.into_vec().capacity() <= 64);
+        let command = commands.pop().ok_or("command")?;
+        assert!(rt; room_of(command)? <= 64);
     }
     Ok(())
 }

@@ -9,7 +9,7 @@ use escpos_command::{
     Raster, Size, StatusKind, Symbology, Table, Underline,
 };
 use std::alloc::Global;
-use std::test::Fail;
+use std::process::Abort;
 
 /// What a byte list is of whose bytes all but the last are nothing or a half command.
 #[derive(Debug, Drop, PartialEq)]
@@ -22,82 +22,104 @@ pub enum Reading {
     Refused(FaultReason),
 }
 
-/// What these bytes are.
-pub fn read(alloc: Global, bytes: &[u8]) -> Result<Reading, Fail> {
-    let (_, before) = bytes.split_last().ok_or("no byte")?;
-    Ok(if let Some(command) = spelled(alloc, bytes)? {
-        Reading::Spelling(command)
-    } else if begins_spelling(bytes) {
-        Reading::Half
-    } else {
-        Reading::Refused(reason_after(before))
-    })
+/// What these bytes are, of which there is one at least.
+pub fn read(rt: &impl Abort, alloc: Global, bytes: &[u8]) -> Reading {
+    let (_, before) = bytes.split_last().expect(rt, "a byte");
+    match spelled(rt, alloc, bytes) {
+        Some(command) => Reading::Spelling(command),
+        None if begins_spelling(bytes) => Reading::Half,
+        None => Reading::Refused(reason_after(before)),
+    }
 }
 
-// The command that the bytes spell. A parameter is as the table says; that there is no such value is an error here.
-fn spelled(alloc: Global, bytes: &[u8]) -> Result<Option<Command>, Fail> {
+// The command that the bytes spell. A parameter is as the table says, and that there is no such value ends the test.
+fn spelled(rt: &impl Abort, alloc: Global, bytes: &[u8]) -> Option<Command> {
     let command = match bytes {
         [b @ 32..=255] => Character::new(*b).map(Command::Char),
         [LF] => Some(Command::LineFeed),
         [CR] => Some(Command::Return),
-        [ESC, b'@'] => Some(Command::Init),
-        [ESC, b'!', n] => Mode::new(*n).map(Command::Mode),
-        [ESC, b'-', n @ (0..=2 | 48..=50)] => Underline::new(*n).map(Command::Underline),
-        [ESC, b'E', n] => Emphasis::new(*n).map(Command::Emphasis),
-        [ESC, b'M', n @ (0 | 1 | 48 | 49)] => Font::new(*n).map(Command::Font),
-        [ESC, b'a', n @ (0..=2 | 48..=50)] => Align::new(*n).map(Command::Align),
-        [ESC, b'J', n] => FeedUnits::new(*n).map(Command::FeedUnits),
-        [ESC, b'd', n] => FeedLines::new(*n).map(Command::FeedLines),
-        [ESC, b'p', m @ (0 | 1 | 48 | 49), on, off] => {
-            Pulse::new(*m, *on, *off).map(Command::Pulse)
-        }
-        [ESC, b't', n] => Table::new(*n).map(Command::Table),
-        [GS, b'!', n] if *n & 0b1000_1000 == 0 => Size::new(*n).map(Command::Size),
-        [GS, b'(', b'H', 6, 0, b'0', b'0', a, b, c, d] if is_id(&[*a, *b, *c, *d]) => {
+        [DLE, EOT, n @ 1..=4] => StatusKind::new(*n).map(Command::Status),
+        [ESC, rest @ ..] => return spelled_by_escape(rt, rest),
+        [GS, b'k', rest @ ..] => return bars(rt, alloc, rest),
+        [GS, b'v', b'0', m @ (0..=3 | 48..=51), rest @ ..] => return raster(rt, alloc, *m, rest),
+        [GS, rest @ ..] => return spelled_by_group(rt, rest),
+        _ => return None,
+    };
+    Some(command.expect(rt, "a parameter of the table"))
+}
+
+// The command that these bytes spell after ESC.
+fn spelled_by_escape(rt: &impl Abort, rest: &[u8]) -> Option<Command> {
+    let command = match rest {
+        b"@" => Some(Command::Init),
+        [b'!', n] => Mode::new(*n).map(Command::Mode),
+        [b'-', n @ (0..=2 | 48..=50)] => Underline::new(*n).map(Command::Underline),
+        [b'E', n] => Emphasis::new(*n).map(Command::Emphasis),
+        [b'M', n @ (0 | 1 | 48 | 49)] => Font::new(*n).map(Command::Font),
+        [b'a', n @ (0..=2 | 48..=50)] => Align::new(*n).map(Command::Align),
+        [b'J', n] => FeedUnits::new(*n).map(Command::FeedUnits),
+        [b'd', n] => FeedLines::new(*n).map(Command::FeedLines),
+        [b'p', m @ (0 | 1 | 48 | 49), on, off] => Pulse::new(*m, *on, *off).map(Command::Pulse),
+        [b't', n] => Table::new(*n).map(Command::Table),
+        _ => return None,
+    };
+    Some(command.expect(rt, "a parameter of the table"))
+}
+
+// The command without content that these bytes spell after GS.
+fn spelled_by_group(rt: &impl Abort, rest: &[u8]) -> Option<Command> {
+    let command = match rest {
+        [b'!', n] if *n & 0b1000_1000 == 0 => Size::new(*n).map(Command::Size),
+        [b'(', b'H', 6, 0, b'0', b'0', a, b, c, d] if is_id(&[*a, *b, *c, *d]) => {
             MarkId::new([*a, *b, *c, *d]).map(Command::Mark)
         }
-        [GS, b'H', n @ (0..=3 | 48..=51)] => HriPlace::new(*n).map(Command::HriPlace),
-        [GS, b'V', m @ (0 | 1 | 48 | 49)] => Cut::new(*m).map(Command::Cut),
-        [GS, b'V', m @ (65 | 66), n] => Cut::with_feed(*m, *n).map(Command::Cut),
-        [GS, b'f', n @ (0 | 1 | 48 | 49)] => HriFont::new(*n).map(Command::HriFont),
-        [GS, b'h', n @ 1..=255] => BarHeight::new(*n).map(Command::BarHeight),
-        [GS, b'k', m @ 0..=6, content @ .., 0] => return bars(alloc, Form::A, *m, content),
-        [GS, b'k', m @ 65..=73, n, content @ ..] if content.len() == *n as usize => {
-            return bars(alloc, Form::B, *m, content);
-        }
-        [GS, b'v', b'0', m @ (0..=3 | 48..=51), rest @ ..] => return raster(alloc, *m, rest),
-        [GS, b'w', n @ 2..=6] => BarWidth::new(*n).map(Command::BarWidth),
-        [DLE, EOT, n @ 1..=4] => StatusKind::new(*n).map(Command::Status),
-        _ => return Ok(None),
+        [b'H', n @ (0..=3 | 48..=51)] => HriPlace::new(*n).map(Command::HriPlace),
+        [b'V', m @ (0 | 1 | 48 | 49)] => Cut::new(*m).map(Command::Cut),
+        [b'V', m @ (65 | 66), n] => Cut::with_feed(*m, *n).map(Command::Cut),
+        [b'f', n @ (0 | 1 | 48 | 49)] => HriFont::new(*n).map(Command::HriFont),
+        [b'h', n @ 1..=255] => BarHeight::new(*n).map(Command::BarHeight),
+        [b'w', n @ 2..=6] => BarWidth::new(*n).map(Command::BarWidth),
+        _ => return None,
     };
-    Ok(Some(command.ok_or("a parameter of the table")?))
+    Some(command.expect(rt, "a parameter of the table"))
 }
 
 // Whether the bytes begin a spelling and aren't one.
 fn begins_spelling(bytes: &[u8]) -> bool {
     match bytes {
-        [DLE | ESC | GS] => true,
-        [DLE, EOT] => true,
-        [
-            ESC,
-            b'!' | b'-' | b'E' | b'M' | b'a' | b'J' | b'd' | b'p' | b't',
-        ] => true,
-        [ESC, b'p', 0 | 1 | 48 | 49] => true,
-        [ESC, b'p', 0 | 1 | 48 | 49, _] => true,
-        [
-            GS,
-            b'!' | b'(' | b'H' | b'V' | b'f' | b'h' | b'k' | b'v' | b'w',
-        ] => true,
-        [GS, b'(', b'H'] => true,
-        [GS, b'(', b'H', 6] => true,
-        [GS, b'(', b'H', 6, 0] => true,
-        [GS, b'(', b'H', 6, 0, b'0'] => true,
-        [GS, b'(', b'H', 6, 0, b'0', b'0', id @ ..] => id.len() < 4 && is_id(id),
-        [GS, b'V', 65 | 66] => true,
+        [DLE] | [DLE, EOT] => true,
+        [ESC, rest @ ..] => begins_after_escape(rest),
         [GS, b'k', m @ 0..=6, content @ ..] => begins_form_a(*m, content),
         [GS, b'k', m @ 65..=73, rest @ ..] => begins_form_b(*m, rest),
         [GS, b'v', b'0'] => true,
         [GS, b'v', b'0', 0..=3 | 48..=51, rest @ ..] => begins_raster(rest),
+        [GS, rest @ ..] => begins_after_group(rest),
+        _ => false,
+    }
+}
+
+// Whether these bytes begin a spelling after ESC, and aren't one.
+fn begins_after_escape(rest: &[u8]) -> bool {
+    match rest {
+        [] => true,
+        [b'!' | b'-' | b'E' | b'M' | b'a' | b'J' | b'd' | b'p' | b't'] => true,
+        [b'p', 0 | 1 | 48 | 49] => true,
+        [b'p', 0 | 1 | 48 | 49, _] => true,
+        _ => false,
+    }
+}
+
+// Whether these bytes begin a spelling without content after GS, and aren't one.
+fn begins_after_group(rest: &[u8]) -> bool {
+    match rest {
+        [] => true,
+        [b'!' | b'(' | b'H' | b'V' | b'f' | b'h' | b'k' | b'v' | b'w'] => true,
+        [b'(', b'H'] => true,
+        [b'(', b'H', 6] => true,
+        [b'(', b'H', 6, 0] => true,
+        [b'(', b'H', 6, 0, b'0'] => true,
+        [b'(', b'H', 6, 0, b'0', b'0', id @ ..] => id.len() < 4 && is_id(id),
+        [b'V', 65 | 66] => true,
         _ => false,
     }
 }
@@ -118,16 +140,20 @@ fn is_id(id: &[u8]) -> bool {
     id.iter().all(|byte| matches!(byte, 32..=126))
 }
 
-// The barcode with this content.
-fn bars(alloc: Global, form: Form, mode: u8, content: &[u8]) -> Result<Option<Command>, Fail> {
-    let Some(symbology) = symbology_of(form, mode) else {
-        return Ok(None);
+// The barcode that these bytes spell after GS k.
+fn bars(rt: &impl Abort, alloc: Global, rest: &[u8]) -> Option<Command> {
+    let (form, mode, content) = match rest {
+        [m @ 0..=6, content @ .., 0] => (Form::A, *m, content),
+        [m @ 65..=73, n, content @ ..] if content.len() == *n as usize => (Form::B, *m, content),
+        _ => return None,
     };
+    let symbology = symbology_of(form, mode)?;
     if !begins_content(symbology, content.len(), content) {
-        return Ok(None);
+        return None;
     }
-    let bars = Bars::new(form, symbology, content.to_vec(alloc)?)?;
-    Ok(Some(Command::Bars(bars)))
+    let content = content.to_vec(alloc).expect(rt, "memory");
+    let bars = Bars::new(form, symbology, content).ok();
+    Some(Command::Bars(bars.expect(rt, "a content of the table")))
 }
 
 // Whether a content that begins so goes on, at some length.
@@ -200,17 +226,18 @@ fn allows(symbology: Symbology, length: usize, place: usize, byte: u8) -> bool {
 }
 
 // The raster with this size and these dots.
-fn raster(alloc: Global, mode: u8, rest: &[u8]) -> Result<Option<Command>, Fail> {
+fn raster(rt: &impl Abort, alloc: Global, mode: u8, rest: &[u8]) -> Option<Command> {
     let [x_low, x_high, y_low, y_high, dots @ ..] = rest else {
-        return Ok(None);
+        return None;
     };
     let x = u16::from_le_bytes([*x_low, *x_high]);
     let y = u16::from_le_bytes([*y_low, *y_high]);
     if !begins_size(&rest[..4]) || dots.len() != x as usize * y as usize {
-        return Ok(None);
+        return None;
     }
-    let raster = Raster::new(mode, x, y, dots.to_vec(alloc)?)?;
-    Ok(Some(Command::Raster(raster)))
+    let dots = dots.to_vec(alloc).expect(rt, "memory");
+    let raster = Raster::new(mode, x, y, dots).ok();
+    Some(Command::Raster(raster.expect(rt, "a size of the table")))
 }
 
 // Whether a size and dots that begin so go on.
