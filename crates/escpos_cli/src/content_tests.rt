@@ -1,13 +1,10 @@
 //! The worked rows of barcodes, rasters, motion units and pulses through both jobs, and of lines and styles on paper.
 
-use crate::check::check;
-use crate::render::render;
 use crate::status::Status;
-use escpos_io::{MemoryIn, MemoryOut, Outgoing};
+use crate::task::Task;
+use crate::tests::{Row, performs, performs_at_length, performs_rows};
+use escpos_io::MemoryIn;
 use std::test::Fail;
-
-// A worked row: the input, what it prints, and the status.
-type Row = (&'static [u8], &'static [u8], Status);
 
 const CHECKED: [Row; 25] = [
     // ean13
@@ -245,70 +242,50 @@ const RENDERED: [Row; 23] = [
 
 #[test]
 fn rows_of_check(rt: HostRuntime) {
-    let mut room = [0; 256];
-    for (input, output, status) in CHECKED {
-        for most in [1, 4096] {
-            let mut source = MemoryIn::new(input, most);
-            let mut sink = MemoryOut::new(&mut room);
-            assert_eq!(rt; check(rt.alloc(), &mut source, &mut sink), status);
-            assert_eq!(rt; sink.written(), output);
-        }
-    }
+    performs_rows(&rt, rt.alloc(), Task::Check, &CHECKED, &[1, 4096]);
 }
 
 #[test]
 fn rows_of_render(rt: HostRuntime) {
-    let mut room = [0; 256];
-    for (input, output, status) in RENDERED {
-        let mut source = MemoryIn::new(input, 4096);
-        let mut sink = MemoryOut::new(&mut room);
-        assert_eq!(rt; render(rt.alloc(), &mut source, &mut sink), status);
-        assert_eq!(rt; sink.written(), output);
-    }
+    performs_rows(&rt, rt.alloc(), Task::Render, &RENDERED, &[4096]);
 }
 
 // The longest line of a listing: a content of 255 bytes.
 #[test]
 fn a_long_barcode(rt: HostRuntime) -> Result<(), Fail> {
-    let mut input = Vec::new(rt.alloc());
-    input.extend_from_slice(b"1D6B45FF")?;
-    let mut digits = Vec::new(rt.alloc());
+    let mut input = b"1D6B45FF".to_vec(rt.alloc())?;
+    let mut want = b"0 bars 45 ".to_vec(rt.alloc())?;
     for _ in 0..255 {
         input.extend_from_slice(b"39")?;
-        digits.extend_from_slice(b"39")?;
+        want.extend_from_slice(b"39")?;
     }
-    let mut want = Vec::new(rt.alloc());
-    want.extend_from_slice(b"0 bars 45 ")?;
-    want.extend_from_slice(&digits)?;
     want.extend_from_slice(b"\nend 259 pending 0\n")?;
     let mut source = MemoryIn::new(&input, 4096);
-    let mut sink = Outgoing::new(Vec::new(rt.alloc()));
-    assert_eq!(rt; check(rt.alloc(), &mut source, &mut sink), Status::Good);
-    assert!(rt; sink.into_inner() == want);
+    performs_at_length(&rt, rt.alloc(), Task::Check, &mut source, &want);
     Ok(())
 }
 
 // The largest raster, as a listing and as paper.
 #[test]
 fn the_largest_raster(rt: HostRuntime) -> Result<(), Fail> {
-    let mut input = Vec::new(rt.alloc());
-    input.extend_from_slice(b"1D7630008000FF0F")?;
-    input.extend_from_slice(&vec![in rt.alloc(); b'a'; 2 * 524_160]?)?;
-    let mut room = [0; 64];
-    let mut source = MemoryIn::new(&input, 65536);
-    let mut sink = MemoryOut::new(&mut room);
-    assert_eq!(rt; check(rt.alloc(), &mut source, &mut sink), Status::Good);
-    assert_eq!(rt;
-        sink.written(),
-        b"0 raster 00 128 4095\nend 524168 pending 0\n".as_slice()
-    );
-    let mut want = Vec::new(rt.alloc());
-    want.extend_from_slice(b"raster left normal 128 4095 ")?;
-    want.extend_from_slice(&vec![in rt.alloc(); b'a'; 2 * 524_160]?)?;
+    let dots = vec![in rt.alloc(); b'a'; 2 * 524_160]?;
+    let mut input = b"1D7630008000FF0F".to_vec(rt.alloc())?;
+    input.extend_from_slice(&dots)?;
+    let mut want = b"raster left normal 128 4095 ".to_vec(rt.alloc())?;
+    want.extend_from_slice(&dots)?;
     want.push(b'\n')?;
     let mut source = MemoryIn::new(&input, 65536);
-    let mut sink = Outgoing::new(Vec::new(rt.alloc()));
-    assert_eq!(rt; render(rt.alloc(), &mut source, &mut sink), Status::Good);
-    assert!(rt; sink.into_inner() == want);
+    let listing = b"0 raster 00 128 4095\nend 524168 pending 0\n".as_slice();
+    let wanted = (listing, Status::Good);
+    performs(
+        &rt,
+        rt.alloc(),
+        Ok(Task::Check),
+        &mut source,
+        &mut [0; 64],
+        wanted,
+    );
+    let mut source = MemoryIn::new(&input, 65536);
+    performs_at_length(&rt, rt.alloc(), Task::Render, &mut source, &want);
     Ok(())
 }

@@ -2,11 +2,10 @@
 //!
 //! A test can't read a file, so each text stands here too; the comment before it names its file. The
 //! script `examples/compare` compares the files with what the built program prints.
-use crate::check::check;
-use crate::render::render;
 use crate::status::Status;
-use escpos_io::{MemoryIn, MemoryOut};
-use std::test::Fail;
+use crate::task::Task;
+use crate::tests::performs;
+use escpos_io::MemoryIn;
 
 // A receipt: the stream in hexadecimal, its listing, and its paper as text.
 #[derive(Drop)]
@@ -376,17 +375,16 @@ cut full 16
 };
 
 #[test]
-fn receipts_are_listed_and_printed(rt: HostRuntime) -> Result<(), Fail> {
-    let mut room = vec![in rt.alloc(); 0u8; 4096]?;
+fn receipts_are_listed_and_printed(rt: HostRuntime) {
+    let mut room = [0; 4096];
     for receipt in [COFFEE_BAR, KIOSK_TICKET, KITCHEN_ORDER] {
-        let mut source = MemoryIn::new(receipt.stream.as_bytes(), 64);
-        let mut sink = MemoryOut::new(&mut room);
-        assert_eq!(rt; check(rt.alloc(), &mut source, &mut sink), Status::Good);
-        assert_eq!(rt; sink.written(), receipt.listing.as_bytes());
-        let mut source = MemoryIn::new(receipt.stream.as_bytes(), 64);
-        let mut sink = MemoryOut::new(&mut room);
-        assert_eq!(rt; render(rt.alloc(), &mut source, &mut sink), Status::Good);
-        assert_eq!(rt; sink.written(), receipt.paper.as_bytes());
+        for (task, output) in [
+            (Task::Check, receipt.listing),
+            (Task::Render, receipt.paper),
+        ] {
+            let mut source = MemoryIn::new(receipt.stream.as_bytes(), 64);
+            let wanted = (output.as_bytes(), Status::Good);
+            performs(&rt, rt.alloc(), Ok(task), &mut source, &mut room, wanted);
+        }
     }
-    Ok(())
 }

@@ -1,16 +1,57 @@
 //! What no clause says: that calls succeed, the texts, and the worked rows through the jobs.
-use crate::check::check;
 use crate::hexadecimal::{HexFault, bytes_of};
 use crate::perform::perform;
-use crate::render::render;
 use crate::status::Status;
 use crate::task::{HELP, NoTask, Task, USAGE, task_of};
 use escpos_io::{ByteIn, MemoryIn, MemoryOut, Outgoing};
+use std::alloc::Global;
 use std::process::Abort;
 use std::test::Fail;
 
-// A worked row of `check`: the input, what it prints, and the status.
-type Row = (&'static [u8], &'static [u8], Status);
+/// A worked row of a job: the input, what it prints, and the status.
+pub type Row = (&'static [u8], &'static [u8], Status);
+
+/// What was asked for writes this to a sink with this room, and ends with this status.
+pub fn performs(
+    rt: &impl Abort,
+    alloc: Global,
+    asked: Result<Task, NoTask>,
+    source: &mut MemoryIn,
+    room: &mut [u8],
+    (output, status): (&[u8], Status),
+) {
+    let mut sink = MemoryOut::new(room);
+    assert_eq!(rt; perform(alloc, asked, source, &mut sink), status);
+    assert_eq!(rt; sink.written(), output);
+}
+
+/// The same for a job whose output is long: a sink that has room for all of it.
+pub fn performs_at_length(
+    rt: &impl Abort,
+    alloc: Global,
+    task: Task,
+    source: &mut MemoryIn,
+    output: &[u8],
+) {
+    let mut sink = Outgoing::new(Vec::new(alloc));
+    assert_eq!(rt; perform(alloc, Ok(task), source, &mut sink), Status::Good);
+    assert!(rt;
+        sink.into_inner().as_slice() == output,
+        "other bytes went out"
+    );
+}
+
+/// Each row of a table through a job, with reads of each of these lengths.
+pub fn performs_rows(rt: &impl Abort, alloc: Global, task: Task, rows: &[Row], lengths: &[usize]) {
+    let mut room = [0; 256];
+    for (input, output, status) in rows {
+        for length in lengths {
+            let mut source = MemoryIn::new(input, *length);
+            let wanted = (*output, *status);
+            performs(rt, alloc, Ok(task), &mut source, &mut room, wanted);
+        }
+    }
+}
 
 const CHECKED: [Row; 17] = [
     // empty_input
@@ -115,28 +156,12 @@ const RENDERED: [Row; 10] = [
 
 #[test]
 fn rows_of_check(rt: HostRuntime) {
-    let mut room = [0; 256];
-    for (input, output, status) in CHECKED {
-        for most in [1, 5, 4096] {
-            let mut source = MemoryIn::new(input, most);
-            let mut sink = MemoryOut::new(&mut room);
-            assert_eq!(rt; check(rt.alloc(), &mut source, &mut sink), status);
-            assert_eq!(rt; sink.written(), output);
-        }
-    }
+    performs_rows(&rt, rt.alloc(), Task::Check, &CHECKED, &[1, 5, 4096]);
 }
 
 #[test]
 fn rows_of_render(rt: HostRuntime) {
-    let mut room = [0; 256];
-    for (input, output, status) in RENDERED {
-        for most in [1, 4096] {
-            let mut source = MemoryIn::new(input, most);
-            let mut sink = MemoryOut::new(&mut room);
-            assert_eq!(rt; render(rt.alloc(), &mut source, &mut sink), status);
-            assert_eq!(rt; sink.written(), output);
-        }
-    }
+    performs_rows(&rt, rt.alloc(), Task::Render, &RENDERED, &[1, 4096]);
 }
 
 #[test]
@@ -154,22 +179,20 @@ fn bad_input_at_each_edge(rt: HostRuntime) {
             Status::Good,
         ),
     ];
-    let mut room = [0; 256];
-    for (input, output, status) in rows {
-        let mut source = MemoryIn::new(input, 3);
-        let mut sink = MemoryOut::new(&mut room);
-        assert_eq!(rt; check(rt.alloc(), &mut source, &mut sink), status);
-        assert_eq!(rt; sink.written(), output);
-    }
+    performs_rows(&rt, rt.alloc(), Task::Check, &rows, &[3]);
 }
 
-// A text of so many bytes: the digits of a line feed, and then blanks.
-fn blanks(rt: &HostRuntime, count: usize) -> Result<Vec<u8>, Fail> {
-    let mut text = vec![in rt.alloc(); b' '; count]?;
-    for (place, digit) in b"0A".iter().enumerate() {
-        if let Some(byte) = text.get_mut(place) {
-            *byte = *digit;
-        }
+// A job whose input is so long that it is read in large pieces.
+fn performs_far(rt: &impl Abort, alloc: Global, task: Task, text: &[u8], wanted: (&[u8], Status)) {
+    let mut source = MemoryIn::new(text, 1_000_000);
+    performs(rt, alloc, Ok(task), &mut source, &mut [0; 64], wanted);
+}
+
+// A text of so many bytes, of which two are there: the digits of a line feed, and then blanks.
+fn blanks(alloc: Global, count: usize) -> Result<Vec<u8>, Fail> {
+    let mut text = b"0A".to_vec(alloc)?;
+    for _ in 2..count {
+        text.push(b' ')?;
     }
     Ok(text)
 }
@@ -180,13 +203,9 @@ fn the_limit_of_the_input(rt: HostRuntime) -> Result<(), Fail> {
         (16_777_216, b"0 lf\nend 1 pending 0\n", Status::Good),
         (16_777_217, b"refused input\n", Status::Refused),
     ];
-    let mut room = [0; 64];
     for (count, output, status) in rows {
-        let text = blanks(&rt, count)?;
-        let mut source = MemoryIn::new(text.as_slice(), 1_000_000);
-        let mut sink = MemoryOut::new(&mut room);
-        assert_eq!(rt; check(rt.alloc(), &mut source, &mut sink), status);
-        assert_eq!(rt; sink.written(), output);
+        let text = blanks(rt.alloc(), count)?;
+        performs_far(&rt, rt.alloc(), Task::Check, &text, (output, status));
     }
     Ok(())
 }
@@ -199,84 +218,76 @@ fn a_fault_far_into_a_stream(rt: HostRuntime) -> Result<(), Fail> {
         *digit = b'0';
     }
     text.extend_from_slice(b"06")?;
-    let mut room = [0; 64];
-    let mut source = MemoryIn::new(text.as_slice(), 1_000_000);
-    let mut sink = MemoryOut::new(&mut room);
-    assert_eq!(rt; render(rt.alloc(), &mut source, &mut sink), Status::Refused);
-    assert_eq!(rt; sink.written(), b"fault 2000000 1 UnknownByte\n".as_slice());
+    let wanted = (b"fault 2000000 1 UnknownByte\n".as_slice(), Status::Refused);
+    performs_far(&rt, rt.alloc(), Task::Render, &text, wanted);
     Ok(())
 }
 
 // A byte that is no digit is refused wherever it stands.
 #[test]
 fn a_bad_digit_far_into_the_input(rt: HostRuntime) -> Result<(), Fail> {
-    let mut room = [0; 64];
-    for last in [b"0".as_slice(), b"g0"] {
-        let mut text = vec![in rt.alloc(); b'A'; 10_000_000]?;
-        text.extend_from_slice(last)?;
-        let mut source = MemoryIn::new(text.as_slice(), 1_000_000);
-        let mut sink = MemoryOut::new(&mut room);
-        assert_eq!(rt; check(rt.alloc(), &mut source, &mut sink), Status::Refused);
-        assert_eq!(rt; sink.written(), b"refused hex\n".as_slice());
-    }
+    let wanted = (b"refused hex\n".as_slice(), Status::Refused);
+    let mut text = vec![in rt.alloc(); b'A'; 10_000_000]?;
+    text.push(b'0')?;
+    performs_far(&rt, rt.alloc(), Task::Check, &text, wanted);
+    text.pop();
+    text.extend_from_slice(b"g0")?;
+    performs_far(&rt, rt.alloc(), Task::Check, &text, wanted);
     Ok(())
+}
+
+// The lines of 100,000 characters, and the last line.
+fn many_lines(alloc: Global) -> Result<Vec<u8>, Fail> {
+    let mut lines = Vec::new(alloc);
+    for place in 0..100_000u32 {
+        lines.extend_from_slice(format!(in alloc; "{place} char aa\n")?.as_bytes())?;
+    }
+    lines.extend_from_slice(b"end 100000 pending 0\n")?;
+    Ok(lines)
 }
 
 // A listing of 100,000 commands, each line of it.
 #[test]
 fn a_listing_of_many_commands(rt: HostRuntime) -> Result<(), Fail> {
+    let wanted = many_lines(rt.alloc())?;
     let text = vec![in rt.alloc(); b'A'; 200_000]?;
-    let mut source = MemoryIn::new(text.as_slice(), 1_000_000);
-    let mut sink = Outgoing::new(Vec::new(rt.alloc()));
-    assert_eq!(rt; check(rt.alloc(), &mut source, &mut sink), Status::Good);
-    let mut wanted = Vec::new(rt.alloc());
-    for place in 0..100_000u32 {
-        wanted.extend_from_slice(format!(in rt.alloc(); "{place} char aa\n")?.as_bytes())?;
-    }
-    wanted.extend_from_slice(b"end 100000 pending 0\n")?;
-    assert_eq!(rt; sink.into_inner().as_slice(), wanted.as_slice());
+    let mut source = MemoryIn::new(&text, 1_000_000);
+    performs_at_length(&rt, rt.alloc(), Task::Check, &mut source, &wanted);
     Ok(())
 }
 
 #[test]
 fn a_source_fails(rt: HostRuntime) {
-    let mut room = [0; 64];
+    let wanted = (b"".as_slice(), Status::Device);
     for from_call in [1, 2, 4] {
-        let mut source = MemoryIn::failing(b"0A 0A", 2, from_call);
-        let mut sink = MemoryOut::new(&mut room);
-        assert_eq!(rt; check(rt.alloc(), &mut source, &mut sink), Status::Device);
-        assert_eq!(rt; sink.written(), b"".as_slice());
-        let mut source = MemoryIn::failing(b"0A 0A", 2, from_call);
-        let mut sink = MemoryOut::new(&mut room);
-        assert_eq!(rt; render(rt.alloc(), &mut source, &mut sink), Status::Device);
+        for task in [Task::Check, Task::Render] {
+            let mut source = MemoryIn::failing(b"0A 0A", 2, from_call);
+            performs(&rt, rt.alloc(), Ok(task), &mut source, &mut [0; 64], wanted);
+        }
     }
 }
 
-// What a sink with so many bytes of room gets of the listing of the eight bytes.
-fn short_listing(rt: &(impl Abort + AllocGlobal), room: &mut [u8]) {
-    let mut source = MemoryIn::new(b"1B 40 48 69 0A 1D 56 00", 100);
-    let mut sink = MemoryOut::new(room);
-    assert_eq!(rt; check(rt.alloc(), &mut source, &mut sink), Status::Device);
-    assert!(rt;
-        b"0 init\n2 char 48\n3 char 69\n4 lf\n5 cut 00\nend 8 pending 0\n".starts_with(
-            sink.written()
-        )
-    );
-}
+const FIVE_LINES: [u8; 57] = *b"0 init\n2 char 48\n3 char 69\n4 lf\n5 cut 00\nend 8 pending 0\n";
 
+// What a sink with little room gets of the output is the front of it.
 #[test]
 fn a_sink_fails_at_each_place(rt: HostRuntime) {
     let mut room = [0; 56];
     for count in 0..room.len() {
-        short_listing(&rt, &mut room[..count]);
+        let mut source = MemoryIn::new(b"1B 40 48 69 0A 1D 56 00", 100);
+        let room = &mut room[..count];
+        let wanted = (&FIVE_LINES[..count], Status::Device);
+        performs(&rt, rt.alloc(), Ok(Task::Check), &mut source, room, wanted);
     }
-    let mut source = MemoryIn::new(b"1B 4", 100);
-    let mut sink = MemoryOut::new(&mut room[..5]);
-    assert_eq!(rt; check(rt.alloc(), &mut source, &mut sink), Status::Device);
-    let mut source = MemoryIn::new(b"41 0A", 100);
-    let mut sink = MemoryOut::new(&mut room[..5]);
-    assert_eq!(rt; render(rt.alloc(), &mut source, &mut sink), Status::Device);
-    assert_eq!(rt; sink.written(), b"row l".as_slice());
+    let rows: [(Task, &[u8], &[u8]); 2] = [
+        (Task::Check, b"1B 4", b"refus"),
+        (Task::Render, b"41 0A", b"row l"),
+    ];
+    for (task, input, output) in rows {
+        let mut source = MemoryIn::new(input, 100);
+        let wanted = (output, Status::Device);
+        performs(&rt, rt.alloc(), Ok(task), &mut source, &mut [0; 5], wanted);
+    }
 }
 
 #[test]
@@ -285,7 +296,8 @@ fn a_long_listing_goes_out_in_pieces(rt: HostRuntime) -> Result<(), Fail> {
     let mut room = vec![in rt.alloc(); 0u8; 40_000]?;
     let mut source = MemoryIn::new(text.as_slice(), 1000);
     let mut sink = MemoryOut::new(&mut room);
-    assert_eq!(rt; check(rt.alloc(), &mut source, &mut sink), Status::Good);
+    let status = perform(rt.alloc(), Ok(Task::Check), &mut source, &mut sink);
+    assert!(rt; status == Status::Good);
     let written = sink.written();
     assert!(rt; written.starts_with(b"0 char 44\n1 char 44\n"));
     assert!(rt; written.ends_with(b"\n1999 char 44\nend 2000 pending 0\n"));
@@ -308,16 +320,13 @@ fn each_thing_asked_for(rt: HostRuntime) {
     let mut room = [0; 4096];
     for (asked, output, status) in rows {
         let mut source = MemoryIn::new(b"41 0A", 100);
-        let mut sink = MemoryOut::new(&mut room);
-        assert_eq!(rt; perform(rt.alloc(), asked, &mut source, &mut sink), status);
-        assert_eq!(rt; sink.written(), output);
-        assert_eq!(rt; source.pulls() > 0, asked.is_ok());
+        let wanted = (output, status);
+        performs(&rt, rt.alloc(), asked, &mut source, &mut room, wanted);
+        assert!(rt; (source.pulls() > 0) == asked.is_ok());
         let mut source = MemoryIn::new(b"41 0A", 100);
-        let mut sink = MemoryOut::new(&mut room[..3]);
-        assert_eq!(rt;
-            perform(rt.alloc(), asked, &mut source, &mut sink),
-            Status::Device
-        );
+        let front = &output[..output.len().min(3)];
+        let wanted = (front, Status::Device);
+        performs(&rt, rt.alloc(), asked, &mut source, &mut [0; 3], wanted);
     }
 }
 
@@ -332,26 +341,26 @@ fn usage_and_help(rt: HostRuntime) {
     assert!(rt; HELP.contains("[F,W,H,B,U,T]"));
 }
 
+// What the help shows of a job of this name that writes these bytes.
+fn shown(alloc: Global, name: &str, written: &[u8]) -> Result<String, Fail> {
+    let mut shown = format!(in alloc; "$ echo '1B 40 48 69 0A 1D 56 00' | escpos_cli {name}\n")?;
+    for line in str::from_utf8(written)?.lines() {
+        shown.push_str("          ")?;
+        shown.push_str(line)?;
+        shown.push_str("\n")?;
+    }
+    Ok(shown)
+}
+
 // What the help shows of each job is what the job writes.
 #[test]
 fn help_shows_what_the_jobs_write(rt: HostRuntime) -> Result<(), Fail> {
-    let input = b"1B 40 48 69 0A 1D 56 00";
     for (name, task) in [("check", Task::Check), ("render", Task::Render)] {
-        let mut source = MemoryIn::new(input, 100);
+        let mut source = MemoryIn::new(b"1B 40 48 69 0A 1D 56 00", 100);
         let mut sink = Outgoing::new(Vec::new(rt.alloc()));
-        assert_eq!(rt;
-            perform(rt.alloc(), Ok(task), &mut source, &mut sink),
-            Status::Good
-        );
-        let mut shown = format!(in rt.alloc();
-            "$ echo '1B 40 48 69 0A 1D 56 00' | escpos_cli {name}\n"
-        )?;
-        let written = sink.into_inner();
-        for line in str::from_utf8(&written)?.lines() {
-            shown.push_str("          ")?;
-            shown.push_str(line)?;
-            shown.push_str("\n")?;
-        }
+        let status = perform(rt.alloc(), Ok(task), &mut source, &mut sink);
+        assert!(rt; status == Status::Good);
+        let shown = shown(rt.alloc(), name, &sink.into_inner())?;
         assert!(rt; HELP.contains(shown.as_str()));
     }
     Ok(())
@@ -385,34 +394,47 @@ const ASKED: [Asked; 22] = [
     (&["check", "help"], Err(NoTask::Usage)),
 ];
 
+fn asks(rt: &impl Abort, alloc: Global, words: &[&str], asked: Result<Task, NoTask>) {
+    assert_eq!(rt; task_of(alloc, words), asked, "{words:?}");
+}
+
 #[test]
 fn words_name_tasks(rt: HostRuntime) {
     for (words, asked) in ASKED {
-        assert_eq!(rt; task_of(rt.alloc(), words), asked, "{words:?}");
+        asks(&rt, rt.alloc(), words, asked);
     }
     for words in [["check"; 4].as_slice(), &["check"; 100], &["--"; 100]] {
-        assert_eq!(rt; task_of(rt.alloc(), words), Err(NoTask::Usage), "{words:?}");
+        asks(&rt, rt.alloc(), words, Err(NoTask::Usage));
+    }
+}
+
+fn gives_bytes(rt: &impl Abort, alloc: Global, text: &[u8], wanted: Result<&[u8], HexFault>) {
+    let text = text.to_vec(alloc).expect(rt, "memory");
+    match (bytes_of(alloc, text), wanted) {
+        (Ok(bytes), Ok(wanted)) => assert_eq!(rt; bytes.as_slice(), wanted),
+        (Err(fault), Err(wanted)) => assert_eq!(rt; fault, wanted),
+        _ => panic!(rt; "the other outcome"),
     }
 }
 
 #[test]
-fn digits_give_bytes(rt: HostRuntime) -> Result<(), Fail> {
-    let rows: [(&[u8], &[u8]); 4] = [
-        (b"1B 40 aF\tFa\r\n0a", b"\x1b\x40\xaf\xfa\x0a"),
-        (b"1 b 4\n0", b"\x1b\x40"),
-        (b" \t\r\n", b""),
-        (b"", b""),
+fn digits_give_bytes(rt: HostRuntime) {
+    let rows: [(&[u8], Result<&[u8], HexFault>); 8] = [
+        (
+            b"1B 40 aF\tFa\r\n0a",
+            Ok(b"\x1b\x40\xaf\xfa\x0a".as_slice()),
+        ),
+        (b"1 b 4\n0", Ok(b"\x1b\x40")),
+        (b" \t\r\n", Ok(b"")),
+        (b"", Ok(b"")),
+        (b"1B4", Err(HexFault::Refused)),
+        (b"g0 00", Err(HexFault::Refused)),
+        (b"00 0x", Err(HexFault::Refused)),
+        (b"00\x0b00", Err(HexFault::Refused)),
     ];
-    for (text, bytes) in rows {
-        let read = bytes_of(rt.alloc(), text.to_vec(rt.alloc())?)?;
-        assert_eq!(rt; read.as_slice(), bytes);
+    for (text, wanted) in rows {
+        gives_bytes(&rt, rt.alloc(), text, wanted);
     }
-    let refused: [&[u8]; 4] = [b"1B4", b"g0 00", b"00 0x", b"00\x0b00"];
-    for text in refused {
-        let read = bytes_of(rt.alloc(), text.to_vec(rt.alloc())?);
-        assert_eq!(rt; read.err(), Some(HexFault::Refused));
-    }
-    Ok(())
 }
 
 #[test]
