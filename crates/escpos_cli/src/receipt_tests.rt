@@ -1,13 +1,12 @@
 //! The worked rows of receipts through `encode`, hostile texts, and what no clause says of a receipt: that calls succeed
 //! where there is memory, and the examples of the help.
-use crate::check::check;
-use crate::encode::encode;
 use crate::status::Status;
-use crate::task::HELP;
+use crate::task::{HELP, Task};
+use crate::tests::{performs, performs_at_length};
 use escpos_command::Command;
-use escpos_decode::{End, decode};
+use escpos_decode::{Decoded, End, decode};
 use escpos_host::{JsonError, JsonFault, Receipt, ReceiptFault};
-use escpos_io::{ByteIn, MemoryIn, MemoryOut, Outgoing};
+use escpos_io::MemoryIn;
 use std::alloc::Global;
 use std::process::Abort;
 use std::test::Fail;
@@ -133,54 +132,50 @@ const REFUSED: [Row; 42] = [
     ),
 ];
 
-// What `encode` prints of a text that is read in pieces of so many bytes.
-fn encodes(
-    rt: &(impl Abort + AllocGlobal),
-    text: &[u8],
-    most: usize,
-    room: &mut [u8],
-    printed: &[u8],
-) {
-    let wanted = if printed.starts_with(b"refused") {
-        Status::Refused
-    } else {
-        Status::Good
-    };
-    let mut source = MemoryIn::new(text, most);
-    let mut sink = MemoryOut::new(room);
-    let status = encode(rt.alloc(), &mut source, &mut sink);
-    assert!(rt; sink.written() == printed, "{text:?}");
-    assert!(rt; status == wanted, "{text:?}");
+// Texts through `encode`, all with this status and each with its line.
+fn encodes(rt: &impl Abort, alloc: Global, rows: &[Row], status: Status, lengths: &[usize]) {
+    let mut room = [0; 512];
+    for (text, line) in rows {
+        for length in lengths {
+            let mut source = MemoryIn::new(text.as_bytes(), *length);
+            let wanted = (line.as_bytes(), status);
+            let task = Ok(Task::Encode);
+            performs(rt, alloc, task, &mut source, &mut room, wanted);
+        }
+    }
 }
 
 #[test]
 fn rows_of_encode(rt: HostRuntime) {
-    let mut room = [0; 512];
-    for (text, line) in ENCODED {
-        encodes(&rt, text.as_bytes(), 1, &mut room, line.as_bytes());
-        encodes(&rt, text.as_bytes(), 4096, &mut room, line.as_bytes());
-    }
+    encodes(&rt, rt.alloc(), &ENCODED, Status::Good, &[1, 4096]);
 }
 
 #[test]
 fn receipt_refusals(rt: HostRuntime) {
-    let mut room = [0; 64];
-    for (text, line) in REFUSED {
-        encodes(&rt, text.as_bytes(), 7, &mut room, line.as_bytes());
-    }
-    encodes(
+    encodes(&rt, rt.alloc(), &REFUSED, Status::Refused, &[7]);
+}
+
+// Refuses a text with this line.
+fn refuses(rt: &impl Abort, alloc: Global, text: &[u8], line: &str) {
+    let mut source = MemoryIn::new(text, 65_536);
+    let wanted = (line.as_bytes(), Status::Refused);
+    let task = Ok(Task::Encode);
+    performs(rt, alloc, task, &mut source, &mut [0; 64], wanted);
+}
+
+#[test]
+fn texts_that_are_not_utf_8(rt: HostRuntime) {
+    refuses(
         &rt,
+        rt.alloc(),
         b"[{\"line\":\"\xff\"}]",
-        7,
-        &mut room,
-        b"refused 5 NotJson\n",
+        "refused 5 NotJson\n",
     );
-    encodes(
+    refuses(
         &rt,
+        rt.alloc(),
         b"\xef\xbb\xbf[{\"feed\":1}]",
-        7,
-        &mut room,
-        b"refused 5 NotJson\n",
+        "refused 5 NotJson\n",
     );
 }
 
@@ -193,28 +188,13 @@ fn nested(alloc: Global, depth: usize) -> Result<Vec<u8>, Fail> {
 
 #[test]
 fn deep_json(rt: HostRuntime) -> Result<(), Fail> {
-    let mut room = [0; 64];
-    encodes(
-        &rt,
-        &nested(rt.alloc(), 127)?,
-        64,
-        &mut room,
-        b"refused 6 BadShape 0\n",
-    );
-    encodes(
-        &rt,
-        &nested(rt.alloc(), 128)?,
-        64,
-        &mut room,
-        b"refused 5 NotJson\n",
-    );
-    encodes(
-        &rt,
-        &nested(rt.alloc(), 100_000)?,
-        64,
-        &mut room,
-        b"refused 5 NotJson\n",
-    );
+    for (depth, line) in [
+        (127, "refused 6 BadShape 0\n"),
+        (128, "refused 5 NotJson\n"),
+        (100_000, "refused 5 NotJson\n"),
+    ] {
+        refuses(&rt, rt.alloc(), &nested(rt.alloc(), depth)?, line);
+    }
     Ok(())
 }
 
@@ -234,82 +214,81 @@ fn repeated(
     Ok(text)
 }
 
+// Puts this line for a long text.
+fn puts(rt: &impl Abort, alloc: Global, text: &[u8], line: &[u8]) {
+    let mut source = MemoryIn::new(text, 65_536);
+    performs_at_length(rt, alloc, Task::Encode, &mut source, line);
+}
+
 // Many entries, and a long string: each is read, and the place of a bad entry far into the text is said.
 #[test]
 fn long_texts(rt: HostRuntime) -> Result<(), Fail> {
-    let mut room = vec![in rt.alloc(); 0u8; 2_200_000]?;
     let entries = repeated(rt.alloc(), "[", "{\"feed\":0},", 99_999, "{\"feed\":0}]")?;
     let line = repeated(rt.alloc(), "", "1b6400", 100_000, "\n")?;
-    encodes(&rt, &entries, 65_536, &mut room, &line);
-    let bad_entry = repeated(rt.alloc(), "[", "{\"feed\":0},", 99_999, "{\"feed\":256}]")?;
-    encodes(
-        &rt,
-        &bad_entry,
-        65_536,
-        &mut room,
-        b"refused 6 BadShape 99999\n",
-    );
+    puts(&rt, rt.alloc(), &entries, &line);
     let string = repeated(rt.alloc(), "[{\"line\":\"", "A", 1_048_576, "\"}]")?;
     let line = repeated(rt.alloc(), "", "41", 1_048_576, "0a\n")?;
-    encodes(&rt, &string, 65_536, &mut room, &line);
+    puts(&rt, rt.alloc(), &string, &line);
+    let bad_entry = repeated(rt.alloc(), "[", "{\"feed\":0},", 99_999, "{\"feed\":256}]")?;
+    refuses(&rt, rt.alloc(), &bad_entry, "refused 6 BadShape 99999\n");
     Ok(())
 }
 
 #[test]
 fn the_limit_of_a_receipt(rt: HostRuntime) -> Result<(), Fail> {
-    let mut room = [0; 64];
     let mut text = repeated(rt.alloc(), "[{\"feed\":1}]", " ", 16_777_204, "")?;
-    encodes(&rt, &text, 1_000_000, &mut room, b"1b6401\n");
+    puts(&rt, rt.alloc(), &text, b"1b6401\n");
     text.push(b' ')?;
-    encodes(&rt, &text, 1_000_000, &mut room, b"refused input\n");
+    refuses(&rt, rt.alloc(), &text, "refused input\n");
     Ok(())
 }
 
-// What goes out is read again, with nothing left, as the commands of the receipt.
-fn is_read_back(rt: &(impl Abort + AllocGlobal), text: &str, line: &str) -> Result<(), Fail> {
-    let receipt = Receipt::from_json(rt.alloc(), text.as_bytes())
-        .ok()
-        .ok_or("receipt")?;
-    let bytes = hex::decode(rt.alloc(), line.trim_end().as_bytes())?;
-    let decoded = decode(rt.alloc(), &[&bytes])?;
+// The commands of a receipt are those that a decoder reads in its line, with nothing left.
+fn is_read_back(rt: &impl Abort, receipt: &Receipt, decoded: &Decoded) {
     assert!(rt; decoded.end == End::Read { half: 0 });
     assert!(rt; decoded.commands.as_slice() == receipt.commands());
-    let mut room = [0; 1024];
-    let mut source = MemoryIn::new(line.as_bytes(), 100);
-    let mut sink = MemoryOut::new(&mut room);
-    assert!(rt; check(rt.alloc(), &mut source, &mut sink) == Status::Good);
-    Ok(())
+}
+
+// The receipt that a text describes.
+fn receipt_of(alloc: Global, text: &str) -> Result<Receipt, Fail> {
+    Ok(
+        Receipt::from_json(alloc, text.as_bytes())
+            .ok()
+            .ok_or("receipt")?,
+    )
 }
 
 #[test]
 fn receipts_are_read_back(rt: HostRuntime) -> Result<(), Fail> {
     for (text, line) in ENCODED {
-        is_read_back(&rt, text, line)?;
+        let bytes = hex::decode(rt.alloc(), line.trim_end().as_bytes())?;
+        let decoded = decode(rt.alloc(), &[&bytes])?;
+        is_read_back(&rt, &receipt_of(rt.alloc(), text)?, &decoded);
     }
     Ok(())
 }
 
-// What a sink with so many bytes of room gets of a receipt's line.
-fn cut_off(rt: &(impl Abort + AllocGlobal), room: &mut [u8]) {
-    let mut source = MemoryIn::new(EVERY_MEMBER.as_bytes(), 100);
-    let mut sink = MemoryOut::new(room);
-    let status = encode(rt.alloc(), &mut source, &mut sink);
-    assert!(rt; status == Status::Device);
-    assert!(rt; EVERY_LINE.as_bytes().starts_with(sink.written()));
-}
-
+// Where a device fails, what went out is the front of the line.
 #[test]
 fn devices_of_encode_fail(rt: HostRuntime) {
     let mut room = [0; 512];
     for count in 0..EVERY_LINE.len() {
-        cut_off(&rt, &mut room[..count]);
+        let mut source = MemoryIn::new(EVERY_MEMBER.as_bytes(), 100);
+        let wanted = (&EVERY_LINE.as_bytes()[..count], Status::Device);
+        let room = &mut room[..count];
+        performs(&rt, rt.alloc(), Ok(Task::Encode), &mut source, room, wanted);
     }
+    let wanted = (b"".as_slice(), Status::Device);
     for from_call in [1, 2, 9] {
         let mut source = MemoryIn::failing(EVERY_MEMBER.as_bytes(), 64, from_call);
-        let mut sink = MemoryOut::new(&mut room);
-        let status = encode(rt.alloc(), &mut source, &mut sink);
-        assert!(rt; status == Status::Device);
-        assert!(rt; sink.written().is_empty());
+        performs(
+            &rt,
+            rt.alloc(),
+            Ok(Task::Encode),
+            &mut source,
+            &mut room,
+            wanted,
+        );
     }
 }
 
@@ -330,36 +309,16 @@ fn commands_are_handed_back(rt: HostRuntime) -> Result<(), Fail> {
     Ok(())
 }
 
-// Each growth refused: `rt try --test --fail-alloc N -- growths_of_receipts` refuses the Nth. Here each succeeds.
+// Each growth refused: `rt try --test --fail-alloc N -- growths_of_receipts` refuses the Nth, and the same call reads the
+// receipt then. Here each succeeds. (`bench/growths` does the same to the built program.)
 #[test]
 fn growths_of_receipts(rt: HostRuntime) -> Result<(), Fail> {
-    let receipt = match Receipt::from_json(rt.alloc(), EVERY_MEMBER.as_bytes()) {
-        Err(JsonError::Memory) => Receipt::from_json(rt.alloc(), EVERY_MEMBER.as_bytes()),
-        answer => answer,
-    };
-    let receipt = receipt.ok().ok_or("receipt")?;
+    if let Err(error) = Receipt::from_json(rt.alloc(), EVERY_MEMBER.as_bytes()) {
+        assert!(rt; error == JsonError::Memory);
+    }
+    let receipt = receipt_of(rt.alloc(), EVERY_MEMBER)?;
     assert!(rt; receipt.commands().len() == 35);
     Ok(())
-}
-
-// Each growth refused: `rt try --test --fail-alloc N -- growths_of_encode` refuses the Nth. Here each succeeds.
-#[test]
-fn growths_of_encode(rt: HostRuntime) {
-    let mut room = [0; 512];
-    let mut source = MemoryIn::new(EVERY_MEMBER.as_bytes(), 64);
-    let mut sink = MemoryOut::new(&mut room);
-    let status = encode(rt.alloc(), &mut source, &mut sink);
-    if status == Status::Memory {
-        assert!(rt; sink.written() == b"memory\n".as_slice());
-        let mut again = MemoryIn::new(EVERY_MEMBER.as_bytes(), 64);
-        let mut sink = MemoryOut::new(&mut room);
-        let status = encode(rt.alloc(), &mut again, &mut sink);
-        assert!(rt; status == Status::Good);
-        assert!(rt; sink.written() == EVERY_LINE.as_bytes());
-    } else {
-        assert!(rt; status == Status::Good);
-        assert!(rt; sink.written() == EVERY_LINE.as_bytes());
-    }
 }
 
 // The example of a member in this line of the help, if it has one.

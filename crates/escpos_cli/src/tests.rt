@@ -306,18 +306,19 @@ fn a_long_listing_goes_out_in_pieces(rt: HostRuntime) -> Result<(), Fail> {
 
 #[test]
 fn each_thing_asked_for(rt: HostRuntime) {
-    let rows: [(Result<Task, NoTask>, &[u8], Status); 5] = [
+    let rows: [(Result<Task, NoTask>, &[u8], Status); 6] = [
         (
             Ok(Task::Check),
             b"0 char 41\n1 lf\nend 2 pending 0\n",
             Status::Good,
         ),
         (Ok(Task::Render), b"row left A\nfeed 1\n", Status::Good),
+        (Ok(Task::Encode), b"refused 6 BadShape 0\n", Status::Refused),
         (Err(NoTask::Help), HELP.as_bytes(), Status::Good),
         (Err(NoTask::Usage), USAGE.as_bytes(), Status::Usage),
         (Err(NoTask::Memory), b"memory\n", Status::Memory),
     ];
-    let mut room = [0; 4096];
+    let mut room = [0; 8192];
     for (asked, output, status) in rows {
         let mut source = MemoryIn::new(b"41 0A", 100);
         let wanted = (output, status);
@@ -332,7 +333,7 @@ fn each_thing_asked_for(rt: HostRuntime) {
 
 #[test]
 fn usage_and_help(rt: HostRuntime) {
-    for word in ["check", "render", "help"] {
+    for word in ["check", "render", "encode", "help"] {
         assert!(rt; USAGE.contains(word));
         assert!(rt; HELP.contains(word));
     }
@@ -342,8 +343,8 @@ fn usage_and_help(rt: HostRuntime) {
 }
 
 // What the help shows of a job of this name that writes these bytes.
-fn shown(alloc: Global, name: &str, written: &[u8]) -> Result<String, Fail> {
-    let mut shown = format!(in alloc; "$ echo '1B 40 48 69 0A 1D 56 00' | escpos_cli {name}\n")?;
+fn shown(alloc: Global, name: &str, input: &str, written: &[u8]) -> Result<String, Fail> {
+    let mut shown = format!(in alloc; "$ echo '{input}' | escpos_cli {name}\n")?;
     for line in str::from_utf8(written)?.lines() {
         shown.push_str("          ")?;
         shown.push_str(line)?;
@@ -355,12 +356,20 @@ fn shown(alloc: Global, name: &str, written: &[u8]) -> Result<String, Fail> {
 // What the help shows of each job is what the job writes.
 #[test]
 fn help_shows_what_the_jobs_write(rt: HostRuntime) -> Result<(), Fail> {
-    for (name, task) in [("check", Task::Check), ("render", Task::Render)] {
-        let mut source = MemoryIn::new(b"1B 40 48 69 0A 1D 56 00", 100);
+    for (name, input, task) in [
+        ("check", "1B 40 48 69 0A 1D 56 00", Task::Check),
+        ("render", "1B 40 48 69 0A 1D 56 00", Task::Render),
+        (
+            "encode",
+            "[{\"line\":\"Hi\"},{\"cut\":\"full\"}]",
+            Task::Encode,
+        ),
+    ] {
+        let mut source = MemoryIn::new(input.as_bytes(), 100);
         let mut sink = Outgoing::new(Vec::new(rt.alloc()));
         let status = perform(rt.alloc(), Ok(task), &mut source, &mut sink);
         assert!(rt; status == Status::Good);
-        let shown = shown(rt.alloc(), name, &sink.into_inner())?;
+        let shown = shown(rt.alloc(), name, input, &sink.into_inner())?;
         assert!(rt; HELP.contains(shown.as_str()));
     }
     Ok(())
@@ -369,14 +378,17 @@ fn help_shows_what_the_jobs_write(rt: HostRuntime) -> Result<(), Fail> {
 // Words, and what they ask for.
 type Asked = (&'static [&'static str], Result<Task, NoTask>);
 
-const ASKED: [Asked; 22] = [
+const ASKED: [Asked; 26] = [
     (&["check"], Ok(Task::Check)),
     (&["render"], Ok(Task::Render)),
+    (&["encode"], Ok(Task::Encode)),
     (&["help"], Err(NoTask::Help)),
     (&["--help"], Err(NoTask::Help)),
     (&["-h"], Err(NoTask::Help)),
     (&["check", "--help"], Err(NoTask::Help)),
     (&["render", "--help"], Err(NoTask::Help)),
+    (&["encode", "--help"], Err(NoTask::Help)),
+    (&["encode", "-h"], Err(NoTask::Help)),
     (&[], Err(NoTask::Usage)),
     (&[""], Err(NoTask::Usage)),
     (&["-"], Err(NoTask::Usage)),
@@ -389,6 +401,7 @@ const ASKED: [Asked; 22] = [
     (&["--version"], Err(NoTask::Usage)),
     (&["check", "--nosuch"], Err(NoTask::Usage)),
     (&["check", "extra"], Err(NoTask::Usage)),
+    (&["encode", "check"], Err(NoTask::Usage)),
     (&["check", "check"], Err(NoTask::Usage)),
     (&["check", "--"], Err(NoTask::Usage)),
     (&["check", "help"], Err(NoTask::Usage)),
