@@ -1,4 +1,4 @@
-//! The receipts of the folder `examples` at the top of the repository, through both jobs.
+//! The receipts of the folder `examples` at the top of the repository, through the jobs.
 //!
 //! A test can't read a file, so each text stands here too; the comment before it names its file. The
 //! script `examples/compare` compares the files with what the built program prints.
@@ -374,10 +374,78 @@ cut full 16
 ",
 };
 
+const GATE_TICKET: Receipt = Receipt {
+    // gate_ticket.hex
+    stream: "\
+1b61011d763003020004000ff0300c300c0ff01b45014741544520370a1b4500526f772031322c207365617420340a1d683c1d48021d6b4407353531323334351b64021d5601
+",
+    // gate_ticket.listing
+    listing: "\
+0 align 01
+3 raster 03 2 4
+19 emphasis 01
+22 char 47
+23 char 41
+24 char 54
+25 char 45
+26 char 20
+27 char 37
+28 lf
+29 emphasis 00
+32 char 52
+33 char 6f
+34 char 77
+35 char 20
+36 char 31
+37 char 32
+38 char 2c
+39 char 20
+40 char 73
+41 char 65
+42 char 61
+43 char 74
+44 char 20
+45 char 34
+46 lf
+47 barheight 3c
+50 hriplace 02
+53 bars 44 35353132333435
+64 feed 02
+67 cut 01
+end 70 pending 0
+",
+    // gate_ticket.paper
+    paper: "\
+raster center both 2 4 0ff0300c300c0ff0
+row center [A,1,1,1,0,0]GATE 7
+feed 1
+row center Row 12, seat 4
+feed 1
+bars center ean8 60 3 below A 55123457
+feed 2
+cut partial
+",
+};
+
+// gate_ticket.json
+const GATE_TICKET_JSON: &str = "\
+[{\"align\":\"center\"},
+ {\"raster\":{\"scale\":\"both\",\"x\":2,\"y\":4,\"dots\":\"0ff0300c300c0ff0\"}},
+ {\"bold\":true},
+ {\"line\":\"GATE 7\"},
+ {\"bold\":false},
+ {\"line\":\"Row 12, seat 4\"},
+ {\"bar_height\":60},
+ {\"hri\":\"below\"},
+ {\"bars\":{\"kind\":\"ean8\",\"content\":\"5512345\"}},
+ {\"feed\":2},
+ {\"cut\":\"partial\"}]
+";
+
 #[test]
 fn receipts_are_listed_and_printed(rt: HostRuntime) {
     let mut room = [0; 4096];
-    for receipt in [COFFEE_BAR, KIOSK_TICKET, KITCHEN_ORDER] {
+    for receipt in [COFFEE_BAR, KIOSK_TICKET, KITCHEN_ORDER, GATE_TICKET] {
         for (task, output) in [
             (Task::Check, receipt.listing),
             (Task::Render, receipt.paper),
@@ -387,4 +455,12 @@ fn receipts_are_listed_and_printed(rt: HostRuntime) {
             performs(&rt, rt.alloc(), Ok(task), &mut source, &mut room, wanted);
         }
     }
+}
+
+#[test]
+fn a_receipt_in_json_gives_its_stream(rt: HostRuntime) {
+    let mut source = MemoryIn::new(GATE_TICKET_JSON.as_bytes(), 64);
+    let wanted = (GATE_TICKET.stream.as_bytes(), Status::Good);
+    let task = Ok(Task::Encode);
+    performs(&rt, rt.alloc(), task, &mut source, &mut [0; 512], wanted);
 }
