@@ -149,10 +149,10 @@ out.
                                      the same after a feed of 0 to 255 units
 
       At the end no text may be left in the line, and none may stand in it at a
-      barcode, an image or a cut. What gives no receipt gives one line `refused
-      N NAME` or `refused N NAME PLACE`: 1 Empty, 3 TextLeft, 4 MidLine (PLACE is
-      that of the command), 5 NotJson, 6 BadShape, 7 ControlByte or 8 NotAscii
-      (PLACE is that of the entry). Places are counted from 0.
+      barcode, an image or a cut. What gives no receipt gives one line, `refused
+      N NAME` or `refused N NAME PLACE`: 1 Empty, 3 TextLeft, 4 MidLine (where
+      PLACE is the command's), 5 NotJson, 6 BadShape, 7 ControlByte, 8 NotAscii
+      (where PLACE is the entry's). Places are counted from 0.
 
   escpos_cli help
       Prints this text; so do --help and -h.
