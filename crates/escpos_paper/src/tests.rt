@@ -7,87 +7,99 @@ use escpos_io::{Device, MemoryOut, Outgoing};
 use std::process::Abort;
 use std::test::Fail;
 
-// A parameter, which has to be in its range.
-fn is<T: Drop>(parameter: Option<T>) -> Result<T, Fail> {
-    match parameter {
-        Some(parameter) => Ok(parameter),
-        None => Err("the parameter is out of range")?,
-    }
+// Carries out a command, for which there is memory.
+fn apply(rt: &impl Abort, page: &mut Page, command: Command) {
+    assert!(rt; page.apply(command).is_ok(), "memory");
 }
 
-fn ch(byte: u8) -> Result<Command, Fail> {
-    Ok(Command::Char(is(Character::new(byte))?))
+// Prints a character.
+fn print(rt: &impl Abort, page: &mut Page, byte: u8) {
+    let character = Character::new(byte).expect(rt, "a printable byte");
+    apply(rt, page, Command::Char(character));
 }
 
-fn expect_text(rt: &impl Abort, page: &Page, text: &[u8]) {
-    let mut room = [0u8; 128];
-    let mut sink = MemoryOut::new(&mut room);
-    assert_eq!(rt; write_items(page.items(), &mut sink), Ok(()));
+// Cuts the paper in this mode.
+fn cut(rt: &impl Abort, page: &mut Page, mode: u8) {
+    let cut = Cut::new(mode).expect(rt, "a mode of a cut");
+    apply(rt, page, Command::Cut(cut));
+}
+
+// The text of a page is written to a sink with this room: it ends so, and this went out.
+fn writes(
+    rt: &impl Abort,
+    page: &Page,
+    room: &mut [u8],
+    (wanted, text): (Result<(), Device>, &[u8]),
+) {
+    let mut sink = MemoryOut::new(room);
+    assert_eq!(rt; write_items(page.items(), &mut sink), wanted);
     assert_eq!(rt; sink.written(), text);
 }
 
+fn expect_text(rt: &impl Abort, page: &Page, text: &[u8]) {
+    writes(rt, page, &mut [0; 128], (Ok(()), text));
+}
+
 #[test]
-fn short_writer(rt: HostRuntime) -> Result<(), Fail> {
+fn short_writer(rt: HostRuntime) {
     let mut page = Page::new(rt.alloc());
-    page.apply(Command::Init)?;
-    page.apply(ch(b'H')?)?;
-    page.apply(ch(b'i')?)?;
-    page.apply(Command::LineFeed)?;
-    page.apply(Command::Cut(is(Cut::new(0))?))?;
+    apply(&rt, &mut page, Command::Init);
+    print(&rt, &mut page, b'H');
+    print(&rt, &mut page, b'i');
+    apply(&rt, &mut page, Command::LineFeed);
+    cut(&rt, &mut page, 0);
     expect_text(&rt, &page, b"row left Hi\nfeed 1\ncut full\n");
-    let mut room = [0u8; 5];
-    let mut sink = MemoryOut::new(&mut room);
-    assert_eq!(rt;
-        write_items(page.items(), &mut sink),
-        Err(Device { written: 5 })
-    );
-    assert_eq!(rt; sink.written(), b"row l".as_slice());
-    Ok(())
+    let short = (Err(Device { written: 5 }), b"row l".as_slice());
+    writes(&rt, &page, &mut [0; 5], short);
 }
 
 #[test]
 fn restart_drops_the_line_and_keeps_the_paper(rt: HostRuntime) -> Result<(), Fail> {
+    let centre = Align::new(1).ok_or("align")?;
     let mut page = Page::new(rt.alloc());
-    page.apply(Command::LineFeed)?;
-    page.apply(Command::Align(is(Align::new(1))?))?;
-    page.apply(ch(b'B')?)?;
+    apply(&rt, &mut page, Command::LineFeed);
+    apply(&rt, &mut page, Command::Align(centre));
+    print(&rt, &mut page, b'B');
     page.restart();
-    page.apply(ch(b'C')?)?;
-    page.apply(Command::LineFeed)?;
+    print(&rt, &mut page, b'C');
+    apply(&rt, &mut page, Command::LineFeed);
     expect_text(&rt, &page, b"feed 1\nrow left C\nfeed 1\n");
     Ok(())
 }
 
 // A new page has no room, and one made ready has room for all that a command can print.
 #[test]
-fn room_for_one_command(rt: HostRuntime) -> Result<(), Fail> {
+fn room_for_one_command(rt: HostRuntime) {
     let mut page = Page::new(rt.alloc());
     assert!(rt; !page.has_room());
-    page.apply(ch(b'A')?)?;
-    page.ready()?;
+    print(&rt, &mut page, b'A');
+    page.ready().expect(&rt, "memory");
     assert!(rt; page.has_room());
-    page.apply(Command::Cut(is(Cut::new(49))?))?;
-    assert_eq!(rt; page.items().len(), 3);
+    cut(&rt, &mut page, 49);
+    assert!(rt; page.items().len() == 3);
     expect_text(&rt, &page, b"row left A\nfeed 1\ncut partial\n");
-    Ok(())
+}
+
+// 100,000 feeds of 255 lines, each on a line of its own.
+fn are_feeds(rt: &impl Abort, text: &[u8]) {
+    assert!(rt; text.len() == 900_000);
+    for line in text.chunks(9) {
+        assert!(rt; line == b"feed 255\n".as_slice());
+    }
 }
 
 // More text than is put together at once.
 #[test]
 fn long_paper(rt: HostRuntime) -> Result<(), Fail> {
+    let feed = FeedLines::new(255).ok_or("feed")?;
     let mut page = Page::new(rt.alloc());
-    let feed = is(FeedLines::new(255))?;
     for _ in 0..100_000 {
-        page.apply(Command::FeedLines(feed))?;
+        apply(&rt, &mut page, Command::FeedLines(feed));
     }
-    assert_eq!(rt; page.items().len(), 100_000);
+    assert!(rt; page.items().len() == 100_000);
     let mut sink = Outgoing::new(Vec::new(rt.alloc()));
-    assert_eq!(rt; write_items(page.items(), &mut sink), Ok(()));
-    let written = sink.into_inner();
-    assert_eq!(rt; written.len(), 900_000);
-    for line in written.chunks(9) {
-        assert!(rt; line == b"feed 255\n".as_slice());
-    }
+    assert!(rt; write_items(page.items(), &mut sink) == Ok(()));
+    are_feeds(&rt, &sink.into_inner());
     Ok(())
 }
 
@@ -95,7 +107,7 @@ fn long_paper(rt: HostRuntime) -> Result<(), Fail> {
 fn cells_have_their_width(rt: HostRuntime) {
     let style = Style::power_on();
     let cell = style.cell(b'a');
-    assert_eq!(rt; cell.dots(), 12);
+    assert!(rt; cell.dots() == 12);
     assert!(rt; cell.style.is_same(&style));
     let bold = Style {
         bold: true,
@@ -105,10 +117,15 @@ fn cells_have_their_width(rt: HostRuntime) {
     assert!(rt; bold != style);
     assert!(rt; bold.cell(b'a') != cell);
     assert!(rt; style.cell(b'b') != cell);
-    assert_eq!(rt; Cell::default().byte, b' ');
+    assert!(rt; Cell::default().byte == b' ');
     let mut cells = Cells::new();
     cells.push(cell);
     assert!(rt; cells.as_slice() == [cell].as_slice());
+}
+
+// Each law can be called.
+#[test]
+fn laws_hold() {
     laws::cells_of_text();
     laws::one_cut();
     laws::initialisation();
@@ -120,11 +137,11 @@ fn cells_have_their_width(rt: HostRuntime) {
 fn check_digits(rt: HostRuntime) {
     assert!(rt; all_digits(b"0123456789"));
     assert!(rt; !all_digits(b"12a"));
-    assert_eq!(rt; check_digit(b"03600029145"), 2);
-    assert_eq!(rt; check_digit(b"5512345"), 7);
-    assert_eq!(rt; check_digit(b"400638133393"), 1);
-    assert_eq!(rt; check_digit(b""), 0);
-    assert_eq!(rt; check_digit(&[b'9'; 100_000]), 0);
+    assert!(rt; check_digit(b"03600029145") == 2);
+    assert!(rt; check_digit(b"5512345") == 7);
+    assert!(rt; check_digit(b"400638133393") == 1);
+    assert!(rt; check_digit(b"") == 0);
+    assert!(rt; check_digit(&[b'9'; 100_000]) == 0);
 }
 
 // The writer fails in the midst of the dots of the largest raster.
@@ -134,18 +151,26 @@ fn a_raster_cut_short(rt: HostRuntime) -> Result<(), Fail> {
     dots[0] = 0xF0;
     let raster = Raster::new(0, 128, 4095, dots)?;
     let mut page = Page::new(rt.alloc());
-    page.apply(Command::Raster(raster))?;
-    let mut room = [0u8; 30];
-    let mut sink = MemoryOut::new(&mut room);
-    assert_eq!(rt;
-        write_items(page.items(), &mut sink),
-        Err(Device { written: 30 })
-    );
-    assert_eq!(rt;
-        sink.written(),
-        b"raster left normal 128 4095 f0".as_slice()
-    );
+    apply(&rt, &mut page, Command::Raster(raster));
+    let text = b"raster left normal 128 4095 f0".as_slice();
+    let short = (Err(Device { written: 30 }), text);
+    writes(&rt, &page, &mut [0; 30], short);
     Ok(())
+}
+
+fn has_content_and_dots(items: &[Item]) -> bool {
+    match items {
+        [
+            Item::Bars { content, added, .. },
+            Item::Raster { dots, x, y, .. },
+        ] => {
+            content.as_slice() == b"5512345".as_slice()
+                && *added == Some(7)
+                && dots.as_slice() == [0xF0, 0x0F].as_slice()
+                && (*x, *y) == (1, 2)
+        }
+        _ => false,
+    }
 }
 
 // The bytes of a content and the dots that lie on paper can be read there.
@@ -154,19 +179,8 @@ fn content_and_dots_on_paper(rt: HostRuntime) -> Result<(), Fail> {
     let ean8 = Bars::new(Form::B, Symbology::Ean8, b"5512345".to_vec(rt.alloc())?)?;
     let picture = Raster::new(0, 1, 2, [0xF0, 0x0F].to_vec(rt.alloc())?)?;
     let mut page = Page::new(rt.alloc());
-    page.apply(Command::Bars(ean8))?;
-    page.apply(Command::Raster(picture))?;
-    match page.items() {
-        [
-            Item::Bars { content, added, .. },
-            Item::Raster { dots, x, y, .. },
-        ] => {
-            assert!(rt; content.as_slice() == b"5512345".as_slice());
-            assert_eq!(rt; *added, Some(7));
-            assert!(rt; dots.as_slice() == [0xF0, 0x0F].as_slice());
-            assert_eq!(rt; (*x, *y), (1, 2));
-        }
-        _ => assert!(rt; false),
-    }
+    apply(&rt, &mut page, Command::Bars(ean8));
+    apply(&rt, &mut page, Command::Raster(picture));
+    assert!(rt; has_content_and_dots(page.items()), "{:?}", page.items());
     Ok(())
 }
