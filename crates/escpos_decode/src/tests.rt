@@ -1,5 +1,8 @@
 //! The worked rows of the decoder, and each call on its happy path. Expected values are those of the
 //! command table.
+//!
+//! A test makes a decoder and lends it to checks, which own little: what a function owns is proved dropped at each way out
+//! of it.
 
 mod comparison;
 mod contents;
@@ -45,13 +48,22 @@ fn five_commands_of(alloc: Global) -> Result<Vec<Command>, Fail> {
 // These pieces give these commands, and end so.
 fn decodes(rt: &impl Abort, alloc: Global, pieces: &[&[u8]], commands: &[Command], end: End) {
     let decoded = decode(alloc, pieces).expect(rt, "memory");
-    assert_eq!(rt; decoded.commands.as_slice(), commands);
-    assert_eq!(rt; decoded.end, end);
+    assert_eq!(rt; decoded.commands.as_slice(), commands, "{pieces:?}");
+    assert_eq!(rt; decoded.end, end, "{pieces:?}");
 }
 
 // Pushes a byte to a decoder, which answers so.
 fn answers(rt: &impl Abort, decoder: &mut Decoder, byte: u8, wanted: Result<Step, DecodeFault>) {
     assert_eq!(rt; decoder.push(byte), wanted);
+}
+
+// The number of bytes of the half command, with nothing of what its contract says of it.
+fn held(decoder: &Decoder) -> usize {
+    decoder.pending_len()
+}
+
+fn holds(rt: &impl Abort, decoder: &Decoder, count: usize) {
+    assert_eq!(rt; held(decoder), count);
 }
 
 // Pushes bytes to a decoder, none of which completes a command.
@@ -79,14 +91,14 @@ fn push_all(decoder: &mut Decoder, bytes: &[u8], commands: &mut Vec<Command>) ->
 fn drops_half(rt: &impl Abort, decoder: &mut Decoder, bytes: &[u8], why: FaultReason) {
     let (last, half) = bytes.split_last().expect(rt, "a byte");
     push_half(rt, decoder, half);
-    assert_eq!(rt; decoder.pending_len(), half.len());
+    holds(rt, decoder, half.len());
     let at = half.len();
     assert_eq!(rt;
         decoder.push(*last),
         Err(DecodeFault::Fault { at, why }),
         "{bytes:?}"
     );
-    assert_eq!(rt; decoder.pending_len(), 0);
+    holds(rt, decoder, 0);
     answers(rt, decoder, 0x0A, Ok(Step::Done(Command::LineFeed)));
 }
 
@@ -120,7 +132,7 @@ fn reads(rt: &impl Abort, alloc: Global, bytes: &[u8], wanted: &Command) {
     assert_eq!(rt; command, *wanted);
 }
 
-// The five commands, from one piece, from two and from single bytes. Of seven bytes the last two are a half command.
+// The five commands, from one piece and from two. Of seven bytes the last two are a half command.
 fn reads_five(rt: &impl Abort, alloc: Global, commands: &[Command]) {
     let end = End::Read { half: 0 };
     decodes(rt, alloc, &[&FIVE], commands, end);
@@ -140,7 +152,7 @@ fn five_commands(rt: HostRuntime) -> Result<(), Fail> {
     let mut one_by_one = Vec::new(rt.alloc());
     push_all(&mut decoder, &FIVE, &mut one_by_one)?;
     assert!(rt; one_by_one == commands);
-    assert_eq!(rt; decoder.pending_len(), 0);
+    holds(&rt, &decoder, 0);
     Ok(())
 }
 
@@ -289,7 +301,7 @@ const SPELLINGS: [&[u8]; 37] = [
     b"\x1DkI\x02{C",
 ];
 
-// The same as a slice: a table as long as this one costs each function that names it.
+// A long table makes the proof of each function that names it long, so the tests read it through this one.
 fn spellings() -> &'static [&'static [u8]] {
     &SPELLINGS
 }
@@ -329,9 +341,9 @@ fn begins_anew_after_a_fault(rt: HostRuntime) -> Result<(), Fail> {
 
 fn clears_half(rt: &impl Abort, decoder: &mut Decoder) {
     push_half(rt, decoder, &[0x1D, 0x56]);
-    assert_eq!(rt; decoder.pending_len(), 2);
+    holds(rt, decoder, 2);
     decoder.clear();
-    assert_eq!(rt; decoder.pending_len(), 0);
+    holds(rt, decoder, 0);
     answers(rt, decoder, 0x0A, Ok(Step::Done(Command::LineFeed)));
 }
 
@@ -343,34 +355,39 @@ fn clear_drops_the_half_command(rt: HostRuntime) {
 
 // The bytes before a parameter, the parameters that are read there (the least and the greatest, and the
 // ends of each range between them), and their nearest neighbours, which are refused.
+const PARAMETERS: [(&[u8], &[u8], &[u8]); 19] = [
+    (&[0x1B, 0x21], &[0, 255], &[]),
+    (&[0x1B, 0x2D], &[0, 2, 48, 50], &[3, 47, 51]),
+    (&[0x1B, 0x45], &[0, 255], &[]),
+    (&[0x1B, 0x4D], &[0, 1, 48, 49], &[2, 47, 50]),
+    (&[0x1B, 0x61], &[0, 2, 48, 50], &[3, 47, 51]),
+    (&[0x1B, 0x64], &[0, 255], &[]),
+    (&[0x1B, 0x74], &[0, 255], &[]),
+    (
+        &[0x1D, 0x21],
+        &[0x00, 0x07, 0x70, 0x77],
+        &[0x08, 0x78, 0x80],
+    ),
+    (&[0x1D, 0x48], &[0, 3, 48, 51], &[4, 47, 52]),
+    (&[0x1D, 0x56], &[0, 1, 48, 49], &[2, 47, 50, 64, 67]),
+    (&[0x1D, 0x56, 65], &[0, 255], &[]),
+    (&[0x1D, 0x56, 66], &[0, 255], &[]),
+    (&[0x1D, 0x66], &[0, 1, 48, 49], &[2, 47, 50]),
+    (&[0x1D, 0x68], &[1, 255], &[0]),
+    (&[0x1D, 0x77], &[2, 6], &[1, 7]),
+    (&[0x10, 0x04], &[1, 4], &[0, 5]),
+    (b"\x1D(H\x06\x0000000", &[32, 126], &[31, 127]),
+    (&[], &[0x20, 0xFF], &[]),
+    (&[], &[0x0A, 0x0D], &[]),
+];
+
+fn parameters() -> &'static [(&'static [u8], &'static [u8], &'static [u8])] {
+    &PARAMETERS
+}
+
 #[test]
 fn least_and_greatest_parameters(rt: HostRuntime) -> Result<(), Fail> {
-    let table: [(&[u8], &[u8], &[u8]); 19] = [
-        (&[0x1B, 0x21], &[0, 255], &[]),
-        (&[0x1B, 0x2D], &[0, 2, 48, 50], &[3, 47, 51]),
-        (&[0x1B, 0x45], &[0, 255], &[]),
-        (&[0x1B, 0x4D], &[0, 1, 48, 49], &[2, 47, 50]),
-        (&[0x1B, 0x61], &[0, 2, 48, 50], &[3, 47, 51]),
-        (&[0x1B, 0x64], &[0, 255], &[]),
-        (&[0x1B, 0x74], &[0, 255], &[]),
-        (
-            &[0x1D, 0x21],
-            &[0x00, 0x07, 0x70, 0x77],
-            &[0x08, 0x78, 0x80],
-        ),
-        (&[0x1D, 0x48], &[0, 3, 48, 51], &[4, 47, 52]),
-        (&[0x1D, 0x56], &[0, 1, 48, 49], &[2, 47, 50, 64, 67]),
-        (&[0x1D, 0x56, 65], &[0, 255], &[]),
-        (&[0x1D, 0x56, 66], &[0, 255], &[]),
-        (&[0x1D, 0x66], &[0, 1, 48, 49], &[2, 47, 50]),
-        (&[0x1D, 0x68], &[1, 255], &[0]),
-        (&[0x1D, 0x77], &[2, 6], &[1, 7]),
-        (&[0x10, 0x04], &[1, 4], &[0, 5]),
-        (&MARK_35[..10], &[32, 126], &[31, 127]),
-        (&[], &[0x20, 0xFF], &[]),
-        (&[], &[0x0A, 0x0D], &[]),
-    ];
-    for (before, read, refused) in table {
+    for (before, read, refused) in parameters() {
         let mut bytes = before.to_vec(rt.alloc())?;
         bytes.push(0)?;
         reads_with_parameters(&rt, rt.alloc(), &mut bytes, read);

@@ -1,7 +1,7 @@
 //! The decoder and the plain reader, compared at each byte of a stream.
 
 use super::plain::{self, Reading};
-use super::push_half;
+use super::{held, push_half};
 use crate::{Ahead, DecodeFault, Decoder, Step};
 use escpos_command::Command;
 use std::alloc::Global;
@@ -33,22 +33,26 @@ pub fn agrees_with_neighbours(rt: &impl Abort, alloc: Global, spelling: &[u8]) {
     }
 }
 
+// What a decoder says and answers, with nothing of what its contract says of that.
+fn ahead(decoder: &Decoder, byte: u8) -> Ahead {
+    decoder.would_complete(byte)
+}
+
+fn push(decoder: &mut Decoder, byte: u8) -> Result<Step, DecodeFault> {
+    decoder.push(byte)
+}
+
 // Whether these bytes are a half command, about which the plain reader and the decoder agree that holds all but the last.
 fn agrees_at(rt: &impl Abort, alloc: Global, decoder: &mut Decoder, bytes: &[u8]) -> bool {
     let (last, half) = bytes.split_last().expect(rt, "a byte");
     let reading = plain::read(rt, alloc, bytes);
     let goes_on = matches!(&reading, Reading::Half);
-    assert!(rt;
-        decoder.would_complete(*last) == ahead_of(&reading),
-        "{bytes:?}"
-    );
-    assert_eq!(rt; decoder.pending_len(), half.len(), "{bytes:?}");
-    assert!(rt;
-        decoder.push(*last) == step_of(reading, half.len()),
-        "{bytes:?}"
-    );
+    assert!(rt; ahead(decoder, *last) == ahead_of(&reading), "{bytes:?}");
+    assert!(rt; held(decoder) == half.len(), "{bytes:?}");
+    let wanted = step_of(reading, half.len());
+    assert!(rt; push(decoder, *last) == wanted, "{bytes:?}");
     let left = if goes_on { bytes.len() } else { 0 };
-    assert_eq!(rt; decoder.pending_len(), left, "{bytes:?}");
+    assert!(rt; held(decoder) == left, "{bytes:?}");
     goes_on
 }
 

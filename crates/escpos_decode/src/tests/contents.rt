@@ -1,7 +1,7 @@
 //! Barcodes and rasters: their worked rows, their shortest and longest contents, and each way in which one is refused.
 
 use super::comparison::agrees;
-use super::{BAD, BARCODE, SIZE, answers, decodes, push_all, push_half, reads, refuses_last};
+use super::{BAD, BARCODE, SIZE, answers, decodes, holds, push_half, reads, refuses_last};
 use crate::{DecodeFault, Decoder, End, Step};
 use escpos_command::{
     BarFault, Bars, Character, Command, FaultReason, Form, Raster, RasterFault, Symbology,
@@ -73,8 +73,10 @@ fn unfinished(rt: HostRuntime) {
     agrees(&rt, rt.alloc(), &LARGEST);
 }
 
-// Each symbology with its modes of form A and form B, its shortest and its longest content.
-const CONTENTS: [(Symbology, u8, u8, Stream, Stream); 7] = [
+// A symbology with its modes of form A and form B, its shortest and its longest content.
+type Contents = (Symbology, u8, u8, Stream, Stream);
+
+static CONTENTS: [Contents; 7] = [
     (
         Symbology::UpcA,
         0,
@@ -127,6 +129,10 @@ const CONTENTS: [(Symbology, u8, u8, Stream, Stream); 7] = [
     ),
 ];
 
+fn contents() -> &'static [Contents] {
+    &CONTENTS
+}
+
 // A barcode in form B, with its length before its content.
 fn reads_counted(
     rt: &impl Abort,
@@ -156,14 +162,14 @@ fn reads_closed(
 #[test]
 fn shortest_and_longest_contents(rt: HostRuntime) -> Result<(), Fail> {
     let alloc = rt.alloc();
-    for (symbology, mode_a, mode_b, shortest, longest) in CONTENTS {
+    for (symbology, mode_a, mode_b, shortest, longest) in contents() {
         for part in [shortest, longest] {
-            let content = bytes_of(alloc, part)?;
-            reads_counted(&rt, alloc, (symbology, mode_b), &content)?;
-            if symbology == Symbology::Code128 {
-                refuses_last(&rt, alloc, &[0x1D, 0x6B, mode_a], BAD);
+            let content = bytes_of(alloc, *part)?;
+            reads_counted(&rt, alloc, (*symbology, *mode_b), &content)?;
+            if *symbology == Symbology::Code128 {
+                refuses_last(&rt, alloc, &[0x1D, 0x6B, *mode_a], BAD);
             } else {
-                reads_closed(&rt, alloc, (symbology, mode_a), &content)?;
+                reads_closed(&rt, alloc, (*symbology, *mode_a), &content)?;
             }
         }
     }
@@ -272,11 +278,11 @@ fn largest_raster(rt: HostRuntime) -> Result<(), Fail> {
     let mut decoder = Decoder::new(rt.alloc());
     push_half(&rt, &mut decoder, &LARGEST);
     push_half(&rt, &mut decoder, &dots[1..]);
-    assert_eq!(rt; decoder.pending_len(), 524_167);
+    holds(&rt, &decoder, 524_167);
     let raster = Raster::new(0, 128, 4095, dots)?;
     let step = Step::Done(Command::Raster(raster));
     answers(&rt, &mut decoder, 0x1D, Ok(step));
-    assert_eq!(rt; decoder.pending_len(), 0);
+    holds(&rt, &decoder, 0);
     Ok(())
 }
 
@@ -343,19 +349,20 @@ fn raster_refusals(rt: HostRuntime) -> Result<(), Fail> {
     Ok(())
 }
 
-// Barcodes and a raster in three parts: the bytes before the content, the content, and what closes it. Last come the
-// first and the last place at which memory is asked for.
-const GROWING: [(&[u8], &[u8], &[u8], usize, usize); 3] = [
-    (b"\x1Dk\x04", b"0123456789ABCDEFGHIJ", b"\x00", 3, 22),
-    (b"\x1DkE\x14", b"0123456789ABCDEFGHIJ", b"", 3, 3),
-    (
-        b"\x1Dv0\x00\x02\x00\x0A\x00",
-        b"0123456789ABCDEFGHIJ",
-        b"",
-        7,
-        7,
-    ),
+// The spelling of a barcode or a raster with this content, and the first and the last place at which memory is asked for.
+type Growing = (&'static [u8], [usize; 2]);
+
+const CONTENT: &[u8] = b"0123456789ABCDEFGHIJ";
+
+const GROWING: [Growing; 3] = [
+    (b"\x1Dk\x040123456789ABCDEFGHIJ\x00", [3, 22]),
+    (b"\x1DkE\x140123456789ABCDEFGHIJ", [3, 3]),
+    (b"\x1Dv0\x00\x02\x00\x0A\x000123456789ABCDEFGHIJ", [7, 7]),
 ];
+
+fn growing() -> &'static [Growing] {
+    &GROWING
+}
 
 // Pushes a byte, which stands at this place of a spelling. Where memory is refused the decoder is unchanged, and takes the
 // byte when it is pushed again; that is so at these places alone.
@@ -366,59 +373,64 @@ fn push_at_last(
     place: usize,
     places: [usize; 2],
 ) -> Result<Step, DecodeFault> {
-    assert_eq!(rt; decoder.pending_len(), place);
+    holds(rt, decoder, place);
     match decoder.push(byte) {
         Err(DecodeFault::Memory) => {
             let [first, last] = places;
             assert!(rt; first <= place && place <= last, "at {place}");
-            assert_eq!(rt; decoder.pending_len(), place);
+            holds(rt, decoder, place);
             decoder.push(byte)
         }
         answer => answer,
     }
 }
 
+// Pushes the spelling of a command, which its last byte completes.
+fn push_growing(
+    rt: &impl Abort,
+    decoder: &mut Decoder,
+    spelling: &[u8],
+    places: [usize; 2],
+) -> Command {
+    let (last, front) = spelling.split_last().expect(rt, "a spelling");
+    for (place, byte) in front.iter().enumerate() {
+        let step = push_at_last(rt, decoder, *byte, place, places);
+        assert!(rt; step == Ok(Step::More), "at {place} of {spelling:?}");
+    }
+    match push_at_last(rt, decoder, *last, front.len(), places) {
+        Ok(Step::Done(command)) => command,
+        _ => panic!(rt; "no command: {spelling:?}"),
+    }
+}
+
 // Here each growth succeeds: `rt try --test --fail-alloc N -- growths_refused` refuses the Nth of the five.
 #[test]
-fn growths_refused(rt: HostRuntime) -> Result<(), Fail> {
-    for (front, content, back, first, last) in GROWING {
+fn growths_refused(rt: HostRuntime) {
+    for (spelling, places) in growing() {
         let mut decoder = Decoder::new(rt.alloc());
-        let mut done = None;
-        for (place, byte) in front.iter().chain(content).chain(back).enumerate() {
-            let step = push_at_last(&rt, &mut decoder, *byte, place, [first, last])?;
-            if let Step::Done(command) = step {
-                done = Some(command);
-            }
-        }
-        let command = done.ok_or("command")?;
-        assert_eq!(rt; command.parts().content, content);
+        let command = push_growing(&rt, &mut decoder, spelling, *places);
+        assert!(rt; command.parts().content == CONTENT, "{spelling:?}");
     }
-    Ok(())
 }
 
 // The room of the content of this command.
-fn room_of(command: Command) -> Result<usize, Fail> {
+fn room_of(rt: &impl Abort, command: Command) -> usize {
     let bytes = match command {
         Command::Bars(bars) => bars.into_content(),
         Command::Raster(raster) => raster.into_dots(),
-        _ => return Err(Fail::new("no content")),
+        _ => panic!(rt; "no content"),
     };
-    Ok(bytes.into_vec().capacity())
+    bytes.into_vec().capacity()
 }
 
 // A content has room of its own size, also where the decoder was cleared within the largest raster.
 #[test]
-fn room_is_modest(rt: HostRuntime) -> Result<(), Fail> {
-    for (front, content, back, _, _) in GROWING {
+fn room_is_modest(rt: HostRuntime) {
+    for (spelling, places) in growing() {
         let mut decoder = Decoder::new(rt.alloc());
         push_half(&rt, &mut decoder, &LARGEST);
         decoder.clear();
-        let mut commands = Vec::new(rt.alloc());
-        for part in [front, content, back] {
-            push_all(&mut decoder, part, &mut commands)?;
-        }
-        let command = commands.pop().ok_or("command")?;
-        assert!(rt; room_of(command)? <= 64);
+        let command = push_growing(&rt, &mut decoder, spelling, *places);
+        assert!(rt; room_of(&rt, command) <= 64, "{spelling:?}");
     }
-    Ok(())
 }
