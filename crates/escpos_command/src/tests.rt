@@ -17,23 +17,51 @@ const MARK_35: &[u8] = b"\x1D(H\x06\x0000000Z";
 
 // Initialise, H, i, a line feed and a cut.
 fn five_commands_of(alloc: Global) -> Result<Vec<Command>, Fail> {
-    let mut commands = Vec::new(alloc);
-    commands.push(Command::Init)?;
+    let cut = Cut::new(0).ok_or("cut")?;
+    let mut commands = vec![in alloc; Command::Init]?;
     for character in chars_of(alloc, b"Hi")? {
         commands.push(character)?;
     }
     commands.push(Command::LineFeed)?;
-    commands.push(Command::Cut(Cut::new(0).ok_or("cut")?))?;
+    commands.push(Command::Cut(cut))?;
     Ok(commands)
+}
+
+// The commands spell these bytes.
+fn spell(rt: &impl Abort, alloc: Global, commands: &[Command], bytes: &[u8]) {
+    let mut out = Vec::new(alloc);
+    for command in commands {
+        command.spell(&mut out).expect(rt, "memory");
+    }
+    assert!(rt; out.as_slice() == bytes, "other bytes were spelled");
+}
+
+// The commands are written to a sink with this room: it ends so, and these bytes went out.
+fn write(
+    rt: &impl Abort,
+    commands: &[Command],
+    room: &mut [u8],
+    (wanted, bytes): (Result<(), Device>, &[u8]),
+) {
+    let mut sink = MemoryOut::new(room);
+    assert_eq!(rt; write_commands(commands, &mut sink), wanted);
+    assert_eq!(rt; sink.written(), bytes);
+}
+
+// The commands are written to a list of bytes, which is this one then.
+fn write_all(rt: &impl Abort, alloc: Global, commands: &[Command], bytes: &[u8]) {
+    let mut sink = Outgoing::new(Vec::new(alloc));
+    assert!(rt; write_commands(commands, &mut sink) == Ok(()));
+    assert!(rt;
+        sink.into_inner().as_slice() == bytes,
+        "other bytes went out"
+    );
 }
 
 #[test]
 fn five_commands(rt: HostRuntime) -> Result<(), Fail> {
-    let mut out = Vec::new(rt.alloc());
-    for command in &five_commands_of(rt.alloc())? {
-        command.spell(&mut out)?;
-    }
-    assert_eq!(rt; out.as_slice(), FIVE);
+    let commands = five_commands_of(rt.alloc())?;
+    spell(&rt, rt.alloc(), &commands, FIVE);
     Ok(())
 }
 
@@ -46,13 +74,13 @@ fn mark_numbers(rt: HostRuntime) -> Result<(), Fail> {
         (1_679_615, *b"ZZZZ"),
     ] {
         let mark = MarkId::of_number(number).ok_or("number")?;
-        assert_eq!(rt; mark.bytes(), id);
-        assert_eq!(rt; MarkId::new(id), Some(mark));
-        assert_eq!(rt; mark.number(), Some(number));
+        assert!(rt; mark.bytes() == id, "{number}");
+        assert!(rt; MarkId::new(id) == Some(mark), "{number}");
+        assert!(rt; mark.number() == Some(number), "{number}");
     }
-    assert_eq!(rt; MarkId::of_number(1_679_616), None);
+    assert!(rt; MarkId::of_number(1_679_616) == None);
     for id in [*b"000a", *b"0 00"] {
-        assert_eq!(rt; MarkId::new(id).ok_or("id")?.number(), None, "{id:?}");
+        assert!(rt; MarkId::new(id).ok_or("id")?.number() == None, "{id:?}");
     }
     Ok(())
 }
@@ -60,12 +88,10 @@ fn mark_numbers(rt: HostRuntime) -> Result<(), Fail> {
 #[test]
 fn mark_35(rt: HostRuntime) -> Result<(), Fail> {
     let mark = Command::Mark(MarkId::of_number(35).ok_or("number")?);
-    let mut out = Vec::new(rt.alloc());
-    mark.spell(&mut out)?;
-    assert_eq!(rt; out.as_slice(), MARK_35);
     let parts = mark.parts();
-    assert_eq!(rt; parts.front, &MARK_35[..7]);
-    assert_eq!(rt; parts.parameters.as_slice(), &MARK_35[7..]);
+    assert!(rt; parts.front == &MARK_35[..7]);
+    assert!(rt; parts.parameters.as_slice() == &MARK_35[7..]);
+    spell(&rt, rt.alloc(), &[mark], MARK_35);
     Ok(())
 }
 
@@ -76,46 +102,46 @@ fn unequal_reasons(rt: HostRuntime) {
     assert!(rt; FaultReason::BadParameter != FaultReason::UnknownByte);
 }
 
+// A text with a control byte at this place.
+fn refuse_chars(rt: &impl Abort, alloc: Global, text: &[u8], place: usize) {
+    let refused = chars_of(alloc, text);
+    assert!(rt; matches!(refused, Err(CharsFault::ControlByte { at }) if at == place));
+}
+
 #[test]
 fn chars_of_text(rt: HostRuntime) -> Result<(), Fail> {
-    let refused = chars_of(rt.alloc(), &[0x41, 0x1B]);
-    assert!(rt; matches!(refused, Err(CharsFault::ControlByte { at: 1 })));
-    let commands = chars_of(rt.alloc(), &[0x41, 0x42])?;
+    refuse_chars(&rt, rt.alloc(), &[0x41, 0x1B], 1);
     let a = Character::new(0x41).ok_or("A")?;
     let b = Character::new(0x42).ok_or("B")?;
-    assert_eq!(rt;
-        commands.as_slice(),
-        [Command::Char(a), Command::Char(b)].as_slice()
-    );
+    let commands = chars_of(rt.alloc(), &[0x41, 0x42])?;
+    assert!(rt; commands.as_slice() == [Command::Char(a), Command::Char(b)].as_slice());
     Ok(())
 }
 
 #[test]
 fn chars_of_a_long_text(rt: HostRuntime) -> Result<(), Fail> {
-    let mut text = vec![in rt.alloc(); b'A'; 5000]?;
-    let commands = chars_of(rt.alloc(), &text)?;
     let a = Character::new(b'A').ok_or("A")?;
-    assert!(rt; commands == vec![in rt.alloc(); Command::Char(a); 5000]?);
+    let mut text = vec![in rt.alloc(); b'A'; 5000]?;
+    are_all(&rt, &chars_of(rt.alloc(), &text)?, 5000, &Command::Char(a));
     text.push(0x1B)?;
-    let refused = chars_of(rt.alloc(), &text);
-    assert!(rt; matches!(refused, Err(CharsFault::ControlByte { at: 5000 })));
+    refuse_chars(&rt, rt.alloc(), &text, 5000);
     Ok(())
+}
+
+// So many commands, each of which is this one.
+fn are_all(rt: &impl Abort, commands: &[Command], count: usize, wanted: &Command) {
+    assert!(rt; commands.len() == count);
+    for command in commands {
+        assert!(rt; command == wanted, "{command:?}");
+    }
 }
 
 #[test]
 fn short_writer(rt: HostRuntime) -> Result<(), Fail> {
     let commands = five_commands_of(rt.alloc())?;
-    let mut room = [0u8; 5];
-    let mut sink = MemoryOut::new(&mut room);
-    assert_eq!(rt;
-        write_commands(&commands, &mut sink),
-        Err(Device { written: 5 })
-    );
-    assert_eq!(rt; sink.written(), [0x1B, 0x40, 0x48, 0x69, 0x0A].as_slice());
-    let mut room = [0u8; 9];
-    let mut sink = MemoryOut::new(&mut room);
-    assert_eq!(rt; write_commands(&commands, &mut sink), Ok(()));
-    assert_eq!(rt; sink.written(), FIVE);
+    let short = (Err(Device { written: 5 }), b"\x1B@Hi\x0A".as_slice());
+    write(&rt, &commands, &mut [0; 5], short);
+    write(&rt, &commands, &mut [0; 9], (Ok(()), FIVE));
     Ok(())
 }
 
@@ -125,14 +151,13 @@ fn small_pieces_go_out_in_order(rt: HostRuntime) -> Result<(), Fail> {
     let mut commands = Vec::new(rt.alloc());
     let mut want = Vec::new(rt.alloc());
     for number in 0..=255u8 {
+        let feed = FeedLines::new(number).expect(&rt, "feed");
         for _ in 0..9 {
-            commands.push(Command::FeedLines(FeedLines::new(number).ok_or("feed")?))?;
+            commands.push(Command::FeedLines(feed))?;
             want.extend_from_slice(&[0x1B, 0x64, number])?;
         }
     }
-    let mut sink = Outgoing::new(Vec::new(rt.alloc()));
-    assert_eq!(rt; write_commands(&commands, &mut sink), Ok(()));
-    assert_eq!(rt; sink.into_inner().as_slice(), want.as_slice());
+    write_all(&rt, rt.alloc(), &commands, &want);
     Ok(())
 }
 
@@ -149,8 +174,8 @@ fn refuse_bars(
     let Err((fault, back)) = refused else {
         return Err(Fail::new("a barcode"));
     };
-    assert_eq!(rt; fault, why, "{symbology:?} {content:?}");
-    assert_eq!(rt; back.as_slice(), content);
+    assert!(rt; fault == why, "{symbology:?} {content:?}");
+    assert!(rt; back.as_slice() == content);
     Ok(())
 }
 
@@ -227,8 +252,8 @@ fn refuse_raster(
     let Err((fault, back)) = refused else {
         return Err(Fail::new("a raster"));
     };
-    assert_eq!(rt; fault, why, "{mode} {size:?}");
-    assert_eq!(rt; back.as_slice(), dots);
+    assert!(rt; fault == why, "{mode} {size:?}");
+    assert!(rt; back.as_slice() == dots);
     Ok(())
 }
 
@@ -245,43 +270,44 @@ fn raster_refusals(rt: HostRuntime) -> Result<(), Fail> {
     refuse_raster(&rt, alloc, 51, [2, 3], &[7; 7], RasterFault::Length)
 }
 
+// The largest raster, of which each dot is set so.
+fn reads_at_places(rt: &impl Abort, raster: &Command) {
+    assert!(rt; raster.spelled_len() == LONGEST_SPELLING);
+    let mut tail = [0u8; 4];
+    assert!(rt; raster.spell_at(524_166, &mut tail) == 2);
+    assert!(rt; raster.spell_at(6, &mut tail) == 4);
+    assert!(rt; tail == [0xFF, 0x0F, 0xA5, 0xA5]);
+}
+
 #[test]
 fn largest_raster(rt: HostRuntime) -> Result<(), Fail> {
     let mut want = b"\x1Dv02\x80\x00\xFF\x0F".to_vec(rt.alloc())?;
     let dots = vec![in rt.alloc(); 0xA5; 524_160]?;
     want.extend_from_slice(&dots)?;
-    let raster = Command::Raster(Raster::new(50, 128, 4095, dots)?);
-    assert_eq!(rt; raster.spelled_len(), LONGEST_SPELLING);
-    let mut out = Vec::new(rt.alloc());
-    raster.spell(&mut out)?;
-    assert!(rt; out == want);
-    let mut tail = [0u8; 4];
-    assert_eq!(rt; raster.spell_at(524_166, &mut tail), 2);
-    assert_eq!(rt; raster.spell_at(6, &mut tail), 4);
-    assert_eq!(rt; tail, [0xFF, 0x0F, 0xA5, 0xA5]);
-    assert!(rt; raster.clone()? == raster);
-    let mut sink = Outgoing::new(Vec::new(rt.alloc()));
-    assert_eq!(rt; write_commands(&[raster], &mut sink), Ok(()));
-    assert!(rt; sink.into_inner() == want);
+    let raster = [Command::Raster(Raster::new(50, 128, 4095, dots)?)];
+    reads_at_places(&rt, &raster[0]);
+    assert!(rt; raster[0].clone()? == raster[0]);
+    spell(&rt, rt.alloc(), &raster, &want);
+    write_all(&rt, rt.alloc(), &raster, &want);
     Ok(())
+}
+
+// Of the spelling from this place on so many bytes are written: these, and what stood after them.
+fn spells_at(rt: &impl Abort, command: &Command, place: usize, count: usize, bytes: &[u8]) {
+    let mut room = [9u8; 4];
+    let out = &mut room[..bytes.len().min(4)];
+    assert!(rt; command.spell_at(place, out) == count, "at {place}");
+    assert!(rt; *out == *bytes, "at {place}: {out:?}");
 }
 
 #[test]
 fn spell_at(rt: HostRuntime) -> Result<(), Fail> {
     let mark = Command::Mark(MarkId::of_number(0).ok_or("number")?);
-    let mut out = [9u8; 3];
-    assert_eq!(rt; mark.spell_at(6, &mut out), 3);
-    assert_eq!(rt; out, *b"000");
-    let mut out = [9u8; 3];
-    assert_eq!(rt; mark.spell_at(11, &mut out), 0);
-    assert_eq!(rt; mark.spell_at(usize::MAX, &mut out), 0);
-    assert_eq!(rt; out, [9; 3]);
+    spells_at(&rt, &mark, 6, 3, b"000");
+    spells_at(&rt, &mark, 11, 0, &[9; 3]);
+    spells_at(&rt, &mark, usize::MAX, 0, &[9; 3]);
     let bars = Command::Bars(Bars::new(Form::A, Symbology::Itf, b"12".to_vec(rt.alloc())?)?);
-    let mut out = [9u8; 4];
-    assert_eq!(rt; bars.spell_at(2, &mut out), 4);
-    assert_eq!(rt; out, *b"\x0512\x00");
-    let mut out = [9u8; 4];
-    assert_eq!(rt; bars.spell_at(4, &mut out), 2);
-    assert_eq!(rt; out, *b"2\x00\x09\x09");
+    spells_at(&rt, &bars, 2, 4, b"\x0512\x00");
+    spells_at(&rt, &bars, 4, 2, b"2\x00\x09\x09");
     Ok(())
 }

@@ -3,6 +3,22 @@
 
 use super::*;
 
+// Appends a barcode of each form that the symbology has, with this content.
+fn push_barcodes(
+    commands: &mut Vec<Command>,
+    alloc: Global,
+    symbology: Symbology,
+    content: &[u8],
+) -> Result<(), Fail> {
+    for form in [Form::A, Form::B] {
+        if symbology.has_form(form) {
+            let bars = Bars::new(form, symbology, content.to_vec(alloc)?)?;
+            commands.push(Command::Bars(bars))?;
+        }
+    }
+    Ok(())
+}
+
 // A barcode of each form and symbology with its longest content.
 fn longest_barcodes_of(alloc: Global) -> Result<Vec<Command>, Fail> {
     let rows: [(Symbology, &[u8], u8, usize, &[u8]); 7] = [
@@ -16,29 +32,33 @@ fn longest_barcodes_of(alloc: Global) -> Result<Vec<Command>, Fail> {
     ];
     let mut commands = Vec::new(alloc);
     for (symbology, first, byte, count, last) in rows {
-        for form in [Form::A, Form::B] {
-            if symbology.has_form(form) {
-                let mut content = first.to_vec(alloc)?;
-                content.extend_from_slice(&vec![in alloc; byte; count]?)?;
-                content.extend_from_slice(last)?;
-                commands.push(Command::Bars(Bars::new(form, symbology, content)?))?;
-            }
+        let mut content = first.to_vec(alloc)?;
+        for _ in 0..count {
+            content.push(byte)?;
         }
+        content.extend_from_slice(last)?;
+        push_barcodes(&mut commands, alloc, symbology, &content)?;
     }
     Ok(commands)
+}
+
+// A command's spelling takes no more room than it needs, and its clone is equal to it.
+fn has_room(rt: &impl Abort, alloc: Global, command: &Command) -> Result<(), Fail> {
+    let mut out = Vec::new(alloc);
+    command.spell(&mut out)?;
+    assert!(rt; out.len() == command.spelled_len());
+    assert!(rt; out.capacity() <= 1024);
+    assert!(rt; laws::same_clone(command)? == *command);
+    Ok(())
 }
 
 // Where there is memory, none is found wanting.
 #[test]
 fn longest_barcodes(rt: HostRuntime) -> Result<(), Fail> {
     let commands = longest_barcodes_of(rt.alloc())?;
-    assert_eq!(rt; commands.len(), 13);
+    assert!(rt; commands.len() == 13);
     for command in &commands {
-        let mut out = Vec::new(rt.alloc());
-        command.spell(&mut out)?;
-        assert_eq!(rt; out.len(), command.spelled_len());
-        assert!(rt; out.capacity() <= 1024);
-        assert!(rt; laws::same_clone(command)? == *command);
+        has_room(&rt, rt.alloc(), command)?;
     }
     Ok(())
 }
@@ -76,21 +96,25 @@ fn unequal_commands(rt: HostRuntime) -> Result<(), Fail> {
         let dots = dots.to_vec(rt.alloc())?;
         commands.push(Command::Raster(Raster::new(mode, width, height, dots)?))?;
     }
-    let barcodes: [(Symbology, &[u8]); 3] = [
+    for (symbology, content) in [
         (Symbology::Itf, b"11"),
         (Symbology::Itf, b"12"),
         (Symbology::Code39, b"11"),
-    ];
-    for form in [Form::A, Form::B] {
-        for (symbology, content) in barcodes {
-            let content = content.to_vec(rt.alloc())?;
-            commands.push(Command::Bars(Bars::new(form, symbology, content)?))?;
-        }
+    ] {
+        push_barcodes(&mut commands, rt.alloc(), symbology, content)?;
     }
+    differ(&rt, &commands);
+    Ok(())
+}
+
+// Each of these commands equals itself and none of the others.
+fn differ(rt: &impl Abort, commands: &[Command]) {
     for (place, one) in commands.iter().enumerate() {
         for (other_place, other) in commands.iter().enumerate() {
-            assert_eq!(rt; one == other, place == other_place);
+            assert!(rt;
+                (one == other) == (place == other_place),
+                "at {place} and {other_place}"
+            );
         }
     }
-    Ok(())
 }
