@@ -92,72 +92,72 @@ impl Write for FailingOnce {
 fn memory_in_gives_a_few_bytes_a_call(rt: HostRuntime) {
     let mut source = MemoryIn::new(b"hello", 2);
     let mut piece = [0u8; 4];
-    assert_eq!(rt; source.pull(&mut piece), Ok(2));
-    assert_eq!(rt; piece, *b"he\0\0");
-    assert_eq!(rt; source.pull(&mut piece), Ok(2));
-    assert_eq!(rt; source.pull(&mut piece), Ok(1));
-    assert_eq!(rt; piece, *b"ol\0\0");
+    assert!(rt; source.pull(&mut piece) == Ok(2));
+    assert!(rt; piece == *b"he\0\0");
+    assert!(rt; source.pull(&mut piece) == Ok(2));
+    assert!(rt; source.pull(&mut piece) == Ok(1));
+    assert!(rt; piece == *b"ol\0\0");
     assert!(rt; !source.has_ended());
-    assert_eq!(rt; source.pull(&mut []), Ok(0));
+    assert!(rt; source.pull(&mut []) == Ok(0));
     assert!(rt; !source.has_ended());
-    assert_eq!(rt; source.pull(&mut piece), Ok(0));
+    assert!(rt; source.pull(&mut piece) == Ok(0));
     assert!(rt; source.has_ended());
     assert!(rt; !source.has_failed());
-    assert_eq!(rt; source.pulls(), 5);
+    assert!(rt; source.pulls() == 5);
 }
 
 #[test]
 fn memory_in_of_most_0_gives_a_byte_a_call(rt: HostRuntime) {
     let mut source = MemoryIn::new(b"ab", 0);
     let mut piece = [0u8; 4];
-    assert_eq!(rt; source.pull(&mut piece), Ok(1));
-    assert_eq!(rt; piece[0], b'a');
+    assert!(rt; source.pull(&mut piece) == Ok(1));
+    assert!(rt; piece[0] == b'a');
 }
 
 #[test]
 fn memory_in_fails_from_its_call_on(rt: HostRuntime) {
     let mut source = MemoryIn::failing(b"hello", 2, 2);
     let mut piece = [0u8; 4];
-    assert_eq!(rt; source.pull(&mut piece), Ok(2));
-    assert_eq!(rt; source.pull(&mut piece), Err(Failed));
+    assert!(rt; source.pull(&mut piece) == Ok(2));
+    assert!(rt; source.pull(&mut piece) == Err(Failed));
     assert!(rt; source.has_failed());
-    assert_eq!(rt; source.pull(&mut piece), Err(Failed));
-    assert_eq!(rt; source.pulls(), 3);
+    assert!(rt; source.pull(&mut piece) == Err(Failed));
+    assert!(rt; source.pulls() == 3);
 }
 
 #[test]
 fn memory_in_that_ended_does_not_fail(rt: HostRuntime) {
     let mut source = MemoryIn::failing(b"hi", 2, 3);
     let mut piece = [0u8; 4];
-    assert_eq!(rt; source.pull(&mut piece), Ok(2));
-    assert_eq!(rt; source.pull(&mut piece), Ok(0));
-    assert_eq!(rt; source.pull(&mut piece), Ok(0));
+    assert!(rt; source.pull(&mut piece) == Ok(2));
+    assert!(rt; source.pull(&mut piece) == Ok(0));
+    assert!(rt; source.pull(&mut piece) == Ok(0));
     assert!(rt; !source.has_failed());
-    assert_eq!(rt; source.pulls(), 3);
+    assert!(rt; source.pulls() == 3);
 }
 
 #[test]
 fn memory_out_fails_once_it_is_full(rt: HostRuntime) {
     let mut room = [0u8; 3];
     let mut sink = MemoryOut::new(&mut room);
-    assert_eq!(rt; sink.put(b"ab"), Ok(2));
-    assert_eq!(rt; sink.put(b"cd"), Ok(1));
-    assert_eq!(rt; sink.put(b""), Ok(0));
+    assert!(rt; sink.put(b"ab") == Ok(2));
+    assert!(rt; sink.put(b"cd") == Ok(1));
+    assert!(rt; sink.put(b"") == Ok(0));
     assert!(rt; !sink.has_failed());
-    assert_eq!(rt; sink.put(b"d"), Err(Failed));
+    assert!(rt; sink.put(b"d") == Err(Failed));
     assert!(rt; sink.has_failed());
-    assert_eq!(rt; sink.put(b""), Err(Failed));
-    assert_eq!(rt; sink.written(), b"abc".as_slice());
+    assert!(rt; sink.put(b"") == Err(Failed));
+    assert!(rt; sink.written() == b"abc".as_slice());
 }
 
 #[test]
 fn memory_out_fails_from_its_call_on(rt: HostRuntime) {
     let mut room = [0u8; 8];
     let mut sink = MemoryOut::failing(&mut room, 2);
-    assert_eq!(rt; sink.put(b"ab"), Ok(2));
-    assert_eq!(rt; sink.put(b"cd"), Err(Failed));
-    assert_eq!(rt; sink.put(b"ef"), Err(Failed));
-    assert_eq!(rt; sink.written(), b"ab".as_slice());
+    assert!(rt; sink.put(b"ab") == Ok(2));
+    assert!(rt; sink.put(b"cd") == Err(Failed));
+    assert!(rt; sink.put(b"ef") == Err(Failed));
+    assert!(rt; sink.written() == b"ab".as_slice());
 }
 
 #[test]
@@ -165,16 +165,16 @@ fn incoming_gives_what_its_reader_has(rt: HostRuntime) {
     let text: &[u8] = b"abc";
     let mut source = Incoming::new(text);
     let mut piece = [0u8; 2];
-    assert_eq!(rt; source.pull(&mut piece), Ok(2));
-    assert_eq!(rt; piece, *b"ab");
-    assert_eq!(rt; source.pull(&mut piece), Ok(1));
-    assert_eq!(rt; piece, *b"cb");
-    assert_eq!(rt; source.pull(&mut piece), Ok(0));
+    assert!(rt; source.pull(&mut piece) == Ok(2));
+    assert!(rt; piece == *b"ab");
+    assert!(rt; source.pull(&mut piece) == Ok(1));
+    assert!(rt; piece == *b"cb");
+    assert!(rt; source.pull(&mut piece) == Ok(0));
     assert!(rt; source.has_ended());
-    assert_eq!(rt; source.pull(&mut piece), Ok(0));
+    assert!(rt; source.pull(&mut piece) == Ok(0));
     assert!(rt; !source.has_failed());
-    assert_eq!(rt; source.pulls(), 4);
-    assert_eq!(rt; source.into_inner().len(), 0);
+    assert!(rt; source.pulls() == 4);
+    assert!(rt; source.into_inner().len() == 0);
 }
 
 #[test]
@@ -187,12 +187,12 @@ fn incoming_stays_failed(rt: HostRuntime) {
     ] {
         let mut source = Incoming::new(ErringOnce { kind, reads: 0 });
         let mut piece = [9u8; 2];
-        assert_eq!(rt; source.pull(&mut piece), Err(Failed));
-        assert_eq!(rt; source.pull(&mut piece), Err(Failed));
-        assert_eq!(rt; piece, [9, 9]);
+        assert!(rt; source.pull(&mut piece) == Err(Failed));
+        assert!(rt; source.pull(&mut piece) == Err(Failed));
+        assert!(rt; piece == [9, 9]);
         assert!(rt; source.has_failed());
-        assert_eq!(rt; source.pulls(), 2);
-        assert_eq!(rt; source.into_inner().reads, 1);
+        assert!(rt; source.pulls() == 2);
+        assert!(rt; source.into_inner().reads == 1);
     }
 }
 
@@ -206,22 +206,22 @@ fn incoming_goes_on_for_many_reads(rt: HostRuntime) {
             Err(ReadError::TooLong)
         )
     );
-    assert_eq!(rt; source.pulls(), 2000);
-    assert_eq!(rt; source.into_inner().reads, 2001);
+    assert!(rt; source.pulls() == 2000);
+    assert!(rt; source.into_inner().reads == 2001);
 }
 
 #[test]
 fn incoming_stays_at_its_end(rt: HostRuntime) {
     let mut source = Incoming::new(EndingOnce { reads: 0 });
     let mut piece = [9u8; 2];
-    assert_eq!(rt; source.pull(&mut piece), Ok(0));
+    assert!(rt; source.pull(&mut piece) == Ok(0));
     assert!(rt; source.has_ended());
-    assert_eq!(rt; source.pull(&mut piece), Ok(0));
-    assert_eq!(rt; piece, [9, 9]);
+    assert!(rt; source.pull(&mut piece) == Ok(0));
+    assert!(rt; piece == [9, 9]);
     assert!(rt; source.has_ended());
     assert!(rt; !source.has_failed());
-    assert_eq!(rt; source.pulls(), 2);
-    assert_eq!(rt; source.into_inner().reads, 1);
+    assert!(rt; source.pulls() == 2);
+    assert!(rt; source.into_inner().reads == 1);
 }
 
 // A read into no room gives 0, and that is no end.
@@ -229,21 +229,21 @@ fn incoming_stays_at_its_end(rt: HostRuntime) {
 fn incoming_does_not_end_at_an_empty_piece(rt: HostRuntime) {
     let text: &[u8] = b"a";
     let mut source = Incoming::new(text);
-    assert_eq!(rt; source.pull(&mut []), Ok(0));
+    assert!(rt; source.pull(&mut []) == Ok(0));
     assert!(rt; !source.has_ended());
     let mut piece = [0u8; 2];
-    assert_eq!(rt; source.pull(&mut piece), Ok(1));
-    assert_eq!(rt; piece[0], b'a');
+    assert!(rt; source.pull(&mut piece) == Ok(1));
+    assert!(rt; piece[0] == b'a');
 }
 
 #[test]
 fn outgoing_puts_into_its_writer(rt: HostRuntime) {
     let mut sink = Outgoing::new(Vec::new(rt.alloc()));
-    assert_eq!(rt; sink.put(b"ab"), Ok(2));
-    assert_eq!(rt; sink.put(b""), Ok(0));
-    assert_eq!(rt; put_all(b"cde", &mut sink), Ok(()));
+    assert!(rt; sink.put(b"ab") == Ok(2));
+    assert!(rt; sink.put(b"") == Ok(0));
+    assert!(rt; put_all(b"cde", &mut sink) == Ok(()));
     assert!(rt; !sink.has_failed());
-    assert_eq!(rt; sink.into_inner().as_slice(), b"abcde".as_slice());
+    assert!(rt; sink.into_inner().as_slice() == b"abcde".as_slice());
 }
 
 // However large a piece is, a writer that takes it gets it whole.
@@ -251,7 +251,7 @@ fn outgoing_puts_into_its_writer(rt: HostRuntime) {
 fn outgoing_takes_a_large_piece(rt: HostRuntime) -> Result<(), Fail> {
     let bytes = vec![in rt.alloc(); 7u8; 100_000]?;
     let mut sink = Outgoing::new(Vec::new(rt.alloc()));
-    assert_eq!(rt; put_all(&bytes, &mut sink), Ok(()));
+    assert!(rt; put_all(&bytes, &mut sink) == Ok(()));
     assert!(rt; sink.into_inner() == bytes);
     Ok(())
 }
@@ -259,17 +259,17 @@ fn outgoing_takes_a_large_piece(rt: HostRuntime) -> Result<(), Fail> {
 #[test]
 fn outgoing_stays_failed(rt: HostRuntime) {
     let mut stuck = Outgoing::new(StuckOnce { writes: 0 });
-    assert_eq!(rt; stuck.put(b"ab"), Err(Failed));
-    assert_eq!(rt; stuck.put(b"ab"), Err(Failed));
+    assert!(rt; stuck.put(b"ab") == Err(Failed));
+    assert!(rt; stuck.put(b"ab") == Err(Failed));
     assert!(rt; stuck.has_failed());
-    assert_eq!(rt; stuck.into_inner().writes, 1);
+    assert!(rt; stuck.into_inner().writes == 1);
     let mut failing = Outgoing::new(FailingOnce {
         writes: 0,
         flushes: 0,
     });
-    assert_eq!(rt; failing.put(b"ab"), Err(Failed));
-    assert_eq!(rt; failing.put(b"ab"), Err(Failed));
-    assert_eq!(rt; failing.into_inner().writes, 1);
+    assert!(rt; failing.put(b"ab") == Err(Failed));
+    assert!(rt; failing.put(b"ab") == Err(Failed));
+    assert!(rt; failing.into_inner().writes == 1);
 }
 
 // When bytes are flushed is left to the writer and its owner.
@@ -279,35 +279,35 @@ fn outgoing_flushes_nothing(rt: HostRuntime) {
         writes: 1,
         flushes: 0,
     });
-    assert_eq!(rt; sink.put(b"ab"), Ok(2));
+    assert!(rt; sink.put(b"ab") == Ok(2));
     let writer = sink.into_inner();
-    assert_eq!(rt; writer.writes, 2);
-    assert_eq!(rt; writer.flushes, 0);
+    assert!(rt; writer.writes == 2);
+    assert!(rt; writer.flushes == 0);
 }
 
 #[test]
 fn put_all_says_how_much_was_written(rt: HostRuntime) {
     let mut room = [0u8; 5];
     let mut sink = MemoryOut::new(&mut room);
-    assert_eq!(rt; put_all(b"abcdefg", &mut sink), Err(Device { written: 5 }));
-    assert_eq!(rt; sink.written(), b"abcde".as_slice());
-    assert_eq!(rt; put_all(b"h", &mut sink), Err(Device { written: 0 }));
-    assert_eq!(rt; put_all(b"", &mut sink), Ok(()));
+    assert!(rt; put_all(b"abcdefg", &mut sink) == Err(Device { written: 5 }));
+    assert!(rt; sink.written() == b"abcde".as_slice());
+    assert!(rt; put_all(b"h", &mut sink) == Err(Device { written: 0 }));
+    assert!(rt; put_all(b"", &mut sink) == Ok(()));
     let mut room = [0u8; 5];
     let mut sink = MemoryOut::taking(&mut room, 2);
-    assert_eq!(rt; put_all(b"abcde", &mut sink), Ok(()));
-    assert_eq!(rt; sink.written(), b"abcde".as_slice());
+    assert!(rt; put_all(b"abcde", &mut sink) == Ok(()));
+    assert!(rt; sink.written() == b"abcde".as_slice());
 }
 
 #[test]
 fn read_to_end_up_to_a_limit(rt: HostRuntime) -> Result<(), Fail> {
     let mut source = MemoryIn::new(b"hello", 2);
     let all = read_to_end(rt.alloc(), &mut source, 5).map_err(name_of)?;
-    assert_eq!(rt; all.as_slice(), b"hello".as_slice());
+    assert!(rt; all.as_slice() == b"hello".as_slice());
     assert!(rt; source.has_ended());
     let mut source = MemoryIn::new(b"hello", 2);
     let all = read_to_end(rt.alloc(), &mut source, usize::MAX).map_err(name_of)?;
-    assert_eq!(rt; all.as_slice(), b"hello".as_slice());
+    assert!(rt; all.as_slice() == b"hello".as_slice());
     let mut source = MemoryIn::new(b"hello", 9);
     assert!(rt;
         matches!(
@@ -332,7 +332,7 @@ fn read_to_end_of_a_large_input(rt: HostRuntime) -> Result<(), Fail> {
     let mut source = MemoryIn::new(&bytes, 1 << 20);
     let all = read_to_end(rt.alloc(), &mut source, len).map_err(name_of)?;
     assert!(rt; all == bytes);
-    assert_eq!(rt; source.pulls(), 81);
+    assert!(rt; source.pulls() == 81);
     Ok(())
 }
 
@@ -356,14 +356,14 @@ fn read_to_end_up_to_no_byte(rt: HostRuntime) -> Result<(), Fail> {
 #[test]
 fn read_to_end_of_a_failed_source(rt: HostRuntime) {
     let mut source = MemoryIn::failing(b"hello", 2, 1);
-    assert_eq!(rt; source.pull(&mut [0]), Err(Failed));
+    assert!(rt; source.pull(&mut [0]) == Err(Failed));
     assert!(rt;
         matches!(
             read_to_end(rt.alloc(), &mut source, 5),
             Err(ReadError::Failed)
         )
     );
-    assert_eq!(rt; source.pulls(), 1);
+    assert!(rt; source.pulls() == 1);
     let mut source = MemoryIn::failing(b"hello", 5, 2);
     assert!(rt;
         matches!(
@@ -371,7 +371,7 @@ fn read_to_end_of_a_failed_source(rt: HostRuntime) {
             Err(ReadError::Failed)
         )
     );
-    assert_eq!(rt; source.pulls(), 2);
+    assert!(rt; source.pulls() == 2);
 }
 
 fn name_of(error: ReadError) -> &'static str {
@@ -391,9 +391,9 @@ fn a_large_piece_goes_out_in_order(rt: HostRuntime) -> Result<(), Fail> {
     gather.put(&[7; 20000], &mut sink)?;
     gather.flush(&mut sink)?;
     let out = sink.into_inner();
-    assert_eq!(rt; out.len(), 20001);
-    assert_eq!(rt; out[0], 9);
-    assert_eq!(rt; out[20000], 7);
+    assert!(rt; out.len() == 20001);
+    assert!(rt; out[0] == 9);
+    assert!(rt; out[20000] == 7);
     Ok(())
 }
 
@@ -417,14 +417,14 @@ impl Piece for Doubled {
 fn pieces_go_out_in_order(rt: HostRuntime) {
     let pieces = [Doubled(1), Doubled(2), Doubled(3)];
     let mut sink = Outgoing::new(Vec::new(rt.alloc()));
-    assert_eq!(rt; put_pieces(&pieces, &mut sink), Ok(()));
-    assert_eq!(rt; sink.into_inner().as_slice(), [1, 1, 2, 2, 3, 3].as_slice());
+    assert!(rt; put_pieces(&pieces, &mut sink) == Ok(()));
+    assert!(rt; sink.into_inner().as_slice() == [1, 1, 2, 2, 3, 3].as_slice());
     let mut room = [0u8; 6];
     let mut sink = MemoryOut::taking(&mut room, 1);
-    assert_eq!(rt; put_pieces(&pieces, &mut sink), Ok(()));
-    assert_eq!(rt; sink.written(), [1, 1, 2, 2, 3, 3].as_slice());
+    assert!(rt; put_pieces(&pieces, &mut sink) == Ok(()));
+    assert!(rt; sink.written() == [1, 1, 2, 2, 3, 3].as_slice());
     let none: [Doubled; 0] = [];
-    assert_eq!(rt; put_pieces(&none, &mut sink), Ok(()));
+    assert!(rt; put_pieces(&none, &mut sink) == Ok(()));
     assert!(rt; !sink.has_failed());
 }
 
@@ -436,13 +436,14 @@ fn pieces_stop_where_the_sink_is_full(rt: HostRuntime) {
     for len in 0..6 {
         let mut room = [0u8; 6];
         let mut sink = MemoryOut::new(&mut room[..len]);
-        assert_eq!(rt;
-            put_pieces(&pieces, &mut sink),
-            Err(Device {
-                written: len as u128
-            })
+        assert!(rt;
+            put_pieces(&pieces, &mut sink)
+                == Err(Device {
+                    written: len as u128
+                }),
+            "with room for {len}"
         );
-        assert_eq!(rt; sink.written(), &all[..len]);
+        assert!(rt; sink.written() == &all[..len], "with room for {len}");
         assert!(rt; sink.has_failed());
     }
 }
@@ -453,26 +454,24 @@ fn pieces_stop_where_the_sink_is_full(rt: HostRuntime) {
 fn many_pieces_go_out_in_large_ones(rt: HostRuntime) {
     let pieces = [Doubled(7); 10000];
     let mut sink = Outgoing::new(Vec::new(rt.alloc()));
-    assert_eq!(rt; put_pieces(&pieces, &mut sink), Ok(()));
-    assert_eq!(rt; sink.into_inner().as_slice(), [7; 20000].as_slice());
+    assert!(rt; put_pieces(&pieces, &mut sink) == Ok(()));
+    assert!(rt; sink.into_inner().as_slice() == [7; 20000].as_slice());
     for len in [0, 1, 16383, 16384, 16385, 19999] {
         let mut room = [0u8; 20000];
         let mut sink = MemoryOut::new(&mut room[..len]);
-        assert_eq!(rt;
-            put_pieces(&pieces, &mut sink),
-            Err(Device {
-                written: len as u128
-            })
+        assert!(rt;
+            put_pieces(&pieces, &mut sink)
+                == Err(Device {
+                    written: len as u128
+                }),
+            "with room for {len}"
         );
-        assert_eq!(rt; sink.written().len(), len);
+        assert!(rt; sink.written().len() == len, "with room for {len}");
     }
     let mut room = [0u8; 20000];
     let mut sink = MemoryOut::failing(&mut room, 2);
-    assert_eq!(rt;
-        put_pieces(&pieces, &mut sink),
-        Err(Device { written: 16384 })
-    );
-    assert_eq!(rt; sink.written().len(), 16384);
+    assert!(rt; put_pieces(&pieces, &mut sink) == Err(Device { written: 16384 }));
+    assert!(rt; sink.written().len() == 16384);
 }
 
 // Five bytes, a slice that may be longer than what is kept back at most, and a closing byte.
@@ -516,7 +515,7 @@ fn large_pieces_go_out_in_order(rt: HostRuntime) -> Result<(), Fail> {
     let all = framed_bytes(rt.alloc(), 3)?;
     let mut room = vec![in rt.alloc(); 0u8; 150_018]?;
     let mut sink = MemoryOut::taking(&mut room, 999);
-    assert_eq!(rt; put_pieces(&pieces, &mut sink), Ok(()));
+    assert!(rt; put_pieces(&pieces, &mut sink) == Ok(()));
     assert!(rt; sink.written() == all.as_slice());
     Ok(())
 }
@@ -532,14 +531,15 @@ fn large_pieces_stop_where_the_sink_is_full(rt: HostRuntime) -> Result<(), Fail>
     ] {
         let mut room = vec![in rt.alloc(); 0u8; len]?;
         let mut sink = MemoryOut::taking(&mut room, 999);
-        assert_eq!(rt;
-            put_pieces(&pieces, &mut sink),
-            Err(Device {
-                written: len as u128
-            })
+        assert!(rt;
+            put_pieces(&pieces, &mut sink)
+                == Err(Device {
+                    written: len as u128
+                }),
+            "with room for {len}"
         );
-        assert_eq!(rt; sink.written().len(), len);
-        assert!(rt; all.starts_with(sink.written()));
+        assert!(rt; sink.written().len() == len, "with room for {len}");
+        assert!(rt; all.starts_with(sink.written()), "with room for {len}");
         assert!(rt; sink.has_failed());
     }
     Ok(())
@@ -566,10 +566,10 @@ fn room_puts_what_is_kept_back(rt: HostRuntime) -> Result<(), Fail> {
     let mut gather = Gather::new();
     gather.put(b"abc", &mut sink)?;
     gather.room(GATHERED_BYTES - 3, &mut sink)?;
-    assert_eq!(rt; sink.written().len(), 0);
+    assert!(rt; sink.written().len() == 0);
     gather.room(GATHERED_BYTES - 2, &mut sink)?;
-    assert_eq!(rt; sink.written(), b"abc".as_slice());
+    assert!(rt; sink.written() == b"abc".as_slice());
     gather.push(b'd');
-    assert_eq!(rt; gather.flush(&mut sink), Err(Device { written: 3 }));
+    assert!(rt; gather.flush(&mut sink) == Err(Device { written: 3 }));
     Ok(())
 }
