@@ -1,11 +1,13 @@
 -- What one more command does: whether there is text in the line then, and whether each command may follow those before it.
-use Rattle.std.proofs.Common.{◌≡◌, ℕ, List, [], ◌∷◌, ◌++◌, ◌⊎◌, inl, inr, refl, sym, ◌∙◌, ap, subst, append_assoc, append-nil, Bool, true, false, cond}
+use Rattle.std.proofs.Common.{◌≡◌, ◌+◌, ◌<◌, ℕ, List, [], ◌∷◌, ◌++◌, ◌⊎◌, inl, inr, refl, sym, ◌∙◌, ap, subst, append_assoc, append-nil, arith, take, drop, get_or, Bool, true, false, cond}
 use Rattle.std.specs.Prelude.{◌||◌, ◌&&◌, ◌==◌, not, length}
 use Rattle.std.specs.List.{list_any}
+use Rattle.std.proofs.lemmas.List.{length-take-le}
 use Rattle.std.proofs.lemmas.List.Folds.{list_any-append}
 use Rattle.escpos_command.specs.declared.command.Command.{Command}
 use Rattle.escpos_command.specs.Text.{text, ends_text, characters}
-use Rattle.escpos_host.specs.Whole.{EachMayFollow, MayFollow, has_text, is_nonempty}
+use Rattle.escpos_host.specs.Whole.{EachMayFollow, MayFollow, StandsFirst, has_text, is_nonempty}
+use Rattle.escpos_host.proofs.Fronts.{split_at}
 
 -- ## Text
 
@@ -84,3 +86,8 @@ one_more_follows cs c each last before d following e = elim (split_snoc cs befor
   | inl same ↦ subst (λ b. MayFollow b d) (sym same.0) (subst (λ k. MayFollow cs k) (sym same.1) last)
   | inr within ↦ each before d within.0 within.1
 ]
+
+-- A command in a list whose front before it is in place.
+pub stands_at : (cs : List Command) (i : ℕ) (c : Command) → i < length cs → c ≡ get_or cs i c → EachMayFollow (take i cs) → StandsFirst cs i (take i cs) c
+stands_at cs i c inside is each =
+    record { following = drop (i + 1) cs; split = split_at cs i c inside is; place = length-take-le i cs (omega (arith, inside)); in_place = each }

@@ -1,8 +1,7 @@
-use Rattle.std.proofs.Common.{◌≡◌, ◌+◌, take, drop, true, false, refl, sym, ◌∙◌, ap, subst, arith}
-use Rattle.std.proofs.lemmas.List.{length-take-le}
+use Rattle.std.proofs.Common.{◌≡◌, take, true, false, refl, sym, ◌∙◌, ap, subst, arith}
 use Rattle.escpos_host.specs.Whole.{EachMayFollow, MayFollow, has_text}
-use Rattle.escpos_host.proofs.Following.{none_follows, one_more_follows, some_command}
-use Rattle.escpos_host.proofs.Fronts.{all_of, one_longer, split_at}
+use Rattle.escpos_host.proofs.Following.{none_follows, one_more_follows, some_command, stands_at}
+use Rattle.escpos_host.proofs.Fronts.{all_of, one_longer}
 use Rattle.escpos_host.proofs.receipt.fault_of.Goals as goal
 use Rattle.escpos_host.proofs.receipt.fault_of.Goals.{else-has_text-via-then-has_text+else-needs_empty_line, else-has_text-via-else-has_text}
 
@@ -16,12 +15,7 @@ returns-then-is_forbidden c =
     let x = c.index-commands-at.result in (
       take i cs,
       x,
-      record {
-        following = drop (i + 1) cs;
-        split = split_at cs i x c.loop-at-test.true c.index-commands-at.is;
-        place = length-take-le i cs (omega arith);
-        in_place = c.loop-at.invariant.each;
-      },
+      stands_at cs i x c.loop-at-test.true c.index-commands-at.is c.loop-at.invariant.each,
       sym c.is_forbidden.ensures ∙ c.if-is_forbidden.true,
     )
 
@@ -32,12 +26,7 @@ returns-then-needs_empty_line c =
     let x = c.index-commands-at.result in (
       take i cs,
       x,
-      record {
-        following = drop (i + 1) cs;
-        split = split_at cs i x c.loop-at-test.true c.index-commands-at.is;
-        place = length-take-le i cs (omega arith);
-        in_place = c.loop-at.invariant.each;
-      },
+      stands_at cs i x c.loop-at-test.true c.index-commands-at.is c.loop-at.invariant.each,
       sym c.needs_empty_line.ensures ∙ c.if-needs_empty_line.true,
       sym c.loop-at.invariant.flag ∙ c.if-has_text.true,
     )
