@@ -4,3 +4,4 @@ pub mod Mapped
 pub mod Listings
 pub mod Reports
 pub mod Spellings
+pub mod Encodings

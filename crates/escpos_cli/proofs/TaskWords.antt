@@ -1,5 +1,5 @@
 -- What `clap` makes of the program's words.
-use Rattle.std.proofs.Common.{◌≡◌, ◌⊎◌, ◌∙◌, ◌||◌, ℕ, zero, suc, Bool, true, false, List, [], ◌∷◌, length, Option, Some, None, Result, option_map, codes, refl, sym, ap, subst, inl, inr, arith, Contains}
+use Rattle.std.proofs.Common.{◌≡◌, ◌⊎◌, ◌∙◌, ◌||◌, zero, suc, Bool, true, false, List, [], ◌∷◌, length, Option, Some, None, Result, option_map, codes, refl, sym, ap, subst, inl, inr, arith, Contains}
 use Rattle.std.specs.Prelude.{if◌then◌else◌}
 use Rattle.std.specs.Box.{box_value}
 use Rattle.std.specs.Str.{bytes_eq}

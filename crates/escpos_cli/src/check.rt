@@ -25,6 +25,7 @@ pub fn check<R: ByteIn, W: ByteOut>(alloc: Global, input: &mut R, output: &mut W
     ensures checks { IfSome (R.to_come input.old) (λ text. Checks (outcome (W.written output.old) (W.written output.new) (W.failed output.new) result) text) }
     ensures fair { IsFair result (R.failed input.new) (W.failed output.old, W.failed output.new)
         (R.pull_count input.old, R.pull_count input.new) }
+    ensures nothing_put { IsTrue (R.failed input.new) → output.new ≡ output.old }
 {
     run::<R, W, Listing>(alloc, input, output)
 }

@@ -1,12 +1,14 @@
 //! The job `encode`: a receipt in JSON as the bytes of its commands, in hexadecimal.
 
-ghost use Rattle.std.specs.Prelude.{◌≡◌, ◌≢◌, IfSome, IsTrue};
+ghost use Rattle.std.specs.Prelude.{◌≡◌, ◌≢◌, Err, IfOk, IfSome, IsTrue};
 ghost use Rattle.hex.specs.Hex.{encode_lower};
 ghost use Rattle.escpos_command.specs.CommandTable.{row, spell};
 ghost use Rattle.escpos_io.specs.Giving.{IsGiven};
 ghost use Rattle.escpos_io.specs.Putting.{passage};
 ghost use Rattle.escpos_cli.specs.Encode.{Encodes, EncodesText, digits_line};
-ghost use Rattle.escpos_cli.specs.Outcome.{IsFair, Says, outcome};
+ghost use Rattle.escpos_host.specs.declared.json.JsonFault.{JsonFault};
+ghost use Rattle.escpos_cli.specs.Outcome.{IsFair, Says, memory_line, outcome};
+ghost use Rattle.escpos_cli.specs.Refusal.{refusal_line};
 
 use crate::input::{INPUT_LIMIT, InputFault};
 use crate::outcome::{MEMORY, refuse, say};
@@ -27,6 +29,7 @@ pub fn encode<R: ByteIn, W: ByteOut>(alloc: Global, input: &mut R, output: &mut 
     ensures encodes { IfSome (R.to_come input.old) (λ text. Encodes (outcome (W.written output.old) (W.written output.new) (W.failed output.new) result) text) }
     ensures fair { IsFair result (R.failed input.new) (W.failed output.old, W.failed output.new)
         (R.pull_count input.old, R.pull_count input.new) }
+    ensures nothing_put { IsTrue (R.failed input.new) → output.new ≡ output.old }
 {
     match read_to_end(alloc, input, INPUT_LIMIT) {
         Ok(text) => encode_text(alloc, &text, output),
@@ -41,7 +44,22 @@ fn encode_text<W: ByteOut>(alloc: Global, text: &[u8], output: &mut W) -> Status
     ensures not_hidden { result ≢ Status.Device → ¬ IsTrue (W.failed output.old) → ¬ IsTrue (W.failed output.new) }
     ensures never_usage { result ≢ Status.Usage }
 {
-    match Receipt::from_json(alloc, text) {
+    answer(Receipt::from_json(alloc, text), output)
+}
+
+// Puts the line of a receipt, or the line that says why there is none.
+fn answer<W: ByteOut>(read: Result<Receipt, JsonError>, output: &mut W) -> Status
+    ensures receipt { IfOk read (λ receipt.
+        Says (outcome (W.written output.old) (W.written output.new) (W.failed output.new) result) (digits_line receipt) Status.Good) }
+    ensures refused { (fault : JsonFault) → read ≡ Err (JsonError.Refused fault) →
+        Says (outcome (W.written output.old) (W.written output.new) (W.failed output.new) result) (refusal_line fault) Status.Refused }
+    ensures memory { read ≡ Err JsonError.Memory →
+        Says (outcome (W.written output.old) (W.written output.new) (W.failed output.new) result) memory_line Status.Memory }
+    ensures device { result ≡ Status.Device → IsTrue (W.failed output.new) }
+    ensures never_usage { result ≢ Status.Usage }
+    ensures not_hidden { result ≢ Status.Device → ¬ IsTrue (W.failed output.old) → ¬ IsTrue (W.failed output.new) }
+{
+    match read {
         Ok(receipt) => put_line(receipt.commands(), output),
         Err(JsonError::Refused(fault)) => refuse_receipt(fault, output),
         Err(JsonError::Memory) => say(MEMORY, output, Status::Memory),

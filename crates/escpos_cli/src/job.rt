@@ -79,6 +79,7 @@ pub fn run<R: ByteIn, W: ByteOut, J: Job<W>>(alloc: Global, input: &mut R, outpu
         Runs J.shape (outcome (W.written output.old) (W.written output.new) (W.failed output.new) result) text) }
     ensures fair { IsFair result (R.failed input.new) (W.failed output.old, W.failed output.new)
         (R.pull_count input.old, R.pull_count input.new) }
+    ensures nothing_put { IsTrue (R.failed input.new) → output.new ≡ output.old }
 {
     match hexadecimal_input(alloc, input) {
         Ok(bytes) => report::<W, J>(alloc, &bytes, output),

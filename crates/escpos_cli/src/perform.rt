@@ -45,6 +45,7 @@ pub fn perform<R: ByteIn, W: ByteOut>(
     ensures usage_only { result ≡ Status.Usage → asked ≡ Err NoTask.Usage }
     ensures unread { IsErr asked → input.new ≡ input.old }
     ensures all_read { IsOk asked → result ≢ Status.Device → ¬ IsTrue (R.failed input.new) }
+    ensures nothing_put { IsOk asked → IsTrue (R.failed input.new) → output.new ≡ output.old }
     ensures pulls { R.pull_count input.new ≤ R.pull_count input.old + INPUT_LIMIT + 1 }
 {
     match asked {

@@ -1,6 +1,6 @@
 //! The words of the command line: which task they name, and what is said where they name none.
 
-ghost use Rattle.std.specs.Prelude.{◌≡◌, ◌⊎◌, [], ◌∷◌, IfErr, IfOk, Contains, codes, drop, map, option_map};
+ghost use Rattle.std.specs.Prelude.{◌≡◌, ◌≢◌, ◌⊎◌, [], ◌∷◌, IfErr, IfOk, Contains, codes, drop, map, option_map};
 ghost use Rattle.clap.specs.Words.{HasKind, IsAmong, fault_of, kind_of, subcommand_name_of, subcommand_of};
 ghost use Rattle.escpos_cli.specs.declared.task.Task.{Task};
 ghost use Rattle.escpos_cli.specs.Task.{command_words, help_words, name_of, no_task_of, words_of};
@@ -190,6 +190,7 @@ fn task_named(name: Option<&str>, count: usize) -> Result<Task, NoTask>
     ensures task { IfOk result (λ task. (option_map (λ s. s.now) name.entry ≡ Some (name_of task)) × (count ≡ 1)) }
     ensures named { (task : Task) → option_map (λ s. s.now) name.entry ≡ Some (name_of task) → count ≡ 1 → result ≡ Ok task }
     ensures help { option_map (λ s. s.now) name.entry ≡ Some (codes "help") → count ≡ 1 → result ≡ Err NoTask.Help }
+    ensures no_memory { result ≢ Err NoTask.Memory }
     ensures help_only { result ≡ Err NoTask.Help → (option_map (λ s. s.now) name.entry ≡ Some (codes "help")) × (count ≡ 1) }
 {
     match name {

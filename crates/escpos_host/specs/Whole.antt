@@ -9,17 +9,55 @@ use Rattle.escpos_host.specs.declared.receipt.ReceiptFault.TheVariants as fault
 -- No receipt has this command: the host puts Init before a receipt itself, and the answers to status requests and marks tell
 -- it how far the printer is.
 abbrev pub is_forbidden : Command → Bool
+is_forbidden (kind.Char b) = false
+is_forbidden kind.LineFeed = false
+is_forbidden kind.Return = false
 is_forbidden kind.Init = true
+is_forbidden (kind.Mode n) = false
+is_forbidden (kind.Emphasis n) = false
+is_forbidden (kind.Underline n) = false
+is_forbidden (kind.Font n) = false
+is_forbidden (kind.Table n) = false
+is_forbidden (kind.Align n) = false
+is_forbidden (kind.FeedLines n) = false
+is_forbidden (kind.FeedUnits n) = false
+is_forbidden (kind.Pulse pulse) = false
+is_forbidden (kind.Size n) = false
+is_forbidden (kind.BarHeight n) = false
+is_forbidden (kind.BarWidth n) = false
+is_forbidden (kind.HriPlace n) = false
+is_forbidden (kind.HriFont n) = false
+is_forbidden (kind.Bars bars) = false
+is_forbidden (kind.Raster raster) = false
+is_forbidden (kind.Cut cut) = false
 is_forbidden (kind.Status n) = true
 is_forbidden (kind.Mark id) = true
-is_forbidden _ = false
 
 -- A barcode, a raster or a cut would first print the text that is in the line.
 abbrev pub needs_empty_line : Command → Bool
+needs_empty_line (kind.Char b) = false
+needs_empty_line kind.LineFeed = false
+needs_empty_line kind.Return = false
+needs_empty_line kind.Init = false
+needs_empty_line (kind.Mode n) = false
+needs_empty_line (kind.Emphasis n) = false
+needs_empty_line (kind.Underline n) = false
+needs_empty_line (kind.Font n) = false
+needs_empty_line (kind.Table n) = false
+needs_empty_line (kind.Align n) = false
+needs_empty_line (kind.FeedLines n) = false
+needs_empty_line (kind.FeedUnits n) = false
+needs_empty_line (kind.Pulse pulse) = false
+needs_empty_line (kind.Size n) = false
+needs_empty_line (kind.BarHeight n) = false
+needs_empty_line (kind.BarWidth n) = false
+needs_empty_line (kind.HriPlace n) = false
+needs_empty_line (kind.HriFont n) = false
 needs_empty_line (kind.Bars bars) = true
 needs_empty_line (kind.Raster raster) = true
 needs_empty_line (kind.Cut cut) = true
-needs_empty_line _ = false
+needs_empty_line (kind.Status n) = false
+needs_empty_line (kind.Mark id) = false
 
 abbrev pub is_nonempty : {X : Type 0} → List X → Bool
 is_nonempty [] = false

@@ -146,6 +146,7 @@ fn is_plain(byte: u8) -> bool
 fn command_of(alloc: Global, member: Member, value: &Value) -> Result<Command, EntryFault>
     ensures command { IfOk result (λ command. command_of member (view value.now) ≡ Some command) }
     ensures refused { IfErr result (λ fault. fault ≢ EntryFault.Memory → (fault ≡ EntryFault.BadShape) × (command_of member (view value.now) ≡ None)) }
+    ensures no_memory { member ≢ Member.Bars → member ≢ Member.Raster → IfErr result (λ fault. fault ≢ EntryFault.Memory) }
 {
     match member {
         Member::Bars => bars_in(alloc, value),

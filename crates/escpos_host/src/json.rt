@@ -134,7 +134,8 @@ impl Receipt {
 
 // What becomes of a text that couldn't be read as JSON.
 fn error_of(error: &serde_json::Error) -> JsonError
-    ensures { (result ≡ JsonError.Memory) ⊎ ((result ≡ JsonError.Refused JsonFault.NotJson) × ¬ IsMemory error.now) }
+    ensures memory { IsMemory error.now → result ≡ JsonError.Memory }
+    ensures refused { ¬ IsMemory error.now → result ≡ JsonError.Refused JsonFault.NotJson }
 {
     match error.classify() {
         Category::Memory => JsonError::Memory,

@@ -1,5 +1,5 @@
 -- The digits of each command are given after those before it; where one failed, they are the front of all.
-use Rattle.std.proofs.Common.{◌≡◌, ◌+◌, ◌<◌, ◌∙◌, ◌++◌, Ok, Err, length, take, drop, ap, arith}
+use Rattle.std.proofs.Common.{◌+◌, ◌<◌, ◌∙◌, Ok, Err, length, take, drop, ap, arith}
 use Rattle.hex.specs.Hex.{encode_lower}
 use Rattle.escpos_command.specs.CommandTable.{row, spell}
 use Rattle.escpos_cli.proofs.Spellings.{front_and_rest, one_more}

@@ -1,4 +1,4 @@
-use Rattle.std.proofs.Common.{◌≡◌, ◌<◌, ◌∙◌, ◌-◌, length, sym, subst, ap, true, arith}
+use Rattle.std.proofs.Common.{◌≡◌, ◌∙◌, ◌-◌, length, sym, subst, ap, true, arith}
 use Rattle.escpos_cli.specs.Notes.{has_check_digit}
 use Rattle.escpos_paper.specs.CheckDigit.{all_digits}
 use Rattle.escpos_cli.proofs.CheckDigits.{digits_of_bars, front_digits, each_is_large, some_digits}

@@ -1,13 +1,10 @@
-use Rattle.std.proofs.Common.{◌≡◌, ◌∙◌, ap, sym, inl, inr, map, length, Err, Ok, Result, Option, Some, List, ℕ, codes}
+use Rattle.std.proofs.Common.{◌≡◌, ◌∙◌, ap, sym, inl, inr, map, length, Err, codes}
 use Rattle.std.proofs.lemmas.Result.{IfOk-weaker, err_from_is_err_and}
 use Rattle.std.proofs.lemmas.List.{length-map}
 use Rattle.clap.specs.Words.{fault_of}
 use Rattle.escpos_cli.specs.Task.{command_words, name_of}
 use Rattle.escpos_cli.proofs.TaskWords.{help_is_among, help_met, help_passes, is_help, is_word, met_by, refused_for_help, refused_for_memory, task_met, task_passes}
-use Rattle.escpos_cli.specs.declared.task.NoTask.{NoTask}
 use Rattle.escpos_cli.specs.declared.task.NoTask.TheVariants.{Help}
-use Rattle.escpos_cli.specs.declared.task.Task.{Task}
-use Rattle.escpos_cli.specs.declared.task.Task.TheVariants.{Check, Render}
 use Rattle.escpos_cli.proofs.task.task_of.Goals as goal
 
 pub returns-clause-task : goal.returns-clause-task
