@@ -21,6 +21,8 @@ mod notes;
 mod outcome;
 mod perform;
 #[cfg(test)]
+mod receipt_edge_tests;
+#[cfg(test)]
 mod receipt_tests;
 mod refusal;
 mod render;
