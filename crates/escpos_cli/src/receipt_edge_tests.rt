@@ -72,7 +72,8 @@ const CODE128: [&str; 3] = [
 
 const ENTRIES: [&str; 3] = ["[", "{\"feed\":1},", "{\"feed\":1}]"];
 
-const BLANKS: [&str; 3] = ["[{\"feed\":1}]", " ", ""];
+// The front has 16 characters, and so has the part.
+const BLANKS: [&str; 3] = ["[{\"feed\":1}]    ", "                ", ""];
 
 const LARGE: [Long; 21] = [
     // a barcode of each symbology, at its shortest and its longest content
@@ -95,9 +96,9 @@ const LARGE: [Long; 21] = [
     (999, ENTRIES, ["", "1b6401", "1b6401\n"]),
     (1_000, ENTRIES, ["", "1b6401", "1b6401\n"]),
     // texts of 4, 8 and 12 MiB
-    (4_194_292, BLANKS, ["1b6401\n", "", ""]),
-    (8_388_596, BLANKS, ["1b6401\n", "", ""]),
-    (12_582_900, BLANKS, ["1b6401\n", "", ""]),
+    (262_143, BLANKS, ["1b6401\n", "", ""]),
+    (524_287, BLANKS, ["1b6401\n", "", ""]),
+    (786_431, BLANKS, ["1b6401\n", "", ""]),
     // the largest raster
     (
         524_160,
@@ -139,7 +140,7 @@ fn lines_of_each_length_have_memory(rt: HostRuntime) {
 // The least number of a member, what stands before and after a number in a text, and what does so in its line.
 type Numbered = (u8, [&'static str; 2], [&'static str; 2]);
 
-const NUMBERED: [Numbered; 6] = [
+const NUMBERED: [Numbered; 8] = [
     (0, ["[{\"feed\":", "}]"], ["1b64", "\n"]),
     (0, ["[{\"units\":", "}]"], ["1b4a", "\n"]),
     (0, ["[{\"mode\":", "}]"], ["1b21", "\n"]),
@@ -150,9 +151,19 @@ const NUMBERED: [Numbered; 6] = [
         ["[{\"pulse\":{\"pin\":1,\"on\":", ",\"off\":2}}]"],
         ["1b7001", "02\n"],
     ),
+    (
+        0,
+        ["[{\"pulse\":{\"pin\":0,\"on\":3,\"off\":", "}}]"],
+        ["1b700003", "\n"],
+    ),
+    (
+        0,
+        ["[{\"feed_cut\":{\"kind\":\"partial\",\"feed\":", "}}]"],
+        ["1d5642", "\n"],
+    ),
 ];
 
-fn numbered() -> [Numbered; 6] {
+fn numbered() -> [Numbered; 8] {
     NUMBERED
 }
 
@@ -364,8 +375,8 @@ fn reasons_are_printed(rt: HostRuntime) {
     prints_json_error(&rt, rt.alloc(), JsonError::Memory, "Memory");
 }
 
-// Many entries go out in one `put`: the sink fails from its second one on.
-fn goes_out_at_once(rt: &impl Abort, text: &[u8], line: &[u8], alloc: Global) {
+// A line that is short enough goes out in one `put`: the sink fails from its second one on.
+fn goes_out_at_once(rt: &impl Abort, alloc: Global, text: &[u8], line: &[u8]) {
     let mut source = MemoryIn::new(text, 65_536);
     let mut room = [0; 8192];
     let mut sink = MemoryOut::failing(&mut room, 2);
@@ -374,12 +385,13 @@ fn goes_out_at_once(rt: &impl Abort, text: &[u8], line: &[u8], alloc: Global) {
     assert!(rt; sink.written() == line);
 }
 
+// A line of 6,001 bytes.
 #[test]
 fn a_line_goes_out_in_one_piece(rt: HostRuntime) {
     let entries = ["[", "{\"feed\":0},", "{\"feed\":0}]"];
     let text = joined(&rt, rt.alloc(), entries, 999);
     let line = joined(&rt, rt.alloc(), ["", "1b6400", "1b6400\n"], 999);
-    goes_out_at_once(&rt, &text, &line, rt.alloc());
+    goes_out_at_once(&rt, rt.alloc(), &text, &line);
 }
 
 // The help has the number and the name of a reason.
