@@ -313,7 +313,7 @@ fn each_thing_asked_for(rt: HostRuntime) {
             Status::Good,
         ),
         (Ok(Task::Render), b"row left A\nfeed 1\n", Status::Good),
-        (Ok(Task::Encode), b"refused 6 BadShape 0\n", Status::Refused),
+        (Ok(Task::Encode), b"refused 5 NotJson\n", Status::Refused),
         (Err(NoTask::Help), HELP.as_bytes(), Status::Good),
         (Err(NoTask::Usage), USAGE.as_bytes(), Status::Usage),
         (Err(NoTask::Memory), b"memory\n", Status::Memory),
