@@ -14,6 +14,8 @@ mod encode;
 #[cfg(test)]
 mod examples;
 mod hexadecimal;
+#[cfg(test)]
+mod host_tests;
 mod input;
 mod job;
 mod lines;

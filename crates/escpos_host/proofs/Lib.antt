@@ -3,5 +3,11 @@ pub mod Fronts
 pub mod ValueViews
 pub mod Meanings
 pub mod Parts
+pub mod Pending
 pub mod Plain
 pub mod Tables
+pub mod AnswerFronts
+pub mod Views
+pub mod Answering
+pub mod Passing
+pub mod Saying

@@ -1,4 +1,10 @@
 pub mod Describes
 pub mod Entries
+pub mod Out
 pub mod Refusals
 pub mod Whole
+pub mod Hearing
+pub mod Machine
+pub mod Kept
+pub mod Heard
+pub mod Says

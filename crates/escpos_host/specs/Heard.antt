@@ -1,0 +1,84 @@
+-- What hearing the bytes of answers comes to. It speaks of a whole piece; the code takes it byte by byte.
+use Rattle.std.specs.Prelude.{ℕ, ◌≡◌, ◌≢◌, ◌+◌, ◌<◌, ◌≤◌, ◌⊎◌, List, [], ◌∷◌, ◌++◌, length, take, slice_index}
+use Rattle.std.specs.List.{AllByRecursion}
+use Rattle.escpos_command.specs.declared.answer.Answer.{Answer}
+use Rattle.escpos_command.specs.declared.answer.Answer.TheVariants as answer
+use Rattle.escpos_command.specs.Answers.{AnswerSpells, HalfAnswer, Hears, ViableAnswer}
+use Rattle.escpos_command.specs.Digits.{mark_count, mark_of}
+use Rattle.escpos_host.specs.declared.host.HostEvent.{HostEvent}
+use Rattle.escpos_host.specs.declared.host.HostEvent.TheVariants as event
+use Rattle.escpos_host.specs.Machine.{HostView, InFlight, Phase, Down, Opening, Open, gone_down}
+
+-- The id is that of a mark with a number from the first up to the next, which isn't one of them.
+abbrev pub IsOpeningMark : ℕ → ℕ → List ℕ → Type 0
+IsOpeningMark first next id = (n : ℕ) × (first ≤ n) × (n < next) × (n < mark_count) × (mark_of n ≡ id)
+
+-- The id is that of the closing mark of one of these.
+abbrev pub IsClosing : List InFlight → List ℕ → Type 0
+IsClosing [] id = ⊥
+IsClosing (p ∷ ps) id = (p.mark ≡ id) ⊎ IsClosing ps id
+
+-- The answer to the mark with this id is one that a host in this phase ignores.
+abbrev pub IgnoresMark : Phase → ℕ → List ℕ → Type 0
+IgnoresMark Down next id = ⊥
+IgnoresMark (Opening first) next id = IsOpeningMark first next id → ⊥
+IgnoresMark (Open flight) next id = IsClosing flight id → ⊥
+
+abbrev pub Ignores : Phase → ℕ → Answer → Type 0
+Ignores phase next (answer.Status b) = ⊥
+Ignores phase next (answer.Mark id) = IgnoresMark phase next id
+
+-- The host with another half answer.
+abbrev pub with_half : HostView → List ℕ → HostView
+with_half h half = record { phase = h.phase; out = h.out; half = half; next = h.next; records = h.records; left = h.left }
+
+-- The link is open.
+abbrev pub opened : HostView → HostView
+opened h = record { phase = Open []; out = h.out; half = h.half; next = h.next; records = h.records; left = h.left }
+
+-- The oldest receipt in flight is recorded.
+abbrev pub recorded : HostView → InFlight → List InFlight → HostView
+recorded h p ps = record { phase = Open ps; out = h.out; half = h.half; next = h.next; records = h.records ++ p.receipt ∷ []; left = h.left }
+
+-- What a whole answer does to a host that has a link, and the event that tells of it.
+abbrev pub Turns : HostView → Answer → ℕ → HostEvent → HostView → Type 0
+Turns h a at event.None after = Ignores h.phase h.next a × (after ≡ h)
+Turns h a at event.Opened after =
+    (first : ℕ) × (id : List ℕ) × (h.phase ≡ Opening first) × (a ≡ answer.Mark id) × IsOpeningMark first h.next id × (after ≡ opened h)
+Turns h a at (event.Recorded number) after =
+    (p : InFlight) × (ps : List InFlight) × (h.phase ≡ Open (p ∷ ps)) × (a ≡ answer.Mark p.mark) × (number ≡ length h.records) × (after ≡ recorded h p ps)
+Turns h a at (event.Status byte) after = (a ≡ answer.Status byte) × (after ≡ h)
+Turns h a at (event.BadAnswer place) after =
+    (p : InFlight) × (ps : List InFlight) × (id : List ℕ) × (h.phase ≡ Open (p ∷ ps)) × (a ≡ answer.Mark id) × (p.mark ≢ id) × IsClosing ps id × (place ≡ at) × (after ≡ gone_down h)
+
+-- What one more byte does to it: it goes on with an answer, it makes one whole, or it fits none.
+abbrev pub Grows : HostView → ℕ → HostEvent → HostView → Type 0
+Grows h byte event.None after = (after ≡ with_half h (h.half ++ byte ∷ [])) × HalfAnswer (h.half ++ byte ∷ [])
+Grows h byte _ after = ⊥
+
+abbrev pub Misfits : HostView → ℕ → ℕ → HostEvent → HostView → Type 0
+Misfits h byte at (event.BadAnswer place) after = (place ≡ at) × (ViableAnswer (h.half ++ byte ∷ []) → ⊥) × (after ≡ gone_down h)
+Misfits h byte at _ after = ⊥
+
+abbrev pub HearsByte : HostView → ℕ → ℕ → HostEvent → HostView → Type 0
+HearsByte h byte at e after =
+    Grows h byte e after ⊎ Misfits h byte at e after ⊎ ((a : Answer) × AnswerSpells a (h.half ++ byte ∷ []) × Turns (with_half h []) a at e after)
+
+-- These bytes were read as answers, all of which are ignored, and this half answer.
+pub record Passed (h : HostView) (bytes : List ℕ) (half : List ℕ) : Type 0 where
+  pub ignored : List Answer
+  pub hears : Hears (h.half ++ bytes) ignored half
+  pub each : AllByRecursion (Ignores h.phase h.next) ignored
+
+-- How many bytes are taken at an event: a byte that ends the link isn't.
+abbrev pub taken_at : HostEvent → ℕ → ℕ
+taken_at (event.BadAnswer place) at = at
+taken_at _ at = at + 1
+
+-- What hearing a piece comes to, for a host that has a link: all of it passed; or the bytes before some place did, and the
+-- byte there brought this event.
+abbrev pub IsHeard : HostView → List ℕ → ℕ → HostEvent → HostView → Type 0
+IsHeard h bytes consumed e after =
+    ((e ≡ event.None) × (consumed ≡ length bytes) × Passed h bytes after.half × (after ≡ with_half h after.half))
+    ⊎ ((at : ℕ) × (half : List ℕ) × (at < length bytes) × (e ≢ event.None) × (consumed ≡ taken_at e at) × Passed h (take at bytes) half
+    × HearsByte (with_half h half) (slice_index bytes at) at e after)

@@ -1,0 +1,145 @@
+-- The host machine: the protocol of a receipt line, from the host's end.
+--
+-- A printer that is sent a receipt says nothing of it. But it answers a mark once everything before the mark is done. So the
+-- host sends a mark after each receipt, its closing mark, and the answer to that mark says that the receipt is on paper:
+-- provided that the printer read the receipt as the host meant it. A printer may still hold the half command of an older
+-- link, and take the first bytes of a new one for the rest of it. So the host sends marks first, its opening marks, and no
+-- receipt before one of them is answered: a mark that is answered was read at its own place, and from there on the printer
+-- reads what the host puts. Styles that an older receipt left behind are put back by the Init that goes before each receipt.
+-- No number of a mark is ever used again, so an answer tells which mark it is to, whatever answers are late. Of the receipts
+-- in flight only the oldest one's closing mark records: a printer answers in order, so an answer to a later one would mean
+-- that it lost one between.
+--
+--   State     | link_up | nudge   | submit  | ask     | answer to a mark of this link
+--   Down      | Opening | refused | refused | refused | nothing is heard
+--   Opening   | refused | Opening | refused | refused | to an opening mark: Ready
+--   Ready     | refused | refused | Sending | Ready   | ignored
+--   Sending   | refused | refused | Sending | refused | to the oldest closing mark: recorded, and Ready or Sending;
+--             |         |         |         |         | to a later one: Down
+--
+-- Any other mark's answer is ignored. A status byte is told of in every state but Down. `link_down`, and a byte that is no
+-- answer's, lead to Down; what was in flight then is left.
+use Rattle.std.specs.Prelude.{ℕ, ◌≡◌, ◌≢◌, ◌+◌, ◌<◌, ◌≤◌, List, [], ◌∷◌, ◌++◌, length, drop, map}
+use Rattle.escpos_command.specs.declared.command.Command.{Command}
+use Rattle.escpos_command.specs.declared.command.Command.TheVariants as kind
+use Rattle.escpos_command.specs.CommandTable.{row, spell}
+use Rattle.escpos_command.specs.Digits.{mark_count, mark_of}
+use Rattle.escpos_host.specs.declared.host.HostState.{HostState}
+use Rattle.escpos_host.specs.declared.host.HostState.TheVariants as state
+use Rattle.escpos_host.specs.declared.host.HostError.{HostError}
+use Rattle.escpos_host.specs.declared.host.HostError.TheVariants as error
+
+-- A receipt in flight, and the id of its closing mark, which is still to be answered.
+pub record InFlight : Type 0 where
+  pub receipt : List Command
+  pub mark : List ℕ
+
+-- Where a host stands with its link: there is none; its opening marks are those from this number up to the next one, which
+-- isn't used yet; or it is open, with these receipts in flight, the oldest first: Ready where there is none.
+pub data Phase : Type 0 where
+  Down : Phase
+  Opening : ℕ → Phase
+  Open : List InFlight → Phase
+
+-- How a host is seen: beside its phase the bytes to take out, the half answer, the number of the next mark, the receipts that
+-- are recorded, and those that were in flight when the link went down and weren't taken since.
+pub record HostView : Type 0 where
+  pub phase : Phase
+  pub out : List ℕ
+  pub half : List ℕ
+  pub next : ℕ
+  pub records : List (List Command)
+  pub left : List (List Command)
+
+abbrev pub state_of : Phase → HostState
+state_of Down = state.Down
+state_of (Opening first) = state.Opening
+state_of (Open []) = state.Ready
+state_of (Open (p ∷ ps)) = state.Sending
+
+-- How many receipts may be in flight.
+abbrev pub most_in_flight : ℕ
+most_in_flight = 4
+
+-- The next mark, as a command.
+abbrev pub next_mark : HostView → Command
+next_mark h = kind.Mark (mark_of h.next)
+
+-- The link is up: one opening mark is put out. What was left is dropped.
+abbrev pub linked : HostView → HostView
+linked h = record { phase = Opening h.next; out = row (next_mark h); half = []; next = h.next + 1; records = h.records; left = [] }
+
+-- One more opening mark is put out.
+abbrev pub nudged : HostView → HostView
+nudged h = record { phase = h.phase; out = h.out ++ row (next_mark h); half = h.half; next = h.next + 1; records = h.records; left = h.left }
+
+-- A status request is put out.
+abbrev pub asked : HostView → ℕ → HostView
+asked h n = record { phase = h.phase; out = h.out ++ row (kind.Status n); half = h.half; next = h.next; records = h.records; left = h.left }
+
+-- A receipt is put out, after Init and before its closing mark, and is in flight.
+abbrev pub submitted : HostView → List InFlight → List Command → HostView
+submitted h flight receipt = record {
+  phase = Open (flight ++ record { receipt = receipt; mark = mark_of h.next } ∷ []);
+  out = h.out ++ spell (kind.Init ∷ (receipt ++ next_mark h ∷ []));
+  half = h.half;
+  next = h.next + 1;
+  records = h.records;
+  left = h.left;
+}
+
+-- The receipts that are in flight.
+abbrev pub in_flight : Phase → List (List Command)
+in_flight (Open flight) = map (λ p. p.receipt) flight
+in_flight _ = []
+
+-- The link is gone: nothing is to be taken out, no half answer is left, and what was in flight is left.
+abbrev pub gone_down : HostView → HostView
+gone_down h = record { phase = Down; out = []; half = []; next = h.next; records = h.records; left = in_flight h.phase }
+
+-- The first bytes are taken out.
+abbrev pub taken : HostView → ℕ → HostView
+taken h count = record { phase = h.phase; out = drop count h.out; half = h.half; next = h.next; records = h.records; left = h.left }
+
+-- The first receipt of those that are left is handed out.
+abbrev pub handed_out : HostView → HostView
+handed_out h = record { phase = h.phase; out = h.out; half = h.half; next = h.next; records = h.records; left = drop 1 h.left }
+
+-- Why a call is refused. The first reason that applies counts.
+abbrev pub HasMark : HostView → Type 0
+HasMark h = h.next < mark_count
+
+abbrev pub RefusesLinkUp : HostError → HostView → Type 0
+RefusesLinkUp error.AlreadyUp h = h.phase ≢ Down
+RefusesLinkUp error.MarksUsedUp h = (h.phase ≡ Down) × (mark_count ≤ h.next)
+RefusesLinkUp error.Memory h = (h.phase ≡ Down) × HasMark h
+RefusesLinkUp _ h = ⊥
+
+abbrev pub IsOpening : Phase → Type 0
+IsOpening (Opening first) = Unit {0}
+IsOpening _ = ⊥
+
+abbrev pub RefusesNudge : HostError → HostView → Type 0
+RefusesNudge error.NotReady h = IsOpening h.phase → ⊥
+RefusesNudge error.MarksUsedUp h = IsOpening h.phase × (mark_count ≤ h.next)
+RefusesNudge error.Memory h = IsOpening h.phase × HasMark h
+RefusesNudge _ h = ⊥
+
+abbrev pub RefusesAsk : HostError → HostView → Type 0
+RefusesAsk error.NotReady h = h.phase ≢ Open []
+RefusesAsk error.Memory h = h.phase ≡ Open []
+RefusesAsk _ h = ⊥
+
+abbrev pub RefusesSubmit : HostError → HostView → Type 0
+RefusesSubmit error.NotReady h = (flight : List InFlight) → h.phase ≢ Open flight
+RefusesSubmit error.InFlightFull h = (flight : List InFlight) × (h.phase ≡ Open flight) × (length flight ≡ most_in_flight)
+RefusesSubmit error.MarksUsedUp h = (flight : List InFlight) × (h.phase ≡ Open flight) × (length flight < most_in_flight) × (mark_count ≤ h.next)
+RefusesSubmit error.Memory h = (flight : List InFlight) × (h.phase ≡ Open flight) × (length flight < most_in_flight) × HasMark h
+RefusesSubmit _ h = ⊥
+
+abbrev pub error_number : HostError → ℕ
+error_number error.NotReady = 1
+error_number error.MarksUsedUp = 2
+error_number error.AlreadyUp = 3
+error_number error.Memory = 4
+error_number error.InFlightFull = 6

@@ -1,0 +1,42 @@
+-- What a host has put on one link.
+use Rattle.std.specs.Prelude.{ℕ, ◌≡◌, ◌+◌, zero, suc, List, [], ◌∷◌, ◌++◌}
+use Rattle.std.specs.List.{flat_map}
+use Rattle.escpos_command.specs.declared.command.Command.{Command}
+use Rattle.escpos_command.specs.declared.command.Command.TheVariants as kind
+use Rattle.escpos_command.specs.Digits.{mark_of}
+use Rattle.escpos_command.specs.CommandTable.{spell}
+use Rattle.escpos_host.specs.Machine.{HostView, InFlight, Phase, Down, Opening, Open}
+
+-- So many marks, from this number on.
+abbrev pub marks_from : ℕ → ℕ → List Command
+marks_from zero first = []
+marks_from (suc count) first = kind.Mark (mark_of first) ∷ marks_from count (first + 1)
+
+-- A receipt with Init before it and its closing mark after it.
+abbrev pub sent : InFlight → List Command
+sent p = kind.Init ∷ (p.receipt ++ kind.Mark p.mark ∷ [])
+
+-- A status request, or a receipt.
+pub data Part : Type 0 where
+  Asked : ℕ → Part
+  Sent : InFlight → Part
+
+abbrev pub said_by : Part → List Command
+said_by (Asked n) = kind.Status n ∷ []
+said_by (Sent p) = sent p
+
+-- What a host in this phase has said, where its next mark has this number: its opening marks, one or more; once one of them is
+-- answered status requests and receipts after them; and last the receipts that are in flight, the oldest first.
+abbrev pub SaysIn : Phase → ℕ → List Command → Type 0
+SaysIn Down next said = ⊥
+SaysIn (Opening first) next said = (count : ℕ) × (next ≡ first + suc count) × (said ≡ marks_from (suc count) first)
+SaysIn (Open flight) next said =
+    (first : ℕ) × (count : ℕ) × (parts : List Part) × (said ≡ marks_from (suc count) first ++ flat_map said_by parts ++ flat_map sent flight)
+
+abbrev pub Says : HostView → List Command → Type 0
+Says h said = SaysIn h.phase h.next said
+
+-- The host has said this on its link, and of the bytes of it these were taken out; the others are still to be.
+pub record Talks (h : HostView) (out : List ℕ) (said : List Command) : Type 0 where
+  pub says : Says h said
+  pub whole : spell said ≡ out ++ h.out

@@ -1,0 +1,470 @@
+//! The host: what it may say on a link, and when a receipt is recorded as printed.
+//!
+//! Everything that changes a host stands here. The protocol is `specs/Machine.antt`; `outbox` keeps what is to be put out, and
+//! `hearing` reads answers.
+
+ghost use Rattle.std.specs.Prelude.{◌≡◌, ◌≢◌, ◌+◌, ◌<◌, ◌≤◌, ◌↔◌, min, not, List, [], ◌∷◌, ◌++◌, length, take, drop, slice_get, Ok, Err, OnOk, IfErr, IsTrue, IsOk};
+ghost use Rattle.escpos_command.specs.Digits.{mark_count, mark_of};
+ghost use Rattle.escpos_command.specs.declared.answer.Answer.TheVariants as answer;
+ghost use Rattle.escpos_host.specs.Kept.{HasIdAmong, StandsSo};
+ghost use Rattle.escpos_host.specs.Heard.{HearsByte, IsHeard, IsOpeningMark, Turns};
+ghost use Rattle.escpos_host.specs.Machine.{HostView, InFlight, Down, Opening, Open, HasMark, IsOpening, RefusesAsk, RefusesLinkUp, RefusesNudge, RefusesSubmit, asked, error_number, gone_down, linked, most_in_flight, nudged, state_of, submitted, taken, handed_out};
+
+use crate::hearing::{AnswerReader, NoAnswer};
+use crate::outbox::{Out, Part};
+use crate::receipt::Receipt;
+use arrayvec::ArrayVec;
+use escpos_command::{Answer, MarkId, StatusKind, laws};
+use std::alloc::Global;
+use std::marker::Model;
+
+/// How many receipts may be in flight on a link.
+pub const MOST_IN_FLIGHT: usize = 4;
+
+const _: () = prove!(MOST_IN_FLIGHT == 4);
+
+/// Where a host stands with its link.
+#[derive(Clone, Copy, Debug, PartialEq, Eq)]
+pub enum HostState {
+    /// There is no link.
+    Down,
+    /// Opening marks were put out, and none is answered yet.
+    Opening,
+    /// The link is open, and no receipt is in flight.
+    Ready,
+    /// The link is open, and one to four receipts are in flight.
+    Sending,
+}
+
+/// Why a call of a host is refused. It leaves the host as it was.
+#[derive(Clone, Copy, Debug, PartialEq, Eq)]
+pub enum HostError {
+    /// 1: the host's state has no such call.
+    NotReady,
+    /// 2: no number of a mark is left.
+    MarksUsedUp,
+    /// 3: there is a link already.
+    AlreadyUp,
+    /// 4: there is no memory.
+    Memory,
+    /// 6: four receipts are in flight.
+    InFlightFull,
+}
+
+impl HostError {
+    /// The number that programs print.
+    pub fn number(self) -> u8
+        ensures { result ≡ error_number self }
+    {
+        match self {
+            HostError::NotReady => 1,
+            HostError::MarksUsedUp => 2,
+            HostError::AlreadyUp => 3,
+            HostError::Memory => 4,
+            HostError::InFlightFull => 6,
+        }
+    }
+}
+
+/// What a host hears.
+#[derive(Clone, Copy, Debug, PartialEq, Eq)]
+pub enum HostEvent {
+    /// Nothing that matters.
+    None,
+    /// An opening mark of this link was answered.
+    Opened,
+    /// The oldest receipt in flight is printed: it is the record with this number, from 0.
+    Recorded(usize),
+    /// The printer told its status, as this byte. (Reference: DLE EOT.)
+    Status(u8),
+    /// The byte at this place fits no answer, or is the last one of an answer out of turn. The link is given up.
+    BadAnswer { at: usize },
+}
+
+/// How far a piece of answers was heard.
+#[derive(Clone, Copy, Debug, PartialEq, Eq)]
+pub struct Heard {
+    /// How many bytes were taken.
+    pub consumed: usize,
+    /// The event that they end with.
+    pub event: HostEvent,
+}
+
+// What a host does with its link: nothing, open it with the marks from this number on, or use it.
+#[derive(Clone, Copy, Debug, PartialEq, Eq)]
+enum Stage {
+    Down,
+    Opening { first: u32 },
+    Open,
+}
+
+/// A host: the receipts that it has recorded, and what it says and hears on a link.
+#[derive(Drop)]
+pub struct Host {
+    // those that are recorded, and then those that are in flight, or left
+    receipts: Vec<Receipt>,
+    recorded: usize,
+    stage: Stage,
+    // the numbers of the closing marks of the receipts in flight
+    closing: ArrayVec<u32, MOST_IN_FLIGHT>,
+    next: u32,
+    out: Out,
+    reader: AnswerReader,
+}
+
+impl Model for Host {
+    ghost use Rattle.escpos_host.specs.Machine.{HostView};
+    ghost use Rattle.escpos_host.specs.Kept.{Fits, view_of};
+
+    ghost Value = { HostView };
+
+    ghost view = { λ h. view_of h.stage h.receipts.items h.recorded h.closing.items h.out h.reader h.next };
+
+    ghost invariant = { λ h. Fits h.stage h.receipts.items h.recorded h.closing.items h.out h.reader };
+}
+
+impl Host {
+    /// A host with no link and no record, whose first mark will have this number. Of 1,679,616 or more it has no mark left.
+    /// Takes no memory.
+    pub fn new(alloc: Global, first_mark: u32) -> Self
+        ensures { result ≡ record { phase = Down; out = []; half = []; next = first_mark; records = []; left = [] } }
+    {
+        Host::resume(alloc, first_mark, Vec::new(alloc))
+    }
+
+    /// A host that goes on after a restart: with these records, and with this number for its next mark, which has to be one
+    /// that it never used. Takes no memory.
+    pub fn resume(alloc: Global, first_mark: u32, records: Vec<Receipt>) -> Self
+        ensures { result ≡ record { phase = Down; out = []; half = []; next = first_mark; records = records.items; left = [] } }
+    {
+        Host {
+            recorded: records.len(),
+            receipts: records,
+            stage: Stage::Down,
+            closing: ArrayVec::new(),
+            next: first_mark,
+            out: Out::new(alloc),
+            reader: AnswerReader::new(),
+        }
+    }
+
+    /// Where the host stands with its link. Takes no memory.
+    pub fn state(&self) -> HostState
+        ensures { result ≡ state_of self.now.phase }
+    {
+        match self.stage {
+            Stage::Down => HostState::Down,
+            Stage::Opening { .. } => HostState::Opening,
+            Stage::Open if self.closing.is_empty() => HostState::Ready,
+            Stage::Open => HostState::Sending,
+        }
+    }
+
+    /// The receipts that are recorded as printed, in order. Takes no memory.
+    pub fn records(&self) -> &[Receipt]
+        ensures { result.now ≡ self.now.records }
+    {
+        &self.receipts[..self.recorded]
+    }
+
+    /// The number of the next mark. Takes no memory.
+    pub fn next_mark(&self) -> u32
+        ensures { result ≡ self.now.next }
+    {
+        self.next
+    }
+
+    /// Whether there are bytes to take out. Takes no memory.
+    pub fn has_out(&self) -> bool
+        ensures { IsTrue result ↔ (self.now.out ≢ []) }
+    {
+        !self.out.is_empty()
+    }
+
+    /// Opens a link: puts one opening mark out. What was left of the link before is dropped.
+    pub fn link_up(&mut self) -> Result<(), HostError>
+        ensures up { OnOk result ((self.old.phase ≡ Down) × HasMark self.old × (self.new ≡ linked self.old)) }
+        ensures refused { IfErr result (λ why. RefusesLinkUp why self.old × (self.new ≡ self.old)) }
+    {
+        let Stage::Down = self.stage else {
+            return Err(HostError::AlreadyUp);
+        };
+        let Some(mark) = MarkId::of_number(self.next) else {
+            return Err(HostError::MarksUsedUp);
+        };
+        if self.out.push(Part::Mark(mark)).is_err() {
+            return Err(HostError::Memory);
+        }
+        self.receipts.truncate(self.recorded);
+        self.stage = Stage::Opening { first: self.next };
+        self.next += 1;
+        Ok(())
+    }
+
+    /// Puts one more opening mark out, while none is answered.
+    pub fn nudge(&mut self) -> Result<(), HostError>
+        ensures nudged { OnOk result (IsOpening self.old.phase × HasMark self.old × (self.new ≡ nudged self.old)) }
+        ensures refused { IfErr result (λ why. RefusesNudge why self.old × (self.new ≡ self.old)) }
+    {
+        let Stage::Opening { .. } = self.stage else {
+            return Err(HostError::NotReady);
+        };
+        let Some(mark) = MarkId::of_number(self.next) else {
+            return Err(HostError::MarksUsedUp);
+        };
+        if self.out.push(Part::Mark(mark)).is_err() {
+            return Err(HostError::Memory);
+        }
+        self.next += 1;
+        Ok(())
+    }
+
+    /// Puts a receipt out, after Init and before its closing mark, where fewer than four are in flight.
+    ///
+    /// `Err` hands the receipt back.
+    pub fn submit(&mut self, receipt: Receipt) -> Result<(), (HostError, Receipt)>
+        ensures submitted { OnOk result ((flight : List InFlight) × (self.old.phase ≡ Open flight) × (length flight < most_in_flight)
+            × HasMark self.old × (self.new ≡ submitted self.old flight receipt)) }
+        ensures refused { IfErr result (λ refusal. RefusesSubmit refusal.0 self.old × (refusal.1 ≡ receipt) × (self.new ≡ self.old)) }
+    {
+        let Stage::Open = self.stage else {
+            return Err((HostError::NotReady, receipt));
+        };
+        if self.closing.is_full() {
+            return Err((HostError::InFlightFull, receipt));
+        }
+        let Some(closing) = MarkId::of_number(self.next) else {
+            return Err((HostError::MarksUsedUp, receipt));
+        };
+        if self.receipts.reserve(1).is_err() {
+            return Err((HostError::Memory, receipt));
+        }
+        let place = self.receipts.len();
+        if self.out.push(Part::Receipt { place, closing }).is_err() {
+            return Err((HostError::Memory, receipt));
+        }
+        self.receipts.push_reserved(receipt);
+        self.closing.push(self.next);
+        self.next += 1;
+        Ok(())
+    }
+
+    /// Puts a status request out, where no receipt is in flight.
+    pub fn ask(&mut self, kind: StatusKind) -> Result<(), HostError>
+        ensures asked { OnOk result ((self.old.phase ≡ Open []) × (self.new ≡ asked self.old kind)) }
+        ensures refused { IfErr result (λ why. RefusesAsk why self.old × (self.new ≡ self.old)) }
+    {
+        if self.state() != HostState::Ready {
+            return Err(HostError::NotReady);
+        }
+        if self.out.push(Part::Ask(kind)).is_err() {
+            return Err(HostError::Memory);
+        }
+        Ok(())
+    }
+
+    /// Moves the next bytes to the front of `out`, as many as there are and fit, and answers their number. The rest of `out` is
+    /// unchanged. Takes no memory.
+    pub fn take_out(&mut self, out: &mut [u8]) -> usize
+        ensures count { result ≡ min (length out.old) (length self.old.out) }
+        ensures copied { out.new ≡ take result self.old.out ++ drop result out.old }
+        ensures taken { self.new ≡ taken self.old result }
+    {
+        if let Stage::Down = self.stage {
+            return 0;
+        }
+        self.out.take_out(&self.receipts, out)
+    }
+
+    /// Hears bytes of answers, up to the first event. With no link all of them are taken and ignored. Takes no memory.
+    pub fn heard(&mut self, bytes: &[u8]) -> Heard
+        ensures down { self.old.phase ≡ Down → (result.consumed ≡ length bytes.now) × (result.event ≡ HostEvent.None) × (self.new ≡ self.old) }
+        ensures up { self.old.phase ≢ Down → IsHeard self.old bytes.now result.consumed result.event self.new }
+    {
+        laws::answers();
+        if let Stage::Down = self.stage {
+            return Heard {
+                consumed: bytes.len(),
+                event: HostEvent::None,
+            };
+        }
+        self.reader.is_sound();
+        for (at, byte) in bytes.iter().enumerate() {
+            match self.hear_byte(*byte, at) {
+                HostEvent::None => {}
+                HostEvent::BadAnswer { at: place } => {
+                    return Heard {
+                        consumed: at,
+                        event: HostEvent::BadAnswer { at: place },
+                    };
+                }
+                event => {
+                    return Heard {
+                        consumed: at + 1,
+                        event,
+                    };
+                }
+            }
+        }
+        Heard {
+            consumed: bytes.len(),
+            event: HostEvent::None,
+        }
+    }
+
+    // Hears one byte, which stands at this place of its piece.
+    fn hear_byte(&mut self, byte: u8, at: usize) -> HostEvent
+        requires { self.old.phase ≢ Down }
+        ensures { HearsByte self.old byte at result self.new }
+    {
+        match self.reader.push(byte) {
+            Ok(None) => HostEvent::None,
+            Ok(Some(answer)) => self.hear_answer(answer, at),
+            Err(NoAnswer) => {
+                self.link_down();
+                HostEvent::BadAnswer { at }
+            }
+        }
+    }
+
+    // Hears an answer, whose last byte stands at this place.
+    fn hear_answer(&mut self, answer: Answer, at: usize) -> HostEvent
+        requires { self.old.phase ≢ Down }
+        ensures { Turns self.old answer at result self.new }
+    {
+        match answer {
+            Answer::Status(byte) => HostEvent::Status(byte),
+            Answer::Mark(id) => self.hear_mark(id, at),
+        }
+    }
+
+    // Hears the answer to a mark, whose last byte stands at this place.
+    fn hear_mark(&mut self, id: MarkId, at: usize) -> HostEvent
+        requires { self.old.phase ≢ Down }
+        ensures { Turns self.old (answer.Mark id) at result self.new }
+    {
+        match self.stage {
+            Stage::Opening { first } if is_opening(id, first, self.next) => {
+                self.stage = Stage::Open;
+                HostEvent::Opened
+            }
+            Stage::Open => self.hear_closing(id, at),
+            _ => HostEvent::None,
+        }
+    }
+
+    // Hears the answer to a mark while the link is open.
+    fn hear_closing(&mut self, id: MarkId, at: usize) -> HostEvent
+        requires { (flight : List InFlight) × (self.old.phase ≡ Open flight) }
+        ensures { Turns self.old (answer.Mark id) at result self.new }
+    {
+        match standing_of(self.closing.as_slice(), id) {
+            Standing::Oldest => {
+                let number = self.recorded;
+                let _ = self.closing.remove(0);
+                self.recorded += 1;
+                HostEvent::Recorded(number)
+            }
+            Standing::Later => {
+                self.link_down();
+                HostEvent::BadAnswer { at }
+            }
+            Standing::Other => HostEvent::None,
+        }
+    }
+
+    /// Gives the link up: what wasn't taken out is dropped, and the half answer; what was in flight is left. Where there is no
+    /// link nothing changes. Takes no memory.
+    pub fn link_down(&mut self)
+        ensures up { self.old.phase ≢ Down → self.new ≡ gone_down self.old }
+        ensures down { self.old.phase ≡ Down → self.new ≡ self.old }
+    {
+        if let Stage::Down = self.stage {
+            return;
+        }
+        self.stage = Stage::Down;
+        self.closing.clear();
+        self.out.clear();
+        self.reader.clear();
+    }
+
+    /// Hands out the receipts that were in flight when the link went down, one by one in the order in which they were
+    /// submitted. Takes no memory.
+    pub fn take_left(&mut self) -> Option<Receipt>
+        ensures receipt { result ≡ slice_get self.old.left 0 }
+        ensures rest { self.new ≡ handed_out self.old }
+    {
+        let Stage::Down = self.stage else {
+            return None;
+        };
+        if self.recorded == self.receipts.len() {
+            return None;
+        }
+        Some(self.receipts.remove(self.recorded))
+    }
+
+    /// Ends the host, and hands out the receipts that are recorded. Takes no memory.
+    pub fn into_records(mut self) -> Vec<Receipt>
+        ensures { result.items ≡ self.records }
+    {
+        self.receipts.truncate(self.recorded);
+        self.receipts
+    }
+}
+
+// Whether this is an opening mark of a link whose marks have the numbers from `first` up to `next`.
+fn is_opening(id: MarkId, first: u32, next: u32) -> bool
+    ensures { IsTrue result ↔ IsOpeningMark first next id }
+{
+    laws::mark_numbers();
+    match id.number() {
+        Some(number) => first <= number && number < next,
+        None => false,
+    }
+}
+
+// Where a mark stands among the closing marks that are to be answered.
+#[derive(Clone, Copy)]
+enum Standing {
+    Oldest,
+    Later,
+    Other,
+}
+
+// Where the mark with this id stands among those of these numbers.
+fn standing_of(numbers: &[u32], id: MarkId) -> Standing
+    ensures { StandsSo numbers.now id result }
+{
+    match numbers {
+        [] => Standing::Other,
+        [first, others @ ..] => {
+            if is_id_of(*first, id) {
+                Standing::Oldest
+            } else if is_among(others, id) {
+                Standing::Later
+            } else {
+                Standing::Other
+            }
+        }
+    }
+}
+
+// Whether the mark of one of these numbers has this id.
+fn is_among(numbers: &[u32], id: MarkId) -> bool
+    ensures { IsTrue result ↔ HasIdAmong numbers.now id }
+{
+    match numbers {
+        [] => false,
+        [first, others @ ..] => is_id_of(*first, id) || is_among(others, id),
+    }
+}
+
+// Whether the mark of this number has this id.
+fn is_id_of(number: u32, id: MarkId) -> bool
+    ensures { IsTrue result ↔ ((number < mark_count) × (mark_of number ≡ id)) }
+{
+    match MarkId::of_number(number) {
+        Some(other) => other == id,
+        None => false,
+    }
+}
