@@ -177,6 +177,7 @@ fn append_values(gather: &mut Gather, command: &Command)
     ensures short { length (values_of command.now) ≤ 520 }
 {
     match command {
+        Command::Char(character) => append_byte(gather, character.byte()),
         Command::Mark(id) => {
             gather.push(SPACE);
             gather.extend(&id.bytes());

@@ -90,6 +90,8 @@ const _: () = prove!(LONGEST_FRONT == 11);
 
 impl Command {
     /// The four parts of the spelling. Takes no memory.
+    // Left to itself the compiler calls this for each character of a listing as soon as it has a second caller.
+    #[inline]
     pub fn parts(&self) -> Parts<'_>
         ensures front { result.front.now ≡ (entry_of self.now).front }
         ensures parameters { result.parameters.items ≡ (entry_of self.now).parameters }

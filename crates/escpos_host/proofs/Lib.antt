@@ -11,3 +11,6 @@ pub mod Views
 pub mod Answering
 pub mod Passing
 pub mod Saying
+pub mod Waiting
+pub mod Dialling
+pub mod Sending

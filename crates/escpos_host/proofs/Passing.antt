@@ -20,14 +20,14 @@ half_heard : (bs : List ℕ) → HalfAnswer bs → Hears bs [] bs
 half_heard bs half = record { in_range = tt; whole = refl; left = inr half }
 
 -- A byte makes an answer whole.
-whole_heard : (bs : List ℕ) (a : Answer) → AnswerSpells a bs → Hears bs (a ∷ []) []
+pub whole_heard : (bs : List ℕ) (a : Answer) → AnswerSpells a bs → Hears bs (a ∷ []) []
 whole_heard bs a spelled = record {
   in_range = (spelled.in_range, tt);
   whole = spelled.in_table ∙ sym (append-nil (spell_answers (a ∷ [])) ∙ append-nil (answer_bytes a));
   left = inl refl;
 }
 
-all_and_last : (P : Answer → Type 0) (some : List Answer) (a : Answer) → AllByRecursion P some → P a → AllByRecursion P (some ++ a ∷ [])
+pub all_and_last : (P : Answer → Type 0) (some : List Answer) (a : Answer) → AllByRecursion P some → P a → AllByRecursion P (some ++ a ∷ [])
 all_and_last P [] a all last = (last, all)
 all_and_last P (b ∷ some) a all last = (all.0, all_and_last P some a all.1 last)
 

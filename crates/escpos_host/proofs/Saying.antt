@@ -10,7 +10,7 @@ use Rattle.escpos_host.specs.Machine.{InFlight, IsOpening, Phase, Down, Opening,
 use Rattle.escpos_host.specs.Says.{Asked, SaysIn, Sent, marks_from, said_by, sent}
 
 -- One more mark.
-marks-snoc : (count first : ℕ) → marks_from (suc count) first ≡ marks_from count first ++ kind.Mark (mark_of (first + count)) ∷ []
+pub marks-snoc : (count first : ℕ) → marks_from (suc count) first ≡ marks_from count first ++ kind.Mark (mark_of (first + count)) ∷ []
 marks-snoc zero first = let same : first ≡ first + 0 = omega arith in ap (λ n. kind.Mark (mark_of n) ∷ []) same
 marks-snoc (suc count) first =
     let same : (first + 1) + count ≡ first + suc count = omega arith in

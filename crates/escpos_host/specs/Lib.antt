@@ -8,3 +8,5 @@ pub mod Machine
 pub mod Kept
 pub mod Heard
 pub mod Says
+pub mod Sends
+pub mod Awaits

@@ -3,7 +3,8 @@
 //! Everything that changes a host stands here. The protocol is `specs/Machine.antt`; `outbox` keeps what is to be put out, and
 //! `hearing` reads answers.
 
-ghost use Rattle.std.specs.Prelude.{◌≡◌, ◌≢◌, ◌+◌, ◌<◌, ◌≤◌, ◌↔◌, min, not, List, [], ◌∷◌, ◌++◌, length, take, drop, slice_get, Ok, Err, OnOk, IfErr, IsTrue, IsOk};
+ghost use Rattle.std.specs.Prelude.{◌≡◌, ◌≢◌, ◌+◌, ◌<◌, ◌≤◌, ◌↔◌, ◌⊎◌, min, not, List, [], ◌∷◌, ◌++◌, length, take, drop, slice_get, Ok, Err, OnOk, IfErr, IsTrue, IsOk};
+ghost use Rattle.escpos_command.specs.Answers.{HalfAnswer};
 ghost use Rattle.escpos_command.specs.Digits.{mark_count, mark_of};
 ghost use Rattle.escpos_command.specs.declared.answer.Answer.TheVariants as answer;
 ghost use Rattle.escpos_host.specs.Kept.{HasIdAmong, StandsSo};
@@ -310,6 +311,13 @@ impl Host {
             consumed: bytes.len(),
             event: HostEvent::None,
         }
+    }
+
+    // Nothing is heard, or a half answer.
+    pub(crate) fn is_sound(&self)
+        ensures { (self.now.half ≡ []) ⊎ HalfAnswer self.now.half }
+    {
+        self.reader.is_sound();
     }
 
     // Hears one byte, which stands at this place of its piece.

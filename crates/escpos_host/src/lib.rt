@@ -19,8 +19,10 @@ mod names;
 mod objects;
 mod outbox;
 mod receipt;
+mod send;
 mod values;
 
 pub use host::{Heard, Host, HostError, HostEvent, HostState, MOST_IN_FLIGHT};
 pub use json::{JsonError, JsonFault};
 pub use receipt::{Receipt, ReceiptFault};
+pub use send::{SendFault, Sent, send_link};

@@ -1,0 +1,530 @@
+-- The two waits of a call that sends a receipt, and what comes of it.
+use Rattle.std.proofs.Common.{◌≡◌, ◌≢◌, ◌<◌, ◌≤◌, ◌+◌, ◌-◌, inl, inr, ℕ, List, [], ◌∷◌, ◌++◌, length, take, drop, refl, sym, ◌∙◌, ap, subst, append-nil, append_assoc, length-append, length-take, length-drop, arith, Option, Some, Result, Ok, Err, IfErr}
+use Rattle.std.specs.Prelude.{slice_get, slice_index}
+use Rattle.std.specs.Result.{IsErrAnd}
+use Rattle.std.specs.List.{AllByRecursion}
+use Rattle.std.specs.Io.KnownBytes.{Appends, Consumes}
+use Rattle.std.proofs.KnownBytes.{Consumes-nil}
+use Rattle.escpos_command.specs.declared.answer.Answer.{Answer}
+use Rattle.escpos_command.specs.declared.answer.Answer.TheVariants as answer
+use Rattle.escpos_command.specs.Answers.{AnswerSpells, Hears, ViableAnswer}
+use Rattle.escpos_command.specs.Digits.{mark_count}
+use Rattle.escpos_host.specs.declared.host.HostError.{HostError}
+use Rattle.escpos_host.specs.declared.host.HostError.TheVariants as error
+use Rattle.escpos_host.specs.declared.host.HostEvent.{HostEvent}
+use Rattle.escpos_host.specs.declared.host.HostEvent.TheVariants as event
+use Rattle.escpos_host.specs.declared.send.Awaited.{Awaited}
+use Rattle.escpos_host.specs.declared.send.SendFault.{SendFault}
+use Rattle.escpos_host.specs.declared.send.SendFault.TheVariants as fault
+use Rattle.escpos_host.specs.Awaits.{Brought, Closes, HearsOut, IsOverlooked, IsSilence, IsStop, Lost, Opens, Overlooked, RefusesOpening, Silent, Stops, dialled, ready, sending, with_out}
+use Rattle.escpos_host.specs.Heard.{HearsByte, IsClosing, IsOpeningMark, recorded, opened, with_half}
+use Rattle.escpos_host.specs.Machine.{HostView, InFlight, Phase, Down, Opening, Open, RefusesSubmit, gone_down, handed_out, most_in_flight, submitted}
+use Rattle.escpos_host.specs.Sends.{Call, Closed, IsCut, IsToClosing, IsToOpening, Opened, Refuses, Unclosed, Unopened, closing, given_up, opening_bytes, receipt_bytes, recorded_by}
+use Rattle.escpos_host.proofs.Passing.{Joined, whole_heard}
+use Rattle.escpos_host.proofs.Waiting.{split_at}
+
+-- What a host that waits so looks like: what it has to say is said.
+abbrev pub asking : Call → HostView
+asking c = with_out (dialled c.before c.openings) []
+
+abbrev pub hoping : Call → List ℕ → HostView
+hoping c half = with_out (sending c half) []
+
+-- ## Answers that are overlooked
+
+no_opening : (c : Call) (a : Answer) → IsOverlooked (Opening c.before.next) (c.before.next + c.openings) a → IsToOpening c a → ⊥
+no_opening c (answer.Status b) h is = is
+no_opening c (answer.Mark id) h is = h is
+
+no_openings : (c : Call) (answers : List Answer) → AllByRecursion (IsOverlooked (Opening c.before.next) (c.before.next + c.openings)) answers
+    → AllByRecursion (λ a. IsToOpening c a → ⊥) answers
+no_openings c [] h = h
+no_openings c (a ∷ answers) h = (no_opening c a h.0, no_openings c answers h.1)
+
+pub unopened : (c : Call) (bytes half : List ℕ) → Overlooked (asking c) bytes half → Unopened c bytes half
+unopened c bytes half o = record { answers = o.answers; hears = o.hears; each = no_openings c o.answers o.each }
+
+no_closing : (c : Call) (next : ℕ) (a : Answer) → IsOverlooked (Open (record { receipt = c.receipt; mark = closing c } ∷ [])) next a → IsToClosing c a → ⊥
+no_closing c next (answer.Status b) h is = is
+no_closing c next (answer.Mark id) h is = h (inl is)
+
+no_closings : (c : Call) (next : ℕ) (answers : List Answer) → AllByRecursion (IsOverlooked (Open (record { receipt = c.receipt; mark = closing c } ∷ [])) next) answers
+    → AllByRecursion (λ a. IsToClosing c a → ⊥) answers
+no_closings c next [] h = h
+no_closings c next (a ∷ answers) h = (no_closing c next a h.0, no_closings c next answers h.1)
+
+pub unclosed : (c : Call) (early bytes half later : List ℕ) → Opened c early half → Overlooked (hoping c half) bytes later → Unclosed c (early ++ bytes) later
+unclosed c early bytes half later opened o = record {
+  early = early;
+  early_half = half;
+  later = bytes;
+  whole = refl;
+  opened = opened;
+  answers = o.answers;
+  hears = o.hears;
+  each = no_closings c (c.before.next + c.openings + 1) o.answers o.each;
+}
+
+-- ## The answer that counts
+
+-- A byte that makes an answer whole, after bytes that are overlooked.
+whole_on : Joined → (h : HostView) (bytes half : List ℕ) (byte : ℕ) (a : Answer) (o : Overlooked h bytes half) → AnswerSpells a (half ++ byte ∷ [])
+    → Hears (h.half ++ (bytes ++ byte ∷ [])) (o.answers ++ a ∷ []) []
+whole_on joined h bytes half byte a o spelled =
+    subst (λ bs. Hears bs (o.answers ++ a ∷ []) []) (append_assoc h.half bytes (byte ∷ []))
+    (joined (h.half ++ bytes) (byte ∷ []) o.answers (a ∷ []) half [] o.hears (whole_heard (half ++ byte ∷ []) a spelled))
+
+-- The bytes up to the end of the first answer to an opening mark, and the host then.
+pub record Front (c : Call) (front : List ℕ) (after : HostView) : Type 0 where
+  pub others : List Answer
+  pub first : Answer
+  pub hears : Hears front (others ++ first ∷ []) []
+  pub each : AllByRecursion (λ a. IsToOpening c a → ⊥) others
+  pub opening : IsToOpening c first
+  pub same : after ≡ ready c []
+
+abbrev first_of : Phase → ℕ
+first_of Down = 0
+first_of (Opening first) = first
+first_of (Open flight) = 0
+
+abbrev flight_of : Phase → List InFlight
+flight_of Down = []
+flight_of (Opening first) = []
+flight_of (Open flight) = flight
+
+abbrev tail_of : List InFlight → List InFlight
+tail_of [] = []
+tail_of (p ∷ ps) = ps
+
+pub fronted : Joined → (c : Call) (after : HostView) (bytes half : List ℕ) (byte place : ℕ) → Overlooked (asking c) bytes half
+    → HearsByte (with_half (asking c) half) byte place event.Opened after → Front c (bytes ++ byte ∷ []) after
+fronted joined c after bytes half byte place o (inl grows) = absurd grows
+fronted joined c after bytes half byte place o (inr (inl misfit)) = absurd misfit
+fronted joined c after bytes half byte place o (inr (inr (a, spelled, (first, id, is_first, is_mark, is_opening, same)))) =
+    let number = ap first_of is_first in
+    record {
+      others = o.answers;
+      first = a;
+      hears = whole_on joined (asking c) bytes half byte a o spelled;
+      each = no_openings c o.answers o.each;
+      opening = subst (IsToOpening c) (sym is_mark) (subst (λ n. IsOpeningMark n (c.before.next + c.openings) id) (sym number) is_opening);
+      same = same;
+    }
+
+-- The rest of the piece in which a link was opened is heard.
+pub opened_all : (c : Call) (front rest half : List ℕ) (after : HostView) → Front c front after → length rest < 64 → Overlooked after rest half → Opened c (front ++ rest) half
+opened_all c front rest half after f short o = record {
+  front = front;
+  rest = rest;
+  whole = refl;
+  others = f.others;
+  first = f.first;
+  hears = f.hears;
+  each = f.each;
+  opening = f.opening;
+  behind = o.answers;
+  hears_rest = subst (λ (v : HostView). Hears (v.half ++ rest) o.answers half) f.same o.hears;
+  short = short;
+}
+
+-- ## A byte that fits no answer
+
+misfit_waiting : (c : Call) (after : HostView) (half : List ℕ) (byte place at : ℕ) → HearsByte (with_half (asking c) half) byte place (event.BadAnswer at) after
+    → (ViableAnswer (half ++ byte ∷ []) → ⊥) × (after ≡ gone_down (asking c))
+misfit_waiting c after half byte place at (inl grows) = absurd grows
+misfit_waiting c after half byte place at (inr (inl misfit)) = (misfit.1, misfit.2)
+misfit_waiting c after half byte place at (inr (inr (a, spelled, (p, ps, id, is_open, is_mark, other, later, is_place, same_host)))) =
+    let none = ap flight_of is_open in absurd cc
+
+misfit_ready : (c : Call) (h after : HostView) (half : List ℕ) (byte place at : ℕ) → h ≡ ready c [] → HearsByte (with_half h half) byte place (event.BadAnswer at) after
+    → (ViableAnswer (half ++ byte ∷ []) → ⊥) × (after ≡ gone_down (asking c))
+misfit_ready c h after half byte place at same (inl grows) = absurd grows
+misfit_ready c h after half byte place at same (inr (inl misfit)) = (misfit.1, misfit.2 ∙ ap gone_down same)
+misfit_ready c h after half byte place at same (inr (inr (a, spelled, (p, ps, id, is_open, is_mark, other, later, is_place, same_host)))) =
+    let none = ap flight_of (sym (ap (λ (v : HostView). v.phase) same) ∙ is_open) in absurd cc
+
+misfit_hoping : (c : Call) (after : HostView) (early_half half : List ℕ) (byte place at : ℕ) → HearsByte (with_half (hoping c early_half) half) byte place (event.BadAnswer at) after
+    → (ViableAnswer (half ++ byte ∷ []) → ⊥) × (after ≡ gone_down (hoping c early_half))
+misfit_hoping c after early_half half byte place at (inl grows) = absurd grows
+misfit_hoping c after early_half half byte place at (inr (inl misfit)) = (misfit.1, misfit.2)
+misfit_hoping c after early_half half byte place at (inr (inr (a, spelled, (p, ps, id, is_open, is_mark, other, later, is_place, same_host)))) =
+    let none : [] ≡ ps = ap tail_of (ap flight_of is_open) in absurd (subst (λ qs. IsClosing qs id) (sym none) later)
+
+-- ## How a wait ends
+
+-- No answer came before the reader ended or failed, or so many bytes were read.
+pub silent_first : (c : Call) (before left a b : Option (List ℕ)) (most : ℕ) (why : SendFault) (after : HostView) → c.most ≡ most → IsSilence why
+    → Appends a b (opening_bytes c) → Silent (asking c) before left most why after → Stops c [] [] before left a b most why c.openings
+silent_first c before left a b most fault.Ended after all silence put s = record {
+  bytes = s.bytes;
+  out = opening_bytes c;
+  came = s.came;
+  few = s.few;
+  put = put;
+  fails = (after.half, c.openings, inl (unopened c s.bytes after.half s.overlooked, refl, refl), refl);
+}
+silent_first c before left a b most fault.ReadFault after all silence put s = record {
+  bytes = s.bytes;
+  out = opening_bytes c;
+  came = s.came;
+  few = s.few;
+  put = put;
+  fails = (after.half, c.openings, inl (unopened c s.bytes after.half s.overlooked, refl, refl), refl);
+}
+silent_first c before left a b most fault.TooLong after all silence put s = record {
+  bytes = s.bytes;
+  out = opening_bytes c;
+  came = s.came;
+  few = s.few;
+  put = put;
+  fails = (after.half, c.openings, inl (unopened c s.bytes after.half s.overlooked, refl, refl), s.long refl ∙ sym all, refl);
+}
+silent_first c before left a b most fault.WriteFault after all silence put s = absurd silence
+silent_first c before left a b most fault.BadAnswer after all silence put s = absurd silence
+silent_first c before left a b most (fault.Refused why) after all silence put s = absurd silence
+
+pub silent_second : (c : Call) (early half : List ℕ) (before left a b : Option (List ℕ)) (most : ℕ) (why : SendFault) (after : HostView) → Opened c early half → c.most ≡ length early + most
+    → IsSilence why → Appends a b (receipt_bytes c) → Silent (hoping c half) before left most why after → Stops c early (opening_bytes c) before left a b most why (c.openings + 1)
+silent_second c early half before left a b most fault.Ended after o all silence put s = record {
+  bytes = s.bytes;
+  out = receipt_bytes c;
+  came = s.came;
+  few = s.few;
+  put = put;
+  fails = (after.half, c.openings + 1, inr (unclosed c early s.bytes half after.half o s.overlooked, refl, refl), refl);
+}
+silent_second c early half before left a b most fault.ReadFault after o all silence put s = record {
+  bytes = s.bytes;
+  out = receipt_bytes c;
+  came = s.came;
+  few = s.few;
+  put = put;
+  fails = (after.half, c.openings + 1, inr (unclosed c early s.bytes half after.half o s.overlooked, refl, refl), refl);
+}
+silent_second c early half before left a b most fault.TooLong after o all silence put s = record {
+  bytes = s.bytes;
+  out = receipt_bytes c;
+  came = s.came;
+  few = s.few;
+  put = put;
+  fails = (
+    after.half,
+    c.openings + 1,
+    inr (unclosed c early s.bytes half after.half o s.overlooked, refl, refl),
+    length-append early s.bytes ∙ ap (λ n. length early + n) (s.long refl) ∙ sym all,
+    refl,
+  );
+}
+silent_second c early half before left a b most fault.WriteFault after o all silence put s = absurd silence
+silent_second c early half before left a b most fault.BadAnswer after o all silence put s = absurd silence
+silent_second c early half before left a b most (fault.Refused why) after o all silence put s = absurd silence
+
+-- Bytes went out, and then the writer failed.
+pub cut_first : (c : Call) (before a b : Option (List ℕ)) (most : ℕ) (some : List ℕ) → Appends a b some → IsCut (opening_bytes c) some
+    → Stops c [] [] before before a b most fault.WriteFault c.openings
+cut_first c before a b most some put cut = record {
+  bytes = [];
+  out = some;
+  came = Consumes-nil before;
+  few = omega arith;
+  put = put;
+  fails = (c.openings, inl (refl, cut, refl), refl);
+}
+
+pub cut_second : (c : Call) (early half : List ℕ) (before a b : Option (List ℕ)) (most : ℕ) (some : List ℕ) → Opened c early half → Appends a b some → IsCut (receipt_bytes c) some
+    → Stops c early (opening_bytes c) before before a b most fault.WriteFault (c.openings + 1)
+cut_second c early half before a b most some o put cut = record {
+  bytes = [];
+  out = some;
+  came = Consumes-nil before;
+  few = omega arith;
+  put = put;
+  fails = (c.openings + 1, inr (half, some, subst (λ bs. Opened c bs half) (sym (append-nil early)) o, refl, cut, refl), refl);
+}
+
+-- ## Bytes that end a wait
+
+abbrev head_of : InFlight → List InFlight → InFlight
+head_of d [] = d
+head_of d (p ∷ ps) = p
+
+-- Before an opening mark is answered an event is an opening or a byte that fits no answer.
+stopped_asking : (c : Call) (after : HostView) (half : List ℕ) (byte place : ℕ) (e : HostEvent) → IsStop e → e ≢ event.Opened → HearsByte (with_half (asking c) half) byte place e after
+    → (ViableAnswer (half ++ byte ∷ []) → ⊥) × (after ≡ gone_down (asking c))
+stopped_asking c after half byte place event.None stop other heard = absurd stop
+stopped_asking c after half byte place (event.Status b) stop other heard = absurd stop
+stopped_asking c after half byte place event.Opened stop other heard = absurd (other refl)
+stopped_asking c after half byte place (event.Recorded number) stop other (inl grows) = absurd grows
+stopped_asking c after half byte place (event.Recorded number) stop other (inr (inl misfit)) = absurd misfit
+stopped_asking c after half byte place (event.Recorded number) stop other (inr (inr (a, spelled, (p, ps, is_open, is_mark, is_number, same)))) =
+    let none = ap flight_of is_open in absurd cc
+stopped_asking c after half byte place (event.BadAnswer at) stop other heard = misfit_waiting c after half byte place at heard
+
+-- Between the answer to an opening mark and the receipt any event is a byte that fits no answer.
+stopped_ready : (c : Call) (h after : HostView) (half : List ℕ) (byte place : ℕ) (e : HostEvent) → h ≡ ready c [] → IsStop e → HearsByte (with_half h half) byte place e after
+    → (ViableAnswer (half ++ byte ∷ []) → ⊥) × (after ≡ gone_down (asking c))
+stopped_ready c h after half byte place event.None same stop heard = absurd stop
+stopped_ready c h after half byte place (event.Status b) same stop heard = absurd stop
+stopped_ready c h after half byte place event.Opened same stop (inl grows) = absurd grows
+stopped_ready c h after half byte place event.Opened same stop (inr (inl misfit)) = absurd misfit
+stopped_ready c h after half byte place event.Opened same stop (inr (inr (a, spelled, (first, id, is_first, is_mark, is_opening, gone)))) =
+    let other : Open [] ≡ Opening first = sym (ap (λ (v : HostView). v.phase) same) ∙ is_first in absurd cc
+stopped_ready c h after half byte place (event.Recorded number) same stop (inl grows) = absurd grows
+stopped_ready c h after half byte place (event.Recorded number) same stop (inr (inl misfit)) = absurd misfit
+stopped_ready c h after half byte place (event.Recorded number) same stop (inr (inr (a, spelled, (p, ps, is_open, is_mark, is_number, gone)))) =
+    let none = ap flight_of (sym (ap (λ (v : HostView). v.phase) same) ∙ is_open) in absurd cc
+stopped_ready c h after half byte place (event.BadAnswer at) same stop heard = misfit_ready c h after half byte place at same heard
+
+-- With the receipt in flight an event is its record or a byte that fits no answer.
+stopped_hoping : (c : Call) (after : HostView) (early_half half : List ℕ) (byte place : ℕ) (e : HostEvent) → IsStop e → ((number : ℕ) → e ≢ event.Recorded number)
+    → HearsByte (with_half (hoping c early_half) half) byte place e after → (ViableAnswer (half ++ byte ∷ []) → ⊥) × (after ≡ gone_down (hoping c early_half))
+stopped_hoping c after early_half half byte place event.None stop other heard = absurd stop
+stopped_hoping c after early_half half byte place (event.Status b) stop other heard = absurd stop
+stopped_hoping c after early_half half byte place event.Opened stop other (inl grows) = absurd grows
+stopped_hoping c after early_half half byte place event.Opened stop other (inr (inl misfit)) = absurd misfit
+stopped_hoping c after early_half half byte place event.Opened stop other (inr (inr (a, spelled, (first, id, is_first, is_mark, is_opening, gone)))) = absurd (cc is_first)
+stopped_hoping c after early_half half byte place (event.Recorded number) stop other heard = absurd (other number refl)
+stopped_hoping c after early_half half byte place (event.BadAnswer at) stop other heard = misfit_hoping c after early_half half byte place at heard
+
+-- A byte that fits no answer comes before an opening mark is answered.
+pub bad_first : (c : Call) (before left a b : Option (List ℕ)) (piece : List ℕ) (most : ℕ) (awaited : Awaited) (after : HostView) → Appends a b (opening_bytes c) → awaited.read ≤ most
+    → awaited.event ≢ event.Opened → Brought (asking c) before left piece awaited after → Stops c [] [] before left a b most fault.BadAnswer c.openings × (after ≡ gone_down (asking c))
+bad_first c before left a b piece most awaited after put few other w =
+    let bad = stopped_asking c after w.half w.byte w.place awaited.event w.stop other w.hears in (
+      record {
+        bytes = w.bytes ++ w.byte ∷ w.tail;
+        out = opening_bytes c;
+        came = w.came;
+        few = let read = w.read in omega (arith, few, read);
+        put = put;
+        fails = (
+          c.openings,
+          record {
+            good = w.bytes;
+            half = w.half;
+            byte = w.byte;
+            tail = w.tail;
+            whole = refl;
+            misfit = bad.0;
+            short = w.short;
+            stage = inl (inl (unopened c w.bytes w.half w.overlooked, refl, refl));
+          },
+          refl,
+        );
+      },
+      bad.1,
+    )
+
+-- One comes after that, in the same piece.
+pub bad_rest : (c : Call) (before left a b : Option (List ℕ)) (front tail : List ℕ) (most consumed : ℕ) (e : HostEvent) (h after : HostView) → Appends a b (opening_bytes c)
+    → length (front ++ tail) ≤ most → Consumes before left (front ++ tail) → length tail < 64 → Front c front h → e ≢ event.None → HearsOut h tail consumed e after
+    → Stops c [] [] before left a b most fault.BadAnswer c.openings × (after ≡ gone_down (asking c))
+bad_rest c before left a b front tail most consumed e h after put few came short f some (inl all) = absurd (some all.0)
+bad_rest c before left a b front tail most consumed e h after put few came short f some (inr (at, place, half, within, stop, taken, passed, heard)) =
+    let bad = stopped_ready c h after half (slice_index tail at) place e f.same stop heard in
+    let first = length-take at tail in
+    let last = length-drop (at + 1) tail in (
+      record {
+        bytes = front ++ tail;
+        out = opening_bytes c;
+        came = came;
+        few = few;
+        put = put;
+        fails = (
+          c.openings,
+          record {
+            good = front ++ take at tail;
+            half = half;
+            byte = slice_index tail at;
+            tail = drop (at + 1) tail;
+            whole = ap (λ v. front ++ v) (split_at tail at within) ∙ sym (append_assoc front (take at tail) (slice_index tail at ∷ drop (at + 1) tail));
+            misfit = bad.0;
+            short = omega (arith, last, short);
+            stage = inr (opened_all c front (take at tail) half h f (omega (arith, first, short)) passed, refl, refl);
+          },
+          refl,
+        );
+      },
+      bad.1,
+    )
+
+-- The event is an opening, and what comes after it in its piece is heard.
+rest_of : (h after : HostView) (before left : Option (List ℕ)) (piece : List ℕ) (awaited : Awaited) (w : Brought h before left piece awaited after) → awaited.event ≡ event.Opened
+    → take (awaited.count - awaited.heard) (drop awaited.heard piece) ≡ w.tail
+rest_of h after before left piece awaited w is = w.rest (λ at bad. let e : event.Opened ≡ event.BadAnswer at = sym is ∙ bad in absurd cc)
+
+front_of : Joined → (c : Call) (after : HostView) (before left : Option (List ℕ)) (piece : List ℕ) (awaited : Awaited) (w : Brought (asking c) before left piece awaited after) → awaited.event ≡ event.Opened
+    → Front c (w.bytes ++ w.byte ∷ []) after
+front_of joined c after before left piece awaited w is =
+    fronted joined c after w.bytes w.half w.byte w.place w.overlooked (subst (λ e. HearsByte (with_half (asking c) w.half) w.byte w.place e after) is w.hears)
+
+pub opens_all : Joined → (c : Call) (before left a b : Option (List ℕ)) (piece : List ℕ) (consumed : ℕ) (awaited : Awaited) (e : HostEvent) (m after : HostView) → Appends a b (opening_bytes c)
+    → awaited.event ≡ event.Opened → Brought (asking c) before left piece awaited m → e ≡ event.None → HearsOut m (take (awaited.count - awaited.heard) (drop awaited.heard piece)) consumed e after
+    → Opens c before left a b awaited.read after
+opens_all joined c before left a b piece consumed awaited e m after put is w none (inr (at, place, half, within, stop, taken, passed, heard)) = absurd (subst IsStop none stop)
+opens_all joined c before left a b piece consumed awaited e m after put is w none (inl (nothing, count, passed, same)) =
+    let joint = append_assoc w.bytes (w.byte ∷ []) w.tail in
+    let f = front_of joined c m before left piece awaited w is in
+    let tail = rest_of (asking c) m before left piece awaited w is in
+    record {
+      bytes = (w.bytes ++ w.byte ∷ []) ++ w.tail;
+      half = after.half;
+      came = subst (Consumes before left) (sym joint) w.came;
+      read = w.read ∙ ap length (sym joint);
+      put = put;
+      opened = opened_all c (w.bytes ++ w.byte ∷ []) w.tail after.half m f w.short (subst (λ bs. Overlooked m bs after.half) tail passed);
+      same = same ∙ ap (λ v. with_half v after.half) f.same;
+    }
+
+pub bad_behind : Joined → (c : Call) (before left a b : Option (List ℕ)) (piece : List ℕ) (most consumed : ℕ) (awaited : Awaited) (e : HostEvent) (m after : HostView) → Appends a b (opening_bytes c)
+    → awaited.read ≤ most → awaited.event ≡ event.Opened → Brought (asking c) before left piece awaited m → e ≢ event.None
+    → HearsOut m (take (awaited.count - awaited.heard) (drop awaited.heard piece)) consumed e after
+    → Stops c [] [] before left a b most fault.BadAnswer c.openings × (after ≡ gone_down (asking c))
+bad_behind joined c before left a b piece most consumed awaited e m after put few is w some heard =
+    let joint = append_assoc w.bytes (w.byte ∷ []) w.tail in
+    let count = ap length joint in
+    let read = w.read in
+    bad_rest c before left a b (w.bytes ++ w.byte ∷ []) w.tail most consumed e m after put (omega (arith, count, read, few)) (subst (Consumes before left) (sym joint) w.came) w.short
+    (front_of joined c m before left piece awaited w is) some (subst (λ bs. HearsOut m bs consumed e after) (rest_of (asking c) m before left piece awaited w is) heard)
+
+-- One comes after the receipt was put out.
+pub bad_second : (c : Call) (early early_half : List ℕ) (before left a b : Option (List ℕ)) (piece : List ℕ) (most : ℕ) (awaited : Awaited) (after : HostView) → Opened c early early_half
+    → Appends a b (receipt_bytes c) → awaited.read ≤ most → ((number : ℕ) → awaited.event ≢ event.Recorded number) → Brought (hoping c early_half) before left piece awaited after
+    → Stops c early (opening_bytes c) before left a b most fault.BadAnswer (c.openings + 1) × (after ≡ gone_down (hoping c early_half))
+bad_second c early early_half before left a b piece most awaited after opened put few other w =
+    let bad = stopped_hoping c after early_half w.half w.byte w.place awaited.event w.stop other w.hears in (
+      record {
+        bytes = w.bytes ++ w.byte ∷ w.tail;
+        out = receipt_bytes c;
+        came = w.came;
+        few = let read = w.read in omega (arith, few, read);
+        put = put;
+        fails = (
+          c.openings + 1,
+          record {
+            good = early ++ w.bytes;
+            half = w.half;
+            byte = w.byte;
+            tail = w.tail;
+            whole = sym (append_assoc early w.bytes (w.byte ∷ w.tail));
+            misfit = bad.0;
+            short = w.short;
+            stage = inl (inr (unclosed c early w.bytes early_half w.half opened w.overlooked, refl, refl));
+          },
+          refl,
+        );
+      },
+      bad.1,
+    )
+
+-- The closing mark's answer comes.
+pub closed : Joined → (c : Call) (early early_half bytes half tail : List ℕ) (byte place number : ℕ) (after : HostView) → Opened c early early_half → Overlooked (hoping c early_half) bytes half
+    → length tail < 64 → HearsByte (with_half (hoping c early_half) half) byte place (event.Recorded number) after
+    → Closed c (early ++ (bytes ++ byte ∷ tail)) × (number ≡ length c.before.records) × (after ≡ recorded_by c)
+closed joined c early early_half bytes half tail byte place number after early_opened o short (inl grows) = absurd grows
+closed joined c early early_half bytes half tail byte place number after early_opened o short (inr (inl misfit)) = absurd misfit
+closed joined c early early_half bytes half tail byte place number after early_opened o short (inr (inr (a, spelled, (p, ps, is_open, is_mark, is_number, same)))) =
+    let flight = ap flight_of is_open in
+    let first = ap (head_of p) flight in
+    let others = ap tail_of flight in (
+      record {
+        early = early;
+        early_half = early_half;
+        later = bytes ++ byte ∷ [];
+        dropped = tail;
+        whole = ap (λ v. early ++ v) (sym (append_assoc bytes (byte ∷ []) tail)) ∙ sym (append_assoc early (bytes ++ byte ∷ []) tail);
+        opened = early_opened;
+        others = o.answers;
+        last = a;
+        hears = whole_on joined (hoping c early_half) bytes half byte a o spelled;
+        each = no_closings c (c.before.next + c.openings + 1) o.answers o.each;
+        closing = subst (IsToClosing c) (sym is_mark) (ap (λ (v : InFlight). v.mark) first);
+        short = short;
+      },
+      is_number,
+      same ∙ ap (λ v. recorded (with_half (hoping c early_half) []) v ps) (sym first)
+          ∙ ap (λ qs. recorded (with_half (hoping c early_half) []) (record { receipt = c.receipt; mark = closing c }) qs) (sym others),
+    )
+
+pub gone_second : (c : Call) (early_half : List ℕ) (before left : Option (List ℕ)) (piece : List ℕ) (awaited : Awaited) (after : HostView)
+    → ((number : ℕ) → awaited.event ≢ event.Recorded number) → Brought (hoping c early_half) before left piece awaited after → after ≡ gone_down (hoping c early_half)
+gone_second c early_half before left piece awaited after other w = (stopped_hoping c after early_half w.half w.byte w.place awaited.event w.stop other w.hears).1
+
+pub closes_all : Joined → (c : Call) (early early_half : List ℕ) (before left a b : Option (List ℕ)) (piece : List ℕ) (most number : ℕ) (awaited : Awaited) (after : HostView) → Opened c early early_half
+    → Appends a b (receipt_bytes c) → awaited.read ≤ most → awaited.event ≡ event.Recorded number → Brought (hoping c early_half) before left piece awaited after
+    → Closes c early before left a b most number after
+closes_all joined c early early_half before left a b piece most number awaited after early_opened put few is w =
+    let done =
+    closed joined c early early_half w.bytes w.half w.tail w.byte w.place number after early_opened w.overlooked w.short
+    (subst (λ e. HearsByte (with_half (hoping c early_half) w.half) w.byte w.place e after) is w.hears) in
+    record {
+      bytes = w.bytes ++ w.byte ∷ w.tail;
+      came = w.came;
+      few = let read = w.read in omega (arith, few, read);
+      put = put;
+      closed = done.0;
+      place = done.1;
+      same = done.2;
+    }
+
+-- What `?` hands on.
+pub if_err : {A E : Type 0} (P : E → Type 0) (r : Result A E) (e : E) → IsErrAnd r (λ x. x ≡ e) → P e → IfErr r P
+if_err P (Ok a) e h p = tt
+if_err P (Err x) e h p = subst P (sym h) p
+
+-- A wait that ended with the link still up.
+pub lost_up : (h after : HostView) → h.phase ≢ Down → after.phase ≡ h.phase → gone_down after ≡ gone_down h → Lost h after
+lost_up h after up same gone = inr ((λ e. up (sym same ∙ e)), gone)
+
+-- ## A whole call
+
+-- The link can't be opened.
+pub refused_opening : (c : Call) (why : HostError) (after : HostView) → RefusesOpening why c.before c.openings after → Refuses c why [] [] after
+refused_opening c error.NotReady after h = absurd h
+refused_opening c error.AlreadyUp after h = (h.0, (refl, refl), h.1)
+refused_opening c error.MarksUsedUp after (down, inl (few, same)) = (down, inl (few, (refl, refl), same))
+refused_opening c error.MarksUsedUp after (down, inr (used, some, few, all, gone)) = (down, inr (inl (used, some, few, all, (refl, refl), gone)))
+refused_opening c error.Memory after (down, marks, inl same) = (down, marks, inl ((refl, refl), same))
+refused_opening c error.Memory after (down, marks, inr (used, some, few, left, gone)) = (down, marks, inr (inl (used, some, few, left, (refl, refl), gone)))
+refused_opening c error.InFlightFull after h = absurd h
+
+-- The receipt isn't taken.
+pub refused_receipt : (c : Call) (why : HostError) (h after : HostView) (bytes half : List ℕ) → c.before.phase ≡ Down → 1 ≤ c.openings → c.before.next + c.openings ≤ mark_count → Opened c bytes half → h ≡ ready c half
+    → RefusesSubmit why h → after ≡ gone_down h → Refuses c why bytes (opening_bytes c) after
+refused_receipt c error.NotReady h after bytes half down some marks o same refuses gone = absurd (refuses [] (ap (λ (v : HostView). v.phase) same))
+refused_receipt c error.AlreadyUp h after bytes half down some marks o same refuses gone = absurd refuses
+refused_receipt c error.MarksUsedUp h after bytes half down some marks o same (flight, is_open, room, none) gone =
+    let next = ap (λ (v : HostView). v.next) same in
+    (down, inr (inr (half, omega (arith, next, none, marks), (o, refl, refl), gone ∙ ap gone_down same)))
+refused_receipt c error.Memory h after bytes half down some marks o same (flight, is_open, room, left) gone =
+    let next = ap (λ (v : HostView). v.next) same in
+    let first : c.before.next < mark_count = omega (arith, some, marks) in
+    (down, first, inr (inr (half, omega (arith, next, left), (o, refl, refl), gone ∙ ap gone_down same)))
+refused_receipt c error.InFlightFull h after bytes half down some marks o same (flight, is_open, full) gone =
+    let none : [] ≡ flight = ap flight_of (sym (ap (λ (v : HostView). v.phase) same) ∙ is_open) in
+    let count = ap length none in absurd (omega (arith, count, full))
+
+-- The receipt is taken.
+pub is_sending : (c : Call) (half : List ℕ) (m q : HostView) → m ≡ ready c half
+    → (flight : List InFlight) × (m.phase ≡ Open flight) × (length flight < most_in_flight) × (m.next < mark_count) × (q ≡ submitted m flight c.receipt) → q ≡ sending c half
+is_sending c half m q same (flight, is_open, room, marks, taken) =
+    let none : [] ≡ flight = ap flight_of (sym (ap (λ (v : HostView). v.phase) same) ∙ is_open) in
+    taken ∙ ap (λ h. submitted h flight c.receipt) same ∙ ap (λ f. submitted (ready c half) f c.receipt) (sym none)
+
+-- The link is given up after a wait that ended without an answer.
+pub closed_down : (h m after : HostView) → Lost h m → (m.phase ≢ Down → after ≡ gone_down m) → (m.phase ≡ Down → after ≡ m) → after ≡ gone_down h
+closed_down h m after (inl gone) up down = down (ap (λ (v : HostView). v.phase) gone) ∙ gone
+closed_down h m after (inr (some, same)) up down = up some ∙ same
+
+-- The receipt that was in flight is handed out.
+pub one_left : (c : Call) (half : List ℕ) (q : HostView) → q ≡ gone_down (sending c half) → slice_get q.left 0 ≡ Some c.receipt
+one_left c half q gone = ap (λ (v : HostView). slice_get v.left 0) gone
+
+pub none_left : (c : Call) (half : List ℕ) (q after : HostView) → q ≡ gone_down (sending c half) → after ≡ handed_out q → after ≡ given_up c (c.openings + 1)
+none_left c half q after gone handed =
+    let next : c.before.next + c.openings + 1 ≡ c.before.next + (c.openings + 1) = omega arith in
+    handed ∙ ap handed_out gone ∙ ap (λ n. record { phase = Down; out = []; half = []; next = n; records = c.before.records; left = [] }) next
+
+pub same_some : {A : Type 0} {x y : A} → Some x ≡ Some y → x ≡ y
+same_some h = cc h

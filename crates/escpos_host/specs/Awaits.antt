@@ -1,0 +1,157 @@
+-- What the parts of `send_link` come to, for a host that has a link: hearing answers up to an event that isn't a status, reading
+-- them until there is one, and putting out what the host has to say.
+use Rattle.std.specs.Prelude.{ℕ, ◌≡◌, ◌≢◌, ◌+◌, ◌<◌, ◌≤◌, ◌-◌, ◌⊎◌, List, [], ◌∷◌, ◌++◌, length, take, drop, slice_index, Option}
+use Rattle.std.specs.List.{AllByRecursion}
+use Rattle.std.specs.Io.KnownBytes.{Appends, Consumes}
+use Rattle.escpos_command.specs.declared.answer.Answer.{Answer}
+use Rattle.escpos_command.specs.declared.answer.Answer.TheVariants as answer
+use Rattle.escpos_command.specs.Answers.{Hears}
+use Rattle.escpos_command.specs.CommandTable.{spell}
+use Rattle.escpos_command.specs.Digits.{mark_count}
+use Rattle.escpos_host.specs.declared.host.HostError.{HostError}
+use Rattle.escpos_host.specs.declared.host.HostError.TheVariants as error
+use Rattle.escpos_host.specs.declared.host.HostEvent.{HostEvent}
+use Rattle.escpos_host.specs.declared.host.HostEvent.TheVariants as event
+use Rattle.escpos_host.specs.declared.send.Awaited.{Awaited}
+use Rattle.escpos_host.specs.declared.send.SendFault.{SendFault}
+use Rattle.escpos_host.specs.declared.send.SendFault.TheVariants as fault
+use Rattle.escpos_host.specs.Heard.{HearsByte, IgnoresMark, taken_at, with_half}
+use Rattle.escpos_host.specs.Machine.{HostView, Phase, Down, Open, Opening, gone_down}
+use Rattle.escpos_host.specs.Says.{marks_from}
+use Rattle.escpos_host.specs.Sends.{Call, Closed, Fails, Opened, closing, given_up, most_in_piece, opening_bytes, receipt_bytes, recorded_by}
+
+-- ## Opening
+
+-- The host whose link is up, with so many opening marks put out.
+abbrev pub dialled : HostView → ℕ → HostView
+dialled h count = record { phase = Opening h.next; out = spell (marks_from count h.next); half = []; next = h.next + count; records = h.records; left = [] }
+
+-- The host whose link was given up after so many.
+abbrev pub hung_up : HostView → ℕ → HostView
+hung_up h count = record { phase = Down; out = []; half = []; next = h.next + count; records = h.records; left = [] }
+
+-- Why so many opening marks can't be put out.
+abbrev pub RefusesOpening : HostError → HostView → ℕ → HostView → Type 0
+RefusesOpening error.AlreadyUp h openings after = (h.phase ≢ Down) × (after ≡ h)
+RefusesOpening error.MarksUsedUp h openings after =
+    (h.phase ≡ Down)
+    × (((mark_count ≤ h.next) × (after ≡ h)) ⊎ ((used : ℕ) × (0 < used) × (used < openings) × (h.next + used ≡ mark_count) × (after ≡ hung_up h used)))
+RefusesOpening error.Memory h openings after =
+    (h.phase ≡ Down) × (h.next < mark_count)
+    × ((after ≡ h) ⊎ ((used : ℕ) × (0 < used) × (used < openings) × (h.next + used < mark_count) × (after ≡ hung_up h used)))
+RefusesOpening _ h openings after = ⊥
+
+-- ## Hearing
+
+-- An answer that leaves the host as it is: one that it ignores, or a status.
+abbrev pub IsOverlooked : Phase → ℕ → Answer → Type 0
+IsOverlooked phase next (answer.Status b) = Unit {0}
+IsOverlooked phase next (answer.Mark id) = IgnoresMark phase next id
+
+-- These bytes were read as such answers, and this half answer.
+pub record Overlooked (h : HostView) (bytes half : List ℕ) : Type 0 where
+  pub answers : List Answer
+  pub hears : Hears (h.half ++ bytes) answers half
+  pub each : AllByRecursion (IsOverlooked h.phase h.next) answers
+
+-- An event that isn't a status.
+abbrev pub IsStop : HostEvent → Type 0
+IsStop event.None = ⊥
+IsStop (event.Status byte) = ⊥
+IsStop _ = Unit {0}
+
+-- What hearing a piece up to such an event comes to.
+abbrev pub HearsOut : HostView → List ℕ → ℕ → HostEvent → HostView → Type 0
+HearsOut h bytes consumed e after =
+    ((e ≡ event.None) × (consumed ≡ length bytes) × Overlooked h bytes after.half × (after ≡ with_half h after.half))
+    ⊎ ((at : ℕ) × (place : ℕ) × (half : List ℕ) × (at < length bytes) × IsStop e × (consumed ≡ taken_at e at) × Overlooked h (take at bytes) half
+    × HearsByte (with_half h half) (slice_index bytes at) place e after)
+
+-- ## Waiting
+
+-- An event came: the bytes before the one that brought it were overlooked, and fewer than a piece has come after it.
+pub record Brought (h : HostView) (before left : Option (List ℕ)) (piece : List ℕ) (awaited : Awaited) (after : HostView) : Type 0 where
+  pub bytes : List ℕ
+  pub half : List ℕ
+  pub byte : ℕ
+  pub place : ℕ
+  pub tail : List ℕ
+  pub came : Consumes before left (bytes ++ byte ∷ tail)
+  pub read : awaited.read ≡ length (bytes ++ byte ∷ tail)
+  pub overlooked : Overlooked h bytes half
+  pub stop : IsStop awaited.event
+  pub hears : HearsByte (with_half h half) byte place awaited.event after
+  pub short : length tail < most_in_piece
+  pub start : awaited.heard ≤ awaited.count
+  pub end : awaited.count ≤ length piece
+  pub rest : ((at : ℕ) → awaited.event ≢ event.BadAnswer at) → take (awaited.count - awaited.heard) (drop awaited.heard piece) ≡ tail
+
+-- None came before the reader ended or failed, or so many bytes were read.
+pub record Silent (h : HostView) (before left : Option (List ℕ)) (most : ℕ) (why : SendFault) (after : HostView) : Type 0 where
+  pub bytes : List ℕ
+  pub came : Consumes before left bytes
+  pub few : length bytes ≤ most
+  pub long : why ≡ fault.TooLong → length bytes ≡ most
+  pub overlooked : Overlooked h bytes after.half
+  pub same : after ≡ with_half h after.half
+
+abbrev pub IsSilence : SendFault → Type 0
+IsSilence fault.Ended = Unit {0}
+IsSilence fault.ReadFault = Unit {0}
+IsSilence fault.TooLong = Unit {0}
+IsSilence _ = ⊥
+
+-- ## Putting out
+
+-- The host with these bytes to take out.
+abbrev pub with_out : HostView → List ℕ → HostView
+with_out h out = record { phase = h.phase; out = out; half = h.half; next = h.next; records = h.records; left = h.left }
+
+-- ## The two waits of a call
+
+-- The host once an opening mark is answered, and with the receipt submitted.
+abbrev pub ready : Call → List ℕ → HostView
+ready c half = record { phase = Open []; out = []; half = half; next = c.before.next + c.openings; records = c.before.records; left = [] }
+
+abbrev pub sending : Call → List ℕ → HostView
+sending c half = record {
+  phase = Open (record { receipt = c.receipt; mark = closing c } ∷ []);
+  out = receipt_bytes c;
+  half = half;
+  next = c.before.next + c.openings + 1;
+  records = c.before.records;
+  left = [];
+}
+
+-- The first wait ends in an answer to an opening mark.
+pub record Opens (c : Call) (before left put_before put_after : Option (List ℕ)) (count : ℕ) (after : HostView) : Type 0 where
+  pub bytes : List ℕ
+  pub half : List ℕ
+  pub came : Consumes before left bytes
+  pub read : count ≡ length bytes
+  pub put : Appends put_before put_after (opening_bytes c)
+  pub opened : Opened c bytes half
+  pub same : after ≡ ready c half
+
+-- The second wait ends in the answer to the closing mark; before it these bytes were read.
+pub record Closes (c : Call) (early : List ℕ) (before left put_before put_after : Option (List ℕ)) (most number : ℕ) (after : HostView) : Type 0 where
+  pub bytes : List ℕ
+  pub came : Consumes before left bytes
+  pub few : length bytes ≤ most
+  pub put : Appends put_before put_after (receipt_bytes c)
+  pub closed : Closed c (early ++ bytes)
+  pub place : number ≡ length c.before.records
+  pub same : after ≡ recorded_by c
+
+-- A wait ends otherwise; before it these bytes were read, and these said.
+pub record Stops (c : Call) (early said : List ℕ) (before left put_before put_after : Option (List ℕ)) (most : ℕ) (why : SendFault) (used : ℕ) : Type 0 where
+  pub bytes : List ℕ
+  pub out : List ℕ
+  pub came : Consumes before left bytes
+  pub few : length bytes ≤ most
+  pub put : Appends put_before put_after out
+  pub fails : Fails c why (early ++ bytes) (said ++ out) (given_up c used)
+
+-- The link is down, or is to be given up: what is left then doesn't depend on which.
+abbrev pub Lost : HostView → HostView → Type 0
+Lost h after = (after ≡ gone_down h) ⊎ ((after.phase ≢ Down) × (gone_down after ≡ gone_down h))

@@ -1,0 +1,191 @@
+-- What a call of `send_link` comes to. It speaks of all bytes of answers that were read and of all bytes that were written; the
+-- code reads pieces, and writes what its host has to say.
+--
+-- A call goes through three stages. First it waits for an answer to one of its opening marks, and nothing but these marks was
+-- written (`Unopened`). Such an answer ends in some piece of answers, all of which is heard before the receipt is put out
+-- (`Opened`). Then it waits for the answer to the receipt's closing mark (`Unclosed`), until that is read (`Closed`). What comes
+-- of a call says how far it went.
+use Rattle.std.specs.Prelude.{ℕ, ◌≡◌, ◌≢◌, ◌+◌, ◌<◌, ◌≤◌, ◌⊎◌, List, [], ◌∷◌, ◌++◌, length}
+use Rattle.std.specs.List.{AllByRecursion}
+use Rattle.escpos_command.specs.declared.answer.Answer.{Answer}
+use Rattle.escpos_command.specs.declared.answer.Answer.TheVariants as answer
+use Rattle.escpos_command.specs.declared.command.Command.{Command}
+use Rattle.escpos_command.specs.Answers.{Hears, ViableAnswer}
+use Rattle.escpos_command.specs.CommandTable.{spell}
+use Rattle.escpos_command.specs.Digits.{mark_count, mark_of}
+use Rattle.escpos_host.specs.declared.host.HostError.{HostError}
+use Rattle.escpos_host.specs.declared.host.HostError.TheVariants as error
+use Rattle.escpos_host.specs.declared.send.SendFault.{SendFault}
+use Rattle.escpos_host.specs.declared.send.SendFault.TheVariants as fault
+use Rattle.escpos_host.specs.declared.send.Sent.{Sent}
+use Rattle.escpos_host.specs.declared.send.Sent.TheVariants as became
+use Rattle.escpos_host.specs.Heard.{IsOpeningMark}
+use Rattle.escpos_host.specs.Machine.{HostView, Down, Open}
+use Rattle.escpos_host.specs.Says.{marks_from, sent}
+
+-- A call: the host as it was, the receipt, how many opening marks there are to be, and how many bytes of answers may be read.
+pub record Call : Type 0 where
+  pub before : HostView
+  pub receipt : List Command
+  pub openings : ℕ
+  pub most : ℕ
+
+-- How many bytes a piece of answers has at most.
+abbrev pub most_in_piece : ℕ
+most_in_piece = 64
+
+-- The id of the receipt's closing mark, the mark after the opening marks.
+abbrev pub closing : Call → List ℕ
+closing c = mark_of (c.before.next + c.openings)
+
+-- The bytes of the opening marks, and those of the receipt with Init before it and its closing mark after it.
+abbrev pub opening_bytes : Call → List ℕ
+opening_bytes c = spell (marks_from c.openings c.before.next)
+
+abbrev pub receipt_bytes : Call → List ℕ
+receipt_bytes c = spell (sent (record { receipt = c.receipt; mark = closing c }))
+
+-- ## How far a call went, with these bytes of answers, of which these may be a half answer
+
+abbrev pub IsToOpening : Call → Answer → Type 0
+IsToOpening c (answer.Status b) = ⊥
+IsToOpening c (answer.Mark id) = IsOpeningMark c.before.next (c.before.next + c.openings) id
+
+abbrev pub IsToClosing : Call → Answer → Type 0
+IsToClosing c (answer.Status b) = ⊥
+IsToClosing c (answer.Mark id) = closing c ≡ id
+
+-- None of the answers is to an opening mark.
+pub record Unopened (c : Call) (bytes half : List ℕ) : Type 0 where
+  pub answers : List Answer
+  pub hears : Hears bytes answers half
+  pub each : AllByRecursion (λ a. IsToOpening c a → ⊥) answers
+
+-- The first answer to an opening mark ends with `front`; fewer bytes than a piece has come after it.
+pub record Opened (c : Call) (bytes half : List ℕ) : Type 0 where
+  pub front : List ℕ
+  pub rest : List ℕ
+  pub whole : bytes ≡ front ++ rest
+  pub others : List Answer
+  pub first : Answer
+  pub hears : Hears front (others ++ first ∷ []) []
+  pub each : AllByRecursion (λ a. IsToOpening c a → ⊥) others
+  pub opening : IsToOpening c first
+  pub behind : List Answer
+  pub hears_rest : Hears rest behind half
+  pub short : length rest < most_in_piece
+
+-- The receipt was put out when the bytes `early` were read, and none of the answers that end after them is to its closing mark.
+pub record Unclosed (c : Call) (bytes half : List ℕ) : Type 0 where
+  pub early : List ℕ
+  pub early_half : List ℕ
+  pub later : List ℕ
+  pub whole : bytes ≡ early ++ later
+  pub opened : Opened c early early_half
+  pub answers : List Answer
+  pub hears : Hears (early_half ++ later) answers half
+  pub each : AllByRecursion (λ a. IsToClosing c a → ⊥) answers
+
+-- The first answer to the closing mark that ends after `early` ends with `later`; fewer bytes than a piece has come after it,
+-- and are dropped.
+pub record Closed (c : Call) (bytes : List ℕ) : Type 0 where
+  pub early : List ℕ
+  pub early_half : List ℕ
+  pub later : List ℕ
+  pub dropped : List ℕ
+  pub whole : bytes ≡ (early ++ later) ++ dropped
+  pub opened : Opened c early early_half
+  pub others : List Answer
+  pub last : Answer
+  pub hears : Hears (early_half ++ later) (others ++ last ∷ []) []
+  pub each : AllByRecursion (λ a. IsToClosing c a → ⊥) others
+  pub closing : IsToClosing c last
+  pub short : length dropped < most_in_piece
+
+-- ## What comes of it
+
+-- The link is given up, and so many marks were used.
+abbrev pub given_up : Call → ℕ → HostView
+given_up c used = record { phase = Down; out = []; half = []; next = c.before.next + used; records = c.before.records; left = [] }
+
+-- The receipt is the last record, and the link stays open.
+abbrev pub recorded_by : Call → HostView
+recorded_by c = record {
+  phase = Open [];
+  out = [];
+  half = [];
+  next = c.before.next + c.openings + 1;
+  records = c.before.records ++ c.receipt ∷ [];
+  left = [];
+}
+
+-- Nothing was read, nothing was written.
+abbrev pub Nothing : List ℕ → List ℕ → Type 0
+Nothing bytes out = (bytes ≡ []) × (out ≡ [])
+
+-- Some of these bytes went out, from the first on, and not all.
+abbrev pub IsCut : List ℕ → List ℕ → Type 0
+IsCut bytes out = (missing : List ℕ) × (missing ≢ []) × (bytes ≡ out ++ missing)
+
+-- All that there was to say was said, and the answer that is waited for hasn't come.
+abbrev pub Waits : Call → List ℕ → List ℕ → List ℕ → ℕ → Type 0
+Waits c bytes half out used =
+    (Unopened c bytes half × (out ≡ opening_bytes c) × (used ≡ c.openings))
+    ⊎ (Unclosed c bytes half × (out ≡ opening_bytes c ++ receipt_bytes c) × (used ≡ c.openings + 1))
+
+-- The receipt is still to be put out.
+abbrev pub IsDue : Call → List ℕ → List ℕ → List ℕ → ℕ → Type 0
+IsDue c bytes half out used = Opened c bytes half × (out ≡ opening_bytes c) × (used ≡ c.openings)
+
+-- A byte that fits no answer comes after bytes that do; fewer bytes than a piece has come after it.
+pub record IsBad (c : Call) (bytes out : List ℕ) (used : ℕ) : Type 0 where
+  pub good : List ℕ
+  pub half : List ℕ
+  pub byte : ℕ
+  pub tail : List ℕ
+  pub whole : bytes ≡ good ++ byte ∷ tail
+  pub misfit : ViableAnswer (half ++ byte ∷ []) → ⊥
+  pub short : length tail < most_in_piece
+  pub stage : Waits c good half out used ⊎ IsDue c good half out used
+
+-- The writer failed in the middle of the opening marks, or of the receipt.
+abbrev pub Breaks : Call → List ℕ → List ℕ → ℕ → Type 0
+Breaks c bytes out used =
+    ((bytes ≡ []) × IsCut (opening_bytes c) out × (used ≡ c.openings))
+    ⊎ ((half : List ℕ) × (some : List ℕ) × Opened c bytes half × (out ≡ opening_bytes c ++ some) × IsCut (receipt_bytes c) some × (used ≡ c.openings + 1))
+
+-- Why the host refused a call: to open the link, to put one more opening mark out, or to take the receipt.
+abbrev pub Refuses : Call → HostError → List ℕ → List ℕ → HostView → Type 0
+Refuses c error.AlreadyUp bytes out after = (c.before.phase ≢ Down) × Nothing bytes out × (after ≡ c.before)
+Refuses c error.MarksUsedUp bytes out after =
+    (c.before.phase ≡ Down)
+    × (((mark_count ≤ c.before.next) × Nothing bytes out × (after ≡ c.before))
+    ⊎ ((used : ℕ) × (0 < used) × (used < c.openings) × (c.before.next + used ≡ mark_count) × Nothing bytes out × (after ≡ given_up c used))
+    ⊎ ((half : List ℕ) × (c.before.next + c.openings ≡ mark_count) × IsDue c bytes half out c.openings × (after ≡ given_up c c.openings)))
+Refuses c error.Memory bytes out after =
+    (c.before.phase ≡ Down) × (c.before.next < mark_count)
+    × ((Nothing bytes out × (after ≡ c.before))
+    ⊎ ((used : ℕ) × (0 < used) × (used < c.openings) × (c.before.next + used < mark_count) × Nothing bytes out × (after ≡ given_up c used))
+    ⊎ ((half : List ℕ) × (c.before.next + c.openings < mark_count) × IsDue c bytes half out c.openings × (after ≡ given_up c c.openings)))
+Refuses c _ bytes out after = ⊥
+
+-- What the bytes read and written are where the receipt isn't recorded, and how the host is left.
+abbrev pub Fails : Call → SendFault → List ℕ → List ℕ → HostView → Type 0
+Fails c fault.Ended bytes out after = (half : List ℕ) × (used : ℕ) × Waits c bytes half out used × (after ≡ given_up c used)
+Fails c fault.ReadFault bytes out after = (half : List ℕ) × (used : ℕ) × Waits c bytes half out used × (after ≡ given_up c used)
+Fails c fault.TooLong bytes out after =
+    (half : List ℕ) × (used : ℕ) × Waits c bytes half out used × (length bytes ≡ c.most) × (after ≡ given_up c used)
+Fails c fault.WriteFault bytes out after = (used : ℕ) × Breaks c bytes out used × (after ≡ given_up c used)
+Fails c fault.BadAnswer bytes out after = (used : ℕ) × IsBad c bytes out used × (after ≡ given_up c used)
+Fails c (fault.Refused why) bytes out after = Refuses c why bytes out after
+
+-- What a call comes to, with these bytes read and these written.
+abbrev pub Sends : Call → List ℕ → List ℕ → Sent → HostView → Type 0
+Sends c bytes out (became.Recorded number) after =
+    (c.before.phase ≡ Down) × Closed c bytes × (out ≡ opening_bytes c ++ receipt_bytes c) × (number ≡ length c.before.records) × (after ≡ recorded_by c)
+Sends c bytes out (became.NotRecorded why receipt) after = (receipt ≡ c.receipt) × Fails c why bytes out after
+
+-- The receipt isn't recorded for this reason.
+abbrev pub Why : Sent → SendFault → Type 0
+Why (became.Recorded number) why = ⊥
+Why (became.NotRecorded other receipt) why = other ≡ why
