@@ -3,7 +3,7 @@
 //! A test makes the host and lends it to checks, which own nothing: what a function owns is proved dropped at each way out
 //! of it.
 
-use escpos_command::{Command, StatusKind};
+use escpos_command::{Answer, Command, MarkId, StatusKind};
 use escpos_host::{Heard, Host, HostError, HostEvent, HostState, Receipt};
 use std::alloc::Global;
 use std::process::Abort;
@@ -383,4 +383,138 @@ fn host_errors(rt: HostRuntime) {
     ] {
         assert_eq!(&rt; error.number(), number, "{error:?}");
     }
+}
+
+// While none is answered, more opening marks are put out, and each of them opens.
+fn nudges(rt: &impl Abort, host: &mut Host) {
+    links_up(rt, host);
+    assert!(rt; host.nudge() == Ok(()));
+    assert!(rt; host.nudge() == Ok(()));
+    stands(rt, host, HostState::Opening);
+    assert_eq!(rt; host.next_mark(), 3);
+    puts_out(
+        rt,
+        host,
+        b"\x1D(H\x06\x00000000\x1D(H\x06\x00000001\x1D(H\x06\x00000002",
+    );
+    hears(rt, host, ANSWER_1, 7, HostEvent::Opened);
+    hears(rt, host, ANSWER_2, 7, HostEvent::None);
+    stands(rt, host, HostState::Ready);
+}
+
+#[test]
+fn nudged(rt: HostRuntime) {
+    let mut host = Host::new(rt.alloc(), 0);
+    nudges(&rt, &mut host);
+}
+
+// Each kind of status is asked for.
+fn asks_all(rt: &impl Abort, host: &mut Host) {
+    opens(rt, host);
+    for number in [1, 2, 3, 4] {
+        assert!(rt; host.ask(kind(rt, number)) == Ok(()), "{number}");
+    }
+    puts_out(
+        rt,
+        host,
+        b"\x1D(H\x06\x00000000\x10\x04\x01\x10\x04\x02\x10\x04\x03\x10\x04\x04",
+    );
+}
+
+#[test]
+fn asked(rt: HostRuntime) {
+    let mut host = Host::new(rt.alloc(), 0);
+    asks_all(&rt, &mut host);
+}
+
+// The answer to the mark of this number.
+fn answer_to(rt: &impl Abort, number: u32) -> Answer {
+    Answer::Mark(MarkId::of_number(number).expect(rt, "a mark"))
+}
+
+// Many links, with many nudges and a receipt each: no call wants memory that there is.
+fn prints_long(rt: &impl Abort, alloc: Global, host: &mut Host) {
+    let mut room = [0; 100];
+    for link in 0..1100 {
+        links_up(rt, host);
+        let answer = answer_to(rt, host.next_mark().saturating_sub(1)).bytes();
+        assert!(rt; host.nudge() == Ok(()), "{link}");
+        hears(rt, host, answer.as_slice(), 7, HostEvent::Opened);
+        for _ in 0..4 {
+            submits(rt, alloc, host, S);
+        }
+        let _ = host.take_out(&mut room);
+        assert!(rt; !host.has_out());
+        let answer = answer_to(rt, host.next_mark().saturating_sub(4)).bytes();
+        hears(rt, host, answer.as_slice(), 7, HostEvent::Recorded(link));
+        host.link_down();
+    }
+    assert_eq!(rt; host.records().len(), 1100);
+}
+
+#[test]
+fn long_run(rt: HostRuntime) {
+    let mut host = Host::new(rt.alloc(), 0);
+    prints_long(&rt, rt.alloc(), &mut host);
+}
+
+// Two values are equal only where they are the same, and are shown by name.
+#[test]
+fn events_and_errors(rt: HostRuntime) {
+    assert!(&rt; HostError::NotReady != HostError::Memory);
+    assert!(&rt; HostState::Down != HostState::Ready);
+    let heard = Heard {
+        consumed: 1,
+        event: HostEvent::None,
+    };
+    assert!(&rt;
+        heard
+            != Heard {
+                consumed: 2,
+                event: HostEvent::None
+            }
+    );
+    assert!(&rt; HostEvent::Recorded(0) != HostEvent::Recorded(1));
+    let event = HostEvent::Recorded(3).clone().expect(&rt, "memory");
+    assert_eq!(&rt; event, HostEvent::Recorded(3));
+    let text = format!(in rt.alloc();
+        "{:?} {:?}",
+        HostState::Opening,
+        HostError::InFlightFull
+    ).expect(&rt, "memory");
+    assert_eq!(&rt; text.as_str(), "Opening InFlightFull");
+}
+
+// With a receipt begun, three more are put out behind it.
+fn submits_behind(rt: &impl Abort, alloc: Global, host: &mut Host) {
+    opens(rt, host);
+    puts_out(rt, host, b"\x1D(H\x06\x00000000");
+    submits(rt, alloc, host, A);
+    let mut room = [0; 3];
+    assert_eq!(rt; host.take_out(&mut room), 3);
+    assert_eq!(rt; room, *b"\x1B@A");
+    for _ in 0..3 {
+        submits(rt, alloc, host, B);
+    }
+}
+
+#[test]
+fn begun_receipt(rt: HostRuntime) {
+    let mut host = Host::new(rt.alloc(), 0);
+    submits_behind(&rt, rt.alloc(), &mut host);
+}
+
+// The room of the records grows with them, by more than one record at a time.
+#[test]
+fn room_of_records(rt: HostRuntime) {
+    let host = Host::new(rt.alloc(), 0);
+    assert_eq!(&rt; host.into_records().capacity(), 0);
+    let mut host = Host::new(rt.alloc(), 0);
+    records_two(&rt, rt.alloc(), &mut host);
+    assert!(&rt; host.into_records().capacity() <= 16);
+    let mut host = Host::new(rt.alloc(), 0);
+    prints_long(&rt, rt.alloc(), &mut host);
+    let records = host.into_records();
+    assert!(&rt; records.capacity() > 1100 + 4);
+    assert!(&rt; records.capacity() <= 4 * 1100);
 }

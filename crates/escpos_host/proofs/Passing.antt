@@ -27,9 +27,9 @@ whole_heard bs a spelled = record {
   left = inl refl;
 }
 
-pub all_and_last : (P : Answer → Type 0) (some : List Answer) (a : Answer) → AllByRecursion P some → P a → AllByRecursion P (some ++ a ∷ [])
-all_and_last P [] a all last = (last, all)
-all_and_last P (b ∷ some) a all last = (all.0, all_and_last P some a all.1 last)
+pub all_joined : {X : Type 0} (P : X → Type 0) (some others : List X) → AllByRecursion P some → AllByRecursion P others → AllByRecursion P (some ++ others)
+all_joined P [] others all more = more
+all_joined P (x ∷ some) others all more = (all.0, all_joined P some others all.1 more)
 
 -- What passed, and what the host is then.
 pub record PassedOn (h : HostView) (bytes : List ℕ) (after : HostView) : Type 0 where
@@ -58,5 +58,5 @@ one_more_passed joined h after bytes half byte at passed (inr (inr (a, spelled, 
       ignored = passed.ignored ++ a ∷ [];
       hears = subst (λ bs. Hears bs (passed.ignored ++ a ∷ []) []) (append_assoc h.half bytes (byte ∷ []))
           (joined (h.half ++ bytes) (byte ∷ []) passed.ignored (a ∷ []) half [] passed.hears (whole_heard (half ++ byte ∷ []) a spelled));
-      each = all_and_last (Ignores h.phase h.next) passed.ignored a passed.each turns.0;
+      each = all_joined (Ignores h.phase h.next) passed.ignored (a ∷ []) passed.each (turns.0, tt);
     }) turns.1

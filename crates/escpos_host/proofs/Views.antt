@@ -1,6 +1,6 @@
 -- What a host keeps, as it is seen.
 use Rattle.std.proofs.Common.{◌≡◌, ℕ, ◌+◌, ◌≤◌, ◌==◌, true, false, List, [], ◌∷◌, ◌++◌, length, length-append, length-take, length-drop, take, drop, get_or, map, append-nil, suc, refl, sym, ◌∙◌, ap, arith}
-use Rattle.std.specs.Prelude.{is_err, OnOk, OnErr, Result, Ok, Err, not, IsTrue, ◌↔◌, ◌≢◌, Bool, ◌<◌}
+use Rattle.std.specs.Prelude.{◌⊎◌, is_err, OnOk, OnErr, Result, Ok, Err, not, IsTrue, ◌↔◌, ◌≢◌, Bool, ◌<◌}
 use Rattle.std.proofs.lemmas.List.{take_all, drop_all, drop-drop, drop-append-le, take-append-le}
 use Rattle.std.proofs.Math.Seq.{take-append_seam, drop-append_seam}
 use Rattle.std.specs.List.{remove}
@@ -10,10 +10,11 @@ use Rattle.escpos_host.specs.declared.host.Stage.{Stage}
 use Rattle.escpos_host.specs.declared.host.Stage.TheVariants as stage
 use Rattle.escpos_host.specs.Kept.{Fits, pairs, view_of}
 use Rattle.escpos_command.specs.declared.command.Command.TheVariants as kind
+use Rattle.escpos_command.specs.Answers.{HalfAnswer}
 use Rattle.escpos_command.specs.CommandTable.{row, spell}
 use Rattle.std.specs.List.{AllByRecursion}
 use Rattle.escpos_command.specs.Digits.{mark_count, mark_of}
-use Rattle.escpos_host.specs.Machine.{HostView, InFlight, Phase, Down, Opening, Open, state_of, linked, nudged, gone_down, taken, handed_out, submitted}
+use Rattle.escpos_host.specs.Machine.{HostView, InFlight, IsSound, Phase, Down, Opening, Open, state_of, linked, nudged, gone_down, taken, handed_out, submitted}
 use Rattle.escpos_host.specs.Out.{IsPlaced, Pending, Within, left, part_commands}
 use Rattle.escpos_host.specs.declared.outbox.Part.TheVariants as part
 use Rattle.escpos_host.proofs.Pending.{more_receipts}
@@ -212,3 +213,22 @@ fits_submitted receipts recorded marks out fresh half next r id fits within some
   omega (arith, fits.1, length-append receipts (r ∷ []), length-append marks (next ∷ [])),
   all_with_last marks next fits.2 some,
 )
+
+-- No more receipts are in flight than there are numbers of closing marks.
+in_flight_few : (rs : List (List Command)) (ns : List ℕ) → length (map (λ p. p.receipt) (pairs rs ns)) ≤ length ns
+in_flight_few [] ns = omega arith
+in_flight_few (r ∷ rs) [] = omega arith
+in_flight_few (r ∷ rs) (n ∷ ns) = omega (arith, in_flight_few rs ns)
+
+pub sound : (s : Stage) (receipts : List (List Command)) (recorded : ℕ) (marks : List ℕ) (out : Pending) (half : List ℕ) (next : ℕ)
+    → Fits s receipts recorded marks out half → length marks ≤ 4 → (half ≡ []) ⊎ HalfAnswer half → IsSound (view_of s receipts recorded marks out half next)
+sound stage.Down receipts recorded marks out half next fits few heard =
+    record { quiet = λ e. ((fits.1 receipts).1, fits.2); none_left = λ up. absurd (up refl); few = omega arith; half = heard }
+sound (stage.Opening first) receipts recorded marks out half next fits few heard =
+    record { quiet = λ e. absurd (cc e); none_left = λ up. refl; few = omega arith; half = heard }
+sound stage.Open receipts recorded marks out half next fits few heard = record {
+  quiet = λ e. absurd (cc e);
+  none_left = λ up. refl;
+  few = let most = in_flight_few (drop recorded receipts) marks in omega (arith, most, few);
+  half = heard;
+}

@@ -14,7 +14,7 @@ use Rattle.escpos_host.specs.declared.host.HostEvent.TheVariants as event
 use Rattle.escpos_host.specs.Awaits.{Brought, HearsOut, IsOverlooked, IsStop, Overlooked}
 use Rattle.escpos_host.specs.Heard.{HearsByte, Ignores, IsHeard, Passed, taken_at, with_half}
 use Rattle.escpos_host.specs.Machine.{HostView, Phase}
-use Rattle.escpos_host.proofs.Passing.{Joined, none_passed, whole_heard}
+use Rattle.escpos_host.proofs.Passing.{Joined, all_joined, none_passed, whole_heard}
 
 -- What is ignored is overlooked.
 ignored_one : (phase : Phase) (next : ℕ) (a : Answer) → Ignores phase next a → IsOverlooked phase next a
@@ -27,10 +27,6 @@ ignored_all phase next (a ∷ answers) h = (ignored_one phase next a h.0, ignore
 
 pub overlooked_of : (h : HostView) (bytes half : List ℕ) → Passed h bytes half → Overlooked h bytes half
 overlooked_of h bytes half p = record { answers = p.ignored; hears = p.hears; each = ignored_all h.phase h.next p.ignored p.each }
-
-all_joined : (P : Answer → Type 0) (some others : List Answer) → AllByRecursion P some → AllByRecursion P others → AllByRecursion P (some ++ others)
-all_joined P [] others all more = more
-all_joined P (a ∷ some) others all more = (all.0, all_joined P some others all.1 more)
 
 -- More is overlooked.
 pub overlooked_on : Joined → (h : HostView) (x y half later : List ℕ) → Overlooked h x half → Overlooked (with_half h half) y later → Overlooked h (x ++ y) later

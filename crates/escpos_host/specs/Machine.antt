@@ -19,9 +19,10 @@
 --
 -- Any other mark's answer is ignored. A status byte is told of in every state but Down. `link_down`, and a byte that is no
 -- answer's, lead to Down; what was in flight then is left.
-use Rattle.std.specs.Prelude.{ℕ, ◌≡◌, ◌≢◌, ◌+◌, ◌<◌, ◌≤◌, List, [], ◌∷◌, ◌++◌, length, drop, map}
+use Rattle.std.specs.Prelude.{ℕ, ◌≡◌, ◌≢◌, ◌⊎◌, ◌+◌, ◌<◌, ◌≤◌, List, [], ◌∷◌, ◌++◌, length, drop, map}
 use Rattle.escpos_command.specs.declared.command.Command.{Command}
 use Rattle.escpos_command.specs.declared.command.Command.TheVariants as kind
+use Rattle.escpos_command.specs.Answers.{HalfAnswer}
 use Rattle.escpos_command.specs.CommandTable.{row, spell}
 use Rattle.escpos_command.specs.Digits.{mark_count, mark_of}
 use Rattle.escpos_host.specs.declared.host.HostState.{HostState}
@@ -104,6 +105,13 @@ taken h count = record { phase = h.phase; out = drop count h.out; half = h.half;
 -- The first receipt of those that are left is handed out.
 abbrev pub handed_out : HostView → HostView
 handed_out h = record { phase = h.phase; out = h.out; half = h.half; next = h.next; records = h.records; left = drop 1 h.left }
+
+-- What is true of every host.
+pub record IsSound (h : HostView) : Type 0 where
+  pub quiet : h.phase ≡ Down → (h.out ≡ []) × (h.half ≡ [])
+  pub none_left : h.phase ≢ Down → h.left ≡ []
+  pub few : length (in_flight h.phase) ≤ most_in_flight
+  pub half : (h.half ≡ []) ⊎ HalfAnswer h.half
 
 -- Why a call is refused. The first reason that applies counts.
 abbrev pub HasMark : HostView → Type 0

@@ -1,10 +1,12 @@
 -- What a host has put on one link.
-use Rattle.std.specs.Prelude.{ℕ, ◌≡◌, ◌+◌, zero, suc, List, [], ◌∷◌, ◌++◌}
-use Rattle.std.specs.List.{flat_map}
+use Rattle.std.specs.Prelude.{ℕ, ◌≡◌, ◌<◌, ◌≤◌, ◌+◌, IsTrue, zero, suc, List, [], ◌∷◌, ◌++◌}
+use Rattle.std.specs.List.{flat_map, AllByRecursion}
 use Rattle.escpos_command.specs.declared.command.Command.{Command}
 use Rattle.escpos_command.specs.declared.command.Command.TheVariants as kind
-use Rattle.escpos_command.specs.Digits.{mark_of}
+use Rattle.escpos_command.specs.Digits.{mark_count, mark_of}
+use Rattle.escpos_command.specs.Parameters.{is_status_kind}
 use Rattle.escpos_command.specs.CommandTable.{spell}
+use Rattle.escpos_host.specs.Whole.{Whole}
 use Rattle.escpos_host.specs.Machine.{HostView, InFlight, Phase, Down, Opening, Open}
 
 -- So many marks, from this number on.
@@ -25,13 +27,23 @@ abbrev pub said_by : Part → List Command
 said_by (Asked n) = kind.Status n ∷ []
 said_by (Sent p) = sent p
 
+-- What was sent is a receipt, and its closing mark is one that has a number.
+abbrev pub IsSent : InFlight → Type 0
+IsSent p = Whole p.receipt × ((n : ℕ) × (n < mark_count) × (p.mark ≡ mark_of n))
+
+abbrev pub IsPart : Part → Type 0
+IsPart (Asked n) = IsTrue (is_status_kind n)
+IsPart (Sent p) = IsSent p
+
 -- What a host in this phase has said, where its next mark has this number: its opening marks, one or more; once one of them is
 -- answered status requests and receipts after them; and last the receipts that are in flight, the oldest first.
 abbrev pub SaysIn : Phase → ℕ → List Command → Type 0
 SaysIn Down next said = ⊥
-SaysIn (Opening first) next said = (count : ℕ) × (next ≡ first + suc count) × (said ≡ marks_from (suc count) first)
+SaysIn (Opening first) next said =
+    (count : ℕ) × (next ≡ first + suc count) × (next ≤ mark_count) × (said ≡ marks_from (suc count) first)
 SaysIn (Open flight) next said =
-    (first : ℕ) × (count : ℕ) × (parts : List Part) × (said ≡ marks_from (suc count) first ++ flat_map said_by parts ++ flat_map sent flight)
+    (first : ℕ) × (count : ℕ) × (parts : List Part) × (first + suc count ≤ mark_count) × AllByRecursion IsPart parts × AllByRecursion IsSent flight
+    × (said ≡ marks_from (suc count) first ++ flat_map said_by parts ++ flat_map sent flight)
 
 abbrev pub Says : HostView → List Command → Type 0
 Says h said = SaysIn h.phase h.next said

@@ -3,13 +3,12 @@
 //! Everything that changes a host stands here. The protocol is `specs/Machine.antt`; `outbox` keeps what is to be put out, and
 //! `hearing` reads answers.
 
-ghost use Rattle.std.specs.Prelude.{◌≡◌, ◌≢◌, ◌+◌, ◌<◌, ◌≤◌, ◌↔◌, ◌⊎◌, min, not, List, [], ◌∷◌, ◌++◌, length, take, drop, slice_get, Ok, Err, OnOk, IfErr, IsTrue, IsOk};
-ghost use Rattle.escpos_command.specs.Answers.{HalfAnswer};
+ghost use Rattle.std.specs.Prelude.{◌≡◌, ◌≢◌, ◌+◌, ◌<◌, ◌≤◌, ◌↔◌, min, not, List, [], ◌∷◌, ◌++◌, length, take, drop, slice_get, Ok, Err, OnOk, IfErr, IsTrue, IsOk};
 ghost use Rattle.escpos_command.specs.Digits.{mark_count, mark_of};
 ghost use Rattle.escpos_command.specs.declared.answer.Answer.TheVariants as answer;
 ghost use Rattle.escpos_host.specs.Kept.{HasIdAmong, StandsSo};
 ghost use Rattle.escpos_host.specs.Heard.{HearsByte, IsHeard, IsOpeningMark, Turns};
-ghost use Rattle.escpos_host.specs.Machine.{HostView, InFlight, Down, Opening, Open, HasMark, IsOpening, RefusesAsk, RefusesLinkUp, RefusesNudge, RefusesSubmit, asked, error_number, gone_down, linked, most_in_flight, nudged, state_of, submitted, taken, handed_out};
+ghost use Rattle.escpos_host.specs.Machine.{HostView, InFlight, Down, Opening, Open, HasMark, IsOpening, IsSound, RefusesAsk, RefusesLinkUp, RefusesNudge, RefusesSubmit, asked, error_number, gone_down, linked, most_in_flight, nudged, state_of, submitted, taken, handed_out};
 
 use crate::hearing::{AnswerReader, NoAnswer};
 use crate::outbox::{Out, Part};
@@ -172,7 +171,8 @@ impl Host {
     pub fn next_mark(&self) -> u32
         ensures { result ≡ self.now.next }
     {
-        self.next
+        let Host { next, .. } = self;
+        *next
     }
 
     /// Whether there are bytes to take out. Takes no memory.
@@ -180,6 +180,15 @@ impl Host {
         ensures { IsTrue result ↔ (self.now.out ≢ []) }
     {
         !self.out.is_empty()
+    }
+
+    /// With no link there is nothing to take out, and no half answer; with one no receipt is left, and at most four are in
+    /// flight. It does nothing: its contract says so.
+    pub fn is_sound(&self)
+        ensures { IsSound self.now }
+    {
+        let _ = self.closing.len();
+        self.reader.is_sound();
     }
 
     /// Opens a link: puts one opening mark out. What was left of the link before is dropped.
@@ -313,13 +322,6 @@ impl Host {
         }
     }
 
-    // Nothing is heard, or a half answer.
-    pub(crate) fn is_sound(&self)
-        ensures { (self.now.half ≡ []) ⊎ HalfAnswer self.now.half }
-    {
-        self.reader.is_sound();
-    }
-
     // Hears one byte, which stands at this place of its piece.
     fn hear_byte(&mut self, byte: u8, at: usize) -> HostEvent
         requires { self.old.phase ≢ Down }
@@ -412,11 +414,12 @@ impl Host {
     }
 
     /// Ends the host, and hands out the receipts that are recorded. Takes no memory.
-    pub fn into_records(mut self) -> Vec<Receipt>
+    pub fn into_records(self) -> Vec<Receipt>
         ensures { result.items ≡ self.records }
     {
-        self.receipts.truncate(self.recorded);
-        self.receipts
+        let mut records = self.receipts;
+        records.truncate(self.recorded);
+        records
     }
 }
 

@@ -7,7 +7,7 @@ use Rattle.escpos_host.proofs.Waiting.{hears_out, overlooked_none, told_on}
 use Rattle.escpos_host.proofs.send.hear.Goals as goal
 
 pub loop-init : goal.loop-init
-loop-init c = record { up = c.requires; inside = omega arith; overlooked = overlooked_none c.args.host.now c.is_sound.ensures; same = refl }
+loop-init c = record { up = c.requires; inside = omega arith; overlooked = overlooked_none c.args.host.now c.is_sound.ensures.half; same = refl }
 
 next : (c : goal.In-Status)
     → (c.loop.taken + c.heard-heard.result.consumed ≤ length c.args.bytes.now)
