@@ -162,7 +162,7 @@ silent_first c before left a b most fault.Ended after all silence put s = record
   came = s.came;
   few = s.few;
   put = put;
-  fails = (after.half, c.openings, inl (unopened c s.bytes after.half s.overlooked, refl, refl), refl);
+  fails = (after.half, c.openings, inl (unopened c s.bytes after.half s.overlooked, refl, refl), let e = s.early (inl refl) in omega (arith, e, all), refl);
 }
 silent_first c before left a b most fault.ReadFault after all silence put s = record {
   bytes = s.bytes;
@@ -170,7 +170,7 @@ silent_first c before left a b most fault.ReadFault after all silence put s = re
   came = s.came;
   few = s.few;
   put = put;
-  fails = (after.half, c.openings, inl (unopened c s.bytes after.half s.overlooked, refl, refl), refl);
+  fails = (after.half, c.openings, inl (unopened c s.bytes after.half s.overlooked, refl, refl), let e = s.early (inr refl) in omega (arith, e, all), refl);
 }
 silent_first c before left a b most fault.TooLong after all silence put s = record {
   bytes = s.bytes;
@@ -192,7 +192,13 @@ silent_second c early half before left a b most fault.Ended after o all silence 
   came = s.came;
   few = s.few;
   put = put;
-  fails = (after.half, c.openings + 1, inr (unclosed c early s.bytes half after.half o s.overlooked, refl, refl), refl);
+  fails = (
+    after.half,
+    c.openings + 1,
+    inr (unclosed c early s.bytes half after.half o s.overlooked, refl, refl),
+    let e = s.early (inl refl) in let n = length-append early s.bytes in omega (arith, e, all, n),
+    refl,
+  );
 }
 silent_second c early half before left a b most fault.ReadFault after o all silence put s = record {
   bytes = s.bytes;
@@ -200,7 +206,13 @@ silent_second c early half before left a b most fault.ReadFault after o all sile
   came = s.came;
   few = s.few;
   put = put;
-  fails = (after.half, c.openings + 1, inr (unclosed c early s.bytes half after.half o s.overlooked, refl, refl), refl);
+  fails = (
+    after.half,
+    c.openings + 1,
+    inr (unclosed c early s.bytes half after.half o s.overlooked, refl, refl),
+    let e = s.early (inr refl) in let n = length-append early s.bytes in omega (arith, e, all, n),
+    refl,
+  );
 }
 silent_second c early half before left a b most fault.TooLong after o all silence put s = record {
   bytes = s.bytes;

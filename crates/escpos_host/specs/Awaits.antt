@@ -92,6 +92,7 @@ pub record Silent (h : HostView) (before left : Option (List ℕ)) (most : ℕ) 
   pub came : Consumes before left bytes
   pub few : length bytes ≤ most
   pub long : why ≡ fault.TooLong → length bytes ≡ most
+  pub early : (why ≡ fault.Ended) ⊎ (why ≡ fault.ReadFault) → length bytes < most
   pub overlooked : Overlooked h bytes after.half
   pub same : after ≡ with_half h after.half
 

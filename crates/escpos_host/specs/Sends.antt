@@ -169,10 +169,13 @@ Refuses c error.Memory bytes out after =
     ⊎ ((half : List ℕ) × (c.before.next + c.openings < mark_count) × IsDue c bytes half out c.openings × (after ≡ given_up c c.openings)))
 Refuses c _ bytes out after = ⊥
 
--- What the bytes read and written are where the receipt isn't recorded, and how the host is left.
+-- What the bytes read and written are where the receipt isn't recorded, and how the host is left. The end of the answers and
+-- the reader's failure are found by a read alone, and none is tried once as many bytes were read as may be.
 abbrev pub Fails : Call → SendFault → List ℕ → List ℕ → HostView → Type 0
-Fails c fault.Ended bytes out after = (half : List ℕ) × (used : ℕ) × Waits c bytes half out used × (after ≡ given_up c used)
-Fails c fault.ReadFault bytes out after = (half : List ℕ) × (used : ℕ) × Waits c bytes half out used × (after ≡ given_up c used)
+Fails c fault.Ended bytes out after =
+    (half : List ℕ) × (used : ℕ) × Waits c bytes half out used × (length bytes < c.most) × (after ≡ given_up c used)
+Fails c fault.ReadFault bytes out after =
+    (half : List ℕ) × (used : ℕ) × Waits c bytes half out used × (length bytes < c.most) × (after ≡ given_up c used)
 Fails c fault.TooLong bytes out after =
     (half : List ℕ) × (used : ℕ) × Waits c bytes half out used × (length bytes ≡ c.most) × (after ≡ given_up c used)
 Fails c fault.WriteFault bytes out after = (used : ℕ) × Breaks c bytes out used × (after ≡ given_up c used)
