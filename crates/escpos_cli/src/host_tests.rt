@@ -9,14 +9,14 @@ use std::alloc::Global;
 use std::process::Abort;
 
 // Texts of receipts, and their lines.
-const S: (&[u8], &[u8]) = (b"[{\"line\":\"Hi\"}]", b"Hi");
+pub(crate) const S: (&[u8], &[u8]) = (b"[{\"line\":\"Hi\"}]", b"Hi");
 
-const A: (&[u8], &[u8]) = (b"[{\"line\":\"A\"}]", b"A");
+pub(crate) const A: (&[u8], &[u8]) = (b"[{\"line\":\"A\"}]", b"A");
 
 const B: (&[u8], &[u8]) = (b"[{\"line\":\"B\"}]", b"B");
 
 // The answers to the marks of these numbers.
-const ANSWER_0: &[u8] = b"\x37\x220000\x00";
+pub(crate) const ANSWER_0: &[u8] = b"\x37\x220000\x00";
 
 const ANSWER_1: &[u8] = b"\x37\x220001\x00";
 
@@ -27,7 +27,7 @@ const ANSWER_5: &[u8] = b"\x37\x220005\x00";
 const ANSWER_6: &[u8] = b"\x37\x220006\x00";
 
 // The receipt that a text describes.
-fn receipt_of(rt: &impl Abort, alloc: Global, text: &[u8]) -> Receipt {
+pub(crate) fn receipt_of(rt: &impl Abort, alloc: Global, text: &[u8]) -> Receipt {
     Receipt::from_json(alloc, text).expect(rt, "a receipt")
 }
 
@@ -40,7 +40,7 @@ fn is_character(command: &Command, byte: u8) -> bool {
 }
 
 // Whether these commands are the characters of a line, and its end.
-fn are_line(commands: &[Command], line: &[u8]) -> bool {
+pub(crate) fn are_line(commands: &[Command], line: &[u8]) -> bool {
     let [characters @ .., Command::LineFeed] = commands else {
         return false;
     };
@@ -53,24 +53,30 @@ fn are_line(commands: &[Command], line: &[u8]) -> bool {
 }
 
 // A slice of receipts has these lines.
-fn have_lines(rt: &impl Abort, receipts: &[Receipt], lines: &[&[u8]]) {
+pub(crate) fn have_lines(rt: &impl Abort, receipts: &[Receipt], lines: &[&[u8]]) {
     assert_eq!(rt; receipts.len(), lines.len());
     for (receipt, line) in receipts.iter().zip(lines) {
         assert!(rt; are_line(receipt.commands(), line), "{line:?}");
     }
 }
 
-fn stands(rt: &impl Abort, host: &Host, state: HostState) {
+pub(crate) fn stands(rt: &impl Abort, host: &Host, state: HostState) {
     assert_eq!(rt; host.state(), state);
 }
 
-fn links_up(rt: &impl Abort, host: &mut Host) {
+pub(crate) fn links_up(rt: &impl Abort, host: &mut Host) {
     assert!(rt; host.link_up() == Ok(()));
     stands(rt, host, HostState::Opening);
 }
 
 // Hears a piece, of which so many bytes are taken, with this event.
-fn hears(rt: &impl Abort, host: &mut Host, piece: &[u8], consumed: usize, event: HostEvent) {
+pub(crate) fn hears(
+    rt: &impl Abort,
+    host: &mut Host,
+    piece: &[u8],
+    consumed: usize,
+    event: HostEvent,
+) {
     assert_eq!(rt; host.heard(piece), Heard { consumed, event });
 }
 
@@ -109,12 +115,12 @@ fn leaves(rt: &impl Abort, host: &mut Host, (_, line): (&[u8], &[u8])) {
     assert!(rt; are_line(left.commands(), line), "{line:?}");
 }
 
-fn leaves_no_more(rt: &impl Abort, host: &mut Host) {
+pub(crate) fn leaves_no_more(rt: &impl Abort, host: &mut Host) {
     assert!(rt; host.take_left().is_none());
 }
 
 // All that there is to take out is this.
-fn puts_out(rt: &impl Abort, host: &mut Host, wanted: &[u8]) {
+pub(crate) fn puts_out(rt: &impl Abort, host: &mut Host, wanted: &[u8]) {
     let mut room = [0; 100];
     assert!(rt; host.has_out());
     let count = host.take_out(&mut room);
@@ -138,7 +144,7 @@ fn mark_numbers(rt: HostRuntime) {
     uses_marks_up(&rt, rt.alloc(), &mut host);
 }
 
-fn kind(rt: &impl Abort, number: u8) -> StatusKind {
+pub(crate) fn kind(rt: &impl Abort, number: u8) -> StatusKind {
     StatusKind::new(number).expect(rt, "a kind of status")
 }
 
@@ -240,7 +246,7 @@ fn foreign_mark(rt: HostRuntime) {
 }
 
 // What is put out of mark 0, a receipt and mark 1.
-const SENT: &[u8] = b"\x1D(H\x06\x00000000\x1B@Hi\n\x1D(H\x06\x00000001";
+pub(crate) const SENT: &[u8] = b"\x1D(H\x06\x00000000\x1B@Hi\n\x1D(H\x06\x00000001";
 
 // A receipt is recorded before any of its bytes is taken out.
 fn records_early(rt: &impl Abort, alloc: Global, host: &mut Host) {

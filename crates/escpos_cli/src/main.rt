@@ -28,6 +28,8 @@ mod receipt_edge_tests;
 mod receipt_tests;
 mod refusal;
 mod render;
+#[cfg(test)]
+mod send_tests;
 mod status;
 mod task;
 #[cfg(test)]
