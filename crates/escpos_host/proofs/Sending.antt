@@ -1,5 +1,5 @@
 -- The two waits of a call that sends a receipt, and what comes of it.
-use Rattle.std.proofs.Common.{◌≡◌, ◌≢◌, ◌<◌, ◌≤◌, ◌+◌, ◌-◌, inl, inr, ℕ, List, [], ◌∷◌, ◌++◌, length, take, drop, refl, sym, ◌∙◌, ap, subst, append-nil, append_assoc, length-append, length-take, length-drop, arith, Option, Some, Result, Ok, Err, IfErr}
+use Rattle.std.proofs.Common.{◌≡◌, ◌≢◌, ◌⊎◌, ◌<◌, ◌≤◌, ◌+◌, ◌-◌, inl, inr, ℕ, List, [], ◌∷◌, ◌++◌, length, take, drop, refl, sym, ◌∙◌, ap, subst, append-nil, append_assoc, length-append, length-take, length-drop, arith, Option, Some, Result, Ok, Err, IfErr}
 use Rattle.std.specs.Prelude.{slice_get, slice_index}
 use Rattle.std.specs.Result.{IsErrAnd}
 use Rattle.std.specs.List.{AllByRecursion}
@@ -19,7 +19,7 @@ use Rattle.escpos_host.specs.declared.send.SendFault.TheVariants as fault
 use Rattle.escpos_host.specs.Awaits.{Brought, Closes, HearsOut, IsOverlooked, IsSilence, IsStop, Lost, Opens, Overlooked, RefusesOpening, Silent, Stops, dialled, ready, sending, with_out}
 use Rattle.escpos_host.specs.Heard.{HearsByte, IsClosing, IsOpeningMark, recorded, opened, with_half}
 use Rattle.escpos_host.specs.Machine.{HostView, InFlight, Phase, Down, Opening, Open, RefusesSubmit, gone_down, handed_out, most_in_flight, submitted}
-use Rattle.escpos_host.specs.Sends.{Call, Closed, IsCut, IsToClosing, IsToOpening, Opened, Refuses, Unclosed, Unopened, closing, given_up, opening_bytes, receipt_bytes, recorded_by}
+use Rattle.escpos_host.specs.Sends.{Call, Closed, Fails, IsCut, IsToClosing, IsToOpening, Opened, Refuses, Unclosed, Unopened, Waits, closing, given_up, opening_bytes, receipt_bytes, recorded_by}
 use Rattle.escpos_host.proofs.Passing.{Joined, whole_heard}
 use Rattle.escpos_host.proofs.Waiting.{split_at}
 
@@ -154,83 +154,43 @@ misfit_hoping c after early_half half byte place at (inr (inr (a, spelled, (p, p
 -- ## How a wait ends
 
 -- No answer came before the reader ended or failed, or so many bytes were read.
+fails_silently : (c : Call) (why : SendFault) (bytes half out : List ℕ) (used : ℕ) → IsSilence why → Waits c bytes half out used → (why ≡ fault.TooLong → length bytes ≡ c.most)
+    → ((why ≡ fault.Ended) ⊎ (why ≡ fault.ReadFault) → length bytes < c.most) → Fails c why bytes out (given_up c used)
+fails_silently c fault.Ended bytes half out used silence waits long early = (half, used, waits, early (inl refl), refl)
+fails_silently c fault.ReadFault bytes half out used silence waits long early = (half, used, waits, early (inr refl), refl)
+fails_silently c fault.TooLong bytes half out used silence waits long early = (half, used, waits, long refl, refl)
+fails_silently c fault.WriteFault bytes half out used silence waits long early = absurd silence
+fails_silently c fault.BadAnswer bytes half out used silence waits long early = absurd silence
+fails_silently c (fault.Refused why) bytes half out used silence waits long early = absurd silence
+
 pub silent_first : (c : Call) (before left a b : Option (List ℕ)) (most : ℕ) (why : SendFault) (after : HostView) → c.most ≡ most → IsSilence why
     → Appends a b (opening_bytes c) → Silent (asking c) before left most why after → Stops c [] [] before left a b most why c.openings
-silent_first c before left a b most fault.Ended after all silence put s = record {
+silent_first c before left a b most why after all silence put s = record {
   bytes = s.bytes;
   out = opening_bytes c;
   came = s.came;
   few = s.few;
   put = put;
-  fails = (after.half, c.openings, inl (unopened c s.bytes after.half s.overlooked, refl, refl), let e = s.early (inl refl) in omega (arith, e, all), refl);
+  fails =
+      fails_silently c why s.bytes after.half (opening_bytes c) c.openings silence (inl (unopened c s.bytes after.half s.overlooked, refl, refl)) (λ is. s.long is ∙ sym all)
+      (λ is. let e = s.early is in omega (arith, e, all));
 }
-silent_first c before left a b most fault.ReadFault after all silence put s = record {
-  bytes = s.bytes;
-  out = opening_bytes c;
-  came = s.came;
-  few = s.few;
-  put = put;
-  fails = (after.half, c.openings, inl (unopened c s.bytes after.half s.overlooked, refl, refl), let e = s.early (inr refl) in omega (arith, e, all), refl);
-}
-silent_first c before left a b most fault.TooLong after all silence put s = record {
-  bytes = s.bytes;
-  out = opening_bytes c;
-  came = s.came;
-  few = s.few;
-  put = put;
-  fails = (after.half, c.openings, inl (unopened c s.bytes after.half s.overlooked, refl, refl), s.long refl ∙ sym all, refl);
-}
-silent_first c before left a b most fault.WriteFault after all silence put s = absurd silence
-silent_first c before left a b most fault.BadAnswer after all silence put s = absurd silence
-silent_first c before left a b most (fault.Refused why) after all silence put s = absurd silence
 
 pub silent_second : (c : Call) (early half : List ℕ) (before left a b : Option (List ℕ)) (most : ℕ) (why : SendFault) (after : HostView) → Opened c early half → c.most ≡ length early + most
     → IsSilence why → Appends a b (receipt_bytes c) → Silent (hoping c half) before left most why after → Stops c early (opening_bytes c) before left a b most why (c.openings + 1)
-silent_second c early half before left a b most fault.Ended after o all silence put s = record {
-  bytes = s.bytes;
-  out = receipt_bytes c;
-  came = s.came;
-  few = s.few;
-  put = put;
-  fails = (
-    after.half,
-    c.openings + 1,
-    inr (unclosed c early s.bytes half after.half o s.overlooked, refl, refl),
-    let e = s.early (inl refl) in let n = length-append early s.bytes in omega (arith, e, all, n),
-    refl,
-  );
-}
-silent_second c early half before left a b most fault.ReadFault after o all silence put s = record {
-  bytes = s.bytes;
-  out = receipt_bytes c;
-  came = s.came;
-  few = s.few;
-  put = put;
-  fails = (
-    after.half,
-    c.openings + 1,
-    inr (unclosed c early s.bytes half after.half o s.overlooked, refl, refl),
-    let e = s.early (inr refl) in let n = length-append early s.bytes in omega (arith, e, all, n),
-    refl,
-  );
-}
-silent_second c early half before left a b most fault.TooLong after o all silence put s = record {
-  bytes = s.bytes;
-  out = receipt_bytes c;
-  came = s.came;
-  few = s.few;
-  put = put;
-  fails = (
-    after.half,
-    c.openings + 1,
-    inr (unclosed c early s.bytes half after.half o s.overlooked, refl, refl),
-    length-append early s.bytes ∙ ap (λ n. length early + n) (s.long refl) ∙ sym all,
-    refl,
-  );
-}
-silent_second c early half before left a b most fault.WriteFault after o all silence put s = absurd silence
-silent_second c early half before left a b most fault.BadAnswer after o all silence put s = absurd silence
-silent_second c early half before left a b most (fault.Refused why) after o all silence put s = absurd silence
+silent_second c early half before left a b most why after o all silence put s =
+    let count = length-append early s.bytes in
+    record {
+      bytes = s.bytes;
+      out = receipt_bytes c;
+      came = s.came;
+      few = s.few;
+      put = put;
+      fails =
+          fails_silently c why (early ++ s.bytes) after.half (opening_bytes c ++ receipt_bytes c) (c.openings + 1) silence
+          (inr (unclosed c early s.bytes half after.half o s.overlooked, refl, refl)) (λ is. count ∙ ap (λ n. length early + n) (s.long is) ∙ sym all)
+          (λ is. let e = s.early is in omega (arith, e, all, count));
+    }
 
 -- Bytes went out, and then the writer failed.
 pub cut_first : (c : Call) (before a b : Option (List ℕ)) (most : ℕ) (some : List ℕ) → Appends a b some → IsCut (opening_bytes c) some
