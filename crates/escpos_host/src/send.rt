@@ -77,7 +77,7 @@ const _: () = prove!(PUT_BYTES == 512);
 ///
 /// It brings the host's link up and puts out that many opening marks, one where `openings` is 0. Once one of them is answered,
 /// and the piece of answers that this came in is heard, it submits the receipt; when its closing mark is answered, the receipt
-/// is recorded. Answers are read in pieces of at most 64 bytes, `max_bytes` of them in all, with at most `max_bytes` + 1 calls
+/// is recorded (Reference: GS ( H, function 48). Answers are read in pieces of at most 64 bytes, `max_bytes` of them in all, with at most `max_bytes` + 1 calls
 /// of `pull`; what is left of the last piece is dropped.
 ///
 /// The receipt is handed back where it isn't recorded. Then the host's records are as before, and its link is down; a host
