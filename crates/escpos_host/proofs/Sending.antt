@@ -19,7 +19,7 @@ use Rattle.escpos_host.specs.declared.send.SendFault.TheVariants as fault
 use Rattle.escpos_host.specs.Awaits.{Brought, Closes, HearsOut, IsOverlooked, IsSilence, IsStop, Lost, Opens, Overlooked, RefusesOpening, Silent, Stops, dialled, ready, sending, with_out}
 use Rattle.escpos_host.specs.Heard.{HearsByte, IsClosing, IsOpeningMark, recorded, opened, with_half}
 use Rattle.escpos_host.specs.Machine.{HostView, InFlight, Phase, Down, Opening, Open, RefusesSubmit, gone_down, handed_out, most_in_flight, submitted}
-use Rattle.escpos_host.specs.Sends.{Call, Closed, Fails, IsCut, IsToClosing, IsToOpening, Opened, Refuses, Unclosed, Unopened, Waits, closing, given_up, opening_bytes, receipt_bytes, recorded_by}
+use Rattle.escpos_host.specs.Sends.{Call, Closed, Fails, HasMarks, IsCut, IsToClosing, IsToOpening, Opened, Refuses, Unclosed, Unopened, Waits, closing, given_up, opening_bytes, receipt_bytes, recorded_by}
 use Rattle.escpos_host.proofs.Passing.{Joined, whole_heard}
 use Rattle.escpos_host.proofs.Waiting.{split_at}
 
@@ -154,31 +154,31 @@ misfit_hoping c after early_half half byte place at (inr (inr (a, spelled, (p, p
 -- ## How a wait ends
 
 -- No answer came before the reader ended or failed, or so many bytes were read.
-fails_silently : (c : Call) (why : SendFault) (bytes half out : List ℕ) (used : ℕ) → IsSilence why → Waits c bytes half out used → (why ≡ fault.TooLong → length bytes ≡ c.most)
+fails_silently : (c : Call) (why : SendFault) (bytes half out : List ℕ) (used : ℕ) → HasMarks c used → IsSilence why → Waits c bytes half out used → (why ≡ fault.TooLong → length bytes ≡ c.most)
     → ((why ≡ fault.Ended) ⊎ (why ≡ fault.ReadFault) → length bytes < c.most) → Fails c why bytes out (given_up c used)
-fails_silently c fault.Ended bytes half out used silence waits long early = (half, used, waits, early (inl refl), refl)
-fails_silently c fault.ReadFault bytes half out used silence waits long early = (half, used, waits, early (inr refl), refl)
-fails_silently c fault.TooLong bytes half out used silence waits long early = (half, used, waits, long refl, refl)
-fails_silently c fault.WriteFault bytes half out used silence waits long early = absurd silence
-fails_silently c fault.BadAnswer bytes half out used silence waits long early = absurd silence
-fails_silently c (fault.Refused why) bytes half out used silence waits long early = absurd silence
+fails_silently c fault.Ended bytes half out used marks silence waits long early = (half, used, waits, early (inl refl), marks, refl)
+fails_silently c fault.ReadFault bytes half out used marks silence waits long early = (half, used, waits, early (inr refl), marks, refl)
+fails_silently c fault.TooLong bytes half out used marks silence waits long early = (half, used, waits, long refl, marks, refl)
+fails_silently c fault.WriteFault bytes half out used marks silence waits long early = absurd silence
+fails_silently c fault.BadAnswer bytes half out used marks silence waits long early = absurd silence
+fails_silently c (fault.Refused why) bytes half out used marks silence waits long early = absurd silence
 
-pub silent_first : (c : Call) (before left a b : Option (List ℕ)) (most : ℕ) (why : SendFault) (after : HostView) → c.most ≡ most → IsSilence why
+pub silent_first : (c : Call) (before left a b : Option (List ℕ)) (most : ℕ) (why : SendFault) (after : HostView) → HasMarks c c.openings → c.most ≡ most → IsSilence why
     → Appends a b (opening_bytes c) → Silent (asking c) before left most why after → Stops c [] [] before left a b most why c.openings
-silent_first c before left a b most why after all silence put s = record {
+silent_first c before left a b most why after marks all silence put s = record {
   bytes = s.bytes;
   out = opening_bytes c;
   came = s.came;
   few = s.few;
   put = put;
   fails =
-      fails_silently c why s.bytes after.half (opening_bytes c) c.openings silence (inl (unopened c s.bytes after.half s.overlooked, refl, refl)) (λ is. s.long is ∙ sym all)
+      fails_silently c why s.bytes after.half (opening_bytes c) c.openings marks silence (inl (unopened c s.bytes after.half s.overlooked, refl, refl)) (λ is. s.long is ∙ sym all)
       (λ is. let e = s.early is in omega (arith, e, all));
 }
 
-pub silent_second : (c : Call) (early half : List ℕ) (before left a b : Option (List ℕ)) (most : ℕ) (why : SendFault) (after : HostView) → Opened c early half → c.most ≡ length early + most
+pub silent_second : (c : Call) (early half : List ℕ) (before left a b : Option (List ℕ)) (most : ℕ) (why : SendFault) (after : HostView) → Opened c early half → HasMarks c (c.openings + 1) → c.most ≡ length early + most
     → IsSilence why → Appends a b (receipt_bytes c) → Silent (hoping c half) before left most why after → Stops c early (opening_bytes c) before left a b most why (c.openings + 1)
-silent_second c early half before left a b most why after o all silence put s =
+silent_second c early half before left a b most why after o marks all silence put s =
     let count = length-append early s.bytes in
     record {
       bytes = s.bytes;
@@ -187,32 +187,32 @@ silent_second c early half before left a b most why after o all silence put s =
       few = s.few;
       put = put;
       fails =
-          fails_silently c why (early ++ s.bytes) after.half (opening_bytes c ++ receipt_bytes c) (c.openings + 1) silence
+          fails_silently c why (early ++ s.bytes) after.half (opening_bytes c ++ receipt_bytes c) (c.openings + 1) marks silence
           (inr (unclosed c early s.bytes half after.half o s.overlooked, refl, refl)) (λ is. count ∙ ap (λ n. length early + n) (s.long is) ∙ sym all)
           (λ is. let e = s.early is in omega (arith, e, all, count));
     }
 
 -- Bytes went out, and then the writer failed.
-pub cut_first : (c : Call) (before a b : Option (List ℕ)) (most : ℕ) (some : List ℕ) → Appends a b some → IsCut (opening_bytes c) some
+pub cut_first : (c : Call) (before a b : Option (List ℕ)) (most : ℕ) (some : List ℕ) → HasMarks c c.openings → Appends a b some → IsCut (opening_bytes c) some
     → Stops c [] [] before before a b most fault.WriteFault c.openings
-cut_first c before a b most some put cut = record {
+cut_first c before a b most some marks put cut = record {
   bytes = [];
   out = some;
   came = Consumes-nil before;
   few = omega arith;
   put = put;
-  fails = (c.openings, inl (refl, cut, refl), refl);
+  fails = (c.openings, inl (refl, cut, refl), marks, refl);
 }
 
-pub cut_second : (c : Call) (early half : List ℕ) (before a b : Option (List ℕ)) (most : ℕ) (some : List ℕ) → Opened c early half → Appends a b some → IsCut (receipt_bytes c) some
+pub cut_second : (c : Call) (early half : List ℕ) (before a b : Option (List ℕ)) (most : ℕ) (some : List ℕ) → Opened c early half → HasMarks c (c.openings + 1) → Appends a b some → IsCut (receipt_bytes c) some
     → Stops c early (opening_bytes c) before before a b most fault.WriteFault (c.openings + 1)
-cut_second c early half before a b most some o put cut = record {
+cut_second c early half before a b most some o marks put cut = record {
   bytes = [];
   out = some;
   came = Consumes-nil before;
   few = omega arith;
   put = put;
-  fails = (c.openings + 1, inr (half, some, subst (λ bs. Opened c bs half) (sym (append-nil early)) o, refl, cut, refl), refl);
+  fails = (c.openings + 1, inr (half, some, subst (λ bs. Opened c bs half) (sym (append-nil early)) o, refl, cut, refl), marks, refl);
 }
 
 -- ## Bytes that end a wait
@@ -261,8 +261,8 @@ stopped_hoping c after early_half half byte place (event.BadAnswer at) stop othe
 
 -- A byte that fits no answer comes before an opening mark is answered.
 pub bad_first : (c : Call) (before left a b : Option (List ℕ)) (piece : List ℕ) (most : ℕ) (awaited : Awaited) (after : HostView) → Appends a b (opening_bytes c) → awaited.read ≤ most
-    → awaited.event ≢ event.Opened → Brought (asking c) before left piece awaited after → Stops c [] [] before left a b most fault.BadAnswer c.openings × (after ≡ gone_down (asking c))
-bad_first c before left a b piece most awaited after put few other w =
+    → awaited.event ≢ event.Opened → HasMarks c c.openings → Brought (asking c) before left piece awaited after → Stops c [] [] before left a b most fault.BadAnswer c.openings × (after ≡ gone_down (asking c))
+bad_first c before left a b piece most awaited after put few other marks w =
     let bad = stopped_asking c after w.half w.byte w.place awaited.event w.stop other w.hears in (
       record {
         bytes = w.bytes ++ w.byte ∷ w.tail;
@@ -282,6 +282,7 @@ bad_first c before left a b piece most awaited after put few other w =
             short = w.short;
             stage = inl (inl (unopened c w.bytes w.half w.overlooked, refl, refl));
           },
+          marks,
           refl,
         );
       },
@@ -290,10 +291,10 @@ bad_first c before left a b piece most awaited after put few other w =
 
 -- One comes after that, in the same piece.
 pub bad_rest : (c : Call) (before left a b : Option (List ℕ)) (front tail : List ℕ) (most consumed : ℕ) (e : HostEvent) (h after : HostView) → Appends a b (opening_bytes c)
-    → length (front ++ tail) ≤ most → Consumes before left (front ++ tail) → length tail < 64 → Front c front h → e ≢ event.None → HearsOut h tail consumed e after
+    → length (front ++ tail) ≤ most → Consumes before left (front ++ tail) → length tail < 64 → Front c front h → HasMarks c c.openings → e ≢ event.None → HearsOut h tail consumed e after
     → Stops c [] [] before left a b most fault.BadAnswer c.openings × (after ≡ gone_down (asking c))
-bad_rest c before left a b front tail most consumed e h after put few came short f some (inl all) = absurd (some all.0)
-bad_rest c before left a b front tail most consumed e h after put few came short f some (inr (at, place, half, within, stop, taken, passed, heard)) =
+bad_rest c before left a b front tail most consumed e h after put few came short f marks some (inl all) = absurd (some all.0)
+bad_rest c before left a b front tail most consumed e h after put few came short f marks some (inr (at, place, half, within, stop, taken, passed, heard)) =
     let bad = stopped_ready c h after half (slice_index tail at) place e f.same stop heard in
     let first = length-take at tail in
     let last = length-drop (at + 1) tail in (
@@ -315,6 +316,7 @@ bad_rest c before left a b front tail most consumed e h after put few came short
             short = omega (arith, last, short);
             stage = inr (opened_all c front (take at tail) half h f (omega (arith, first, short)) passed, refl, refl);
           },
+          marks,
           refl,
         );
       },
@@ -350,21 +352,21 @@ opens_all joined c before left a b piece consumed awaited e m after put is w non
     }
 
 pub bad_behind : Joined → (c : Call) (before left a b : Option (List ℕ)) (piece : List ℕ) (most consumed : ℕ) (awaited : Awaited) (e : HostEvent) (m after : HostView) → Appends a b (opening_bytes c)
-    → awaited.read ≤ most → awaited.event ≡ event.Opened → Brought (asking c) before left piece awaited m → e ≢ event.None
+    → awaited.read ≤ most → awaited.event ≡ event.Opened → HasMarks c c.openings → Brought (asking c) before left piece awaited m → e ≢ event.None
     → HearsOut m (take (awaited.count - awaited.heard) (drop awaited.heard piece)) consumed e after
     → Stops c [] [] before left a b most fault.BadAnswer c.openings × (after ≡ gone_down (asking c))
-bad_behind joined c before left a b piece most consumed awaited e m after put few is w some heard =
+bad_behind joined c before left a b piece most consumed awaited e m after put few is marks w some heard =
     let joint = append_assoc w.bytes (w.byte ∷ []) w.tail in
     let count = ap length joint in
     let read = w.read in
     bad_rest c before left a b (w.bytes ++ w.byte ∷ []) w.tail most consumed e m after put (omega (arith, count, read, few)) (subst (Consumes before left) (sym joint) w.came) w.short
-    (front_of joined c m before left piece awaited w is) some (subst (λ bs. HearsOut m bs consumed e after) (rest_of (asking c) m before left piece awaited w is) heard)
+    (front_of joined c m before left piece awaited w is) marks some (subst (λ bs. HearsOut m bs consumed e after) (rest_of (asking c) m before left piece awaited w is) heard)
 
 -- One comes after the receipt was put out.
 pub bad_second : (c : Call) (early early_half : List ℕ) (before left a b : Option (List ℕ)) (piece : List ℕ) (most : ℕ) (awaited : Awaited) (after : HostView) → Opened c early early_half
-    → Appends a b (receipt_bytes c) → awaited.read ≤ most → ((number : ℕ) → awaited.event ≢ event.Recorded number) → Brought (hoping c early_half) before left piece awaited after
+    → Appends a b (receipt_bytes c) → awaited.read ≤ most → ((number : ℕ) → awaited.event ≢ event.Recorded number) → HasMarks c (c.openings + 1) → Brought (hoping c early_half) before left piece awaited after
     → Stops c early (opening_bytes c) before left a b most fault.BadAnswer (c.openings + 1) × (after ≡ gone_down (hoping c early_half))
-bad_second c early early_half before left a b piece most awaited after opened put few other w =
+bad_second c early early_half before left a b piece most awaited after opened put few other marks w =
     let bad = stopped_hoping c after early_half w.half w.byte w.place awaited.event w.stop other w.hears in (
       record {
         bytes = w.bytes ++ w.byte ∷ w.tail;
@@ -384,6 +386,7 @@ bad_second c early early_half before left a b piece most awaited after opened pu
             short = w.short;
             stage = inl (inr (unclosed c early w.bytes early_half w.half opened w.overlooked, refl, refl));
           },
+          marks,
           refl,
         );
       },
@@ -418,6 +421,16 @@ closed joined c early early_half bytes half tail byte place number after early_o
       same ∙ ap (λ v. recorded (with_half (hoping c early_half) []) v ps) (sym first)
           ∙ ap (λ qs. recorded (with_half (hoping c early_half) []) (record { receipt = c.receipt; mark = closing c }) qs) (sym others),
     )
+
+pub gone_first : (c : Call) (before left : Option (List ℕ)) (piece : List ℕ) (awaited : Awaited) (after : HostView)
+    → awaited.event ≢ event.Opened → Brought (asking c) before left piece awaited after → after ≡ gone_down (asking c)
+gone_first c before left piece awaited after other w = (stopped_asking c after w.half w.byte w.place awaited.event w.stop other w.hears).1
+
+pub gone_behind : Joined → (c : Call) (before left : Option (List ℕ)) (piece rest : List ℕ) (consumed : ℕ) (awaited : Awaited) (e : HostEvent) (m after : HostView)
+    → awaited.event ≡ event.Opened → Brought (asking c) before left piece awaited m → e ≢ event.None → HearsOut m rest consumed e after → after ≡ gone_down (asking c)
+gone_behind joined c before left piece rest consumed awaited e m after is w some (inl all) = absurd (some all.0)
+gone_behind joined c before left piece rest consumed awaited e m after is w some (inr (at, place, half, within, stop, taken, passed, heard)) =
+    (stopped_ready c m after half (slice_index rest at) place e (front_of joined c m before left piece awaited w is).same stop heard).1
 
 pub gone_second : (c : Call) (early_half : List ℕ) (before left : Option (List ℕ)) (piece : List ℕ) (awaited : Awaited) (after : HostView)
     → ((number : ℕ) → awaited.event ≢ event.Recorded number) → Brought (hoping c early_half) before left piece awaited after → after ≡ gone_down (hoping c early_half)
@@ -483,6 +496,9 @@ pub is_sending : (c : Call) (half : List ℕ) (m q : HostView) → m ≡ ready c
 is_sending c half m q same (flight, is_open, room, marks, taken) =
     let none : [] ≡ flight = ap flight_of (sym (ap (λ (v : HostView). v.phase) same) ∙ is_open) in
     taken ∙ ap (λ h. submitted h flight c.receipt) same ∙ ap (λ f. submitted (ready c half) f c.receipt) (sym none)
+
+pub has_marks : (c : Call) (half : List ℕ) (m : HostView) → m ≡ ready c half → m.next < mark_count → HasMarks c (c.openings + 1)
+has_marks c half m same marks = let next = ap (λ (v : HostView). v.next) same in omega (arith, next, marks)
 
 -- The link is given up after a wait that ended without an answer.
 pub closed_down : (h m after : HostView) → Lost h m → (m.phase ≢ Down → after ≡ gone_down m) → (m.phase ≡ Down → after ≡ m) → after ≡ gone_down h

@@ -104,6 +104,10 @@ pub record Closed (c : Call) (bytes : List ℕ) : Type 0 where
 
 -- ## What comes of it
 
+-- So many marks from the next one on have numbers.
+abbrev pub HasMarks : Call → ℕ → Type 0
+HasMarks c used = c.before.next + used ≤ mark_count
+
 -- The link is given up, and so many marks were used.
 abbrev pub given_up : Call → ℕ → HostView
 given_up c used = record { phase = Down; out = []; half = []; next = c.before.next + used; records = c.before.records; left = [] }
@@ -173,19 +177,20 @@ Refuses c _ bytes out after = ⊥
 -- the reader's failure are found by a read alone, and none is tried once as many bytes were read as may be.
 abbrev pub Fails : Call → SendFault → List ℕ → List ℕ → HostView → Type 0
 Fails c fault.Ended bytes out after =
-    (half : List ℕ) × (used : ℕ) × Waits c bytes half out used × (length bytes < c.most) × (after ≡ given_up c used)
+    (half : List ℕ) × (used : ℕ) × Waits c bytes half out used × (length bytes < c.most) × HasMarks c used × (after ≡ given_up c used)
 Fails c fault.ReadFault bytes out after =
-    (half : List ℕ) × (used : ℕ) × Waits c bytes half out used × (length bytes < c.most) × (after ≡ given_up c used)
+    (half : List ℕ) × (used : ℕ) × Waits c bytes half out used × (length bytes < c.most) × HasMarks c used × (after ≡ given_up c used)
 Fails c fault.TooLong bytes out after =
-    (half : List ℕ) × (used : ℕ) × Waits c bytes half out used × (length bytes ≡ c.most) × (after ≡ given_up c used)
-Fails c fault.WriteFault bytes out after = (used : ℕ) × Breaks c bytes out used × (after ≡ given_up c used)
-Fails c fault.BadAnswer bytes out after = (used : ℕ) × IsBad c bytes out used × (after ≡ given_up c used)
+    (half : List ℕ) × (used : ℕ) × Waits c bytes half out used × (length bytes ≡ c.most) × HasMarks c used × (after ≡ given_up c used)
+Fails c fault.WriteFault bytes out after = (used : ℕ) × Breaks c bytes out used × HasMarks c used × (after ≡ given_up c used)
+Fails c fault.BadAnswer bytes out after = (used : ℕ) × IsBad c bytes out used × HasMarks c used × (after ≡ given_up c used)
 Fails c (fault.Refused why) bytes out after = Refuses c why bytes out after
 
 -- What a call comes to, with these bytes read and these written.
 abbrev pub Sends : Call → List ℕ → List ℕ → Sent → HostView → Type 0
 Sends c bytes out (became.Recorded number) after =
-    (c.before.phase ≡ Down) × Closed c bytes × (out ≡ opening_bytes c ++ receipt_bytes c) × (number ≡ length c.before.records) × (after ≡ recorded_by c)
+    (c.before.phase ≡ Down) × HasMarks c (c.openings + 1) × Closed c bytes × (out ≡ opening_bytes c ++ receipt_bytes c) × (number ≡ length c.before.records)
+    × (after ≡ recorded_by c)
 Sends c bytes out (became.NotRecorded why receipt) after = (receipt ≡ c.receipt) × Fails c why bytes out after
 
 -- The receipt isn't recorded for this reason.

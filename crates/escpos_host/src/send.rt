@@ -9,7 +9,7 @@ ghost use Rattle.escpos_command.specs.Digits.{mark_count};
 ghost use Rattle.escpos_host.specs.declared.send.SendFault.{SendFault};
 ghost use Rattle.escpos_host.specs.Awaits.{Brought, Closes, HearsOut, IsSilence, Lost, Opens, RefusesOpening, Silent, Stops, dialled, sending, with_out};
 ghost use Rattle.escpos_host.specs.Machine.{Down};
-ghost use Rattle.escpos_host.specs.Sends.{Call, IsCut, Opened, Sends, Why, most_in_piece, opening_bytes};
+ghost use Rattle.escpos_host.specs.Sends.{Call, HasMarks, IsCut, Opened, Sends, Why, most_in_piece, opening_bytes};
 
 use crate::host::{Heard, Host, HostError, HostEvent};
 use crate::receipt::Receipt;
@@ -162,7 +162,7 @@ fn await_opened<R: ByteIn, W: ByteOut>(
         → Opens c (R.to_come reader.old) (R.to_come reader.new) (W.written writer.old) (W.written writer.new) read host.new) }
     ensures within { IfOk result (λ read. read ≤ most) }
     ensures pulls { IfOk result (λ read. R.pull_count reader.new ≤ R.pull_count reader.old + read) }
-    ensures stops { IfErr result (λ why. (c : Call) → host.old ≡ dialled c.before c.openings → c.most ≡ most
+    ensures stops { IfErr result (λ why. (c : Call) → host.old ≡ dialled c.before c.openings → HasMarks c c.openings → c.most ≡ most
         → Stops c [] [] (R.to_come reader.old) (R.to_come reader.new) (W.written writer.old) (W.written writer.new) most why c.openings) }
     ensures lost { OnErr result ((c : Call) → host.old ≡ dialled c.before c.openings → Lost host.old host.new) }
     ensures pulls_err { OnErr result (R.pull_count reader.new ≤ R.pull_count reader.old + most + 1) }
@@ -196,7 +196,7 @@ fn await_recorded<R: ByteIn, W: ByteOut>(
     ensures closes { IfOk result (λ number. (c : Call) (early half : List ℕ) → host.old ≡ sending c half → Opened c early half
         → Closes c early (R.to_come reader.old) (R.to_come reader.new) (W.written writer.old) (W.written writer.new) most number host.new) }
     ensures pulls { R.pull_count reader.new ≤ R.pull_count reader.old + most + 1 }
-    ensures stops { IfErr result (λ why. (c : Call) (early half : List ℕ) → host.old ≡ sending c half → Opened c early half → c.most ≡ length early + most
+    ensures stops { IfErr result (λ why. (c : Call) (early half : List ℕ) → host.old ≡ sending c half → Opened c early half → HasMarks c (c.openings + 1) → c.most ≡ length early + most
         → Stops c early (opening_bytes c) (R.to_come reader.old) (R.to_come reader.new) (W.written writer.old) (W.written writer.new) most why (c.openings + 1)) }
     ensures lost { OnErr result ((c : Call) (half : List ℕ) → host.old ≡ sending c half → Lost host.old host.new) }
     ensures ended { IsErrOf result SendFault.Ended → IsTrue (R.ended reader.new) }

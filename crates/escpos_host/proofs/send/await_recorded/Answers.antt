@@ -12,10 +12,10 @@ pub returns-in_err-put_out-clause-stops : goal.returns-in_err-put_out-clause-sto
 returns-in_err-put_out-clause-stops g c =
     let e = c.in_err-put_out.ensures.some in
     if_err _ c.from_residual.result c.in_err-put_out.field-0.0 c.from_residual.ensures.1
-    (λ call early half is opened all.
+    (λ call early half is opened marks all.
     subst (λ w. Stops call early (opening_bytes call) (g.R.ByteIn.to_come c.args.reader.now) (g.R.ByteIn.to_come c.args.reader.now) (g.W.ByteOut.written c.args.writer.now) (g.W.ByteOut.written c.put_out.new.writer) c.args.most w (call.openings + 1))
     (sym c.in_err-put_out.ensures.why)
-    (cut_second call early half _ _ _ c.args.most e.0 opened e.1 (subst (λ bs. IsCut bs e.0) (ap (λ (v : HostView). v.out) is) e.2)))
+    (cut_second call early half _ _ _ c.args.most e.0 opened marks e.1 (subst (λ bs. IsCut bs e.0) (ap (λ (v : HostView). v.out) is) e.2)))
 
 pub returns-in_err-put_out-clause-lost : goal.returns-in_err-put_out-clause-lost
 returns-in_err-put_out-clause-lost g c =
@@ -27,8 +27,8 @@ returns-in_err-put_out-clause-lost g c =
 pub returns-in_err-awaited-clause-stops : goal.returns-in_err-awaited-clause-stops
 returns-in_err-awaited-clause-stops g c =
     if_err _ c.from_residual-in_err-awaited.result c.in_err-awaited.field-0.0 c.from_residual-in_err-awaited.ensures.1
-    (λ call early half is opened all.
-    silent_second call early half (g.R.ByteIn.to_come c.args.reader.now) (g.R.ByteIn.to_come c.await_event.new.reader) _ _ c.args.most c.in_err-awaited.field-0.0 c.await_event.new.host opened all
+    (λ call early half is opened marks all.
+    silent_second call early half (g.R.ByteIn.to_come c.args.reader.now) (g.R.ByteIn.to_come c.await_event.new.reader) _ _ c.args.most c.in_err-awaited.field-0.0 c.await_event.new.host opened marks all
     c.in_err-awaited.ensures.silence
     (subst (Appends (g.W.ByteOut.written c.args.writer.now) (g.W.ByteOut.written c.put_out.new.writer)) (ap (λ (v : HostView). v.out) is) c.in_ok-put_out.ensures.all)
     (subst (λ h. Silent h (g.R.ByteIn.to_come c.args.reader.now) (g.R.ByteIn.to_come c.await_event.new.reader) c.args.most c.in_err-awaited.field-0.0 c.await_event.new.host)
@@ -52,12 +52,12 @@ returns-in-Recorded-clause-closes g c = λ call early half is opened.
     c.in_ok-awaited.ensures.within c.in-Recorded.is brought
 
 pub returns-in_default-clause-stops : goal.returns-in_default-clause-stops
-returns-in_default-clause-stops g c = λ call early half is opened all.
+returns-in_default-clause-stops g c = λ call early half is opened marks all.
     let put = subst (Appends (g.W.ByteOut.written c.args.writer.now) (g.W.ByteOut.written c.put_out.new.writer)) (ap (λ (v : HostView). v.out) is) c.in_ok-put_out.ensures.all in
     let brought =
     subst (λ h. Brought h (g.R.ByteIn.to_come c.args.reader.now) (g.R.ByteIn.to_come c.await_event.new.reader) c.await_event.new.piece c.in_ok-awaited.awaited c.await_event.new.host)
     (c.in_ok-put_out.ensures.taken ∙ ap (λ v. with_out v []) is) c.in_ok-awaited.ensures.brought in
-    (bad_second call early half _ _ _ _ c.await_event.new.piece c.args.most c.in_ok-awaited.awaited c.await_event.new.host opened put c.in_ok-awaited.ensures.within c.in_default.not-Recorded brought).0
+    (bad_second call early half _ _ _ _ c.await_event.new.piece c.args.most c.in_ok-awaited.awaited c.await_event.new.host opened put c.in_ok-awaited.ensures.within c.in_default.not-Recorded marks brought).0
 
 pub returns-in_default-clause-lost : goal.returns-in_default-clause-lost
 returns-in_default-clause-lost g c = λ call half is.

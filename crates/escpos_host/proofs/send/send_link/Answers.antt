@@ -5,7 +5,7 @@ use Rattle.std.proofs.KnownBytes.{Appends-nil, Appends-trans, Consumes-nil, Cons
 use Rattle.std.proofs.Math.Nat.{le-max_right}
 use Rattle.escpos_host.specs.Machine.{HostView, Down, Open, gone_down}
 use Rattle.escpos_host.specs.Sends.{Call, Fails, opening_bytes, receipt_bytes}
-use Rattle.escpos_host.proofs.Sending.{closed_down, is_sending, none_left, one_left, refused_opening, refused_receipt, same_some}
+use Rattle.escpos_host.proofs.Sending.{closed_down, has_marks, is_sending, none_left, one_left, refused_opening, refused_receipt, same_some}
 use Rattle.escpos_host.proofs.send.send_link.Goals as goal
 
 pub returns-in-Err-clause-sends : goal.returns-in-Err-clause-sends
@@ -17,7 +17,7 @@ pub returns-in-Err-await_opened-clause-sends : goal.returns-in-Err-await_opened-
 returns-in-Err-await_opened-clause-sends g c =
     let call : Call = record { before = c.args.host.now; receipt = c.args.receipt; openings = max c.args.openings 1; most = c.args.max_bytes } in
     let is = c.in_default.ensures.opened.1 in
-    let s = c.in-Err-await_opened.ensures.stops call is refl in
+    let s = c.in-Err-await_opened.ensures.stops call is c.in_default.ensures.marks refl in
     let gone = closed_down c.open.new.host c.await_opened.new.host c.link_down.new.self (c.in-Err-await_opened.ensures.lost call is) c.link_down.ensures.up c.link_down.ensures.down in
     (s.bytes, s.out, s.came, s.put, s.few, (refl, subst (Fails call c.in-Err-await_opened.why s.bytes s.out) (sym (gone ∙ ap gone_down is)) s.fails))
 
@@ -71,7 +71,7 @@ returns-in-Ok-await_recorded-clause-sends g c =
       Appends-trans (g.W.ByteOut.written c.args.writer.now) (g.W.ByteOut.written c.await_opened.new.writer) (g.W.ByteOut.written c.await_recorded.new.writer) (opening_bytes call) (receipt_bytes call)
           o.put d.put,
       omega (arith, within, read, few, whole),
-      (c.in_default.ensures.opened.0, d.closed, refl, d.place, d.same),
+      (c.in_default.ensures.opened.0, has_marks call o.half c.await_opened.new.host o.same c.in_default-submit.ensures.submitted.3, d.closed, refl, d.place, d.same),
     )
 
 pub returns-in-Err-await_recorded-clause-sends : goal.returns-in-Err-await_recorded-clause-sends
@@ -82,7 +82,7 @@ returns-in-Err-await_recorded-clause-sends g c =
     let within = c.in-Ok.ensures.within in
     let read = o.read in
     let sent = is_sending call o.half c.await_opened.new.host c.submit.new.self o.same c.in_default-submit.ensures.submitted in
-    let s = c.in-Err-await_recorded.ensures.stops call o.bytes o.half sent o.opened (omega (arith, within, read)) in
+    let s = c.in-Err-await_recorded.ensures.stops call o.bytes o.half sent o.opened (has_marks call o.half c.await_opened.new.host o.same c.in_default-submit.ensures.submitted.3) (omega (arith, within, read)) in
     let gone =
     closed_down c.submit.new.self c.await_recorded.new.host c.link_down-in-Err-await_recorded.new.self (c.in-Err-await_recorded.ensures.lost call o.half sent)
     c.link_down-in-Err-await_recorded.ensures.up c.link_down-in-Err-await_recorded.ensures.down ∙ ap gone_down sent in
