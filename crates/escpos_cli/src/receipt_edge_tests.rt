@@ -21,7 +21,12 @@ fn gives(rt: &impl Abort, alloc: Global, text: &[u8], (line, status): (&[u8], St
 }
 
 // A front, a part that comes so many times, and an end.
-fn joined(rt: &impl Abort, alloc: Global, [front, part, end]: [&str; 3], count: usize) -> Vec<u8> {
+pub(crate) fn joined(
+    rt: &impl Abort,
+    alloc: Global,
+    [front, part, end]: [&str; 3],
+    count: usize,
+) -> Vec<u8> {
     let mut text = front.as_bytes().to_vec(alloc).expect(rt, "memory");
     for _ in 0..count {
         text.extend_from_slice(part.as_bytes()).expect(rt, "memory");

@@ -6,6 +6,7 @@ use crate::host_tests::{
     A, ANSWER_0, S, SENT, are_line, have_lines, hears, kind, leaves_no_more, links_up, puts_out,
     receipt_of, stands,
 };
+use crate::receipt_edge_tests::joined;
 use escpos_host::{Host, HostError, HostEvent, HostState, Receipt, SendFault, Sent};
 use escpos_io::{ByteIn, MemoryIn, MemoryOut};
 use std::alloc::Global;
@@ -14,6 +15,9 @@ use std::process::Abort;
 // What is written of the marks 0, 1 and 2, the receipt S and mark 3.
 const WRITTEN: &[u8] =
     b"\x1D(H\x06\x00000000\x1D(H\x06\x00000001\x1D(H\x06\x00000002\x1B@Hi\n\x1D(H\x06\x00000003";
+
+// The marks 0, 1 and 2.
+const MARKS: &[u8] = b"\x1D(H\x06\x00000000\x1D(H\x06\x00000001\x1D(H\x06\x00000002";
 
 // The answers to the marks 0 and 3.
 const ANSWERS: &[u8] = b"\x37\x220000\x00\x37\x220003\x00";
@@ -99,6 +103,10 @@ fn send_link(rt: HostRuntime) {
         let link = (answers, 7, NEVER, NEVER);
         sends_over(&rt, rt.alloc(), &mut host, link, wanted);
     }
+    // the end is found by one read, and no other follows it
+    let mut host = Host::new(rt.alloc(), 0);
+    let row = ((S, 3, 100), Err(SendFault::Ended));
+    goes(&rt, rt.alloc(), &mut host, row, (b"", 1, MARKS));
 }
 
 #[test]
@@ -178,10 +186,16 @@ fn gives(rt: &impl Abort, reader: &mut MemoryIn, wanted: &[u8]) {
     assert!(rt; reader.pull(&mut room) == Ok(0));
 }
 
-// So many bytes of answers may be read, and all of these are.
-fn stops_at(rt: &impl Abort, alloc: Global, host: &mut Host, max_bytes: u32, wanted: Wanted) {
+// So many bytes of answers may be read, and all of these are; a read gives at most `most`.
+fn stops_at(
+    rt: &impl Abort,
+    alloc: Global,
+    host: &mut Host,
+    (max_bytes, most): (u32, usize),
+    wanted: Wanted,
+) {
     let mut room = [0; 100];
-    let mut reader = MemoryIn::new(ANSWERS, 7);
+    let mut reader = MemoryIn::new(ANSWERS, most);
     let mut writer = MemoryOut::new(&mut room);
     let row = (max_bytes, wanted);
     sends_three(rt, alloc, host, &mut reader, &mut writer, row);
@@ -198,8 +212,10 @@ fn send_too_long(rt: HostRuntime) {
             7..14 => (Err(SendFault::TooLong), 49, 4),
             _ => RECORDED,
         };
-        let mut host = Host::new(rt.alloc(), 0);
-        stops_at(&rt, rt.alloc(), &mut host, max_bytes, wanted);
+        for most in [7, 9] {
+            let mut host = Host::new(rt.alloc(), 0);
+            stops_at(&rt, rt.alloc(), &mut host, (max_bytes, most), wanted);
+        }
     }
 }
 
@@ -292,6 +308,52 @@ fn sends_two(rt: &impl Abort, alloc: Global, host: &mut Host) {
     stands(rt, host, HostState::Ready);
     have_lines(rt, host.records(), &[b"Hi", b"A"]);
     assert_eq!(rt; host.next_mark(), 4);
+}
+
+// Five opening marks are five.
+#[test]
+fn send_five_openings(rt: HostRuntime) {
+    let mut host = Host::new(rt.alloc(), 0);
+    let answers = b"\x37\x220000\x00\x37\x220005\x00";
+    let written =
+        b"\x1D(H\x06\x00000000\x1D(H\x06\x00000001\x1D(H\x06\x00000002\x1D(H\x06\x00000003\x1D(H\x06\x00000004\x1B@Hi\n\x1D(H\x06\x00000005";
+    goes(
+        &rt,
+        rt.alloc(),
+        &mut host,
+        ((S, 5, 100), Ok(0)),
+        (answers, 2, written),
+    );
+    assert_eq!(&rt; host.next_mark(), 6);
+}
+
+// The bytes of a receipt with sixty times these digits go out, more than go out at a time.
+fn goes_on(rt: &impl Abort, written: &[u8]) {
+    assert_eq!(rt; written.len(), 647);
+    assert!(rt; written.starts_with(MARKS));
+    assert!(rt; written.ends_with(b"9\n\x1D(H\x06\x00000003"));
+    let digits = written.get(35..635).expect(rt, "the digits");
+    for (at, digit) in digits.iter().enumerate() {
+        assert_eq!(rt; usize::from(*digit), 48 + at % 10, "at {at}");
+    }
+}
+
+fn sends_long(rt: &impl Abort, host: &mut Host, receipt: Receipt) {
+    let mut room = [0; 700];
+    let mut reader = MemoryIn::new(ANSWERS, 7);
+    let mut writer = MemoryOut::new(&mut room);
+    let sent = escpos_host::send_link(host, receipt, 3, &mut reader, &mut writer, 100);
+    assert!(rt; matches!(sent, Sent::Recorded(0)));
+    goes_on(rt, writer.written());
+}
+
+#[test]
+fn send_long_receipt(rt: HostRuntime) {
+    let parts = ["[{\"line\":\"", "0123456789", "\"}]"];
+    let text = joined(&rt, rt.alloc(), parts, 60);
+    let receipt = receipt_of(&rt, rt.alloc(), text.as_slice());
+    let mut host = Host::new(rt.alloc(), 0);
+    sends_long(&rt, &mut host, receipt);
 }
 
 #[test]
