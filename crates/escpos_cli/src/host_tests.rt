@@ -3,7 +3,7 @@
 //! A test makes the host and lends it to checks, which own nothing: what a function owns is proved dropped at each way out
 //! of it.
 
-use escpos_command::{Answer, Command, MarkId, StatusKind};
+use escpos_command::{Answer, Command, MarkId, Raster, StatusKind};
 use escpos_host::{Heard, Host, HostError, HostEvent, HostState, Receipt};
 use std::alloc::Global;
 use std::process::Abort;
@@ -346,12 +346,14 @@ fn refuses_a_fifth(rt: &impl Abort, alloc: Global, host: &mut Host) {
     for _ in 0..4 {
         submits(rt, alloc, host, A);
     }
+    assert_eq!(rt; host.next_mark(), 5);
     hands_back(rt, alloc, host, B, HostError::InFlightFull);
     stands(rt, host, HostState::Sending);
+    assert_eq!(rt; host.next_mark(), 5);
 }
 
 #[test]
-fn four_in_flight(rt: HostRuntime) {
+fn fifth_submit(rt: HostRuntime) {
     let mut host = Host::new(rt.alloc(), 0);
     refuses_a_fifth(&rt, rt.alloc(), &mut host);
 }
@@ -523,4 +525,67 @@ fn room_of_records(rt: HostRuntime) {
     let records = host.into_records();
     assert!(&rt; records.capacity() > 1100 + 4);
     assert!(&rt; records.capacity() <= 4 * 1100);
+}
+
+// The dots of the largest raster, 128 bytes by 4,095 rows.
+fn many_dots(rt: &impl Abort, alloc: Global) -> Vec<u8> {
+    let mut dots = Vec::with_capacity(alloc, 524_160).expect(rt, "memory");
+    for at in 0..524_160 {
+        assert!(rt; dots.push(dot(at)).is_ok());
+    }
+    dots
+}
+
+fn dot(at: usize) -> u8 {
+    (at % 251) as u8
+}
+
+// What goes out of its receipt at this place: Init, the raster and the closing mark.
+fn byte_of_raster(at: usize) -> u8 {
+    let front = b"\x1B@\x1Dv0\x00\x80\x00\xFF\x0F";
+    let closing = b"\x1D(H\x06\x00000001";
+    if let Some(byte) = front.get(at) {
+        return *byte;
+    }
+    match closing.get(at.saturating_sub(524_170)) {
+        Some(byte) if at >= 524_170 => *byte,
+        _ => dot(at.saturating_sub(10)),
+    }
+}
+
+// So many bytes go out, a hundred at a time.
+fn puts_out_raster(rt: &impl Abort, host: &mut Host) {
+    let mut room = [0; 100];
+    let mut at = 0;
+    for _ in 0..5_242 {
+        let count = host.take_out(&mut room);
+        for byte in room.get(..count).expect(rt, "a piece") {
+            assert_eq!(rt; *byte, byte_of_raster(at), "at {at}");
+            at = at.saturating_add(1);
+        }
+    }
+    assert_eq!(rt; at, 524_181);
+    assert!(rt; !host.has_out());
+}
+
+fn submits_raster(rt: &impl Abort, alloc: Global, host: &mut Host) {
+    opens(rt, host);
+    puts_out(rt, host, b"\x1D(H\x06\x00000000");
+    let Ok(raster) = Raster::new(0, 128, 4095, many_dots(rt, alloc)) else {
+        panic!(rt; "the largest raster is refused");
+    };
+    let Ok(commands) = vec![in alloc; Command::Raster(raster)] else {
+        panic!(rt; "memory");
+    };
+    let Ok(receipt) = Receipt::new(commands) else {
+        panic!(rt; "a raster is a receipt");
+    };
+    assert!(rt; host.submit(receipt).is_ok());
+    puts_out_raster(rt, host);
+}
+
+#[test]
+fn large_raster_out(rt: HostRuntime) {
+    let mut host = Host::new(rt.alloc(), 0);
+    submits_raster(&rt, rt.alloc(), &mut host);
 }
