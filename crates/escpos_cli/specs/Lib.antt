@@ -11,3 +11,6 @@ pub mod Task
 pub mod Obstacle
 pub mod Refusal
 pub mod Encode
+pub mod Links
+pub mod Send
+pub mod Perform

@@ -11,8 +11,8 @@ ghost use Rattle.escpos_cli.specs.Outcome.{IsFair, Says, memory_line, outcome};
 ghost use Rattle.escpos_cli.specs.Refusal.{refusal_line};
 
 use crate::input::{INPUT_LIMIT, InputFault};
-use crate::outcome::{MEMORY, refuse, say};
-use crate::refusal::refuse_receipt;
+use crate::outcome::refuse;
+use crate::receipt_input::refuse_text;
 use crate::status::Status;
 use escpos_command::{Command, LF};
 use escpos_host::{JsonError, Receipt};
@@ -61,8 +61,7 @@ fn answer<W: ByteOut>(read: Result<Receipt, JsonError>, output: &mut W) -> Statu
 {
     match read {
         Ok(receipt) => put_line(receipt.commands(), output),
-        Err(JsonError::Refused(fault)) => refuse_receipt(fault, output),
-        Err(JsonError::Memory) => say(MEMORY, output, Status::Memory),
+        Err(fault) => refuse_text(fault, output),
     }
 }
 

@@ -7,9 +7,11 @@
 //! `outcome` what all jobs say, and `status` what the program ends with.
 #![tactic(auto)]
 
+mod both_ends;
 mod check;
 #[cfg(test)]
 mod content_tests;
+mod emulate;
 mod encode;
 #[cfg(test)]
 mod examples;
@@ -19,21 +21,26 @@ mod host_tests;
 mod input;
 mod job;
 mod lines;
+#[cfg(test)]
+mod link_tests;
 mod notes;
 mod outcome;
 mod perform;
 #[cfg(test)]
 mod receipt_edge_tests;
+mod receipt_input;
 #[cfg(test)]
 mod receipt_tests;
 mod refusal;
 mod render;
+mod send;
 #[cfg(test)]
 mod send_tests;
 mod status;
 mod task;
 #[cfg(test)]
 mod tests;
+mod usage;
 
 use escpos_io::{Incoming, Outgoing};
 use perform::perform;
@@ -44,7 +51,7 @@ use task::{NoTask, Task, task_of, without_name};
 fn main(rt: HostRuntime) -> ExitCode {
     let mut input = Incoming::new(rt.stdin());
     let mut output = Outgoing::new(io::writer(&rt));
-    let status = perform(rt.alloc(), asked(&rt), &mut input, &mut output);
+    let status = perform(&rt, rt.alloc(), asked(&rt), &mut input, &mut output);
     ExitCode::from(status)
 }
 

@@ -2,7 +2,9 @@
 //! text is refused for its own reason, and what no clause says of the reasons: when two are equal, and how they are printed.
 use crate::perform::perform;
 use crate::status::Status;
-use crate::task::{HELP, Task};
+use crate::task::Task;
+use crate::tests::NoNetwork;
+use crate::usage::HELP;
 use escpos_host::{JsonError, JsonFault, ReceiptFault};
 use escpos_io::{MemoryIn, MemoryOut, Outgoing};
 use std::alloc::Global;
@@ -12,7 +14,7 @@ use std::process::Abort;
 fn gives(rt: &impl Abort, alloc: Global, text: &[u8], (line, status): (&[u8], Status), row: usize) {
     let mut source = MemoryIn::new(text, 65_536);
     let mut sink = Outgoing::new(Vec::new(alloc));
-    let ended = perform(alloc, Ok(Task::Encode), &mut source, &mut sink);
+    let ended = perform(&NoNetwork, alloc, Ok(Task::Encode), &mut source, &mut sink);
     assert!(rt; ended == status, "another status at {row}");
     assert!(rt;
         sink.into_inner().as_slice() == line,
@@ -385,7 +387,7 @@ fn goes_out_at_once(rt: &impl Abort, alloc: Global, text: &[u8], line: &[u8]) {
     let mut source = MemoryIn::new(text, 65_536);
     let mut room = [0; 8192];
     let mut sink = MemoryOut::failing(&mut room, 2);
-    let status = perform(alloc, Ok(Task::Encode), &mut source, &mut sink);
+    let status = perform(&NoNetwork, alloc, Ok(Task::Encode), &mut source, &mut sink);
     assert!(rt; status == Status::Good);
     assert!(rt; sink.written() == line);
 }

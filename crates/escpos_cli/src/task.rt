@@ -9,6 +9,7 @@ use clap::error::ErrorKind;
 use clap::{ArgMatches, Command};
 use std::alloc::Global;
 use std::convert::AsStr;
+use std::net::SocketAddrV4;
 use thiserror::Error;
 
 /// What the program is asked to do.
@@ -20,6 +21,19 @@ pub enum Task {
     Render,
     /// Write the bytes of a receipt's commands.
     Encode,
+    /// Be a printer at this address for so many links, and write its paper.
+    Emulate {
+        address: SocketAddrV4,
+        links: u32,
+    },
+    /// Send a receipt to the printer at this address, with so many opening marks from the number `first` on.
+    Send {
+        address: SocketAddrV4,
+        first: u32,
+        openings: u32,
+    },
+    /// Send a receipt over a link of which the program is both ends.
+    Loop,
 }
 
 /// Why the words name no task.
@@ -47,118 +61,6 @@ impl From<clap::Error> for NoTask {
         }
     }
 }
-
-/// The text for words that name no task.
-pub const USAGE: &str = "\
-usage: escpos_cli check  < HEXADECIMAL
-       escpos_cli render < HEXADECIMAL
-       escpos_cli encode < RECEIPT
-       escpos_cli help
-";
-
-/// The text that `help` asks for.
-pub const HELP: &str = "\
-escpos_cli shows what an ESC/POS byte stream says to a receipt printer, or the
-exact byte at which the stream is refused, and writes the stream of a receipt.
-
-`check` and `render` read the stream from standard input, as hexadecimal digits
-of either case; spaces, tabs and line ends between them count for nothing. Input
-of more than 16777216 bytes gives the one line `refused input`, any other that
-isn't hexadecimal `refused hex`. A last line `memory` says that memory has run
-out.
-
-  escpos_cli check
-      Lists the commands. Each gives one line: the number of bytes before it,
-      its name, and what it carries. The last line is `end N pending P`, where N
-      bytes were read and the last P of them are a command that isn't complete,
-      or `fault K NUMBER NAME`, where the byte at place K is refused. A barcode
-      with a wrong check digit is followed by a line `note`.
-
-          $ echo '1B 40 48 69 0A 1D 56 00' | escpos_cli check
-          0 init
-          2 char 48
-          3 char 69
-          4 lf
-          5 cut 00
-          end 8 pending 0
-
-  escpos_cli render
-      Writes the paper that the commands print, an item a line: rows of
-      characters with their alignment and styles, barcodes, rasters, feeds of
-      lines (`feed`) and of motion units (`units`), and cuts. After a
-      refused byte or a command that isn't complete the last line of `check`
-      follows.
-
-          $ echo '1B 40 48 69 0A 1D 56 00' | escpos_cli render
-          row left Hi
-          feed 1
-          cut full
-
-      A style is [F,W,H,B,U,T]: font A or B, width, height, emphasis 1 or 0,
-      underline 0 to 2, code table. It stands in front of a character whose
-      style differs from that of the one before it, or, for the first of a row,
-      from the style at power-on, [A,1,1,0,0,0].
-
-      A barcode is `bars ALIGN SYMBOLOGY HEIGHT MODULE PLACE FONT CONTENT`: its
-      height and module width in dots, where its text stands and in which font,
-      and its content with the check digit, if that had to be added. A raster is
-      `raster ALIGN SCALE X Y DOTS`: X bytes in each of Y rows, in hexadecimal.
-
-          $ echo '1D 6B 44 07 35 35 31 32 33 34 35' | escpos_cli render
-          bars left ean8 162 3 none A 55123457
-
-  escpos_cli encode
-      Reads a receipt in JSON from standard input, and writes the bytes of its
-      commands in hexadecimal, in one line.
-
-          $ echo '[{\"line\":\"Hi\"},{\"cut\":\"full\"}]' | escpos_cli encode
-          48690a1d5600
-
-      A receipt is an array of objects with one member each. A number is an
-      integer without sign, fraction or exponent.
-
-          {\"text\":\"Total\"}           characters 20 to 7F, hexadecimal
-          {\"line\":\"Total\"}           the same, and a line feed
-          {\"feed\":3}                 a feed of 0 to 255 lines
-          {\"units\":40}               a feed of 0 to 255 motion units
-          {\"pulse\":{\"pin\":0,\"on\":25,\"off\":250}}
-                                     a pulse at pin 0 or 1, 0 to 255 units of
-                                     2 ms on and off
-          {\"mode\":8}                 font, emphasis, height, width and underline
-                                     at once, 0 to 255 (ESC !)
-          {\"bold\":true}              emphasis, true or false
-          {\"underline\":1}            underline of 0 to 2 dots
-          {\"font\":\"B\"}               font, \"A\" or \"B\"
-          {\"table\":16}               code table, 0 to 255
-          {\"align\":\"center\"}         \"left\", \"center\" or \"right\"
-          {\"size\":[2,1]}             width and height of characters, 1 to 8 each
-          {\"bar_height\":80}          height of barcodes, 1 to 255 dots
-          {\"bar_width\":2}            module width of barcodes, 2 to 6 dots
-          {\"hri\":\"below\"}            text of barcodes: \"none\", \"above\", \"below\"
-                                     or \"both\"
-          {\"hri_font\":\"B\"}           its font, \"A\" or \"B\"
-          {\"bars\":{\"kind\":\"ean13\",\"content\":\"400638133393\"}}
-                                     a barcode: \"upca\", \"ean13\", \"ean8\",
-                                     \"code39\", \"itf\", \"codabar\" or \"code128\"
-          {\"raster\":{\"scale\":\"normal\",\"x\":1,\"y\":2,\"dots\":\"f00f\"}}
-                                     an image of x bytes, 1 to 128, in each of y
-                                     rows, 1 to 4095; \"normal\", \"wide\", \"tall\"
-                                     or \"both\"
-          {\"cut\":\"full\"}             a cut, \"full\" or \"partial\"
-          {\"feed_cut\":{\"kind\":\"partial\",\"feed\":3}}
-                                     the same after a feed of 0 to 255 units
-
-      At the end no text may be left in the line, and none may stand in it at a
-      barcode, an image or a cut. What gives no receipt gives one line, `refused
-      N NAME` or `refused N NAME PLACE`: 1 Empty, 3 TextLeft, 4 MidLine (where
-      PLACE is the command's), 5 NotJson, 6 BadShape, 7 ControlByte, 8 NotAscii
-      (where PLACE is the entry's). Places are counted from 0.
-
-  escpos_cli help
-      Prints this text; so do --help and -h.
-
-Exit status: 0 good, 1 refused content, 2 usage, 3 device, 4 memory.
-";
 
 /// The words that follow the program's name, which is the first; of no words none.
 pub fn without_name<S>(words: &[S]) -> &[S]

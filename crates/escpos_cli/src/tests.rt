@@ -2,11 +2,31 @@
 use crate::hexadecimal::{HexFault, bytes_of};
 use crate::perform::perform;
 use crate::status::Status;
-use crate::task::{HELP, NoTask, Task, USAGE, task_of};
+use crate::task::{NoTask, Task, task_of};
+use crate::usage::{HELP, USAGE};
 use escpos_io::{ByteIn, MemoryIn, MemoryOut, Outgoing};
 use std::alloc::Global;
+use std::io;
+use std::net::{Net, SocketAddr, TcpListener, TcpStream};
 use std::process::Abort;
 use std::test::Fail;
+
+/// A network that can't be reached.
+pub struct NoNetwork;
+
+impl Net for NoNetwork {
+    type Stream = TcpStream;
+
+    type Listener = TcpListener;
+
+    fn bind(&self, _addr: SocketAddr) -> io::Result<TcpListener> {
+        Err(io::Error::from(io::ErrorKind::NetworkUnreachable))
+    }
+
+    fn connect(&self, _addr: SocketAddr) -> io::Result<TcpStream> {
+        Err(io::Error::from(io::ErrorKind::NetworkUnreachable))
+    }
+}
 
 /// A worked row of a job: the input, what it prints, and the status.
 pub type Row = (&'static [u8], &'static [u8], Status);
@@ -21,7 +41,10 @@ pub fn performs(
     (output, status): (&[u8], Status),
 ) {
     let mut sink = MemoryOut::new(room);
-    assert_eq!(rt; perform(alloc, asked, source, &mut sink), status);
+    assert_eq!(rt;
+        perform(&NoNetwork, alloc, asked, source, &mut sink),
+        status
+    );
     assert_eq!(rt; sink.written(), output);
 }
 
@@ -34,7 +57,7 @@ pub fn performs_at_length(
     output: &[u8],
 ) {
     let mut sink = Outgoing::new(Vec::new(alloc));
-    assert!(rt; perform(alloc, Ok(task), source, &mut sink) == Status::Good);
+    assert!(rt; perform(&NoNetwork, alloc, Ok(task), source, &mut sink) == Status::Good);
     assert!(rt;
         sink.into_inner().as_slice() == output,
         "other bytes went out"
@@ -296,7 +319,13 @@ fn a_long_listing_goes_out_in_pieces(rt: HostRuntime) -> Result<(), Fail> {
     let mut room = vec![in rt.alloc(); 0u8; 40_000]?;
     let mut source = MemoryIn::new(text.as_slice(), 1000);
     let mut sink = MemoryOut::new(&mut room);
-    let status = perform(rt.alloc(), Ok(Task::Check), &mut source, &mut sink);
+    let status = perform(
+        &NoNetwork,
+        rt.alloc(),
+        Ok(Task::Check),
+        &mut source,
+        &mut sink,
+    );
     assert!(rt; status == Status::Good);
     let written = sink.written();
     assert!(rt; written.starts_with(b"0 char 44\n1 char 44\n"));
@@ -367,7 +396,7 @@ fn help_shows_what_the_jobs_write(rt: HostRuntime) -> Result<(), Fail> {
     ] {
         let mut source = MemoryIn::new(input.as_bytes(), 100);
         let mut sink = Outgoing::new(Vec::new(rt.alloc()));
-        let status = perform(rt.alloc(), Ok(task), &mut source, &mut sink);
+        let status = perform(&NoNetwork, rt.alloc(), Ok(task), &mut source, &mut sink);
         assert!(rt; status == Status::Good);
         let shown = shown(rt.alloc(), name, input, &sink.into_inner())?;
         assert!(rt; HELP.contains(shown.as_str()));

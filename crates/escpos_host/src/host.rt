@@ -64,6 +64,22 @@ impl HostError {
             HostError::InFlightFull => 6,
         }
     }
+
+    ghost use Rattle.escpos_host.specs.Refusals.{error_name};
+
+    /// The name that programs print.
+    pub fn name(self) -> &'static str
+        ensures value { result.now ≡ error_name self }
+        ensures short { length result.now ≤ 12 }
+    {
+        match self {
+            HostError::NotReady => "NotReady",
+            HostError::MarksUsedUp => "MarksUsedUp",
+            HostError::AlreadyUp => "AlreadyUp",
+            HostError::Memory => "Memory",
+            HostError::InFlightFull => "InFlightFull",
+        }
+    }
 }
 
 /// What a host hears.

@@ -33,6 +33,25 @@ pub enum SendFault {
     Refused(HostError),
 }
 
+impl SendFault {
+    ghost use Rattle.escpos_host.specs.Refusals.{fault_name};
+
+    /// The name that programs print: the reason's, and of a refusal that of the host's reason.
+    pub fn name(self) -> &'static str
+        ensures value { result.now ≡ fault_name self }
+        ensures short { length result.now ≤ 12 }
+    {
+        match self {
+            SendFault::Ended => "Ended",
+            SendFault::ReadFault => "ReadFault",
+            SendFault::WriteFault => "WriteFault",
+            SendFault::TooLong => "TooLong",
+            SendFault::BadAnswer => "BadAnswer",
+            SendFault::Refused(why) => why.name(),
+        }
+    }
+}
+
 impl From<Device> for SendFault {
     ghost use Rattle.escpos_host.specs.declared.send.SendFault.{SendFault};
 

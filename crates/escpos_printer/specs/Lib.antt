@@ -1,3 +1,4 @@
 pub mod Replies
 pub mod Feeds
 pub mod Serves
+pub mod LinkEnds

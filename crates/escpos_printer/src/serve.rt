@@ -31,6 +31,26 @@ pub enum LinkEnd {
     Memory,
 }
 
+impl LinkEnd {
+    ghost use Rattle.escpos_printer.specs.LinkEnds.{end_name};
+
+    /// The name that programs print. It doesn't say why a byte was refused.
+    pub fn name(self) -> &'static str
+        ensures value { result.now ≡ end_name self }
+        ensures short { length result.now ≤ 10 }
+    {
+        match self {
+            LinkEnd::Ended => "Ended",
+            LinkEnd::TooLong => "TooLong",
+            LinkEnd::Fault { .. } => "Fault",
+            LinkEnd::Offline => "Offline",
+            LinkEnd::ReadFault => "ReadFault",
+            LinkEnd::WriteFault => "WriteFault",
+            LinkEnd::Memory => "Memory",
+        }
+    }
+}
+
 /// How far a link was served.
 #[derive(Clone, Copy, Debug, PartialEq, Eq)]
 pub struct Served {

@@ -1,0 +1,301 @@
+//! The words over TCP, on 127.0.0.1 and in one thread: a client connects and writes before it is served, ends its writing, and
+//! keeps its stream open.
+
+use crate::both_ends::{both_ends, loop_receipt};
+use crate::emulate::{emulate, emulate_on};
+use crate::host_tests::{S, receipt_of};
+use crate::send::{send_on, send_to};
+use crate::status::Status;
+use crate::tests::NoNetwork;
+use escpos_io::{MemoryIn, MemoryOut};
+use std::alloc::Global;
+use std::io::{Read, Write};
+use std::net::{Net, Shutdown, SocketAddr, SocketAddrV4, TcpListener, TcpStream};
+use std::process::Abort;
+
+// Any free port of 127.0.0.1.
+const ANY_PORT: &str = "127.0.0.1:0";
+
+// A listener's address.
+fn address_of(rt: &impl Abort, listener: &TcpListener) -> SocketAddrV4 {
+    match listener.local_addr().expect(rt, "no address") {
+        SocketAddr::V4(address) => address,
+        SocketAddr::V6(_) => rt.abort(),
+    }
+}
+
+// A client has sent these bytes, and ends its writing.
+fn says(rt: &impl Abort, stream: &mut TcpStream, bytes: &[u8]) {
+    stream.write_all(bytes).expect(rt, "can't write");
+    stream.shutdown(Shutdown::Write).expect(rt, "can't end");
+}
+
+// A client reads these bytes, and then the end.
+fn reads(rt: &impl Abort, stream: &mut TcpStream, wanted: &[u8]) {
+    let mut room = [0; 128];
+    let mut count = 0;
+    for _ in 0..100 {
+        let read = stream.read(&mut room[count..]).expect(rt, "can't read");
+        count = count.saturating_add(read).min(room.len());
+        if read == 0 {
+            break;
+        }
+    }
+    assert!(rt; room.get(..count) == Some(wanted));
+}
+
+// The links of a listener are served, and this is printed.
+fn emulates(
+    rt: &impl Abort,
+    alloc: Global,
+    (listener, links): (&TcpListener, u32),
+    (text, status): (&str, Status),
+) {
+    let mut room = [0; 512];
+    let mut output = MemoryOut::new(&mut room);
+    assert_eq!(rt; emulate_on(alloc, listener, links, &mut output), status);
+    assert_eq!(rt; output.written(), text.as_bytes());
+}
+
+#[test]
+fn two_clients(rt: HostRuntime) {
+    let listener = TcpListener::bind(&rt, ANY_PORT).expect(&rt, "no port");
+    let address = address_of(&rt, &listener);
+    let mut first = TcpStream::connect(&rt, address).expect(&rt, "no link");
+    says(&rt, &mut first, b"\x1D(H\x06\x00000000\x1B!");
+    let mut second = TcpStream::connect(&rt, address).expect(&rt, "no link");
+    says(&rt, &mut second, b"\x08Hi\n");
+    let text = "link 1 read 13 consumed 13 written 7 Ended\n\
+        link 2 read 4 consumed 4 written 0 Ended\n\
+        row left [A,1,1,1,0,0]Hi\n\
+        feed 1\n";
+    emulates(&rt, rt.alloc(), (&listener, 2), (text, Status::Good));
+    reads(&rt, &mut first, b"\x37\x220000\x00");
+    reads(&rt, &mut second, b"");
+}
+
+// A link that is refused a byte, and one whose client has gone, are followed by the next.
+#[test]
+fn other_links_follow(rt: HostRuntime) {
+    let listener = TcpListener::bind(&rt, ANY_PORT).expect(&rt, "no port");
+    let address = address_of(&rt, &listener);
+    let mut garbage = TcpStream::connect(&rt, address).expect(&rt, "no link");
+    says(&rt, &mut garbage, b"Hi\n\x1B$\xFF\x07");
+    let gone = TcpStream::connect(&rt, address).expect(&rt, "no link");
+    drop(gone);
+    let mut good = TcpStream::connect(&rt, address).expect(&rt, "no link");
+    says(&rt, &mut good, b"\x10\x04\x01Yo\n");
+    let text = "link 1 read 7 consumed 4 written 0 Fault\n\
+        link 2 read 0 consumed 0 written 0 Ended\n\
+        link 3 read 6 consumed 6 written 1 Ended\n\
+        row left Hi\n\
+        feed 1\n\
+        row left Yo\n\
+        feed 1\n";
+    emulates(&rt, rt.alloc(), (&listener, 3), (text, Status::Good));
+    reads(&rt, &mut good, b"\x12");
+}
+
+// A client that goes with its answers unread resets its link: its writes fail, and the next link is served.
+#[test]
+fn client_resets(rt: HostRuntime) {
+    let listener = TcpListener::bind(&rt, ANY_PORT).expect(&rt, "no port");
+    let address = address_of(&rt, &listener);
+    let mut gone = TcpStream::connect(&rt, address).expect(&rt, "no link");
+    for _ in 0..160 {
+        gone.write_all(b"\x10\x04\x01").expect(&rt, "can't write");
+    }
+    drop(gone);
+    let mut good = TcpStream::connect(&rt, address).expect(&rt, "no link");
+    says(&rt, &mut good, b"Yo\n");
+    let mut room = [0; 512];
+    let mut output = MemoryOut::new(&mut room);
+    let status = emulate_on(rt.alloc(), &listener, 2, &mut output);
+    assert!(&rt; status == Status::Good);
+    let text = str::from_utf8(output.written()).expect(&rt, "no text");
+    assert!(&rt; text.starts_with("link 1 read "), "{text}");
+    let next = " WriteFault\nlink 2 read 3 consumed ";
+    assert!(&rt; text.contains(next), "{text}");
+}
+
+// Nobody connects to a listener that doesn't wait: no link can be accepted. An output that is full ends with the link's line.
+#[test]
+fn links_that_fail(rt: HostRuntime) {
+    let listener = TcpListener::bind(&rt, ANY_PORT).expect(&rt, "no port");
+    let address = address_of(&rt, &listener);
+    listener.set_nonblocking(true).expect(&rt, "can't set");
+    emulates(&rt, rt.alloc(), (&listener, 1), ("", Status::Device));
+    let mut first = TcpStream::connect(&rt, address).expect(&rt, "no link");
+    says(&rt, &mut first, b"Hi\n");
+    let text = "link 1 read 3 consumed 3 written 0 Ended\nrow left Hi\nfeed 1\n";
+    emulates(&rt, rt.alloc(), (&listener, 2), (text, Status::Device));
+    let mut second = TcpStream::connect(&rt, address).expect(&rt, "no link");
+    says(&rt, &mut second, b"Hi\n");
+    let mut room = [0; 41];
+    let mut output = MemoryOut::new(&mut room);
+    let status = emulate_on(rt.alloc(), &listener, 1, &mut output);
+    assert!(&rt; status == Status::Device);
+    assert!(&rt; output.written() == b"link 1 read 3 consumed 3 written 0 Ended\n".as_slice());
+    // the port is in use
+    let mut output = MemoryOut::new(&mut room);
+    let status = emulate(&rt, rt.alloc(), address, 1, &mut output);
+    assert!(&rt; status == Status::Device);
+    assert!(&rt; output.written().is_empty());
+}
+
+// A receipt is sent over a stream, and this is printed.
+fn sends(
+    rt: &impl Abort,
+    alloc: Global,
+    stream: &TcpStream,
+    (first, openings): (u32, u32),
+    (text, status): (&str, Status),
+) {
+    let receipt = receipt_of(rt, alloc, S.0);
+    let mut room = [0; 128];
+    let mut output = MemoryOut::new(&mut room);
+    let ended = send_on(alloc, stream, first, openings, receipt, &mut output);
+    assert_eq!(rt; output.written(), text.as_bytes());
+    assert_eq!(rt; ended, status);
+}
+
+// The answers to the marks 0 and 1, with 57 bytes of status between them.
+const ANSWERED: &[u8] = b"\x37\x220000\x00\
+    \x12\x12\x12\x12\x12\x12\x12\x12\x12\x12\x12\x12\x12\x12\x12\x12\x12\x12\x12\
+    \x12\x12\x12\x12\x12\x12\x12\x12\x12\x12\x12\x12\x12\x12\x12\x12\x12\x12\x12\
+    \x12\x12\x12\x12\x12\x12\x12\x12\x12\x12\x12\x12\x12\x12\x12\x12\x12\x12\x12\
+    \x37\x220001\x00";
+
+#[test]
+fn send_recorded(rt: HostRuntime) {
+    assert_eq!(&rt; ANSWERED.len(), 71);
+    let listener = TcpListener::bind(&rt, ANY_PORT).expect(&rt, "no port");
+    let client = TcpStream::connect(&rt, address_of(&rt, &listener)).expect(&rt, "no link");
+    let (mut printer, _) = listener.accept().expect(&rt, "no link");
+    printer.write_all(ANSWERED).expect(&rt, "can't write");
+    let wanted = ("recorded 0\nnext 2\n", Status::Good);
+    sends(&rt, rt.alloc(), &client, (0, 1), wanted);
+    client.shutdown(Shutdown::Write).expect(&rt, "can't end");
+    let sent = b"\x1D(H\x06\x00000000\x1B@Hi\n\x1D(H\x06\x00000001";
+    reads(&rt, &mut printer, sent);
+}
+
+// The other end of a link sends these bytes and ends its writing; a receipt that is sent then isn't recorded.
+fn ends_so(
+    rt: &impl Abort,
+    alloc: Global,
+    (client, printer): (&TcpStream, &mut TcpStream),
+    (bytes, count): (&[u8], usize),
+    wanted: &str,
+) {
+    for _ in 0..count {
+        printer.write_all(bytes).expect(rt, "can't write");
+    }
+    printer.shutdown(Shutdown::Write).expect(rt, "can't end");
+    sends(rt, alloc, client, (7, 3), (wanted, Status::Device));
+}
+
+#[test]
+fn not_recorded(rt: HostRuntime) {
+    let listener = TcpListener::bind(&rt, ANY_PORT).expect(&rt, "no port");
+    let address = address_of(&rt, &listener);
+    let rows: [((&[u8], usize), &str); 4] = [
+        ((b"", 1), "not recorded Ended\nnext 10\n"),
+        ((b"\x37\x220009\x00", 1), "not recorded Ended\nnext 11\n"),
+        ((b"\x12\xFF", 1), "not recorded BadAnswer\nnext 10\n"),
+        (
+            (b"\x12\x12\x12\x12", 20_000),
+            "not recorded TooLong\nnext 10\n",
+        ),
+    ];
+    for (said, wanted) in rows {
+        let client = TcpStream::connect(&rt, address).expect(&rt, "no link");
+        let (mut printer, _) = listener.accept().expect(&rt, "no link");
+        ends_so(&rt, rt.alloc(), (&client, &mut printer), said, wanted);
+    }
+}
+
+#[test]
+fn send_refused(rt: HostRuntime) {
+    let listener = TcpListener::bind(&rt, ANY_PORT).expect(&rt, "no port");
+    let address = address_of(&rt, &listener);
+    let mut room = [0; 64];
+    let mut input = MemoryIn::new(S.0, 100);
+    let mut output = MemoryOut::new(&mut room);
+    let status = send_to(
+        &rt,
+        rt.alloc(),
+        address,
+        1_679_615,
+        2,
+        &mut input,
+        &mut output,
+    );
+    assert_eq!(&rt;
+        output.written(),
+        b"not recorded MarksUsedUp\nnext 1679616\n".as_slice()
+    );
+    assert!(&rt; status == Status::Refused);
+    drop(listener);
+    let mut input = MemoryIn::new(S.0, 100);
+    let mut output = MemoryOut::new(&mut room);
+    let status = send_to(&rt, rt.alloc(), address, 0, 1, &mut input, &mut output);
+    assert_eq!(&rt; output.written(), b"no link\n".as_slice());
+    assert!(&rt; status == Status::Device);
+}
+
+// What isn't a receipt is refused before anything is connected.
+#[test]
+fn no_receipt_no_link(rt: HostRuntime) {
+    let listener = TcpListener::bind(&rt, ANY_PORT).expect(&rt, "no port");
+    let address = address_of(&rt, &listener);
+    listener.set_nonblocking(true).expect(&rt, "can't set");
+    let mut room = [0; 64];
+    let mut input = MemoryIn::new(b"[{\"line\":\"Hi\"},{\"feed\":256}]", 100);
+    let mut output = MemoryOut::new(&mut room);
+    let status = send_to(&rt, rt.alloc(), address, 0, 3, &mut input, &mut output);
+    assert_eq!(&rt; output.written(), b"refused 6 BadShape 1\n".as_slice());
+    assert!(&rt; status == Status::Refused);
+    assert!(&rt; listener.accept().is_err());
+    let mut input = MemoryIn::failing(S.0, 100, 1);
+    let mut output = MemoryOut::new(&mut room);
+    let status = send_to(&rt, rt.alloc(), address, 0, 3, &mut input, &mut output);
+    assert!(&rt; output.written().is_empty());
+    assert!(&rt; status == Status::Device);
+    assert!(&rt; listener.accept().is_err());
+}
+
+// A receipt goes over a link of the program with itself, and this is printed.
+fn goes_round<N: Net<Stream = TcpStream, Listener = TcpListener> + Abort>(
+    rt: &N,
+    alloc: Global,
+    text: &[u8],
+    (printed, status): (&[u8], Status),
+) {
+    let mut room = [0; 4096];
+    let mut input = MemoryIn::new(text, 512);
+    let mut output = MemoryOut::new(&mut room);
+    let ended = loop_receipt(rt, alloc, &mut input, &mut output);
+    assert!(rt; output.written() == printed);
+    assert!(rt; ended == status);
+}
+
+#[test]
+fn loop_rows(rt: HostRuntime) {
+    let rows: [(&[u8], &[u8], Status); 3] = [
+        (
+            b"[{\"line\":\"Hi\"}]",
+            b"row left Hi\nfeed 1\nrecorded 0\n",
+            Status::Good,
+        ),
+        (b"[]", b"refused 1 Empty\n", Status::Refused),
+        (
+            b"[{\"text\":\"A\"}]",
+            b"refused 3 TextLeft\n",
+            Status::Refused,
+        ),
+    ];
+    for (text, printed, status) in rows {
+        goes_round(&rt, rt.alloc(), text, (printed, status));
+    }
+}
