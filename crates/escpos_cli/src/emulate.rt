@@ -120,8 +120,8 @@ fn serve_stream<W: ByteOut>(
     Ok(served.end)
 }
 
-// Serves a link and puts its line.
-fn serve_and_tell<R: ByteIn, A: ByteOut, W: ByteOut>(
+/// Serves a link and puts its line. `Err` comes only where `output` has failed.
+pub fn serve_and_tell<R: ByteIn, A: ByteOut, W: ByteOut>(
     printer: &mut Printer,
     number: u32,
     reader: &mut R,

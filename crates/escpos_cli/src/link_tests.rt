@@ -1,16 +1,18 @@
 //! The words over TCP, on 127.0.0.1 and in one thread: a client connects and writes before it is served, ends its writing, and
 //! keeps its stream open.
 
-use crate::both_ends::{both_ends, loop_receipt};
-use crate::emulate::{emulate, emulate_on};
+use crate::both_ends::loop_receipt;
+use crate::emulate::{ONLINE, emulate, emulate_on, serve_and_tell};
 use crate::host_tests::{S, receipt_of};
-use crate::send::{send_on, send_to};
+use crate::send::{Marks, send_on, send_over, send_to};
 use crate::status::Status;
-use crate::tests::NoNetwork;
-use escpos_io::{MemoryIn, MemoryOut};
+use crate::task::Task;
+use crate::tests::performs;
+use escpos_io::{ByteIn, MemoryIn, MemoryOut};
+use escpos_printer::Printer;
 use std::alloc::Global;
 use std::io::{Read, Write};
-use std::net::{Net, Shutdown, SocketAddr, SocketAddrV4, TcpListener, TcpStream};
+use std::net::{Ipv4Addr, Net, Shutdown, SocketAddr, SocketAddrV4, TcpListener, TcpStream};
 use std::process::Abort;
 
 // Any free port of 127.0.0.1.
@@ -297,5 +299,166 @@ fn loop_rows(rt: HostRuntime) {
     ];
     for (text, printed, status) in rows {
         goes_round(&rt, rt.alloc(), text, (printed, status));
+    }
+}
+
+const NEVER: u64 = u64::MAX;
+
+// A receipt is sent over memory, with reads and writes that fail from these calls on, and this is printed.
+fn sends_over(
+    rt: &impl Abort,
+    alloc: Global,
+    (read, write): (u64, u64),
+    (first, text, status): (u32, &str, Status),
+) {
+    let receipt = receipt_of(rt, alloc, S.0);
+    let mut room = [0; 64];
+    let mut printed = [0; 64];
+    let mut reader = MemoryIn::failing(b"\x37\x220000\x00\x37\x220003\x00", 7, read);
+    let mut writer = MemoryOut::failing(&mut room, write);
+    let mut output = MemoryOut::new(&mut printed);
+    let marks = Marks { first, openings: 3 };
+    let ended = send_over(alloc, marks, receipt, &mut reader, &mut writer, &mut output);
+    assert_eq!(rt; output.written(), text.as_bytes());
+    assert_eq!(rt; ended, status);
+    // the same with an output that takes some bytes alone
+    let receipt = receipt_of(rt, alloc, S.0);
+    let mut reader = MemoryIn::new(b"", 7);
+    let mut writer = MemoryOut::failing(&mut room, 1);
+    let mut output = MemoryOut::new(&mut printed[..5]);
+    let ended = send_over(alloc, marks, receipt, &mut reader, &mut writer, &mut output);
+    assert_eq!(rt; ended, Status::Device);
+    assert_eq!(rt; Some(output.written()), text.as_bytes().get(..5));
+}
+
+#[test]
+fn told_of_a_receipt(rt: HostRuntime) {
+    let rows = [
+        (
+            (1, NEVER),
+            (0, "not recorded ReadFault\nnext 3\n", Status::Device),
+        ),
+        (
+            (2, NEVER),
+            (0, "not recorded ReadFault\nnext 4\n", Status::Device),
+        ),
+        (
+            (NEVER, 1),
+            (0, "not recorded WriteFault\nnext 3\n", Status::Device),
+        ),
+        (
+            (NEVER, 2),
+            (0, "not recorded WriteFault\nnext 4\n", Status::Device),
+        ),
+        (
+            (NEVER, NEVER),
+            (1, "not recorded Ended\nnext 5\n", Status::Device),
+        ),
+        (
+            (NEVER, NEVER),
+            (
+                1_679_614,
+                "not recorded MarksUsedUp\nnext 1679616\n",
+                Status::Refused,
+            ),
+        ),
+    ];
+    for (faults, wanted) in rows {
+        sends_over(&rt, rt.alloc(), faults, wanted);
+    }
+}
+
+// A link of one printer is served over memory, with reads and writes that fail from these calls on, and its line is printed.
+fn serves(
+    rt: &impl Abort,
+    printer: &mut Printer,
+    (bytes, read, write): (&[u8], u64, u64),
+    (number, text): (u32, &str),
+) {
+    let mut room = [0; 64];
+    let mut printed = [0; 80];
+    let mut reader = MemoryIn::failing(bytes, 12, read);
+    let mut writer = MemoryOut::failing(&mut room, write);
+    let mut output = MemoryOut::new(&mut printed);
+    let served = serve_and_tell(printer, number, &mut reader, &mut writer, &mut output);
+    assert!(rt; served.is_ok());
+    assert_eq!(rt; output.written(), text.as_bytes());
+}
+
+#[test]
+fn told_of_a_link(rt: HostRuntime) {
+    let mut printer = Printer::new(rt.alloc(), ONLINE).expect(&rt, "memory");
+    let bytes = b"Hi\n\x10\x04\x01\x10\x04\x02\x10\x04\x04".as_slice();
+    let rows = [
+        (1, NEVER, "link 1 read 0 consumed 0 written 0 ReadFault\n"),
+        (2, NEVER, "link 1 read 12 consumed 12 written 3 ReadFault\n"),
+        (3, NEVER, "link 1 read 12 consumed 12 written 3 Ended\n"),
+        (
+            NEVER,
+            1,
+            "link 1 read 12 consumed 12 written 0 WriteFault\n",
+        ),
+        (NEVER, 2, "link 1 read 0 consumed 0 written 1 WriteFault\n"),
+        (
+            NEVER,
+            3,
+            "link 1 read 12 consumed 12 written 2 WriteFault\n",
+        ),
+        (NEVER, 6, "link 1 read 12 consumed 12 written 3 Ended\n"),
+    ];
+    for (read, write, text) in rows {
+        serves(&rt, &mut printer, (bytes, read, write), (1, text));
+    }
+    let offline = escpos_printer::Condition {
+        cover_open: true,
+        ..ONLINE
+    };
+    printer.set_condition(offline);
+    let text = "link 1000 read 3 consumed 2 written 0 Offline\n";
+    serves(
+        &rt,
+        &mut printer,
+        (b"\x1B!\x08", NEVER, NEVER),
+        (1000, text),
+    );
+}
+
+// Without a network nothing is listened to, and nothing is sent.
+#[test]
+fn no_network(rt: HostRuntime) {
+    let address = SocketAddrV4::new(Ipv4Addr::new(127, 0, 0, 1), 9100);
+    let send = Task::Send {
+        address,
+        first: 0,
+        openings: 3,
+    };
+    let rows: [(Task, &[u8], &[u8], Status); 5] = [
+        (
+            Task::Emulate { address, links: 1 },
+            b"",
+            b"",
+            Status::Device,
+        ),
+        (send, S.0, b"no link\n", Status::Device),
+        (Task::Loop, S.0, b"no link\n", Status::Device),
+        (send, b"[1]", b"refused 6 BadShape 0\n", Status::Refused),
+        (
+            Task::Loop,
+            b"[1]",
+            b"refused 6 BadShape 0\n",
+            Status::Refused,
+        ),
+    ];
+    for (task, input, output, status) in rows {
+        let mut source = MemoryIn::new(input, 100);
+        performs(
+            &rt,
+            rt.alloc(),
+            Ok(task),
+            &mut source,
+            &mut [0; 64],
+            (output, status),
+        );
+        assert!(&rt; (source.pulls() > 0) == !input.is_empty());
     }
 }

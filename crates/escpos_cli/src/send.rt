@@ -81,18 +81,20 @@ pub fn send_on<W: ByteOut>(
     send_over(alloc, marks, receipt, &mut reader, &mut writer, output)
 }
 
-// The first number of a mark that is free, and how many opening marks are sent.
-#[derive(Clone, Copy)]
-struct Marks {
-    first: u32,
-    openings: u32,
+/// The numbers of the marks of a receipt.
+#[derive(Clone, Copy, Debug, PartialEq, Eq)]
+pub struct Marks {
+    /// The first one that is free.
+    pub first: u32,
+    /// How many opening marks are sent, one where it is 0.
+    pub openings: u32,
 }
 
-// Sends a receipt and puts two lines: `recorded 0`, or `not recorded WHY`, or `memory` where that is why; then `next M`.
-//
-// The status is `Good` where the receipt is recorded, `Refused` where the numbers of marks are used up, `Memory` for want of
-// memory, and `Device` for every other reason, and where `output` has failed.
-fn send_over<R: ByteIn, A: ByteOut, W: ByteOut>(
+/// Sends a receipt and puts two lines: `recorded 0`, or `not recorded WHY`, or `memory` where that is why; then `next M`.
+///
+/// The status is `Good` where the receipt is recorded, `Refused` where the numbers of marks are used up, `Memory` for want of
+/// memory, and `Device` for every other reason, and where `output` has failed.
+pub fn send_over<R: ByteIn, A: ByteOut, W: ByteOut>(
     alloc: Global,
     marks: Marks,
     receipt: Receipt,
