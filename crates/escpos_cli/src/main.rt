@@ -34,6 +34,7 @@ mod status;
 mod task;
 #[cfg(test)]
 mod tests;
+mod usage;
 
 use escpos_io::{Incoming, Outgoing};
 use perform::perform;

@@ -1,7 +1,7 @@
 //! What the program does for the words that it was given, over any source and sink: a job, or a text.
 
 ghost use Rattle.std.specs.Prelude.{◌≡◌, ◌≢◌, ◌⊎◌, ◌+◌, ◌≤◌, IfSome, IsTrue, IsOk, IsErr};
-ghost use Rattle.escpos_cli.specs.declared.task.TheConstants.{HELP, USAGE};
+ghost use Rattle.escpos_cli.specs.declared.usage.TheConstants.{HELP, USAGE};
 ghost use Rattle.escpos_cli.specs.declared.input.TheConstants.{INPUT_LIMIT};
 ghost use Rattle.escpos_cli.specs.Check.{Checks};
 ghost use Rattle.escpos_cli.specs.Encode.{Encodes};
@@ -13,7 +13,8 @@ use crate::encode::encode;
 use crate::outcome::{MEMORY, say};
 use crate::render::render;
 use crate::status::Status;
-use crate::task::{HELP, NoTask, Task, USAGE};
+use crate::task::{NoTask, Task};
+use crate::usage::{HELP, USAGE};
 use escpos_io::{ByteIn, ByteOut};
 use std::alloc::Global;
 
@@ -52,6 +53,7 @@ pub fn perform<R: ByteIn, W: ByteOut>(
         Ok(Task::Check) => check(alloc, input, output),
         Ok(Task::Render) => render(alloc, input, output),
         Ok(Task::Encode) => encode(alloc, input, output),
+        Ok(Task::Emulate { .. }) | Ok(Task::Send { .. }) | Ok(Task::Loop) => Status::Device,
         Err(NoTask::Help) => say(HELP.as_bytes(), output, Status::Good),
         Err(NoTask::Usage) => say(USAGE.as_bytes(), output, Status::Usage),
         Err(NoTask::Memory) => say(MEMORY, output, Status::Memory),

@@ -2,7 +2,8 @@
 //! text is refused for its own reason, and what no clause says of the reasons: when two are equal, and how they are printed.
 use crate::perform::perform;
 use crate::status::Status;
-use crate::task::{HELP, Task};
+use crate::task::Task;
+use crate::usage::HELP;
 use escpos_host::{JsonError, JsonFault, ReceiptFault};
 use escpos_io::{MemoryIn, MemoryOut, Outgoing};
 use std::alloc::Global;

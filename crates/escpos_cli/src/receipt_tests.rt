@@ -1,8 +1,9 @@
 //! The worked rows of receipts through `encode`, hostile texts, and what no clause says of a receipt: that calls succeed
 //! where there is memory, and the examples of the help.
 use crate::status::Status;
-use crate::task::{HELP, Task};
+use crate::task::Task;
 use crate::tests::{performs, performs_at_length};
+use crate::usage::HELP;
 use escpos_command::Command;
 use escpos_decode::{Decoded, End, decode};
 use escpos_host::{JsonError, JsonFault, Receipt, ReceiptFault};
