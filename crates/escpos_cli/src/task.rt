@@ -28,8 +28,11 @@ pub const OPENINGS: u32 = 3;
 pub const MOST_OPENINGS: u32 = 99;
 
 const _: () = prove!(LINKS == 1);
+
 const _: () = prove!(MOST_LINKS == 1_000);
+
 const _: () = prove!(OPENINGS == 3);
+
 const _: () = prove!(MOST_OPENINGS == 99);
 
 /// What the program is asked to do.
@@ -118,12 +121,7 @@ pub fn task_of<S: AsStr>(alloc: Global, words: &[S]) -> Result<Task, NoTask>
 }
 
 // What one of the program's words asks for, with what was given after it, where so many words were given.
-fn task_asked(
-    alloc: Global,
-    name: &str,
-    given: &ArgMatches,
-    count: usize,
-) -> Result<Task, NoTask>
+fn task_asked(alloc: Global, name: &str, given: &ArgMatches, count: usize) -> Result<Task, NoTask>
     ensures asks { IfOk result (AsksBy name.now (rows_of (found_of given.now))) }
     ensures ranges { IfOk result InRange }
     ensures alone { IfOk result (λ task. IsPlain task → count ≡ 1) }

@@ -452,7 +452,10 @@ fn words_name_tasks(rt: HostRuntime) {
     }
 }
 
-const PRINTER: SocketAddrV4 = SocketAddrV4::new(Ipv4Addr::new(127, 0, 0, 1), 9100);
+// The address in the rows below.
+fn printer() -> SocketAddrV4 {
+    SocketAddrV4::new(Ipv4Addr::new(127, 0, 0, 1), 9100)
+}
 
 // The words after `emulate`, and for how many links they ask.
 const EMULATED: [(&'static [&'static str], u32); 10] = [
@@ -472,7 +475,7 @@ const EMULATED: [(&'static [&'static str], u32); 10] = [
 fn words_after_emulate(rt: HostRuntime) -> Result<(), Fail> {
     for (given, links) in EMULATED {
         let asked = Ok(Task::Emulate {
-            address: PRINTER,
+            address: printer(),
             links,
         });
         asks_with(&rt, rt.alloc(), "emulate", given, asked)?;
@@ -492,7 +495,11 @@ const SENT: [(&'static [&'static str], u32, u32); 13] = [
     (&["127.0.0.1:9100", "--first", "0"], 0, 3),
     (&["127.0.0.1:9100", "--first", "1679615"], 1_679_615, 3),
     (&["127.0.0.1:9100", "--first", "8", "--openings", "1"], 8, 1),
-    (&["127.0.0.1:9100", "--first", "8", "--openings", "99"], 8, 99),
+    (
+        &["127.0.0.1:9100", "--first", "8", "--openings", "99"],
+        8,
+        99,
+    ),
     (&["127.0.0.1:9100", "--first", "+8"], 8, 3),
     (&["127.0.0.1:9100", "--first", "08"], 8, 3),
 ];
@@ -501,7 +508,7 @@ const SENT: [(&'static [&'static str], u32, u32); 13] = [
 fn words_after_send(rt: HostRuntime) -> Result<(), Fail> {
     for (given, first, openings) in SENT {
         let asked = Ok(Task::Send {
-            address: PRINTER,
+            address: printer(),
             first,
             openings,
         });

@@ -1,4 +1,4 @@
-use Rattle.std.proofs.Common.{◌≡◌, ◌∙◌, Ok, ap, sym, inl}
+use Rattle.std.proofs.Common.{◌∙◌, Ok, ap, sym, inl}
 use Rattle.std.proofs.lemmas.Slice.Eq.{bytes_eq-Decides}
 use Rattle.std.specs.Net.Text.{socket_v4_text}
 use Rattle.escpos_cli.proofs.TaskValues.{address_unique}

@@ -1,4 +1,3 @@
-use Rattle.std.proofs.Common.{◌≡◌, Result, Ok, Err}
 use Rattle.escpos_cli.proofs.TaskValues.{or_number}
 use Rattle.escpos_cli.proofs.task.count_of.Goals as goal
 

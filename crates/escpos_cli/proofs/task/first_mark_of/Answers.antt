@@ -1,4 +1,4 @@
-use Rattle.std.proofs.Common.{◌≡◌, Option, Some, Result, Ok, Err}
+use Rattle.std.proofs.Common.{Some}
 use Rattle.escpos_cli.proofs.TaskValues.{number_in}
 use Rattle.escpos_cli.proofs.task.first_mark_of.Goals as goal
 

@@ -36,7 +36,7 @@ returns-in_err-matches-clause-help_only g c = λ e.
     inr (help_is_among _ c.in_err-matches.field-0.0 _ c.in_err-matches.ensures.refused p.2 is_help)
 
 pub returns-in-Some-clause-asks : goal.returns-in-Some-clause-asks
-returns-in-Some-clause-asks g c = 
+returns-in-Some-clause-asks g c =
     let texts = map g.S.AsStr.text c.args.words.now in
     let name = c.in-Some.name.now in
     let rows = rows_of (found_of c.in-Some.given.now) in
@@ -44,7 +44,7 @@ returns-in-Some-clause-asks g c =
     IfOk-weaker c.task_asked.result _ _ (λ task h. subst (λ o. Asks o task) found h) c.task_asked.ensures.asks
 
 pub returns-in-Some-clause-words : goal.returns-in-Some-clause-words
-returns-in-Some-clause-words g c = 
+returns-in-Some-clause-words g c =
     let texts = map g.S.AsStr.text c.args.words.now in
     let name = c.in-Some.name.now in
     let rows = rows_of (found_of c.in-Some.given.now) in
