@@ -1,4 +1,5 @@
 pub mod CheckDigits
+pub mod TaskValues
 pub mod TaskWords
 pub mod Mapped
 pub mod Listings

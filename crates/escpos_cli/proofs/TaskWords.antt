@@ -1,9 +1,9 @@
 -- What `clap` makes of the program's words.
-use Rattle.std.proofs.Common.{◌≡◌, ◌⊎◌, ◌∙◌, ◌||◌, zero, suc, Bool, true, false, List, [], ◌∷◌, length, Option, Some, None, Result, option_map, codes, refl, sym, ap, subst, inl, inr, arith, Contains}
-use Rattle.std.specs.Prelude.{if◌then◌else◌}
+use Rattle.std.proofs.Common.{◌≡◌, ◌⊎◌, ◌∙◌, ◌||◌, ◌&&◌, not, zero, suc, Bool, true, false, List, [], ◌∷◌, length, Option, Some, None, Result, Ok, Err, option_map, codes, refl, sym, ap, ap₂, subst, inl, inr, arith, Contains}
+use Rattle.std.specs.Prelude.{if◌then◌else◌, IfOk}
 use Rattle.std.specs.Box.{box_value}
 use Rattle.std.specs.Str.{bytes_eq}
-use Rattle.clap.specs.Words.{App, Rule, Text, built, fault_of, is_simple_and_free, is_simple, subcommand_of, subcommand_rows, subcommand_rows_of, subcommand_name_of, FailsBy, HasKind, Kinds, HasMatchesOf, kind_of, IsAmong}
+use Rattle.clap.specs.Words.{App, Row, Rule, Shape, Text, app_of, built, fault_of, is_simple_and_free, is_simple, subcommand_of, subcommand_rows, subcommand_rows_of, subcommand_name_of, FailsBy, HasKind, Kinds, HasMatchesOf, kind_of, IsAmong}
 use Rattle.clap.specs.Walk.{Held, Names, Outcome, Step, Walk, after_flag, after_step, answers_to, idle, nothing_held, done, waits, plain, refused, short_or_plain, long_or_other, stop_after, subcommand_met, subcommand_or_other, trailing, walk_from, walked}
 use Rattle.clap.specs.Simple.{names_of, entered}
 use Rattle.clap.specs.Lexer.{long_of, short_of}
@@ -11,13 +11,15 @@ use Rattle.clap.proofs.OnLiterals.{clap_on_literals}
 use Rattle.clap.specs.declared.error.Error.{Error}
 use Rattle.clap.specs.declared.error.kind.ErrorKind.{ErrorKind}
 use Rattle.clap.specs.declared.error.kind.ErrorKind.TheVariants.{DisplayHelp, OutOfMemory}
+use Rattle.clap.specs.declared.builder.command.Command.{Command}
+use Rattle.clap.specs.declared.builder.command.Command.TheViews.{out-Command}
 use Rattle.clap.specs.declared.parser.matches.ArgMatches.{ArgMatches}
 use Rattle.clap.specs.declared.parser.matches.ArgMatches.TheViews.{out-ArgMatches, out-SubCommand}
-use Rattle.escpos_cli.specs.Task.{command_words, help_words, name_of, no_task_of, words_of}
+use Rattle.escpos_cli.specs.Task.{Asks, AsksBy, IsPlain, command_words, help_words, name_of, no_task_of, words_of}
 use Rattle.escpos_cli.specs.declared.task.NoTask.{NoTask}
 use Rattle.escpos_cli.specs.declared.task.NoTask.TheVariants.{Help, Memory}
 use Rattle.escpos_cli.specs.declared.task.Task.{Task}
-use Rattle.escpos_cli.specs.declared.task.Task.TheVariants.{Check, Render, Encode}
+use Rattle.escpos_cli.specs.declared.task.Task.TheVariants.{Check, Render, Encode, Emulate, Send, Loop}
 use Rattle.std.proofs.lemmas.Slice.Eq.{bytes_eq-Decides}
 
 pub is_exact : is_simple_and_free command_words ≡ true
@@ -55,6 +57,14 @@ encode_passes = refl
 pub encode_met : met_by (codes "encode" ∷ []) ≡ Some (codes "encode")
 unfolding clap_on_literals
 encode_met = refl
+
+pub loop_passes : fault_of command_words (codes "loop" ∷ []) ≡ []
+unfolding clap_on_literals
+loop_passes = refl
+
+pub loop_met : met_by (codes "loop" ∷ []) ≡ Some (codes "loop")
+unfolding clap_on_literals
+loop_met = refl
 
 pub help_met : met_by (codes "help" ∷ []) ≡ Some (codes "help")
 unfolding clap_on_literals
@@ -102,6 +112,30 @@ is_help-8 : IsHelp (codes "encode" ∷ codes "-h" ∷ [])
 unfolding clap_on_literals
 is_help-8 = inl refl
 
+is_help-9 : IsHelp (codes "emulate" ∷ codes "--help" ∷ [])
+unfolding clap_on_literals
+is_help-9 = inl refl
+
+is_help-10 : IsHelp (codes "emulate" ∷ codes "-h" ∷ [])
+unfolding clap_on_literals
+is_help-10 = inl refl
+
+is_help-11 : IsHelp (codes "send" ∷ codes "--help" ∷ [])
+unfolding clap_on_literals
+is_help-11 = inl refl
+
+is_help-12 : IsHelp (codes "send" ∷ codes "-h" ∷ [])
+unfolding clap_on_literals
+is_help-12 = inl refl
+
+is_help-13 : IsHelp (codes "loop" ∷ codes "--help" ∷ [])
+unfolding clap_on_literals
+is_help-13 = inl refl
+
+is_help-14 : IsHelp (codes "loop" ∷ codes "-h" ∷ [])
+unfolding clap_on_literals
+is_help-14 = inl refl
+
 pub is_help : (texts : List Text) → Contains help_words texts → IsHelp texts
 is_help texts (zero, below, at) = inr (sym at)
 is_help texts (suc zero, below, at) = subst IsHelp at is_help-1
@@ -112,7 +146,13 @@ is_help texts (suc (suc (suc (suc (suc zero)))), below, at) = subst IsHelp at is
 is_help texts (suc (suc (suc (suc (suc (suc zero))))), below, at) = subst IsHelp at is_help-6
 is_help texts (suc (suc (suc (suc (suc (suc (suc zero)))))), below, at) = subst IsHelp at is_help-7
 is_help texts (suc (suc (suc (suc (suc (suc (suc (suc zero))))))), below, at) = subst IsHelp at is_help-8
-is_help texts (suc (suc (suc (suc (suc (suc (suc (suc (suc k)))))))), below, at) = absurd (omega arith)
+is_help texts (suc (suc (suc (suc (suc (suc (suc (suc (suc zero)))))))), below, at) = subst IsHelp at is_help-9
+is_help texts (suc (suc (suc (suc (suc (suc (suc (suc (suc (suc zero))))))))), below, at) = subst IsHelp at is_help-10
+is_help texts (suc (suc (suc (suc (suc (suc (suc (suc (suc (suc (suc zero)))))))))), below, at) = subst IsHelp at is_help-11
+is_help texts (suc (suc (suc (suc (suc (suc (suc (suc (suc (suc (suc (suc zero))))))))))), below, at) = subst IsHelp at is_help-12
+is_help texts (suc (suc (suc (suc (suc (suc (suc (suc (suc (suc (suc (suc (suc zero)))))))))))), below, at) = subst IsHelp at is_help-13
+is_help texts (suc (suc (suc (suc (suc (suc (suc (suc (suc (suc (suc (suc (suc (suc zero))))))))))))), below, at) = subst IsHelp at is_help-14
+is_help texts (suc (suc (suc (suc (suc (suc (suc (suc (suc (suc (suc (suc (suc (suc (suc k)))))))))))))), below, at) = absurd (omega arith)
 
 -- ---- what an error says
 
@@ -212,35 +252,42 @@ first_met word (name ∷ others) = if answers name word then Some name else firs
 
 -- the names of all subcommands
 abbrev own_names : List Text
-own_names = codes "check" ∷ codes "render" ∷ codes "encode" ∷ codes "help" ∷ []
+own_names = codes "check" ∷ codes "render" ∷ codes "encode" ∷ codes "emulate" ∷ codes "send" ∷ codes "loop" ∷ codes "help" ∷ []
 
--- the same for the four names, by which of them the word is
-abbrev met_if : Bool → Bool → Bool → Bool → Option Text
-met_if c r e h = if c then Some (codes "check") else (if r then Some (codes "render") else (if e then Some (codes "encode") else (if h then Some (codes "help") else None)))
+-- the same for the seven names, by which of them the word is
+abbrev met_if : Bool → Bool → Bool → Bool → Bool → Bool → Bool → Option Text
+met_if c r e m s l h =
+    if c then Some (codes "check") else (if r then Some (codes "render") else (if e then Some (codes "encode") else (if m then Some (codes "emulate") else (if s then Some (codes "send") else (if l then Some (codes "loop") else (if h then Some (codes "help") else None))))))
 
-met_conds : (c r e h : Bool) → option_map (λ (s : Text × List Text). s.0)
-    (if c then Some (codes "check", []) else (if r then Some (codes "render", []) else (if e then Some (codes "encode", []) else (if h then Some (codes "help", []) else None))))
-    ≡ met_if c r e h
-met_conds true r e h = refl
-met_conds false true e h = refl
-met_conds false false true h = refl
-met_conds false false false true = refl
-met_conds false false false false = refl
+met_conds : (c r e m s l h : Bool) → option_map (λ (s : Text × List Text). s.0)
+    (if c then Some (codes "check", []) else (if r then Some (codes "render", []) else (if e then Some (codes "encode", []) else (if m then Some (codes "emulate", []) else (if s then Some (codes "send", []) else (if l then Some (codes "loop", []) else (if h then Some (codes "help", []) else None)))))))
+    ≡ met_if c r e m s l h
+met_conds true r e m s l h = refl
+met_conds false true e m s l h = refl
+met_conds false false true m s l h = refl
+met_conds false false false true s l h = refl
+met_conds false false false false true l h = refl
+met_conds false false false false false true h = refl
+met_conds false false false false false false true = refl
+met_conds false false false false false false false = refl
 
 met_word : (word : Text) → subcommand_met names idle word ≡ first_met word own_names
-met_word word = met_conds (answers (codes "check") word) (answers (codes "render") word) (answers (codes "encode") word) (answers (codes "help") word)
+met_word word = met_conds (answers (codes "check") word) (answers (codes "render") word) (answers (codes "encode") word) (answers (codes "emulate") word) (answers (codes "send") word) (answers (codes "loop") word) (answers (codes "help") word)
 
 -- a name that is met is entered
-entered_if : (c r e h : Bool) → entered_name (met_if c r e h) ≡ met_if c r e h
+entered_if : (c r e m s l h : Bool) → entered_name (met_if c r e m s l h) ≡ met_if c r e m s l h
 unfolding clap_on_literals
-entered_if true r e h = refl
-entered_if false true e h = refl
-entered_if false false true h = refl
-entered_if false false false true = refl
-entered_if false false false false = refl
+entered_if true r e m s l h = refl
+entered_if false true e m s l h = refl
+entered_if false false true m s l h = refl
+entered_if false false false true s l h = refl
+entered_if false false false false true l h = refl
+entered_if false false false false false true h = refl
+entered_if false false false false false false true = refl
+entered_if false false false false false false false = refl
 
 entered_met : (word : Text) → entered_name (first_met word own_names) ≡ first_met word own_names
-entered_met word = entered_if (answers (codes "check") word) (answers (codes "render") word) (answers (codes "encode") word) (answers (codes "help") word)
+entered_met word = entered_if (answers (codes "check") word) (answers (codes "render") word) (answers (codes "encode") word) (answers (codes "emulate") word) (answers (codes "send") word) (answers (codes "loop") word) (answers (codes "help") word)
 
 or_false : (b : Bool) → (b || false) ≡ true → b ≡ true
 or_false true e = refl
@@ -274,15 +321,30 @@ is_word [] name e one = absurd (omega arith)
 is_word (word ∷ []) name e one = ap (λ (w : Text). w ∷ []) (is_met word name own_names (met_at word name e))
 is_word (word ∷ other ∷ rest) name e one = absurd (omega arith)
 
-pub task_met : (task : Task) → met_by (words_of task) ≡ Some (name_of task)
-task_met Check = check_met
-task_met Render = render_met
-task_met Encode = encode_met
+pub task_met : (task : Task) → IsPlain task → met_by (words_of task) ≡ Some (name_of task)
+task_met Check alone = check_met
+task_met Render alone = render_met
+task_met Encode alone = encode_met
+task_met (Emulate address links) alone = absurd alone
+task_met (Send address first openings) alone = absurd alone
+task_met Loop alone = loop_met
 
-pub task_passes : (task : Task) → fault_of command_words (words_of task) ≡ []
-task_passes Check = check_passes
-task_passes Render = render_passes
-task_passes Encode = encode_passes
+pub task_passes : (task : Task) → IsPlain task → fault_of command_words (words_of task) ≡ []
+task_passes Check alone = check_passes
+task_passes Render alone = render_passes
+task_passes Encode alone = encode_passes
+task_passes (Emulate address links) alone = absurd alone
+task_passes (Send address first openings) alone = absurd alone
+task_passes Loop alone = loop_passes
+
+-- a task without values is asked for by its name
+pub plain_name : (task : Task) (name : Text) (rows : List Row) → IsPlain task → AsksBy name rows task → name ≡ name_of task
+plain_name Check name rows alone asks = asks
+plain_name Render name rows alone asks = asks
+plain_name Encode name rows alone asks = asks
+plain_name (Emulate address links) name rows alone asks = absurd alone
+plain_name (Send address first openings) name rows alone asks = absurd alone
+plain_name Loop name rows alone asks = asks
 
 -- ---- what a parse of the words gives
 
@@ -293,6 +355,50 @@ fails_by a texts r e h = subst (λ (b : App). FailsBy (fault_of b texts) r) e (h
 name_of_rows : (m : ArgMatches) → option_map (λ p. p.0) (subcommand_rows_of m) ≡ subcommand_name_of m
 name_of_rows m = elim (out-ArgMatches m).subcommand as (λ o. option_map (λ p. p.0) (subcommand_rows o) ≡ option_map (λ b. (out-SubCommand (box_value b)).name.now) o) [ Some b ↦ refl | None ↦ refl ]
 
-pub names_met : (a : App) (texts : List Text) (m : ArgMatches) → a ≡ command_words
-    → HasMatchesOf a texts m → subcommand_name_of m ≡ met_by texts
-names_met a texts m e h = sym (name_of_rows m) ∙ ap (option_map (λ p. p.0)) ((h (ap is_simple e ∙ is_known)).1 ∙ ap (λ (b : App). subcommand_of b texts) e)
+pub found_by : (a : App) (texts : List Text) (m : ArgMatches) → a ≡ command_words
+    → HasMatchesOf a texts m → subcommand_rows_of m ≡ subcommand_of command_words texts
+found_by a texts m e h = (h (ap is_simple e ∙ is_known)).1 ∙ ap (λ (b : App). subcommand_of b texts) e
+
+both_parts : (found : Option (Text × List Row)) (name : Text) (rows : List Row) → Some name ≡ option_map (λ p. p.0) found
+    → Some rows ≡ option_map (λ p. p.1) found → Some (name, rows) ≡ found
+both_parts None name rows e f = cc
+both_parts (Some p) name rows e f = let e1 : name ≡ p.0 = cc in let f1 : rows ≡ p.1 = cc in
+    ap₂ (λ (x : Text) (y : List Row). Some (x, y)) e1 f1
+
+-- the name and the values that a parse found are those of the words
+pub is_found : (m : ArgMatches) (texts : List Text) (name : Text) (rows : List Row)
+    → subcommand_rows_of m ≡ subcommand_of command_words texts → Some name ≡ subcommand_name_of m
+    → Some rows ≡ option_map (λ p. p.1) (subcommand_rows_of m) → Some (name, rows) ≡ subcommand_of command_words texts
+is_found m texts name rows found e f = both_parts (subcommand_rows_of m) name rows (e ∙ sym (name_of_rows m)) f ∙ found
+
+-- where a parse met no subcommand, the words name none
+pub none_found : (m : ArgMatches) (texts : List Text)
+    → subcommand_rows_of m ≡ subcommand_of command_words texts → None ≡ subcommand_name_of m → subcommand_of command_words texts ≡ None
+none_found m texts found e = sym found ∙ no_rows (subcommand_rows_of m) (e ∙ sym (name_of_rows m))
+  where
+    no_rows : (o : Option (Text × List Row)) → None ≡ option_map (λ p. p.0) o → o ≡ None
+    no_rows None h = refl
+    no_rows (Some p) h = cc
+
+third : (a b g r : Bool) → (a && (b && (not g && r))) ≡ true → g ≡ false
+third true true false r e = refl
+third true true true r e = cc
+third true false g r e = cc
+third false b g r e = cc
+
+-- a command with these words has no argument that its subcommands share
+pub is_local : (c : Command) (s : Shape) → (app_of c).top ≡ s → s.is_plain ≡ true → (out-Command c).has_globals ≡ false
+is_local c s e h = third _ _ _ _ (ap (λ (x : Shape). x.is_plain) e ∙ h)
+
+-- the words meet the name that was found
+pub same_name : (texts : List Text) (name other : Text) (rows : List Row) → Some (name, rows) ≡ subcommand_of command_words texts
+    → met_by texts ≡ Some other → name ≡ other
+same_name texts name other rows found e = some_same name other (ap (option_map (λ p. p.0)) found ∙ e)
+
+-- where a task without values is asked for, and one word was given, that word is the task's
+pub plain_words : (r : Result Task NoTask) (texts : List Text) (name : Text) (rows : List Row)
+    → Some (name, rows) ≡ subcommand_of command_words texts → IfOk r (AsksBy name rows)
+    → IfOk r (λ task. IsPlain task → length texts ≡ 1) → IfOk r (λ task. IsPlain task → texts ≡ words_of task)
+plain_words (Ok task) texts name rows found asks one = λ alone.
+    is_word texts (name_of task) (sym (ap (option_map (λ p. p.0)) found) ∙ ap Some (plain_name task name rows alone asks)) (one alone)
+plain_words (Err e) texts name rows found asks one = tt
