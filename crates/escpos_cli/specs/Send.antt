@@ -1,5 +1,5 @@
 -- What `send` prints of a receipt that was sent, and its exit status.
-use Rattle.std.specs.Prelude.{ℕ, ◌≤◌, List, [], ◌∷◌, ◌++◌, length, Option, codes, decimal}
+use Rattle.std.specs.Prelude.{ℕ, Bool, true, false, if◌then◌else◌, ◌≤◌, List, [], ◌∷◌, ◌++◌, length, Option, codes, decimal}
 use Rattle.std.specs.Io.KnownBytes.{Appends, Consumes}
 use Rattle.escpos_command.specs.declared.bytes.TheConstants.{LF}
 use Rattle.escpos_host.specs.declared.host.HostError.TheVariants as error
@@ -18,10 +18,13 @@ use Rattle.escpos_cli.specs.Outcome.{Outcome, Says, memory_line}
 abbrev pub recorded_line : ℕ → List ℕ
 recorded_line number = codes "recorded " ++ decimal number ++ LF ∷ []
 
+abbrev pub is_memory : SendFault → Bool
+is_memory (fault.Refused error.Memory) = true
+is_memory why = false
+
 -- The line that says why a receipt isn't recorded.
 abbrev pub fault_line : SendFault → List ℕ
-fault_line (fault.Refused error.Memory) = memory_line
-fault_line why = codes "not recorded " ++ fault_name why ++ LF ∷ []
+fault_line why = if is_memory why then memory_line else codes "not recorded " ++ fault_name why ++ LF ∷ []
 
 abbrev pub outcome_line : Sent → List ℕ
 outcome_line (became.Recorded number) = recorded_line number

@@ -7,7 +7,7 @@ ghost use Rattle.escpos_cli.specs.declared.input.TheConstants.{INPUT_LIMIT};
 use crate::emulate::ONLINE;
 use crate::outcome::{MEMORY, say};
 use crate::receipt_input::{read_receipt, refuse_input};
-use crate::send::NO_LINK;
+use crate::send::{NO_LINK, is_memory};
 use crate::status::Status;
 use escpos_command::LF;
 use escpos_host::{Host, HostError, HostEvent, Receipt, SendFault};
@@ -33,7 +33,9 @@ enum Broken {
 }
 
 impl Broken {
-    fn name(self) -> &'static str {
+    fn name(self) -> &'static str
+        ensures short { length result.now ≤ 12 }
+    {
         match self {
             Broken::Host(why) => why.name(),
             Broken::Printer(end) => end.name(),
@@ -42,9 +44,8 @@ impl Broken {
 
     fn is_memory(self) -> bool {
         match self {
-            Broken::Host(SendFault::Refused(HostError::Memory)) => true,
-            Broken::Printer(LinkEnd::Memory) => true,
-            _ => false,
+            Broken::Host(why) => is_memory(why),
+            Broken::Printer(end) => end == LinkEnd::Memory,
         }
     }
 }

@@ -4,10 +4,12 @@
 use crate::both_ends::loop_receipt;
 use crate::emulate::{ONLINE, emulate, emulate_on, serve_and_tell};
 use crate::host_tests::{S, receipt_of};
+use crate::receipt_edge_tests::joined;
 use crate::send::{Marks, send_on, send_over, send_to};
 use crate::status::Status;
 use crate::task::Task;
 use crate::tests::performs;
+use crate::usage::HELP;
 use escpos_io::{ByteIn, MemoryIn, MemoryOut};
 use escpos_printer::Printer;
 use std::alloc::Global;
@@ -297,9 +299,51 @@ fn loop_rows(rt: HostRuntime) {
             Status::Refused,
         ),
     ];
+    let shown = "          row left Hi\n          feed 1\n          recorded 0\n";
+    assert!(&rt; HELP.contains(shown));
     for (text, printed, status) in rows {
         goes_round(&rt, rt.alloc(), text, (printed, status));
     }
+}
+
+// A front, so many parts and an end go round, and these are printed.
+fn goes_round_at_length<N: Net<Stream = TcpStream, Listener = TcpListener> + Abort>(
+    rt: &N,
+    alloc: Global,
+    count: usize,
+    (text, printed): ([&str; 3], [&str; 3]),
+) {
+    let text = joined(rt, alloc, text, count);
+    let printed = joined(rt, alloc, printed, count);
+    goes_round(rt, alloc, &text, (&printed, Status::Good));
+}
+
+// Receipts that take several turns: of one turn with all its 512 bytes, of a byte more, and of three.
+#[test]
+fn loop_in_turns(rt: HostRuntime) {
+    let feeds = [
+        ["[{\"line\":\"\"}", ",{\"feed\":0}", "]"],
+        ["feed 1\n", "feed 0\n", "recorded 0\n"],
+    ];
+    goes_round_at_length(&rt, rt.alloc(), 166, (feeds[0], feeds[1]));
+    let one_more = [
+        ["[{\"line\":\"A\"}", ",{\"feed\":0}", "]"],
+        ["row left A\nfeed 1\n", "feed 0\n", "recorded 0\n"],
+    ];
+    goes_round_at_length(&rt, rt.alloc(), 166, (one_more[0], one_more[1]));
+    let lines = [
+        [
+            "[",
+            "{\"line\":\"Two coffees, and one apple cake, 8.00\"},",
+            "{\"cut\":\"full\"}]",
+        ],
+        [
+            "",
+            "row left Two coffees, and one apple cake, 8.00\nfeed 1\n",
+            "cut full\nrecorded 0\n",
+        ],
+    ];
+    goes_round_at_length(&rt, rt.alloc(), 30, (lines[0], lines[1]));
 }
 
 const NEVER: u64 = u64::MAX;

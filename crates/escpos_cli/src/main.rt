@@ -1,10 +1,11 @@
 //! The program of ESC/POS receipts: one word for each job.
 //!
 //! `main` joins the words of the command line, the standard streams and the exit status, and leaves the rest
-//! to its modules: `task` reads the words, `perform` does what they ask for, `input` and `hexadecimal` read
+//! to its modules: `task` reads the words, `perform` does what they ask for, `input`, `hexadecimal` and `receipt_input` read
 //! the input, `check`, `render` and `encode` are the jobs of those names over any source and sink and `job` has what
-//! the first two have in common, `lines` has the lines of a listing, `refusal` the line that refuses a receipt,
-//! `outcome` what all jobs say, and `status` what the program ends with.
+//! the first two have in common, `emulate`, `send` and `both_ends` are the words over TCP, `lines` has the lines of a
+//! listing, `refusal` the line that refuses a receipt, `usage` the texts of usage and help, `outcome` what all jobs say,
+//! and `status` what the program ends with.
 #![tactic(auto)]
 
 mod both_ends;
@@ -38,6 +39,8 @@ mod send;
 mod send_tests;
 mod status;
 mod task;
+#[cfg(test)]
+mod task_tests;
 #[cfg(test)]
 mod tests;
 mod usage;

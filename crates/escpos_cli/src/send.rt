@@ -6,7 +6,7 @@ ghost use Rattle.std.specs.Prelude.{◌≡◌, ◌≢◌, ◌+◌, ◌≤◌, �
 ghost use Rattle.escpos_host.specs.Machine.{Down};
 ghost use Rattle.escpos_cli.specs.declared.input.TheConstants.{INPUT_LIMIT};
 ghost use Rattle.escpos_cli.specs.Outcome.{outcome};
-ghost use Rattle.escpos_cli.specs.Send.{SendsAndTells, fault_line, passed, recorded_line, sent_text, status_of_fault, status_of_sent};
+ghost use Rattle.escpos_cli.specs.Send.{SendsAndTells, fault_line, is_memory, passed, recorded_line, sent_text, status_of_fault, status_of_sent};
 
 use crate::lines::append_number;
 use crate::outcome::{MEMORY, say};
@@ -160,13 +160,23 @@ fn append_fault(gather: &mut Gather, why: SendFault)
     ensures same_count { gather.new.taken ≡ gather.old.taken }
     ensures short { length (fault_line why) ≤ 64 }
 {
-    if let SendFault::Refused(HostError::Memory) = why {
+    if is_memory(why) {
         gather.extend(MEMORY);
-        return;
+    } else {
+        gather.extend(b"not recorded ");
+        gather.extend(why.name().as_bytes());
+        gather.push(LF);
     }
-    gather.extend(b"not recorded ");
-    gather.extend(why.name().as_bytes());
-    gather.push(LF);
+}
+
+/// Whether a receipt isn't recorded for want of memory.
+pub fn is_memory(why: SendFault) -> bool
+    ensures { result ≡ is_memory why }
+{
+    match why {
+        SendFault::Refused(HostError::Memory) => true,
+        _ => false,
+    }
 }
 
 // The status of what became of a receipt.
