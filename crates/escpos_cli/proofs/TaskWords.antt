@@ -15,7 +15,7 @@ use Rattle.clap.specs.declared.builder.command.Command.{Command}
 use Rattle.clap.specs.declared.builder.command.Command.TheViews.{out-Command}
 use Rattle.clap.specs.declared.parser.matches.ArgMatches.{ArgMatches}
 use Rattle.clap.specs.declared.parser.matches.ArgMatches.TheViews.{out-ArgMatches, out-SubCommand}
-use Rattle.escpos_cli.specs.Task.{Asks, AsksBy, IsPlain, command_words, help_words, name_of, no_task_of, words_of}
+use Rattle.escpos_cli.specs.Task.{AsksBy, IsPlain, command_words, help_words, name_of, no_task_of, words_of}
 use Rattle.escpos_cli.specs.declared.task.NoTask.{NoTask}
 use Rattle.escpos_cli.specs.declared.task.NoTask.TheVariants.{Help, Memory}
 use Rattle.escpos_cli.specs.declared.task.Task.{Task}

@@ -1,5 +1,5 @@
 -- The words of the command line, and what they ask for.
-use Rattle.std.specs.Prelude.{◌≡◌, ◌<◌, ◌≤◌, ◌^◌, ◌⊎◌, ℕ, ⊤, List, [], ◌∷◌, Option, Some, None, IsSomeAnd, codes, true}
+use Rattle.std.specs.Prelude.{◌≡◌, ◌<◌, ◌≤◌, ◌^◌, ℕ, ⊤, List, [], ◌∷◌, Option, Some, None, IsSomeAnd, codes, true}
 use Rattle.std.specs.Str.Parse.{IsNumeral, digits_value, without_leading_plus}
 use Rattle.std.specs.declared.net.socket_addr.SocketAddrV4.{SocketAddrV4}
 use Rattle.std.specs.Net.Grammar.{IsSocketV4Text}
