@@ -6,3 +6,4 @@ pub mod Listings
 pub mod Reports
 pub mod Spellings
 pub mod Encodings
+pub mod Quiet

@@ -1,7 +1,7 @@
 //! The word `loop`: both ends of a link in one process. A host and a printer take turns over a TCP connection of
 //! 127.0.0.1.
 
-ghost use Rattle.std.specs.Prelude.{◌≡◌, ◌≢◌, ◌+◌, ◌≤◌, length, IsTrue};
+ghost use Rattle.std.specs.Prelude.{◌≡◌, ◌≢◌, ◌+◌, ◌<◌, ◌≤◌, [], length, IsTrue, OnOk};
 ghost use Rattle.escpos_cli.specs.declared.input.TheConstants.{INPUT_LIMIT};
 
 use crate::emulate::ONLINE;
@@ -10,7 +10,7 @@ use crate::receipt_input::{read_receipt, refuse_input};
 use crate::send::{NO_LINK, is_memory};
 use crate::status::Status;
 use escpos_command::LF;
-use escpos_host::{Host, HostError, HostEvent, Receipt, SendFault};
+use escpos_host::{Heard, Host, HostError, HostEvent, Receipt, SendFault};
 use escpos_io::{ByteIn, ByteOut, Device, Failed, Gather, Incoming, Outgoing, laws, put_all};
 use escpos_paper::write_items;
 use escpos_printer::{LinkEnd, Printer, serve_link};
@@ -173,7 +173,9 @@ fn take_turns(
 }
 
 // One turn: what the host puts out is served to the printer, and what that answers is heard.
-fn take_turn(host: &mut Host, printer: &mut Printer, ends: &mut Ends) -> Result<(), Broken> {
+fn take_turn(host: &mut Host, printer: &mut Printer, ends: &mut Ends) -> Result<(), Broken>
+    ensures fewer { host.old.out ≢ [] → OnOk result (length host.new.out < length host.old.out) }
+{
     let mut piece = [0; TURN_BYTES];
     let count = host.take_out(&mut piece);
     put_all(&piece[..count], &mut ends.commands)?;
@@ -190,7 +192,9 @@ fn take_turn(host: &mut Host, printer: &mut Printer, ends: &mut Ends) -> Result<
 }
 
 // Reads so many bytes of answers, and lets the host hear them.
-fn hear_answers<R: ByteIn>(host: &mut Host, reader: &mut R, count: usize) -> Result<(), Broken> {
+fn hear_answers<R: ByteIn>(host: &mut Host, reader: &mut R, count: usize) -> Result<(), Broken>
+    ensures quiet { length host.new.out ≤ length host.old.out }
+{
     let mut piece = [0; TURN_BYTES];
     let mut read = 0;
     while read < count {
@@ -205,20 +209,29 @@ fn hear_answers<R: ByteIn>(host: &mut Host, reader: &mut R, count: usize) -> Res
     Ok(())
 }
 
-// Lets the host hear a piece, event after event.
-fn hear_piece(host: &mut Host, piece: &[u8]) -> Result<(), Broken> {
-    let mut heard = 0;
-    while heard < piece.len() {
-        let more = host.heard(&piece[heard..]);
-        if let HostEvent::BadAnswer { .. } = more.event {
+// Lets the host hear a piece, event after event. Each event takes a byte, so there are no more of them than bytes.
+fn hear_piece(host: &mut Host, piece: &[u8]) -> Result<(), Broken>
+    ensures quiet { length host.new.out ≤ length host.old.out }
+{
+    let mut rest = piece;
+    for _ in piece {
+        let heard = hear_one(host, rest);
+        if let HostEvent::BadAnswer { .. } = heard.event {
             return Err(Broken::Host(SendFault::BadAnswer));
         }
-        if more.consumed == 0 {
-            return Ok(());
+        match rest.get(heard.consumed..) {
+            Some(later) => rest = later,
+            None => return Ok(()),
         }
-        heard += more.consumed;
     }
     Ok(())
+}
+
+// Lets the host hear up to one event. It has no more to say after it.
+fn hear_one(host: &mut Host, bytes: &[u8]) -> Heard
+    ensures quiet { length host.new.out ≤ length host.old.out }
+{
+    host.heard(bytes)
 }
 
 // Puts the line that says why a receipt wasn't recorded.

@@ -69,6 +69,7 @@ pub fn read_receipt<R: ByteIn>(alloc: Global, input: &mut R) -> Result<Receipt, 
 /// with `Memory`. Where the source has failed nothing is put and the status is `Device`, as it is where `output` has failed.
 pub fn refuse_input<W: ByteOut>(fault: NoReceipt, output: &mut W) -> Status
     ensures device { fault ≡ NoReceipt.Input InputFault.Device → (result ≡ Status.Device) × (output.new ≡ output.old) }
+    ensures never_usage { result ≢ Status.Usage }
     ensures not_hidden { result ≢ Status.Device → ¬ IsTrue (W.failed output.old) → ¬ IsTrue (W.failed output.new) }
 {
     match fault {
