@@ -56,11 +56,11 @@ fn asks(rt: &impl Abort, alloc: Global, words: &[&str], asked: Result<Task, NoTa
 }
 
 // The same of a word and those after it.
-fn asks_with(
+fn asks_with<'a>(
     rt: &impl Abort,
     alloc: Global,
-    word: &str,
-    given: &[&str],
+    word: &'a str,
+    given: &[&'a str],
     asked: Result<Task, NoTask>,
 ) -> Result<(), Fail> {
     let mut words = Vec::with_capacity(alloc, given.len() + 1)?;
