@@ -36,16 +36,14 @@ fn says(rt: &impl Abort, stream: &mut TcpStream, bytes: &[u8]) {
 
 // A client reads these bytes, and then the end.
 fn reads(rt: &impl Abort, stream: &mut TcpStream, wanted: &[u8]) {
-    let mut room = [0; 128];
-    let mut count = 0;
-    for _ in 0..100 {
-        let read = stream.read(&mut room[count..]).expect(rt, "can't read");
-        count = count.saturating_add(read).min(room.len());
-        if read == 0 {
-            break;
-        }
+    let mut room = [0; 1];
+    for byte in wanted {
+        let count = stream.read(&mut room).expect(rt, "can't read");
+        assert!(rt; count == 1);
+        assert_eq!(rt; room[0], *byte);
     }
-    assert!(rt; room.get(..count) == Some(wanted));
+    let count = stream.read(&mut room).expect(rt, "can't read");
+    assert!(rt; count == 0);
 }
 
 // The links of a listener are served, and this is printed.
@@ -369,7 +367,8 @@ fn sends_over(
     let receipt = receipt_of(rt, alloc, S.0);
     let mut reader = MemoryIn::new(b"", 7);
     let mut writer = MemoryOut::failing(&mut room, 1);
-    let mut output = MemoryOut::new(&mut printed[..5]);
+    let mut few = [0; 5];
+    let mut output = MemoryOut::new(&mut few);
     let ended = send_over(alloc, marks, receipt, &mut reader, &mut writer, &mut output);
     assert_eq!(rt; ended, Status::Device);
     assert_eq!(rt; Some(output.written()), text.as_bytes().get(..5));
