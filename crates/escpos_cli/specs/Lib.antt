@@ -14,3 +14,4 @@ pub mod Encode
 pub mod Links
 pub mod Send
 pub mod Perform
+pub mod Broken

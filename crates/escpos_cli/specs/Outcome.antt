@@ -25,6 +25,10 @@ pub record Says (o : Outcome) (text : List ℕ) (wanted : Status) : Type 0 where
   pub ends : (o.status ≡ wanted) ⊎ ((o.status ≡ Device) × IsTrue o.failed)
   pub out : o.status ≢ Device → Puts o text
 
+-- The same where a failure of another device gives the status of a failed sink, too: the text went out all the same.
+abbrev pub Tells : Outcome → List ℕ → Status → Type 0
+Tells o text wanted = ((o.status ≡ wanted) × Puts o text) ⊎ ((o.status ≡ Device) × IsTrue o.failed)
+
 -- The last line where there isn't enough memory.
 abbrev pub memory_line : List ℕ
 memory_line = codes "memory\n"

@@ -12,7 +12,7 @@ use Rattle.escpos_host.specs.Refusals.{fault_name}
 use Rattle.escpos_host.specs.Sends.{Call, Sends}
 use Rattle.escpos_cli.specs.declared.status.Status.{Status}
 use Rattle.escpos_cli.specs.declared.status.Status.TheVariants.{Good, Refused, Device, Memory}
-use Rattle.escpos_cli.specs.Outcome.{Outcome, Says, memory_line}
+use Rattle.escpos_cli.specs.Outcome.{Outcome, Tells, memory_line}
 
 -- The line of a receipt that is recorded.
 abbrev pub recorded_line : ℕ → List ℕ
@@ -63,4 +63,4 @@ pub record SendsAndTells (c : Call) (p : Passed) (o : Outcome) : Type 0 where
   pub appends : Appends p.before p.after out
   pub few : length bytes ≤ c.most
   pub sends : Sends c bytes out became host
-  pub says : Says o (sent_text became host.next) (status_of_sent became)
+  pub tells : Tells o (sent_text became host.next) (status_of_sent became)

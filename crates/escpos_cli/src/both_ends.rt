@@ -3,6 +3,8 @@
 
 ghost use Rattle.std.specs.Prelude.{◌≡◌, ◌≢◌, ◌+◌, ◌<◌, ◌≤◌, [], length, IsTrue, OnOk};
 ghost use Rattle.escpos_cli.specs.declared.input.TheConstants.{INPUT_LIMIT};
+ghost use Rattle.escpos_cli.specs.Broken.{broken_line, broken_status};
+ghost use Rattle.escpos_cli.specs.Outcome.{Tells, outcome};
 
 use crate::emulate::ONLINE;
 use crate::outcome::{MEMORY, say};
@@ -33,7 +35,10 @@ enum Broken {
 }
 
 impl Broken {
+    ghost use Rattle.escpos_cli.specs.Broken.{is_memory, name_of};
+
     fn name(self) -> &'static str
+        ensures value { result.now ≡ name_of self }
         ensures short { length result.now ≤ 12 }
     {
         match self {
@@ -42,27 +47,45 @@ impl Broken {
         }
     }
 
-    fn is_memory(self) -> bool {
+    fn is_memory(self) -> bool
+        ensures { result ≡ is_memory self }
+    {
         match self {
             Broken::Host(why) => is_memory(why),
-            Broken::Printer(end) => end == LinkEnd::Memory,
+            Broken::Printer(LinkEnd::Memory) => true,
+            Broken::Printer(_) => false,
         }
     }
 }
 
 impl From<Device> for Broken {
+    ghost use Rattle.escpos_host.specs.declared.send.SendFault.{SendFault};
+    ghost use Rattle.escpos_cli.specs.declared.both_ends.Broken.{Broken};
+
+    ghost from_gives = { λ _ broken. broken ≡ Broken.Host SendFault.WriteFault };
+
     fn from(_device: Device) -> Self {
         Broken::Host(SendFault::WriteFault)
     }
 }
 
 impl From<Failed> for Broken {
+    ghost use Rattle.escpos_host.specs.declared.send.SendFault.{SendFault};
+    ghost use Rattle.escpos_cli.specs.declared.both_ends.Broken.{Broken};
+
+    ghost from_gives = { λ _ broken. broken ≡ Broken.Host SendFault.ReadFault };
+
     fn from(_failed: Failed) -> Self {
         Broken::Host(SendFault::ReadFault)
     }
 }
 
 impl From<HostError> for Broken {
+    ghost use Rattle.escpos_host.specs.declared.send.SendFault.{SendFault};
+    ghost use Rattle.escpos_cli.specs.declared.both_ends.Broken.{Broken};
+
+    ghost from_gives = { λ why broken. broken ≡ Broken.Host (SendFault.Refused why) };
+
     fn from(why: HostError) -> Self {
         Broken::Host(SendFault::Refused(why))
     }
@@ -109,14 +132,29 @@ pub fn both_ends<N: Net<Stream = TcpStream, Listener = TcpListener>, W: ByteOut>
     let Ok(mut printer) = Printer::new(alloc, ONLINE) else {
         return say(MEMORY, output, Status::Memory);
     };
+    both_ends_of(alloc, &near, &far, &mut printer, receipt, output)
+}
+
+/// The same over a connection that stands, to this printer: `near` is the host's end, and `far` the printer's.
+pub fn both_ends_of<W: ByteOut>(
+    alloc: Global,
+    near: &TcpStream,
+    far: &TcpStream,
+    printer: &mut Printer,
+    receipt: Receipt,
+    output: &mut W,
+) -> Status
+    ensures never_usage { result ≢ Status.Usage }
+    ensures not_hidden { result ≢ Status.Device → ¬ IsTrue (W.failed output.old) → ¬ IsTrue (W.failed output.new) }
+{
     let mut host = Host::new(alloc, 0);
     let mut ends = Ends {
-        answers: Incoming::new(&near),
-        commands: Outgoing::new(&near),
-        printer_in: Incoming::new(&far),
-        printer_out: Outgoing::new(&far),
+        answers: Incoming::new(near),
+        commands: Outgoing::new(near),
+        printer_in: Incoming::new(far),
+        printer_out: Outgoing::new(far),
     };
-    let sent = take_turns(&mut host, receipt, &mut printer, &mut ends);
+    let sent = take_turns(&mut host, receipt, printer, &mut ends);
     if write_items(printer.items(), output).is_err() {
         return Status::Device;
     }
@@ -157,7 +195,9 @@ fn take_turns(
     receipt: Receipt,
     printer: &mut Printer,
     ends: &mut Ends,
-) -> Result<(), Broken> {
+) -> Result<(), Broken>
+    ensures recorded { OnOk result (host.new.records ≢ []) }
+{
     host.link_up()?;
     take_turn(host, printer, ends)?;
     if let Err((why, _)) = host.submit(receipt) {
@@ -209,7 +249,7 @@ fn hear_answers<R: ByteIn>(host: &mut Host, reader: &mut R, count: usize) -> Res
     Ok(())
 }
 
-// Lets the host hear a piece, event after event. Each event takes a byte, so there are no more of them than bytes.
+// Lets the host hear a piece, event after event. There are no more events than bytes.
 fn hear_piece(host: &mut Host, piece: &[u8]) -> Result<(), Broken>
     ensures quiet { length host.new.out ≤ length host.old.out }
 {
@@ -234,18 +274,21 @@ fn hear_one(host: &mut Host, bytes: &[u8]) -> Heard
     host.heard(bytes)
 }
 
-// Puts the line that says why a receipt wasn't recorded.
+// Puts the line that says why a receipt wasn't recorded. The status is `Memory` for want of memory, and `Device` else.
 fn say_broken<W: ByteOut>(broken: Broken, output: &mut W) -> Status
-    ensures never_usage { result ≢ Status.Usage }
+    ensures tells { Tells (outcome (W.written output.old) (W.written output.new) (W.failed output.new) result) (broken_line broken) (broken_status broken) }
     ensures not_hidden { result ≢ Status.Device → ¬ IsTrue (W.failed output.old) → ¬ IsTrue (W.failed output.new) }
 {
     if broken.is_memory() {
         return say(MEMORY, output, Status::Memory);
     }
+    laws::given_in_place();
     let mut gather = Gather::new();
     gather.extend(b"not recorded ");
     gather.extend(broken.name().as_bytes());
     gather.push(LF);
-    let _ = gather.flush(output);
-    Status::Device
+    match gather.flush(output) {
+        Ok(()) => Status::Device,
+        Err(_) => Status::Device,
+    }
 }

@@ -1,9 +1,10 @@
 //! The words over TCP, on 127.0.0.1 and in one thread: a client connects and writes before it is served, ends its writing, and
 //! keeps its stream open.
 
-use crate::both_ends::loop_receipt;
+use crate::both_ends::{both_ends_of, loop_receipt};
 use crate::emulate::{ONLINE, emulate, emulate_on, serve_and_tell};
 use crate::host_tests::{S, receipt_of};
+use crate::perform::perform;
 use crate::receipt_edge_tests::joined;
 use crate::send::{Marks, send_on, send_over, send_to};
 use crate::status::Status;
@@ -11,8 +12,9 @@ use crate::task::Task;
 use crate::tests::performs;
 use crate::usage::HELP;
 use escpos_io::{ByteIn, MemoryIn, MemoryOut};
-use escpos_printer::Printer;
+use escpos_printer::{Condition, Printer};
 use std::alloc::Global;
+use std::io;
 use std::io::{Read, Write};
 use std::net::{Ipv4Addr, Net, Shutdown, SocketAddr, SocketAddrV4, TcpListener, TcpStream};
 use std::process::Abort;
@@ -176,7 +178,11 @@ fn send_recorded(rt: HostRuntime) {
     let (mut printer, _) = listener.accept().expect(&rt, "no link");
     printer.write_all(ANSWERED).expect(&rt, "can't write");
     let wanted = ("recorded 0\nnext 2\n", Status::Good);
+    printer.shutdown(Shutdown::Write).expect(&rt, "can't end");
     sends(&rt, rt.alloc(), &client, (0, 1), wanted);
+    // what is short goes out at once, and a read waits as long as the link stands
+    assert!(&rt; client.nodelay().expect(&rt, "no answer"));
+    assert!(&rt; client.read_timeout().expect(&rt, "no answer").is_none());
     client.shutdown(Shutdown::Write).expect(&rt, "can't end");
     let sent = b"\x1D(H\x06\x00000000\x1B@Hi\n\x1D(H\x06\x00000001";
     reads(&rt, &mut printer, sent);
@@ -426,6 +432,11 @@ fn serves(
     let served = serve_and_tell(printer, number, &mut reader, &mut writer, &mut output);
     assert!(rt; served.is_ok());
     assert_eq!(rt; output.written(), text.as_bytes());
+    let answers = b"\x12\x12\x12".as_slice();
+    assert_eq!(rt;
+        Some(writer.written()),
+        answers.get(..writer.written().len())
+    );
 }
 
 #[test]
@@ -452,7 +463,7 @@ fn told_of_a_link(rt: HostRuntime) {
     for (read, write, text) in rows {
         serves(&rt, &mut printer, (bytes, read, write), (1, text));
     }
-    let offline = escpos_printer::Condition {
+    let offline = Condition {
         cover_open: true,
         ..ONLINE
     };
@@ -504,4 +515,162 @@ fn no_network(rt: HostRuntime) {
         );
         assert!(&rt; (source.pulls() > 0) == !input.is_empty());
     }
+}
+
+// Links are taken one after another: where the line of the first can't go out, the second is still to be accepted.
+#[test]
+fn lines_go_out_link_by_link(rt: HostRuntime) {
+    let listener = TcpListener::bind(&rt, ANY_PORT).expect(&rt, "no port");
+    let address = address_of(&rt, &listener);
+    let mut first = TcpStream::connect(&rt, address).expect(&rt, "no link");
+    says(&rt, &mut first, b"Hi\n");
+    let mut second = TcpStream::connect(&rt, address).expect(&rt, "no link");
+    says(&rt, &mut second, b"Hi\n");
+    let mut room = [0; 64];
+    let mut output = MemoryOut::failing(&mut room, 1);
+    let status = emulate_on(rt.alloc(), &listener, 2, &mut output);
+    assert!(&rt; status == Status::Device);
+    listener.set_nonblocking(true).expect(&rt, "can't set");
+    assert!(&rt; listener.accept().is_ok());
+    assert!(&rt; listener.accept().is_err());
+}
+
+// As many links are served as there are to be, and their lines are counted.
+#[test]
+fn many_links(rt: HostRuntime) {
+    let listener = TcpListener::bind(&rt, ANY_PORT).expect(&rt, "no port");
+    let address = address_of(&rt, &listener);
+    for _ in 0..120 {
+        drop(TcpStream::connect(&rt, address).expect(&rt, "no link"));
+    }
+    let mut room = [0; 8192];
+    let mut output = MemoryOut::new(&mut room);
+    let status = emulate_on(rt.alloc(), &listener, 119, &mut output);
+    assert!(&rt; status == Status::Good);
+    let last = b"\nlink 119 read 0 consumed 0 written 0 Ended\n".as_slice();
+    assert!(&rt; output.written().ends_with(last));
+    listener.set_nonblocking(true).expect(&rt, "can't set");
+    assert!(&rt; listener.accept().is_ok());
+    assert!(&rt; listener.accept().is_err());
+}
+
+// A network in which this listener is bound to this address, and this stream connected to it.
+#[derive(Drop)]
+struct Prepared<'a> {
+    address: SocketAddrV4,
+    listener: &'a TcpListener,
+    client: &'a TcpStream,
+}
+
+impl Net for Prepared<'_> {
+    type Stream = TcpStream;
+
+    type Listener = TcpListener;
+
+    fn bind(&self, addr: SocketAddr) -> io::Result<TcpListener> {
+        if addr == SocketAddr::V4(self.address) {
+            self.listener.try_clone()
+        } else {
+            Err(io::Error::from(io::ErrorKind::AddrNotAvailable))
+        }
+    }
+
+    fn connect(&self, addr: SocketAddr) -> io::Result<TcpStream> {
+        if addr == SocketAddr::V4(self.address) {
+            self.client.try_clone()
+        } else {
+            Err(io::Error::from(io::ErrorKind::NetworkUnreachable))
+        }
+    }
+}
+
+// What is asked for over this network prints this.
+fn performs_over(
+    rt: &impl Abort,
+    alloc: Global,
+    net: &Prepared,
+    (task, input): (Task, &[u8]),
+    (text, status): (&str, Status),
+) {
+    let mut room = [0; 256];
+    let mut source = MemoryIn::new(input, 100);
+    let mut output = MemoryOut::new(&mut room);
+    let ended = perform(net, alloc, Ok(task), &mut source, &mut output);
+    assert_eq!(rt; output.written(), text.as_bytes());
+    assert_eq!(rt; ended, status);
+    assert!(rt; (source.pulls() > 0) == !input.is_empty());
+}
+
+// What the words ask for is done at their address, with their numbers.
+#[test]
+fn words_over_links(rt: HostRuntime) {
+    let listener = TcpListener::bind(&rt, ANY_PORT).expect(&rt, "no port");
+    let address = address_of(&rt, &listener);
+    let client = TcpStream::connect(&rt, address).expect(&rt, "no link");
+    let (mut printer, _) = listener.accept().expect(&rt, "no link");
+    printer.write_all(ANSWERED).expect(&rt, "can't write");
+    printer.shutdown(Shutdown::Write).expect(&rt, "can't end");
+    let net = Prepared {
+        address,
+        listener: &listener,
+        client: &client,
+    };
+    let send = Task::Send {
+        address,
+        first: 0,
+        openings: 1,
+    };
+    let wanted = ("recorded 0\nnext 2\n", Status::Good);
+    performs_over(&rt, rt.alloc(), &net, (send, S.0), wanted);
+    let mut first = TcpStream::connect(&rt, address).expect(&rt, "no link");
+    says(&rt, &mut first, b"Hi\n");
+    let mut second = TcpStream::connect(&rt, address).expect(&rt, "no link");
+    says(&rt, &mut second, b"Yo\n");
+    let emulate = Task::Emulate { address, links: 2 };
+    let text = "link 1 read 3 consumed 3 written 0 Ended\n\
+        link 2 read 3 consumed 3 written 0 Ended\n\
+        row left Hi\nfeed 1\nrow left Yo\nfeed 1\n";
+    performs_over(&rt, rt.alloc(), &net, (emulate, b""), (text, Status::Good));
+}
+
+// A receipt that goes round to a printer which doesn't take it isn't recorded, and what is on paper is written.
+#[test]
+fn loop_breaks(rt: HostRuntime) {
+    let listener = TcpListener::bind(&rt, ANY_PORT).expect(&rt, "no port");
+    let near = TcpStream::connect(&rt, address_of(&rt, &listener)).expect(&rt, "no link");
+    let (far, _) = listener.accept().expect(&rt, "no link");
+    let mut printer = Printer::new(rt.alloc(), ONLINE).expect(&rt, "memory");
+    let fed = printer.feed(b"Hi\n");
+    assert!(&rt; fed.consumed == 3);
+    let open = Condition {
+        cover_open: true,
+        ..ONLINE
+    };
+    printer.set_condition(open);
+    let wanted = (
+        "row left Hi\nfeed 1\nnot recorded Offline\n",
+        Status::Device,
+    );
+    breaks(&rt, rt.alloc(), (&near, &far), &mut printer, wanted);
+    printer.restart();
+    printer.set_condition(ONLINE);
+    far.shutdown(Shutdown::Both).expect(&rt, "can't end");
+    let wanted = ("row left Hi\nfeed 1\nnot recorded ", Status::Device);
+    breaks(&rt, rt.alloc(), (&near, &far), &mut printer, wanted);
+}
+
+// A receipt goes round over this connection: the status is this, and what is printed begins so.
+fn breaks(
+    rt: &impl Abort,
+    alloc: Global,
+    (near, far): (&TcpStream, &TcpStream),
+    printer: &mut Printer,
+    (text, status): (&str, Status),
+) {
+    let receipt = receipt_of(rt, alloc, S.0);
+    let mut room = [0; 128];
+    let mut output = MemoryOut::new(&mut room);
+    let ended = both_ends_of(alloc, near, far, printer, receipt, &mut output);
+    assert_eq!(rt; ended, status);
+    assert!(rt; output.written().starts_with(text.as_bytes()));
 }

@@ -27,7 +27,7 @@ use std::net::{Net, TcpListener, TcpStream};
 ///
 /// A task is its job, or its link over `net`. Without one, `output` gets the help and the status is `Good`, or the usage and the
 /// status is `Usage`, or the line `memory` and the status is `Memory`; `input` isn't read. `Device` comes
-/// only where `input` or `output` has failed.
+/// only where `input`, `output` or a link has failed.
 pub fn perform<N: Net<Stream = TcpStream, Listener = TcpListener>, R: ByteIn, W: ByteOut>(
     net: &N,
     alloc: Global,

@@ -1,6 +1,6 @@
 //! Receipt input: a receipt in JSON that a source has, read to its end, and what is said where there is none.
 
-ghost use Rattle.std.specs.Prelude.{◌≡◌, ◌≢◌, ◌+◌, ◌<◌, ◌≤◌, length, Err, IfOk, IfSome, IsErrOf, IsTrue, OnOk, codes};
+ghost use Rattle.std.specs.Prelude.{◌≡◌, ◌≢◌, ◌⊎◌, ◌+◌, ◌<◌, ◌≤◌, length, Err, IfOk, IfSome, IsErrOf, IsTrue, OnOk, codes};
 ghost use Rattle.escpos_host.specs.Describes.{Describes, IsJsonFault};
 ghost use Rattle.escpos_host.specs.Whole.{Whole};
 ghost use Rattle.escpos_host.specs.declared.json.JsonError.{JsonError};
@@ -68,6 +68,12 @@ pub fn read_receipt<R: ByteIn>(alloc: Global, input: &mut R) -> Result<Receipt, 
 /// Puts the line that says why an input gives no receipt: `refused input` or the line of the reason with `Refused`, `memory`
 /// with `Memory`. Where the source has failed nothing is put and the status is `Device`, as it is where `output` has failed.
 pub fn refuse_input<W: ByteOut>(fault: NoReceipt, output: &mut W) -> Status
+    ensures too_long { fault ≡ NoReceipt.Input InputFault.TooLong →
+        Says (outcome (W.written output.old) (W.written output.new) (W.failed output.new) result) (codes "refused input\n") Status.Refused }
+    ensures refused { (why : JsonFault) → fault ≡ NoReceipt.Text (JsonError.Refused why) →
+        Says (outcome (W.written output.old) (W.written output.new) (W.failed output.new) result) (refusal_line why) Status.Refused }
+    ensures memory { (fault ≡ NoReceipt.Input InputFault.Memory) ⊎ (fault ≡ NoReceipt.Text JsonError.Memory) →
+        Says (outcome (W.written output.old) (W.written output.new) (W.failed output.new) result) memory_line Status.Memory }
     ensures device { fault ≡ NoReceipt.Input InputFault.Device → (result ≡ Status.Device) × (output.new ≡ output.old) }
     ensures never_usage { result ≢ Status.Usage }
     ensures not_hidden { result ≢ Status.Device → ¬ IsTrue (W.failed output.old) → ¬ IsTrue (W.failed output.new) }

@@ -118,7 +118,8 @@ out.
       how many of them the printer took, the bytes of its answers, and why the
       link ended: Ended, TooLong (after 16777216 bytes), Fault (a refused byte),
       Offline, ReadFault, WriteFault or Memory. At the end it writes the paper as
-      `render` does.
+      `render` does. Where it can't listen or accept a link, it says so by exit
+      status 3 alone.
 
           $ escpos_cli emulate 127.0.0.1:9100
           link 1 read 49 consumed 49 written 28 Ended
@@ -130,8 +131,10 @@ out.
       sends the receipt, and waits for the answer to the mark after it. Then the
       receipt is on paper, and the first line is `recorded 0`; else it is
       `not recorded WHY`: Ended, ReadFault or WriteFault (the link), TooLong (65536
-      bytes were read), BadAnswer or MarksUsedUp, or the one line `no link`. What
-      isn't recorded may be on paper or not. A wait lasts as long as the link.
+      bytes were read), BadAnswer or MarksUsedUp; or it is `memory`. What isn't
+      recorded may be on paper or not. A wait lasts as long as the link. Without a
+      connection the one line is `no link`. What gives no receipt is refused as by
+      `encode`, and nothing is connected.
 
       Each mark has a number of its own, 0 to 1679615. F is the first one that this
       till hasn't used with this printer, and the last line is `next M` with the
@@ -144,7 +147,8 @@ out.
 
   escpos_cli loop
       Reads a receipt, is both ends of a link over 127.0.0.1, and prints the paper
-      and then `recorded 0`.
+      and then `recorded 0`. Where something goes wrong the last line is that of
+      `send`, or `not recorded` and the end of the printer's link.
 
           $ echo '[{\"line\":\"Hi\"}]' | escpos_cli loop
           row left Hi
