@@ -93,3 +93,22 @@ joined a b some others r s h k = record {
       ∙ sym (append_assoc (spell_answers some) (spell_answers others) s) ∙ ap (λ xs. xs ++ s) (sym (flat_map-append answer_bytes some others));
   left = k.left;
 }
+
+-- Answers that begin with some are these and others.
+cut_spelled : (some all : List Answer) (x : List ℕ) → AreAnswers some → AreAnswers all → spell_answers some ++ x ≡ spell_answers all
+    → (others : List Answer) × (all ≡ some ++ others) × (x ≡ spell_answers others) × AreAnswers others
+cut_spelled [] all x h k e = (all, refl, e, k)
+cut_spelled (a ∷ some) [] x h k e =
+    let none = nothing_first (answer_bytes a) (spell_answers some) (nothing_first (spell_answers (a ∷ some)) x e) in
+    absurd (not_nothing a [] (sym none ∙ sym (append-nil (answer_bytes a))))
+cut_spelled (a ∷ some) (b ∷ all) x h k e =
+    let same = first a b (spell_answers some ++ x) (spell_answers all) h.0 k.0 (sym (append_assoc (answer_bytes a) (spell_answers some) x) ∙ e) in
+    let rest = cut_spelled some all x h.1 k.1 same.1 in
+    (rest.0, ap (λ v. v ∷ all) (sym same.0) ∙ ap (λ v. a ∷ v) rest.1, rest.2, rest.3)
+
+pub cut : (a b : List ℕ) (all some : List Answer) (r : List ℕ) → Hears (a ++ b) all [] → Hears a some r
+    → (others : List Answer) × (all ≡ some ++ others) × Hears (r ++ b) others []
+cut a b all some r h k =
+    let begins = sym (append_assoc (spell_answers some) r b) ∙ ap (λ v. v ++ b) (sym k.whole) ∙ h.whole ∙ append-nil (spell_answers all) in
+    let rest = cut_spelled some all (r ++ b) k.in_range h.in_range begins in
+    (rest.0, rest.1, record { in_range = rest.3; whole = rest.2 ∙ sym (append-nil (spell_answers rest.0)); left = inl refl })

@@ -341,3 +341,13 @@ fault_joined a b cs ds r s k why h f =
       refused = rw (whole, get_or-append-add (spell cs) (r ++ b) k 0) f.refused;
       reason = f.reason;
     }
+
+-- Where a list is read with nothing left, so is what is left of a front of it.
+pub cut : (a b : List ℕ) (all some : List Command) (r : List ℕ) → Reads (a ++ b) all [] → Reads a some r
+    → (others : List Command) × (all ≡ some ++ others) × Reads (r ++ b) others []
+cut a b all some r h k = elim (outcome (r ++ b)) [
+  | read cs rest g ↦
+      let whole = one_reading (a ++ b) all (some ++ cs) [] rest h (joined a b some cs r rest k g) in
+      (cs, whole.0, subst (λ x. Reads (r ++ b) cs x) (sym whole.1) g)
+  | refused cs rest i why f ↦ absurd (not_both (a ++ b) all (some ++ cs) [] rest (length (spell some) + i) why h (fault_joined a b some cs r rest i why k f))
+]

@@ -45,3 +45,7 @@ pub record Hears (bs : List ℕ) (answers : List Answer) (rest : List ℕ) : Typ
   pub in_range : AllByRecursion (λ a. IsTrue (is_answer a)) answers
   pub whole : bs ≡ spell_answers answers ++ rest
   pub left : (rest ≡ []) ⊎ HalfAnswer rest
+
+-- The bytes are those of answers, one after another, and nothing is left.
+abbrev pub AreWholeAnswers : List ℕ → Type 0
+AreWholeAnswers bs = (answers : List Answer) × Hears bs answers []

@@ -39,7 +39,7 @@ pub fn one_reading()
 {}
 
 /// Joined readings: a reading goes on where it stopped, and so does a fault. So it doesn't matter where a
-/// stream is cut.
+/// stream is cut; and of whole commands the first part gives the first ones.
 pub fn joined_readings()
     ensures reading { (a b : List ℕ) (cs ds : List Command) (r s : List ℕ) →
         Reads a cs r → Reads (r ++ b) ds s → Reads (a ++ b) (cs ++ ds) s }
@@ -47,6 +47,8 @@ pub fn joined_readings()
         Reads a cs r → FaultAt (r ++ b) ds s k why → FaultAt (a ++ b) (cs ++ ds) s (length (spell cs) + k) why }
     ensures first_fault { (a more : List ℕ) (cs : List Command) (r : List ℕ) (k : ℕ) (why : FaultReason) →
         FaultAt a cs r k why → FaultAt (a ++ more) cs r k why }
+    ensures cut { (a b : List ℕ) (all some : List Command) (r : List ℕ) → Reads (a ++ b) all [] → Reads a some r
+        → (others : List Command) × (all ≡ some ++ others) × Reads (r ++ b) others [] }
 {}
 
 /// The first profile, which had no ESC J, no ESC p and no raster of more than 2,047 rows: what it read is read so by the
@@ -71,12 +73,15 @@ pub fn resynchronisation()
 {}
 
 /// Answers: each has its bytes, no answer begins another, and a list of bytes is heard in one way at most. What was heard goes
-/// on where it stopped.
+/// on where it stopped; and where bytes are whole answers, wherever they are cut, what is heard of the first part is the first
+/// of these answers, and the others go on from there.
 pub fn answers()
     ensures one_answer { (a b : Answer) (bs : List ℕ) → AnswerSpells a bs → AnswerSpells b bs → a ≡ b }
     ensures no_prefix { (a b : Answer) (bs more : List ℕ) → AnswerSpells a bs → AnswerSpells b (bs ++ more) → more ≡ [] }
     ensures one_hearing { (bs : List ℕ) (some others : List Answer) (x y : List ℕ) → Hears bs some x → Hears bs others y → (some ≡ others) × (x ≡ y) }
     ensures joined { (a b : List ℕ) (some others : List Answer) (r s : List ℕ) → Hears a some r → Hears (r ++ b) others s → Hears (a ++ b) (some ++ others) s }
+    ensures cut { (a b : List ℕ) (all some : List Answer) (r : List ℕ) → Hears (a ++ b) all [] → Hears a some r
+        → (others : List Answer) × (all ≡ some ++ others) × Hears (r ++ b) others [] }
 {}
 
 /// The tree of bytes: where a byte list leads in it says what the definitions say of the list. So a reader that

@@ -14,3 +14,5 @@ pub mod Saying
 pub mod Waiting
 pub mod Dialling
 pub mod Sending
+pub mod InTurn
+pub mod WholeAnswer

@@ -1,9 +1,9 @@
 -- What hearing the bytes of answers comes to. It speaks of a whole piece; the code takes it byte by byte.
-use Rattle.std.specs.Prelude.{ℕ, ◌≡◌, ◌≢◌, ◌+◌, ◌<◌, ◌≤◌, ◌⊎◌, List, [], ◌∷◌, ◌++◌, length, take, slice_index}
+use Rattle.std.specs.Prelude.{ℕ, ◌≡◌, ◌≢◌, ◌+◌, ◌<◌, ◌≤◌, ◌⊎◌, List, [], ◌∷◌, ◌++◌, length, take, drop, slice_index}
 use Rattle.std.specs.List.{AllByRecursion}
 use Rattle.escpos_command.specs.declared.answer.Answer.{Answer}
 use Rattle.escpos_command.specs.declared.answer.Answer.TheVariants as answer
-use Rattle.escpos_command.specs.Answers.{AnswerSpells, HalfAnswer, Hears, ViableAnswer}
+use Rattle.escpos_command.specs.Answers.{AnswerSpells, AreWholeAnswers, HalfAnswer, Hears, ViableAnswer}
 use Rattle.escpos_command.specs.Digits.{mark_count, mark_of}
 use Rattle.escpos_host.specs.declared.host.HostEvent.{HostEvent}
 use Rattle.escpos_host.specs.declared.host.HostEvent.TheVariants as event
@@ -82,3 +82,41 @@ IsHeard h bytes consumed e after =
     ((e ≡ event.None) × (consumed ≡ length bytes) × Passed h bytes after.half × (after ≡ with_half h after.half))
     ⊎ ((at : ℕ) × (half : List ℕ) × (at < length bytes) × (e ≢ event.None) × (consumed ≡ taken_at e at) × Passed h (take at bytes) half
     × HearsByte (with_half h half) (slice_index bytes at) at e after)
+
+-- The last of the events, None where there is none.
+abbrev pub last_of : List HostEvent → HostEvent
+last_of [] = event.None
+last_of (e ∷ []) = e
+last_of (e ∷ f ∷ es) = last_of (f ∷ es)
+
+-- The event ends the link.
+abbrev pub EndsLink : HostEvent → Type 0
+EndsLink (event.BadAnswer place) = Unit {0}
+EndsLink _ = ⊥
+
+-- What hearing all of a piece comes to, event after event, for a host that has a link: up to its end, or up to an event that
+-- ends the link. The place of a byte that fits no answer is counted from that event's own part of the piece.
+abbrev pub HearsInTurn : HostView → List ℕ → List HostEvent → ℕ → HostView → Type 0
+HearsInTurn h bytes [] consumed after = IsHeard h bytes consumed event.None after
+HearsInTurn h bytes (e ∷ es) consumed after =
+    (count : ℕ) × (next : HostView) × (e ≢ event.None) × IsHeard h bytes count e next
+    × ((EndsLink e × (es ≡ []) × (consumed ≡ count) × (after ≡ next))
+    ⊎ ((EndsLink e → ⊥) × ((rest : ℕ) × (consumed ≡ count + rest) × HearsInTurn next (drop count bytes) es rest after)))
+
+-- The same for any host. With no link all bytes are taken and ignored.
+abbrev pub HearsAll : HostView → List ℕ → List HostEvent → ℕ → HostView → Type 0
+HearsAll h bytes events consumed after =
+    ((h.phase ≡ Down) × (events ≡ []) × (consumed ≡ length bytes) × (after ≡ h)) ⊎ ((h.phase ≢ Down) × HearsInTurn h bytes events consumed after)
+
+-- What hearing a piece leaves where the half answer, the piece and the bytes after it are whole answers: the host is off its link,
+-- by the last event; or it has heard all of the piece, and its half answer and the bytes after the piece are whole answers.
+pub record IsOff (events : List HostEvent) (after : HostView) : Type 0 where
+  pub ends : EndsLink (last_of events)
+  pub phase : after.phase ≡ Down
+  pub half : after.half ≡ []
+
+pub record GoesOn (bytes more : List ℕ) (events : List HostEvent) (consumed : ℕ) (after : HostView) : Type 0 where
+  pub on : EndsLink (last_of events) → ⊥
+  pub all : consumed ≡ length bytes
+  pub up : after.phase ≢ Down
+  pub whole : AreWholeAnswers (after.half ++ more)

@@ -1,12 +1,14 @@
 //! The laws of the host machine. Each is a function that does nothing and whose contract is the law, so that the law is proved
-//! with the crate and another crate can cite it by calling the function.
+//! with the crate and another crate can cite it by calling the function. (Some cite the laws of answers.)
 
-ghost use Rattle.std.specs.Prelude.{◌≡◌, ◌≢◌, ℕ, List, [], ◌∷◌, ◌++◌, length, take, IsTrue};
+ghost use Rattle.std.specs.Prelude.{◌≡◌, ◌≢◌, ◌⊎◌, ℕ, List, [], ◌∷◌, ◌++◌, length, take, IsTrue};
 ghost use Rattle.escpos_command.specs.declared.command.Command.{Command};
 ghost use Rattle.escpos_command.specs.declared.command.Command.TheVariants as kind;
+ghost use Rattle.escpos_command.specs.declared.answer.Answer.{Answer};
+ghost use Rattle.escpos_command.specs.Answers.{AreWholeAnswers, answer_bytes, is_answer};
 ghost use Rattle.escpos_command.specs.Parameters.{is_status_kind};
 ghost use Rattle.escpos_host.specs.declared.host.HostEvent.{HostEvent};
-ghost use Rattle.escpos_host.specs.Heard.{IsHeard};
+ghost use Rattle.escpos_host.specs.Heard.{GoesOn, HearsAll, IsHeard, IsOff, Turns, last_of};
 ghost use Rattle.escpos_host.specs.Machine.{HasMark, HostView, InFlight, IsOpening, Down, Open, asked, handed_out, linked, next_mark, nudged, submitted, taken};
 ghost use Rattle.escpos_host.specs.Says.{Talks};
 ghost use Rattle.escpos_host.specs.Whole.{Whole};
@@ -28,3 +30,20 @@ pub fn says()
         → IsHeard h bytes consumed event after → Talks h out said → Talks after out said }
     ensures handed_out { (h : HostView) (out : List ℕ) (said : List Command) → Talks h out said → Talks (handed_out h) out said }
 {}
+
+/// Whole answers: where a host's half answer, a piece that it hears and the bytes after that are whole answers, it hears the whole
+/// piece, and what is left of it and the bytes after it are whole answers; or an event has ended its link.
+pub fn whole_answers()
+    ensures { (h after : HostView) (bytes more : List ℕ) (events : List HostEvent) (consumed : ℕ) → h.phase ≢ Down → AreWholeAnswers (h.half ++ (bytes ++ more))
+        → HearsAll h bytes events consumed after → IsOff events after ⊎ GoesOn bytes more events consumed after }
+{
+    escpos_command::laws::answers();
+}
+
+/// One answer: a host with no half answer that hears the bytes of an answer does what it does at that answer, and nothing else.
+pub fn one_answer()
+    ensures { (h after : HostView) (a : Answer) (events : List HostEvent) (consumed : ℕ) → h.phase ≢ Down → h.half ≡ [] → IsTrue (is_answer a)
+        → HearsAll h (answer_bytes a) events consumed after → (at : ℕ) × Turns h a at (last_of events) after }
+{
+    escpos_command::laws::answers();
+}

@@ -3,11 +3,12 @@
 //! `specs/Whole.antt` looks back in the list of commands; the code walks over it once, with one flag.
 
 ghost use Rattle.std.specs.Prelude.{◌≡◌, ◌≤◌, List, [], ◌∷◌, ◌++◌, length, IsOk, MatchOption, MatchResult};
+ghost use Rattle.escpos_command.specs.CommandTable.{AreCommands};
 ghost use Rattle.escpos_command.specs.Text.{characters, ends_text};
 ghost use Rattle.escpos_host.specs.Whole.{Whole, IsReceiptFault, has_text, is_forbidden, needs_empty_line, is_nonempty};
 ghost use Rattle.escpos_command.specs.declared.command.Command.{Command};
 
-use escpos_command::Command;
+use escpos_command::{Command, laws};
 use std::marker::Model;
 
 /// Why commands are no receipt. The first reason that applies is given: 1; then at the first command that can't stand in its
@@ -73,13 +74,14 @@ pub struct Receipt {
 impl Model for Receipt {
     ghost use Rattle.std.specs.Prelude.{List};
     ghost use Rattle.escpos_command.specs.declared.command.Command.{Command};
+    ghost use Rattle.escpos_command.specs.CommandTable.{AreCommands};
     ghost use Rattle.escpos_host.specs.Whole.{Whole};
 
     ghost Value = { List Command };
 
     ghost view = { λ r. r.commands.items };
 
-    ghost invariant = { λ r. Whole r.commands.items };
+    ghost invariant = { λ r. Whole r.commands.items × AreCommands r.commands.items };
 }
 
 impl Receipt {
@@ -102,6 +104,7 @@ impl Receipt {
     pub fn commands(&self) -> &[Command]
         ensures commands { result.now ≡ self.now }
         ensures whole { Whole self.now }
+        ensures in_range { AreCommands self.now }
     {
         self.commands.as_slice()
     }
@@ -109,13 +112,14 @@ impl Receipt {
 
 // The first reason for which these commands are no receipt.
 fn fault_of(commands: &[Command]) -> Option<ReceiptFault>
-    ensures { MatchOption result (Whole commands.now) (λ fault. IsReceiptFault fault commands.now) }
+    ensures { MatchOption result (Whole commands.now × AreCommands commands.now) (λ fault. IsReceiptFault fault commands.now) }
 {
     if commands.is_empty() {
         return Some(ReceiptFault::Empty);
     }
     let mut has_text = false;
     for (at, command) in commands.iter().enumerate() {
+        laws::in_range(command);
         if is_forbidden(command) {
             return Some(ReceiptFault::Forbidden { at });
         }

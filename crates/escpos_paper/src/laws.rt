@@ -3,7 +3,7 @@
 
 ghost use Rattle.std.specs.Prelude.{◌≡◌, ◌<◌, ℕ, IsTrue, map, List, [], ◌∷◌, ◌++◌};
 ghost use Rattle.escpos_command.specs.declared.command.Command.{Command};
-ghost use Rattle.escpos_command.specs.declared.command.Command.TheVariants.{Init};
+ghost use Rattle.escpos_command.specs.declared.command.Command.TheVariants.{Init, Mark};
 ghost use Rattle.escpos_paper.specs.declared.cell.Cell.{Cell};
 ghost use Rattle.escpos_paper.specs.declared.item.Item.{Item};
 ghost use Rattle.escpos_command.specs.Text.{text};
@@ -29,6 +29,11 @@ pub fn one_cut()
 /// Initialisation: what is printed after an Init is what is printed on a printer just switched on.
 pub fn initialisation()
     ensures { (a b : List Command) → printed (a ++ Init ∷ [] ++ b) ≡ printed a ++ printed b }
+{}
+
+/// Marks: a mark prints nothing.
+pub fn marks()
+    ensures { (cs : List Command) (id : List ℕ) → printed (cs ++ Mark id ∷ []) ≡ printed cs }
 {}
 
 /// Growing paper: further commands print after what is printed, and change none of it.

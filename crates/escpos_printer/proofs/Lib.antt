@@ -1,3 +1,5 @@
 pub mod Taking
 pub mod Answering
+pub mod Fitting
+pub mod Spelled
 pub mod Serving

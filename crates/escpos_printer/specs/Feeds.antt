@@ -4,7 +4,7 @@ use Rattle.std.specs.List.{AllByRecursion}
 use Rattle.escpos_command.specs.declared.answer.Answer.{Answer}
 use Rattle.escpos_command.specs.declared.command.Command.{Command}
 use Rattle.escpos_command.specs.declared.command.Command.TheVariants as kind
-use Rattle.escpos_command.specs.CommandTable.{Spells}
+use Rattle.escpos_command.specs.CommandTable.{AreCommands, Spells}
 use Rattle.escpos_command.specs.Grammar.{Viable, Reads, FaultAt}
 use Rattle.escpos_decode.specs.Place.{begins_content}
 use Rattle.escpos_decode.specs.declared.decoder.Ahead.{Ahead}
@@ -94,6 +94,14 @@ pub record Feeds (before : PrinterView) (piece : List ℕ) (k : ℕ) (stop : Fee
   pub cause : ((stop ≡ All) × (k ≡ length piece)) ⊎ ((k < length piece) × HasCause stop taken (slice_index piece k))
   pub place : IsPlace stop k
   pub left : IsLeft stop taken after
+
+-- The printer can take these commands now: it has no half command, it is online unless all of them are status requests, and
+-- there is room for the answers to them.
+pub record IsReadyFor (p : PrinterView) (cs : List Command) : Type 0 where
+  pub none : p.half ≡ []
+  pub commands : AreCommands cs
+  pub passes : AllByRecursion (PassesOffline p.condition) cs
+  pub room : length (p.waiting ++ replies p.condition cs) ≤ most_waiting
 
 -- What stands in the way of a command of which this is told. Offline only status requests are completed; where 16 answers
 -- wait, none that is answered.

@@ -1,4 +1,4 @@
-use Rattle.escpos_command.proofs.Hearing.{one_answer, no_prefix, one_hearing, joined}
+use Rattle.escpos_command.proofs.Hearing.{one_answer, no_prefix, one_hearing, joined, cut}
 use Rattle.escpos_command.proofs.laws.answers.Goals as goal
 
 pub returns-clause-one_answer : goal.returns-clause-one_answer
@@ -12,3 +12,6 @@ returns-clause-one_hearing c = one_hearing
 
 pub returns-clause-joined : goal.returns-clause-joined
 returns-clause-joined c = joined
+
+pub returns-clause-cut : goal.returns-clause-cut
+returns-clause-cut c = cut

@@ -1,12 +1,14 @@
-use Rattle.std.proofs.Common.{◌≡◌, take, true, false, refl, sym, ◌∙◌, ap, subst, arith}
+use Rattle.std.proofs.Common.{◌≡◌, [], ◌∷◌, take, true, false, refl, sym, ◌∙◌, ap, subst, arith}
+use Rattle.escpos_command.specs.CommandTable.{AreCommands, IsCommand}
 use Rattle.escpos_host.specs.Whole.{EachMayFollow, MayFollow, has_text}
 use Rattle.escpos_host.proofs.Following.{none_follows, one_more_follows, some_command, stands_at}
 use Rattle.escpos_host.proofs.Fronts.{all_of, one_longer}
+use Rattle.escpos_host.proofs.Passing.{all_joined}
 use Rattle.escpos_host.proofs.receipt.fault_of.Goals as goal
 use Rattle.escpos_host.proofs.receipt.fault_of.Goals.{else-has_text-via-then-has_text+else-needs_empty_line, else-has_text-via-else-has_text}
 
 pub loop-at-init : goal.loop-at-init
-loop-at-init c = record { each = none_follows; flag = refl }
+loop-at-init c = record { commands = tt; each = none_follows; flag = refl }
 
 pub returns-then-is_forbidden : goal.returns-then-is_forbidden
 returns-then-is_forbidden c =
@@ -46,6 +48,7 @@ loop-at-preserved c =
       ];
     } in
     record {
+      commands = subst AreCommands (sym longer) (all_joined IsCommand (take i cs) (x ∷ []) c.loop-at.invariant.commands (c.in_range.ensures, tt));
       each = subst EachMayFollow (sym longer) (one_more_follows (take i cs) x c.loop-at.invariant.each follows);
       flag = c.has_text_after-has_text.ensures (take i cs) c.loop-at.invariant.flag ∙ ap has_text (sym longer);
     }
@@ -62,9 +65,11 @@ returns-then-has_text-2 c =
 pub returns : goal.returns
 returns c =
     let cs = c.args.commands.now in
-    let all = all_of cs c.loop-at.at (omega arith) in
-    record {
-      nonempty = some_command cs (sym c.is_empty.ensures ∙ c.if-is_empty.false);
-      in_place = subst EachMayFollow all c.loop-at.invariant.each;
-      no_text_left = ap has_text (sym all) ∙ sym c.loop-at.invariant.flag ∙ c.if-has_text-2.false;
-    }
+    let all = all_of cs c.loop-at.at (omega arith) in (
+      record {
+        nonempty = some_command cs (sym c.is_empty.ensures ∙ c.if-is_empty.false);
+        in_place = subst EachMayFollow all c.loop-at.invariant.each;
+        no_text_left = ap has_text (sym all) ∙ sym c.loop-at.invariant.flag ∙ c.if-has_text-2.false;
+      },
+      subst AreCommands all c.loop-at.invariant.commands,
+    )

@@ -1,10 +1,12 @@
--- Each of the commands so far may follow those before it, and the flag tells whether they leave text in the line.
+-- Each of the commands so far is in range and may follow those before it, and the flag tells whether they leave text in the line.
 use Rattle.std.proofs.Common.{◌≡◌, take}
+use Rattle.escpos_command.specs.CommandTable.{AreCommands}
 use Rattle.escpos_host.specs.Whole.{EachMayFollow, has_text}
 use Rattle.escpos_host.proofs.receipt.fault_of.Given as goal
 
 abbrev pub invariant-loop-at : goal.invariant-loop-at
 invariant-loop-at l = record {
+  commands : AreCommands (take l.at l.commands);
   each : EachMayFollow (take l.at l.commands);
   flag : l.has_text ≡ has_text (take l.at l.commands);
 }
