@@ -1,0 +1,239 @@
+-- A receipt that goes over a line on which nothing is under way: the line once it is open, and once the receipt is recorded.
+use Rattle.std.proofs.Common.{◌≡◌, ◌≢◌, ◌⊎◌, ◌<◌, ◌≤◌, ◌+◌, inl, inr, ℕ, List, [], ◌∷◌, ◌++◌, true, false, length, refl, sym, ◌∙◌, ap, subst, append-nil, append_assoc, length-append, arith, IsTrue, Option, Some, None}
+use Rattle.std.specs.List.{AllByRecursion}
+use Rattle.std.proofs.lemmas.Grind.{flat_map-append}
+use Rattle.escpos_command.specs.declared.answer.Answer.{Answer}
+use Rattle.escpos_command.specs.declared.answer.Answer.TheVariants as answer
+use Rattle.escpos_command.specs.declared.command.Command.{Command}
+use Rattle.escpos_command.specs.declared.command.Command.TheVariants as kind
+use Rattle.escpos_command.specs.CommandTable.{AreCommands, IsCommand, row, spell}
+use Rattle.escpos_command.specs.Digits.{mark_count, mark_of}
+use Rattle.escpos_paper.specs.declared.item.Item.{Item}
+use Rattle.escpos_paper.specs.Page.{Sheet, SheetIs}
+use Rattle.escpos_paper.specs.Printed.{printed}
+use Rattle.escpos_printer.specs.declared.condition.Condition.{Condition}
+use Rattle.escpos_printer.specs.Feeds.{IsReadyFor, PassesOffline, PrinterView, Took}
+use Rattle.escpos_printer.specs.Replies.{is_offline, replies, reply}
+use Rattle.escpos_host.specs.declared.host.HostEvent.{HostEvent}
+use Rattle.escpos_host.specs.declared.host.HostEvent.TheVariants as heard
+use Rattle.escpos_host.specs.Heard.{EndsLink, IsClosing, Turns, opened as opened_host, recorded}
+use Rattle.escpos_host.specs.Machine.{HostView, InFlight, Phase, Down, Opening, Open, linked, next_mark, submitted}
+use Rattle.escpos_host.specs.Whole.{EachMayFollow, MayFollow, Whole, is_forbidden}
+use Rattle.escpos_link.specs.declared.event.Event.TheVariants as event
+use Rattle.escpos_link.specs.EventTable.{After, answers_left, opened, with_host}
+use Rattle.escpos_link.specs.Line.{LineView}
+use Rattle.escpos_link.specs.Steps.{Happened}
+use Rattle.escpos_link.specs.Straight.{Undisturbed, all_bytes, exchange}
+use Rattle.escpos_link.proofs.Straight.{Exchanged, Expects, Laws, Loaded, emptied, exchanged, plain_line}
+
+-- ## What a printer makes of it
+
+-- An online printer carries every command out.
+online_passes : (condition : Condition) (cs : List Command) → is_offline condition ≡ false → AllByRecursion (PassesOffline condition) cs
+online_passes condition [] online = tt
+online_passes condition (c ∷ cs) online = (λ offline. let bad : true ≡ false = sym offline ∙ online in absurd cc, online_passes condition cs online)
+
+-- No command of a receipt is answered.
+unanswered : (condition : Condition) (c : Command) → is_forbidden c ≡ false → reply condition c ≡ []
+unanswered condition (kind.Status n) allowed = let bad : true ≡ false = allowed in absurd cc
+unanswered condition (kind.Mark id) allowed = let bad : true ≡ false = allowed in absurd cc
+unanswered condition _ allowed = refl
+
+later_follow : (c : Command) (cs : List Command) → ((before : List Command) (d : Command) (following : List Command) → c ∷ cs ≡ before ++ d ∷ following → is_forbidden d ≡ false)
+    → (before : List Command) (d : Command) (following : List Command) → cs ≡ before ++ d ∷ following → is_forbidden d ≡ false
+later_follow c cs each before d following e = each (c ∷ before) d following (ap (λ v. c ∷ v) e)
+
+all_unanswered : (condition : Condition) (cs : List Command)
+    → ((before : List Command) (d : Command) (following : List Command) → cs ≡ before ++ d ∷ following → is_forbidden d ≡ false) → replies condition cs ≡ []
+all_unanswered condition [] each = refl
+all_unanswered condition (c ∷ cs) each =
+    ap (λ v. v ++ replies condition cs) (unanswered condition c (each [] c cs refl)) ∙ all_unanswered condition cs (later_follow c cs each)
+
+receipt_unanswered : (condition : Condition) (receipt : List Command) → Whole receipt → replies condition receipt ≡ []
+receipt_unanswered condition receipt whole =
+    all_unanswered condition receipt (λ before d following e. (whole.in_place before d following e).allowed)
+
+-- ## The line once it is open
+
+-- The host is ready on the one link, and nothing is under way.
+pub record IsReady (l : LineView) : Type 0 where
+  pub line : l ≡ plain_line l.host l.printer [] []
+  pub phase : l.host.phase ≡ Open []
+  pub out : l.host.out ≡ []
+  pub half : l.host.half ≡ []
+  pub no_half : l.printer.half ≡ []
+  pub none : l.printer.waiting ≡ []
+  pub online : is_offline l.printer.condition ≡ false
+
+-- A mark that the host has put out alone.
+mark_ready : Laws → (p : PrinterView) (n : ℕ) → n < mark_count → p.half ≡ [] → p.waiting ≡ [] → is_offline p.condition ≡ false
+    → IsReadyFor p (kind.Mark (mark_of n) ∷ [])
+mark_ready laws p n few half none online = record {
+  none = half;
+  commands = (laws.ids n few, tt);
+  passes = online_passes p.condition (kind.Mark (mark_of n) ∷ []) online;
+  room = omega (arith, ap length none, length-append p.waiting (answer.Mark (mark_of n) ∷ []));
+}
+
+opening_loaded : Laws → (h : HostView) (p : PrinterView) → h.next < mark_count → p.half ≡ [] → p.waiting ≡ [] → is_offline p.condition ≡ false
+    → Loaded (plain_line (linked h) p [] []) (kind.Mark (mark_of h.next) ∷ []) (mark_of h.next)
+opening_loaded laws h p few half none online = record {
+  line = refl;
+  up = λ e. let bad : Opening h.next ≡ Down = e in absurd cc;
+  half = refl;
+  out = sym (append-nil (row (next_mark h)));
+  few = omega arith;
+  ready = mark_ready laws p h.next few half none online;
+  none = none;
+  reply = refl;
+  known = laws.ids h.next few;
+  short = omega arith;
+}
+
+opening_expects : (h : HostView) → h.next < mark_count → Expects (emptied (linked h)) (mark_of h.next) (opened_host (emptied (linked h)))
+opening_expects h few at heard.None after (ignores, same) = absurd (ignores (h.next, omega arith, omega arith, few, refl))
+opening_expects h few at heard.Opened after (first, id, phase, is, opening, same) = (λ ends. ends, same)
+opening_expects h few at (heard.Recorded n) after (p, ps, phase, is, number, same) = let bad : Opening h.next ≡ Open (p ∷ ps) = phase in absurd cc
+opening_expects h few at (heard.Status b) after (is, same) = let bad : answer.Mark (mark_of h.next) ≡ answer.Status b = is in absurd cc
+opening_expects h few at (heard.BadAnswer place) after (p, ps, id, phase, is, other, closing, here, same) = let bad : Opening h.next ≡ Open (p ∷ ps) = phase in absurd cc
+
+-- A printer from which the answers were taken that is as it was but for what it took.
+taken_ready : (expected : HostView) (before after : PrinterView) (cs : List Command) → Took before (spell cs) cs after → after.half ≡ [] → is_offline before.condition ≡ false
+    → expected.phase ≡ Open [] → expected.out ≡ [] → expected.half ≡ [] → IsReady (plain_line expected (answers_left after []) [] [])
+taken_ready expected before after cs took none online phase out half = record {
+  line = refl;
+  phase = phase;
+  out = out;
+  half = half;
+  no_half = none;
+  none = refl;
+  online = ap is_offline took.ran.condition ∙ online;
+}
+
+-- A link that was opened: the line is ready, and nothing but the mark was run.
+pub record IsOpened (l m : LineView) : Type 0 where
+  pub ready : IsReady m
+  pub records : m.host.records ≡ l.host.records
+  pub next : m.host.next ≡ l.host.next + 1
+  pub page : (kept : List Item) (cs : List Command) → SheetIs l.printer.sheet kept cs → SheetIs m.printer.sheet kept (cs ++ kind.Mark (mark_of l.host.next) ∷ [])
+
+opened_by : Laws → (l m : LineView) (h : HostView) (p : PrinterView) → l.host ≡ h → l.printer ≡ p → is_offline p.condition ≡ false
+    → Exchanged (plain_line (linked h) p [] []) (kind.Mark (mark_of h.next) ∷ []) (opened_host (emptied (linked h))) m → IsOpened l m
+opened_by laws l m h p host printer online x = record {
+  ready = subst IsReady (sym x.line) (taken_ready (opened_host (emptied (linked h))) p x.printer (kind.Mark (mark_of h.next) ∷ []) x.took x.half online refl refl refl);
+  records = ap (λ (v : LineView). v.host.records) x.line ∙ sym (ap (λ (v : HostView). v.records) host);
+  next = ap (λ (v : LineView). v.host.next) x.line ∙ sym (ap (λ (v : HostView). v.next + 1) host);
+  page = λ kept cs is.
+      subst (λ (v : LineView). SheetIs v.printer.sheet kept (cs ++ kind.Mark (mark_of l.host.next) ∷ [])) (sym x.line)
+      (subst (λ n. SheetIs x.printer.sheet kept (cs ++ kind.Mark (mark_of n) ∷ [])) (sym (ap (λ (v : HostView). v.next) host))
+      (x.took.ran.page kept cs (subst (λ (v : PrinterView). SheetIs v.sheet kept cs) printer is)));
+}
+
+pub opening_done : Laws → (l m : LineView) → Undisturbed l → l.host.phase ≡ Down → l.host.next < mark_count → Happened l (event.LinkUp ∷ exchange) m → IsOpened l m
+opening_done laws l m u is_down few (n, l1, (done, also_down, mark, same), rest) =
+    let h = l.host in
+    let p = l.printer in
+    let plain : l1 ≡ plain_line (linked h) p [] [] =
+    same ∙ ap (λ links. record { host = linked h; printer = p; ended = links; live = Some []; coming = l.coming }) u.at_rest.0
+    ∙ ap (λ bytes. plain_line (linked h) p [] bytes) u.quiet in
+    let happened = subst (λ v. Happened v exchange m) plain rest in
+    opened_by laws l m h p refl refl u.online
+    (exchanged laws (plain_line (linked h) p [] []) m (kind.Mark (mark_of h.next) ∷ []) (mark_of h.next) (opened_host (emptied (linked h)))
+    (opening_loaded laws h p few u.no_half u.no_answer u.online) (opening_expects h few) happened)
+
+-- ## The receipt
+
+-- A receipt between its Init and its closing mark.
+abbrev pub sent_with : List Command → List ℕ → List Command
+sent_with receipt id = kind.Init ∷ (receipt ++ kind.Mark id ∷ [])
+
+all_joined : {X : Type 0} (P : X → Type 0) (some others : List X) → AllByRecursion P some → AllByRecursion P others → AllByRecursion P (some ++ others)
+all_joined P [] others all more = more
+all_joined P (x ∷ some) others all more = (all.0, all_joined P some others all.1 more)
+
+sent_replies : (condition : Condition) (receipt : List Command) (id : List ℕ) → Whole receipt → replies condition (sent_with receipt id) ≡ answer.Mark id ∷ []
+sent_replies condition receipt id whole =
+    flat_map-append (reply condition) receipt (kind.Mark id ∷ []) ∙ ap (λ v. v ++ answer.Mark id ∷ []) (receipt_unanswered condition receipt whole)
+
+sent_ready : Laws → (p : PrinterView) (receipt : List Command) (n : ℕ) → n < mark_count → Whole receipt → AreCommands receipt → p.half ≡ [] → p.waiting ≡ []
+    → is_offline p.condition ≡ false → IsReadyFor p (sent_with receipt (mark_of n))
+sent_ready laws p receipt n few whole known half none online = record {
+  none = half;
+  commands = (refl, all_joined IsCommand receipt (kind.Mark (mark_of n) ∷ []) known (laws.ids n few, tt));
+  passes = online_passes p.condition (sent_with receipt (mark_of n)) online;
+  room = omega (arith, ap length none, length-append p.waiting (replies p.condition (sent_with receipt (mark_of n))), ap length (sent_replies p.condition receipt (mark_of n) whole));
+}
+
+sent_loaded : Laws → (h : HostView) (p : PrinterView) (receipt : List Command) → h.next < mark_count → Whole receipt → AreCommands receipt → h.out ≡ [] → h.half ≡ []
+    → length (submitted h [] receipt).out ≤ all_bytes → p.half ≡ [] → p.waiting ≡ [] → is_offline p.condition ≡ false
+    → Loaded (plain_line (submitted h [] receipt) p [] []) (sent_with receipt (mark_of h.next)) (mark_of h.next)
+sent_loaded laws h p receipt few whole known out half short no_half none online =
+    let all : (submitted h [] receipt).out ≡ spell (sent_with receipt (mark_of h.next)) = ap (λ v. v ++ spell (sent_with receipt (mark_of h.next))) out in
+    record {
+      line = refl;
+      up = λ e. let bad : Open (record { receipt = receipt; mark = mark_of h.next } ∷ []) ≡ Down = e in absurd cc;
+      half = half;
+      out = all;
+      few = omega (arith, short, ap length all);
+      ready = sent_ready laws p receipt h.next few whole known no_half none online;
+      none = none;
+      reply = sent_replies p.condition receipt (mark_of h.next) whole;
+      known = laws.ids h.next few;
+      short = omega arith;
+    }
+
+abbrev in_flight : HostView → List Command → InFlight
+in_flight h receipt = record { receipt = receipt; mark = mark_of h.next }
+
+sent_expects : (h : HostView) (receipt : List Command)
+    → Expects (emptied (submitted h [] receipt)) (mark_of h.next) (recorded (emptied (submitted h [] receipt)) (in_flight h receipt) [])
+sent_expects h receipt at heard.None after (ignores, same) = absurd (ignores (inl refl))
+sent_expects h receipt at heard.Opened after (first, id, phase, is, opening, same) = let bad : Open (in_flight h receipt ∷ []) ≡ Opening first = phase in absurd cc
+sent_expects h receipt at (heard.Recorded n) after (p, ps, phase, is, number, same) =
+    let flight : Open (in_flight h receipt ∷ []) ≡ Open (p ∷ ps) = phase in
+    let one : p ≡ in_flight h receipt = cc flight in
+    let others : ps ≡ [] = cc flight in
+    (λ ends. ends, same ∙ ap (λ q. recorded (emptied (submitted h [] receipt)) q ps) one ∙ ap (λ qs. recorded (emptied (submitted h [] receipt)) (in_flight h receipt) qs) others)
+sent_expects h receipt at (heard.Status b) after (is, same) = let bad : answer.Mark (mark_of h.next) ≡ answer.Status b = is in absurd cc
+sent_expects h receipt at (heard.BadAnswer place) after (p, ps, id, phase, is, other, closing, here, same) =
+    let flight : Open (in_flight h receipt ∷ []) ≡ Open (p ∷ ps) = phase in
+    let others : ps ≡ [] = cc flight in
+    absurd (none_closing ps id others closing)
+  where
+    none_closing : (ps : List InFlight) (id : List ℕ) → ps ≡ [] → IsClosing ps id → ⊥
+    none_closing [] id e closing = closing
+    none_closing (q ∷ qs) id e closing = cc e
+
+-- A receipt that was recorded: the line is ready, and it was run between an Init and a mark.
+pub record IsSentOn (m after : LineView) (receipt : List Command) : Type 0 where
+  pub ready : IsReady after
+  pub records : after.host.records ≡ m.host.records ++ receipt ∷ []
+  pub next : after.host.next ≡ m.host.next + 1
+  pub page : (kept : List Item) (cs : List Command) → SheetIs m.printer.sheet kept cs → SheetIs after.printer.sheet kept (cs ++ sent_with receipt (mark_of m.host.next))
+
+pub sending_done : Laws → (m after : LineView) (receipt : List Command) → IsReady m → Whole receipt → AreCommands receipt
+    → length (submitted m.host [] receipt).out ≤ all_bytes → Happened m (event.Submit receipt ∷ exchange) after → IsSentOn m after receipt
+sending_done laws m after receipt ready whole known short (n, m1, (flight, done, phase, few, mark, same), rest) =
+    let h = m.host in
+    let p = m.printer in
+    let none : flight ≡ [] = cc (sym phase ∙ ready.phase) in
+    let plain : m1 ≡ plain_line (submitted h [] receipt) p [] [] =
+    same ∙ ap (λ f. with_host m (submitted h f receipt)) none ∙ ap (λ v. with_host v (submitted h [] receipt)) ready.line in
+    let happened = subst (λ v. Happened v exchange after) plain rest in
+    let expected = recorded (emptied (submitted h [] receipt)) (in_flight h receipt) [] in
+    let x = exchanged laws (plain_line (submitted h [] receipt) p [] []) after (sent_with receipt (mark_of h.next)) (mark_of h.next) expected
+    (sent_loaded laws h p receipt mark whole known ready.out ready.half short ready.no_half ready.none ready.online) (sent_expects h receipt) happened in
+    record {
+      ready = subst IsReady (sym x.line) (taken_ready expected p x.printer (sent_with receipt (mark_of h.next)) x.took x.half ready.online refl refl ready.half);
+      records = ap (λ (v : LineView). v.host.records) x.line;
+      next = ap (λ (v : LineView). v.host.next) x.line;
+      page = λ kept cs is. subst (λ (v : LineView). SheetIs v.printer.sheet kept (cs ++ sent_with receipt (mark_of h.next))) (sym x.line) (x.took.ran.page kept cs is);
+    }
+
+-- What is printed of it.
+sent_items : Laws → (before after : Sheet) (receipt : List Command) (id : List ℕ) (kept : List Item) (cs : List Command) → SheetIs before kept cs
+    → SheetIs after kept (cs ++ sent_with receipt id) → after.items ≡ before.items ++ printed receipt
+sent_items laws before after receipt id kept cs is done =
+    let end : printed (cs ++ sent_with receipt id) ≡ printed cs ++ printed receipt =
+    ap printed (sym (append_assoc cs (kind.Init ∷ []) (receipt ++ kind.Mark id ∷ []))) ∙ laws.init cs (receipt ++ kind.Mark id ∷ []) ∙ ap (λ v. printed cs ++ v) (laws.marks receipt id) in
+    ap (λ (s : Sheet). s.items) done ∙ ap (λ v. kept ++ v) end ∙ sym (append_assoc kept (printed cs) (printed receipt)) ∙ ap (λ v. v ++ printed receipt) (sym (ap (λ (s : Sheet). s.items) is))

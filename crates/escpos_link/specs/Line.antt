@@ -1,0 +1,33 @@
+-- A receipt line: a host, a printer, and all that lies between them.
+--
+-- The host puts bytes on its link, the printer takes them from the first link that it has not left; so there may be several
+-- links, of which the host is on the newest alone, and on none while it is down. What the printer answers goes back to the host
+-- if the link that the printer serves is the one that the host is on.
+use Rattle.std.specs.Prelude.{ℕ, ◌≡◌, ◌≢◌, ◌++◌, List, [], ◌∷◌, Option, Some, None, IsTrue}
+use Rattle.std.specs.List.{AllByRecursion}
+use Rattle.escpos_command.specs.declared.answer.Answer.{Answer}
+use Rattle.escpos_command.specs.Answers.{AreWholeAnswers, is_answer}
+use Rattle.escpos_host.specs.Machine.{HostView, Down}
+use Rattle.escpos_printer.specs.Feeds.{PrinterView}
+
+-- How a line is seen: the host, the printer, and the bytes between them. Of each link that the host has given up and the printer
+-- has not left there are the bytes that were put on it and not delivered, the oldest link first; the same of the live link, which
+-- is the newest of all, where there is one; and the bytes of answers that are on their way to the host.
+pub record LineView : Type 0 where
+  pub host : HostView
+  pub printer : PrinterView
+  pub ended : List (List ℕ)
+  pub live : Option (List ℕ)
+  pub coming : List ℕ
+
+-- What is true of every line.
+pub record IsLine (l : LineView) : Type 0 where
+  -- The host is on the live link. Where there is a link and the host is up, the newest link is live.
+  pub down : l.host.phase ≡ Down → l.live ≡ None
+  pub alone : l.host.phase ≢ Down → l.live ≡ None → l.ended ≡ []
+  -- Nothing is on its way to a host that is down.
+  pub quiet : l.host.phase ≡ Down → l.coming ≡ []
+  -- What the host has heard of an answer and what is on its way are whole answers.
+  pub whole : AreWholeAnswers (l.host.half ++ l.coming)
+  -- What waits in the printer are answers that a host knows.
+  pub fitting : AllByRecursion (λ a. IsTrue (is_answer a)) l.printer.waiting

@@ -1,0 +1,30 @@
+-- Events one after another.
+use Rattle.std.specs.Prelude.{ℕ, ◌≡◌, List, [], ◌∷◌, ◌++◌, take, Option, Some, slice_get}
+use Rattle.escpos_link.specs.declared.event.Event.{Event}
+use Rattle.escpos_link.specs.declared.event.Note.{Note}
+use Rattle.escpos_link.specs.declared.sim.RunStop.{RunStop}
+use Rattle.escpos_link.specs.EventTable.{After, IsRefused, Leaves}
+use Rattle.escpos_link.specs.Line.{LineView}
+
+-- The events happened to the line, in order, and none was refused.
+abbrev pub Happened : LineView → List Event → LineView → Type 0
+Happened l [] after = after ≡ l
+Happened l (e ∷ es) after = (n : Note) × (next : LineView) × After e l n next × Happened next es after
+
+-- The first so many of the events happened, and the next one was refused.
+pub record IsStopped (l : LineView) (events : List Event) (stop : RunStop) (after : LineView) : Type 0 where
+  pub event : Event
+  pub before : LineView
+  pub next : slice_get events stop.done ≡ Some event
+  pub happened : Happened l (take stop.done events) before
+  pub refused : IsRefused event before stop.refused after
+
+-- Some of the events happened, and the next one was refused for want of memory; this is what is left.
+pub record StopsIn (events : List Event) (l : LineView) (after : LineView) : Type 0 where
+  pub done : List Event
+  pub event : Event
+  pub others : List Event
+  pub before : LineView
+  pub split : events ≡ done ++ (event ∷ others)
+  pub happened : Happened l done before
+  pub left : Leaves event before after
