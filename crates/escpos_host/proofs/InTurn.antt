@@ -189,3 +189,28 @@ whole_answers joined cut h after bytes more events consumed up whole (inr (also,
       | inl (ends, off) ↦ inl (record { ends = ends; phase = off.phase; half = off.half })
       | inr (on, all, goes) ↦ inr (record { on = on; all = all; up = goes.up; whole = goes.whole })
     ]
+
+-- ## One event, whatever the bytes are
+
+still_up : (h after : HostView) (half : List ℕ) (byte at : ℕ) (e : HostEvent) → h.phase ≢ Down → e ≢ event.None → (EndsLink e → ⊥)
+    → HearsByte (with_half h half) byte at e after → after.phase ≢ Down
+still_up h after half byte at e up some on (inl grows) = absurd (no_growth (with_half h half) after byte e some grows)
+still_up h after half byte at e up some on (inr (inl misfit)) = absurd (on (misfit_ends (with_half h half) after byte at e misfit).0)
+still_up h after half byte at e up some on (inr (inr (a, spelled, turns))) = elim (turned (with_half (with_half h half) []) after a at e up refl turns) [
+  | inl (ends, off) ↦ absurd (on ends)
+  | inr (also, still, none) ↦ still
+]
+
+pub one_step : (h after : HostView) (bytes : List ℕ) (count : ℕ) (e : HostEvent) → h.phase ≢ Down → (EndsLink e → ⊥) → IsHeard h bytes count e after
+    → (count ≤ length bytes) × (after.phase ≢ Down) × (e ≢ event.None → 0 < count)
+one_step h after bytes count e up on (inl (none, all, passed, same)) = (
+  omega (arith, all),
+  λ is_down. up (sym (ap (λ (v : HostView). v.phase) same) ∙ is_down),
+  λ some. absurd (some none),
+)
+one_step h after bytes count e up on (inr (at, half, within, some, is_count, passed, heard)) =
+    let one = counted e at on in (
+      omega (arith, is_count, one, within),
+      still_up h after half (slice_index bytes at) at e up some on heard,
+      λ also. omega (arith, is_count, one),
+    )

@@ -1,14 +1,14 @@
 //! The laws of the host machine. Each is a function that does nothing and whose contract is the law, so that the law is proved
 //! with the crate and another crate can cite it by calling the function. (Some cite the laws of answers.)
 
-ghost use Rattle.std.specs.Prelude.{◌≡◌, ◌≢◌, ◌⊎◌, ℕ, List, [], ◌∷◌, ◌++◌, length, take, IsTrue};
+ghost use Rattle.std.specs.Prelude.{◌≡◌, ◌≢◌, ◌⊎◌, ◌<◌, ◌≤◌, ℕ, List, [], ◌∷◌, ◌++◌, length, take, IsTrue};
 ghost use Rattle.escpos_command.specs.declared.command.Command.{Command};
 ghost use Rattle.escpos_command.specs.declared.command.Command.TheVariants as kind;
 ghost use Rattle.escpos_command.specs.declared.answer.Answer.{Answer};
 ghost use Rattle.escpos_command.specs.Answers.{AreWholeAnswers, answer_bytes, is_answer};
 ghost use Rattle.escpos_command.specs.Parameters.{is_status_kind};
 ghost use Rattle.escpos_host.specs.declared.host.HostEvent.{HostEvent};
-ghost use Rattle.escpos_host.specs.Heard.{GoesOn, HearsAll, IsHeard, IsOff, Turns, last_of};
+ghost use Rattle.escpos_host.specs.Heard.{EndsLink, GoesOn, HearsAll, IsHeard, IsOff, Turns, last_of};
 ghost use Rattle.escpos_host.specs.Machine.{HasMark, HostView, InFlight, IsOpening, Down, Open, asked, handed_out, linked, next_mark, nudged, submitted, taken};
 ghost use Rattle.escpos_host.specs.Says.{Talks};
 ghost use Rattle.escpos_host.specs.Whole.{Whole};
@@ -47,3 +47,9 @@ pub fn one_answer()
 {
     escpos_command::laws::answers();
 }
+
+/// One event: a host whose link an event doesn't end still has it, and the event took bytes of the piece.
+pub fn one_event()
+    ensures { (h after : HostView) (bytes : List ℕ) (count : ℕ) (event : HostEvent) → h.phase ≢ Down → (EndsLink event → ⊥) → IsHeard h bytes count event after
+        → (count ≤ length bytes) × (after.phase ≢ Down) × (event ≢ HostEvent.None → 0 < count) }
+{}

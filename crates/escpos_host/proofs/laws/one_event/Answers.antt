@@ -1,0 +1,5 @@
+use Rattle.escpos_host.proofs.InTurn.{one_step}
+use Rattle.escpos_host.proofs.laws.one_event.Goals as goal
+
+pub returns : goal.returns
+returns c = one_step
