@@ -1,7 +1,8 @@
 -- Bytes that move, some and then more; and bytes of the first link that are fed.
-use Rattle.std.proofs.Common.{◌≡◌, ◌≢◌, ◌⊎◌, ◌<◌, ◌≤◌, ◌+◌, ◌-◌, inl, inr, ℕ, zero, suc, List, [], ◌∷◌, ◌++◌, length, take, drop, min, Option, Some, None, refl, sym, ◌∙◌, ap, subst, append_assoc, length-take, length-drop, arith}
-use Rattle.std.specs.Prelude.{slice_get, slice_index_or, slice_set}
-use Rattle.std.proofs.lemmas.List.{drop-drop}
+use Rattle.std.proofs.Common.{◌≡◌, ◌≢◌, ◌⊎◌, ◌<◌, ◌≤◌, ◌+◌, ◌-◌, inl, inr, ℕ, zero, suc, List, [], ◌∷◌, ◌++◌, length, take, drop, min, Option, Some, None, refl, sym, ◌∙◌, ap, subst, append_assoc, length-append, length-take, length-drop, arith, IsTrue, ◌==◌, Bool, true, false, not}
+use Rattle.std.specs.Prelude.{slice_get, slice_index_or, slice_set, IfSome}
+use Rattle.std.proofs.lemmas.List.{drop-drop, drop_all}
+use Rattle.std.proofs.lemmas.Bool.Decides.{nat_tests}
 use Rattle.std.proofs.Math.Seq.{take-add}
 use Rattle.escpos_command.specs.declared.answer.Answer.{Answer}
 use Rattle.escpos_printer.specs.declared.printer.Fed.{Fed}
@@ -11,7 +12,7 @@ use Rattle.escpos_printer.specs.Feeds.{Feeds, IsLeft, PrinterView, Took}
 use Rattle.escpos_host.specs.declared.host.HostEvent.{HostEvent}
 use Rattle.escpos_host.specs.declared.host.HostEvent.TheVariants as event
 use Rattle.escpos_host.specs.Heard.{EndsLink, HearsAll, last_of}
-use Rattle.escpos_host.specs.Machine.{HostView, taken}
+use Rattle.escpos_host.specs.Machine.{HostView, Down, Open, taken}
 use Rattle.escpos_link.specs.declared.event.Event.TheVariants as happening
 use Rattle.escpos_link.specs.declared.event.Handed.TheVariants as handed
 use Rattle.escpos_link.specs.declared.event.Note.{Note}
@@ -20,6 +21,7 @@ use Rattle.escpos_link.specs.declared.event.Refusal.TheVariants as refusal
 use Rattle.escpos_link.specs.declared.event.Refused.{Refused}
 use Rattle.escpos_link.specs.EventTable.{After, HandsOver, HasMoved, IsRefused, Leaves, answers_left, delivered, ended_fed, first_of, heard_to, live_fed, moved, off_link, put_on, told_at, with_host, with_printer}
 use Rattle.escpos_link.specs.Line.{LineView}
+use Rattle.escpos_link.specs.Straight.{IsAtRest}
 use Rattle.escpos_link.proofs.Hearing.{heard_line, heard_line_is, off_line_is}
 use Rattle.escpos_link.proofs.InTurn.{told_ends}
 
@@ -224,3 +226,37 @@ has_link (x ∷ links) count same some none = cc none
 pub no_link : (links : List (List ℕ)) (count : ℕ) → count ≡ length links → (0 < count → ⊥) → links ≡ []
 no_link [] count same none = refl
 no_link (x ∷ links) count same none = absurd (none (omega (arith, same)))
+
+-- A list of which as many elements are dropped as it has.
+pub empty_drop : (xs : List ℕ) (k n : ℕ) → k ≤ length xs → n ≡ length xs → (IsTrue (k == n) → drop k xs ≡ []) × (drop k xs ≡ [] → IsTrue (k == n))
+empty_drop xs k n few all = (
+  λ is. let same : k ≡ n = grind (arith, nat_tests) in drop_all k xs (omega (arith, same, all)),
+  λ none. let same : k ≡ n = omega (arith, ap length none, length-drop k xs, few, all) in grind (arith, nat_tests),
+)
+
+-- Where all that a host has to take out went onto a link, it is less than a number can say.
+pub short_out : (live : Option (List ℕ)) (out : List ℕ) (count most : ℕ) → count ≡ min most (length out) → live ≢ None
+    → IfSome (put_on live (take count out)) (λ bytes. length bytes < most) → length out ≤ most
+short_out None out count most is_count some short = absurd (some refl)
+short_out (Some bytes) out count most is_count some short = omega (arith, is_count, short, length-append bytes (take count out), length-take count out)
+
+-- Whether a line whose host is ready on an empty link is at rest.
+pub rest_if : (l : LineView) (bytes : List ℕ) (has_out : Bool) → l.ended ≡ [] → l.live ≡ Some bytes → bytes ≡ [] → l.host.phase ≡ Open [] → (IsTrue has_out → l.host.out ≢ [])
+    → (l.host.out ≢ [] → IsTrue has_out) → (IsTrue (not has_out) → IsAtRest l) × (IsAtRest l → IsTrue (not has_out))
+rest_if l bytes true none live empty phase some out = (λ bad. absurd cc, λ rest. absurd (some refl (nothing_out rest.1)))
+  where
+    nothing_out : ((l.host.phase ≡ Down) × (l.live ≡ None)) ⊎ ((l.host.phase ≡ Open []) × (l.live ≡ Some []) × (l.host.out ≡ [])) → l.host.out ≡ []
+    nothing_out (inl (is_down, no_live)) = let bad : Open [] ≡ Down = sym phase ∙ is_down in cc
+    nothing_out (inr (ready, on, nothing)) = nothing
+rest_if l bytes false none live empty phase some out =
+    (λ is. (none, inr (phase, live ∙ ap Some empty, empty_of l.host.out (λ h. let bad : false ≡ true = out h in cc))), λ rest. refl)
+
+pub rest_seen : (m l : LineView) (bytes : List ℕ) (has_out : Bool) → m ≡ l → m.ended ≡ [] → m.live ≡ Some bytes → bytes ≡ [] → m.host.phase ≡ Open []
+    → (IsTrue has_out → m.host.out ≢ []) → (m.host.out ≢ [] → IsTrue has_out) → (IsTrue (not has_out) → IsAtRest l) × (IsAtRest l → IsTrue (not has_out))
+rest_seen m l bytes has_out seen none live empty phase some out =
+    let r = rest_if m bytes has_out none live empty phase some out in
+    (λ is. subst IsAtRest seen (r.0 is), λ rest. r.1 (subst IsAtRest (sym seen) rest))
+
+pub empty_queue : (links : List (List ℕ)) (count : ℕ) → count ≡ length links → (count == 0) ≡ true → links ≡ []
+empty_queue [] count same none = refl
+empty_queue (x ∷ links) count same none = let bad : count ≡ 0 = grind (arith, nat_tests) in absurd (omega (arith, same, bad))

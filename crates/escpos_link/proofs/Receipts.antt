@@ -6,6 +6,7 @@ use Rattle.escpos_command.specs.declared.answer.Answer.{Answer}
 use Rattle.escpos_command.specs.declared.answer.Answer.TheVariants as answer
 use Rattle.escpos_command.specs.declared.command.Command.{Command}
 use Rattle.escpos_command.specs.declared.command.Command.TheVariants as kind
+use Rattle.escpos_command.specs.Answers.{AreWholeAnswers, HalfAnswer, Hears}
 use Rattle.escpos_command.specs.CommandTable.{AreCommands, IsCommand, row, spell}
 use Rattle.escpos_command.specs.Digits.{mark_count, mark_of}
 use Rattle.escpos_paper.specs.declared.item.Item.{Item}
@@ -17,13 +18,15 @@ use Rattle.escpos_printer.specs.Replies.{is_offline, replies, reply}
 use Rattle.escpos_host.specs.declared.host.HostEvent.{HostEvent}
 use Rattle.escpos_host.specs.declared.host.HostEvent.TheVariants as heard
 use Rattle.escpos_host.specs.Heard.{EndsLink, IsClosing, Turns, opened as opened_host, recorded}
-use Rattle.escpos_host.specs.Machine.{HostView, InFlight, Phase, Down, Opening, Open, linked, next_mark, submitted}
+use Rattle.escpos_host.specs.Machine.{HostView, InFlight, IsSound, Phase, Down, Opening, Open, linked, next_mark, submitted}
 use Rattle.escpos_host.specs.Whole.{EachMayFollow, MayFollow, Whole, is_forbidden}
 use Rattle.escpos_link.specs.declared.event.Event.TheVariants as event
+use Rattle.escpos_link.specs.declared.event.Note.{Note}
 use Rattle.escpos_link.specs.EventTable.{After, answers_left, opened, with_host}
-use Rattle.escpos_link.specs.Line.{LineView}
+use Rattle.escpos_link.specs.Line.{IsLine, LineView}
 use Rattle.escpos_link.specs.Steps.{Happened}
-use Rattle.escpos_link.specs.Straight.{Undisturbed, all_bytes, exchange}
+use Rattle.escpos_link.specs.Straight.{Undisturbed, WentStraight, all_bytes, exchange, marks_for, opening}
+use Rattle.escpos_link.proofs.Running.{joined}
 use Rattle.escpos_link.proofs.Straight.{Exchanged, Expects, Laws, Loaded, emptied, exchanged, plain_line}
 
 -- ## What a printer makes of it
@@ -135,11 +138,11 @@ opening_done laws l m u is_down few (n, l1, (done, also_down, mark, same), rest)
     let p = l.printer in
     let plain : l1 ≡ plain_line (linked h) p [] [] =
     same ∙ ap (λ links. record { host = linked h; printer = p; ended = links; live = Some []; coming = l.coming }) u.at_rest.0
-    ∙ ap (λ bytes. plain_line (linked h) p [] bytes) u.quiet in
+    ∙ ap (λ bytes. plain_line (linked h) p [] bytes) u.silent.quiet in
     let happened = subst (λ v. Happened v exchange m) plain rest in
-    opened_by laws l m h p refl refl u.online
+    opened_by laws l m h p refl refl u.silent.online
     (exchanged laws (plain_line (linked h) p [] []) m (kind.Mark (mark_of h.next) ∷ []) (mark_of h.next) (opened_host (emptied (linked h)))
-    (opening_loaded laws h p few u.no_half u.no_answer u.online) (opening_expects h few) happened)
+    (opening_loaded laws h p few u.silent.no_half u.silent.no_answer u.silent.online) (opening_expects h few) happened)
 
 -- ## The receipt
 
@@ -237,3 +240,89 @@ sent_items laws before after receipt id kept cs is done =
     let end : printed (cs ++ sent_with receipt id) ≡ printed cs ++ printed receipt =
     ap printed (sym (append_assoc cs (kind.Init ∷ []) (receipt ++ kind.Mark id ∷ []))) ∙ laws.init cs (receipt ++ kind.Mark id ∷ []) ∙ ap (λ v. printed cs ++ v) (laws.marks receipt id) in
     ap (λ (s : Sheet). s.items) done ∙ ap (λ v. kept ++ v) end ∙ sym (append_assoc kept (printed cs) (printed receipt)) ∙ ap (λ v. v ++ printed receipt) (sym (ap (λ (s : Sheet). s.items) is))
+
+-- ## The whole way
+
+-- A line at rest with a link is ready.
+at_rest_ready : Laws → (l : LineView) → Undisturbed l → IsLine l → IsSound l.host → l.host.phase ≡ Open [] → l.live ≡ Some [] → l.host.out ≡ [] → IsReady l
+at_rest_ready laws l u i sound phase live out = record {
+  line = ap (λ links. record { host = l.host; printer = l.printer; ended = links; live = l.live; coming = l.coming }) u.at_rest.0
+      ∙ ap (λ on. record { host = l.host; printer = l.printer; ended = []; live = on; coming = l.coming }) live ∙ ap (λ bytes. plain_line l.host l.printer [] bytes) u.silent.quiet;
+  phase = phase;
+  out = out;
+  half = no_half_left sound.half (subst (λ bytes. AreWholeAnswers (l.host.half ++ bytes)) u.silent.quiet i.whole);
+  no_half = u.silent.no_half;
+  none = u.silent.no_answer;
+  online = u.silent.online;
+}
+  where
+    no_half_left : (l.host.half ≡ []) ⊎ HalfAnswer l.host.half → AreWholeAnswers (l.host.half ++ []) → l.host.half ≡ []
+    no_half_left (inl none) whole = none
+    no_half_left (inr half) (answers, hears) =
+        (laws.one_hearing l.host.half [] answers l.host.half [] (record { in_range = tt; whole = refl; left = inr half })
+        (subst (λ bs. Hears bs answers []) (append-nil l.host.half) hears)).1
+
+-- The line once there is a link: it is ready, its host's records and what is on paper are those of before, and its page is one that commands leave.
+pub record IsBegun (l m : LineView) : Type 0 where
+  pub ready : IsReady m
+  pub records : m.host.records ≡ l.host.records
+  pub next : m.host.next + 1 ≡ l.host.next + marks_for l.host.phase
+  pub kept : List Item
+  pub commands : List Command
+  pub sheet : SheetIs m.printer.sheet kept commands
+  pub items : m.printer.sheet.items ≡ l.printer.sheet.items
+
+pub begun : Laws → (l m : LineView) (kept : List Item) (cs : List Command) → Undisturbed l → IsLine l → IsSound l.host → SheetIs l.printer.sheet kept cs
+    → Happened l (opening l.host.phase) m → IsBegun l m
+begun laws l m kept cs u i sound is happened = elim u.at_rest.1 [
+  | inl (is_down, no_live) ↦
+      let few : l.host.next < mark_count = omega (arith, u.marks, ap marks_for is_down) in
+      let o = opening_done laws l m u is_down few (subst (λ p. Happened l (opening p) m) is_down happened) in
+      record {
+        ready = o.ready;
+        records = o.records;
+        next = omega (arith, o.next, ap marks_for is_down);
+        kept = kept;
+        commands = cs ++ kind.Mark (mark_of l.host.next) ∷ [];
+        sheet = o.page kept cs is;
+        items = ap (λ (s : Sheet). s.items) (o.page kept cs is) ∙ ap (λ v. kept ++ v) (laws.marks cs (mark_of l.host.next)) ∙ sym (ap (λ (s : Sheet). s.items) is);
+      }
+  | inr (phase, live, out) ↦
+      let same : m ≡ l = subst (λ p. Happened l (opening p) m) phase happened in
+      record {
+        ready = subst IsReady (sym same) (at_rest_ready laws l u i sound phase live out);
+        records = ap (λ (v : LineView). v.host.records) same;
+        next = omega (arith, ap (λ (v : LineView). v.host.next) same, ap marks_for phase);
+        kept = kept;
+        commands = cs;
+        sheet = subst (λ (v : LineView). SheetIs v.printer.sheet kept cs) (sym same) is;
+        items = ap (λ (v : LineView). v.printer.sheet.items) same;
+      }
+]
+
+pub went : Laws → (l m after : LineView) (receipt : List Command) → IsBegun l m → Whole receipt → AreCommands receipt → length (submitted m.host [] receipt).out ≤ all_bytes
+    → Happened l (opening l.host.phase) m → Happened m (event.Submit receipt ∷ exchange) after → WentStraight l receipt (length l.host.records) after
+went laws l m after receipt b whole known short first second =
+    let s = sending_done laws m after receipt b.ready whole known short second in
+    record {
+      number_is = refl;
+      recorded = s.records ∙ ap (λ v. v ++ receipt ∷ []) b.records;
+      printed_after = sent_items laws m.printer.sheet after.printer.sheet receipt (mark_of m.host.next) b.kept b.commands b.sheet (s.page b.kept b.commands b.sheet)
+          ∙ ap (λ v. v ++ printed receipt) b.items;
+      ready = s.ready.phase;
+      link = (ap (λ (v : LineView). v.ended) s.ready.line, ap (λ (v : LineView). v.live) s.ready.line);
+      next = s.next ∙ b.next;
+      happened = joined (opening l.host.phase) (event.Submit receipt ∷ exchange) l m after first second;
+    }
+
+-- What a receipt puts out is less than a number can say, where all of it went onto the link.
+pub short_sent : (m k : LineView) (receipt : List Command) (n : Note) → IsReady m → After (event.Submit receipt) m n k → (k.live ≢ None → length k.host.out ≤ all_bytes)
+    → length (submitted m.host [] receipt).out ≤ all_bytes
+short_sent m k receipt n ready (flight, done, phase, few, mark, same) short =
+    let out : length k.host.out ≡ length (submitted m.host [] receipt).out = ap (λ (v : LineView). length v.host.out) same in
+    let live : k.live ≡ Some [] = ap (λ (v : LineView). v.live) same ∙ ap (λ (v : LineView). v.live) ready.line in
+    let few_bytes = short (some_link k.live live) in
+    omega (arith, out, few_bytes)
+  where
+    some_link : (live : Option (List ℕ)) → live ≡ Some [] → live ≡ None → ⊥
+    some_link live e none = let bad : Some [] ≡ None = sym e ∙ none in cc

@@ -1,13 +1,22 @@
 -- Events that happened one after another.
-use Rattle.std.proofs.Common.{◌≡◌, ◌+◌, ◌-◌, ℕ, List, [], ◌∷◌, ◌++◌, length, take, Some, refl, sym, ◌∙◌, ap, subst, append_assoc, append-nil, length-append, arith}
-use Rattle.std.specs.Prelude.{slice_get}
+use Rattle.std.proofs.Common.{inl, inr, None, ◌≡◌, ◌+◌, ◌-◌, ℕ, List, [], ◌∷◌, ◌++◌, length, take, true, false, Some, Result, Ok, Err, IfErr, refl, sym, ◌∙◌, ap, subst, append_assoc, append-nil, length-append, arith}
+use Rattle.std.specs.Prelude.{◌<◌, ◌≤◌, ◌⊎◌, slice_get, is_err, IfOk, OnOk, OnErr}
+use Rattle.escpos_command.specs.declared.command.Command.{Command}
+use Rattle.escpos_command.specs.Digits.{mark_count}
+use Rattle.escpos_host.specs.declared.host.HostError.TheVariants as error
+use Rattle.escpos_host.specs.declared.host.HostState.TheVariants as state
+use Rattle.escpos_host.specs.Machine.{InFlight, Phase, Down, Opening, Open, state_of}
+use Rattle.escpos_link.specs.declared.event.Event.TheVariants as event
+use Rattle.escpos_link.specs.declared.event.Refusal.{Refusal}
+use Rattle.escpos_link.specs.declared.event.Refusal.TheVariants as refusal
 use Rattle.escpos_link.specs.declared.event.Event.{Event}
 use Rattle.escpos_link.specs.declared.event.Note.{Note}
 use Rattle.escpos_link.specs.declared.event.Refused.{Refused}
 use Rattle.escpos_link.specs.declared.sim.RunStop.{RunStop}
-use Rattle.escpos_link.specs.EventTable.{After, IsRefused}
+use Rattle.escpos_link.specs.EventTable.{After, IsRefused, Refuses}
 use Rattle.escpos_link.specs.Line.{LineView}
-use Rattle.escpos_link.specs.Steps.{Happened, IsStopped}
+use Rattle.escpos_link.specs.Steps.{Happened, IsStopped, StopsIn}
+use Rattle.escpos_link.specs.Straight.{StoppedStraight, exchange, opening}
 
 pub one_more : (before : List Event) (l now after : LineView) (e : Event) (n : Note) → Happened l before now → After e now n after → Happened l (before ++ e ∷ []) after
 one_more [] l now after e n same happens = (n, after, subst (λ v. After e v n after) same happens, refl)
@@ -55,4 +64,130 @@ stopped l now after all left later e stop s first count refused =
       next = ap (slice_get all) done ∙ ap (λ es. slice_get es (length s.before)) split ∙ at_end s.before later e;
       happened = subst (λ es. Happened l es now) (sym (ap (λ k. take k all) done ∙ ap (take (length s.before)) split ∙ up_to s.before (e ∷ later))) s.happened;
       refused = refused;
+    }
+
+-- ## Refusals
+
+pub on_ok : {A B : Type 0} {P : Type 0} (r : Result A B) → is_err r ≡ false → OnOk r P → P
+on_ok (Ok a) is h = h
+on_ok (Err b) bad h = absurd cc
+
+-- Of the events of an exchange only those that move bytes may be refused, for want of memory.
+pub no_answer_refused : (k : ℕ) (l : LineView) (refused : Refused) (after : LineView) → IsRefused (event.Answer k) l refused after → ⊥
+no_answer_refused k l refused after is = is.reason
+
+-- A link is opened where there is none, and there is a mark: it is refused for want of memory alone.
+pub opens : (l : LineView) → l.host.phase ≡ Down → l.host.next < mark_count → (why : Refusal) → Refuses event.LinkUp l why → why ≡ refusal.Memory
+opens l is_down few why (error.NotReady, is, refuses) = absurd refuses
+opens l is_down few why (error.MarksUsedUp, is, refuses) = absurd (omega (arith, few, refuses.1))
+opens l is_down few why (error.AlreadyUp, is, refuses) = absurd (refuses is_down)
+opens l is_down few why (error.Memory, is, refuses) = is
+opens l is_down few why (error.InFlightFull, is, refuses) = absurd refuses
+
+-- So is a receipt, where the host is ready.
+pub submits : (l : LineView) (receipt : List Command) → l.host.phase ≡ Open [] → l.host.next < mark_count → (why : Refusal) → Refuses (event.Submit receipt) l why → why ≡ refusal.Memory
+submits l receipt ready few why (error.NotReady, is, refuses) = absurd (refuses [] ready)
+submits l receipt ready few why (error.MarksUsedUp, is, (flight, phase, some, used)) = absurd (omega (arith, few, used))
+submits l receipt ready few why (error.AlreadyUp, is, refuses) = absurd refuses
+submits l receipt ready few why (error.Memory, is, refuses) = is
+submits l receipt ready few why (error.InFlightFull, is, (flight, phase, full)) =
+    let none : flight ≡ [] = cc (sym phase ∙ ready) in absurd (omega (arith, full, ap length none))
+
+-- What is known of a result that is an error, and of one that is none.
+pub of_err : {A B : Type 0} {P : B → Type 0} (r : Result A B) → is_err r ≡ true → IfErr r P → (x : B) × P x
+of_err (Ok a) bad h = absurd cc
+of_err (Err b) is h = (b, h)
+
+pub of_ok : {A B : Type 0} {P : A → Type 0} (r : Result A B) → is_err r ≡ false → IfOk r P → (x : A) × P x
+of_ok (Ok a) is h = (a, h)
+of_ok (Err b) bad h = absurd cc
+
+-- The first of some events happened, and the next one was refused.
+pub stops_at : (l before after : LineView) (done others : List Event) (e : Event) (refused : Refused) → Happened l done before
+    → ((why : Refusal) → Refuses e before why → why ≡ refusal.Memory) → IsRefused e before refused after → StopsIn (done ++ e ∷ others) l after
+stops_at l before after done others e refused happened memory is =
+    record { done = done; event = e; others = others; before = before; split = refl; happened = happened; memory = memory; left = is.line }
+
+-- So after other events.
+pub stops_later : (l now after : LineView) (before events : List Event) → Happened l before now → StopsIn events now after → StopsIn (before ++ events) l after
+stops_later l now after before events happened s = record {
+  done = before ++ s.done;
+  event = s.event;
+  others = s.others;
+  before = s.before;
+  split = ap (λ v. before ++ v) s.split ∙ sym (append_assoc before s.done (s.event ∷ s.others));
+  happened = joined before s.done l now s.before happened s.happened;
+  memory = s.memory;
+  left = s.left;
+}
+
+-- So where more events were to follow.
+pub stops_before : (l after : LineView) (events more : List Event) → StopsIn events l after → StopsIn (events ++ more) l after
+stops_before l after events more s = record {
+  done = s.done;
+  event = s.event;
+  others = s.others ++ more;
+  before = s.before;
+  split = ap (λ v. v ++ more) s.split ∙ append_assoc s.done (s.event ∷ s.others) more;
+  happened = s.happened;
+  memory = s.memory;
+  left = s.left;
+}
+
+pub on_err : {A B : Type 0} {P Q : Type 0} (r : Result A B) → OnErr r P → (P → Q) → OnErr r Q
+on_err (Ok a) h f = tt
+on_err (Err b) h f = f h
+
+pub err_is : {A B : Type 0} {P : Type 0} (r : Result A B) → is_err r ≡ true → OnErr r P → P
+err_is (Ok a) bad h = absurd cc
+err_is (Err b) is h = h
+
+pub is_down : (p : Phase) → state_of p ≡ state.Down → p ≡ Down
+is_down Down e = refl
+is_down (Opening first) e = cc e
+is_down (Open []) e = cc e
+is_down (Open (q ∷ qs)) e = cc e
+
+pub is_ready : (p : Phase) → state_of p ≡ state.Ready → p ≡ Open []
+is_ready Down e = cc e
+is_ready (Opening first) e = cc e
+is_ready (Open []) e = refl
+is_ready (Open (q ∷ qs)) e = cc e
+
+-- ## Stops on the straight way
+
+pub stopped_opening : (l after : LineView) (receipt : List Command) → StopsIn (opening l.host.phase) l after → StoppedStraight l receipt (Some receipt) after
+unfolding stops_before
+stopped_opening l after receipt s =
+    let few : length s.done ≤ length (opening l.host.phase) = omega (arith, ap length s.split, length-append s.done (s.event ∷ s.others)) in
+    record { stops = stops_before l after (opening l.host.phase) (event.Submit receipt ∷ exchange) s; receipt_back = inl (refl, few) }
+
+pub stopped_submitting : (l m after : LineView) (receipt : List Command) (refused : Refused) → Happened l (opening l.host.phase) m → m.host.phase ≡ Open [] → m.host.next < mark_count
+    → IsRefused (event.Submit receipt) m refused after → StoppedStraight l receipt refused.receipt after
+unfolding stops_at
+stopped_submitting l m after receipt refused opened ready few is =
+    let same : length (opening l.host.phase) ≤ length (opening l.host.phase) = omega arith in
+    record { stops = stops_at l m after (opening l.host.phase) exchange (event.Submit receipt) refused opened (submits m receipt ready few) is; receipt_back = inl (is.receipt, same) }
+
+pub stopped_sending : (l m k after : LineView) (receipt : List Command) (n : Note) → Happened l (opening l.host.phase) m → After (event.Submit receipt) m n k → StopsIn exchange k after
+    → StoppedStraight l receipt None after
+unfolding stops_later
+stopped_sending l m k after receipt n opened submitted s =
+    let first = opening l.host.phase in
+    let before = one_more first l m k (event.Submit receipt) n opened submitted in
+    let stops = stops_later l k after (first ++ event.Submit receipt ∷ []) exchange before s in
+    let more : length first < length ((first ++ event.Submit receipt ∷ []) ++ s.done) =
+    omega (arith, length-append (first ++ event.Submit receipt ∷ []) s.done, length-append first (event.Submit receipt ∷ [])) in
+    record {
+      stops = record {
+        done = stops.done;
+        event = stops.event;
+        others = stops.others;
+        before = stops.before;
+        split = sym (append_assoc first (event.Submit receipt ∷ []) exchange) ∙ stops.split;
+        happened = stops.happened;
+        memory = stops.memory;
+        left = stops.left;
+      };
+      receipt_back = inr (refl, more);
     }

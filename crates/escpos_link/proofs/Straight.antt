@@ -5,7 +5,7 @@ use Rattle.escpos_command.specs.declared.answer.Answer.{Answer}
 use Rattle.escpos_command.specs.declared.answer.Answer.TheVariants as answer
 use Rattle.escpos_command.specs.declared.command.Command.{Command}
 use Rattle.escpos_command.specs.declared.command.Command.TheVariants as kind
-use Rattle.escpos_command.specs.Answers.{AreWholeAnswers, answer_bytes, is_answer, spell_answers}
+use Rattle.escpos_command.specs.Answers.{AreWholeAnswers, Hears, answer_bytes, is_answer, spell_answers}
 use Rattle.escpos_command.specs.CommandTable.{AreCommands, row, spell}
 use Rattle.escpos_command.specs.Digits.{mark_count, mark_of}
 use Rattle.escpos_command.specs.Parameters.{is_mark_id}
@@ -33,6 +33,7 @@ pub record Laws : Type 0 where
   pub one_answer : (h after : HostView) (a : Answer) (events : List HostEvent) (consumed : ℕ) → h.phase ≢ Down → h.half ≡ [] → IsTrue (is_answer a)
       → HearsAll h (answer_bytes a) events consumed after → (at : ℕ) × Turns h a at (last_of events) after
   pub leaves : Leaves
+  pub one_hearing : (bs : List ℕ) (some others : List Answer) (x y : List ℕ) → Hears bs some x → Hears bs others y → (some ≡ others) × (x ≡ y)
   pub init : (a b : List Command) → printed (a ++ kind.Init ∷ [] ++ b) ≡ printed a ++ printed b
   pub marks : (cs : List Command) (id : List ℕ) → printed (cs ++ kind.Mark id ∷ []) ≡ printed cs
   pub ids : (n : ℕ) → n < mark_count → IsTrue (is_mark_id (mark_of n))

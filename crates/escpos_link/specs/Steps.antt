@@ -2,8 +2,10 @@
 use Rattle.std.specs.Prelude.{ℕ, ◌≡◌, List, [], ◌∷◌, ◌++◌, take, Option, Some, slice_get}
 use Rattle.escpos_link.specs.declared.event.Event.{Event}
 use Rattle.escpos_link.specs.declared.event.Note.{Note}
+use Rattle.escpos_link.specs.declared.event.Refusal.{Refusal}
+use Rattle.escpos_link.specs.declared.event.Refusal.TheVariants as refusal
 use Rattle.escpos_link.specs.declared.sim.RunStop.{RunStop}
-use Rattle.escpos_link.specs.EventTable.{After, IsRefused, Leaves}
+use Rattle.escpos_link.specs.EventTable.{After, IsRefused, Leaves, Refuses}
 use Rattle.escpos_link.specs.Line.{LineView}
 
 -- The events happened to the line, in order, and none was refused.
@@ -19,7 +21,7 @@ pub record IsStopped (l : LineView) (events : List Event) (stop : RunStop) (afte
   pub happened : Happened l (take stop.done events) before
   pub refused : IsRefused event before stop.refused after
 
--- Some of the events happened, and the next one was refused for want of memory; this is what is left.
+-- Some of the events happened, and the next one was refused, for which want of memory alone is a reason; this is what is left.
 pub record StopsIn (events : List Event) (l : LineView) (after : LineView) : Type 0 where
   pub done : List Event
   pub event : Event
@@ -27,4 +29,5 @@ pub record StopsIn (events : List Event) (l : LineView) (after : LineView) : Typ
   pub before : LineView
   pub split : events ≡ done ++ (event ∷ others)
   pub happened : Happened l done before
+  pub memory : (why : Refusal) → Refuses event before why → why ≡ refusal.Memory
   pub left : Leaves event before after

@@ -21,15 +21,22 @@ IsAtRest l =
     (l.ended ≡ [])
     × (((l.host.phase ≡ Down) × (l.live ≡ None)) ⊎ ((l.host.phase ≡ Open []) × (l.live ≡ Some []) × (l.host.out ≡ [])))
 
--- Nothing is under way: nothing is on a link or on its way, the printer is online and has no half command and no answer, and there
--- are marks enough for a receipt.
-pub record Undisturbed (l : LineView) : Type 0 where
-  pub at_rest : IsAtRest l
+-- The printer is online, with no half command and no answer that waits, and no answer is on its way.
+pub record IsSilent (l : LineView) : Type 0 where
   pub online : is_offline l.printer.condition ≡ false
   pub no_half : l.printer.half ≡ []
   pub no_answer : l.printer.waiting ≡ []
   pub quiet : l.coming ≡ []
-  pub marks : l.host.next + marks_for l.host.phase ≤ mark_count
+
+-- There are marks enough for a receipt.
+abbrev pub HasMarks : LineView → Type 0
+HasMarks l = l.host.next + marks_for l.host.phase ≤ mark_count
+
+-- Nothing is under way, and there are marks enough for a receipt.
+pub record Undisturbed (l : LineView) : Type 0 where
+  pub at_rest : IsAtRest l
+  pub silent : IsSilent l
+  pub marks : HasMarks l
 
 -- More bytes than any link has.
 abbrev pub all_bytes : ℕ

@@ -13,4 +13,4 @@ mod sim;
 mod undelivered;
 
 pub use event::{Event, Handed, Note, Refusal, Refused};
-pub use sim::{RunStop, Sim};
+pub use sim::{RunStop, Sim, StraightStop};

@@ -3,7 +3,7 @@
 //! Everything that changes a line stands here, one function for each event that isn't a call of one end alone. What is true of
 //! a line at all times is left to `sim`.
 
-ghost use Rattle.std.specs.Prelude.{ℕ, ◌≡◌, ◌≢◌, ◌+◌, ◌<◌, ◌≤◌, min, List, [], ◌∷◌, ◌++◌, length, take, drop, option_map, None, IfOk, IfErr, OnOk, OnErr};
+ghost use Rattle.std.specs.Prelude.{ℕ, ◌≡◌, ◌≢◌, ◌+◌, ◌<◌, ◌≤◌, min, List, [], ◌∷◌, ◌++◌, length, take, drop, option_map, None, IfOk, IfErr, IfSome, IsTrue, OnOk, OnErr, ◌↔◌};
 ghost use Rattle.escpos_host.specs.declared.host.HostEvent.{HostEvent};
 ghost use Rattle.escpos_host.specs.Heard.{HearsAll, last_of};
 ghost use Rattle.escpos_host.specs.Machine.{HostView, IsSound, Down, taken};
@@ -11,6 +11,7 @@ ghost use Rattle.escpos_paper.specs.Page.{SheetIs};
 ghost use Rattle.escpos_printer.specs.declared.printer.FeedStop.TheVariants as stop;
 ghost use Rattle.escpos_printer.specs.Feeds.{Feeds, PrinterView};
 ghost use Rattle.escpos_link.specs.Refusals.{of_host};
+ghost use Rattle.escpos_link.specs.Straight.{HasMarks, IsAtRest, IsSilent, Undisturbed, all_bytes};
 ghost use Rattle.escpos_link.specs.EventTable.{After, HandsOver, HasMoved, IsRefused, Restarted, delivered, first_link, heard_to, hung_up, left_by, moved, off_link, opened, restarted, told_at, with_host, with_printer, without_first};
 
 use crate::event::{Event, Handed, Note, Refusal, Refused};
@@ -79,6 +80,64 @@ impl Line {
         ensures { IsSound self.now.host }
     {
         self.host.is_sound();
+    }
+
+    /// Whether nothing is under way, and there are marks enough for a receipt.
+    pub fn is_undisturbed(&self) -> bool
+        ensures { IsTrue result ↔ Undisturbed self.now }
+    {
+        self.is_at_rest() && self.has_no_answer() && self.has_marks()
+    }
+
+    // Whether there is no link and the host is down, or the host is ready on one live link that is empty, with nothing to take out.
+    fn is_at_rest(&self) -> bool
+        ensures { IsTrue result ↔ IsAtRest self.now }
+    {
+        if !self.ended.is_empty() {
+            return false;
+        }
+        match &self.live {
+            None => self.host.state() == HostState::Down,
+            Some(link) => {
+                let HostState::Ready = self.host.state() else {
+                    return false;
+                };
+                link.is_empty() && !self.host.has_out()
+            }
+        }
+    }
+
+    // Whether the printer is online, with no half command and no answer, and none is on its way.
+    fn has_no_answer(&self) -> bool
+        ensures { IsTrue result ↔ IsSilent self.now }
+    {
+        self.printer.is_online()
+            && self.printer.pending_len() == 0
+            && self.printer.waiting() == 0
+            && self.coming.is_empty()
+    }
+
+    // Whether there are marks enough for a receipt.
+    fn has_marks(&self) -> bool
+        ensures { IsTrue result ↔ HasMarks self.now }
+    {
+        let others = match self.host.state() {
+            HostState::Down => 1,
+            _ => 0,
+        };
+        match self.host.next_mark().checked_add(others) {
+            Some(last) => MarkId::of_number(last).is_some(),
+            None => false,
+        }
+    }
+
+    /// No link has as many bytes as a number can say. It does nothing: its contract says so.
+    pub fn is_short(&self)
+        ensures { IfSome self.now.live (λ bytes. length bytes < all_bytes) }
+    {
+        if let Some(link) = &self.live {
+            link.is_short();
+        }
     }
 
     /// Lets an event happen, and tells of it. A refusal leaves the line as it was, except that after Memory in `Move` or

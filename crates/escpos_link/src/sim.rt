@@ -1,14 +1,17 @@
 //! A simulated line: every list of events may happen to it.
 
-ghost use Rattle.std.specs.Prelude.{◌≡◌, [], None, IfOk, IfErr, OnOk};
+ghost use Rattle.std.specs.Prelude.{◌≡◌, ◌≢◌, ◌≤◌, ◌↔◌, List, [], ◌∷◌, length, None, IfOk, IfErr, OnOk, OnErr, IsTrue};
+ghost use Rattle.escpos_command.specs.declared.command.Command.{Command};
+ghost use Rattle.escpos_paper.specs.declared.item.Item.{Item};
 ghost use Rattle.escpos_host.specs.Machine.{Down};
 ghost use Rattle.escpos_paper.specs.Page.{SheetIs};
 ghost use Rattle.escpos_link.specs.EventTable.{After, IsRefused};
-ghost use Rattle.escpos_link.specs.Steps.{Happened, IsStopped};
+ghost use Rattle.escpos_link.specs.Steps.{Happened, IsStopped, StopsIn};
+ghost use Rattle.escpos_link.specs.Straight.{StoppedStraight, Undisturbed, WentStraight, all_bytes, exchange, opening};
 
 use crate::event::{Event, Note, Refused};
 use crate::line::Line;
-use escpos_host::{Host, Receipt};
+use escpos_host::{Host, HostState, Receipt};
 use escpos_paper::Item;
 use escpos_printer::{Condition, Printer};
 use std::alloc::{AllocError, Global};
@@ -29,6 +32,13 @@ impl Model for Sim {
     ghost view = { λ s. s.line };
 
     ghost invariant = { λ s. IsLine s.line };
+}
+
+/// A receipt that couldn't be sent for want of memory.
+#[derive(Debug, Drop)]
+pub struct StraightStop {
+    /// The receipt, where it wasn't submitted.
+    pub receipt: Option<Receipt>,
 }
 
 /// A list of events that was stopped by a refusal.
@@ -90,9 +100,93 @@ impl Sim {
         Ok(())
     }
 
+    /// Whether nothing is under way: the host is down and there is no link, or it is ready on one live link that is empty and has
+    /// nothing to take out; the printer is online, with no half command and no answer that waits; no answer is on its way; and two
+    /// mark numbers are left where the host is down, one where it is ready. Takes no memory.
+    pub fn undisturbed(&self) -> bool
+        ensures { IsTrue result ↔ Undisturbed self.now }
+    {
+        self.line.is_undisturbed()
+    }
+
+    /// Sends a receipt over a line on which nothing is under way: opens a link where there is none, submits the receipt, and lets
+    /// all bytes and the answer to its closing mark arrive. Answers the number of its record.
+    ///
+    /// `Err` comes only for want of memory. The line is then as after the events before the one that wanted it, and that refusal.
+    pub fn straight(&mut self, receipt: Receipt) -> Result<usize, StraightStop>
+        requires { Undisturbed self.old }
+        ensures recorded { IfOk result (λ number. WentStraight self.old receipt number self.new) }
+        ensures stopped { IfErr result (λ stop. StoppedStraight self.old receipt stop.receipt self.new) }
+    {
+        escpos_host::laws::one_answer();
+        escpos_host::laws::whole_answers();
+        escpos_printer::laws::whole_commands();
+        escpos_paper::laws::initialisation();
+        escpos_paper::laws::marks();
+        escpos_command::laws::mark_numbers();
+        escpos_command::laws::answers();
+        self.line.is_sound();
+        let _ = self.paper();
+        let _ = receipt.commands();
+        let number = self.records().len();
+        if self.open().is_err() {
+            return Err(StraightStop {
+                receipt: Some(receipt),
+            });
+        }
+        if let Err(refused) = self.step(Event::Submit(receipt)) {
+            return Err(StraightStop {
+                receipt: refused.receipt,
+            });
+        }
+        match self.exchange() {
+            Ok(()) => Ok(number),
+            Err(_) => Err(StraightStop { receipt: None }),
+        }
+    }
+
+    // Opens a link where there is none, and lets the answer to its opening mark arrive. The error is want of memory.
+    fn open(&mut self) -> Result<(), AllocError>
+        requires { Undisturbed self.old }
+        ensures happened { OnOk result (Happened self.old (opening self.old.host.phase) self.new) }
+        ensures stopped { OnErr result (StopsIn (opening self.old.host.phase) self.old self.new) }
+    {
+        let HostState::Down = self.host().state() else {
+            return Ok(());
+        };
+        if self.step(Event::LinkUp).is_err() {
+            return Err(AllocError);
+        }
+        self.exchange()
+    }
+
+    // Lets all bytes that the host has put out arrive, and an answer to them. The error is want of memory.
+    fn exchange(&mut self) -> Result<(), AllocError>
+        ensures happened { OnOk result (Happened self.old exchange self.new) }
+        ensures short { OnOk result (self.old.live ≢ None → length self.old.host.out ≤ all_bytes) }
+        ensures stopped { OnErr result (StopsIn exchange self.old self.new) }
+    {
+        if self.step(Event::Move(usize::MAX)).is_err() {
+            return Err(AllocError);
+        }
+        self.line.is_short();
+        if self.step(Event::Deliver(usize::MAX)).is_err() {
+            return Err(AllocError);
+        }
+        if self.step(Event::HandOver).is_err() {
+            return Err(AllocError);
+        }
+        if self.step(Event::Answer(usize::MAX)).is_err() {
+            return Err(AllocError);
+        }
+        Ok(())
+    }
+
     /// What is printed on the paper, from top to bottom. Takes no memory.
     pub fn paper(&self) -> &[Item]
-        ensures { result.now ≡ self.now.printer.sheet.items }
+        ensures items { result.now ≡ self.now.printer.sheet.items }
+        // Every paper is one that commands leave, on paper that held some items.
+        ensures reached { (kept : List Item) × (cs : List Command) × SheetIs self.now.printer.sheet kept cs }
     {
         self.line.printer.items()
     }

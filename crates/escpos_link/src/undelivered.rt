@@ -3,11 +3,12 @@
 //! They go in at the end and come out at the front. What was taken out is given up once it is more than what is left, so that
 //! a line that runs for long holds little, and each byte is moved once at most on average.
 
-ghost use Rattle.std.specs.Prelude.{◌≡◌, ◌+◌, ◌<◌, ◌≤◌, min, List, [], ◌∷◌, ◌++◌, length, take, drop, vec_len, vec_capacity, IfOk, OnOk, OnErr};
+ghost use Rattle.std.specs.Prelude.{◌≡◌, ◌+◌, ◌<◌, ◌≤◌, min, List, [], ◌∷◌, ◌++◌, length, take, drop, vec_len, vec_capacity, IfOk, IsTrue, OnOk, OnErr, ◌↔◌};
 ghost use Rattle.escpos_command.specs.declared.answer.Answer.{Answer};
 ghost use Rattle.escpos_command.specs.Answers.{answer_bytes};
 ghost use Rattle.escpos_host.specs.Machine.{taken};
 ghost use Rattle.escpos_link.specs.EventTable.{answers_left};
+ghost use Rattle.escpos_link.specs.Straight.{all_bytes};
 
 use escpos_host::Host;
 use escpos_printer::Printer;
@@ -62,6 +63,20 @@ impl Undelivered {
         ensures { self.new ≡ drop count self.old }
     {
         self.delivered += count;
+    }
+
+    /// Whether there are none.
+    pub fn is_empty(&self) -> bool
+        ensures { IsTrue result ↔ (self.now ≡ []) }
+    {
+        self.delivered == self.bytes.len()
+    }
+
+    /// There are fewer than a number can say. It does nothing: its contract says so.
+    pub fn is_short(&self)
+        ensures { length self.now < all_bytes }
+    {
+        let _ = self.bytes.len();
     }
 
     /// Drops all bytes. Takes no memory.
