@@ -19,7 +19,7 @@ use Rattle.escpos_cli.specs.Task.{AsksBy, IsPlain, command_words, help_words, na
 use Rattle.escpos_cli.specs.declared.task.NoTask.{NoTask}
 use Rattle.escpos_cli.specs.declared.task.NoTask.TheVariants.{Help, Memory}
 use Rattle.escpos_cli.specs.declared.task.Task.{Task}
-use Rattle.escpos_cli.specs.declared.task.Task.TheVariants.{Check, Render, Encode, Emulate, Send, Loop}
+use Rattle.escpos_cli.specs.declared.task.Task.TheVariants.{Check, Render, Encode, Play, Emulate, Send, Loop}
 use Rattle.std.proofs.lemmas.Slice.Eq.{bytes_eq-Decides}
 
 pub is_exact : is_simple_and_free command_words ≡ true
@@ -57,6 +57,14 @@ encode_passes = refl
 pub encode_met : met_by (codes "encode" ∷ []) ≡ Some (codes "encode")
 unfolding clap_on_literals
 encode_met = refl
+
+pub play_passes : fault_of command_words (codes "play" ∷ []) ≡ []
+unfolding clap_on_literals
+play_passes = refl
+
+pub play_met : met_by (codes "play" ∷ []) ≡ Some (codes "play")
+unfolding clap_on_literals
+play_met = refl
 
 pub loop_passes : fault_of command_words (codes "loop" ∷ []) ≡ []
 unfolding clap_on_literals
@@ -112,29 +120,37 @@ is_help-8 : IsHelp (codes "encode" ∷ codes "-h" ∷ [])
 unfolding clap_on_literals
 is_help-8 = inl refl
 
-is_help-9 : IsHelp (codes "emulate" ∷ codes "--help" ∷ [])
+is_help-9 : IsHelp (codes "play" ∷ codes "--help" ∷ [])
 unfolding clap_on_literals
 is_help-9 = inl refl
 
-is_help-10 : IsHelp (codes "emulate" ∷ codes "-h" ∷ [])
+is_help-10 : IsHelp (codes "play" ∷ codes "-h" ∷ [])
 unfolding clap_on_literals
 is_help-10 = inl refl
 
-is_help-11 : IsHelp (codes "send" ∷ codes "--help" ∷ [])
+is_help-11 : IsHelp (codes "emulate" ∷ codes "--help" ∷ [])
 unfolding clap_on_literals
 is_help-11 = inl refl
 
-is_help-12 : IsHelp (codes "send" ∷ codes "-h" ∷ [])
+is_help-12 : IsHelp (codes "emulate" ∷ codes "-h" ∷ [])
 unfolding clap_on_literals
 is_help-12 = inl refl
 
-is_help-13 : IsHelp (codes "loop" ∷ codes "--help" ∷ [])
+is_help-13 : IsHelp (codes "send" ∷ codes "--help" ∷ [])
 unfolding clap_on_literals
 is_help-13 = inl refl
 
-is_help-14 : IsHelp (codes "loop" ∷ codes "-h" ∷ [])
+is_help-14 : IsHelp (codes "send" ∷ codes "-h" ∷ [])
 unfolding clap_on_literals
 is_help-14 = inl refl
+
+is_help-15 : IsHelp (codes "loop" ∷ codes "--help" ∷ [])
+unfolding clap_on_literals
+is_help-15 = inl refl
+
+is_help-16 : IsHelp (codes "loop" ∷ codes "-h" ∷ [])
+unfolding clap_on_literals
+is_help-16 = inl refl
 
 pub is_help : (texts : List Text) → Contains help_words texts → IsHelp texts
 is_help texts (zero, below, at) = inr (sym at)
@@ -152,7 +168,9 @@ is_help texts (suc (suc (suc (suc (suc (suc (suc (suc (suc (suc (suc zero)))))))
 is_help texts (suc (suc (suc (suc (suc (suc (suc (suc (suc (suc (suc (suc zero))))))))))), below, at) = subst IsHelp at is_help-12
 is_help texts (suc (suc (suc (suc (suc (suc (suc (suc (suc (suc (suc (suc (suc zero)))))))))))), below, at) = subst IsHelp at is_help-13
 is_help texts (suc (suc (suc (suc (suc (suc (suc (suc (suc (suc (suc (suc (suc (suc zero))))))))))))), below, at) = subst IsHelp at is_help-14
-is_help texts (suc (suc (suc (suc (suc (suc (suc (suc (suc (suc (suc (suc (suc (suc (suc k)))))))))))))), below, at) = absurd (omega arith)
+is_help texts (suc (suc (suc (suc (suc (suc (suc (suc (suc (suc (suc (suc (suc (suc (suc zero)))))))))))))), below, at) = subst IsHelp at is_help-15
+is_help texts (suc (suc (suc (suc (suc (suc (suc (suc (suc (suc (suc (suc (suc (suc (suc (suc zero))))))))))))))), below, at) = subst IsHelp at is_help-16
+is_help texts (suc (suc (suc (suc (suc (suc (suc (suc (suc (suc (suc (suc (suc (suc (suc (suc (suc k)))))))))))))))), below, at) = absurd (omega arith)
 
 -- ---- what an error says
 
@@ -252,42 +270,44 @@ first_met word (name ∷ others) = if answers name word then Some name else firs
 
 -- the names of all subcommands
 abbrev own_names : List Text
-own_names = codes "check" ∷ codes "render" ∷ codes "encode" ∷ codes "emulate" ∷ codes "send" ∷ codes "loop" ∷ codes "help" ∷ []
+own_names = codes "check" ∷ codes "render" ∷ codes "encode" ∷ codes "play" ∷ codes "emulate" ∷ codes "send" ∷ codes "loop" ∷ codes "help" ∷ []
 
--- the same for the seven names, by which of them the word is
-abbrev met_if : Bool → Bool → Bool → Bool → Bool → Bool → Bool → Option Text
-met_if c r e m s l h =
-    if c then Some (codes "check") else (if r then Some (codes "render") else (if e then Some (codes "encode") else (if m then Some (codes "emulate") else (if s then Some (codes "send") else (if l then Some (codes "loop") else (if h then Some (codes "help") else None))))))
+-- the same for the eight names, by which of them the word is
+abbrev pub met_if : Bool → Bool → Bool → Bool → Bool → Bool → Bool → Bool → Option Text
+met_if c r e p m s l h =
+    if c then Some (codes "check") else (if r then Some (codes "render") else (if e then Some (codes "encode") else (if p then Some (codes "play") else (if m then Some (codes "emulate") else (if s then Some (codes "send") else (if l then Some (codes "loop") else (if h then Some (codes "help") else None)))))))
 
-met_conds : (c r e m s l h : Bool) → option_map (λ (s : Text × List Text). s.0)
-    (if c then Some (codes "check", []) else (if r then Some (codes "render", []) else (if e then Some (codes "encode", []) else (if m then Some (codes "emulate", []) else (if s then Some (codes "send", []) else (if l then Some (codes "loop", []) else (if h then Some (codes "help", []) else None)))))))
-    ≡ met_if c r e m s l h
-met_conds true r e m s l h = refl
-met_conds false true e m s l h = refl
-met_conds false false true m s l h = refl
-met_conds false false false true s l h = refl
-met_conds false false false false true l h = refl
-met_conds false false false false false true h = refl
-met_conds false false false false false false true = refl
-met_conds false false false false false false false = refl
+met_conds : (c r e p m s l h : Bool) → option_map (λ (s : Text × List Text). s.0)
+    (if c then Some (codes "check", []) else (if r then Some (codes "render", []) else (if e then Some (codes "encode", []) else (if p then Some (codes "play", []) else (if m then Some (codes "emulate", []) else (if s then Some (codes "send", []) else (if l then Some (codes "loop", []) else (if h then Some (codes "help", []) else None))))))))
+    ≡ met_if c r e p m s l h
+met_conds true r e p m s l h = refl
+met_conds false true e p m s l h = refl
+met_conds false false true p m s l h = refl
+met_conds false false false true m s l h = refl
+met_conds false false false false true s l h = refl
+met_conds false false false false false true l h = refl
+met_conds false false false false false false true h = refl
+met_conds false false false false false false false true = refl
+met_conds false false false false false false false false = refl
 
 met_word : (word : Text) → subcommand_met names idle word ≡ first_met word own_names
-met_word word = met_conds (answers (codes "check") word) (answers (codes "render") word) (answers (codes "encode") word) (answers (codes "emulate") word) (answers (codes "send") word) (answers (codes "loop") word) (answers (codes "help") word)
+met_word word = met_conds (answers (codes "check") word) (answers (codes "render") word) (answers (codes "encode") word) (answers (codes "play") word) (answers (codes "emulate") word) (answers (codes "send") word) (answers (codes "loop") word) (answers (codes "help") word)
 
 -- a name that is met is entered
-entered_if : (c r e m s l h : Bool) → entered_name (met_if c r e m s l h) ≡ met_if c r e m s l h
+entered_if : (c r e p m s l h : Bool) → entered_name (met_if c r e p m s l h) ≡ met_if c r e p m s l h
 unfolding clap_on_literals
-entered_if true r e m s l h = refl
-entered_if false true e m s l h = refl
-entered_if false false true m s l h = refl
-entered_if false false false true s l h = refl
-entered_if false false false false true l h = refl
-entered_if false false false false false true h = refl
-entered_if false false false false false false true = refl
-entered_if false false false false false false false = refl
+entered_if true r e p m s l h = refl
+entered_if false true e p m s l h = refl
+entered_if false false true p m s l h = refl
+entered_if false false false true m s l h = refl
+entered_if false false false false true s l h = refl
+entered_if false false false false false true l h = refl
+entered_if false false false false false false true h = refl
+entered_if false false false false false false false true = refl
+entered_if false false false false false false false false = refl
 
 entered_met : (word : Text) → entered_name (first_met word own_names) ≡ first_met word own_names
-entered_met word = entered_if (answers (codes "check") word) (answers (codes "render") word) (answers (codes "encode") word) (answers (codes "emulate") word) (answers (codes "send") word) (answers (codes "loop") word) (answers (codes "help") word)
+entered_met word = entered_if (answers (codes "check") word) (answers (codes "render") word) (answers (codes "encode") word) (answers (codes "play") word) (answers (codes "emulate") word) (answers (codes "send") word) (answers (codes "loop") word) (answers (codes "help") word)
 
 or_false : (b : Bool) → (b || false) ≡ true → b ≡ true
 or_false true e = refl
@@ -325,6 +345,7 @@ pub task_met : (task : Task) → IsPlain task → met_by (words_of task) ≡ Som
 task_met Check alone = check_met
 task_met Render alone = render_met
 task_met Encode alone = encode_met
+task_met Play alone = play_met
 task_met (Emulate address links) alone = absurd alone
 task_met (Send address first openings) alone = absurd alone
 task_met Loop alone = loop_met
@@ -333,6 +354,7 @@ pub task_passes : (task : Task) → IsPlain task → fault_of command_words (wor
 task_passes Check alone = check_passes
 task_passes Render alone = render_passes
 task_passes Encode alone = encode_passes
+task_passes Play alone = play_passes
 task_passes (Emulate address links) alone = absurd alone
 task_passes (Send address first openings) alone = absurd alone
 task_passes Loop alone = loop_passes
@@ -342,6 +364,7 @@ pub plain_name : (task : Task) (name : Text) (rows : List Row) → IsPlain task 
 plain_name Check name rows alone asks = asks
 plain_name Render name rows alone asks = asks
 plain_name Encode name rows alone asks = asks
+plain_name Play name rows alone asks = asks
 plain_name (Emulate address links) name rows alone asks = absurd alone
 plain_name (Send address first openings) name rows alone asks = absurd alone
 plain_name Loop name rows alone asks = asks

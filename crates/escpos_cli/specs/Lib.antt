@@ -15,3 +15,4 @@ pub mod Links
 pub mod Send
 pub mod Perform
 pub mod Broken
+pub mod Told

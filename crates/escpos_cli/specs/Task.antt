@@ -14,7 +14,7 @@ use Rattle.escpos_cli.specs.declared.task.TheConstants.{LINKS, MOST_LINKS, OPENI
 use Rattle.escpos_cli.specs.declared.task.NoTask.{NoTask}
 use Rattle.escpos_cli.specs.declared.task.NoTask.TheVariants.{Usage, Help, Memory}
 use Rattle.escpos_cli.specs.declared.task.Task.{Task}
-use Rattle.escpos_cli.specs.declared.task.Task.TheVariants.{Check, Render, Encode, Emulate, Send, Loop}
+use Rattle.escpos_cli.specs.declared.task.Task.TheVariants.{Check, Render, Encode, Play, Emulate, Send, Loop}
 
 -- ---- what a text says
 
@@ -44,6 +44,7 @@ abbrev pub name_of : Task → Text
 name_of Check = codes "check"
 name_of Render = codes "render"
 name_of Encode = codes "encode"
+name_of Play = codes "play"
 name_of (Emulate address links) = codes "emulate"
 name_of (Send address first openings) = codes "send"
 name_of Loop = codes "loop"
@@ -63,6 +64,7 @@ abbrev pub AsksBy : Text → List Row → Task → Type 0
 AsksBy name rows Check = name ≡ codes "check"
 AsksBy name rows Render = name ≡ codes "render"
 AsksBy name rows Encode = name ≡ codes "encode"
+AsksBy name rows Play = name ≡ codes "play"
 AsksBy name rows (Emulate address links) = (name ≡ codes "emulate")
     × IsSomeAnd (first_of (codes "address") rows) (λ text. IsAddress text address)
     × IsNumberOr LINKS (one_of (codes "links") rows) links
@@ -88,6 +90,7 @@ help_words = (codes "help" ∷ []) ∷ (codes "--help" ∷ []) ∷ (codes "-h" �
     ∷ (codes "check" ∷ codes "--help" ∷ []) ∷ (codes "check" ∷ codes "-h" ∷ [])
     ∷ (codes "render" ∷ codes "--help" ∷ []) ∷ (codes "render" ∷ codes "-h" ∷ [])
     ∷ (codes "encode" ∷ codes "--help" ∷ []) ∷ (codes "encode" ∷ codes "-h" ∷ [])
+    ∷ (codes "play" ∷ codes "--help" ∷ []) ∷ (codes "play" ∷ codes "-h" ∷ [])
     ∷ (codes "emulate" ∷ codes "--help" ∷ []) ∷ (codes "emulate" ∷ codes "-h" ∷ [])
     ∷ (codes "send" ∷ codes "--help" ∷ []) ∷ (codes "send" ∷ codes "-h" ∷ [])
     ∷ (codes "loop" ∷ codes "--help" ∷ []) ∷ (codes "loop" ∷ codes "-h" ∷ []) ∷ []
@@ -126,8 +129,8 @@ command_words =
       disable_help_subcommand = true;
       subcommand_required = true;
     }) (new_app (codes "escpos_cli")) in
-    with_subcommand (with_subcommand (with_subcommand (with_subcommand (with_subcommand (with_subcommand (with_subcommand top
-    (new_shape (codes "check"))) (new_shape (codes "render"))) (new_shape (codes "encode")))
+    with_subcommand (with_subcommand (with_subcommand (with_subcommand (with_subcommand (with_subcommand (with_subcommand (with_subcommand top
+    (new_shape (codes "check"))) (new_shape (codes "render"))) (new_shape (codes "encode"))) (new_shape (codes "play")))
     emulate_words) send_words) (new_shape (codes "loop"))) (new_shape (codes "help"))
 
 -- what a refusal by `clap` comes to

@@ -241,8 +241,8 @@ fn append_bytes(gather: &mut Gather, bytes: &[u8])
     }
 }
 
-// A byte as it was sent: a space and its two digits.
-fn append_byte(gather: &mut Gather, byte: u8)
+/// Appends a byte: a space and its two digits.
+pub fn append_byte(gather: &mut Gather, byte: u8)
     requires { length gather.old.kept + 3 ≤ GATHERED_BYTES }
     ensures kept { gather.new.kept ≡ gather.old.kept ++ byte_value byte }
     ensures same_count { gather.new.taken ≡ gather.old.taken }

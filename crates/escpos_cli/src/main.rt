@@ -3,8 +3,8 @@
 //! `main` joins the words of the command line, the standard streams and the exit status, and leaves the rest
 //! to its modules: `task` reads the words, `perform` does what they ask for, `input`, `hexadecimal` and `receipt_input` read
 //! the input, `check`, `render` and `encode` are the jobs of those names over any source and sink and `job` has what
-//! the first two have in common, `emulate`, `send` and `both_ends` are the words over TCP, `lines` has the lines of a
-//! listing, `refusal` the line that refuses a receipt, `usage` the texts of usage and help, `outcome` what all jobs say,
+//! the first two have in common, `play` is the job of that name, `script` reads the lines of its script and `told` has those
+//! that it prints, `emulate`, `send` and `both_ends` are the words over TCP, `lines` has the lines of a listing, `refusal` the line that refuses a receipt, `usage` the texts of usage and help, `outcome` what all jobs say,
 //! and `status` what the program ends with.
 #![tactic(auto)]
 
@@ -27,6 +27,9 @@ mod link_tests;
 mod notes;
 mod outcome;
 mod perform;
+mod play;
+#[cfg(test)]
+mod play_tests;
 #[cfg(test)]
 mod receipt_edge_tests;
 mod receipt_input;
@@ -34,15 +37,19 @@ mod receipt_input;
 mod receipt_tests;
 mod refusal;
 mod render;
+mod script;
 mod send;
 #[cfg(test)]
 mod send_tests;
+#[cfg(test)]
+mod sim_tests;
 mod status;
 mod task;
 #[cfg(test)]
 mod task_tests;
 #[cfg(test)]
 mod tests;
+mod told;
 mod usage;
 
 use escpos_io::{Incoming, Outgoing};

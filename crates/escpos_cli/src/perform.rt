@@ -14,6 +14,7 @@ use crate::check::check;
 use crate::emulate::emulate;
 use crate::encode::encode;
 use crate::outcome::{MEMORY, say};
+use crate::play::play;
 use crate::render::render;
 use crate::send::send_to;
 use crate::status::Status;
@@ -59,6 +60,7 @@ pub fn perform<N: Net<Stream = TcpStream, Listener = TcpListener>, R: ByteIn, W:
         Ok(Task::Check) => check(alloc, input, output),
         Ok(Task::Render) => render(alloc, input, output),
         Ok(Task::Encode) => encode(alloc, input, output),
+        Ok(Task::Play) => play(alloc, input, output),
         Ok(Task::Emulate { address, links }) => emulate(net, alloc, address, links, output),
         Ok(
             Task::Send {

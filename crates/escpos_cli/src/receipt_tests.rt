@@ -353,6 +353,6 @@ fn help_has_an_example_of_each_member(rt: HostRuntime) -> Result<(), Fail> {
             }
         }
     }
-    assert_eq!(rt; count, 20);
+    assert_eq!(rt; count, 22);
     Ok(())
 }

@@ -11,7 +11,9 @@ use escpos_host::JsonFault;
 use escpos_io::{ByteOut, GATHERED_BYTES, Gather, laws};
 
 /// The most bytes that the line has.
-const LINE_BYTES: usize = 64;
+pub const LINE_BYTES: usize = 64;
+
+const _: () = prove!(LINE_BYTES == 64);
 
 /// Puts the line `refused NUMBER NAME`, followed by the place of the entry or the command where there is one. The status is
 /// `Refused`, or `Device` where `output` has failed.
@@ -28,8 +30,8 @@ pub fn refuse_receipt<W: ByteOut>(fault: JsonFault, output: &mut W) -> Status
     }
 }
 
-// The line.
-fn append_refusal(gather: &mut Gather, fault: JsonFault)
+/// Appends the line.
+pub fn append_refusal(gather: &mut Gather, fault: JsonFault)
     requires { length gather.old.kept + LINE_BYTES ≤ GATHERED_BYTES }
     ensures kept { gather.new.kept ≡ gather.old.kept ++ refusal_line fault }
     ensures same_count { gather.new.taken ≡ gather.old.taken }
@@ -42,8 +44,8 @@ fn append_refusal(gather: &mut Gather, fault: JsonFault)
     gather.push(LF);
 }
 
-// A space and the place, where there is one.
-fn append_place(gather: &mut Gather, place: Option<usize>)
+/// Appends a space and the place, where there is one.
+pub fn append_place(gather: &mut Gather, place: Option<usize>)
     requires { length gather.old.kept + 21 ≤ GATHERED_BYTES }
     ensures kept { gather.new.kept ≡ gather.old.kept ++ place_text place }
     ensures same_count { gather.new.taken ≡ gather.old.taken }

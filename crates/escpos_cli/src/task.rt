@@ -44,6 +44,8 @@ pub enum Task {
     Render,
     /// Write the bytes of a receipt's commands.
     Encode,
+    /// Play a script of what happens on a line.
+    Play,
     /// Be a printer at this address for so many links, and write its paper.
     Emulate {
         address: SocketAddrV4,
@@ -135,6 +137,7 @@ fn task_asked(alloc: Global, name: &str, given: &ArgMatches, count: usize) -> Re
         "check" if count == 1 => Ok(Task::Check),
         "render" if count == 1 => Ok(Task::Render),
         "encode" if count == 1 => Ok(Task::Encode),
+        "play" if count == 1 => Ok(Task::Play),
         "emulate" => emulate_asked(alloc, given),
         "send" => send_asked(alloc, given),
         "loop" if count == 1 => Ok(Task::Loop),
@@ -261,6 +264,7 @@ fn matches_of<'a, S: AsStr>(alloc: Global, words: &'a [S]) -> Result<ArgMatches<
         .subcommand(Command::new(alloc, "check"))?
         .subcommand(Command::new(alloc, "render"))?
         .subcommand(Command::new(alloc, "encode"))?
+        .subcommand(Command::new(alloc, "play"))?
         .subcommand(emulate)?
         .subcommand(send)?
         .subcommand(Command::new(alloc, "loop"))?

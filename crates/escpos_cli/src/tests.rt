@@ -66,7 +66,7 @@ pub fn performs_at_length(
 
 /// Each row of a table through a job, with reads of each of these lengths.
 pub fn performs_rows(rt: &impl Abort, alloc: Global, task: Task, rows: &[Row], lengths: &[usize]) {
-    let mut room = [0; 256];
+    let mut room = [0; 512];
     for (input, output, status) in rows {
         for length in lengths {
             let mut source = MemoryIn::new(input, *length);
@@ -347,7 +347,7 @@ fn each_thing_asked_for(rt: HostRuntime) {
         (Err(NoTask::Usage), USAGE.as_bytes(), Status::Usage),
         (Err(NoTask::Memory), b"memory\n", Status::Memory),
     ];
-    let mut room = [0; 8192];
+    let mut room = [0; 16384];
     for (asked, output, status) in rows {
         let mut source = MemoryIn::new(b"41 0A", 100);
         let wanted = (output, status);

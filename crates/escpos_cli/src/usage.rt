@@ -5,6 +5,7 @@ pub const USAGE: &str = "\
 usage: escpos_cli check  < HEXADECIMAL
        escpos_cli render < HEXADECIMAL
        escpos_cli encode < RECEIPT
+       escpos_cli play < SCRIPT
        escpos_cli emulate ADDRESS [--links N]
        escpos_cli send ADDRESS --first F [--openings N] < RECEIPT
        escpos_cli loop < RECEIPT
@@ -109,6 +110,68 @@ out.
       N NAME` or `refused N NAME PLACE`: 1 Empty, 3 TextLeft, 4 MidLine (where
       PLACE is the command's), 5 NotJson, 6 BadShape, 7 ControlByte, 8 NotAscii
       (where PLACE is the entry's). Places are counted from 0.
+
+  escpos_cli play
+      Reads a script of what happens on a line between a host, as a till is, and a
+      printer. Each of its lines is an event, and gives one line:
+
+          linkup            `ok`: the host opens a link, with an opening mark
+          nudge             `ok`: it puts one more opening mark out
+          submit RECEIPT    `ok`: it puts a receipt out, in JSON as for `encode`
+          ask N             `ok`: it asks for the status N, 1 to 4
+          move K            `moved N`: up to K bytes leave the host for its link
+          deliver K         `fed C` and `all`, `full`, `offline` or `fault`, its
+                            number and name: up to K bytes of the oldest link
+                            reach the printer
+          handover          `handed on`, `handed lost` or `handed none`: the oldest
+                            answer leaves the printer
+          answer K          `heard C` and `opened`, `recorded N`, `status HH`, `bad`
+                            or `none`: up to K bytes of answers reach the host
+          leave             `ok`: the printer leaves the oldest link
+          printer-restart   `ok`: it is switched off and on
+          drop              `ok`: the host gives its link up
+          host-restart F    `ok`: it goes on with its records, F its next mark
+          condition CNP     `ok`: cover open, paper near its end, paper ended; a
+                            digit 0 or 1 each
+
+      What can't happen gives `refused NUMBER NAME`, and what is no receipt `receipt`
+      and the line of `encode`; then the script goes on. A line that is none of
+      these gives `line N unreadable` and ends it. At the end come `paper`, the
+      paper as `render` writes it, and `records N`, the receipts that the host has
+      recorded as printed. The first mark has the number 0.
+
+      Here the answer to a receipt's mark is on its way when the link breaks. The
+      host can't know that the receipt is printed, so it is sent again; it stands on
+      the paper twice, and is recorded once, when the second mark is answered.
+
+          linkup                      ok
+          move 11                     moved 11
+          deliver 11                  fed 11 all
+          handover                    handed on
+          answer 7                    heard 7 opened
+          submit [{\"line\":\"Hi\"}]      ok
+          move 16                     moved 16
+          deliver 16                  fed 16 all
+          drop                        ok
+          linkup                      ok
+          leave                       ok
+          handover                    handed on
+          answer 7                    heard 7 none
+          move 11                     moved 11
+          deliver 11                  fed 11 all
+          handover                    handed on
+          answer 7                    heard 7 opened
+          submit [{\"line\":\"Hi\"}]      ok
+          move 16                     moved 16
+          deliver 16                  fed 16 all
+          handover                    handed on
+          answer 7                    heard 7 recorded 0
+                                      paper
+                                      row left Hi
+                                      feed 1
+                                      row left Hi
+                                      feed 1
+                                      records 1
 
   escpos_cli emulate ADDRESS [--links N]
       Is a printer that listens at ADDRESS, an IPv4 address and a port as in

@@ -22,16 +22,18 @@ returns g c =
     let send_is = c.in_ok-send.ensures.shape in
     let emulate_local = is_local c.in_ok-emulate.emulate emulate_words emulate_is refl in
     let send_local = is_local c.in_ok-send.send send_words send_is refl in
-    let loop_is = ap top c.new-5.ensures.app in
-    let help_is = ap top c.new-6.ensures.app in
+    let play_is = ap top c.new-5.ensures.app in
+    let loop_is = ap top c.new-6.ensures.app in
+    let help_is = ap top c.new-7.ensures.app in
     let app_is : app_of c.in_ok-command.command ≡ command_words =
-    c.in_ok-command.ensures.shape c.new-6.ensures.local
-    ∙ ap₂ with_subcommand (c.in_ok-subcommand-6.ensures.shape c.new-5.ensures.local
-    ∙ ap₂ with_subcommand (c.in_ok-subcommand-5.ensures.shape send_local
-    ∙ ap₂ with_subcommand (c.in_ok-subcommand-4.ensures.shape emulate_local
+    c.in_ok-command.ensures.shape c.new-7.ensures.local
+    ∙ ap₂ with_subcommand (c.in_ok-subcommand-7.ensures.shape c.new-6.ensures.local
+    ∙ ap₂ with_subcommand (c.in_ok-subcommand-6.ensures.shape send_local
+    ∙ ap₂ with_subcommand (c.in_ok-subcommand-5.ensures.shape emulate_local
+    ∙ ap₂ with_subcommand (c.in_ok-subcommand-4.ensures.shape c.new-5.ensures.local
     ∙ ap₂ with_subcommand (c.in_ok-subcommand-3.ensures.shape c.new-4.ensures.local
     ∙ ap₂ with_subcommand (c.in_ok-subcommand-2.ensures.shape c.new-3.ensures.local
-    ∙ ap₂ with_subcommand (c.in_ok-subcommand.ensures.shape c.new-2.ensures.local ∙ ap₂ with_subcommand top_is check_is) render_is) encode_is) emulate_is) send_is) loop_is) help_is in
+    ∙ ap₂ with_subcommand (c.in_ok-subcommand.ensures.shape c.new-2.ensures.local ∙ ap₂ with_subcommand top_is check_is) render_is) encode_is) play_is) emulate_is) send_is) loop_is) help_is in
     let texts = map g.S.AsStr.text c.args.words.now in
     let parse = c.try_get_matches_from in
     let fails = fails_by (app_of c.in_ok-command.command) texts parse.result app_is parse.ensures.kinds in

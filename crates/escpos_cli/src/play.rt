@@ -1,0 +1,159 @@
+//! The word `play`: a script of events on a line between a host and a printer, and what comes of each.
+//!
+//! What an event does is `Sim::step`'s; here the lines of the script are read one after another, and each is told of before
+//! the next happens.
+
+ghost use Rattle.std.specs.Prelude.{◌≡◌, ◌≢◌, ◌⊎◌, ◌+◌, ◌≤◌, length, Err, IsTrue, OnErr, OnOk};
+ghost use Rattle.escpos_cli.specs.Outcome.{IsFair};
+
+use crate::emulate::ONLINE;
+use crate::input::{INPUT_LIMIT, InputFault};
+use crate::outcome::{MEMORY, refuse, say};
+use crate::refusal::append_refusal;
+use crate::script::{NoEvent, event_of, first_line};
+use crate::status::Status;
+use crate::told::{TOLD_BYTES, append_note, append_records, append_refused, append_unreadable};
+use escpos_io::{ByteIn, ByteOut, Device, GATHERED_BYTES, Gather, put_all, read_to_end};
+use escpos_link::{Refusal, Sim};
+use escpos_paper::write_items;
+use std::alloc::Global;
+
+/// Plays the script that `input` has: each line of it happens to a line between a printer that is online and a host whose first
+/// mark is mark 0, and puts one line on `output`. At the end come `paper`, the paper as `render` writes it, and `records N`.
+///
+/// An event that is refused says so, as does a receipt that is none, and the script goes on. A line that is none of a script ends
+/// it: the status is then `Refused`, and the paper follows all the same. Input that is too long is refused before anything
+/// happens, with `Refused`. For want of memory the line `memory` follows what was put by then, with `Memory`. `Device` comes only
+/// where `input` or `output` has failed, and no other status hides that one of them has failed in this call.
+pub fn play<R: ByteIn, W: ByteOut>(alloc: Global, input: &mut R, output: &mut W) -> Status
+    ensures fair { IsFair result (R.failed input.new) (W.failed output.old, W.failed output.new)
+        (R.pull_count input.old, R.pull_count input.new) }
+    ensures nothing_put { IsTrue (R.failed input.new) → output.new ≡ output.old }
+{
+    match read_to_end(alloc, input, INPUT_LIMIT) {
+        Ok(script) => play_script(alloc, &script, output),
+        Err(error) => refuse(InputFault::from(error), output),
+    }
+}
+
+// How a script ends before its end.
+#[derive(Clone, Copy, Debug, PartialEq, Eq)]
+enum ScriptEnd {
+    // A line isn't one of a script.
+    Unreadable,
+    // There is no memory.
+    Memory,
+    // The sink has failed.
+    Device,
+}
+
+impl From<Device> for ScriptEnd {
+    ghost use Rattle.escpos_cli.specs.declared.play.ScriptEnd.{ScriptEnd};
+
+    ghost from_gives = { λ _ end. end ≡ ScriptEnd.Device };
+
+    fn from(_device: Device) -> Self {
+        ScriptEnd::Device
+    }
+}
+
+// Plays a script from its first line to its last, and puts what comes of it.
+fn play_script<W: ByteOut>(alloc: Global, script: &[u8], output: &mut W) -> Status
+    ensures device { result ≡ Status.Device → IsTrue (W.failed output.new) }
+    ensures not_hidden { result ≢ Status.Device → ¬ IsTrue (W.failed output.old) → ¬ IsTrue (W.failed output.new) }
+    ensures never_usage { result ≢ Status.Usage }
+{
+    let Ok(mut sim) = Sim::new(alloc, ONLINE, 0) else {
+        return say(MEMORY, output, Status::Memory);
+    };
+    match play_lines(alloc, script, &mut sim, output) {
+        Ok(()) => close(&sim, output, Status::Good),
+        Err(ScriptEnd::Unreadable) => close(&sim, output, Status::Refused),
+        Err(ScriptEnd::Memory) => say(MEMORY, output, Status::Memory),
+        Err(ScriptEnd::Device) => Status::Device,
+    }
+}
+
+// Lets each line of a script happen, up to the end or to one that ends the script.
+fn play_lines<W: ByteOut>(
+    alloc: Global,
+    script: &[u8],
+    sim: &mut Sim,
+    output: &mut W,
+) -> Result<(), ScriptEnd>
+    ensures device { result ≡ Err ScriptEnd.Device → IsTrue (W.failed output.new) }
+    ensures not_hidden { result ≢ Err ScriptEnd.Device → ¬ IsTrue (W.failed output.old) → ¬ IsTrue (W.failed output.new) }
+{
+    let mut gather = Gather::new();
+    let mut rest = script;
+    let mut number: usize = 0;
+    let mut end = Ok(());
+    while !rest.is_empty() && end.is_ok() {
+        let (line, later) = first_line(rest);
+        rest = later;
+        number = number.saturating_add(1);
+        gather.room(TOLD_BYTES, output)?;
+        end = play_line(alloc, line, number, sim, &mut gather);
+    }
+    gather.flush(output)?;
+    end
+}
+
+// Lets one line of a script happen, and appends what comes of it.
+fn play_line(
+    alloc: Global,
+    line: &[u8],
+    number: usize,
+    sim: &mut Sim,
+    gather: &mut Gather,
+) -> Result<(), ScriptEnd>
+    requires { length gather.old.kept + TOLD_BYTES ≤ GATHERED_BYTES }
+    ensures no_device { result ≢ Err ScriptEnd.Device }
+{
+    match event_of(alloc, line) {
+        Ok(event) => match sim.step(event) {
+            Ok(note) => append_note(gather, note),
+            Err(refused) => {
+                if refused.why == Refusal::Memory {
+                    return Err(ScriptEnd::Memory);
+                }
+                append_refused(gather, refused.why);
+            }
+        },
+        Err(NoEvent::NoReceipt(fault)) => {
+            gather.extend(b"receipt ");
+            append_refusal(gather, fault);
+        }
+        Err(NoEvent::Unreadable) => {
+            append_unreadable(gather, number);
+            return Err(ScriptEnd::Unreadable);
+        }
+        Err(NoEvent::Memory) => return Err(ScriptEnd::Memory),
+    }
+    Ok(())
+}
+
+// Puts the closing part of a script's output.
+fn close<W: ByteOut>(sim: &Sim, output: &mut W, status: Status) -> Status
+    requires { (status ≡ Status.Good) ⊎ (status ≡ Status.Refused) }
+    ensures device { result ≡ Status.Device → IsTrue (W.failed output.new) }
+    ensures not_hidden { result ≢ Status.Device → ¬ IsTrue (W.failed output.old) → ¬ IsTrue (W.failed output.new) }
+    ensures never_usage { result ≢ Status.Usage }
+{
+    match put_closing(sim, output) {
+        Ok(()) => status,
+        Err(_) => Status::Device,
+    }
+}
+
+// The paper, and how many receipts are recorded.
+fn put_closing<W: ByteOut>(sim: &Sim, output: &mut W) -> Result<(), Device>
+    ensures failed { OnErr result (IsTrue (W.failed output.new)) }
+    ensures not_failed { OnOk result (¬ IsTrue (W.failed output.old) → ¬ IsTrue (W.failed output.new)) }
+{
+    put_all(b"paper\n", output)?;
+    write_items(sim.paper(), output)?;
+    let mut gather = Gather::new();
+    append_records(&mut gather, sim.records().len());
+    gather.flush(output)
+}

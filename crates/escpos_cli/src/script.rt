@@ -1,0 +1,131 @@
+//! Play scripts: a text whose lines say, in words, what happens on a line between a host and a printer, one event each.
+
+ghost use Rattle.std.specs.Prelude.{◌≡◌, ◌≢◌, ◌<◌, ◌≤◌, [], length, IfSome};
+
+use crate::lines::SPACE;
+use escpos_command::{LF, StatusKind};
+use escpos_host::{JsonError, JsonFault, Receipt};
+use escpos_link::Event;
+use escpos_printer::Condition;
+use std::alloc::Global;
+
+/// Why a line of a script says no event.
+#[derive(Clone, Copy, Debug, PartialEq, Eq)]
+pub enum NoEvent {
+    /// It isn't a line of a script.
+    Unreadable,
+    /// What is to be printed is no receipt.
+    NoReceipt(JsonFault),
+    /// There is no memory to read it.
+    Memory,
+}
+
+impl From<JsonError> for NoEvent {
+    fn from(error: JsonError) -> Self {
+        match error {
+            JsonError::Refused(fault) => NoEvent::NoReceipt(fault),
+            JsonError::Memory => NoEvent::Memory,
+        }
+    }
+}
+
+/// The first line of a text that isn't empty, without its end, and what follows it.
+pub fn first_line(text: &[u8]) -> (&[u8], &[u8])
+    requires { text.now ≢ [] }
+    ensures shorter { length result.1.now < length text.now }
+{
+    match text.iter().position(|byte| *byte == LF) {
+        Some(at) => (&text[..at], &text[at + 1..]),
+        None => (text, &[]),
+    }
+}
+
+/// The event that a line of a script says.
+pub fn event_of(alloc: Global, line: &[u8]) -> Result<Event, NoEvent> {
+    let (word, value) = word_and_value(line);
+    match value {
+        None => plain_event(word).ok_or(NoEvent::Unreadable),
+        Some(json) if word == b"submit".as_slice() => Ok(Event::Submit(Receipt::from_json(
+            alloc, json,
+        )?)),
+        Some(value) => event_with(word, value).ok_or(NoEvent::Unreadable),
+    }
+}
+
+// The word of a line, and what follows the first space, where there is one.
+fn word_and_value(line: &[u8]) -> (&[u8], Option<&[u8]>) {
+    match line.iter().position(|byte| *byte == SPACE) {
+        Some(at) => (&line[..at], Some(&line[at + 1..])),
+        None => (line, None),
+    }
+}
+
+// The event of a word that stands alone.
+fn plain_event(word: &[u8]) -> Option<Event> {
+    match word {
+        b"linkup" => Some(Event::LinkUp),
+        b"nudge" => Some(Event::Nudge),
+        b"handover" => Some(Event::HandOver),
+        b"leave" => Some(Event::PrinterLeaves),
+        b"printer-restart" => Some(Event::PrinterRestart),
+        b"drop" => Some(Event::HostDrops),
+        _ => None,
+    }
+}
+
+// The event of a word with a value.
+fn event_with(word: &[u8], value: &[u8]) -> Option<Event> {
+    match word {
+        b"ask" => Some(Event::Ask(kind_of(value)?)),
+        b"move" => Some(Event::Move(number_of(value)? as usize)),
+        b"deliver" => Some(Event::Deliver(number_of(value)? as usize)),
+        b"answer" => Some(Event::Answer(number_of(value)? as usize)),
+        b"host-restart" => Some(Event::HostRestart(number_of(value)?)),
+        b"condition" => Some(Event::SetCondition(condition_of(value)?)),
+        _ => None,
+    }
+}
+
+// A number in decimal, up to the greatest u32.
+fn number_of(text: &[u8]) -> Option<u32> {
+    if text.is_empty() {
+        return None;
+    }
+    let mut number: u32 = 0;
+    for byte in text {
+        if !byte.is_ascii_digit() {
+            return None;
+        }
+        number = number
+            .checked_mul(10)?
+            .checked_add(u32::from(*byte - b'0'))?;
+    }
+    Some(number)
+}
+
+// The kind of a status request.
+fn kind_of(text: &[u8]) -> Option<StatusKind> {
+    let number = u8::try_from(number_of(text)?).ok()?;
+    StatusKind::new(number)
+}
+
+// What the sensors say: cover open, near end and paper end, a digit 0 or 1 each.
+fn condition_of(text: &[u8]) -> Option<Condition> {
+    let [cover_open, near_end, paper_end] = text else {
+        return None;
+    };
+    Some(Condition {
+        cover_open: flag_of(*cover_open)?,
+        near_end: flag_of(*near_end)?,
+        paper_end: flag_of(*paper_end)?,
+    })
+}
+
+// A digit 0 or 1.
+fn flag_of(digit: u8) -> Option<bool> {
+    match digit {
+        b'0' => Some(false),
+        b'1' => Some(true),
+        _ => None,
+    }
+}
