@@ -363,7 +363,7 @@ fn send_twice(rt: HostRuntime) {
 }
 
 // The receipt S. Where its memory is refused, it is read again.
-fn receipt_at_last(rt: &impl Abort, alloc: Global) -> Receipt {
+pub(crate) fn receipt_at_last(rt: &impl Abort, alloc: Global) -> Receipt {
     let (text, _) = S;
     match Receipt::from_json(alloc, text) {
         Ok(receipt) => receipt,

@@ -1,7 +1,8 @@
 //! The worked rows of a line through its calls: that they succeed where there is memory, and what they answer.
 use crate::emulate::ONLINE;
-use crate::host_tests::{S, have_lines, receipt_of};
-use escpos_host::{HostEvent, HostState};
+use crate::host_tests::{S, have_lines, kind, receipt_of};
+use crate::send_tests::receipt_at_last;
+use escpos_host::{HostEvent, HostState, Receipt};
 use escpos_link::{Event, Note, Refusal, Sim};
 use escpos_printer::{Fed, FeedStop};
 use std::alloc::Global;
@@ -90,4 +91,175 @@ fn run_stops_at_a_refusal(rt: HostRuntime) {
         stop: FeedStop::All,
     });
     tells(&rt, &mut sim, Event::Deliver(1), fed);
+}
+
+fn sim_at_last(rt: &impl Abort, alloc: Global) -> Sim {
+    match Sim::new(alloc, ONLINE, 0) {
+        Ok(sim) => sim,
+        Err(_) => Sim::new(alloc, ONLINE, 0).expect(rt, "a line"),
+    }
+}
+
+// An event without a receipt, of as many bytes as there are.
+#[derive(Clone, Copy, Debug)]
+enum Plain {
+    LinkUp,
+    Nudge,
+    Ask,
+    Move,
+    Deliver,
+    HandOver,
+    Answer,
+}
+
+fn event_of(rt: &impl Abort, plain: Plain) -> Event {
+    match plain {
+        Plain::LinkUp => Event::LinkUp,
+        Plain::Nudge => Event::Nudge,
+        Plain::Ask => Event::Ask(kind(rt, 1)),
+        Plain::Move => Event::Move(usize::MAX),
+        Plain::Deliver => Event::Deliver(usize::MAX),
+        Plain::HandOver => Event::HandOver,
+        Plain::Answer => Event::Answer(usize::MAX),
+    }
+}
+
+// What is seen of both ends: the host's state, next mark and records, whether it has bytes to take out; the printer's items,
+// bytes of a half command, and answers.
+type Seen = (HostState, u32, usize, bool, usize, usize, usize);
+
+fn seen(sim: &Sim) -> Seen {
+    let (host, printer) = (sim.host(), sim.printer());
+    let (items, half) = (sim.paper().len(), printer.pending_len());
+    (
+        host.state(),
+        host.next_mark(),
+        sim.records().len(),
+        host.has_out(),
+        items,
+        half,
+        printer.waiting(),
+    )
+}
+
+// An event happens. Where memory is refused, both ends are as they were, or some bytes have gone; and then it happens.
+fn happens(rt: &impl Abort, sim: &mut Sim, plain: Plain, refusals: &mut u32) {
+    let before = seen(sim);
+    if let Err(refused) = sim.step(event_of(rt, plain)) {
+        assert!(rt; refused.why == Refusal::Memory, "{plain:?}");
+        assert!(rt; refused.receipt.is_none());
+        if !matches!(plain, Plain::Move | Plain::Deliver) {
+            assert!(rt; seen(sim) == before, "{plain:?}");
+        }
+        assert!(rt; sim.step(event_of(rt, plain)).is_ok(), "{plain:?}");
+        *refusals = refusals.saturating_add(1);
+    }
+}
+
+// The same of a receipt, which is handed back where memory is refused.
+fn submits(rt: &impl Abort, sim: &mut Sim, receipt: Receipt, refusals: &mut u32) {
+    let before = seen(sim);
+    if let Err(refused) = sim.step(Event::Submit(receipt)) {
+        assert!(rt; refused.why == Refusal::Memory);
+        assert!(rt; seen(sim) == before);
+        let receipt = refused.receipt.expect(rt, "the receipt");
+        assert!(rt; sim.step(Event::Submit(receipt)).is_ok());
+        *refusals = refusals.saturating_add(1);
+    }
+}
+
+// All that the host has put out reaches the printer, and so many answers the host.
+fn exchange(rt: &impl Abort, sim: &mut Sim, answers: usize, refusals: &mut u32) {
+    happens(rt, sim, Plain::Move, refusals);
+    happens(rt, sim, Plain::Deliver, refusals);
+    for _ in 0..answers {
+        happens(rt, sim, Plain::HandOver, refusals);
+    }
+    happens(rt, sim, Plain::Answer, refusals);
+}
+
+// Five opening marks, five status requests and S, event by event: S is recorded, and on the paper once.
+fn steps(rt: &impl Abort, sim: &mut Sim, receipt: Receipt, refusals: &mut u32) {
+    happens(rt, sim, Plain::LinkUp, refusals);
+    for _ in 0..4 {
+        happens(rt, sim, Plain::Nudge, refusals);
+    }
+    exchange(rt, sim, 5, refusals);
+    for _ in 0..5 {
+        happens(rt, sim, Plain::Ask, refusals);
+    }
+    submits(rt, sim, receipt, refusals);
+    exchange(rt, sim, 6, refusals);
+    assert!(rt; seen(sim) == (HostState::Ready, 6, 1, false, 2, 0, 0));
+}
+
+// The events of a link on which an opening mark is answered, after the first ones.
+fn events_at_last(rt: &impl Abort, alloc: Global, done: usize) -> Vec<Event> {
+    let plains = [
+        Plain::LinkUp,
+        Plain::Nudge,
+        Plain::Move,
+        Plain::Deliver,
+        Plain::HandOver,
+        Plain::Answer,
+    ];
+    let mut events = match Vec::with_capacity(alloc, 6) {
+        Ok(events) => events,
+        Err(_) => Vec::with_capacity(alloc, 6).expect(rt, "events"),
+    };
+    for plain in plains.iter().skip(done) {
+        let _ = events.push(event_of(rt, *plain));
+    }
+    events
+}
+
+// Events run up to one that is refused for want of memory, and then on from there.
+fn runs(rt: &impl Abort, sim: &mut Sim, events: Vec<Event>, alloc: Global, refusals: &mut u32) {
+    if let Err(stop) = sim.run(events) {
+        assert!(rt; stop.refused.why == Refusal::Memory);
+        assert!(rt; stop.refused.receipt.is_none());
+        assert!(rt; sim.run(events_at_last(rt, alloc, stop.done)).is_ok());
+        *refusals = refusals.saturating_add(1);
+    }
+    assert!(rt; seen(sim) == (HostState::Ready, 2, 0, false, 0, 0, 1));
+}
+
+// A receipt goes straight over a new line. Where memory is refused, nothing is recorded; then both ends leave the link, and the
+// receipt, or another one where it was submitted, goes over a new link.
+fn goes_at_last(
+    rt: &impl Abort,
+    sim: &mut Sim,
+    receipt: Receipt,
+    spare: Receipt,
+    refusals: &mut u32,
+) {
+    assert!(rt; sim.undisturbed());
+    if let Err(stop) = sim.straight(receipt) {
+        assert!(rt; sim.records().is_empty());
+        assert!(rt; sim.step(Event::HostDrops).is_ok());
+        assert!(rt; sim.step(Event::PrinterRestart).is_ok());
+        assert!(rt; sim.undisturbed());
+        assert!(rt; sim.straight(stop.receipt.unwrap_or(spare)).is_ok());
+        *refusals = refusals.saturating_add(1);
+    }
+    assert_eq!(rt; sim.records().len(), 1);
+    assert!(rt; sim.undisturbed());
+}
+
+// Here each growth succeeds: `rt try --test --fail-alloc N -- line_growths_refused` refuses the Nth.
+#[test]
+fn line_growths_refused(rt: HostRuntime) {
+    let mut refusals = 0;
+    let receipt = receipt_at_last(&rt, rt.alloc());
+    let mut sim = sim_at_last(&rt, rt.alloc());
+    steps(&rt, &mut sim, receipt, &mut refusals);
+    let mut sim = sim_at_last(&rt, rt.alloc());
+    let events = events_at_last(&rt, rt.alloc(), 0);
+    runs(&rt, &mut sim, events, rt.alloc(), &mut refusals);
+    let receipt = receipt_at_last(&rt, rt.alloc());
+    let spare = receipt_at_last(&rt, rt.alloc());
+    let mut sim = sim_at_last(&rt, rt.alloc());
+    goes_at_last(&rt, &mut sim, receipt, spare, &mut refusals);
+    assert!(&rt; refusals <= 1, "{refusals} events were refused");
+    let _ = println!(&rt; "refused events: {refusals}");
 }
