@@ -1,4 +1,5 @@
 //! Scripts through `play`: the worked rows of a line, each line of a script with what it prints, and lines that are none.
+use crate::receipt_edge_tests::joined;
 use crate::status::Status;
 use crate::task::Task;
 use crate::tests::{Row, performs_rows};
@@ -48,7 +49,7 @@ const FIRST_OF_TWO: Row = (
     Status::Good,
 );
 
-const ROWS: [Row; 12] = [
+const ROWS: [Row; 20] = [
     // host_restart
     (
         b"linkup\nmove 11\ndeliver 11\nhandover\nanswer 7\nhost-restart 0\nhost-restart 1\nhandover",
@@ -117,6 +118,54 @@ const ROWS: [Row; 12] = [
         b"ok\nok\nok\nok\nok\nok\nok\nok\nok\nok\nok\nok\nok\nok\nok\nok\nok\nmoved 187\nfed 186 full\npaper\nrecords 0\n",
         Status::Good,
     ),
+    // an answer whose bytes come apart
+    (
+        b"linkup\nmove 11\ndeliver 11\nhandover\nanswer 3\nanswer 3\nanswer 0\nanswer 9\n",
+        b"ok\nmoved 11\nfed 11 all\nhanded on\nheard 3 none\nheard 3 none\nheard 0 none\nheard 1 opened\npaper\nrecords 0\n",
+        Status::Good,
+    ),
+    // four receipts are in flight
+    (
+        b"linkup\nmove 11\ndeliver 11\nhandover\nanswer 7\nsubmit [{\"line\":\"A\"}]\nsubmit [{\"line\":\"A\"}]\nsubmit [{\"line\":\"A\"}]\nsubmit [{\"line\":\"A\"}]\nsubmit [{\"line\":\"A\"}]\n",
+        b"ok\nmoved 11\nfed 11 all\nhanded on\nheard 7 opened\nok\nok\nok\nok\nrefused 6 InFlightFull\npaper\nrecords 0\n",
+        Status::Good,
+    ),
+    // the cover is open
+    (
+        b"linkup\nmove 11\ndeliver 11\nhandover\nanswer 7\nask 1\nask 2\nask 3\nask 4\nmove 12\ncondition 100\ndeliver 12\nhandover\nanswer 1\nhandover\nanswer 1\nhandover\nanswer 1\nhandover\nanswer 1\n",
+        b"ok\nmoved 11\nfed 11 all\nhanded on\nheard 7 opened\nok\nok\nok\nok\nmoved 12\nok\nfed 12 all\nhanded on\nheard 1 status 1a\nhanded on\nheard 1 status 16\nhanded on\nheard 1 status 12\nhanded on\nheard 1 status 12\npaper\nrecords 0\n",
+        Status::Good,
+    ),
+    // the paper has ended
+    (
+        b"linkup\nmove 11\ndeliver 11\nhandover\nanswer 7\nask 1\nask 2\nask 3\nask 4\nmove 12\ncondition 001\ndeliver 12\nhandover\nanswer 1\nhandover\nanswer 1\nhandover\nanswer 1\nhandover\nanswer 1\n",
+        b"ok\nmoved 11\nfed 11 all\nhanded on\nheard 7 opened\nok\nok\nok\nok\nmoved 12\nok\nfed 12 all\nhanded on\nheard 1 status 1a\nhanded on\nheard 1 status 32\nhanded on\nheard 1 status 12\nhanded on\nheard 1 status 72\npaper\nrecords 0\n",
+        Status::Good,
+    ),
+    // the paper is near its end
+    (
+        b"linkup\nmove 11\ndeliver 11\nhandover\nanswer 7\nask 1\nask 2\nask 3\nask 4\nmove 12\ncondition 010\ndeliver 12\nhandover\nanswer 1\nhandover\nanswer 1\nhandover\nanswer 1\nhandover\nanswer 1\n",
+        b"ok\nmoved 11\nfed 11 all\nhanded on\nheard 7 opened\nok\nok\nok\nok\nmoved 12\nok\nfed 12 all\nhanded on\nheard 1 status 12\nhanded on\nheard 1 status 12\nhanded on\nheard 1 status 12\nhanded on\nheard 1 status 1e\npaper\nrecords 0\n",
+        Status::Good,
+    ),
+    // sixteen answers go over
+    (
+        b"linkup\nnudge\nnudge\nnudge\nnudge\nnudge\nnudge\nnudge\nnudge\nnudge\nnudge\nnudge\nnudge\nnudge\nnudge\nnudge\nmove 176\ndeliver 176\nhandover\nhandover\nhandover\nhandover\nhandover\nhandover\nhandover\nhandover\nhandover\nhandover\nhandover\nhandover\nhandover\nhandover\nhandover\nhandover\nanswer 112\n",
+        b"ok\nok\nok\nok\nok\nok\nok\nok\nok\nok\nok\nok\nok\nok\nok\nok\nmoved 176\nfed 176 all\nhanded on\nhanded on\nhanded on\nhanded on\nhanded on\nhanded on\nhanded on\nhanded on\nhanded on\nhanded on\nhanded on\nhanded on\nhanded on\nhanded on\nhanded on\nhanded on\nheard 112 opened\npaper\nrecords 0\n",
+        Status::Good,
+    ),
+    // ten links are given up
+    (
+        b"linkup\ndrop\nlinkup\ndrop\nlinkup\ndrop\nlinkup\ndrop\nlinkup\ndrop\nlinkup\ndrop\nlinkup\ndrop\nlinkup\ndrop\nlinkup\ndrop\nlinkup\ndrop\nlinkup\nmove 11\ndeliver 11\n",
+        b"ok\nok\nok\nok\nok\nok\nok\nok\nok\nok\nok\nok\nok\nok\nok\nok\nok\nok\nok\nok\nok\nmoved 11\nfed 0 all\npaper\nrecords 0\n",
+        Status::Good,
+    ),
+    // twelve receipts that print nothing
+    (
+        b"linkup\nmove 11\ndeliver 11\nhandover\nanswer 7\nsubmit [{\"pulse\":{\"pin\":0,\"on\":1,\"off\":1}}]\nsubmit [{\"pulse\":{\"pin\":0,\"on\":1,\"off\":1}}]\nsubmit [{\"pulse\":{\"pin\":0,\"on\":1,\"off\":1}}]\nsubmit [{\"pulse\":{\"pin\":0,\"on\":1,\"off\":1}}]\nmove 99\ndeliver 99\nhandover\nhandover\nhandover\nhandover\nanswer 99\nsubmit [{\"pulse\":{\"pin\":0,\"on\":1,\"off\":1}}]\nsubmit [{\"pulse\":{\"pin\":0,\"on\":1,\"off\":1}}]\nsubmit [{\"pulse\":{\"pin\":0,\"on\":1,\"off\":1}}]\nsubmit [{\"pulse\":{\"pin\":0,\"on\":1,\"off\":1}}]\nmove 99\ndeliver 99\nhandover\nhandover\nhandover\nhandover\nanswer 99\nsubmit [{\"pulse\":{\"pin\":0,\"on\":1,\"off\":1}}]\nsubmit [{\"pulse\":{\"pin\":0,\"on\":1,\"off\":1}}]\nsubmit [{\"pulse\":{\"pin\":0,\"on\":1,\"off\":1}}]\nsubmit [{\"pulse\":{\"pin\":0,\"on\":1,\"off\":1}}]\nmove 99\ndeliver 99\nhandover\nhandover\nhandover\nhandover\nanswer 99\n",
+        b"ok\nmoved 11\nfed 11 all\nhanded on\nheard 7 opened\nok\nok\nok\nok\nmoved 72\nfed 72 all\nhanded on\nhanded on\nhanded on\nhanded on\nheard 28 recorded 3\nok\nok\nok\nok\nmoved 72\nfed 72 all\nhanded on\nhanded on\nhanded on\nhanded on\nheard 28 recorded 7\nok\nok\nok\nok\nmoved 72\nfed 72 all\nhanded on\nhanded on\nhanded on\nhanded on\nheard 28 recorded 11\npaper\nrecords 12\n",
+        Status::Good,
+    ),
 ];
 
 #[test]
@@ -150,7 +199,7 @@ fn scripts(rt: HostRuntime) {
 }
 
 // Lines that are none of a script.
-const UNREADABLE: [&[u8]; 22] = [
+const UNREADABLE: [&[u8]; 24] = [
     b"\n",
     b"linkup \n",
     b" linkup\n",
@@ -166,6 +215,8 @@ const UNREADABLE: [&[u8]; 22] = [
     b"move  1\n",
     b"move 1 2\n",
     b"move 4294967296\n",
+    b"move 1\r\n",
+    b"leave\t\n",
     b"ask 0\n",
     b"ask 5\n",
     b"ask 257\n",
@@ -187,4 +238,37 @@ fn unreadable_lines(rt: HostRuntime) {
             &[512],
         );
     }
+}
+
+#[test]
+fn far_into_a_script(rt: HostRuntime) {
+    let script = joined(&rt, rt.alloc(), ["", "leave\n", "leave \n"], 120);
+    let told = joined(
+        &rt,
+        rt.alloc(),
+        ["", "ok\n", "line 121 unreadable\npaper\nrecords 0\n"],
+        120,
+    );
+    let row: Row = (&script, &told, Status::Refused);
+    performs_rows(&rt, rt.alloc(), Task::Play, &[row], &[512]);
+}
+
+// A line of more than a mebibyte: JSON takes blanks anywhere.
+#[test]
+fn long_line(rt: HostRuntime) {
+    let blanks = "                                                                ";
+    let script = joined(
+        &rt,
+        rt.alloc(),
+        ["submit [", blanks, "{\"line\":\"A\"}]\n"],
+        20_000,
+    );
+    let told: &[u8] = b"refused 1 NotReady\npaper\nrecords 0\n";
+    performs_rows(
+        &rt,
+        rt.alloc(),
+        Task::Play,
+        &[(&script, told, Status::Good)],
+        &[65_536],
+    );
 }

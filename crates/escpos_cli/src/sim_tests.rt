@@ -1,9 +1,10 @@
 //! The worked rows of a line through its calls: that they succeed where there is memory, and what they answer.
 use crate::emulate::ONLINE;
 use crate::host_tests::{S, have_lines, kind, receipt_of};
+use crate::receipt_edge_tests::joined;
 use crate::send_tests::receipt_at_last;
 use escpos_host::{HostEvent, HostState, Receipt};
-use escpos_link::{Event, Note, Refusal, Sim};
+use escpos_link::{Event, Handed, Note, Refusal, Sim};
 use escpos_printer::{Fed, FeedStop};
 use std::alloc::Global;
 use std::process::Abort;
@@ -91,6 +92,32 @@ fn run_stops_at_a_refusal(rt: HostRuntime) {
         stop: FeedStop::All,
     });
     tells(&rt, &mut sim, Event::Deliver(1), fed);
+}
+
+// A line of 210,000 characters goes straight over in one piece, and is 5,000 rows of 42.
+#[test]
+fn long_receipt(rt: HostRuntime) {
+    let text = joined(&rt, rt.alloc(), ["[{\"line\":\"", "A", "\"}]"], 210_000);
+    let receipt = receipt_of(&rt, rt.alloc(), &text);
+    let mut sim = Sim::new(rt.alloc(), ONLINE, 0).expect(&rt, "a line");
+    assert!(&rt; sim.straight(receipt).is_ok());
+    assert_eq!(&rt; sim.records().len(), 1);
+    assert_eq!(&rt; sim.paper().len(), 10_000);
+    assert!(&rt; sim.undisturbed());
+}
+
+// Two values are equal only where they are the same, and a copy is the same.
+#[test]
+fn values_of_a_line(rt: HostRuntime) {
+    let refusal = Refusal::MarkReused { least: 1 };
+    assert!(&rt; refusal != Refusal::MarkReused { least: 2 });
+    assert!(&rt; refusal != Refusal::Memory);
+    let handed = Note::Handed(Handed::On);
+    let copied = handed;
+    assert!(&rt; copied == handed);
+    assert!(&rt; copied != Note::Handed(Handed::Lost));
+    assert!(&rt; copied != Note::Done);
+    assert!(&rt; Note::Moved(1) != Note::Moved(2));
 }
 
 fn sim_at_last(rt: &impl Abort, alloc: Global) -> Sim {

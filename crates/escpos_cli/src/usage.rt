@@ -138,7 +138,7 @@ out.
       and the line of `encode`; then the script goes on. A line that is none of
       these gives `line N unreadable` and ends it. At the end come `paper`, the
       paper as `render` writes it, and `records N`, the receipts that the host has
-      recorded as printed. The first mark has the number 0.
+      recorded as printed. The printer is online at first, and the first mark is 0.
 
       Here the answer to a receipt's mark is on its way when the link breaks. The
       host can't know that the receipt is printed, so it is sent again; it stands on

@@ -46,8 +46,8 @@ left_count h now live on n first = ap (λ (v : HostView). length v.out) first.0 
 pub none_left : (h now : HostView) (live on : Option (List ℕ)) (n most : ℕ) → HasMoved h live n now on → n ≤ most → n ≤ length h.out → now.out ≡ [] → n ≡ min most (length h.out)
 none_left h now live on n most first few within none = omega (arith, left_count h now live on n first, ap length none, few, within)
 
-pub fewer_moved : (l after : LineView) (most fewer : ℕ) → fewer < most → fewer ≤ length l.host.out → after ≡ moved l fewer → Leaves (happening.Move most) l after
-fewer_moved l after most fewer less within same = (fewer, note.Moved fewer, less, (fewer, refl, omega (arith, within), same))
+pub fewer_moved : (l after : LineView) (most fewer : ℕ) → fewer < most → fewer < length l.host.out → after ≡ moved l fewer → Leaves (happening.Move most) l after
+fewer_moved l after most fewer less within same = (fewer, note.Moved fewer, less, within, (fewer, refl, omega (arith, within), same))
 
 -- ## Into the printer
 
@@ -144,7 +144,13 @@ pub fewer_fed : (l after : LineView) (printer : PrinterView) (most k : ℕ) (why
 fewer_fed l after printer most k why memory feeds same =
     let short = cut_short l.printer printer (first_of l.ended l.live) most k why memory feeds in
     let fed : Fed = record { consumed = k; stop = stop.All } in
-    (k, note.Fed fed, short.0, (fed, printer, refl, short.1, (λ e. cc e), same))
+    (
+      k,
+      note.Fed fed,
+      short.0,
+      (fed, printer, refl, short.1, (λ e. cc e), same),
+      (printer, subst (λ w. Feeds l.printer (take most (first_of l.ended l.live)) k w printer) memory feeds, same),
+    )
 
 -- ## Answers
 
@@ -208,11 +214,11 @@ heard_seen m l after k consumed told host events seen hears is_told other same =
 
 pub refused_seen : (m l after : LineView) (most fewer : ℕ) (refused : Refused) (host : HostView) (live : Option (List ℕ)) → m ≡ l
     → refused ≡ record { why = refusal.Memory; receipt = None } → after ≡ record { host = host; printer = m.printer; ended = m.ended; live = live; coming = m.coming }
-    → fewer < most → fewer ≤ length m.host.out → HasMoved m.host m.live fewer host live → IsRefused (happening.Move most) l refused after
-refused_seen m l after most fewer refused host live seen why same less within has_moved =
+    → fewer < most → fewer < length m.host.out → m.live ≢ None → HasMoved m.host m.live fewer host live → IsRefused (happening.Move most) l refused after
+refused_seen m l after most fewer refused host live seen why same less within some has_moved =
     subst (λ r. IsRefused (happening.Move most) l r after) (sym why)
     (subst (λ v. IsRefused (happening.Move most) v (record { why = refusal.Memory; receipt = None }) after) seen (record {
-      reason = refl;
+      reason = (refl, some);
       line = fewer_moved m after most fewer less within (same ∙ ap (λ h. record { host = h; printer = m.printer; ended = m.ended; live = live; coming = m.coming }) has_moved.0
           ∙ ap (λ on. record { host = taken m.host fewer; printer = m.printer; ended = m.ended; live = on; coming = m.coming }) has_moved.1);
       receipt = refl;

@@ -312,6 +312,13 @@ went laws l m after receipt b whole known short first second =
       ready = s.ready.phase;
       link = (ap (λ (v : LineView). v.ended) s.ready.line, ap (λ (v : LineView). v.live) s.ready.line);
       next = s.next ∙ b.next;
+      out = s.ready.out;
+      silent = record {
+        online = s.ready.online;
+        no_half = s.ready.no_half;
+        no_answer = s.ready.none;
+        quiet = ap (λ (v : LineView). v.coming) s.ready.line;
+      };
       happened = joined (opening l.host.phase) (event.Submit receipt ∷ exchange) l m after first second;
     }
 

@@ -106,7 +106,17 @@ of_ok (Err b) bad h = absurd cc
 pub stops_at : (l before after : LineView) (done others : List Event) (e : Event) (refused : Refused) → Happened l done before
     → ((why : Refusal) → Refuses e before why → why ≡ refusal.Memory) → IsRefused e before refused after → StopsIn (done ++ e ∷ others) l after
 stops_at l before after done others e refused happened memory is =
-    record { done = done; event = e; others = others; before = before; split = refl; happened = happened; memory = memory; left = is.line }
+    record {
+      done = done;
+      event = e;
+      others = others;
+      before = before;
+      split = refl;
+      happened = happened;
+      refused = subst (Refuses e before) (memory refused.why is.reason) is.reason;
+      memory = memory;
+      left = is.line;
+    }
 
 -- So after other events.
 pub stops_later : (l now after : LineView) (before events : List Event) → Happened l before now → StopsIn events now after → StopsIn (before ++ events) l after
@@ -117,6 +127,7 @@ stops_later l now after before events happened s = record {
   before = s.before;
   split = ap (λ v. before ++ v) s.split ∙ sym (append_assoc before s.done (s.event ∷ s.others));
   happened = joined before s.done l now s.before happened s.happened;
+  refused = s.refused;
   memory = s.memory;
   left = s.left;
 }
@@ -130,6 +141,7 @@ stops_before l after events more s = record {
   before = s.before;
   split = ap (λ v. v ++ more) s.split ∙ append_assoc s.done (s.event ∷ s.others) more;
   happened = s.happened;
+  refused = s.refused;
   memory = s.memory;
   left = s.left;
 }
@@ -186,6 +198,7 @@ stopped_sending l m k after receipt n opened submitted s =
         before = stops.before;
         split = sym (append_assoc first (event.Submit receipt ∷ []) exchange) ∙ stops.split;
         happened = stops.happened;
+        refused = stops.refused;
         memory = stops.memory;
         left = stops.left;
       };

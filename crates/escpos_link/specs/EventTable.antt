@@ -12,7 +12,8 @@
 --   Ask            |
 --   Move k         | up to k bytes leave the host: for the end of the live link, or lost where there is none
 --   Deliver k      | the printer is fed up to k first bytes of the first link; after a fault it leaves that link
---   HandOver       | the oldest answer leaves the printer: on its way to the host where the only link is the live one, else lost
+--   HandOver       | the oldest answer leaves the printer: on its way to the host where the only link is the live one, lost where the first
+--                  | one has ended; where there is no link it stays
 --   Answer k       | the host hears up to k first bytes of those on their way, event after event; if one is no answer, it is off its link
 --   PrinterLeaves  | the first link is gone, with what is on it
 --   PrinterRestart | the printer is restarted, and leaves the first link
@@ -185,22 +186,26 @@ After (event.SetCondition condition) l n after = (n ≡ note.Done) × (after ≡
 
 -- ## Refusals
 
--- Why an event is refused. A host's refusals are those of its machine; memory may be wanting for new bytes and new links.
+-- Why an event is refused. A host's refusals are those of its machine; memory may be wanting for a new link, and for bytes on a link
+-- and on their way to the host.
 abbrev pub Refuses : Event → LineView → Refusal → Type 0
 Refuses event.LinkUp l why = (e : HostError) × (why ≡ of_host e) × RefusesLinkUp e l.host
 Refuses event.Nudge l why = (e : HostError) × (why ≡ of_host e) × RefusesNudge e l.host
 Refuses (event.Submit receipt) l why = (e : HostError) × (why ≡ of_host e) × RefusesSubmit e l.host
 Refuses (event.Ask kind) l why = (e : HostError) × (why ≡ of_host e) × RefusesAsk e l.host
-Refuses (event.Move k) l why = why ≡ refusal.Memory
+Refuses (event.Move k) l why = (why ≡ refusal.Memory) × (l.live ≢ None)
 Refuses (event.Deliver k) l why = why ≡ refusal.Memory
-Refuses event.HandOver l why = why ≡ refusal.Memory
+Refuses event.HandOver l why = (why ≡ refusal.Memory) × (l.printer.waiting ≢ []) × (l.ended ≡ []) × (l.live ≢ None)
 Refuses (event.HostRestart f) l why = (why ≡ refusal.MarkReused l.host.next) × (f < l.host.next)
 Refuses _ l why = ⊥
 
--- What a refusal leaves: the line as it was; but where memory was wanting for bytes, fewer of them moved or were delivered.
+-- What a refusal leaves: the line as it was; but where memory was wanting for bytes, fewer of them moved, or the printer was fed up
+-- to the one that wanted it, which is as if no more of them had been there to be delivered.
 abbrev pub Leaves : Event → LineView → LineView → Type 0
-Leaves (event.Move k) l after = (fewer : ℕ) × (n : Note) × (fewer < k) × After (event.Move fewer) l n after
-Leaves (event.Deliver k) l after = (fewer : ℕ) × (n : Note) × (fewer < k) × After (event.Deliver fewer) l n after
+Leaves (event.Move k) l after = (fewer : ℕ) × (n : Note) × (fewer < k) × (fewer < length l.host.out) × After (event.Move fewer) l n after
+Leaves (event.Deliver k) l after =
+    (fewer : ℕ) × (n : Note) × (fewer < k) × After (event.Deliver fewer) l n after
+    × ((printer : PrinterView) × Feeds l.printer (take k (first_link l)) fewer stop.Memory printer × (after ≡ delivered l fewer printer))
 Leaves _ l after = after ≡ l
 
 -- A receipt that was to be printed comes back.

@@ -21,7 +21,7 @@ pub record IsStopped (l : LineView) (events : List Event) (stop : RunStop) (afte
   pub happened : Happened l (take stop.done events) before
   pub refused : IsRefused event before stop.refused after
 
--- Some of the events happened, and the next one was refused, for which want of memory alone is a reason; this is what is left.
+-- Some of the events happened, and the next one was refused for want of memory, which is the only reason there is; this is what is left.
 pub record StopsIn (events : List Event) (l : LineView) (after : LineView) : Type 0 where
   pub done : List Event
   pub event : Event
@@ -29,5 +29,6 @@ pub record StopsIn (events : List Event) (l : LineView) (after : LineView) : Typ
   pub before : LineView
   pub split : events ≡ done ++ (event ∷ others)
   pub happened : Happened l done before
+  pub refused : Refuses event before refusal.Memory
   pub memory : (why : Refusal) → Refuses event before why → why ≡ refusal.Memory
   pub left : Leaves event before after

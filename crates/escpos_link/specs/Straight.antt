@@ -62,6 +62,8 @@ pub record WentStraight (l : LineView) (receipt : List Command) (number : ℕ) (
   pub ready : after.host.phase ≡ Open []
   pub link : (after.ended ≡ []) × (after.live ≡ Some [])
   pub next : after.host.next ≡ l.host.next + marks_for l.host.phase
+  pub out : after.host.out ≡ []
+  pub silent : IsSilent after
   pub happened : Happened l (straight_events l.host.phase receipt) after
 
 -- Memory was wanting for one of these events: those before it happened. The receipt comes back if it wasn't submitted.

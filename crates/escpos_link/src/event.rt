@@ -22,7 +22,8 @@ pub enum Event {
     Move(usize),
     /// Up to so many bytes of the first link reach the printer. A fault ends that link, as if the printer left it.
     Deliver(usize),
-    /// The printer hands its oldest answer over: to the host if the link that it serves is live, else the answer is lost.
+    /// The printer hands its oldest answer over: to the host if the link that it serves is live; the answer is lost if that link has
+    /// ended, and stays where there is no link.
     HandOver,
     /// The host hears up to so many of the bytes that are on their way to it.
     Answer(usize),

@@ -360,7 +360,7 @@ fn put_all_out(
 ) -> Result<usize, AllocError>
     ensures count { IfOk result (λ count. count ≡ min most (length host.old.out)) }
     ensures moved { IfOk result (λ count. HasMoved host.old live.old count host.new live.new) }
-    ensures refused { OnErr result ((fewer : ℕ) × (fewer < most) × (fewer ≤ length host.old.out) × HasMoved host.old live.old fewer host.new live.new) }
+    ensures refused { OnErr result ((fewer : ℕ) × (fewer < most) × (fewer < length host.old.out) × (live.old ≢ None) × HasMoved host.old live.old fewer host.new live.new) }
 {
     let mut moved = 0;
     while moved < most && host.has_out() {
@@ -378,7 +378,7 @@ fn put_out(
     ensures count { IfOk result (λ count. (count ≤ most) × (count ≤ length host.old.out)) }
     ensures some { IfOk result (λ count. 0 < most → 0 < length host.old.out → 0 < count) }
     ensures moved { IfOk result (λ count. HasMoved host.old live.old count host.new live.new) }
-    ensures refused { OnErr result ((host.new ≡ host.old) × (live.new ≡ live.old)) }
+    ensures refused { OnErr result ((host.new ≡ host.old) × (live.new ≡ live.old) × (live.old ≢ None)) }
 {
     match live {
         Some(link) => link.take_from_host(host, most),

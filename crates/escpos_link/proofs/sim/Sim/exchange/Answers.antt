@@ -10,7 +10,7 @@ use Rattle.escpos_link.proofs.sim.Sim.exchange.Goals as goal
 pub returns-then-is_err-clause-stopped : goal.returns-then-is_err-clause-stopped
 returns-then-is_err-clause-stopped c =
     let r = of_err c.step.result (sym c.is_err.ensures.value ∙ c.if-is_err.true) c.step.ensures.refused in
-    stops_at c.args.self.now c.args.self.now c.step.new.self [] _ (event.Move all_bytes) r.0 refl (λ why is. is) r.1
+    stops_at c.args.self.now c.args.self.now c.step.new.self [] _ (event.Move all_bytes) r.0 refl (λ why is. is.0) r.1
 
 pub returns-then-is_err-2-clause-stopped : goal.returns-then-is_err-2-clause-stopped
 returns-then-is_err-2-clause-stopped c =
@@ -24,7 +24,7 @@ returns-then-is_err-3-clause-stopped c =
     let two = of_ok c.step-2.result (sym c.is_err-2.ensures.value ∙ c.if-is_err-2.false) c.step-2.ensures.happened in
     let r = of_err c.step-3.result (sym c.is_err-3.ensures.value ∙ c.if-is_err-3.true) c.step-3.ensures.refused in
     stops_at c.args.self.now c.step-2.new.self c.step-3.new.self (event.Move all_bytes ∷ event.Deliver all_bytes ∷ []) _ event.HandOver r.0
-    (one.0, c.step.new.self, one.1, (two.0, c.step-2.new.self, two.1, refl)) (λ why is. is) r.1
+    (one.0, c.step.new.self, one.1, (two.0, c.step-2.new.self, two.1, refl)) (λ why is. is.0) r.1
 
 pub returns-clause-happened : goal.returns-clause-happened
 returns-clause-happened c =
