@@ -2,7 +2,10 @@
 use crate::receipt_edge_tests::joined;
 use crate::status::Status;
 use crate::task::Task;
-use crate::tests::{Row, performs_rows};
+use crate::tests::{Row, performs, performs_rows};
+use escpos_io::MemoryIn;
+use std::alloc::Global;
+use std::process::Abort;
 use std::rt::HostRuntime;
 
 // straight
@@ -240,35 +243,38 @@ fn unreadable_lines(rt: HostRuntime) {
     }
 }
 
+// A script through `play`, read in pieces, ends with this status and prints this.
+fn plays(rt: &impl Abort, alloc: Global, script: &[u8], told: &[u8], status: Status) {
+    let mut source = MemoryIn::new(script, 65_536);
+    performs(
+        rt,
+        alloc,
+        Ok(Task::Play),
+        &mut source,
+        &mut [0; 512],
+        (told, status),
+    );
+}
+
 #[test]
 fn far_into_a_script(rt: HostRuntime) {
     let script = joined(&rt, rt.alloc(), ["", "leave\n", "leave \n"], 120);
-    let told = joined(
-        &rt,
-        rt.alloc(),
-        ["", "ok\n", "line 121 unreadable\npaper\nrecords 0\n"],
-        120,
-    );
-    let row: Row = (&script, &told, Status::Refused);
-    performs_rows(&rt, rt.alloc(), Task::Play, &[row], &[512]);
+    let end = "line 121 unreadable\npaper\nrecords 0\n";
+    let told = joined(&rt, rt.alloc(), ["", "ok\n", end], 120);
+    plays(&rt, rt.alloc(), &script, &told, Status::Refused);
 }
 
 // A line of more than a mebibyte: JSON takes blanks anywhere.
 #[test]
 fn long_line(rt: HostRuntime) {
     let blanks = "                                                                ";
-    let script = joined(
+    let parts = ["submit [", blanks, "{\"line\":\"A\"}]\n"];
+    let script = joined(&rt, rt.alloc(), parts, 20_000);
+    plays(
         &rt,
         rt.alloc(),
-        ["submit [", blanks, "{\"line\":\"A\"}]\n"],
-        20_000,
-    );
-    let told: &[u8] = b"refused 1 NotReady\npaper\nrecords 0\n";
-    performs_rows(
-        &rt,
-        rt.alloc(),
-        Task::Play,
-        &[(&script, told, Status::Good)],
-        &[65_536],
+        &script,
+        b"refused 1 NotReady\npaper\nrecords 0\n",
+        Status::Good,
     );
 }
