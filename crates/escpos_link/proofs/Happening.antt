@@ -1,9 +1,7 @@
 -- What is true of a line is true of it after whatever event, and after whatever refusal.
-use Rattle.std.proofs.Common.{◌≡◌, ◌≢◌, ◌⊎◌, inl, inr, ℕ, List, [], ◌∷◌, Option, Some, None, Result, Ok, Err, IfErr, refl, sym, ◌∙◌, ap, subst}
-use Rattle.escpos_command.specs.declared.answer.Answer.{Answer}
-use Rattle.escpos_printer.specs.Feeds.{PrinterView}
+use Rattle.std.proofs.Common.{◌≡◌, ◌≢◌, List, Result, Ok, Err, IfErr, refl, sym, ◌∙◌, subst}
 use Rattle.escpos_command.specs.declared.command.Command.{Command}
-use Rattle.escpos_host.specs.Machine.{HostView, InFlight, IsOpening, IsSound, Phase, Down, Opening, Open, asked, gone_down, linked, nudged, submitted}
+use Rattle.escpos_host.specs.Machine.{InFlight, IsOpening, IsSound, Phase, Down, Opening, Open, asked, nudged, submitted}
 use Rattle.escpos_link.specs.declared.event.Event.{Event}
 use Rattle.escpos_link.specs.declared.event.Event.TheVariants as event
 use Rattle.escpos_link.specs.declared.event.Handed.{Handed}
@@ -11,7 +9,7 @@ use Rattle.escpos_link.specs.declared.event.Handed.TheVariants as handed
 use Rattle.std.specs.Prelude.{IfOk}
 use Rattle.escpos_link.specs.declared.event.Note.{Note}
 use Rattle.escpos_link.specs.declared.event.Refused.{Refused}
-use Rattle.escpos_link.specs.EventTable.{After, HandsOver, IsRefused, Leaves, conditioned, delivered, left_by, moved, off_link, opened, restarted, with_host, with_printer, without_first}
+use Rattle.escpos_link.specs.EventTable.{After, HandsOver, IsRefused, Leaves, conditioned, delivered, restarted, with_host, with_printer}
 use Rattle.escpos_link.specs.Line.{IsLine, LineView}
 use Rattle.escpos_link.proofs.Hearing.{Leaves as LeavesAnswers, answer_kept}
 use Rattle.escpos_link.proofs.Keeping.{AreAnswers, Fitting, Joined, delivered_kept, drop_kept, fed_answers, handed_kept, left_by_kept, moved_kept, off_link_kept, on_its_way_kept, opened_kept, with_host_kept, with_printer_kept, without_first_kept}

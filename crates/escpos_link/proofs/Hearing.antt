@@ -1,5 +1,5 @@
 -- What is true of a line is true of it after the host has heard bytes that were on their way.
-use Rattle.std.proofs.Common.{◌≡◌, ◌≢◌, ◌⊎◌, inl, inr, ℕ, zero, suc, List, [], ◌∷◌, ◌++◌, length, take, drop, refl, sym, ◌∙◌, ap, subst, take-append-drop}
+use Rattle.std.proofs.Common.{◌≡◌, ◌≢◌, ◌⊎◌, inl, inr, ℕ, zero, suc, List, [], ◌++◌, length, take, drop, refl, sym, ◌∙◌, ap, subst, take-append-drop}
 use Rattle.std.proofs.lemmas.List.{drop_at}
 use Rattle.escpos_command.specs.Answers.{AreWholeAnswers}
 use Rattle.escpos_host.specs.declared.host.HostEvent.{HostEvent}

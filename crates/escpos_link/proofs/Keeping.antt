@@ -1,6 +1,6 @@
 -- What is true of a line is true of it after each event.
-use Rattle.std.proofs.Common.{◌≡◌, ◌≢◌, ◌⊎◌, inl, inr, ℕ, List, [], ◌∷◌, ◌++◌, take, drop, length, Option, Some, None, refl, sym, ◌∙◌, ap, subst, append_assoc, append-nil, IsTrue}
-use Rattle.std.specs.Prelude.{option_map, option_to_list}
+use Rattle.std.proofs.Common.{◌≡◌, ◌≢◌, inl, ℕ, List, [], ◌∷◌, ◌++◌, take, drop, Option, Some, None, refl, sym, ◌∙◌, ap, subst, append_assoc, append-nil, IsTrue}
+use Rattle.std.specs.Prelude.{option_map}
 use Rattle.std.specs.List.{AllByRecursion}
 use Rattle.escpos_command.specs.declared.answer.Answer.{Answer}
 use Rattle.escpos_command.specs.declared.command.Command.{Command}
@@ -11,8 +11,8 @@ use Rattle.escpos_printer.specs.declared.printer.FeedStop.{FeedStop}
 use Rattle.escpos_printer.specs.declared.printer.FeedStop.TheVariants as stop
 use Rattle.escpos_printer.specs.Feeds.{PrinterView, Feeds}
 use Rattle.escpos_printer.specs.Replies.{replies}
-use Rattle.escpos_host.specs.Machine.{HostView, IsSound, Phase, Down, Opening, Open, gone_down, linked, taken}
-use Rattle.escpos_link.specs.EventTable.{HandsOver, answers_left, delivered, ended_fed, hung_up, left_by, live_fed, live_left, moved, off_link, on_its_way, opened, restarted, with_host, with_printer, without_first}
+use Rattle.escpos_host.specs.Machine.{HostView, IsSound, Phase, Down, Opening, Open}
+use Rattle.escpos_link.specs.EventTable.{answers_left, delivered, ended_fed, hung_up, left_by, live_fed, live_left, moved, off_link, on_its_way, opened, with_host, with_printer, without_first}
 use Rattle.escpos_link.specs.Line.{IsLine, LineView}
 
 abbrev pub AreAnswers : List Answer → Type 0

@@ -1,6 +1,6 @@
 -- Bytes that move, some and then more; and bytes of the first link that are fed.
 use Rattle.std.proofs.Common.{◌≡◌, ◌≢◌, ◌⊎◌, ◌<◌, ◌≤◌, ◌+◌, ◌-◌, inl, inr, ℕ, zero, suc, List, [], ◌∷◌, ◌++◌, length, take, drop, min, Option, Some, None, refl, sym, ◌∙◌, ap, subst, append_assoc, length-append, length-take, length-drop, arith, IsTrue, ◌==◌, Bool, true, false, not}
-use Rattle.std.specs.Prelude.{slice_get, slice_index_or, slice_set, IfSome}
+use Rattle.std.specs.Prelude.{slice_index_or, slice_set, IfSome}
 use Rattle.std.proofs.lemmas.List.{drop-drop, drop_all}
 use Rattle.std.proofs.lemmas.Bool.Decides.{nat_tests}
 use Rattle.std.proofs.Math.Seq.{take-add}
@@ -15,11 +15,10 @@ use Rattle.escpos_host.specs.Heard.{EndsLink, HearsAll, last_of}
 use Rattle.escpos_host.specs.Machine.{HostView, Down, Open, taken}
 use Rattle.escpos_link.specs.declared.event.Event.TheVariants as happening
 use Rattle.escpos_link.specs.declared.event.Handed.TheVariants as handed
-use Rattle.escpos_link.specs.declared.event.Note.{Note}
 use Rattle.escpos_link.specs.declared.event.Note.TheVariants as note
 use Rattle.escpos_link.specs.declared.event.Refusal.TheVariants as refusal
 use Rattle.escpos_link.specs.declared.event.Refused.{Refused}
-use Rattle.escpos_link.specs.EventTable.{After, HandsOver, HasMoved, IsRefused, Leaves, answers_left, delivered, ended_fed, first_of, heard_to, live_fed, moved, off_link, put_on, told_at, with_host, with_printer}
+use Rattle.escpos_link.specs.EventTable.{After, HandsOver, HasMoved, IsRefused, Leaves, answers_left, delivered, ended_fed, first_of, live_fed, moved, off_link, put_on, told_at, with_host, with_printer}
 use Rattle.escpos_link.specs.Line.{LineView}
 use Rattle.escpos_link.specs.Straight.{IsAtRest}
 use Rattle.escpos_link.proofs.Hearing.{heard_line, heard_line_is, off_line_is}
@@ -143,8 +142,7 @@ pub fewer_fed : (l after : LineView) (printer : PrinterView) (most k : ℕ) (why
     → after ≡ delivered l k printer → Leaves (happening.Deliver most) l after
 fewer_fed l after printer most k why memory feeds same =
     let short = cut_short l.printer printer (first_of l.ended l.live) most k why memory feeds in
-    let fed : Fed = record { consumed = k; stop = stop.All } in
-    (
+    let fed : Fed = record { consumed = k; stop = stop.All } in (
       k,
       note.Fed fed,
       short.0,

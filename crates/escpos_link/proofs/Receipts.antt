@@ -1,8 +1,7 @@
 -- A receipt that goes over a line on which nothing is under way: the line once it is open, and once the receipt is recorded.
-use Rattle.std.proofs.Common.{◌≡◌, ◌≢◌, ◌⊎◌, ◌<◌, ◌≤◌, ◌+◌, inl, inr, ℕ, List, [], ◌∷◌, ◌++◌, true, false, length, refl, sym, ◌∙◌, ap, subst, append-nil, append_assoc, length-append, arith, IsTrue, Option, Some, None}
+use Rattle.std.proofs.Common.{◌≡◌, ◌≢◌, ◌⊎◌, ◌<◌, ◌≤◌, ◌+◌, inl, inr, ℕ, List, [], ◌∷◌, ◌++◌, true, false, length, refl, sym, ◌∙◌, ap, subst, append-nil, append_assoc, length-append, arith, Option, Some, None}
 use Rattle.std.specs.List.{AllByRecursion}
 use Rattle.std.proofs.lemmas.Grind.{flat_map-append}
-use Rattle.escpos_command.specs.declared.answer.Answer.{Answer}
 use Rattle.escpos_command.specs.declared.answer.Answer.TheVariants as answer
 use Rattle.escpos_command.specs.declared.command.Command.{Command}
 use Rattle.escpos_command.specs.declared.command.Command.TheVariants as kind
@@ -15,14 +14,13 @@ use Rattle.escpos_paper.specs.Printed.{printed}
 use Rattle.escpos_printer.specs.declared.condition.Condition.{Condition}
 use Rattle.escpos_printer.specs.Feeds.{IsReadyFor, PassesOffline, PrinterView, Took}
 use Rattle.escpos_printer.specs.Replies.{is_offline, replies, reply}
-use Rattle.escpos_host.specs.declared.host.HostEvent.{HostEvent}
 use Rattle.escpos_host.specs.declared.host.HostEvent.TheVariants as heard
-use Rattle.escpos_host.specs.Heard.{EndsLink, IsClosing, Turns, opened as opened_host, recorded}
-use Rattle.escpos_host.specs.Machine.{HostView, InFlight, IsSound, Phase, Down, Opening, Open, linked, next_mark, submitted}
-use Rattle.escpos_host.specs.Whole.{EachMayFollow, MayFollow, Whole, is_forbidden}
+use Rattle.escpos_host.specs.Heard.{IsClosing, opened as opened_host, recorded}
+use Rattle.escpos_host.specs.Machine.{HostView, InFlight, IsSound, Down, Opening, Open, linked, next_mark, submitted}
+use Rattle.escpos_host.specs.Whole.{Whole, is_forbidden}
 use Rattle.escpos_link.specs.declared.event.Event.TheVariants as event
 use Rattle.escpos_link.specs.declared.event.Note.{Note}
-use Rattle.escpos_link.specs.EventTable.{After, answers_left, opened, with_host}
+use Rattle.escpos_link.specs.EventTable.{After, answers_left, with_host}
 use Rattle.escpos_link.specs.Line.{IsLine, LineView}
 use Rattle.escpos_link.specs.Steps.{Happened}
 use Rattle.escpos_link.specs.Straight.{Undisturbed, WentStraight, all_bytes, exchange, marks_for, opening}

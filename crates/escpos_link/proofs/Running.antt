@@ -1,11 +1,11 @@
 -- Events that happened one after another.
-use Rattle.std.proofs.Common.{inl, inr, None, ◌≡◌, ◌+◌, ◌-◌, ℕ, List, [], ◌∷◌, ◌++◌, length, take, true, false, Some, Result, Ok, Err, IfErr, refl, sym, ◌∙◌, ap, subst, append_assoc, append-nil, length-append, arith}
-use Rattle.std.specs.Prelude.{◌<◌, ◌≤◌, ◌⊎◌, slice_get, is_err, IfOk, OnOk, OnErr}
+use Rattle.std.proofs.Common.{inl, inr, None, ◌≡◌, ◌+◌, ℕ, List, [], ◌∷◌, ◌++◌, length, take, true, false, Some, Result, Ok, Err, IfErr, refl, sym, ◌∙◌, ap, subst, append_assoc, append-nil, length-append, arith}
+use Rattle.std.specs.Prelude.{◌<◌, ◌≤◌, slice_get, is_err, IfOk, OnOk, OnErr}
 use Rattle.escpos_command.specs.declared.command.Command.{Command}
 use Rattle.escpos_command.specs.Digits.{mark_count}
 use Rattle.escpos_host.specs.declared.host.HostError.TheVariants as error
 use Rattle.escpos_host.specs.declared.host.HostState.TheVariants as state
-use Rattle.escpos_host.specs.Machine.{InFlight, Phase, Down, Opening, Open, state_of}
+use Rattle.escpos_host.specs.Machine.{Phase, Down, Opening, Open, state_of}
 use Rattle.escpos_link.specs.declared.event.Event.TheVariants as event
 use Rattle.escpos_link.specs.declared.event.Refusal.{Refusal}
 use Rattle.escpos_link.specs.declared.event.Refusal.TheVariants as refusal

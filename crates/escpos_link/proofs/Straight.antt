@@ -1,26 +1,26 @@
 -- A receipt that goes over a line on which nothing is under way: each event in turn, and what the line is then.
-use Rattle.std.proofs.Common.{◌≡◌, ◌≢◌, ◌⊎◌, ◌<◌, ◌≤◌, ◌+◌, inl, inr, ℕ, List, [], ◌∷◌, ◌++◌, false, length, take, drop, min, Option, Some, None, refl, sym, ◌∙◌, ap, subst, append-nil, append_assoc, length-append, arith, IsTrue}
+use Rattle.std.proofs.Common.{◌≡◌, ◌≢◌, ◌⊎◌, ◌<◌, ◌≤◌, inl, inr, ℕ, List, [], ◌∷◌, ◌++◌, length, take, drop, min, Some, refl, sym, ◌∙◌, ap, subst, append-nil, arith, IsTrue}
 use Rattle.std.proofs.lemmas.List.{drop_all, take_all}
 use Rattle.escpos_command.specs.declared.answer.Answer.{Answer}
 use Rattle.escpos_command.specs.declared.answer.Answer.TheVariants as answer
 use Rattle.escpos_command.specs.declared.command.Command.{Command}
 use Rattle.escpos_command.specs.declared.command.Command.TheVariants as kind
 use Rattle.escpos_command.specs.Answers.{AreWholeAnswers, Hears, answer_bytes, is_answer, spell_answers}
-use Rattle.escpos_command.specs.CommandTable.{AreCommands, row, spell}
+use Rattle.escpos_command.specs.CommandTable.{spell}
 use Rattle.escpos_command.specs.Digits.{mark_count, mark_of}
 use Rattle.escpos_command.specs.Parameters.{is_mark_id}
 use Rattle.escpos_paper.specs.Printed.{printed}
 use Rattle.escpos_printer.specs.declared.printer.FeedStop.{FeedStop}
 use Rattle.escpos_printer.specs.declared.printer.FeedStop.TheVariants as stop
-use Rattle.escpos_printer.specs.Feeds.{Feeds, IsReadyFor, PrinterView, Took, most_waiting}
+use Rattle.escpos_printer.specs.Feeds.{Feeds, IsReadyFor, PrinterView, Took}
 use Rattle.escpos_printer.specs.Replies.{replies}
 use Rattle.escpos_host.specs.declared.host.HostEvent.{HostEvent}
 use Rattle.escpos_host.specs.Heard.{EndsLink, HearsAll, Turns, last_of}
-use Rattle.escpos_host.specs.Machine.{HostView, Phase, Down, Opening, Open, taken}
+use Rattle.escpos_host.specs.Machine.{HostView, Down}
 use Rattle.escpos_link.specs.declared.event.Event.TheVariants as event
 use Rattle.escpos_link.specs.declared.event.Handed.{Handed}
 use Rattle.escpos_link.specs.declared.event.Handed.TheVariants as handed
-use Rattle.escpos_link.specs.EventTable.{After, HandsOver, answers_left, delivered, first_link, heard_to, left_by, moved, on_its_way}
+use Rattle.escpos_link.specs.EventTable.{After, HandsOver, answers_left, delivered, heard_to, left_by, moved, on_its_way}
 use Rattle.escpos_link.specs.Line.{LineView}
 use Rattle.escpos_link.specs.Steps.{Happened}
 use Rattle.escpos_link.specs.Straight.{all_bytes, exchange}

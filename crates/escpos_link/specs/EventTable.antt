@@ -37,7 +37,7 @@ use Rattle.escpos_host.specs.declared.host.HostError.{HostError}
 use Rattle.escpos_host.specs.declared.host.HostEvent.{HostEvent}
 use Rattle.escpos_host.specs.declared.host.HostEvent.TheVariants as heard
 use Rattle.escpos_host.specs.Heard.{HearsAll, last_of}
-use Rattle.escpos_host.specs.Machine.{HasMark, HostView, InFlight, IsOpening, Phase, Down, Opening, Open, RefusesAsk, RefusesLinkUp, RefusesNudge, RefusesSubmit, asked, gone_down, linked, most_in_flight, nudged, submitted, taken}
+use Rattle.escpos_host.specs.Machine.{HasMark, HostView, InFlight, IsOpening, Phase, Down, Open, RefusesAsk, RefusesLinkUp, RefusesNudge, RefusesSubmit, asked, gone_down, linked, most_in_flight, nudged, submitted, taken}
 use Rattle.escpos_link.specs.declared.event.Event.{Event}
 use Rattle.escpos_link.specs.declared.event.Event.TheVariants as event
 use Rattle.escpos_link.specs.declared.event.Handed.{Handed}

@@ -3,9 +3,8 @@
 -- The host puts bytes on its link, the printer takes them from the first link that it has not left; so there may be several
 -- links, of which the host is on the newest alone, and on none while it is down. What the printer answers goes back to the host
 -- if the link that the printer serves is the one that the host is on.
-use Rattle.std.specs.Prelude.{ℕ, ◌≡◌, ◌≢◌, ◌++◌, List, [], ◌∷◌, Option, Some, None, IsTrue}
+use Rattle.std.specs.Prelude.{ℕ, ◌≡◌, ◌≢◌, ◌++◌, List, [], Option, None, IsTrue}
 use Rattle.std.specs.List.{AllByRecursion}
-use Rattle.escpos_command.specs.declared.answer.Answer.{Answer}
 use Rattle.escpos_command.specs.Answers.{AreWholeAnswers, is_answer}
 use Rattle.escpos_host.specs.Machine.{HostView, Down}
 use Rattle.escpos_printer.specs.Feeds.{PrinterView}

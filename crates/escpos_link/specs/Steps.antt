@@ -1,5 +1,5 @@
 -- Events one after another.
-use Rattle.std.specs.Prelude.{ℕ, ◌≡◌, List, [], ◌∷◌, ◌++◌, take, Option, Some, slice_get}
+use Rattle.std.specs.Prelude.{◌≡◌, List, [], ◌∷◌, ◌++◌, take, Some, slice_get}
 use Rattle.escpos_link.specs.declared.event.Event.{Event}
 use Rattle.escpos_link.specs.declared.event.Note.{Note}
 use Rattle.escpos_link.specs.declared.event.Refusal.{Refusal}

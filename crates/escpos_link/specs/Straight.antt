@@ -4,7 +4,7 @@ use Rattle.escpos_command.specs.declared.command.Command.{Command}
 use Rattle.escpos_command.specs.Digits.{mark_count}
 use Rattle.escpos_paper.specs.Printed.{printed}
 use Rattle.escpos_printer.specs.Replies.{is_offline}
-use Rattle.escpos_host.specs.Machine.{HasMark, Phase, Down, Opening, Open}
+use Rattle.escpos_host.specs.Machine.{Phase, Down, Open}
 use Rattle.escpos_link.specs.declared.event.Event.{Event}
 use Rattle.escpos_link.specs.declared.event.Event.TheVariants as event
 use Rattle.escpos_link.specs.Line.{LineView}

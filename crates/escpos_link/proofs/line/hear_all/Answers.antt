@@ -1,6 +1,5 @@
-use Rattle.std.proofs.Common.{sym, ◌∙◌, subst, drop}
-use Rattle.escpos_host.specs.declared.host.HostEvent.TheVariants as event
-use Rattle.escpos_host.specs.Heard.{EndsLink, IsHeard}
+use Rattle.std.proofs.Common.{subst, drop}
+use Rattle.escpos_host.specs.Heard.{IsHeard}
 use Rattle.escpos_link.proofs.InTurn.{all_heard, ended, next, on_goes, rest_is}
 use Rattle.escpos_link.proofs.line.hear_all.Goals as goal
 

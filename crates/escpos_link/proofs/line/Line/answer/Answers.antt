@@ -1,4 +1,4 @@
-use Rattle.std.proofs.Common.{ap, subst, take}
+use Rattle.std.proofs.Common.{ap, subst}
 use Rattle.escpos_host.specs.Heard.{HearsAll}
 use Rattle.escpos_link.specs.declared.event.Event.TheVariants as event
 use Rattle.escpos_link.specs.declared.event.Note.TheVariants as note

@@ -1,4 +1,4 @@
-use Rattle.std.proofs.Common.{refl, sym, ◌∙◌, arith}
+use Rattle.std.proofs.Common.{refl, arith}
 use Rattle.escpos_link.proofs.Moving.{fed_ended_seen, fed_live_seen, fed_none_seen, no_link}
 use Rattle.escpos_link.proofs.line.Line.feed_first.Goals as goal
 

@@ -1,4 +1,4 @@
-use Rattle.std.proofs.Common.{◌≡◌, ◌==◌, true, false, sym, ◌∙◌, ap}
+use Rattle.std.proofs.Common.{sym, ◌∙◌}
 use Rattle.escpos_link.proofs.Moving.{empty_queue, rest_seen}
 use Rattle.escpos_link.proofs.Running.{is_ready}
 use Rattle.escpos_link.proofs.line.Line.is_at_rest.Goals as goal

@@ -1,5 +1,4 @@
 use Rattle.std.proofs.Common.{[], ◌∷◌, refl, sym, ◌∙◌, ap, subst, arith}
-use Rattle.std.specs.Prelude.{OnErr}
 use Rattle.escpos_host.specs.Machine.{HostView, state_of}
 use Rattle.escpos_link.specs.declared.event.Event.TheVariants as event
 use Rattle.escpos_link.specs.Steps.{StopsIn}

@@ -1,4 +1,4 @@
-use Rattle.std.proofs.Common.{◌≡◌, length, sym, ◌∙◌, ap, subst, arith}
+use Rattle.std.proofs.Common.{length, sym, ◌∙◌, subst, arith}
 use Rattle.escpos_host.specs.Machine.{IsSound}
 use Rattle.escpos_link.specs.Line.{IsLine, LineView}
 use Rattle.escpos_link.specs.Straight.{WentStraight}
