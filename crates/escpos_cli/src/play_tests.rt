@@ -52,6 +52,20 @@ const FIRST_OF_TWO: Row = (
     Status::Good,
 );
 
+// resynchronised: a raster that lacks 22 bytes takes two marks of the next link, and the third opens it
+const RESYNCHRONISED: Row = (
+    b"linkup\nmove 11\ndeliver 11\nhandover\nanswer 7\n\
+      submit [{\"raster\":{\"scale\":\"normal\",\"x\":1,\"y\":30,\"dots\":\"000000000000000000000000000000000000000000000000000000000000\"}}]\n\
+      move 18\ndeliver 18\ndrop\nleave\nlinkup\nnudge\nnudge\nmove 33\ndeliver 33\nhandover\nanswer 7\n\
+      submit [{\"raster\":{\"scale\":\"normal\",\"x\":1,\"y\":30,\"dots\":\"000000000000000000000000000000000000000000000000000000000000\"}}]\n\
+      move 51\ndeliver 51\nhandover\nanswer 7\n",
+    b"ok\nmoved 11\nfed 11 all\nhanded on\nheard 7 opened\nok\nmoved 18\nfed 18 all\nok\nok\nok\nok\nok\n\
+      moved 33\nfed 33 all\nhanded on\nheard 7 opened\nok\nmoved 51\nfed 51 all\nhanded on\nheard 7 recorded 0\npaper\n\
+      raster left normal 1 30 00000000000000001d284806003030303030321d28480600303030303033\n\
+      raster left normal 1 30 000000000000000000000000000000000000000000000000000000000000\nrecords 1\n",
+    Status::Good,
+);
+
 const ROWS: [Row; 20] = [
     // host_restart
     (
@@ -194,6 +208,11 @@ fn two_in_flight(rt: HostRuntime) {
 #[test]
 fn first_of_two(rt: HostRuntime) {
     performs_rows(&rt, rt.alloc(), Task::Play, &[FIRST_OF_TWO], &[512]);
+}
+
+#[test]
+fn resynchronised(rt: HostRuntime) {
+    performs_rows(&rt, rt.alloc(), Task::Play, &[RESYNCHRONISED], &[512]);
 }
 
 #[test]

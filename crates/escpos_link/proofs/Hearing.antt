@@ -15,7 +15,7 @@ abbrev pub Leaves : Type 0
 Leaves = (h after : HostView) (bytes more : List ℕ) (events : List HostEvent) (consumed : ℕ) → h.phase ≢ Down → AreWholeAnswers (h.half ++ (bytes ++ more))
     → HearsAll h bytes events consumed after → IsOff events after ⊎ GoesOn bytes more events consumed after
 
-dropped : (k : ℕ) (xs : List ℕ) → drop (length (take k xs)) xs ≡ drop k xs
+pub dropped : (k : ℕ) (xs : List ℕ) → drop (length (take k xs)) xs ≡ drop k xs
 dropped k xs = ap (drop (length (take k xs))) (sym (take-append-drop k xs)) ∙ drop_at (take k xs) (drop k xs) (length (take k xs)) refl
 
 -- The line with fewer bytes on their way.
@@ -45,7 +45,7 @@ off_line_is (event.Recorded n) l consumed host ends = absurd ends
 off_line_is (event.Status b) l consumed host ends = absurd ends
 off_line_is (event.BadAnswer at) l consumed host ends = refl
 
-drop-nil : (k : ℕ) (xs : List ℕ) → xs ≡ [] → drop k xs ≡ xs
+pub drop-nil : (k : ℕ) (xs : List ℕ) → xs ≡ [] → drop k xs ≡ xs
 drop-nil zero xs e = refl
 drop-nil (suc k) xs e = ap (drop (suc k)) e ∙ sym e
 

@@ -6,3 +6,14 @@ pub mod Receipts
 pub mod InTurn
 pub mod Moving
 pub mod Running
+pub mod Standing
+pub mod Numbers
+pub mod Aligning
+pub mod Claiming
+pub mod Turning
+pub mod Links
+pub mod Leaving
+pub mod Saying
+pub mod Feeding
+pub mod Answering
+pub mod Trusting

@@ -3,3 +3,5 @@ pub mod Line
 pub mod EventTable
 pub mod Steps
 pub mod Straight
+pub mod Stands
+pub mod Trusted

@@ -1,6 +1,7 @@
 //! What may happen on a line, what is told of it, and why it is refused.
 
 ghost use Rattle.std.specs.Prelude.{◌≡◌, ◌≤◌, length};
+ghost use Rattle.escpos_link.specs.Trusted.{Fits};
 ghost use Rattle.escpos_link.specs.Refusals.{least_of, name_of, number_of, of_host};
 
 use escpos_command::StatusKind;
@@ -37,6 +38,23 @@ pub enum Event {
     HostRestart(u32),
     /// The printer's sensors change.
     SetCondition(Condition),
+}
+
+impl Event {
+    // A receipt holds no mark, and whatever is to be put out is in range.
+    pub(crate) fn fits(&self)
+        ensures { Fits self.now }
+    {
+        match self {
+            Event::Submit(receipt) => {
+                let _ = receipt.commands();
+            }
+            Event::Ask(kind) => {
+                let _ = kind.byte();
+            }
+            _ => {}
+        }
+    }
 }
 
 /// What became of an answer that the printer was to hand over.

@@ -1,15 +1,22 @@
 //! A simulated line: every list of events may happen to it.
 
-ghost use Rattle.std.specs.Prelude.{◌≡◌, ◌≢◌, ◌≤◌, ◌↔◌, List, [], ◌∷◌, length, None, IfOk, IfErr, OnOk, OnErr, IsTrue};
+ghost use Rattle.std.specs.Prelude.{ℕ, ◌≡◌, ◌≢◌, ◌≤◌, ◌↔◌, List, [], ◌∷◌, length, None, IfOk, IfErr, OnOk, OnErr, IsTrue};
 ghost use Rattle.escpos_command.specs.declared.command.Command.{Command};
 ghost use Rattle.escpos_paper.specs.declared.item.Item.{Item};
 ghost use Rattle.escpos_host.specs.Machine.{Down};
 ghost use Rattle.escpos_paper.specs.Page.{SheetIs};
+ghost use Rattle.escpos_host.specs.declared.host.HostEvent.TheVariants as heard;
+ghost use Rattle.escpos_link.specs.declared.event.Event.TheVariants as event;
+ghost use Rattle.escpos_link.specs.declared.event.Note.{Note};
+ghost use Rattle.escpos_link.specs.declared.event.Note.TheVariants as note;
 ghost use Rattle.escpos_link.specs.EventTable.{After, IsRefused};
+ghost use Rattle.escpos_link.specs.Line.{LineView};
+ghost use Rattle.escpos_link.specs.Stands.{Stands};
 ghost use Rattle.escpos_link.specs.Steps.{Happened, IsStopped, StopsIn};
 ghost use Rattle.escpos_link.specs.Straight.{StoppedStraight, Undisturbed, WentStraight, all_bytes, exchange, opening};
 
 use crate::event::{Event, Note, Refused};
+use crate::laws;
 use crate::line::Line;
 use escpos_host::{Host, HostState, Receipt};
 use escpos_paper::Item;
@@ -18,7 +25,8 @@ use std::alloc::{AllocError, Global};
 use std::collections::VecDeque;
 use std::marker::Model;
 
-/// A line between a host and a printer.
+/// A line between a host and a printer. Whatever happens to it, the receipts that the host has recorded stand on the printer's
+/// paper, whole and in the order of recording, each exactly what its commands print on a printer just initialised.
 #[derive(Drop)]
 pub struct Sim {
     line: Line,
@@ -26,12 +34,13 @@ pub struct Sim {
 
 impl Model for Sim {
     ghost use Rattle.escpos_link.specs.Line.{LineView, IsLine};
+    ghost use Rattle.escpos_link.specs.Trusted.{Trusted};
 
     ghost Value = { LineView };
 
     ghost view = { λ s. s.line };
 
-    ghost invariant = { λ s. IsLine s.line };
+    ghost invariant = { λ s. IsLine s.line × Trusted s.line };
 }
 
 /// A receipt that couldn't be sent for want of memory.
@@ -62,6 +71,7 @@ impl Sim {
         ensures ended { IfOk result (λ sim. sim.ended ≡ []) }
         ensures live { IfOk result (λ sim. sim.live ≡ None) }
         ensures coming { IfOk result (λ sim. sim.coming ≡ []) }
+        ensures stands { IfOk result (λ sim. Stands sim.host.records sim.printer.sheet.items) }
     {
         let line = Line::new(alloc, condition, first_mark)?;
         Ok(Sim { line })
@@ -74,10 +84,16 @@ impl Sim {
     pub fn step(&mut self, event: Event) -> Result<Note, Refused>
         ensures happened { IfOk result (λ note. After event self.old note self.new) }
         ensures refused { IfErr result (λ refused. IsRefused event self.old refused self.new) }
+        // The recorded receipts stand on the paper, whatever happened.
+        ensures stands { Stands self.new.host.records self.new.printer.sheet.items }
+        // No answer ends the host's link: none is a byte that fits no answer, and none is out of turn.
+        ensures in_turn { IfOk result (λ told. (consumed at : ℕ) → told ≢ note.Heard consumed (heard.BadAnswer at)) }
     {
         escpos_command::laws::answers();
         escpos_printer::laws::replies();
         escpos_host::laws::whole_answers();
+        laws::trust();
+        event.fits();
         self.line.is_sound();
         self.line.happen(event)
     }
@@ -88,6 +104,7 @@ impl Sim {
     pub fn run(&mut self, events: Vec<Event>) -> Result<(), RunStop>
         ensures happened { OnOk result (Happened self.old events.items self.new) }
         ensures refused { IfErr result (λ stop. IsStopped self.old events.items stop self.new) }
+        ensures stands { Stands self.new.host.records self.new.printer.sheet.items }
     {
         let count = events.len();
         let mut left = VecDeque::from_vec(events);
@@ -97,6 +114,7 @@ impl Sim {
                 return Err(RunStop { done, refused });
             }
         }
+        let _ = self.paper();
         Ok(())
     }
 
@@ -117,6 +135,7 @@ impl Sim {
         requires { Undisturbed self.old }
         ensures recorded { IfOk result (λ number. WentStraight self.old receipt number self.new) }
         ensures stopped { IfErr result (λ stop. StoppedStraight self.old receipt stop.receipt self.new) }
+        ensures stands { Stands self.new.host.records self.new.printer.sheet.items }
     {
         escpos_host::laws::one_answer();
         escpos_host::laws::whole_answers();
@@ -130,6 +149,7 @@ impl Sim {
         let _ = receipt.commands();
         let number = self.records().len();
         if self.open().is_err() {
+            let _ = self.paper();
             return Err(StraightStop {
                 receipt: Some(receipt),
             });
@@ -140,8 +160,14 @@ impl Sim {
             });
         }
         match self.exchange() {
-            Ok(()) => Ok(number),
-            Err(_) => Err(StraightStop { receipt: None }),
+            Ok(()) => {
+                let _ = self.paper();
+                Ok(number)
+            }
+            Err(_) => {
+                let _ = self.paper();
+                Err(StraightStop { receipt: None })
+            }
         }
     }
 
@@ -187,7 +213,10 @@ impl Sim {
         ensures items { result.now ≡ self.now.printer.sheet.items }
         // Every paper is one that commands leave, on paper that held some items.
         ensures reached { (kept : List Item) × (cs : List Command) × SheetIs self.now.printer.sheet kept cs }
+        // The receipts that the host has recorded stand on every paper.
+        ensures stands { Stands self.now.host.records result.now }
     {
+        laws::trust();
         self.line.printer.items()
     }
 
@@ -200,8 +229,12 @@ impl Sim {
 
     /// The host. Takes no memory.
     pub fn host(&self) -> &Host
-        ensures { result.now ≡ self.now.host }
+        ensures value { result.now ≡ self.now.host }
+        // Whatever it hears next, it is an answer in its turn.
+        ensures in_turn { (k : ℕ) (told : Note) (after : LineView) (consumed at : ℕ) → After (event.Answer k) self.now told after
+            → told ≢ note.Heard consumed (heard.BadAnswer at) }
     {
+        laws::trust();
         &self.line.host
     }
 

@@ -1,7 +1,15 @@
-use Rattle.escpos_link.proofs.Happening.{whatever_kept}
+use Rattle.escpos_link.proofs.Happening.{told_in_turn, whatever_kept, whatever_trusted}
 use Rattle.escpos_link.proofs.sim.Sim.step.Goals as goal
 
 pub invariant_of-self : goal.invariant_of-self
 invariant_of-self c =
-    whatever_kept (record { joined = c.answers.ensures.joined; leaves = c.whole_answers.ensures; fitting = c.replies.ensures })
-    c.args.event c.self.inside.line c.happen.new.self c.happen.result c.is_sound.ensures c.self.invariant c.happen.ensures.happened c.happen.ensures.refused
+    let line = c.self.inside.line in (
+      whatever_kept (record { joined = c.answers.ensures.joined; leaves = c.whole_answers.ensures; fitting = c.replies.ensures })
+          c.args.event line c.happen.new.self c.happen.result c.is_sound.ensures c.self.invariant.0 c.happen.ensures.happened c.happen.ensures.refused,
+      whatever_trusted c.trust.ensures c.args.event line c.happen.new.self c.happen.result c.fits.ensures c.is_sound.ensures c.self.invariant.0 c.happen.ensures.happened
+          c.happen.ensures.refused c.self.invariant.1,
+    )
+
+pub returns-clause-in_turn : goal.returns-clause-in_turn
+returns-clause-in_turn c =
+    told_in_turn c.trust.ensures c.args.event c.self.inside.line c.happen.new.self c.happen.result c.self.invariant.0 c.self.invariant.1 c.happen.ensures.happened

@@ -25,7 +25,7 @@ returns-in-Err-clause-stopped c =
     let opened = on_ok c.open.result (sym c.is_err.ensures.value ∙ c.if-is_err.false) c.open.ensures.happened in
     let page = c.paper.ensures.reached in
     let sound = subst (λ (v : LineView). IsSound v.host) c.self.view_is c.is_sound.ensures in
-    let b = begun laws c.args.self.now c.open.new.self page.0 page.1 c.requires (subst IsLine c.self.view_is c.self.invariant) sound page.2 opened in
+    let b = begun laws c.args.self.now c.open.new.self page.0 page.1 c.requires (subst IsLine c.self.view_is c.self.invariant.0) sound page.2 opened in
     stopped_submitting c.args.self.now c.open.new.self c.step.new.self c.args.receipt c.in-Err.refused opened b.ready.phase (omega (arith, b.next, c.requires.marks)) c.in-Err.ensures.refused
 
 pub returns-in-Ok-clause-recorded : goal.returns-in-Ok-clause-recorded
@@ -42,7 +42,7 @@ returns-in-Ok-clause-recorded c =
     let opened = on_ok c.open.result (sym c.is_err.ensures.value ∙ c.if-is_err.false) c.open.ensures.happened in
     let page = c.paper.ensures.reached in
     let sound = subst (λ (v : LineView). IsSound v.host) c.self.view_is c.is_sound.ensures in
-    let b = begun laws c.args.self.now c.open.new.self page.0 page.1 c.requires (subst IsLine c.self.view_is c.self.invariant) sound page.2 opened in
+    let b = begun laws c.args.self.now c.open.new.self page.0 page.1 c.requires (subst IsLine c.self.view_is c.self.invariant.0) sound page.2 opened in
     let submitted = c.in_default.ensures.happened in
     let short = short_sent c.open.new.self c.step.new.self c.args.receipt c.in_default.field-0 b.ready submitted c.in-Ok.ensures.short in
     subst (λ rs. WentStraight c.args.self.now c.args.receipt (length rs) c.exchange.new.self) (sym c.records-number.ensures)

@@ -1,0 +1,530 @@
+-- Standing: a receipt whose closing mark is answered stands on the paper, behind all receipts that are recorded or were sent before it.
+--
+-- The host puts an Init before each receipt and its closing mark behind it, and the printer runs commands in the order in which they
+-- were put. What was printed before an Init doesn't matter to what is printed after it: from there on the receipt's commands print what
+-- they print on a printer just switched on. So when they have been run, exactly those items are on the paper, behind the items of the
+-- receipts before it; and a closing mark that is run comes behind all of them. Nothing removes an item, so what stands stands. A
+-- closing mark is answered only after it was run, and each has a number of its own, which no older mark has. The answers come in the
+-- order of the marks, so the one to the oldest receipt in flight comes first, and the receipts that the host records are just those that stand,
+-- in order.
+use Rattle.std.proofs.Common.{◌≡◌, ◌⊎◌, ◌<◌, ◌≤◌, ◌+◌, inl, inr, ℕ, List, [], ◌∷◌, ◌++◌, refl, sym, ◌∙◌, ap, subst, arith, append-nil, append_assoc}
+use Rattle.std.proofs.lemmas.List.{append_cancel_right}
+use Rattle.std.specs.List.{AllByRecursion}
+use Rattle.escpos_command.specs.declared.command.Command.{Command}
+use Rattle.escpos_command.specs.declared.command.Command.TheVariants as kind
+use Rattle.escpos_command.specs.Digits.{mark_count, mark_of}
+use Rattle.escpos_command.specs.Marks.{marks}
+use Rattle.escpos_paper.specs.declared.item.Item.{Item}
+use Rattle.escpos_paper.specs.Printed.{printed}
+use Rattle.escpos_host.specs.Heard.{IsClosing}
+use Rattle.escpos_host.specs.Machine.{InFlight}
+use Rattle.escpos_link.specs.Stands.{Stands}
+use Rattle.escpos_link.specs.Trusted.{Course, InOrder, IsKnown, Known, Owed, Printing, Rising, Stood, closing, receipts, sends}
+use Rattle.escpos_link.proofs.Aligning.{head_same, marks_append, tail_same}
+use Rattle.escpos_link.proofs.Numbers.{OfNumbers, known_front, known_join, known_more, not_closing, rising_add, rising_known, rising_more, rising_within}
+use Rattle.escpos_link.proofs.Standing.{stands_add, stands_front, stands_more}
+
+-- What is below of paper.
+pub record OfPaper : Type 0 where
+  pub init : (a b : List Command) → printed (a ++ kind.Init ∷ [] ++ b) ≡ printed a ++ printed b
+  pub grows : (a b : List Command) → (more : List Item) × (printed (a ++ b) ≡ printed a ++ more)
+
+closing_append : (a b : List InFlight) → closing (a ++ b) ≡ closing a ++ closing b
+closing_append [] b = refl
+closing_append (p ∷ a) b = ap (λ v. p.mark ∷ v) (closing_append a b)
+
+receipts_append : (a b : List InFlight) → receipts (a ++ b) ≡ receipts a ++ receipts b
+receipts_append [] b = refl
+receipts_append (p ∷ a) b = ap (λ v. p.receipt ∷ v) (receipts_append a b)
+
+sends_append : (a b : List InFlight) → sends (a ++ b) ≡ sends a ++ sends b
+sends_append [] b = refl
+sends_append (p ∷ a) b =
+    ap (λ v. kind.Init ∷ (p.receipt ++ (kind.Mark p.mark ∷ v))) (sends_append a b)
+    ∙ ap (λ v. kind.Init ∷ v) (sym (append_assoc p.receipt (kind.Mark p.mark ∷ sends a) (sends b)))
+
+abbrev Unmarked : List InFlight → Type 0
+Unmarked todo = AllByRecursion (λ (p : InFlight). marks p.receipt ≡ []) todo
+
+unmarked_add : (todo : List InFlight) (p : InFlight) → Unmarked todo → marks p.receipt ≡ [] → Unmarked (todo ++ p ∷ [])
+unmarked_add [] p u none = (none, tt)
+unmarked_add (q ∷ todo) p u none = (u.0, unmarked_add todo p u.1 none)
+
+marks_sends : (todo : List InFlight) → Unmarked todo → marks (sends todo) ≡ closing todo
+marks_sends [] u = refl
+marks_sends (p ∷ ps) u =
+    marks_append p.receipt (kind.Mark p.mark ∷ sends ps) ∙ ap (λ v. v ++ (p.mark ∷ marks (sends ps))) u.0 ∙ ap (λ v. p.mark ∷ v) (marks_sends ps u.1)
+
+-- ## A front of the marks that are to be heard
+
+record Front (base : ℕ) (done : List InFlight) (xs : List (List ℕ)) : Type 0 where
+  old : List (List ℕ)
+  first : List InFlight
+  more : List InFlight
+  known : Known base old
+  front_is : xs ≡ old ++ closing first
+  done_is : done ≡ first ++ more
+
+front_done : (base : ℕ) (xs ys : List (List ℕ)) (done : List InFlight) → xs ++ ys ≡ closing done
+    → (first : List InFlight) × (more : List InFlight) × (xs ≡ closing first) × (done ≡ first ++ more)
+front_done base [] ys done e = ([], done, refl, refl)
+front_done base (x ∷ xs) ys [] e = absurd cc
+front_done base (x ∷ xs) ys (d ∷ done) e =
+    let r = front_done base xs ys done (tail_same x d.mark (xs ++ ys) (closing done) e) in (
+      d ∷ r.0,
+      r.1,
+      ap (λ v. v ∷ xs) (head_same x d.mark (xs ++ ys) (closing done) e) ∙ ap (λ v. d.mark ∷ v) r.2,
+      ap (λ v. d ∷ v) r.3,
+    )
+
+front_queue : (base : ℕ) (old : List (List ℕ)) (done : List InFlight) (xs ys : List (List ℕ)) → Known base old → xs ++ ys ≡ old ++ closing done → Front base done xs
+front_queue base [] done xs ys k e =
+    let r = front_done base xs ys done e in record { old = []; first = r.0; more = r.1; known = tt; front_is = r.2; done_is = r.3 }
+front_queue base (o ∷ old) done [] ys k e = record { old = []; first = []; more = done; known = tt; front_is = refl; done_is = refl }
+front_queue base (o ∷ old) done (x ∷ xs) ys k e =
+    let r = front_queue base old done xs ys k.1 (tail_same x o (xs ++ ys) (old ++ closing done) e) in
+    record {
+      old = x ∷ r.old;
+      first = r.first;
+      more = r.more;
+      known = (subst (IsKnown base) (sym (head_same x o (xs ++ ys) (old ++ closing done) e)) k.0, r.known);
+      front_is = ap (λ v. x ∷ v) r.front_is;
+      done_is = r.done_is;
+    }
+
+pub owed_front : (records : List (List Command)) (flight : List InFlight) (next : ℕ) (items : List Item) (xs ys : List (List ℕ))
+    → Owed records flight next items (xs ++ ys) → Owed records flight next items xs
+owed_front records flight next items xs ys w =
+    let f = front_queue w.order.base w.order.old w.done xs ys w.order.known w.order.queue_is in
+    let split : w.done ++ w.todo ≡ f.first ++ (f.more ++ w.todo) = ap (λ v. v ++ w.todo) f.done_is ∙ append_assoc f.first f.more w.todo in
+    let all : records ++ receipts w.done ≡ (records ++ receipts f.first) ++ receipts f.more =
+    ap (λ v. records ++ v) (ap receipts f.done_is ∙ receipts_append f.first f.more) ∙ sym (append_assoc records (receipts f.first) (receipts f.more)) in
+    record {
+      done = f.first;
+      todo = f.more ++ w.todo;
+      flight_is = w.flight_is ∙ split;
+      order = record {
+        old = f.old;
+        base = w.order.base;
+        known = f.known;
+        rising = subst (λ v. Rising w.order.base v next) split w.order.rising;
+        queue_is = f.front_is;
+      };
+      stands = stands_front (records ++ receipts f.first) (receipts f.more) items (subst (λ v. Stands v items) all w.stands);
+    }
+
+-- ## What a course comes to where nothing of it is run any more
+
+printed_so : OfPaper → (kept : List Item) (first run ran : List Command) → ran ≡ first ++ kind.Init ∷ [] ++ run
+    → (kept ++ printed first) ++ printed run ≡ kept ++ printed ran
+printed_so paper kept first run ran is =
+    append_assoc kept (printed first) (printed run) ∙ ap (λ v. kept ++ v) (sym (paper.init first run) ∙ ap printed (sym is))
+
+marks_last : (left : List Command) (id : List ℕ) (rest : List Command) → rest ≡ left ++ kind.Mark id ∷ [] → marks rest ≡ marks left ++ id ∷ []
+marks_last left id rest is = ap marks is ∙ marks_append left (kind.Mark id ∷ [])
+
+settles : OfPaper → (records : List (List Command)) (flight done todo : List InFlight) (next : ℕ) (kept : List Item) (ran : List Command) (pending : List (List ℕ))
+    (rest : List Command) → flight ≡ done ++ todo → InOrder done todo next (pending ++ marks rest) → Stood records done rest kept ran
+    → (tail : List (List ℕ)) × Owed records flight next (kept ++ printed ran) (pending ++ tail)
+settles paper records flight done todo next kept ran pending rest is order (inl s) =
+    (marks rest, record { done = done; todo = todo; flight_is = is; order = order; stands = s })
+settles paper records flight done todo next kept ran pending rest is order (inr p) =
+    let split : done ++ todo ≡ p.before ++ (p.current ∷ todo) = ap (λ v. v ++ todo) p.done_is ∙ append_assoc p.before (p.current ∷ []) todo in
+    let id = p.current.mark in
+    let long : (pending ++ marks p.left) ++ id ∷ [] ≡ (order.old ++ closing p.before) ++ id ∷ [] =
+    append_assoc pending (marks p.left) (id ∷ []) ∙ ap (λ v. pending ++ v) (sym (marks_last p.left id rest p.rest_is)) ∙ order.queue_is
+    ∙ ap (λ v. order.old ++ v) (ap closing p.done_is ∙ closing_append p.before (p.current ∷ [])) ∙ sym (append_assoc order.old (closing p.before) (id ∷ [])) in (
+      marks p.left,
+      record {
+        done = p.before;
+        todo = p.current ∷ todo;
+        flight_is = is ∙ split;
+        order = record {
+          old = order.old;
+          base = order.base;
+          known = order.known;
+          rising = subst (λ v. Rising order.base v next) split order.rising;
+          queue_is = append_cancel_right (pending ++ marks p.left) (order.old ++ closing p.before) (id ∷ []) long;
+        };
+        stands = subst (λ v. Stands (records ++ receipts p.before) v) (printed_so paper kept p.first p.run ran p.ran_is)
+            (stands_more (records ++ receipts p.before) (kept ++ printed p.first) (printed p.run) p.stands);
+      },
+    )
+
+pub course_owed : OfPaper → (records : List (List Command)) (flight : List InFlight) (next : ℕ) (kept : List Item) (ran : List Command) (xs ys : List (List ℕ))
+    (due : List Command) → Course records flight next kept ran (xs ++ ys) due → Owed records flight next (kept ++ printed ran) xs
+course_owed paper records flight next kept ran xs ys due c =
+    let s = settles paper records flight c.done c.todo next kept ran (xs ++ ys) c.rest c.flight_is c.order c.stood in
+    owed_front records flight next (kept ++ printed ran) xs (ys ++ s.0)
+    (subst (λ v. Owed records flight next (kept ++ printed ran) v) (append_assoc xs ys s.0) s.1)
+
+pub owed_stands : (records : List (List Command)) (flight : List InFlight) (next : ℕ) (items : List Item) (pending : List (List ℕ))
+    → Owed records flight next items pending → Stands records items
+owed_stands records flight next items pending w = stands_front records (receipts w.done) items w.stands
+
+pub course_stands : OfPaper → (records : List (List Command)) (flight : List InFlight) (next : ℕ) (kept : List Item) (ran : List Command) (pending : List (List ℕ))
+    (due : List Command) → Course records flight next kept ran pending due → Stands records (kept ++ printed ran)
+course_stands paper records flight next kept ran pending due c =
+    let s = settles paper records flight c.done c.todo next kept ran pending c.rest c.flight_is c.order c.stood in
+    owed_stands records flight next (kept ++ printed ran) (pending ++ s.0) s.1
+
+order_known : (done todo : List InFlight) (next : ℕ) (queue : List (List ℕ)) → InOrder done todo next queue → Known next (queue ++ closing todo)
+order_known done todo next queue o =
+    let within = rising_within o.base next (done ++ todo) o.rising in
+    let all : queue ++ closing todo ≡ o.old ++ closing (done ++ todo) =
+    ap (λ v. v ++ closing todo) o.queue_is ∙ append_assoc o.old (closing done) (closing todo) ∙ ap (λ v. o.old ++ v) (sym (closing_append done todo)) in
+    subst (Known next) (sym all)
+    (known_join next o.old (closing (done ++ todo)) (known_more o.base next o.old within o.known) (rising_known o.base next (done ++ todo) o.rising))
+
+pub owed_known : (records : List (List Command)) (flight : List InFlight) (next : ℕ) (items : List Item) (pending : List (List ℕ))
+    → Owed records flight next items pending → Known next pending
+owed_known records flight next items pending w = known_front next pending (closing w.todo) (order_known w.done w.todo next pending w.order)
+
+pub course_known : (records : List (List Command)) (flight : List InFlight) (next : ℕ) (kept : List Item) (ran : List Command) (pending : List (List ℕ))
+    (due : List Command) → Course records flight next kept ran pending due → Known next (pending ++ marks due)
+course_known records flight next kept ran pending due c =
+    let of_due : marks due ≡ marks c.rest ++ closing c.todo =
+    ap marks c.due_is ∙ marks_append c.rest (sends c.todo) ∙ ap (λ v. marks c.rest ++ v) (marks_sends c.todo c.unmarked) in
+    subst (Known next) (append_assoc pending (marks c.rest) (closing c.todo) ∙ ap (λ v. pending ++ v) (sym of_due))
+    (order_known c.done c.todo next (pending ++ marks c.rest) c.order)
+
+-- ## With no receipt in flight
+
+at_rest : (next : ℕ) (queue : List (List ℕ)) → Known next queue → InOrder [] [] next queue
+at_rest next queue known = record { old = queue; base = next; known = known; rising = omega arith; queue_is = sym (append-nil queue) }
+
+pub rested : (records : List (List Command)) (next : ℕ) (kept : List Item) (ran : List Command) (pending : List (List ℕ)) (due : List Command)
+    → Stands records (kept ++ printed ran) → Known next (pending ++ marks due) → Course records [] next kept ran pending due
+rested records next kept ran pending due s known = record {
+  done = [];
+  todo = [];
+  rest = due;
+  flight_is = refl;
+  order = at_rest next (pending ++ marks due) known;
+  due_is = sym (append-nil due);
+  unmarked = tt;
+  stood = inl (subst (λ v. Stands v (kept ++ printed ran)) (sym (append-nil records)) s);
+}
+
+pub owed_rested : (records : List (List Command)) (next : ℕ) (items : List Item) (pending : List (List ℕ)) → Stands records items → Known next pending
+    → Owed records [] next items pending
+owed_rested records next items pending s known = record {
+  done = [];
+  todo = [];
+  flight_is = refl;
+  order = at_rest next pending known;
+  stands = subst (λ v. Stands v items) (sym (append-nil records)) s;
+}
+
+pub course_more : OfPaper → (records : List (List Command)) (flight : List InFlight) (next n : ℕ) (kept : List Item) (ran : List Command) (pending : List (List ℕ))
+    (due cs : List Command) → flight ≡ [] → next ≤ n → Known n (marks cs) → Course records flight next kept ran pending due
+    → Course records flight n kept ran pending (due ++ cs)
+course_more paper records flight next n kept ran pending due cs none more known c =
+    let before = known_more next n (pending ++ marks due) more (course_known records flight next kept ran pending due c) in
+    let all : (pending ++ marks due) ++ marks cs ≡ pending ++ marks (due ++ cs) =
+    append_assoc pending (marks due) (marks cs) ∙ ap (λ v. pending ++ v) (sym (marks_append due cs)) in
+    subst (λ v. Course records v n kept ran pending (due ++ cs)) (sym none)
+    (rested records n kept ran pending (due ++ cs) (course_stands paper records flight next kept ran pending due c)
+    (subst (Known n) all (known_join n (pending ++ marks due) (marks cs) before known)))
+
+pub owed_more : (records : List (List Command)) (flight : List InFlight) (next n : ℕ) (items : List Item) (pending : List (List ℕ)) → next ≤ n
+    → Owed records flight next items pending → Owed records flight n items pending
+owed_more records flight next n items pending more w = record {
+  done = w.done;
+  todo = w.todo;
+  flight_is = w.flight_is;
+  order = record {
+    old = w.order.old;
+    base = w.order.base;
+    known = w.order.known;
+    rising = rising_more w.order.base next n (w.done ++ w.todo) more w.order.rising;
+    queue_is = w.order.queue_is;
+  };
+  stands = w.stands;
+}
+
+-- ## One more receipt
+
+order_add : (done todo : List InFlight) (next : ℕ) (queue : List (List ℕ)) (p : InFlight) → next < mark_count → p.mark ≡ mark_of next → InOrder done todo next queue
+    → InOrder done (todo ++ p ∷ []) (next + 1) queue
+order_add done todo next queue p few is o = record {
+  old = o.old;
+  base = o.base;
+  known = o.known;
+  rising = subst (λ v. Rising o.base v (next + 1)) (append_assoc done todo (p ∷ [])) (rising_add o.base next (done ++ todo) p few is o.rising);
+  queue_is = o.queue_is;
+}
+
+pub course_submit : (records : List (List Command)) (flight : List InFlight) (next : ℕ) (kept : List Item) (ran : List Command) (pending : List (List ℕ))
+    (due : List Command) (p : InFlight) → next < mark_count → p.mark ≡ mark_of next → marks p.receipt ≡ [] → Course records flight next kept ran pending due
+    → Course records (flight ++ p ∷ []) (next + 1) kept ran pending (due ++ sends (p ∷ []))
+course_submit records flight next kept ran pending due p few is none c = record {
+  done = c.done;
+  todo = c.todo ++ p ∷ [];
+  rest = c.rest;
+  flight_is = ap (λ v. v ++ p ∷ []) c.flight_is ∙ append_assoc c.done c.todo (p ∷ []);
+  order = order_add c.done c.todo next (pending ++ marks c.rest) p few is c.order;
+  due_is = ap (λ v. v ++ sends (p ∷ [])) c.due_is ∙ append_assoc c.rest (sends c.todo) (sends (p ∷ [])) ∙ ap (λ v. c.rest ++ v) (sym (sends_append c.todo (p ∷ [])));
+  unmarked = unmarked_add c.todo p c.unmarked none;
+  stood = c.stood;
+}
+
+pub owed_submit : (records : List (List Command)) (flight : List InFlight) (next : ℕ) (items : List Item) (pending : List (List ℕ)) (p : InFlight)
+    → next < mark_count → p.mark ≡ mark_of next → Owed records flight next items pending → Owed records (flight ++ p ∷ []) (next + 1) items pending
+owed_submit records flight next items pending p few is w = record {
+  done = w.done;
+  todo = w.todo ++ p ∷ [];
+  flight_is = ap (λ v. v ++ p ∷ []) w.flight_is ∙ append_assoc w.done w.todo (p ∷ []);
+  order = order_add w.done w.todo next pending p few is w.order;
+  stands = w.stands;
+}
+
+-- ## The printer runs a command that is due
+
+pub more_printed : OfPaper → (rs : List (List Command)) (kept : List Item) (ran cs : List Command) → Stands rs (kept ++ printed ran) → Stands rs (kept ++ printed (ran ++ cs))
+more_printed paper rs kept ran cs s =
+    let g = paper.grows ran cs in
+    subst (Stands rs) (append_assoc kept (printed ran) g.0 ∙ ap (λ v. kept ++ v) (sym g.1)) (stands_more rs (kept ++ printed ran) g.0 s)
+
+-- A receipt that is printed to its end stands.
+finished : OfPaper → (records : List (List Command)) (done : List InFlight) (rest : List Command) (kept : List Item) (ran : List Command)
+    → (p : Printing records done rest kept ran) → p.left ≡ [] → Stands (records ++ receipts done) (kept ++ printed ran)
+finished paper records done rest kept ran p none =
+    let whole : p.run ≡ p.current.receipt = sym (append-nil p.run) ∙ ap (λ v. p.run ++ v) (sym none) ∙ sym p.receipt_is in
+    let all : (records ++ receipts p.before) ++ p.current.receipt ∷ [] ≡ records ++ receipts done =
+    append_assoc records (receipts p.before) (p.current.receipt ∷ [])
+    ∙ ap (λ v. records ++ v) (sym (receipts_append p.before (p.current ∷ [])) ∙ ap receipts (sym p.done_is)) in
+    subst (λ v. Stands v (kept ++ printed ran)) all
+    (subst (Stands ((records ++ receipts p.before) ++ p.current.receipt ∷ []))
+    (ap (λ v. (kept ++ printed p.first) ++ printed v) (sym whole) ∙ printed_so paper kept p.first p.run ran p.ran_is)
+    (stands_add (records ++ receipts p.before) p.current.receipt (kept ++ printed p.first) p.stands))
+
+printing_on : OfPaper → (records : List (List Command)) (done : List InFlight) (d : Command) (rest : List Command) (kept : List Item) (ran left : List Command)
+    → (p : Printing records done (d ∷ rest) kept ran) → p.left ≡ left → Stood records done rest kept (ran ++ d ∷ [])
+printing_on paper records done d rest kept ran [] p is =
+    inl (more_printed paper (records ++ receipts done) kept ran (d ∷ []) (finished paper records done (d ∷ rest) kept ran p is))
+printing_on paper records done d rest kept ran (l ∷ left) p is =
+    let e : d ∷ rest ≡ l ∷ (left ++ kind.Mark p.current.mark ∷ []) = p.rest_is ∙ ap (λ v. v ++ kind.Mark p.current.mark ∷ []) is in
+    let same = head_same d l rest (left ++ kind.Mark p.current.mark ∷ []) e in
+    inr (record {
+      before = p.before;
+      current = p.current;
+      first = p.first;
+      run = p.run ++ d ∷ [];
+      left = left;
+      done_is = p.done_is;
+      ran_is = ap (λ v. v ++ d ∷ []) p.ran_is ∙ append_assoc (p.first ++ kind.Init ∷ []) p.run (d ∷ []);
+      receipt_is = p.receipt_is ∙ ap (λ v. p.run ++ v) (is ∙ ap (λ v. v ∷ left) (sym same)) ∙ sym (append_assoc p.run (d ∷ []) left);
+      rest_is = tail_same d l rest (left ++ kind.Mark p.current.mark ∷ []) e;
+      stands = p.stands;
+    })
+
+stood_on : OfPaper → (records : List (List Command)) (done : List InFlight) (d : Command) (rest : List Command) (kept : List Item) (ran : List Command)
+    → Stood records done (d ∷ rest) kept ran → Stood records done rest kept (ran ++ d ∷ [])
+stood_on paper records done d rest kept ran (inl s) = inl (more_printed paper (records ++ receipts done) kept ran (d ∷ []) s)
+stood_on paper records done d rest kept ran (inr p) = printing_on paper records done d rest kept ran p.left p refl
+
+-- The next command of what was begun.
+step_on : OfPaper → (records : List (List Command)) (flight done todo : List InFlight) (next : ℕ) (kept : List Item) (ran : List Command) (pending : List (List ℕ))
+    (d : Command) (rest due : List Command) → flight ≡ done ++ todo → InOrder done todo next (pending ++ marks (d ∷ rest)) → due ≡ rest ++ sends todo → Unmarked todo
+    → Stood records done (d ∷ rest) kept ran → Course records flight next kept (ran ++ d ∷ []) (pending ++ marks (d ∷ [])) due
+step_on paper records flight done todo next kept ran pending d rest due is order due_is unmarked stood = record {
+  done = done;
+  todo = todo;
+  rest = rest;
+  flight_is = is;
+  order = subst (InOrder done todo next) (ap (λ v. pending ++ v) (marks_append (d ∷ []) rest) ∙ sym (append_assoc pending (marks (d ∷ [])) (marks rest))) order;
+  due_is = due_is;
+  unmarked = unmarked;
+  stood = stood_on paper records done d rest kept ran stood;
+}
+
+-- The Init of the next receipt.
+step_init : (records : List (List Command)) (flight done todo : List InFlight) (q : InFlight) (next : ℕ) (kept : List Item) (ran : List Command)
+    (pending : List (List ℕ)) → flight ≡ done ++ (q ∷ todo) → InOrder done (q ∷ todo) next (pending ++ []) → Unmarked (q ∷ todo)
+    → Stands (records ++ receipts done) (kept ++ printed ran)
+    → Course records flight next kept (ran ++ kind.Init ∷ []) (pending ++ []) (q.receipt ++ (kind.Mark q.mark ∷ sends todo))
+step_init records flight done todo q next kept ran pending is order unmarked s =
+    let split : done ++ (q ∷ todo) ≡ (done ++ q ∷ []) ++ todo = sym (append_assoc done (q ∷ []) todo) in
+    let mark : marks (q.receipt ++ kind.Mark q.mark ∷ []) ≡ q.mark ∷ [] = marks_append q.receipt (kind.Mark q.mark ∷ []) ∙ ap (λ v. v ++ q.mark ∷ []) unmarked.0 in
+    record {
+      done = done ++ q ∷ [];
+      todo = todo;
+      rest = q.receipt ++ kind.Mark q.mark ∷ [];
+      flight_is = is ∙ split;
+      order = record {
+        old = order.old;
+        base = order.base;
+        known = order.known;
+        rising = subst (λ v. Rising order.base v next) split order.rising;
+        queue_is = ap (λ v. (pending ++ []) ++ v) mark ∙ ap (λ v. v ++ q.mark ∷ []) order.queue_is ∙ append_assoc order.old (closing done) (q.mark ∷ [])
+            ∙ ap (λ v. order.old ++ v) (sym (closing_append done (q ∷ [])));
+      };
+      due_is = sym (append_assoc q.receipt (kind.Mark q.mark ∷ []) (sends todo));
+      unmarked = unmarked.1;
+      stood = inr (record {
+        before = done;
+        current = q;
+        first = ran;
+        run = [];
+        left = q.receipt;
+        done_is = refl;
+        ran_is = sym (append-nil (ran ++ kind.Init ∷ []));
+        receipt_is = refl;
+        rest_is = refl;
+        stands = s;
+      });
+    }
+
+ends_never : {X : Type 0} (xs : List X) (x : X) → [] ≡ xs ++ x ∷ [] → ⊥
+ends_never [] x e = cc e
+ends_never (y ∷ xs) x e = cc e
+
+step_at : OfPaper → (records : List (List Command)) (flight done todo : List InFlight) (next : ℕ) (kept : List Item) (ran : List Command) (pending : List (List ℕ))
+    (c : Command) (rest due : List Command) → flight ≡ done ++ todo → InOrder done todo next (pending ++ marks rest) → c ∷ due ≡ rest ++ sends todo → Unmarked todo
+    → Stood records done rest kept ran → Course records flight next kept (ran ++ c ∷ []) (pending ++ marks (c ∷ [])) due
+step_at paper records flight done todo next kept ran pending c (d ∷ rest) due is order due_is unmarked stood =
+    subst (λ v. Course records flight next kept (ran ++ v ∷ []) (pending ++ marks (v ∷ [])) due) (sym (head_same c d due (rest ++ sends todo) due_is))
+    (step_on paper records flight done todo next kept ran pending d rest due is order (tail_same c d due (rest ++ sends todo) due_is) unmarked stood)
+step_at paper records flight done [] next kept ran pending c [] due is order due_is unmarked stood = absurd (cc due_is)
+step_at paper records flight done (q ∷ todo) next kept ran pending c [] due is order due_is unmarked (inr p) = absurd (ends_never p.left (kind.Mark p.current.mark) p.rest_is)
+step_at paper records flight done (q ∷ todo) next kept ran pending c [] due is order due_is unmarked (inl s) =
+    let after = q.receipt ++ (kind.Mark q.mark ∷ sends todo) in
+    subst (λ v. Course records flight next kept (ran ++ v ∷ []) (pending ++ marks (v ∷ [])) due) (sym (head_same c kind.Init due after due_is))
+    (subst (λ v. Course records flight next kept (ran ++ kind.Init ∷ []) (pending ++ []) v) (sym (tail_same c kind.Init due after due_is))
+    (step_init records flight done todo q next kept ran pending is order unmarked s))
+
+course_step : OfPaper → (records : List (List Command)) (flight : List InFlight) (next : ℕ) (kept : List Item) (ran : List Command) (pending : List (List ℕ))
+    (c : Command) (due : List Command) → Course records flight next kept ran pending (c ∷ due)
+    → Course records flight next kept (ran ++ c ∷ []) (pending ++ marks (c ∷ [])) due
+course_step paper records flight next kept ran pending c due course =
+    step_at paper records flight course.done course.todo next kept ran pending c course.rest due course.flight_is course.order course.due_is course.unmarked course.stood
+
+pub course_run : OfPaper → (records : List (List Command)) (flight : List InFlight) (next : ℕ) (kept : List Item) (ran : List Command) (pending : List (List ℕ))
+    (cs due : List Command) → Course records flight next kept ran pending (cs ++ due) → Course records flight next kept (ran ++ cs) (pending ++ marks cs) due
+course_run paper records flight next kept ran pending [] due c =
+    subst (λ v. Course records flight next kept v (pending ++ []) due) (sym (append-nil ran))
+    (subst (λ v. Course records flight next kept ran v due) (sym (append-nil pending)) c)
+course_run paper records flight next kept ran pending (d ∷ cs) due c =
+    let one = course_step paper records flight next kept ran pending d (cs ++ due) c in
+    let all = course_run paper records flight next kept (ran ++ d ∷ []) (pending ++ marks (d ∷ [])) cs due one in
+    subst (λ v. Course records flight next kept v (pending ++ marks (d ∷ cs)) due) (append_assoc ran (d ∷ []) cs)
+    (subst (λ v. Course records flight next kept ((ran ++ d ∷ []) ++ cs) v due)
+    (append_assoc pending (marks (d ∷ [])) (marks cs) ∙ ap (λ v. pending ++ v) (sym (marks_append (d ∷ []) cs))) all)
+
+-- ## The host hears the next mark
+
+-- The mark is none of those in flight; or it is that of the oldest receipt, which is recorded.
+abbrev pub Popped : (List (List Command) → List InFlight → Type 0) → List (List Command) → List InFlight → List ℕ → Type 0
+Popped P records flight id =
+    ((IsClosing flight id → ⊥) × P records flight)
+    ⊎ ((q : InFlight) × (ps : List InFlight) × (flight ≡ q ∷ ps) × (q.mark ≡ id) × P (records ++ q.receipt ∷ []) ps)
+
+abbrev TurnsIn : List InFlight → List InFlight → ℕ → List ℕ → List (List ℕ) → Type 0
+TurnsIn done todo next id queue =
+    ((IsClosing (done ++ todo) id → ⊥) × InOrder done todo next queue)
+    ⊎ ((q : InFlight) × (others : List InFlight) × (done ≡ q ∷ others) × (q.mark ≡ id) × (queue ≡ closing others) × InOrder others todo next queue)
+
+turn_at : OfNumbers → (base : ℕ) (old : List (List ℕ)) (done todo : List InFlight) (next : ℕ) (id : List ℕ) (queue : List (List ℕ)) → Known base old
+    → Rising base (done ++ todo) next → id ∷ queue ≡ old ++ closing done → TurnsIn done todo next id queue
+turn_at of base (o ∷ old) done todo next id queue known rising e =
+    let same = head_same id o queue (old ++ closing done) e in
+    inl (
+      not_closing of base next (done ++ todo) id (subst (IsKnown base) (sym same) known.0) rising,
+      record { old = old; base = base; known = known.1; rising = rising; queue_is = tail_same id o queue (old ++ closing done) e },
+    )
+turn_at of base [] [] todo next id queue known rising e = absurd (cc e)
+turn_at of base [] (q ∷ others) todo next id queue known (n, from, few, is, rising) e =
+    let rest = tail_same id q.mark queue (closing others) e in
+    inr (
+      q,
+      others,
+      refl,
+      sym (head_same id q.mark queue (closing others) e),
+      rest,
+      record { old = []; base = n + 1; known = tt; rising = rising; queue_is = rest },
+    )
+
+turn_order : OfNumbers → (done todo : List InFlight) (next : ℕ) (id : List ℕ) (queue : List (List ℕ)) → InOrder done todo next (id ∷ queue) → TurnsIn done todo next id queue
+turn_order of done todo next id queue o = turn_at of o.base o.old done todo next id queue o.known o.rising o.queue_is
+
+shifted : (records : List (List Command)) (q : InFlight) (done others : List InFlight) → done ≡ q ∷ others
+    → records ++ receipts done ≡ (records ++ q.receipt ∷ []) ++ receipts others
+shifted records q done others is = ap (λ v. records ++ receipts v) is ∙ sym (append_assoc records (q.receipt ∷ []) (receipts others))
+
+pub owed_turn : OfNumbers → (records : List (List Command)) (flight : List InFlight) (next : ℕ) (items : List Item) (id : List ℕ) (pending : List (List ℕ))
+    → Owed records flight next items (id ∷ pending) → Popped (λ rs f. Owed rs f next items pending) records flight id
+owed_turn of records flight next items id pending w = elim (turn_order of w.done w.todo next id pending w.order) [
+  | inl (stale, o) ↦ inl (
+    subst (λ v. IsClosing v id → ⊥) (sym w.flight_is) stale,
+    record { done = w.done; todo = w.todo; flight_is = w.flight_is; order = o; stands = w.stands },
+  )
+  | inr (q, others, is, mark, queue, o) ↦ inr (
+    q,
+    others ++ w.todo,
+    w.flight_is ∙ ap (λ v. v ++ w.todo) is,
+    mark,
+    record { done = others; todo = w.todo; flight_is = refl; order = o; stands = subst (λ v. Stands v items) (shifted records q w.done others is) w.stands },
+  )
+]
+
+marks_end : (left : List Command) (id : List ℕ) (pending : List (List ℕ)) (rest : List Command) → rest ≡ left ++ kind.Mark id ∷ [] → pending ++ marks rest ≡ [] → ⊥
+marks_end left id pending rest is none =
+    ends_never (pending ++ marks left) id
+    (sym none ∙ ap (λ v. pending ++ v) (marks_last left id rest is) ∙ sym (append_assoc pending (marks left) (id ∷ [])))
+
+printing_turn : (records : List (List Command)) (done : List InFlight) (rest : List Command) (kept : List Item) (ran : List Command) (q : InFlight)
+    (others before : List InFlight) (pending : List (List ℕ)) → (p : Printing records done rest kept ran) → p.before ≡ before → done ≡ q ∷ others
+    → pending ++ marks rest ≡ closing others → Printing (records ++ q.receipt ∷ []) others rest kept ran
+printing_turn records done rest kept ran q others [] pending p none is queue =
+    let one : q ∷ others ≡ p.current ∷ [] = sym is ∙ p.done_is ∙ ap (λ v. v ++ p.current ∷ []) none in
+    let last = tail_same q p.current others [] one in
+    absurd (marks_end p.left p.current.mark pending rest p.rest_is (queue ∙ ap closing last))
+printing_turn records done rest kept ran q others (b ∷ before) pending p some is queue =
+    let all : q ∷ others ≡ b ∷ (before ++ p.current ∷ []) = sym is ∙ p.done_is ∙ ap (λ v. v ++ p.current ∷ []) some in
+    let same = head_same q b others (before ++ p.current ∷ []) all in
+    record {
+      before = before;
+      current = p.current;
+      first = p.first;
+      run = p.run;
+      left = p.left;
+      done_is = tail_same q b others (before ++ p.current ∷ []) all;
+      ran_is = p.ran_is;
+      receipt_is = p.receipt_is;
+      rest_is = p.rest_is;
+      stands = subst (λ v. Stands v (kept ++ printed p.first)) (shifted records q p.before before (some ∙ ap (λ v. v ∷ before) (sym same))) p.stands;
+    }
+
+stood_turn : (records : List (List Command)) (done : List InFlight) (rest : List Command) (kept : List Item) (ran : List Command) (q : InFlight)
+    (others : List InFlight) (pending : List (List ℕ)) → done ≡ q ∷ others → pending ++ marks rest ≡ closing others → Stood records done rest kept ran
+    → Stood (records ++ q.receipt ∷ []) others rest kept ran
+stood_turn records done rest kept ran q others pending is queue (inl s) =
+    inl (subst (λ v. Stands v (kept ++ printed ran)) (shifted records q done others is) s)
+stood_turn records done rest kept ran q others pending is queue (inr p) = inr (printing_turn records done rest kept ran q others p.before pending p refl is queue)
+
+pub course_turn : OfNumbers → (records : List (List Command)) (flight : List InFlight) (next : ℕ) (kept : List Item) (ran : List Command) (id : List ℕ)
+    (pending : List (List ℕ)) (due : List Command) → Course records flight next kept ran (id ∷ pending) due
+    → Popped (λ rs f. Course rs f next kept ran pending due) records flight id
+course_turn of records flight next kept ran id pending due c = elim (turn_order of c.done c.todo next id (pending ++ marks c.rest) c.order) [
+  | inl (stale, o) ↦ inl (
+    subst (λ v. IsClosing v id → ⊥) (sym c.flight_is) stale,
+    record { done = c.done; todo = c.todo; rest = c.rest; flight_is = c.flight_is; order = o; due_is = c.due_is; unmarked = c.unmarked; stood = c.stood },
+  )
+  | inr (q, others, is, mark, queue, o) ↦ inr (
+    q,
+    others ++ c.todo,
+    c.flight_is ∙ ap (λ v. v ++ c.todo) is,
+    mark,
+    record {
+      done = others;
+      todo = c.todo;
+      rest = c.rest;
+      flight_is = refl;
+      order = o;
+      due_is = c.due_is;
+      unmarked = c.unmarked;
+      stood = stood_turn records c.done c.rest kept ran q others pending is queue c.stood;
+    },
+  )
+]

@@ -1,0 +1,235 @@
+-- Why records can be trusted: what is true of host, printer and links together at all times, of which the records that stand on
+-- the paper are a part. Each part is needed for the next event, whatever it is.
+--
+-- A line is in one of four ways. Off: the host has no link. Left: the host is up, but the printer has left its link, so what
+-- was put on it is lost and only answers may still come. Unopened: the host is opening its link, and no mark of that was run;
+-- the printer may still serve older links, or hold a half command of one, and so may read what comes as something else. Serving:
+-- a mark of the live link was run, or so it is as if one was: the printer reads from there on what the host puts.
+--
+--   Way      | Link        | What the host may hear
+--   Off      | none        | nothing
+--   Left     | none        | answers of before; a closing mark's, whose receipt then stands
+--   Unopened | the newest  | marks below its first opening mark, all of which it ignores
+--   Serving  | the only    | its own marks, in the order in which it put them
+--
+-- A host gets from Unopened to Serving by no event of its own: it is Serving once the printer has run one of its opening marks.
+-- Only then is there an answer to one, and only that lets the host put a receipt.
+use Rattle.std.specs.Prelude.{ℕ, ◌≡◌, ◌≢◌, ◌<◌, ◌≤◌, ◌+◌, ◌⊎◌, List, [], ◌∷◌, ◌++◌, map, Option, Some, None}
+use Rattle.std.specs.List.{flat_map, AllByRecursion}
+use Rattle.escpos_command.specs.declared.answer.Answer.{Answer}
+use Rattle.escpos_command.specs.declared.answer.Answer.TheVariants as answer
+use Rattle.escpos_command.specs.declared.command.Command.{Command}
+use Rattle.escpos_command.specs.declared.command.Command.TheVariants as kind
+use Rattle.escpos_command.specs.Answers.{Hears}
+use Rattle.escpos_command.specs.CommandTable.{AreCommands, IsCommand, spell}
+use Rattle.escpos_command.specs.Digits.{mark_count, mark_of}
+use Rattle.escpos_command.specs.Grammar.{Half, Reads}
+use Rattle.escpos_command.specs.Marks.{marks}
+use Rattle.escpos_paper.specs.declared.item.Item.{Item}
+use Rattle.escpos_paper.specs.Page.{Sheet, SheetIs}
+use Rattle.escpos_paper.specs.Printed.{printed}
+use Rattle.escpos_host.specs.declared.host.HostEvent.TheVariants as heard
+use Rattle.escpos_host.specs.Machine.{InFlight, IsSound, Phase, Down, Opening, Open}
+use Rattle.escpos_link.specs.declared.event.Event.{Event}
+use Rattle.escpos_link.specs.declared.event.Event.TheVariants as event
+use Rattle.escpos_link.specs.declared.event.Note.{Note}
+use Rattle.escpos_link.specs.declared.event.Note.TheVariants as note
+use Rattle.escpos_link.specs.EventTable.{After, Leaves}
+use Rattle.escpos_link.specs.Line.{IsLine, LineView}
+use Rattle.escpos_link.specs.Stands.{Stands}
+
+-- ## Marks and their numbers
+
+-- The ids of the marks that are answered.
+abbrev pub answered : Answer → List (List ℕ)
+answered (answer.Status b) = []
+answered (answer.Mark id) = id ∷ []
+
+abbrev pub answered_marks : List Answer → List (List ℕ)
+answered_marks answers = flat_map answered answers
+
+-- The id is that of a mark with a number below this one.
+abbrev pub IsKnown : ℕ → List ℕ → Type 0
+IsKnown bound id = (n : ℕ) × (n < bound) × (n < mark_count) × (mark_of n ≡ id)
+
+abbrev pub Known : ℕ → List (List ℕ) → Type 0
+Known bound ids = AllByRecursion (IsKnown bound) ids
+
+-- ## Receipts in flight
+
+abbrev pub flight_of : Phase → List InFlight
+flight_of (Open flight) = flight
+flight_of _ = []
+
+abbrev pub closing : List InFlight → List (List ℕ)
+closing flight = map (λ (p : InFlight). p.mark) flight
+
+abbrev pub receipts : List InFlight → List (List Command)
+receipts flight = map (λ (p : InFlight). p.receipt) flight
+
+-- What the host puts for receipts: each behind an Init and before its closing mark.
+abbrev pub sends : List InFlight → List Command
+sends [] = []
+sends (p ∷ ps) = kind.Init ∷ (p.receipt ++ (kind.Mark p.mark ∷ sends ps))
+
+-- The numbers of their closing marks grow from one on, and are below the next.
+abbrev pub Rising : ℕ → List InFlight → ℕ → Type 0
+Rising from [] next = from ≤ next
+Rising from (p ∷ ps) next = (n : ℕ) × (from ≤ n) × (n < mark_count) × (p.mark ≡ mark_of n) × Rising (n + 1) ps next
+
+-- The marks of a queue are older ones and then the closing marks of the receipts that are done, in order. Those to do come after
+-- them; all of their numbers grow.
+pub record InOrder (done todo : List InFlight) (next : ℕ) (queue : List (List ℕ)) : Type 0 where
+  pub old : List (List ℕ)
+  pub base : ℕ
+  pub known : Known base old
+  pub rising : Rising base (done ++ todo) next
+  pub queue_is : queue ≡ old ++ closing done
+
+-- The last of the receipts that are done is still being printed: its Init was run, and the rest of it and its closing mark are to come.
+pub record Printing (records : List (List Command)) (done : List InFlight) (rest : List Command) (kept : List Item) (ran : List Command) : Type 0 where
+  pub before : List InFlight
+  pub current : InFlight
+  pub first : List Command
+  pub run : List Command
+  pub left : List Command
+  pub done_is : done ≡ before ++ current ∷ []
+  pub ran_is : ran ≡ first ++ kind.Init ∷ [] ++ run
+  pub receipt_is : current.receipt ≡ run ++ left
+  pub rest_is : rest ≡ left ++ kind.Mark current.mark ∷ []
+  pub stands : Stands (records ++ receipts before) (kept ++ printed first)
+
+-- What is recorded and what is done stands on the paper; or all of it but the last, which is being printed.
+abbrev pub Stood : List (List Command) → List InFlight → List Command → List Item → List Command → Type 0
+Stood records done rest kept ran = Stands (records ++ receipts done) (kept ++ printed ran) ⊎ Printing records done rest kept ran
+
+-- How far the receipts in flight are, where these commands were run on paper that held some items, these marks are answered and not heard
+-- yet, and these commands are due: the rest of what was begun, and then the receipts to do.
+pub record Course (records : List (List Command)) (flight : List InFlight) (next : ℕ) (kept : List Item) (ran : List Command) (pending : List (List ℕ))
+    (due : List Command) : Type 0 where
+  pub done : List InFlight
+  pub todo : List InFlight
+  pub rest : List Command
+  pub flight_is : flight ≡ done ++ todo
+  pub order : InOrder done todo next (pending ++ marks rest)
+  pub due_is : due ≡ rest ++ sends todo
+  pub unmarked : AllByRecursion (λ (p : InFlight). marks p.receipt ≡ []) todo
+  pub stood : Stood records done rest kept ran
+
+-- The same where nothing is due any more: of the receipts in flight those whose closing marks are answered stand.
+pub record Owed (records : List (List Command)) (flight : List InFlight) (next : ℕ) (items : List Item) (pending : List (List ℕ)) : Type 0 where
+  pub done : List InFlight
+  pub todo : List InFlight
+  pub flight_is : flight ≡ done ++ todo
+  pub order : InOrder done todo next pending
+  pub stands : Stands (records ++ receipts done) items
+
+-- ## Links
+
+abbrev pub IsRest : List ℕ → Type 0
+IsRest half = (half ≡ []) ⊎ Half half
+
+-- No mark of the link was run: marks alone were put on it, and what was delivered of them was read behind an older half command as
+-- commands without a mark.
+pub record Unread (bound : ℕ) (half stream : List ℕ) : Type 0 where
+  pub older : List ℕ
+  pub delivered : List ℕ
+  pub ids : List (List ℕ)
+  pub commands : List Command
+  pub pending : IsRest older
+  pub known : Known bound ids
+  pub spelled : delivered ++ stream ≡ spell (map kind.Mark ids)
+  pub reads : Reads (older ++ delivered) commands half
+  pub no_mark : marks commands ≡ []
+
+-- The printer reads what was put: its half command and what is to come are commands.
+pub record InStep (bound : ℕ) (half stream : List ℕ) : Type 0 where
+  pub due : List Command
+  pub aligned : Reads (half ++ stream) due []
+  pub known : Known bound (marks due)
+
+-- Marks alone, of which nothing was delivered.
+abbrev pub Fresh : ℕ → List ℕ → Type 0
+Fresh bound stream = (ids : List (List ℕ)) × Known bound ids × (stream ≡ spell (map kind.Mark ids))
+
+-- A link that was given up has a front of what would have been put on it: the one that the printer serves, and a later one.
+abbrev pub Served : ℕ → List ℕ → List ℕ → Type 0
+Served bound half bytes = (more : List ℕ) × (Unread bound half (bytes ++ more) ⊎ InStep bound half (bytes ++ more))
+
+abbrev pub Late : ℕ → List ℕ → Type 0
+Late bound bytes = (more : List ℕ) × Fresh bound (bytes ++ more)
+
+-- The links that were given up; and the live one, where nothing of it was run.
+abbrev pub GivenUp : ℕ → List ℕ → List (List ℕ) → Type 0
+GivenUp bound half [] = Unit {0}
+GivenUp bound half (bytes ∷ others) = Served bound half bytes × AllByRecursion (Late bound) others
+
+abbrev pub Newest : ℕ → List ℕ → List (List ℕ) → List ℕ → Type 0
+Newest bound half [] stream = Unread bound half stream
+Newest bound half (bytes ∷ others) stream = Fresh bound stream
+
+-- ## The four ways
+
+pub record Serving (phase : Phase) (out : List ℕ) (next : ℕ) (records : List (List Command)) (sheet : Sheet) (half : List ℕ) (ended : List (List ℕ))
+    (live : List ℕ) (pending : List (List ℕ)) : Type 0 where
+  pub up : phase ≢ Down
+  pub only : ended ≡ []
+  pub kept : List Item
+  pub ran : List Command
+  pub due : List Command
+  pub sheet_is : SheetIs sheet kept ran
+  pub aligned : Reads (half ++ (live ++ out)) due []
+  pub course : Course records (flight_of phase) next kept ran pending due
+
+pub record Unopened (phase : Phase) (out : List ℕ) (next : ℕ) (records : List (List Command)) (sheet : Sheet) (half : List ℕ) (ended : List (List ℕ))
+    (live : List ℕ) (pending : List (List ℕ)) : Type 0 where
+  pub first : ℕ
+  pub opening : phase ≡ Opening first
+  pub within : first ≤ next
+  pub stands : Stands records sheet.items
+  pub known : Known first pending
+  pub given_up : GivenUp first half ended
+  pub newest : Newest next half ended (live ++ out)
+
+pub record Left (phase : Phase) (next : ℕ) (records : List (List Command)) (sheet : Sheet) (ended : List (List ℕ)) (pending : List (List ℕ)) : Type 0 where
+  pub up : phase ≢ Down
+  pub only : ended ≡ []
+  pub owed : Owed records (flight_of phase) next sheet.items pending
+
+pub record Off (phase : Phase) (next : ℕ) (records : List (List Command)) (sheet : Sheet) (half : List ℕ) (ended : List (List ℕ)) (pending : List (List ℕ))
+    : Type 0 where
+  pub down : phase ≡ Down
+  pub stands : Stands records sheet.items
+  pub known : Known next pending
+  pub given_up : GivenUp next half ended
+
+abbrev pub Way : Phase → List ℕ → ℕ → List (List Command) → Sheet → List ℕ → List (List ℕ) → Option (List ℕ) → List (List ℕ) → Type 0
+Way phase out next records sheet half ended None pending = Left phase next records sheet ended pending ⊎ Off phase next records sheet half ended pending
+Way phase out next records sheet half ended (Some bytes) pending =
+    Serving phase out next records sheet half ended bytes pending ⊎ Unopened phase out next records sheet half ended bytes pending
+
+-- What is true of every line, so that its records can be trusted.
+pub record Trusted (l : LineView) : Type 0 where
+  pub answers : List Answer
+  pub hears : Hears (l.host.half ++ l.coming) answers []
+  pub half : IsRest l.printer.half
+  pub reached : (kept : List Item) × (ran : List Command) × SheetIs l.printer.sheet kept ran
+  pub way :
+      Way l.host.phase l.host.out l.host.next l.host.records l.printer.sheet l.printer.half l.ended l.live (answered_marks (answers ++ l.printer.waiting))
+
+-- ## Event after event
+
+-- What an event may be made of: a receipt has no mark, and all commands are in range.
+abbrev pub Fits : Event → Type 0
+Fits (event.Submit receipt) = (marks receipt ≡ []) × AreCommands receipt
+Fits (event.Ask n) = IsCommand (kind.Status n)
+Fits _ = Unit {0}
+
+-- The law of the line: where records can be trusted, they stand on the paper; they can be trusted after whatever event, and after
+-- whatever refusal; and the host hears no byte that fits no answer, and no answer out of turn.
+pub record Trusting : Type 0 where
+  pub stands : (l : LineView) → Trusted l → Stands l.host.records l.printer.sheet.items
+  pub kept : (e : Event) (l after : LineView) (n : Note) → Fits e → IsSound l.host → IsLine l → After e l n after → Trusted l → Trusted after
+  pub left : (e : Event) (l after : LineView) → IsSound l.host → IsLine l → Leaves e l after → Trusted l → Trusted after
+  pub in_turn : (e : Event) (l after : LineView) (n : Note) (consumed at : ℕ) → IsLine l → Trusted l → After e l n after
+      → n ≢ note.Heard consumed (heard.BadAnswer at)
