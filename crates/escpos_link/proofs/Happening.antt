@@ -1,5 +1,5 @@
 -- What is true of a line is true of it after whatever event, and after whatever refusal.
-use Rattle.std.proofs.Common.{◌≡◌, ◌≢◌, ℕ, List, Result, Ok, Err, IfErr, refl, sym, ◌∙◌, subst}
+use Rattle.std.proofs.Common.{◌≡◌, ◌≢◌, List, Result, Ok, Err, IfErr, refl, sym, ◌∙◌, subst}
 use Rattle.escpos_command.specs.declared.command.Command.{Command}
 use Rattle.escpos_host.specs.Machine.{InFlight, IsOpening, IsSound, Phase, Down, Opening, Open, asked, nudged, submitted}
 use Rattle.escpos_link.specs.declared.event.Event.{Event}
@@ -8,11 +8,10 @@ use Rattle.escpos_link.specs.declared.event.Handed.{Handed}
 use Rattle.escpos_link.specs.declared.event.Handed.TheVariants as handed
 use Rattle.std.specs.Prelude.{IfOk}
 use Rattle.escpos_link.specs.declared.event.Note.{Note}
-use Rattle.escpos_link.specs.declared.event.Note.TheVariants as note
-use Rattle.escpos_host.specs.declared.host.HostEvent.TheVariants as heard
 use Rattle.escpos_link.specs.declared.event.Refused.{Refused}
 use Rattle.escpos_link.specs.EventTable.{After, HandsOver, IsRefused, Leaves, conditioned, delivered, restarted, with_host, with_printer}
 use Rattle.escpos_link.specs.Line.{IsLine, LineView}
+use Rattle.escpos_link.specs.Steps.{Happens}
 use Rattle.escpos_link.specs.Trusted.{Fits, Trusted, Trusting}
 use Rattle.escpos_link.proofs.Hearing.{Leaves as LeavesAnswers, answer_kept}
 use Rattle.escpos_link.proofs.Keeping.{AreAnswers, Fitting, Joined, delivered_kept, drop_kept, fed_answers, handed_kept, left_by_kept, moved_kept, off_link_kept, on_its_way_kept, opened_kept, with_host_kept, with_printer_kept, without_first_kept}
@@ -91,8 +90,8 @@ pub whatever_trusted : Trusting → (e : Event) (l after : LineView) (r : Result
 whatever_trusted law e l after (Ok n) fits sound i happened refused t = law.kept e l after n fits sound i happened t
 whatever_trusted law e l after (Err why) fits sound i happened refused t = law.left e l after sound i refused.line t
 
--- What is told of an event is no answer that ends the host's link.
-pub told_in_turn : Trusting → (e : Event) (l after : LineView) (r : Result Note Refused) → IsLine l → Trusted l → IfOk r (λ n. After e l n after)
-    → IfOk r (λ n. (consumed at : ℕ) → n ≢ note.Heard consumed (heard.BadAnswer at))
-told_in_turn law e l after (Ok n) i t happened = λ consumed at. law.in_turn e l after n consumed at i t happened
-told_in_turn law e l after (Err why) i t happened = tt
+-- What is told of an event is in turn.
+pub happens : Trusting → (e : Event) (l after : LineView) (r : Result Note Refused) → IsLine l → Trusted l → IfOk r (λ n. After e l n after)
+    → IfOk r (λ n. Happens e l n after)
+happens law e l after (Ok n) i t happened = (happened, λ consumed at. law.in_turn e l after n consumed at i t happened)
+happens law e l after (Err why) i t happened = tt

@@ -131,7 +131,7 @@ opened_by laws l m h p host printer online x = record {
 }
 
 pub opening_done : Laws → (l m : LineView) → Undisturbed l → l.host.phase ≡ Down → l.host.next < mark_count → Happened l (event.LinkUp ∷ exchange) m → IsOpened l m
-opening_done laws l m u is_down few (n, l1, (done, also_down, mark, same), rest) =
+opening_done laws l m u is_down few (n, l1, ((done, also_down, mark, same), turn), rest) =
     let h = l.host in
     let p = l.printer in
     let plain : l1 ≡ plain_line (linked h) p [] [] =
@@ -214,7 +214,7 @@ pub record IsSentOn (m after : LineView) (receipt : List Command) : Type 0 where
 
 pub sending_done : Laws → (m after : LineView) (receipt : List Command) → IsReady m → Whole receipt → AreCommands receipt
     → length (submitted m.host [] receipt).out ≤ all_bytes → Happened m (event.Submit receipt ∷ exchange) after → IsSentOn m after receipt
-sending_done laws m after receipt ready whole known short (n, m1, (flight, done, phase, few, mark, same), rest) =
+sending_done laws m after receipt ready whole known short (n, m1, ((flight, done, phase, few, mark, same), turn), rest) =
     let h = m.host in
     let p = m.printer in
     let none : flight ≡ [] = cc (sym phase ∙ ready.phase) in

@@ -13,13 +13,13 @@ use Rattle.escpos_link.specs.declared.event.Event.{Event}
 use Rattle.escpos_link.specs.declared.event.Note.{Note}
 use Rattle.escpos_link.specs.declared.event.Refused.{Refused}
 use Rattle.escpos_link.specs.declared.sim.RunStop.{RunStop}
-use Rattle.escpos_link.specs.EventTable.{After, IsRefused, Refuses}
+use Rattle.escpos_link.specs.EventTable.{IsRefused, Refuses}
 use Rattle.escpos_link.specs.Line.{LineView}
-use Rattle.escpos_link.specs.Steps.{Happened, IsStopped, StopsIn}
+use Rattle.escpos_link.specs.Steps.{Happened, Happens, IsStopped, StopsIn}
 use Rattle.escpos_link.specs.Straight.{StoppedStraight, exchange, opening}
 
-pub one_more : (before : List Event) (l now after : LineView) (e : Event) (n : Note) → Happened l before now → After e now n after → Happened l (before ++ e ∷ []) after
-one_more [] l now after e n same happens = (n, after, subst (λ v. After e v n after) same happens, refl)
+pub one_more : (before : List Event) (l now after : LineView) (e : Event) (n : Note) → Happened l before now → Happens e now n after → Happened l (before ++ e ∷ []) after
+one_more [] l now after e n same happens = (n, after, subst (λ v. Happens e v n after) same happens, refl)
 one_more (f ∷ before) l now after e n (m, next, first, rest) happens = (m, next, first, one_more before next now after e n rest happens)
 
 pub joined : (before later : List Event) (l now after : LineView) → Happened l before now → Happened now later after → Happened l (before ++ later) after
@@ -35,7 +35,7 @@ pub record SoFar (l : LineView) (all left : List Event) (now : LineView) : Type 
 pub begin : (l : LineView) (all : List Event) → SoFar l all all l
 begin l all = record { before = []; split = refl; happened = refl }
 
-pub go_on : (l now after : LineView) (all left later : List Event) (e : Event) (n : Note) → SoFar l all left now → left ≡ e ∷ later → After e now n after → SoFar l all later after
+pub go_on : (l now after : LineView) (all left later : List Event) (e : Event) (n : Note) → SoFar l all left now → left ≡ e ∷ later → Happens e now n after → SoFar l all later after
 go_on l now after all left later e n s first happens = record {
   before = s.before ++ e ∷ [];
   split = s.split ∙ ap (λ v. s.before ++ v) first ∙ sym (append_assoc s.before (e ∷ []) later);
@@ -181,7 +181,7 @@ stopped_submitting l m after receipt refused opened ready few is =
     let same : length (opening l.host.phase) ≤ length (opening l.host.phase) = omega arith in
     record { stops = stops_at l m after (opening l.host.phase) exchange (event.Submit receipt) refused opened (submits m receipt ready few) is; receipt_back = inl (is.receipt, same) }
 
-pub stopped_sending : (l m k after : LineView) (receipt : List Command) (n : Note) → Happened l (opening l.host.phase) m → After (event.Submit receipt) m n k → StopsIn exchange k after
+pub stopped_sending : (l m k after : LineView) (receipt : List Command) (n : Note) → Happened l (opening l.host.phase) m → Happens (event.Submit receipt) m n k → StopsIn exchange k after
     → StoppedStraight l receipt None after
 unfolding stops_later
 stopped_sending l m k after receipt n opened submitted s =

@@ -150,7 +150,7 @@ heard_all laws h host expected p id events consumed up half known expects hears 
 
 pub exchanged : Laws → (l after : LineView) (cs : List Command) (id : List ℕ) (expected : HostView) → Loaded l cs id → Expects (emptied l.host) id expected
     → Happened l exchange after → Exchanged l cs expected after
-exchanged laws l after cs id expected loaded expects (n1, l1, (count, note1, is_count, same1), (n2, l2, fed_step, (n3, l3, hand_step, (n4, l4, answer_step, last)))) =
+exchanged laws l after cs id expected loaded expects (n1, l1, ((count, note1, is_count, same1), turn1), (n2, l2, (fed_step, turn2), (n3, l3, (hand_step, turn3), (n4, l4, (answer_step, turn4), last)))) =
     let one = moved_all l l1 cs id count loaded is_count same1 in
     let d = subst (λ v. After (event.Deliver all_bytes) v n2 l2) one fed_step in
     let fed = fed_all laws l l2 cs id d.1 d.0.consumed d.0.stop loaded d.3 d.4 d.5 in

@@ -1,17 +1,27 @@
 -- Events one after another.
-use Rattle.std.specs.Prelude.{◌≡◌, List, [], ◌∷◌, ◌++◌, take, Some, slice_get}
+use Rattle.std.specs.Prelude.{ℕ, ◌≡◌, ◌≢◌, List, [], ◌∷◌, ◌++◌, take, Some, slice_get}
 use Rattle.escpos_link.specs.declared.event.Event.{Event}
+use Rattle.escpos_host.specs.declared.host.HostEvent.TheVariants as heard
 use Rattle.escpos_link.specs.declared.event.Note.{Note}
+use Rattle.escpos_link.specs.declared.event.Note.TheVariants as note
 use Rattle.escpos_link.specs.declared.event.Refusal.{Refusal}
 use Rattle.escpos_link.specs.declared.event.Refusal.TheVariants as refusal
 use Rattle.escpos_link.specs.declared.sim.RunStop.{RunStop}
 use Rattle.escpos_link.specs.EventTable.{After, IsRefused, Leaves, Refuses}
 use Rattle.escpos_link.specs.Line.{LineView}
 
+-- What is told of an event is no answer that ends the host's link: neither a byte that fits no answer nor an answer out of turn.
+abbrev pub IsInTurn : Note → Type 0
+IsInTurn told = (consumed at : ℕ) → told ≢ note.Heard consumed (heard.BadAnswer at)
+
+-- The event happened to the line, and what is told of it is in turn.
+abbrev pub Happens : Event → LineView → Note → LineView → Type 0
+Happens e l told after = After e l told after × IsInTurn told
+
 -- The events happened to the line, in order, and none was refused.
 abbrev pub Happened : LineView → List Event → LineView → Type 0
 Happened l [] after = after ≡ l
-Happened l (e ∷ es) after = (n : Note) × (next : LineView) × After e l n next × Happened next es after
+Happened l (e ∷ es) after = (n : Note) × (next : LineView) × Happens e l n next × Happened next es after
 
 -- The first so many of the events happened, and the next one was refused.
 pub record IsStopped (l : LineView) (events : List Event) (stop : RunStop) (after : LineView) : Type 0 where

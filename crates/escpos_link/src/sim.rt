@@ -5,14 +5,12 @@ ghost use Rattle.escpos_command.specs.declared.command.Command.{Command};
 ghost use Rattle.escpos_paper.specs.declared.item.Item.{Item};
 ghost use Rattle.escpos_host.specs.Machine.{Down};
 ghost use Rattle.escpos_paper.specs.Page.{SheetIs};
-ghost use Rattle.escpos_host.specs.declared.host.HostEvent.TheVariants as heard;
 ghost use Rattle.escpos_link.specs.declared.event.Event.TheVariants as event;
 ghost use Rattle.escpos_link.specs.declared.event.Note.{Note};
-ghost use Rattle.escpos_link.specs.declared.event.Note.TheVariants as note;
 ghost use Rattle.escpos_link.specs.EventTable.{After, IsRefused};
 ghost use Rattle.escpos_link.specs.Line.{LineView};
 ghost use Rattle.escpos_link.specs.Stands.{Stands};
-ghost use Rattle.escpos_link.specs.Steps.{Happened, IsStopped, StopsIn};
+ghost use Rattle.escpos_link.specs.Steps.{Happened, Happens, IsInTurn, IsStopped, StopsIn};
 ghost use Rattle.escpos_link.specs.Straight.{StoppedStraight, Undisturbed, WentStraight, all_bytes, exchange, opening};
 
 use crate::event::{Event, Note, Refused};
@@ -82,12 +80,10 @@ impl Sim {
     /// `Err` says why not, and hands a receipt back. It leaves the line as it was, except that after Memory in `Move` or
     /// `Deliver` it is as after the same event with fewer bytes.
     pub fn step(&mut self, event: Event) -> Result<Note, Refused>
-        ensures happened { IfOk result (λ note. After event self.old note self.new) }
+        ensures happened { IfOk result (λ told. Happens event self.old told self.new) }
         ensures refused { IfErr result (λ refused. IsRefused event self.old refused self.new) }
         // The recorded receipts stand on the paper, whatever happened.
         ensures stands { Stands self.new.host.records self.new.printer.sheet.items }
-        // No answer ends the host's link: none is a byte that fits no answer, and none is out of turn.
-        ensures in_turn { IfOk result (λ told. (consumed at : ℕ) → told ≢ note.Heard consumed (heard.BadAnswer at)) }
     {
         escpos_command::laws::answers();
         escpos_printer::laws::replies();
@@ -114,6 +110,7 @@ impl Sim {
                 return Err(RunStop { done, refused });
             }
         }
+        // (`paper` says that what is recorded stands there.)
         let _ = self.paper();
         Ok(())
     }
@@ -160,6 +157,7 @@ impl Sim {
             });
         }
         match self.exchange() {
+            // (`paper` says that what is recorded stands there, here and above.)
             Ok(()) => {
                 let _ = self.paper();
                 Ok(number)
@@ -231,8 +229,7 @@ impl Sim {
     pub fn host(&self) -> &Host
         ensures value { result.now ≡ self.now.host }
         // Whatever it hears next, it is an answer in its turn.
-        ensures in_turn { (k : ℕ) (told : Note) (after : LineView) (consumed at : ℕ) → After (event.Answer k) self.now told after
-            → told ≢ note.Heard consumed (heard.BadAnswer at) }
+        ensures in_turn { (k : ℕ) (told : Note) (after : LineView) → After (event.Answer k) self.now told after → IsInTurn told }
     {
         laws::trust();
         &self.line.host

@@ -37,7 +37,7 @@ returns-clause-happened c =
 pub returns-clause-short : goal.returns-clause-short
 returns-clause-short c = λ some.
     let one = of_ok c.step.result (sym c.is_err.ensures.value ∙ c.if-is_err.false) c.step.ensures.happened in
-    let moves = one.1 in
+    let moves = one.1.0 in
     short_out c.args.self.now.live c.args.self.now.host.out moves.0 all_bytes moves.2 some
     (subst (λ (v : LineView). IfSome v.live (λ bytes. length bytes < all_bytes)) moves.3
     (subst (λ (v : LineView). IfSome v.live (λ bytes. length bytes < all_bytes)) c.self.view_is c.is_short.ensures))

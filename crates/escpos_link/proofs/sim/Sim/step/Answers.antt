@@ -1,4 +1,7 @@
-use Rattle.escpos_link.proofs.Happening.{told_in_turn, whatever_kept, whatever_trusted}
+use Rattle.std.proofs.Common.{subst}
+use Rattle.std.specs.Prelude.{IfOk}
+use Rattle.escpos_link.specs.Steps.{Happens}
+use Rattle.escpos_link.proofs.Happening.{happens, whatever_kept, whatever_trusted}
 use Rattle.escpos_link.proofs.sim.Sim.step.Goals as goal
 
 pub invariant_of-self : goal.invariant_of-self
@@ -10,6 +13,7 @@ invariant_of-self c =
           c.happen.ensures.refused c.self.invariant.1,
     )
 
-pub returns-clause-in_turn : goal.returns-clause-in_turn
-returns-clause-in_turn c =
-    told_in_turn c.trust.ensures c.args.event c.self.inside.line c.happen.new.self c.happen.result c.self.invariant.0 c.self.invariant.1 c.happen.ensures.happened
+pub returns-clause-happened : goal.returns-clause-happened
+returns-clause-happened c =
+    subst (λ l. IfOk c.happen.result (λ n. Happens c.args.event l n c.happen.new.self)) c.self.view_is
+    (happens c.trust.ensures c.args.event c.self.inside.line c.happen.new.self c.happen.result c.self.invariant.0 c.self.invariant.1 c.happen.ensures.happened)

@@ -44,7 +44,7 @@ returns-in-Ok-clause-recorded c =
     let sound = subst (λ (v : LineView). IsSound v.host) c.self.view_is c.is_sound.ensures in
     let b = begun laws c.args.self.now c.open.new.self page.0 page.1 c.requires (subst IsLine c.self.view_is c.self.invariant.0) sound page.2 opened in
     let submitted = c.in_default.ensures.happened in
-    let short = short_sent c.open.new.self c.step.new.self c.args.receipt c.in_default.field-0 b.ready submitted c.in-Ok.ensures.short in
+    let short = short_sent c.open.new.self c.step.new.self c.args.receipt c.in_default.field-0 b.ready submitted.0 c.in-Ok.ensures.short in
     subst (λ rs. WentStraight c.args.self.now c.args.receipt (length rs) c.exchange.new.self) (sym c.records-number.ensures)
     (went laws c.args.self.now c.open.new.self c.exchange.new.self c.args.receipt b c.commands.ensures.whole c.commands.ensures.in_range short opened
     (c.in_default.field-0, c.step.new.self, submitted, c.in-Ok.ensures.happened))
