@@ -45,9 +45,6 @@ pub marks_of : (ids : List (List ℕ)) → marks (map kind.Mark ids) ≡ ids
 marks_of [] = refl
 marks_of (id ∷ ids) = ap (λ v. id ∷ v) (marks_of ids)
 
-pub spell_append : (cs ds : List Command) → spell (cs ++ ds) ≡ spell cs ++ spell ds
-spell_append cs ds = flat_map-append row cs ds
-
 pub id_of_known : OfNumbers → (b : ℕ) (id : List ℕ) (ids : List (List ℕ)) → Known b (id ∷ ids) → IsTrue (is_mark_id id)
 id_of_known of b id ids ((n, less, few, is), more) = subst (λ v. IsTrue (is_mark_id v)) is (of.ids n few)
 

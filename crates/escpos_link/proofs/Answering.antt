@@ -10,6 +10,7 @@ use Rattle.escpos_host.specs.declared.host.HostEvent.TheVariants as event
 use Rattle.escpos_host.specs.Heard.{EndsLink, IgnoresMark, IsClosing, IsOpeningMark, Turns}
 use Rattle.escpos_host.specs.Machine.{HostView, InFlight, Phase, Down, Opening, Open}
 use Rattle.escpos_link.specs.Trusted.{Course, IsKnown, Owed, Way, answered_marks, flight_of}
+use Rattle.escpos_link.proofs.Aligning.{head_same, tail_same}
 use Rattle.escpos_link.proofs.Claiming.{Popped, course_turn, owed_turn}
 use Rattle.escpos_link.proofs.Numbers.{OfNumbers, not_opening}
 use Rattle.escpos_link.proofs.Turning.{Turned}
@@ -58,12 +59,6 @@ ignored_stale Down next id q ps ignored is mark = ignored
 ignored_stale (Opening first) next id q ps ignored is mark = cons_nil q ps is
 ignored_stale (Open flight) next id q ps ignored is mark = ignored (subst (λ v. IsClosing v id) (sym is) (inl mark))
 
-first_same : (p q : InFlight) (ps qs : List InFlight) → p ∷ ps ≡ q ∷ qs → p ≡ q
-first_same p q ps qs e = cc e
-
-rest_same : (p q : InFlight) (ps qs : List InFlight) → p ∷ ps ≡ q ∷ qs → ps ≡ qs
-rest_same p q ps qs e = cc e
-
 mark_told : (P : List (List Command) → List InFlight → Type 0) (h after : HostView) (id : List ℕ) (at : ℕ) (e : HostEvent) → h.phase ≢ Down
     → Popped P h.records (flight_of h.phase) id → Turns h (answer.Mark id) at e after → Told P h after e
 mark_told P h after id at event.None up (inl (stale, holds)) (ignored, same) = unchanged P h after event.None (λ ends. ends) up same holds
@@ -82,7 +77,7 @@ mark_told P h after id at (event.Recorded n) up (inl (stale, holds)) (p, ps, sen
     absurd (stale (subst (λ v. IsClosing (flight_of v) id) (sym sending) (inl (sym (same_mark id p.mark is)))))
 mark_told P h after id at (event.Recorded n) up (inr (q, qs, flight, mark, holds)) (p, ps, sending, is, number, same) =
     let both : q ∷ qs ≡ p ∷ ps = sym flight ∙ ap flight_of sending in
-    let one = first_same q p qs ps both in
+    let one = head_same q p qs ps both in
     record {
       on = λ ends. ends;
       up = λ is_down. open_up ps (sym (ap (λ (v : HostView). v.phase) same) ∙ is_down);
@@ -90,14 +85,14 @@ mark_told P h after id at (event.Recorded n) up (inr (q, qs, flight, mark, holds
       out = ap (λ (v : HostView). v.out) same;
       next = ap (λ (v : HostView). v.next) same;
       holds = subst (λ (v : HostView). P v.records (flight_of v.phase)) (sym same)
-          (subst (λ v. P (h.records ++ p.receipt ∷ []) v) (rest_same q p qs ps both) (subst (λ (v : InFlight). P (h.records ++ v.receipt ∷ []) qs) one holds));
+          (subst (λ v. P (h.records ++ p.receipt ∷ []) v) (tail_same q p qs ps both) (subst (λ (v : InFlight). P (h.records ++ v.receipt ∷ []) qs) one holds));
     }
 mark_told P h after id at (event.Status b) up popped (is, same) = absurd (no_mark id b is)
 mark_told P h after id at (event.BadAnswer place) up (inl (stale, holds)) (p, ps, other, sending, is, not_first, later, here, same) =
     absurd (stale (subst (λ v. IsClosing (flight_of v) id) (sym sending) (inr (subst (IsClosing ps) (sym (same_mark id other is)) later))))
 mark_told P h after id at (event.BadAnswer place) up (inr (q, qs, flight, mark, holds)) (p, ps, other, sending, is, not_first, later, here, same) =
     let both : q ∷ qs ≡ p ∷ ps = sym flight ∙ ap flight_of sending in
-    absurd (not_first (sym (ap (λ (v : InFlight). v.mark) (first_same q p qs ps both)) ∙ mark ∙ same_mark id other is))
+    absurd (not_first (sym (ap (λ (v : InFlight). v.mark) (head_same q p qs ps both)) ∙ mark ∙ same_mark id other is))
 
 -- ## A status, and where the host may hear only marks that it ignores
 

@@ -93,5 +93,5 @@ whatever_trusted law e l after (Err why) fits sound i happened refused t = law.l
 -- What is told of an event is in turn.
 pub happens : Trusting → (e : Event) (l after : LineView) (r : Result Note Refused) → IsLine l → Trusted l → IfOk r (λ n. After e l n after)
     → IfOk r (λ n. Happens e l n after)
-happens law e l after (Ok n) i t happened = (happened, λ consumed at. law.in_turn e l after n consumed at i t happened)
+happens law e l after (Ok n) i t happened = (happened, law.in_turn e l after n i t happened)
 happens law e l after (Err why) i t happened = tt

@@ -28,15 +28,14 @@ use Rattle.escpos_command.specs.Marks.{marks}
 use Rattle.escpos_paper.specs.declared.item.Item.{Item}
 use Rattle.escpos_paper.specs.Page.{Sheet, SheetIs}
 use Rattle.escpos_paper.specs.Printed.{printed}
-use Rattle.escpos_host.specs.declared.host.HostEvent.TheVariants as heard
 use Rattle.escpos_host.specs.Machine.{InFlight, IsSound, Phase, Down, Opening, Open}
 use Rattle.escpos_link.specs.declared.event.Event.{Event}
 use Rattle.escpos_link.specs.declared.event.Event.TheVariants as event
 use Rattle.escpos_link.specs.declared.event.Note.{Note}
-use Rattle.escpos_link.specs.declared.event.Note.TheVariants as note
 use Rattle.escpos_link.specs.EventTable.{After, Leaves}
 use Rattle.escpos_link.specs.Line.{IsLine, LineView}
 use Rattle.escpos_link.specs.Stands.{Stands}
+use Rattle.escpos_link.specs.Steps.{IsInTurn}
 
 -- ## Marks and their numbers
 
@@ -231,5 +230,4 @@ pub record Trusting : Type 0 where
   pub stands : (l : LineView) → Trusted l → Stands l.host.records l.printer.sheet.items
   pub kept : (e : Event) (l after : LineView) (n : Note) → Fits e → IsSound l.host → IsLine l → After e l n after → Trusted l → Trusted after
   pub left : (e : Event) (l after : LineView) → IsSound l.host → IsLine l → Leaves e l after → Trusted l → Trusted after
-  pub in_turn : (e : Event) (l after : LineView) (n : Note) (consumed at : ℕ) → IsLine l → Trusted l → After e l n after
-      → n ≢ note.Heard consumed (heard.BadAnswer at)
+  pub in_turn : (e : Event) (l after : LineView) (n : Note) → IsLine l → Trusted l → After e l n after → IsInTurn n

@@ -22,5 +22,5 @@ returns c =
       stands = stands laws.paper;
       kept = λ e l after n fits sound i happened t. trusted laws e l after n fits sound i happened t;
       left = λ e l after sound i leaves t. left laws e l after sound i leaves t;
-      in_turn = λ e l after n consumed at i t happened. none_bad laws e l after n consumed at i t happened;
+      in_turn = λ e l after n i t happened consumed at. none_bad laws e l after n consumed at i t happened;
     }
