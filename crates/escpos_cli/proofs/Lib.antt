@@ -3,6 +3,7 @@ pub mod TaskValues
 pub mod TaskWords
 pub mod Mapped
 pub mod Listings
+pub mod Renderings
 pub mod Reports
 pub mod Spellings
 pub mod Encodings

@@ -99,12 +99,12 @@ reports_refused not_both shape o bytes rest line cs place why f l s = record {
 
 -- Memory has run out after a front of the bytes.
 pub reports_cut_short : (shape : Shape) (o : Outcome) (bytes half : List ℕ) (k : ℕ) (cs : List Command) → Reads (take k bytes) cs half
-    → Says o (shape.gives_early cs ++ memory_line) Memory → Reports shape o bytes
+    → Says o (shape.gives cs ++ memory_line) Memory → Reports shape o bytes
 reports_cut_short shape o bytes half k cs r s = record {
   text = λ content. absurd (content_no_memory o content (as_wanted o _ Memory s (no_device o content)));
   good = λ e. let h = sym e ∙ as_wanted o _ Memory s (no_device o (inl e)) in absurd cc;
   refused = λ e all. let h = sym e ∙ as_wanted o _ Memory s (no_device o (inr e)) in cc;
-  memory = λ e. (shape.gives_early cs ++ memory_line, (k, cs, half, r, refl), s.out (memory_no_device o e));
+  memory = λ e. (shape.gives cs ++ memory_line, (k, cs, half, r, refl), s.out (memory_no_device o e));
 }
 
 all_front : (cs ds : List Command) → AllByRecursion IsCommand (cs ++ ds) → AllByRecursion IsCommand cs

@@ -4,9 +4,8 @@ use Rattle.escpos_cli.specs.Lines.{command_lines, end_line}
 use Rattle.escpos_cli.specs.Outcome.{Outcome}
 use Rattle.escpos_cli.specs.Report.{Shape, Runs}
 
--- Lines go out as they come, so where memory runs out those of the commands so far stand.
 abbrev pub listing_shape : Shape
-listing_shape = record { gives = command_lines 0; gives_early = command_lines 0; last = end_line; starts_empty = refl }
+listing_shape = record { gives = command_lines 0; last = end_line; starts_empty = refl }
 
 -- What `check` does with its input.
 abbrev pub Checks : Outcome → List ℕ → Type 0

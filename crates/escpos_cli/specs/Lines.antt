@@ -13,7 +13,8 @@ use Rattle.escpos_command.specs.Places.{number_of, name_of}
 use Rattle.escpos_command.specs.CommandTable.{row, entry_of}
 use Rattle.escpos_cli.specs.declared.lines.TheConstants.{SPACE}
 use Rattle.escpos_cli.specs.declared.lines.Last.{Last}
-use Rattle.escpos_cli.specs.declared.lines.Last.TheVariants.{Nothing, End, Fault}
+use Rattle.escpos_cli.specs.declared.lines.Last.TheVariants.{Nothing, End, Fault, Memory}
+use Rattle.escpos_cli.specs.Outcome.{memory_line}
 
 -- The name of a command.
 abbrev pub word_of : Command → List ℕ
@@ -75,3 +76,4 @@ abbrev pub last_text : Last → List ℕ
 last_text Nothing = []
 last_text (End count half) = end_line count half
 last_text (Fault place why) = fault_line place why
+last_text Memory = memory_line

@@ -12,14 +12,12 @@ use Rattle.escpos_cli.specs.Hexadecimal.{IsHexadecimal, digits_of}
 use Rattle.escpos_cli.specs.Lines.{fault_line}
 use Rattle.escpos_cli.specs.Outcome.{Outcome, Puts, Refuses, memory_line}
 
--- What distinguishes the text of one job from that of another: what commands give, how much of that is printed
--- where memory runs out (of no command nothing), and the last line where so many bytes are read and so many of them
--- are a half command.
+-- What distinguishes the text of one job from that of another: what commands give (no command gives nothing), and the
+-- last line where so many bytes are read and so many of them are a half command.
 pub record Shape : Type 0 where
   pub gives : List Command → List ℕ
-  pub gives_early : List Command → List ℕ
   pub last : ℕ → ℕ → List ℕ
-  pub starts_empty : gives_early [] ≡ []
+  pub starts_empty : gives [] ≡ []
 
 -- The text of a byte list: what its commands give, and the last line. There is one, since a byte list has exactly one
 -- reading or one fault.
@@ -28,10 +26,10 @@ IsText shape bytes text =
     ((cs : List Command) × (rest : List ℕ) × Reads bytes cs rest × (text ≡ shape.gives cs ++ shape.last (length bytes) (length rest)))
     ⊎ ((cs : List Command) × (rest : List ℕ) × (place : ℕ) × (why : FaultReason) × FaultAt bytes cs rest place why × (text ≡ shape.gives cs ++ fault_line place why))
 
--- What is printed where memory runs out: what the commands of some front of the bytes give early, none where the bytes
+-- What is printed where memory runs out: what the commands of some front of the bytes give, none where the bytes
 -- couldn't even be read, and the line that says so.
 abbrev pub IsCutShort : Shape → List ℕ → List ℕ → Type 0
-IsCutShort shape bytes text = (k : ℕ) × (cs : List Command) × (rest : List ℕ) × Reads (take k bytes) cs rest × (text ≡ shape.gives_early cs ++ memory_line)
+IsCutShort shape bytes text = (k : ℕ) × (cs : List Command) × (rest : List ℕ) × Reads (take k bytes) cs rest × (text ≡ shape.gives cs ++ memory_line)
 
 -- The bytes are read with nothing left.
 abbrev pub IsAllRead : List ℕ → Type 0

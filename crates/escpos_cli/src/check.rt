@@ -11,11 +11,10 @@ ghost use Rattle.escpos_cli.specs.Check.{Checks, listing_shape};
 
 use crate::job::{Job, Obstacle, run};
 use crate::lines::{LINE_BYTES, Last, append_line};
-use crate::outcome::MEMORY;
 use crate::status::Status;
 use escpos_command::Command;
 use escpos_decode::Consumer;
-use escpos_io::{ByteIn, ByteOut, Gather, Piece, laws};
+use escpos_io::{ByteIn, ByteOut, Gather, laws};
 use std::alloc::Global;
 
 /// Reads a stream in hexadecimal from `input` and lists its commands on `output`.
@@ -66,6 +65,8 @@ impl<W: ByteOut> Job<W> for Listing {
 
     ghost is_new = { λ listing. (sink : Option (List ℕ)) → Carries sink sink listing.gather [] };
 
+    ghost gather = { λ listing. listing.gather };
+
     fn new(_alloc: Global) -> Self {
         Listing {
             gather: Gather::new(),
@@ -76,25 +77,11 @@ impl<W: ByteOut> Job<W> for Listing {
         Last::End { count, half }
     }
 
-    fn finish(&mut self, last: Last, output: &mut W, status: Status) -> Status {
-        if last.put(&mut self.gather, output).is_err() {
-            return Status::Device;
-        }
-        match self.gather.flush(output) {
-            Ok(()) => status,
-            Err(_) => Status::Device,
-        }
+    fn into_gather(self) -> Gather {
+        self.gather
     }
 
-    fn cut_short(&mut self, output: &mut W) -> Status {
-        if self.gather.put(MEMORY, output).is_err() {
-            return Status::Device;
-        }
-        match self.gather.flush(output) {
-            Ok(()) => Status::Memory,
-            Err(_) => Status::Device,
-        }
-    }
+    ghost carried = { λ start now cs new taken. taken.0 (W.written start.1) [] (new (W.written start.1)) };
 
     ghost well = { λ start now cs taken. taken.1 };
 

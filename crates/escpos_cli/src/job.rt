@@ -6,7 +6,8 @@
 ghost use Rattle.std.specs.Prelude.{◌≡◌, ◌≢◌, ◌⊎◌, ◌+◌, ◌≤◌, ◌++◌, List, IfSome, IsTrue};
 ghost use Rattle.escpos_command.specs.declared.command.Command.{Command};
 ghost use Rattle.escpos_cli.specs.Lines.{last_text};
-ghost use Rattle.escpos_cli.specs.Outcome.{IsFair, Says, memory_line, outcome};
+ghost use Rattle.escpos_io.specs.Gather.{Carries, Gathered};
+ghost use Rattle.escpos_cli.specs.Outcome.{IsFair, Says, outcome};
 ghost use Rattle.escpos_cli.specs.Report.{Shape, Reports, Runs};
 
 use crate::input::hexadecimal_input;
@@ -15,7 +16,7 @@ use crate::outcome::{refuse, status_of};
 use crate::status::Status;
 use escpos_command::laws;
 use escpos_decode::{Consumer, Decoder, Stop, read_piece};
-use escpos_io::{ByteIn, ByteOut};
+use escpos_io::{ByteIn, ByteOut, Gather, Piece};
 use std::alloc::Global;
 
 /// Why a job can't go on.
@@ -37,6 +38,9 @@ pub trait Job<W: ByteOut>: Consumer<W, Refusal = Obstacle> + Drop {
     // It has given nothing yet.
     ghost is_new: { Self → Type 0 };
 
+    // The bytes that it has given and that aren't out yet.
+    ghost gather: { Self → Gathered };
+
     /// A job that was given no command. Takes no memory.
     fn new(alloc: Global) -> Self
         ensures { is_new result };
@@ -45,19 +49,13 @@ pub trait Job<W: ByteOut>: Consumer<W, Refusal = Obstacle> + Drop {
     fn last(count: usize, half: usize) -> Last
         ensures { last_text result ≡ shape.last count half };
 
-    /// Puts all that the commands give and isn't out yet, and a last line. The status is the one that is given, or
-    /// `Device` where `output` has failed.
-    fn finish(&mut self, last: Last, output: &mut W, status: Status) -> Status
-        ensures says { (start : Self × W) (cs : List Command) → is_new start.0 → Self.took start (self.old, output.old) cs →
-            Says (outcome (W.written start.1) (W.written output.new) (W.failed output.new) result) (shape.gives cs ++ last_text last) status }
-        ensures not_hidden { result ≢ Status.Device → ¬ IsTrue (W.failed output.old) → ¬ IsTrue (W.failed output.new) };
+    /// The bytes that it has given and that aren't out yet.
+    fn into_gather(self) -> Gather
+        ensures { result ≡ gather self };
 
-    /// Puts what is given where memory runs out, and the line that says so. The status is `Memory`, or `Device` where
-    /// `output` has failed.
-    fn cut_short(&mut self, output: &mut W) -> Status
-        ensures says { (start : Self × W) (cs : List Command) → is_new start.0 → Self.took start (self.old, output.old) cs →
-            Says (outcome (W.written start.1) (W.written output.new) (W.failed output.new) result) (shape.gives_early cs ++ memory_line) Status.Memory }
-        ensures not_hidden { result ≢ Status.Device → ¬ IsTrue (W.failed output.old) → ¬ IsTrue (W.failed output.new) };
+    // With those that are out they are what its commands give.
+    ghost carried: { (start now : Self × W) (cs : List Command) → is_new start.0 → Self.took start now cs →
+        Carries (W.written start.1) (W.written now.1) (gather now.0) (shape.gives cs) };
 
     // While commands are taken the output doesn't fail, and want of memory leaves what was taken.
     ghost well: { (start now : Self × W) (cs : List Command) → Self.took start now cs → ¬ IsTrue (W.failed start.1) → ¬ IsTrue (W.failed now.1) };
@@ -100,13 +98,30 @@ fn report<W: ByteOut, J: Job<W>>(alloc: Global, bytes: &[u8], output: &mut W) ->
     match read_piece(&mut decoder, bytes, &mut job, output) {
         Ok(()) => {
             let half = decoder.pending_len();
-            job.finish(J::last(bytes.len(), half), output, status_of(half))
+            finish(job, J::last(bytes.len(), half), output, status_of(half))
         }
         Err(Stop::Fault { at, why }) => {
-            job.finish(Last::Fault { place: at, why }, output, Status::Refused)
+            finish(job, Last::Fault { place: at, why }, output, Status::Refused)
         }
-        Err(Stop::Memory) => job.cut_short(output),
-        Err(Stop::Refused(Obstacle::Memory)) => job.cut_short(output),
+        Err(Stop::Memory) => finish(job, Last::Memory, output, Status::Memory),
+        Err(Stop::Refused(Obstacle::Memory)) => finish(job, Last::Memory, output, Status::Memory),
         Err(Stop::Refused(Obstacle::Device)) => Status::Device,
+    }
+}
+
+// Puts all that the commands give and isn't out yet, and a last line. The status is the one that is given, or `Device`
+// where `output` has failed.
+fn finish<W: ByteOut, J: Job<W>>(job: J, last: Last, output: &mut W, status: Status) -> Status
+    ensures says { (start : J × W) (cs : List Command) → J.is_new start.0 → J.took start (job, output.old) cs →
+        Says (outcome (W.written start.1) (W.written output.new) (W.failed output.new) result) (J.shape.gives cs ++ last_text last) status }
+    ensures not_hidden { result ≢ Status.Device → ¬ IsTrue (W.failed output.old) → ¬ IsTrue (W.failed output.new) }
+{
+    let mut gather = job.into_gather();
+    if last.put(&mut gather, output).is_err() {
+        return Status::Device;
+    }
+    match gather.flush(output) {
+        Ok(()) => status,
+        Err(_) => Status::Device,
     }
 }

@@ -8,6 +8,7 @@ ghost use Rattle.escpos_command.specs.declared.command.Command.TheVariants as ki
 ghost use Rattle.hex.specs.Hex.{encode_lower};
 
 use crate::notes::{WrongDigit, wrong_digit};
+use crate::outcome::MEMORY;
 use escpos_command::{Bars, Command, FaultReason, LF, Raster};
 use escpos_io::{ByteOut, Device, GATHERED_BYTES, Gather, Piece, laws};
 use itoa::Buffer;
@@ -36,6 +37,8 @@ pub enum Last {
     End { count: usize, half: usize },
     /// The byte at this place was refused.
     Fault { place: usize, why: FaultReason },
+    /// Memory has run out.
+    Memory,
 }
 
 impl Piece for Last {
@@ -48,6 +51,7 @@ impl Piece for Last {
             Last::Nothing => {}
             Last::End { count, half } => append_end(gather, *count, *half),
             Last::Fault { place, why } => append_fault(gather, *place, *why),
+            Last::Memory => gather.extend(MEMORY),
         }
         Ok(())
     }

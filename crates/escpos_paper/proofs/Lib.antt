@@ -5,6 +5,7 @@ pub mod Widths
 pub mod OneCut
 pub mod AllCuts
 pub mod Sheets
+pub mod Applied
 pub mod Initialisation
 pub mod Worked
 pub mod ItemParts

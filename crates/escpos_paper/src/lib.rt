@@ -14,6 +14,7 @@ pub mod laws;
 mod line;
 mod page;
 mod paper;
+mod roll;
 mod style;
 #[cfg(test)]
 mod tests;
@@ -26,5 +27,6 @@ pub use digits::{all_digits, check_digit};
 pub use item::Item;
 pub use page::Page;
 pub use paper::MOST_ITEMS;
+pub use roll::Roll;
 pub use style::{BarStyle, Style};
 pub use write::write_items;

@@ -21,7 +21,7 @@ returns-in-Err-Fault-clause-reports g c =
 pub returns-in-Err-Memory-clause-reports : goal.returns-in-Err-Memory-clause-reports
 returns-in-Err-Memory-clause-reports g c =
     let (k, inside, (cs, read, taken), next) = rw c.new-decoder.ensures at (rw c.in-Err-Memory.field-0-is at c.in-Err-Memory.ensures.stopped) in
-    reports_cut_short g.J.Job.shape _ c.args.bytes.now _ k cs read (c.cut_short.ensures.says _ cs c.new-job.ensures taken)
+    reports_cut_short g.J.Job.shape _ c.args.bytes.now _ k cs read (c.finish-in-Err-Memory.ensures.says _ cs c.new-job.ensures taken)
 
 -- A command wasn't taken: what was taken before it stands.
 pub returns-in-Err-Refused-Memory-clause-reports : goal.returns-in-Err-Refused-Memory-clause-reports
@@ -29,19 +29,19 @@ returns-in-Err-Refused-Memory-clause-reports g c =
     let (last, k, command, (cs, read, taken), left, none) = rw c.new-decoder.ensures at (rw (c.in-Err-Refused-Memory.field-0-is, c.in-Err-Refused-Memory.field-0-0-is) at c.in-Err-Refused-Memory.ensures.refused) in
     let front = front_without c.args.bytes.now k cs command read in
     reports_cut_short g.J.Job.shape _ c.args.bytes.now _ front.0 cs front.1
-    (c.cut_short-in-Err-Refused-Memory.ensures.says _ cs c.new-job.ensures (g.met.J.Job.no_memory _ last _ cs taken left))
+    (c.finish-in-Err-Refused-Memory.ensures.says _ cs c.new-job.ensures (g.met.J.Job.no_memory _ last _ cs taken left))
 
 pub returns-in-Err-Refused-Memory-clause-device : goal.returns-in-Err-Refused-Memory-clause-device
 returns-in-Err-Refused-Memory-clause-device g c =
     let (last, k, command, (cs, read, taken), left, none) = rw c.new-decoder.ensures at (rw (c.in-Err-Refused-Memory.field-0-is, c.in-Err-Refused-Memory.field-0-0-is) at c.in-Err-Refused-Memory.ensures.refused) in
-    device_failed _ _ _ (c.cut_short-in-Err-Refused-Memory.ensures.says _ cs c.new-job.ensures (g.met.J.Job.no_memory _ last _ cs taken left)) memory_is_no_device
+    device_failed _ _ _ (c.finish-in-Err-Refused-Memory.ensures.says _ cs c.new-job.ensures (g.met.J.Job.no_memory _ last _ cs taken left)) memory_is_no_device
 
 pub returns-in-Err-Refused-Memory-clause-not_hidden : goal.returns-in-Err-Refused-Memory-clause-not_hidden
 returns-in-Err-Refused-Memory-clause-not_hidden g c = λ status well.
     let (last, k, command, (cs, read, taken), left, none) = rw c.new-decoder.ensures at (rw (c.in-Err-Refused-Memory.field-0-is, c.in-Err-Refused-Memory.field-0-0-is) at c.in-Err-Refused-Memory.ensures.refused) in
-    c.cut_short-in-Err-Refused-Memory.ensures.not_hidden status (g.met.J.Job.well _ _ cs (g.met.J.Job.no_memory _ last _ cs taken left) well)
+    c.finish-in-Err-Refused-Memory.ensures.not_hidden status (g.met.J.Job.well _ _ cs (g.met.J.Job.no_memory _ last _ cs taken left) well)
 
 pub returns-in-Err-Refused-Memory-clause-never_usage : goal.returns-in-Err-Refused-Memory-clause-never_usage
 returns-in-Err-Refused-Memory-clause-never_usage g c =
     let (last, k, command, (cs, read, taken), left, none) = rw c.new-decoder.ensures at (rw (c.in-Err-Refused-Memory.field-0-is, c.in-Err-Refused-Memory.field-0-0-is) at c.in-Err-Refused-Memory.ensures.refused) in
-    never_usage _ _ _ (c.cut_short-in-Err-Refused-Memory.ensures.says _ cs c.new-job.ensures (g.met.J.Job.no_memory _ last _ cs taken left)) memory_is_no_usage
+    never_usage _ _ _ (c.finish-in-Err-Refused-Memory.ensures.says _ cs c.new-job.ensures (g.met.J.Job.no_memory _ last _ cs taken left)) memory_is_no_usage

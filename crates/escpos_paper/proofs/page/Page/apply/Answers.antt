@@ -11,25 +11,8 @@ use Rattle.escpos_paper.specs.Styles.{is_empty}
 use Rattle.escpos_paper.specs.Page.{Sheet, PageView}
 use Rattle.escpos_paper.specs.Steps.{style_after, bar_style_after, alignment_after, line_after, step_prints, sheet_after}
 use Rattle.escpos_paper.proofs.Sheets.{sheet_of, sheet_step}
-use Rattle.escpos_paper.proofs.Widths.{IsWidth, width_in_range}
+use Rattle.escpos_paper.proofs.Applied.{width_of, one_more, sheet_made}
 use Rattle.escpos_paper.proofs.page.Page.apply.Goals as goal
-
--- the style of any sheet that commands leave has a width that can be printed
-width_of : (s : Style) (sheet : Sheet) (kept : List Item) (cs : List Command) → sheet.style ≡ s → sheet ≡ sheet_of kept cs → IsWidth s.width
-width_of s sheet kept cs e is = subst (λ (t : Style). IsWidth t.width) (sym (ap (λ (t : Sheet). t.style) is) ∙ e) (width_in_range cs)
-
-one_more : (cs : List Command) (c : Command) → AreCommands cs → IsCommand c → AreCommands (cs ++ c ∷ [])
-one_more [] c h k = (k, tt)
-one_more (d ∷ cs) c h k = (h.0, one_more cs c h.1 k)
-
--- the sheet after a command, from its parts
-sheet_made : (items printed : List Item) (s t : Style) (b d : BarStyle) (align also : Alignment) (row rest : List Cell) (c : Command)
-    → printed ≡ items ++ step_prints s b align row c → t ≡ style_after s c → d ≡ bar_style_after b c
-    → also ≡ alignment_after (is_empty row) align c → rest ≡ line_after s row c
-    → (let new : Sheet = record { items = printed; style = t; bar_style = d; alignment = also; line = rest } in
-    let old : Sheet = record { items = items; style = s; bar_style = b; alignment = align; line = row } in
-    new ≡ sheet_after old c)
-sheet_made items printed s t b d align also row rest c p q r v w = cc
 
 pub carry_out-requires-clause-visible : goal.carry_out-requires-clause-visible
 carry_out-requires-clause-visible c =

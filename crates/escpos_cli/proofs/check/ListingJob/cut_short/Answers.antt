@@ -1,9 +1,0 @@
-use Rattle.std.proofs.Common.{inl, refl, []}
-use Rattle.escpos_cli.proofs.Reports.{succeeded}
-use Rattle.escpos_cli.proofs.check.ListingJob.cut_short.Goals as goal
-
-pub returns-in-Ok-clause-says : goal.returns-in-Ok-clause-says
-returns-in-Ok-clause-says g c = λ start cs new taken.
-    let first = g.W.ByteOut.written start.1 in
-    let given = succeeded c.put.result c.if-is_err.ensures.value c.put.ensures.given.ok first _ (taken.0 first [] (new first)) in
-    record { ends = inl refl; out = λ well. c.in-Ok.ensures.ok first _ given }
