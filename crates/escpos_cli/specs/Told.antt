@@ -1,5 +1,5 @@
 -- What `play` prints of an event.
-use Rattle.std.specs.Prelude.{ℕ, List, [], ◌∷◌, ◌++◌, Option, None, Some, codes, decimal}
+use Rattle.std.specs.Prelude.{ℕ, List, [], ◌∷◌, ◌++◌, codes, decimal}
 use Rattle.escpos_command.specs.declared.bytes.TheConstants.{LF}
 use Rattle.escpos_command.specs.Places as places
 use Rattle.escpos_host.specs.declared.host.HostEvent.{HostEvent}

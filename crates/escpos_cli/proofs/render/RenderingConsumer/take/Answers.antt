@@ -1,5 +1,5 @@
 -- What a command prints is torn off, and its text given behind that of the commands before it.
-use Rattle.std.proofs.Common.{sym, subst, ap, ◌∙◌, append_assoc, [], ◌∷◌, ◌++◌}
+use Rattle.std.proofs.Common.{subst, append_assoc, [], ◌∷◌, ◌++◌}
 use Rattle.escpos_io.specs.Gather.{Carries}
 use Rattle.escpos_paper.specs.Printed.{printed}
 use Rattle.escpos_paper.specs.ItemsText.{items_text}
