@@ -16,12 +16,20 @@ mod emulate;
 mod encode;
 #[cfg(test)]
 mod examples;
+#[cfg(test)]
+mod growth_tests;
 mod hexadecimal;
 #[cfg(test)]
 mod host_tests;
 mod input;
 mod job;
+#[cfg(test)]
+mod job_growth_tests;
+#[cfg(test)]
+mod line_growth_tests;
 mod lines;
+#[cfg(test)]
+mod link_growth_tests;
 #[cfg(test)]
 mod link_tests;
 mod notes;

@@ -105,7 +105,7 @@ impl<W: ByteOut> Job<W> for Rendering {
     ghost well = { λ start now cs taken. taken.1 };
 
     ghost no_memory = { λ start last now cs taken left. elim left [
-      inl same ↦ (
+      | inl same ↦ (
         λ first before is. subst (λ o. IsRendered first (W.written o) now.0.gather now.0.roll.sheet (before ++ cs)) (sym same.2)
             (subst (λ g. IsRendered first (W.written last.1) g now.0.roll.sheet (before ++ cs)) (sym same.3)
             (subst (λ s. IsRendered first (W.written last.1) last.0.gather s (before ++ cs)) (sym same.4) (taken.0 first before is))),
@@ -118,7 +118,11 @@ impl<W: ByteOut> Job<W> for Rendering {
 }
 
 // Gives the text of items to the gather.
-fn give_items<W: ByteOut>(items: &[Item], gather: &mut Gather, output: &mut W) -> Result<(), Obstacle>
+fn give_items<W: ByteOut>(
+    items: &[Item],
+    gather: &mut Gather,
+    output: &mut W,
+) -> Result<(), Obstacle>
     ensures given { OnOk result ((first : Option (List ℕ)) (total : List ℕ) → Carries first (W.written output.old) gather.old total
         → Carries first (W.written output.new) gather.new (total ++ items_text items.now)) }
     ensures failed { IfErr result (λ why. (why ≡ obstacle.Device) × IsTrue (W.failed output.new)) }

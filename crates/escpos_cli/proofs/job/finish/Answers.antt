@@ -8,7 +8,7 @@ returns-in-Ok-clause-says g c = λ start cs new taken.
     let first = g.W.ByteOut.written start.1 in
     let text = g.J.Job.shape.gives cs in
     let carried =
-        subst (λ gather. Carries first (g.W.ByteOut.written c.args.output.now) gather text)
-        (sym c.into_gather-gather.ensures) (g.met.J.Job.carried start _ cs new taken) in
+    subst (λ gather. Carries first (g.W.ByteOut.written c.args.output.now) gather text)
+    (sym c.into_gather-gather.ensures) (g.met.J.Job.carried start _ cs new taken) in
     let given = succeeded c.put.result c.if-is_err.ensures.value c.put.ensures.ok first text carried in
     record { ends = inl refl; out = λ well. c.in-Ok.ensures.ok first _ given }

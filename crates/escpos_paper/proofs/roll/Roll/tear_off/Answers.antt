@@ -37,6 +37,6 @@ returns-clause-torn c = λ gone cs is.
     let view = ap (λ (roll : PageView). roll.sheet) c.self.view_is in
     let items = ap (λ (sheet : Sheet). gone ++ sheet.items) view in
     let bared =
-        bare gone paper.items.items c.clear.new.self.items paper.style paper.bar_style paper.alignment paper.line cs c.clear.ensures.items
-        (ap (below gone) view ∙ is) in
+    bare gone paper.items.items c.clear.new.self.items paper.style paper.bar_style paper.alignment paper.line cs c.clear.ensures.items
+    (ap (below gone) view ∙ is) in
     ap (λ v. with (v ++ c.clear.new.self.items) paper.style paper.bar_style paper.alignment paper.line) (sym items) ∙ bared

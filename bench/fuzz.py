@@ -1,0 +1,343 @@
+"""Makes random streams and receipts for `bench/fuzz.sh`, and says what the program has to make of them.
+
+The tables and the reading of JSON here are written on their own, from what docs/PROFILE.md says, and share nothing with the program.
+"""
+import json, math, re
+
+MARKS = 36**4
+
+# Commands of one spelling; and those of fixed bytes with one parameter byte, with what that may be.
+PLAIN = {"lf": b"\n", "cr": b"\r", "init": b"\x1b@"}
+WITH_BYTE = {
+    "char": (b"", range(32, 256)),
+    "mode": (b"\x1b!", range(256)),
+    "underline": (b"\x1b-", (0, 1, 2, 48, 49, 50)),
+    "emphasis": (b"\x1bE", range(256)),
+    "font": (b"\x1bM", (0, 1, 48, 49)),
+    "align": (b"\x1ba", (0, 1, 2, 48, 49, 50)),
+    "units": (b"\x1bJ", range(256)),
+    "feed": (b"\x1bd", range(256)),
+    "table": (b"\x1bt", range(256)),
+    "size": (b"\x1d!", [n for n in range(256) if not n & 0x88]),
+    "hriplace": (b"\x1dH", (0, 1, 2, 3, 48, 49, 50, 51)),
+    "cut": (b"\x1dV", (0, 1, 48, 49)),
+    "hrifont": (b"\x1df", (0, 1, 48, 49)),
+    "barheight": (b"\x1dh", range(1, 256)),
+    "barwidth": (b"\x1dw", range(2, 7)),
+    "status": (b"\x10\x04", range(1, 5)),
+}
+WITH_BYTES = {"cut": b"\x1dV", "pulse": b"\x1bp", "mark": b"\x1d(H\x06\x0000"}
+SCALES = (0, 1, 2, 3, 48, 49, 50, 51)
+# The content of each symbology by its m in form A; in form B that is 65 more, and CODE128 has that form alone.
+CONTENTS = {
+    0: rb"\d{11,12}",
+    2: rb"\d{12,13}",
+    3: rb"\d{7,8}",
+    4: rb"[0-9A-Z $%*+./-]{1,255}",
+    5: rb"(\d\d){1,127}",
+    6: rb"[A-Da-d][0-9$+./:-]{0,253}[A-Da-d]",
+    8: rb"\{[ABC][\x00-\x7f]{0,253}",
+}
+KINDS = {"upca": 0, "ean13": 2, "ean8": 3, "code39": 4, "itf": 5, "codabar": 6, "code128": 8}
+FULL_LENGTHS = {0: 12, 2: 13, 3: 8}
+REASONS = {1: "UnknownByte", 2: "UnknownCommand", 3: "BadParameter", 4: "BadBarcode", 5: "BadSize"}
+
+
+class Finding(Exception):
+    """Something that doesn't hold."""
+
+
+def hold(fact, *what):
+    if not fact:
+        raise Finding(" ".join(map(str, what)))
+
+
+def mark(number):
+    """Returns the mark with this number."""
+    digits = b"0123456789ABCDEFGHIJKLMNOPQRSTUVWXYZ"
+    return WITH_BYTES["mark"] + bytes(digits[number // 36**place % 36] for place in (3, 2, 1, 0))
+
+
+def some_content(pick, symbology):
+    """Returns content that this symbology takes."""
+    several = pick.choice((1, 2, 3, 20, 120))
+    if symbology == 4:
+        return bytes(pick.choices(b"0123456789ABCXYZ $%*+./-", k=several))
+    if symbology == 6:
+        return bytes([pick.choice(b"ABCDabcd"), *pick.choices(b"0123456789$+./:-", k=several - 1), pick.choice(b"ABCDabcd")])
+    if symbology == 8:
+        return b"{" + bytes([pick.choice(b"ABC"), *pick.choices(range(128), k=several)])
+    count = 2 * several if symbology == 5 else FULL_LENGTHS[symbology] - pick.randrange(2)
+    return bytes(pick.choices(b"0123456789", k=count))
+
+
+def check_digit(digits):
+    """Returns what makes the sum of the digits, weighted 3, 1, 3, 1, .. from the last leftwards, a multiple of ten."""
+    return -sum((digit - 48) * (1 if at % 2 else 3) for at, digit in enumerate(reversed(digits))) % 10
+
+
+def some_command(pick):
+    """Returns the bytes of a command, and its line in a listing without the place."""
+    name = pick.choice(("char",) * 20 + ("lf",) * 5 + (*PLAIN, *WITH_BYTE, *WITH_BYTES, "bars", "bars", "raster", "raster"))
+    if name in PLAIN:
+        return PLAIN[name], name
+    if name in WITH_BYTE and (name != "cut" or pick.randrange(2)):
+        front, values = WITH_BYTE[name]
+        byte = bytes([pick.choice(values)])
+        return front + byte, f"{name} {byte.hex()}"
+    if name == "mark":
+        id_bytes = bytes(pick.choices(range(32, 127), k=4))
+        return WITH_BYTES[name] + id_bytes, f"mark {id_bytes.decode()}"
+    if name == "bars":
+        symbology = pick.choice(list(CONTENTS))
+        content = some_content(pick, symbology)
+        form = 65 if symbology == 8 else pick.choice((0, 65))
+        spelled = bytes([symbology + form, len(content)]) + content if form else bytes([symbology]) + content + b"\0"
+        return b"\x1dk" + spelled, f"bars {symbology + form:02x} {content.hex()}"
+    if name == "raster":
+        scale, x, y = pick.choice(SCALES), pick.choice((1, 2, 3, 128)), pick.choice((1, 2, 5, 5, 300))
+        header = b"\x1dv0" + bytes([scale, x, 0, y % 256, y // 256])
+        return header + pick.randbytes(x * y), f"raster {scale:02x} {x} {y}"
+    values = [pick.choice((65, 66) if name == "cut" else (0, 1, 48, 49))] + pick.choices(range(256), k=1 if name == "cut" else 2)
+    return WITH_BYTES[name] + bytes(values), f"{name} {bytes(values).hex(' ')}"
+
+
+def respelled(line, stream):
+    """Returns the bytes of the command that a line of a listing tells; the dots of a raster are those of the stream."""
+    place, name, values = (line + " ").split(" ", 2)
+    values = values[:-1]
+    if name in PLAIN:
+        return PLAIN[name]
+    if name == "mark":
+        return WITH_BYTES[name] + values.encode("latin-1")
+    if name == "bars":
+        m, content = bytes.fromhex(values[:2]), bytes.fromhex(values[3:])
+        hold(re.fullmatch(CONTENTS[m[0] % 65], content), "content that isn't in the table:", line)
+        return b"\x1dk" + m + (bytes([len(content)]) + content if m[0] >= 65 else content + b"\0")
+    if name == "raster":
+        scale, x, y = values.split(" ")
+        hold(int(scale, 16) in SCALES and 1 <= int(x) <= 128 and 1 <= int(y) <= 4095, "a raster that isn't in the table:", line)
+        header = b"\x1dv0" + bytes([int(scale, 16), int(x), 0, int(y) % 256, int(y) // 256])
+        return header + stream[int(place) + 8 : int(place) + 8 + int(x) * int(y)]
+    values = bytes.fromhex(values)
+    front, allowed = WITH_BYTE[name] if len(values) == 1 else (WITH_BYTES[name], range(256))
+    hold(values[-1] in allowed, "a parameter that isn't in the table:", line)
+    return front + values
+
+
+def reason(half):
+    """Returns the number of the reason for which a byte behind these bytes of its command may be refused."""
+    if half[:2] == b"\x1dk" and len(half) > 2:
+        return 4
+    if half[:3] == b"\x1dv0" and len(half) > 3:
+        return 5
+    return 1 if not half else 2 if len(half) == 1 or half in (b"\x1d(", b"\x1dv") else 3
+
+
+def try_listing(stream, status, lines):
+    """Checks that the lines of a listing spell the stream, and that its last line says where that ends, and why."""
+    place = 0
+    for line in lines[:-1]:
+        if not line.startswith("note "):
+            hold(line.startswith(f"{place} "), "a wrong place:", line)
+            spelled = respelled(line, stream)
+            hold(stream[place : place + len(spelled)] == spelled, "bytes that aren't there:", line)
+            place += len(spelled)
+    word, at, *rest = lines[-1].split(" ")
+    if word == "fault":
+        why = reason(stream[place : int(at)])
+        hold(place <= int(at) < len(stream) and rest == [str(why), REASONS[why]] and status == 1, "a wrong last line:", lines[-1])
+    else:
+        hold(lines[-1] == f"end {len(stream)} pending {len(stream) - place}", "a wrong last line:", lines[-1])
+        hold(status == (place < len(stream)), "a wrong status:", status)
+
+
+def formatted(pick, stream):
+    """Returns hexadecimal digits of a stream, of either case, with blanks and line ends anywhere."""
+    most = pick.choice((0, 1, 3))
+    return "".join(pick.choice((digit, digit.upper())) + pick.choice(" \t\r\n") * pick.randint(0, most) for digit in stream.hex()).encode()
+
+
+def spoiled(pick, text):
+    """Returns these bytes with some changed, put in, taken out or moved."""
+    for _ in range(pick.randint(1, 4)):
+        at, other = pick.randint(0, len(text)), pick.randint(0, len(text))
+        some = (pick.randbytes(1), pick.randbytes(pick.randint(1, 5)), text[at:other], b"\x1b", b"\x1d", b'"', b"0", b"}")
+        text = text[:at] + pick.choice(some) + text[at + pick.randint(0, 2) :]
+    return text
+
+
+def note_of(line):
+    """Returns the line of a wrong check digit behind this line of a listing, or nothing."""
+    place, name, *values = line.split(" ")
+    if name != "bars" or place == "note":
+        return None
+    content = bytes.fromhex(values[1])
+    right = check_digit(content[:-1]) if len(content) == FULL_LENGTHS.get(int(values[0], 16) % 65) else None
+    return None if right is None or content[-1] - 48 == right else f"note {place} check digit {content[-1] - 48}, right {right}"
+
+
+def width_of(cells):
+    """Returns how many dots the cells of a row are wide."""
+    dots, width = 0, 12
+    for style, _ in re.findall(r"\[(.*?)\]|(\\..|.)", cells):
+        if style:
+            font, times = style.split(",")[:2]
+            width = (12 if font == "A" else 9) * int(times)
+        else:
+            dots += width
+    return dots
+
+
+# Receipts
+
+FEEDS = {"feed": b"\x1bd", "units": b"\x1bJ"}
+WITH_NUMBER = {"mode": (b"\x1b!", 0, 255), "table": (b"\x1bt", 0, 255), "underline": (b"\x1b-", 0, 2), "bar_height": (b"\x1dh", 1, 255), "bar_width": (b"\x1dw", 2, 6)}
+WITH_WORD = {
+    "font": (b"\x1bM", "A B"),
+    "align": (b"\x1ba", "left center right"),
+    "hri": (b"\x1dH", "none above below both"),
+    "hri_font": (b"\x1df", "A B"),
+    "cut": (b"\x1dV", "full partial"),
+}
+SCALE_WORDS = "normal wide tall both"
+
+
+class Refused(Exception):
+    """The line of a refusal, without the place of an entry."""
+
+
+def number_in(value, least, most):
+    if type(value) is not int or not least <= value <= most:
+        raise Refused("6 BadShape")
+    return value
+
+
+def word_in(value, words):
+    if type(value) is not str or value not in words.split():
+        raise Refused("6 BadShape")
+    return words.split().index(value)
+
+
+def inner(value, names):
+    """Returns the members of an object, in the order of these names."""
+    if type(value) is not dict or sorted(value) != sorted(names.split()):
+        raise Refused("6 BadShape")
+    return [value[name] for name in names.split()]
+
+
+def entry_commands(entry):
+    """Returns the commands of an entry of a receipt: what each is to the line, and its bytes."""
+    if type(entry) is not dict or len(entry) != 1:
+        raise Refused("6 BadShape")
+    [(name, value)] = entry.items()
+    if name in ("text", "line") and type(value) is str:
+        for character in value:
+            if not " " <= character <= "\x7f":
+                raise Refused("7 ControlByte" if character < " " else "8 NotAscii")
+        return [("text", bytes([byte])) for byte in value.encode()] + [("end", b"\n")] * (name == "line")
+    if name in FEEDS:
+        return [("end", FEEDS[name] + bytes([number_in(value, 0, 255)]))]
+    if name in WITH_NUMBER:
+        front, least, most = WITH_NUMBER[name]
+        return [("other", front + bytes([number_in(value, least, most)]))]
+    if name in WITH_WORD:
+        front, words = WITH_WORD[name]
+        return [("block" if name == "cut" else "other", front + bytes([word_in(value, words)]))]
+    if name == "bold" and type(value) is bool:
+        return [("other", b"\x1bE" + bytes([value]))]
+    if name == "size" and type(value) is list and len(value) == 2:
+        return [("other", b"\x1d!" + bytes([16 * number_in(value[0], 1, 8) + number_in(value[1], 1, 8) - 17]))]
+    if name == "pulse":
+        pin, on, off = inner(value, "pin on off")
+        return [("other", b"\x1bp" + bytes([number_in(pin, 0, 1), number_in(on, 0, 255), number_in(off, 0, 255)]))]
+    if name == "feed_cut":
+        kind, feed = inner(value, "kind feed")
+        return [("block", b"\x1dV" + bytes([65 + word_in(kind, "full partial"), number_in(feed, 0, 255)]))]
+    if name == "bars":
+        kind, content = inner(value, "kind content")
+        symbology = list(KINDS.values())[word_in(kind, " ".join(KINDS))]
+        if type(content) is str and re.fullmatch(CONTENTS[symbology], content.encode()):
+            return [("block", b"\x1dk" + bytes([65 + symbology, len(content)]) + content.encode())]
+    if name == "raster":
+        scale, x, y, dots = inner(value, "scale x y dots")
+        header = b"\x1dv0" + bytes([word_in(scale, SCALE_WORDS), number_in(x, 1, 128), 0]) + number_in(y, 1, 4095).to_bytes(2, "little")
+        if type(dots) is str and re.fullmatch("[0-9a-fA-F]*", dots) and len(dots) == 2 * x * y:
+            return [("block", header + bytes.fromhex(dots))]
+    raise Refused("6 BadShape")
+
+
+def number_of(text):
+    """Returns a number that is an integer without sign and not too great for any floating point number; others are no integers here."""
+    if math.isinf(float(text)):
+        raise ValueError
+    return int(text) if text.isdecimal() else float(text)
+
+
+def commands_of(text):
+    """Returns the commands of a receipt in JSON, or raises the line of its refusal."""
+    try:
+        value = json.loads(text.decode(), parse_int=number_of, parse_float=number_of, parse_constant=float.fromhex)
+        json.dumps(value, ensure_ascii=False).encode()
+    except ValueError:
+        raise Refused("5 NotJson") from None
+    if type(value) is not list:
+        raise Refused("6 BadShape 0")
+    commands, in_text = [], False
+    for place, entry in enumerate(value):
+        try:
+            commands += entry_commands(entry)
+        except Refused as refused:
+            raise Refused(f"{refused} {place}") from None
+    for place, (what, _) in enumerate(commands):
+        if what == "block" and in_text:
+            raise Refused(f"4 MidLine {place}")
+        in_text = what == "text" or in_text and what != "end"
+    if not commands or in_text:
+        raise Refused("3 TextLeft" if commands else "1 Empty")
+    return [spelling for _, spelling in commands]
+
+
+def some_entry(pick, name):
+    """Returns the value of an entry with this member."""
+    word = lambda words: pick.choice(words.split())
+    byte = pick.randrange(256)
+    if name in ("text", "line"):
+        return "".join(map(chr, pick.choices(range(32, 128), k=pick.choice((0, 1, 5, 30, 60))))) + pick.choice([""] * 60 + ["\x1f", "\x80"])
+    if name in WITH_NUMBER:
+        return pick.randint(*WITH_NUMBER[name][1:])
+    if name in WITH_WORD:
+        return word(WITH_WORD[name][1])
+    if name == "bars":
+        kind = pick.choice(list(KINDS))
+        return {"kind": kind, "content": some_content(pick, KINDS[kind]).decode()}
+    if name == "raster":
+        x, y = pick.choice((1, 2, 128)), pick.choice((1, 3, 30))
+        return {"scale": word(SCALE_WORDS), "x": x, "y": y, "dots": pick.choice((pick.randbytes(x * y), mark(byte) * x * y))[: x * y].hex()}
+    size = [pick.randint(1, 8), pick.randint(1, 8)]
+    pulse = {"pin": pick.randrange(2), "on": byte, "off": pick.randrange(256)}
+    return {"feed": byte, "units": byte, "bold": byte > 99, "size": size, "pulse": pulse, "feed_cut": {"kind": word("full partial"), "feed": byte}}[name]
+
+
+def some_receipt(pick):
+    """Returns a receipt, as a value; some are none, for a character or for text that is left in the line."""
+    names = ("line",) * 5 + ("text", *FEEDS, *WITH_NUMBER, *WITH_WORD, "bold", "size", "pulse", "bars", "raster", "feed_cut")
+    entries = []
+    for name in pick.choices(names, k=pick.choice((1, 2, 4, 12))):
+        if name == "line" and pick.randrange(3) == 0:
+            entries += [{"text": some_entry(pick, "text")}, {"bold": True}]
+        entries.append({name: some_entry(pick, name)})
+    return entries if pick.randrange(12) else entries + [{"text": "left"}]
+
+
+def written(pick, value):
+    """Returns the text of a value in JSON, in one line, with blanks and escapes or without."""
+    return json.dumps(value, ensure_ascii=pick.random() < 0.5, separators=pick.choice(((",", ":"), (", ", " : ")))).encode()
+
+
+def encoded(text):
+    """Returns what `encode` has to make of a text: its status and its output."""
+    try:
+        return 0, b"".join(commands_of(text)).hex() + "\n"
+    except Refused as refused:
+        return 1, f"refused {refused}\n"
