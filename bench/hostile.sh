@@ -247,7 +247,7 @@ def answers_late(stream, size):
     stream.recv(1)
 
 
-def printed(name, piece, told, reads=True, sizes=(SIZE // 2, SIZE)):
+def printed(name, piece, told, reads=True, sizes=(SIZE // 4, SIZE)):
     return Case(["emulate", "ADDRESS"], name, times(b""), sizes, 0, told, talk(piece, reads))
 
 
@@ -287,9 +287,9 @@ def cases():
     """Returns all cases."""
     found = long_texts() + LIMITS
     for word in "check", "render":
-        blanks = Case([word], "blanks", times(b" \t\r\n"), (SIZE // 2, SIZE), 0, b"end 0 pending 0\n" if word == "check" else b"")
-        letters = Case([word], "letters", times(b"xyz"), (SIZE // 2, SIZE), 1, b"refused hex\n")
-        spaced = Case([word], "a blank between all digits", times(b"4 "), (SIZE // 2, SIZE), 0, b"")
+        blanks = Case([word], "blanks", times(b" \t\r\n"), (SIZE // 4, SIZE), 0, b"end 0 pending 0\n" if word == "check" else b"")
+        letters = Case([word], "letters", times(b"xyz"), (SIZE // 4, SIZE), 1, b"refused hex\n")
+        spaced = Case([word], "a blank between all digits", times(b"4 "), (SIZE // 4, SIZE), 0, b"")
         found += growing([word], STREAMS, hexadecimal) + [blanks, letters, spaced]
     looped = [case for case in RECEIPTS if case[0] in ("small entries", "lines of a character", "largest rasters")]
     return found + growing(["encode"], RECEIPTS) + growing(["loop"], looped) + growing(["play"], SCRIPTS) + PEERS
