@@ -7,7 +7,7 @@ use Rattle.escpos_command.specs.declared.command.Command.{Command}
 use Rattle.escpos_io.specs.Gather.{Carries, Gathered}
 use Rattle.escpos_paper.specs.declared.item.Item.{Item}
 use Rattle.escpos_paper.specs.Page.{Sheet, SheetIs}
-use Rattle.escpos_paper.specs.Roll.{below}
+use Rattle.escpos_paper.specs.Torn.{bare, below}
 use Rattle.escpos_paper.specs.Printed.{printed}
 use Rattle.escpos_paper.specs.ItemsText.{item_text, items_text}
 use Rattle.escpos_cli.specs.Render.{IsRendered}
@@ -24,14 +24,13 @@ all_items items i h = ap items_text (take_all i items h)
 
 -- What a command left below the paper that was torn off is torn off too, and its text given.
 pub rendered_on : (first sink : Option (List ℕ)) (gather : Gathered) (left torn : Sheet) (cs : List Command) (c : Command)
-    → SheetIs (below (printed cs) left) [] (cs ++ c ∷ [])
-    → ((gone : List Item) → SheetIs (below gone left) [] (cs ++ c ∷ []) → SheetIs (below (gone ++ left.items) torn) [] (cs ++ c ∷ []))
-    → torn.items ≡ [] → Carries first sink gather (items_text (printed cs) ++ items_text left.items)
-    → IsRendered first sink gather torn (cs ++ c ∷ [])
-rendered_on first sink gather left torn cs c is off empty carried =
+    → SheetIs (below (printed cs) left) [] (cs ++ c ∷ []) → torn ≡ bare left
+    → Carries first sink gather (items_text (printed cs) ++ items_text left.items) → IsRendered first sink gather torn (cs ++ c ∷ [])
+rendered_on first sink gather left torn cs c is off carried =
     let all : printed cs ++ left.items ≡ printed (cs ++ c ∷ []) = ap (λ (s : Sheet). s.items) is in
+    let stays : below (printed cs ++ left.items) (bare left) ≡ below (printed cs) left = let e = append-nil (printed cs ++ left.items) in cc e in
     record {
-      torn = empty;
-      sheet_is = subst (λ v. SheetIs (below v torn) [] (cs ++ c ∷ [])) all (off (printed cs) is);
+      torn = ap (λ (s : Sheet). s.items) off;
+      sheet_is = subst (λ v. SheetIs (below v torn) [] (cs ++ c ∷ [])) all (ap (below (printed cs ++ left.items)) off ∙ stays ∙ is);
       carried = subst (Carries first sink gather) (sym (flat_map-append item_text (printed cs) left.items) ∙ ap items_text all) carried;
     }

@@ -3,7 +3,7 @@ use Rattle.std.specs.Prelude.{ℕ, ◌≡◌, ◌==◌, List, [], Option, if◌t
 use Rattle.escpos_command.specs.declared.command.Command.{Command}
 use Rattle.escpos_io.specs.Gather.{Carries, Gathered}
 use Rattle.escpos_paper.specs.Page.{Sheet, SheetIs}
-use Rattle.escpos_paper.specs.Roll.{below}
+use Rattle.escpos_paper.specs.Torn.{below}
 use Rattle.escpos_paper.specs.Printed.{printed}
 use Rattle.escpos_paper.specs.ItemsText.{items_text}
 use Rattle.escpos_cli.specs.Lines.{end_line}

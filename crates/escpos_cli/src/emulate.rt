@@ -1,17 +1,24 @@
 //! The word `emulate`: a printer that serves links over TCP, one after another, and writes its paper at the end.
 //!
-//! What a link comes to is `serve_link`'s, over any source and sink; here it is given sockets, and its end gets a line.
+//! What a link comes to is `serve_link`'s, over any source and sink; here it is given sockets, and its end gets a line. The paper
+//! waits for the last link as text (`paper_text`): a link is served in parts, and after each its paper is torn off.
 
-ghost use Rattle.std.specs.Prelude.{◌≡◌, ◌≢◌, ◌+◌, ◌≤◌, ◌++◌, length, IfOk, IsTrue, OnErr, OnOk};
+ghost use Rattle.std.specs.Prelude.{◌≡◌, ◌≢◌, ◌+◌, ◌*◌, ◌≤◌, ◌++◌, List, length, IfOk, IsTrue, OnErr, OnOk};
 ghost use Rattle.std.specs.Io.KnownBytes.{Appends};
+ghost use Rattle.escpos_paper.specs.declared.item.Item.{Item};
+ghost use Rattle.escpos_paper.specs.ItemsText.{items_text};
+ghost use Rattle.escpos_printer.specs.Parts.{under};
 ghost use Rattle.escpos_printer.specs.Serves.{Serves, link};
 ghost use Rattle.escpos_cli.specs.Links.{link_line};
 
 use crate::lines::{SPACE, append_number};
 use crate::outcome::{MEMORY, say};
+use crate::paper_text::PaperText;
 use crate::status::Status;
 use escpos_command::LF;
-use escpos_io::{ByteIn, ByteOut, Device, GATHERED_BYTES, Gather, Incoming, Outgoing, laws};
+use escpos_io::{
+    ByteIn, ByteOut, Device, GATHERED_BYTES, Gather, Incoming, Outgoing, laws, put_all,
+};
 use escpos_paper::write_items;
 use escpos_printer::{Condition, LinkEnd, Printer, Served, serve_link};
 use std::alloc::Global;
@@ -21,6 +28,13 @@ use std::net::{Net, SocketAddrV4, TcpListener, TcpStream};
 pub const LINK_LIMIT: u32 = 16_777_216;
 
 const _: () = prove!(LINK_LIMIT == 16_777_216);
+
+/// How many bytes of a link are read before its paper is torn off, and how many such parts a link has at most.
+const PART_BYTES: u32 = 16_384;
+const PARTS: u32 = 1_024;
+
+const _: () = prove!(PART_BYTES == 16_384);
+const _: () = prove!(PARTS == 1_024);
 
 /// More than the line of a link has.
 const LINE_BYTES: usize = 256;
@@ -69,8 +83,9 @@ pub fn emulate_on<W: ByteOut>(
     let Ok(mut printer) = Printer::new(alloc, ONLINE) else {
         return say(MEMORY, output, Status::Memory);
     };
-    let status = serve_links(&mut printer, listener, links, output);
-    if write_items(printer.items(), output).is_err() {
+    let mut paper = PaperText::new(alloc);
+    let status = serve_links(&mut printer, &mut paper, listener, links, output);
+    if put_all(paper.as_slice(), output).is_err() || write_items(printer.items(), output).is_err() {
         return Status::Device;
     }
     match status {
@@ -82,6 +97,7 @@ pub fn emulate_on<W: ByteOut>(
 // Serves so many links, up to the first that can't be accepted, or ends for want of memory.
 fn serve_links<W: ByteOut>(
     printer: &mut Printer,
+    paper: &mut PaperText,
     listener: &TcpListener,
     links: u32,
     output: &mut W,
@@ -93,7 +109,7 @@ fn serve_links<W: ByteOut>(
         let Ok((stream, _)) = listener.accept() else {
             return Status::Device;
         };
-        match serve_stream(printer, number, &stream, output) {
+        match serve_stream(printer, paper, number, &stream, output) {
             Ok(LinkEnd::Memory) => return Status::Memory,
             Ok(_) => {}
             Err(_) => return Status::Device,
@@ -106,6 +122,7 @@ fn serve_links<W: ByteOut>(
 // so is served as it is.
 fn serve_stream<W: ByteOut>(
     printer: &mut Printer,
+    paper: &mut PaperText,
     number: u32,
     stream: &TcpStream,
     output: &mut W,
@@ -116,30 +133,81 @@ fn serve_stream<W: ByteOut>(
     let _ = stream.set_nodelay(true);
     let mut reader = Incoming::new(stream);
     let mut writer = Outgoing::new(stream);
-    let served = serve_and_tell(printer, number, &mut reader, &mut writer, output)?;
+    let served = serve_and_tell(printer, paper, number, &mut reader, &mut writer, output)?;
     Ok(served.end)
 }
 
-/// Serves a link and puts its line. `Err` comes only where `output` has failed.
+/// Serves a link, tears its paper off and puts its line. `Err` comes only where `output` has failed.
 pub fn serve_and_tell<R: ByteIn, A: ByteOut, W: ByteOut>(
     printer: &mut Printer,
+    paper: &mut PaperText,
     number: u32,
     reader: &mut R,
     writer: &mut A,
     output: &mut W,
 ) -> Result<Served, Device>
-    ensures served { IfOk result (λ served. Serves printer.old (link (R.to_come reader.old) (R.to_come reader.new) (A.written writer.old) (A.written writer.new))
-        LINK_LIMIT served printer.new) }
+    ensures served { IfOk result (λ served. (gone : List Item) × (paper.new ≡ paper.old ++ items_text gone)
+        × Serves printer.old (link (R.to_come reader.old) (R.to_come reader.new) (A.written writer.old) (A.written writer.new))
+            LINK_LIMIT served (under gone printer.new)) }
     ensures told { IfOk result (λ served. Appends (W.written output.old) (W.written output.new) (link_line number served)) }
     ensures failed { OnErr result (IsTrue (W.failed output.new)) }
     ensures not_failed { OnOk result (¬ IsTrue (W.failed output.old) → ¬ IsTrue (W.failed output.new)) }
 {
     laws::given_in_place();
-    let served = serve_link(printer, reader, writer, LINK_LIMIT);
+    let served = serve_in_parts(printer, paper, reader, writer);
     let mut gather = Gather::new();
     append_link(&mut gather, number, served);
     gather.flush(output)?;
     Ok(served)
+}
+
+// Serves a link, and tears its paper off.
+fn serve_in_parts<R: ByteIn, A: ByteOut>(
+    printer: &mut Printer,
+    paper: &mut PaperText,
+    reader: &mut R,
+    writer: &mut A,
+) -> Served
+    ensures { (gone : List Item) × (paper.new ≡ paper.old ++ items_text gone)
+        × Serves printer.old (link (R.to_come reader.old) (R.to_come reader.new) (A.written writer.old) (A.written writer.new))
+            LINK_LIMIT result (under gone printer.new) }
+{
+    escpos_printer::laws::parts();
+    let mut served = serve_part(printer, paper, reader, writer);
+    for _ in 1..PARTS {
+        match served.end {
+            LinkEnd::TooLong => {}
+            _ => return served,
+        }
+        let part = serve_part(printer, paper, reader, writer);
+        served = Served {
+            read: served.read + part.read,
+            consumed: served.consumed + part.consumed,
+            written: served.written + part.written,
+            end: part.end,
+        };
+    }
+    served
+}
+
+// Serves a part of a link, and tears its paper off. What was torn off before may be thought above it.
+fn serve_part<R: ByteIn, A: ByteOut>(
+    printer: &mut Printer,
+    paper: &mut PaperText,
+    reader: &mut R,
+    writer: &mut A,
+) -> Served
+    ensures served { (gone : List Item) × (paper.new ≡ paper.old ++ items_text gone)
+        × ((above : List Item) → Serves (under above printer.old)
+            (link (R.to_come reader.old) (R.to_come reader.new) (A.written writer.old) (A.written writer.new))
+            PART_BYTES result (under (above ++ gone) printer.new)) }
+    ensures few { result.written ≤ 112 + 224 * result.read }
+{
+    escpos_printer::laws::paper_above();
+    let _ = printer.items();
+    let served = serve_link(printer, reader, writer, PART_BYTES);
+    paper.tear_off(printer);
+    served
 }
 
 // The line of a link.

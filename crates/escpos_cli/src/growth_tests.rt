@@ -10,7 +10,7 @@ use crate::emulate::ONLINE;
 use escpos_command::{Bars, Bytes, CharsFault, Command, Form, Raster, Symbology, chars_of, laws};
 use escpos_decode::{Consumer, DecodeFault, Decoded, Decoder, End, Step, Stop, decode, read_piece};
 use escpos_io::{ByteIn, MemoryIn, MemoryOut, ReadError, read_to_end};
-use escpos_paper::{Item, Page, Roll, write_items};
+use escpos_paper::{Item, Page, write_items};
 use escpos_printer::{Fed, FeedStop, LinkEnd, Printer, Served, serve_link};
 use std::alloc::{AllocError, Global};
 use std::process::Abort;
@@ -342,30 +342,8 @@ fn apply_refused(rt: HostRuntime) {
         applies(&rt, &mut page, raster, PICTURE);
     }
     prints(&rt, page.items(), PAPER);
-}
-
-// The same of a roll.
-fn applies_to_roll(rt: &impl Abort, roll: &mut Roll, command: Command, spelling: &[u8]) {
-    let count = roll.items().len();
-    if let Err(back) = roll.apply(command) {
-        assert_eq!(rt; roll.items().len(), count);
-        is_spelled(rt, &back, spelling);
-        assert!(rt; roll.apply(back).is_ok());
-    }
-}
-
-#[test]
-fn apply_to_roll_refused(rt: HostRuntime) {
-    let mut roll = Roll::new(rt.alloc());
-    for _ in 0..3 {
-        let bars = Command::Bars(barcode(&rt, rt.alloc()));
-        applies_to_roll(&rt, &mut roll, bars, BARCODE);
-        let raster = Command::Raster(picture(&rt, rt.alloc()));
-        applies_to_roll(&rt, &mut roll, raster, PICTURE);
-    }
-    prints(&rt, roll.items(), PAPER);
-    roll.tear_off();
-    assert!(&rt; roll.items().is_empty());
+    page.tear_off();
+    assert!(&rt; page.items().is_empty());
 }
 
 // A printer that is online. Where its memory is refused, it is asked for again.

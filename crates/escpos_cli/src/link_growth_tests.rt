@@ -7,11 +7,13 @@ use crate::growth_tests::printer_at_last;
 use crate::host_tests::{S, receipt_of};
 use crate::job_growth_tests::is_told;
 use crate::outcome::MEMORY;
+use crate::paper_text::PaperText;
 use crate::send::Marks;
 use crate::send_tests::receipt_at_last;
 use crate::status::Status;
 use escpos_host::Receipt;
-use escpos_io::{MemoryIn, MemoryOut};
+use escpos_io::{MemoryIn, MemoryOut, put_all};
+use escpos_paper::write_items;
 use escpos_printer::{LinkEnd, Printer};
 use std::alloc::Global;
 use std::io;
@@ -26,12 +28,20 @@ const EMULATED: &[u8] =
     b"link 1 read 27 consumed 27 written 1 Ended\nrow left Hi\nfeed 1\nbars left ean8 162 3 none A 55123457\nraster left normal 1 2 f00f\n";
 
 // Serves a link over memory. Answers no where memory is refused: then the line says so.
-fn serves_and_tells(rt: &impl Abort, printer: &mut Printer) -> bool {
-    let (mut room, mut printed) = ([0; 16], [0; 80]);
+fn serves_and_tells(rt: &impl Abort, alloc: Global, printer: &mut Printer) -> bool {
+    let mut paper = PaperText::new(alloc);
+    let (mut room, mut printed) = ([0; 16], [0; 256]);
     let mut reader = MemoryIn::new(LINK, 512);
     let mut writer = MemoryOut::new(&mut room);
     let mut output = MemoryOut::new(&mut printed);
-    let served = crate::emulate::serve_and_tell(printer, 1, &mut reader, &mut writer, &mut output);
+    let served = crate::emulate::serve_and_tell(
+        printer,
+        &mut paper,
+        1,
+        &mut reader,
+        &mut writer,
+        &mut output,
+    );
     let served = served.expect(rt, "a line");
     assert!(rt; Some(writer.written()) == b"\x12".get(..served.written));
     if served.end == LinkEnd::Memory {
@@ -43,15 +53,21 @@ fn serves_and_tells(rt: &impl Abort, printer: &mut Printer) -> bool {
     assert_eq!(rt; served.written, 1);
     assert!(rt; EMULATED.starts_with(output.written()));
     assert_eq!(rt; output.written().len(), 43);
+    // what isn't torn off for want of memory is still on the paper
+    let torn = paper.as_slice().len();
+    assert!(rt; put_all(paper.as_slice(), &mut output).is_ok());
+    assert!(rt; write_items(printer.items(), &mut output).is_ok());
+    assert_eq!(rt; output.written(), EMULATED);
+    assert!(rt; torn == 0 || printer.items().is_empty());
     true
 }
 
 #[test]
 fn serve_and_tell_refused(rt: HostRuntime) {
     let mut printer = printer_at_last(&rt, rt.alloc());
-    if !serves_and_tells(&rt, &mut printer) {
+    if !serves_and_tells(&rt, rt.alloc(), &mut printer) {
         let mut printer = printer_at_last(&rt, rt.alloc());
-        assert!(&rt; serves_and_tells(&rt, &mut printer));
+        assert!(&rt; serves_and_tells(&rt, rt.alloc(), &mut printer));
     }
 }
 

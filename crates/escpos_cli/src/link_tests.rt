@@ -4,6 +4,7 @@
 use crate::both_ends::{both_ends_of, loop_receipt};
 use crate::emulate::{ONLINE, emulate, emulate_on, serve_and_tell};
 use crate::host_tests::{S, receipt_of};
+use crate::paper_text::PaperText;
 use crate::perform::perform;
 use crate::receipt_edge_tests::joined;
 use crate::send::{Marks, send_on, send_over, send_to};
@@ -420,7 +421,7 @@ fn told_of_a_receipt(rt: HostRuntime) {
 // A link of one printer is served over memory, with reads and writes that fail from these calls on, and its line is printed.
 fn serves(
     rt: &impl Abort,
-    printer: &mut Printer,
+    (printer, paper): (&mut Printer, &mut PaperText),
     (bytes, read, write): (&[u8], u64, u64),
     (number, text): (u32, &str),
 ) {
@@ -429,7 +430,14 @@ fn serves(
     let mut reader = MemoryIn::failing(bytes, 12, read);
     let mut writer = MemoryOut::failing(&mut room, write);
     let mut output = MemoryOut::new(&mut printed);
-    let served = serve_and_tell(printer, number, &mut reader, &mut writer, &mut output);
+    let served = serve_and_tell(
+        printer,
+        paper,
+        number,
+        &mut reader,
+        &mut writer,
+        &mut output,
+    );
     assert!(rt; served.is_ok());
     assert_eq!(rt; output.written(), text.as_bytes());
     let answers = b"\x12\x12\x12".as_slice();
@@ -442,6 +450,7 @@ fn serves(
 #[test]
 fn told_of_a_link(rt: HostRuntime) {
     let mut printer = Printer::new(rt.alloc(), ONLINE).expect(&rt, "memory");
+    let mut paper = PaperText::new(rt.alloc());
     let bytes = b"Hi\n\x10\x04\x01\x10\x04\x02\x10\x04\x04".as_slice();
     let rows = [
         (1, NEVER, "link 1 read 0 consumed 0 written 0 ReadFault\n"),
@@ -461,7 +470,8 @@ fn told_of_a_link(rt: HostRuntime) {
         (NEVER, 6, "link 1 read 12 consumed 12 written 3 Ended\n"),
     ];
     for (read, write, text) in rows {
-        serves(&rt, &mut printer, (bytes, read, write), (1, text));
+        let ends = (&mut printer, &mut paper);
+        serves(&rt, ends, (bytes, read, write), (1, text));
     }
     let offline = Condition {
         cover_open: true,
@@ -471,9 +481,49 @@ fn told_of_a_link(rt: HostRuntime) {
     let text = "link 1000 read 3 consumed 2 written 0 Offline\n";
     serves(
         &rt,
-        &mut printer,
+        (&mut printer, &mut paper),
         (b"\x1B!\x08", NEVER, NEVER),
         (1000, text),
+    );
+}
+
+// A link is served whose bytes come in parts of 16,384, two of which end within a command; all its paper is torn off.
+fn serves_long(
+    rt: &impl Abort,
+    printer: &mut Printer,
+    paper: &mut PaperText,
+    (bytes, text): (&[u8], &[u8]),
+) {
+    let (mut room, mut printed) = ([0; 64], [0; 80]);
+    let mut reader = MemoryIn::new(bytes, 500);
+    let mut writer = MemoryOut::new(&mut room);
+    let mut output = MemoryOut::new(&mut printed);
+    let served = serve_and_tell(printer, paper, 7, &mut reader, &mut writer, &mut output);
+    assert!(rt; served.is_ok());
+    let line = b"link 7 read 40012 consumed 40012 written 2 Ended\n".as_slice();
+    assert_eq!(rt; output.written(), line);
+    assert_eq!(rt; writer.written(), b"\x12\x12".as_slice());
+    assert!(rt; printer.items().is_empty());
+    assert!(rt; paper.as_slice() == text);
+}
+
+#[test]
+fn long_link(rt: HostRuntime) {
+    let bytes = ["\x10\x04\x01Hi\n", "A\x1BE\x00\n", "\x10\x04\x02Yo\n"];
+    let bytes = joined(&rt, rt.alloc(), bytes, 8_000);
+    let text = [
+        "row left Hi\nfeed 1\n",
+        "row left A\nfeed 1\n",
+        "row left Yo\nfeed 1\n",
+    ];
+    let text = joined(&rt, rt.alloc(), text, 8_000);
+    let mut printer = Printer::new(rt.alloc(), ONLINE).expect(&rt, "memory");
+    let mut paper = PaperText::new(rt.alloc());
+    serves_long(
+        &rt,
+        &mut printer,
+        &mut paper,
+        (bytes.as_slice(), text.as_slice()),
     );
 }
 

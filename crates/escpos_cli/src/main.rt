@@ -4,7 +4,7 @@
 //! to its modules: `task` reads the words, `perform` does what they ask for, `input`, `hexadecimal` and `receipt_input` read
 //! the input, `check`, `render` and `encode` are the jobs of those names over any source and sink and `job` has what
 //! the first two have in common, `play` is the job of that name, `script` reads the lines of its script and `told` has those
-//! that it prints, `emulate`, `send` and `both_ends` are the words over TCP, `lines` has the lines of a listing, `refusal` the line that refuses a receipt, `usage` the texts of usage and help, `outcome` what all jobs say,
+//! that it prints, `emulate`, `send` and `both_ends` are the words over TCP, `paper_text` keeps the paper of `emulate`, `lines` has the lines of a listing, `refusal` the line that refuses a receipt, `usage` the texts of usage and help, `outcome` what all jobs say,
 //! and `status` what the program ends with.
 #![tactic(auto)]
 
@@ -34,6 +34,7 @@ mod link_growth_tests;
 mod link_tests;
 mod notes;
 mod outcome;
+mod paper_text;
 mod perform;
 mod play;
 #[cfg(test)]

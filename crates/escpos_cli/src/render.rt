@@ -5,7 +5,7 @@ ghost use Rattle.std.proofs.Common.{ap, inl, inr, subst, sym, append-nil};
 ghost use Rattle.escpos_command.specs.declared.command.Command.{Command};
 ghost use Rattle.escpos_io.specs.Gather.{Carries};
 ghost use Rattle.escpos_paper.specs.ItemsText.{items_text};
-ghost use Rattle.escpos_paper.specs.Roll.{RollIs};
+ghost use Rattle.escpos_paper.specs.Torn.{TornIs};
 ghost use Rattle.escpos_paper.specs.declared.paper.TheConstants.{MOST_ITEMS};
 ghost use Rattle.escpos_cli.specs.declared.job.Obstacle.TheVariants as obstacle;
 ghost use Rattle.escpos_cli.specs.Outcome.{IsFair, outcome};
@@ -18,7 +18,7 @@ use crate::status::Status;
 use escpos_command::Command;
 use escpos_decode::Consumer;
 use escpos_io::{ByteIn, ByteOut, Gather, Piece};
-use escpos_paper::{Item, Roll};
+use escpos_paper::{Item, Page};
 use std::alloc::Global;
 
 /// Reads a stream in hexadecimal from `input` and writes the paper that it prints to `output`, an item a
@@ -38,7 +38,7 @@ pub fn render<R: ByteIn, W: ByteOut>(alloc: Global, input: &mut R, output: &mut 
 // The paper that the commands so far have printed on, of which all is torn off, and the text of it that isn't out yet.
 #[derive(Drop)]
 struct Rendering {
-    roll: Roll,
+    page: Page,
     gather: Gather,
 }
 
@@ -46,21 +46,21 @@ impl<W: ByteOut> Consumer<W> for Rendering {
     type Refusal = Obstacle;
 
     ghost took = { λ start now cs.
-        ((first : Option (List ℕ)) (before : List Command) → IsRendered first (W.written start.1) start.0.gather start.0.roll.sheet before
-        → IsRendered first (W.written now.1) now.0.gather now.0.roll.sheet (before ++ cs))
+        ((first : Option (List ℕ)) (before : List Command) → IsRendered first (W.written start.1) start.0.gather start.0.page.sheet before
+        → IsRendered first (W.written now.1) now.0.gather now.0.page.sheet (before ++ cs))
         × (¬ IsTrue (W.failed start.1) → ¬ IsTrue (W.failed now.1)) };
 
     ghost refused = { λ last now refusal.
-        ((refusal ≡ obstacle.Memory) × (last.0.roll.room < MOST_ITEMS) × (now.1 ≡ last.1) × (now.0.gather ≡ last.0.gather) × (now.0.roll.sheet ≡ last.0.roll.sheet))
+        ((refusal ≡ obstacle.Memory) × (last.0.page.room < MOST_ITEMS) × (now.1 ≡ last.1) × (now.0.gather ≡ last.0.gather) × (now.0.page.sheet ≡ last.0.page.sheet))
         ⊎ ((refusal ≡ obstacle.Device) × IsTrue (W.failed now.1)) };
 
     fn take(&mut self, command: Command, _place: usize, output: &mut W) -> Result<(), Obstacle> {
-        if self.roll.apply(command).is_err() {
+        if self.page.apply(command).is_err() {
             return Err(Obstacle::Memory);
         }
-        match give_items(self.roll.items(), &mut self.gather, output) {
+        match give_items(self.page.items(), &mut self.gather, output) {
             Ok(()) => {
-                self.roll.tear_off();
+                self.page.tear_off();
                 Ok(())
             }
             Err(why) => Err(why),
@@ -68,7 +68,7 @@ impl<W: ByteOut> Consumer<W> for Rendering {
     }
 
     ghost nothing = { λ start. (
-      λ first before is. subst (IsRendered first (W.written start.1) start.0.gather start.0.roll.sheet) (sym (append-nil before)) is,
+      λ first before is. subst (IsRendered first (W.written start.1) start.0.gather start.0.page.sheet) (sym (append-nil before)) is,
       λ well. well,
     ) };
 }
@@ -76,13 +76,13 @@ impl<W: ByteOut> Consumer<W> for Rendering {
 impl<W: ByteOut> Job<W> for Rendering {
     ghost shape = { paper_shape };
 
-    ghost is_new = { λ rendering. ((sink : Option (List ℕ)) → Carries sink sink rendering.gather []) × RollIs rendering.roll [] [] };
+    ghost is_new = { λ rendering. ((sink : Option (List ℕ)) → Carries sink sink rendering.gather []) × TornIs rendering.page [] [] };
 
     ghost gather = { λ rendering. rendering.gather };
 
     fn new(alloc: Global) -> Self {
         Rendering {
-            roll: Roll::new(alloc),
+            page: Page::new(alloc),
             gather: Gather::new(),
         }
     }
@@ -106,8 +106,8 @@ impl<W: ByteOut> Job<W> for Rendering {
 
     ghost no_memory = { λ start last now cs taken left. elim left [
       | inl same ↦ (
-        λ first before is. subst (λ o. IsRendered first (W.written o) now.0.gather now.0.roll.sheet (before ++ cs)) (sym same.2)
-            (subst (λ g. IsRendered first (W.written last.1) g now.0.roll.sheet (before ++ cs)) (sym same.3)
+        λ first before is. subst (λ o. IsRendered first (W.written o) now.0.gather now.0.page.sheet (before ++ cs)) (sym same.2)
+            (subst (λ g. IsRendered first (W.written last.1) g now.0.page.sheet (before ++ cs)) (sym same.3)
             (subst (λ s. IsRendered first (W.written last.1) last.0.gather s (before ++ cs)) (sym same.4) (taken.0 first before is))),
         λ well. subst (λ o. ¬ IsTrue (W.failed o)) (sym same.2) (taken.1 well),
       )

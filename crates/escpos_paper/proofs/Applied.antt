@@ -1,4 +1,4 @@
--- What carrying out a command leaves, in the pieces that a page and a roll find it in.
+-- What carrying out a command leaves, in the pieces that a page finds it in.
 use Rattle.std.proofs.Common.{◌≡◌, List, [], ◌∷◌, ◌++◌, ap, sym, ◌∙◌, subst, append_assoc}
 use Rattle.escpos_paper.specs.declared.item.Item.{Item}
 use Rattle.escpos_paper.specs.declared.cell.Cell.{Cell}
@@ -9,7 +9,7 @@ use Rattle.escpos_command.specs.CommandTable.{IsCommand, AreCommands}
 use Rattle.escpos_command.specs.declared.parameter.choices.Alignment.{Alignment}
 use Rattle.escpos_paper.specs.Styles.{is_empty}
 use Rattle.escpos_paper.specs.Page.{Sheet}
-use Rattle.escpos_paper.specs.Roll.{below}
+use Rattle.escpos_paper.specs.Torn.{below}
 use Rattle.escpos_paper.specs.Steps.{style_after, bar_style_after, alignment_after, line_after, step_prints, sheet_after}
 use Rattle.escpos_paper.proofs.Sheets.{sheet_of}
 use Rattle.escpos_paper.proofs.Widths.{IsWidth, width_in_range}

@@ -7,5 +7,7 @@ pub mod AllCuts
 pub mod Sheets
 pub mod Applied
 pub mod Initialisation
+pub mod Bare
+pub mod Above
 pub mod Worked
 pub mod ItemParts

@@ -5,7 +5,7 @@ pub mod CheckDigit
 pub mod Rows
 pub mod Printed
 pub mod Page
-pub mod Roll
+pub mod Torn
 pub mod Steps
 pub mod ItemsText
 pub mod Parts

@@ -11,6 +11,8 @@ ghost use Rattle.escpos_paper.specs.Styles.{is_empty};
 ghost use Rattle.escpos_paper.specs.Cells.{cells};
 ghost use Rattle.escpos_paper.specs.Rows.{IsCut, rows, line};
 ghost use Rattle.escpos_paper.specs.Printed.{printed};
+ghost use Rattle.escpos_paper.specs.Page.{Sheet, SheetIs};
+ghost use Rattle.escpos_paper.specs.Torn.{below};
 ghost use Rattle.escpos_paper.specs.CheckDigit.{completes, digit};
 
 /// The cells of the line are the characters of its text, and the line is empty where there is no text.
@@ -39,6 +41,13 @@ pub fn marks()
 /// Growing paper: further commands print after what is printed, and change none of it.
 pub fn paper_grows()
     ensures { (a b : List Command) → (more : List Item) × (printed (a ++ b) ≡ printed a ++ more) }
+{}
+
+/// Paper above: where commands lead from one sheet to another, they do so below any items.
+pub fn paper_above()
+    ensures { (above : List Item) (old new : Sheet) (first : List Item) (before more : List Command) →
+        SheetIs old first before → SheetIs new first (before ++ more) →
+        (kept : List Item) (cs : List Command) → SheetIs (below above old) kept cs → SheetIs (below above new) kept (cs ++ more) }
 {}
 
 /// One check digit: of the numbers 0 to 9 exactly one, `digit`, makes itself plus the weighted sum of the digits a

@@ -1,7 +1,7 @@
 //! What a printer's commands put on paper: styles, lines cut into rows, barcodes and rasters, and the paper as text.
 //!
-//! A `Page` takes commands one at a time and keeps the items that they print, the styles that are set and
-//! the line that isn't printed yet. The definitions of `specs/` say the same of a whole list of commands,
+//! A `Page` takes commands one at a time and keeps the items that they print until they are torn off, the styles that are
+//! set and the line that isn't printed yet. The definitions of `specs/` say the same of a whole list of commands,
 //! and look back in it instead of keeping anything.
 #![tactic(auto)]
 
@@ -14,7 +14,6 @@ pub mod laws;
 mod line;
 mod page;
 mod paper;
-mod roll;
 mod style;
 #[cfg(test)]
 mod tests;
@@ -27,6 +26,5 @@ pub use digits::{all_digits, check_digit};
 pub use item::Item;
 pub use page::Page;
 pub use paper::MOST_ITEMS;
-pub use roll::Roll;
 pub use style::{BarStyle, Style};
 pub use write::write_items;

@@ -1,13 +1,15 @@
 //! The page: what the commands so far have put on paper.
 //!
-//! A page keeps one style, the settings of barcodes, one alignment and one line. That these are what the definitions find by looking
+//! What is printed stays on a page until it is torn off; so a stream of any length can be printed in the memory that one command
+//! takes. A page keeps one style, the settings of barcodes, one alignment and one line. That these are what the definitions find by looking
 //! back in the whole list of commands is the invariant of its type. What each command does to them is left to
 //! `paper`; a page makes room for it.
 
-ghost use Rattle.std.specs.Prelude.{◌≡◌, ◌≤◌, nat_le, IsOk, IfErr, OnOk, OnErr, List, [], ◌∷◌, ◌++◌};
+ghost use Rattle.std.specs.Prelude.{◌≡◌, ◌+◌, ◌≤◌, nat_le, IsOk, IfErr, OnOk, OnErr, List, [], ◌∷◌, ◌++◌, length};
 ghost use Rattle.escpos_command.specs.declared.command.Command.{Command};
 ghost use Rattle.escpos_paper.specs.declared.item.Item.{Item};
 ghost use Rattle.escpos_paper.specs.Page.{PageIs, IsReached};
+ghost use Rattle.escpos_paper.specs.Torn.{TornIs, bare};
 
 use crate::item::Item;
 use crate::paper::{MOST_ITEMS, Paper};
@@ -86,6 +88,8 @@ impl Page {
     pub fn apply(&mut self, command: Command) -> Result<(), Command>
         ensures taken { OnOk result ((kept : List Item) (cs : List Command) →
             PageIs self.old kept cs → PageIs self.new kept (cs ++ command ∷ [])) }
+        ensures torn { OnOk result ((gone : List Item) (cs : List Command) →
+            TornIs self.old gone cs → TornIs self.new gone (cs ++ command ∷ [])) }
         ensures same { OnErr result (self.new.sheet ≡ self.old.sheet) }
         ensures given_back { IfErr result (λ back. back ≡ command) }
         ensures no_memory { MOST_ITEMS ≤ self.old.room → IsOk result }
@@ -104,6 +108,14 @@ impl Page {
         ensures reached { IsReached self.now }
     {
         self.paper.items.as_slice()
+    }
+
+    /// Drops what is printed on the paper. Styles and line stay, and so does the room of what was dropped. Takes no memory.
+    pub fn tear_off(&mut self)
+        ensures torn { self.new.sheet ≡ bare self.old.sheet }
+        ensures room { self.new.room ≡ self.old.room + length self.old.sheet.items }
+    {
+        self.paper.items.clear();
     }
 
     /// Forgets the commands so far: drops the line and puts the power-on styles back. The paper stays.

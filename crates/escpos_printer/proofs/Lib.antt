@@ -3,3 +3,4 @@ pub mod Answering
 pub mod Fitting
 pub mod Spelled
 pub mod Serving
+pub mod Parts

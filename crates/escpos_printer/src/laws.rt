@@ -1,16 +1,22 @@
 //! The laws of the printer. Each is a function that does nothing and whose contract is the law, so that the law is proved with
 //! the crate and another crate can cite it by calling the function. (`whole_commands` cites laws of the grammar.)
 
-ghost use Rattle.std.specs.Prelude.{ℕ, ◌≡◌, ◌⊎◌, List, [], IsTrue, length};
+ghost use Rattle.std.specs.Prelude.{ℕ, ◌≡◌, ◌+◌, ◌⊎◌, List, [], IsTrue, Option, length};
 ghost use Rattle.std.specs.List.{AllByRecursion};
 ghost use Rattle.escpos_command.specs.Answers.{is_answer};
 ghost use Rattle.escpos_command.specs.CommandTable.{AreCommands, spell};
 ghost use Rattle.escpos_command.specs.declared.command.Command.{Command};
+ghost use Rattle.escpos_paper.specs.Page.{SheetIs};
+ghost use Rattle.escpos_paper.specs.declared.item.Item.{Item};
 ghost use Rattle.escpos_printer.specs.Feeds.{Feeds, IsReadyFor, PrinterView, Took};
+ghost use Rattle.escpos_printer.specs.Parts.{in_all, under};
+ghost use Rattle.escpos_printer.specs.Serves.{LinkView, Serves, link};
 ghost use Rattle.escpos_printer.specs.Replies.{replies};
 ghost use Rattle.escpos_printer.specs.declared.condition.Condition.{Condition};
 ghost use Rattle.escpos_printer.specs.declared.printer.FeedStop.{FeedStop};
 ghost use Rattle.escpos_printer.specs.declared.printer.FeedStop.TheVariants as stop;
+ghost use Rattle.escpos_printer.specs.declared.serve.LinkEnd.TheVariants.{TooLong};
+ghost use Rattle.escpos_printer.specs.declared.serve.Served.{Served};
 
 use escpos_command::laws;
 
@@ -27,4 +33,23 @@ pub fn whole_commands()
 {
     laws::joined_readings();
     laws::one_reading();
+}
+
+/// Parts of a link: one that was served as far as it might be, and then further, was served as if it might have had the
+/// bytes of both parts at once.
+pub fn parts()
+    ensures { (p q t : PrinterView) (came left rest before between after : Option (List ℕ)) (most further : ℕ) (first more : Served) →
+        Serves p (link came left before between) most first q → first.end ≡ TooLong → Serves q (link left rest between after) further more t →
+        Serves p (link came rest before after) (most + further) (in_all first more) t }
+{
+    laws::joined_readings();
+}
+
+/// Paper above: a link is served in the same way whatever stands on the paper above, where the printer's own sheet is one
+/// that commands leave.
+pub fn paper_above()
+    ensures { (gone : List Item) (p q : PrinterView) (l : LinkView) (most : ℕ) (served : Served) (kept : List Item) (cs : List Command) →
+        SheetIs p.sheet kept cs → Serves p l most served q → Serves (under gone p) l most served (under gone q) }
+{
+    escpos_paper::laws::paper_above();
 }

@@ -9,6 +9,7 @@ ghost use Rattle.escpos_command.specs.Laws.{longest_spelling};
 ghost use Rattle.escpos_decode.specs.Push.{IsRest};
 ghost use Rattle.escpos_paper.specs.declared.item.Item.{Item};
 ghost use Rattle.escpos_paper.specs.Page.{SheetIs};
+ghost use Rattle.escpos_paper.specs.Torn.{bare};
 ghost use Rattle.escpos_printer.specs.Replies.{is_offline, reply};
 ghost use Rattle.escpos_printer.specs.Feeds.{Feeds, Took, HasCause, IsPlace, IsLeft, most_waiting, is_command, obstacle};
 
@@ -210,7 +211,14 @@ impl Printer {
         self.waiting.clear();
     }
 
-    /// What is printed on the paper, from top to bottom. Takes no memory.
+    /// Drops what is printed on the paper, and leaves all else as it is. Takes no memory.
+    pub fn tear_off(&mut self)
+        ensures { self.new ≡ record { sheet = bare self.old.sheet; half = self.old.half; waiting = self.old.waiting; condition = self.old.condition } }
+    {
+        self.page.tear_off();
+    }
+
+    /// What is printed on the paper and wasn't torn off, from top to bottom. Takes no memory.
     pub fn items(&self) -> &[Item]
         ensures items { result.now ≡ self.now.sheet.items }
         // Every sheet is one that commands leave, on paper that held some items.

@@ -100,6 +100,8 @@ pub fn serve_link<R: ByteIn, W: ByteOut>(
     ensures reader_well { ¬ IsTrue (R.failed reader.old) → result.end ≢ LinkEnd.ReadFault → ¬ IsTrue (R.failed reader.new) }
     ensures writer_well { ¬ IsTrue (W.failed writer.old) → result.end ≢ LinkEnd.WriteFault → ¬ IsTrue (W.failed writer.new) }
     ensures pulls { R.pull_count reader.new ≤ R.pull_count reader.old + max_bytes + 1 }
+    // Each byte completes at most one command, and 16 answers may have waited.
+    ensures few { result.written ≤ 112 + 224 * result.read }
 {
     laws::joined_readings();
     printer.is_sound();

@@ -11,7 +11,8 @@ use Rattle.escpos_paper.specs.Styles.{is_empty}
 use Rattle.escpos_paper.specs.Page.{Sheet, PageView}
 use Rattle.escpos_paper.specs.Steps.{style_after, bar_style_after, alignment_after, line_after, step_prints, sheet_after}
 use Rattle.escpos_paper.proofs.Sheets.{sheet_of, sheet_step}
-use Rattle.escpos_paper.proofs.Applied.{width_of, one_more, sheet_made}
+use Rattle.escpos_paper.specs.Torn.{below}
+use Rattle.escpos_paper.proofs.Applied.{width_of, one_more, sheet_made, step_below}
 use Rattle.escpos_paper.proofs.page.Page.apply.Goals as goal
 
 pub carry_out-requires-clause-visible : goal.carry_out-requires-clause-visible
@@ -40,3 +41,11 @@ returns-clause-taken c = λ kept cs is.
     (sheet_made _ _ _ _ _ _ _ _ _ _ c.args.command c.carry_out.ensures.items c.carry_out.ensures.style c.carry_out.ensures.bar_style
     c.carry_out.ensures.alignment c.carry_out.ensures.line)
     (ap (λ (page : PageView). page.sheet) c.self.view_is ∙ c.ready.ensures.same ∙ is)
+
+-- The same below what was torn off.
+pub returns-clause-torn : goal.returns-clause-torn
+returns-clause-torn c = λ gone cs is.
+    let step = sheet_made _ _ _ _ _ _ _ _ _ _ c.args.command c.carry_out.ensures.items c.carry_out.ensures.style c.carry_out.ensures.bar_style
+    c.carry_out.ensures.alignment c.carry_out.ensures.line in
+    sheet_step (below gone _) (below gone _) [] cs c.args.command (ap (below gone) step ∙ step_below gone _ c.args.command)
+    (ap (below gone) (ap (λ (page : PageView). page.sheet) c.self.view_is ∙ c.ready.ensures.same) ∙ is)

@@ -1,0 +1,90 @@
+//! Paper as text, kept until it may go out.
+//!
+//! An item has hundreds of bytes and its text some ten. So where paper has to wait, as that of `emulate` until its last link has
+//! ended, it is torn off the printer from time to time, and only its text is kept.
+
+ghost use Rattle.std.specs.Prelude.{◌≡◌, ◌++◌, [], List};
+ghost use Rattle.escpos_paper.specs.declared.item.Item.{Item};
+ghost use Rattle.escpos_paper.specs.ItemsText.{items_text};
+ghost use Rattle.escpos_printer.specs.Parts.{under};
+
+use escpos_io::{ByteOut, Failed};
+use escpos_paper::write_items;
+use escpos_printer::Printer;
+use std::alloc::Global;
+use std::marker::Model;
+
+/// The text of what was torn off a printer's paper, a line for each item. In contracts it is the list of its bytes.
+#[derive(Drop)]
+pub struct PaperText {
+    kept: Kept,
+}
+
+impl Model for PaperText {
+    ghost use Rattle.std.specs.Prelude.{ℕ, List};
+
+    ghost Value = { List ℕ };
+
+    ghost view = { λ p. p.kept.bytes.items };
+}
+
+impl PaperText {
+    /// No text. Takes no memory.
+    pub fn new(alloc: Global) -> Self
+        ensures { result ≡ [] }
+    {
+        PaperText {
+            kept: Kept {
+                bytes: Vec::new(alloc),
+                failed: false,
+            },
+        }
+    }
+
+    /// The bytes of the text.
+    pub fn as_slice(&self) -> &[u8]
+        ensures { result.now ≡ self.now }
+    {
+        self.kept.bytes.as_slice()
+    }
+
+    /// Tears the paper off, and keeps its text after what is kept. Where memory is wanting for the text the paper stays, now
+    /// and at later calls.
+    pub fn tear_off(&mut self, printer: &mut Printer)
+        ensures { (gone : List Item) × (self.new ≡ self.old ++ items_text gone) × (printer.old ≡ under gone printer.new) }
+    {
+        let before = self.kept.bytes.len();
+        if write_items(printer.items(), &mut self.kept).is_ok() {
+            printer.tear_off();
+        } else {
+            self.kept.bytes.truncate(before);
+        }
+    }
+}
+
+// Bytes in memory as a sink. It fails where there is no memory for more.
+#[derive(Drop)]
+struct Kept {
+    bytes: Vec<u8>,
+    failed: bool,
+}
+
+impl ByteOut for Kept {
+    ghost use Rattle.std.specs.Prelude.{Some};
+
+    ghost written = { λ kept. Some kept.bytes.items };
+
+    ghost failed = { λ kept. kept.failed };
+
+    fn put(&mut self, piece: &[u8]) -> Result<usize, Failed> {
+        if self.failed || self.bytes.extend_from_slice(piece).is_err() {
+            self.failed = true;
+            return Err(Failed);
+        }
+        Ok(piece.len())
+    }
+
+    fn has_failed(&self) -> bool {
+        self.failed
+    }
+}

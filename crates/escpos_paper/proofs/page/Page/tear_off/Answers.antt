@@ -1,0 +1,25 @@
+-- What is left is a sheet that other commands leave, too.
+use Rattle.std.proofs.Common.{◌≡◌, List, [], ◌∙◌, ap}
+use Rattle.escpos_command.specs.declared.parameter.choices.Alignment.{Alignment}
+use Rattle.escpos_paper.specs.declared.cell.Cell.{Cell}
+use Rattle.escpos_paper.specs.declared.item.Item.{Item}
+use Rattle.escpos_paper.specs.declared.style.BarStyle.{BarStyle}
+use Rattle.escpos_paper.specs.declared.style.Style.{Style}
+use Rattle.escpos_paper.specs.Page.{Sheet}
+use Rattle.escpos_paper.proofs.Bare.{bare_is_left}
+use Rattle.escpos_paper.proofs.page.Page.tear_off.Goals as goal
+
+-- A sheet with these items.
+abbrev with : List Item → Style → BarStyle → Alignment → List Cell → Sheet
+with items style bar_style alignment line = record { items = items; style = style; bar_style = bar_style; alignment = alignment; line = line }
+
+pub invariant_of-self : goal.invariant_of-self
+invariant_of-self c =
+    let paper = c.self.inside.paper in
+    let other = bare_is_left _ c.self.invariant.kept c.self.invariant.commands c.self.invariant.in_range c.self.invariant.page_is in
+    record {
+      kept = [];
+      commands = other.commands;
+      in_range = other.in_range;
+      page_is = ap (λ v. with v paper.style paper.bar_style paper.alignment paper.line) c.clear.ensures.items ∙ other.left;
+    }

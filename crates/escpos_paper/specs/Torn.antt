@@ -1,0 +1,30 @@
+-- Paper that is torn off while more is printed: sheets without their items, and with items above their own.
+use Rattle.std.specs.Prelude.{List, [], ◌++◌}
+use Rattle.escpos_command.specs.declared.command.Command.{Command}
+use Rattle.escpos_paper.specs.declared.item.Item.{Item}
+use Rattle.escpos_paper.specs.Page.{Sheet, SheetIs, PageView}
+
+-- A sheet whose items are all torn off. Styles and line stay.
+abbrev pub bare : Sheet → Sheet
+bare sheet = record {
+  items = [];
+  style = sheet.style;
+  bar_style = sheet.bar_style;
+  alignment = sheet.alignment;
+  line = sheet.line;
+}
+
+-- A sheet with these items above its own.
+abbrev pub below : List Item → Sheet → Sheet
+below gone sheet = record {
+  items = gone ++ sheet.items;
+  style = sheet.style;
+  bar_style = sheet.bar_style;
+  alignment = sheet.alignment;
+  line = sheet.line;
+}
+
+-- The page is what these commands leave, from power-on styles and an empty line, where the items `gone` were torn off:
+-- they and those that are still there are what the commands print.
+abbrev pub TornIs : PageView → List Item → List Command → Type 0
+TornIs page gone cs = SheetIs (below gone page.sheet) [] cs
