@@ -255,11 +255,15 @@ def sent(name, peer, size, status, told, make=lambda size: b'[{"line":"Hi"}]'):
     return Case("send ADDRESS --first 0".split(), name, make, (size,), status, told, peer)
 
 
+# Where nobody reads the answers the link stands still once the sockets are full, however much a peer has to send: time says
+# nothing of the size then.
+UNREAD = (SIZE,)
+
 PEERS = [
     printed("marks", MARK, b"link 1 read "),
-    printed("marks, answers never read", MARK, b"link 1 read ", reads=False),
+    printed("marks, answers never read", MARK, b"link 1 read ", reads=False, sizes=UNREAD),
     printed("status requests", b"\x10\x04\x01", b"link 1 read "),
-    printed("status requests, answers never read", b"\x10\x04\x01", b"link 1 read ", reads=False),
+    printed("status requests, answers never read", b"\x10\x04\x01", b"link 1 read ", reads=False, sizes=UNREAD),
     printed("random bytes", random.Random(1).randbytes(9999), b"Fault\n"),
     printed("largest rasters", RASTER, b"link 1 read "),
     printed("characters", b"A", b"link 1 read "),

@@ -8,3 +8,4 @@ pub mod Reports
 pub mod Spellings
 pub mod Encodings
 pub mod Quiet
+pub mod Parts
