@@ -102,7 +102,7 @@ impl Page {
         Ok(())
     }
 
-    /// What is printed on the paper, from top to bottom.
+    /// What is printed on the paper and wasn't torn off, from top to bottom. Takes no memory.
     pub fn items(&self) -> &[Item]
         ensures items { result.now ≡ self.now.sheet.items }
         ensures reached { IsReached self.now }
