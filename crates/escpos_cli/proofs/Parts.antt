@@ -1,5 +1,5 @@
 -- A link that is served in parts: what was torn off after each stands above what is printed later.
-use Rattle.std.proofs.Common.{◌≡◌, ◌≢◌, ◌≤◌, ◌+◌, ◌*◌, ◌⊎◌, ℕ, List, [], ◌++◌, sym, ◌∙◌, ap, subst, append_assoc, arith, Option}
+use Rattle.std.proofs.Common.{◌≡◌, ◌+◌, ℕ, List, [], ◌++◌, sym, ◌∙◌, ap, subst, append_assoc, Option}
 use Rattle.std.proofs.lemmas.Grind.{flat_map-append}
 use Rattle.escpos_paper.specs.declared.item.Item.{Item}
 use Rattle.escpos_command.specs.declared.command.Command.{Command}
@@ -8,7 +8,6 @@ use Rattle.escpos_paper.specs.Page.{SheetIs}
 use Rattle.escpos_printer.specs.Feeds.{PrinterView}
 use Rattle.escpos_printer.specs.Parts.{in_all, under}
 use Rattle.escpos_printer.specs.Serves.{Serves, LinkView, link}
-use Rattle.escpos_printer.specs.declared.serve.LinkEnd.{LinkEnd}
 use Rattle.escpos_printer.specs.declared.serve.LinkEnd.TheVariants.{TooLong}
 use Rattle.escpos_printer.specs.declared.serve.Served.{Served}
 

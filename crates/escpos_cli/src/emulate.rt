@@ -31,9 +31,11 @@ const _: () = prove!(LINK_LIMIT == 16_777_216);
 
 /// How many bytes of a link are read before its paper is torn off, and how many such parts a link has at most.
 const PART_BYTES: u32 = 16_384;
+
 const PARTS: u32 = 1_024;
 
 const _: () = prove!(PART_BYTES == 16_384);
+
 const _: () = prove!(PARTS == 1_024);
 
 /// More than the line of a link has.
@@ -148,7 +150,7 @@ pub fn serve_and_tell<R: ByteIn, A: ByteOut, W: ByteOut>(
 ) -> Result<Served, Device>
     ensures served { IfOk result (λ served. (gone : List Item) × (paper.new ≡ paper.old ++ items_text gone)
         × Serves printer.old (link (R.to_come reader.old) (R.to_come reader.new) (A.written writer.old) (A.written writer.new))
-            LINK_LIMIT served (under gone printer.new)) }
+        LINK_LIMIT served (under gone printer.new)) }
     ensures told { IfOk result (λ served. Appends (W.written output.old) (W.written output.new) (link_line number served)) }
     ensures failed { OnErr result (IsTrue (W.failed output.new)) }
     ensures not_failed { OnOk result (¬ IsTrue (W.failed output.old) → ¬ IsTrue (W.failed output.new)) }
@@ -170,7 +172,7 @@ fn serve_in_parts<R: ByteIn, A: ByteOut>(
 ) -> Served
     ensures { (gone : List Item) × (paper.new ≡ paper.old ++ items_text gone)
         × Serves printer.old (link (R.to_come reader.old) (R.to_come reader.new) (A.written writer.old) (A.written writer.new))
-            LINK_LIMIT result (under gone printer.new) }
+        LINK_LIMIT result (under gone printer.new) }
 {
     escpos_printer::laws::parts();
     let mut served = serve_part(printer, paper, reader, writer);
@@ -199,8 +201,8 @@ fn serve_part<R: ByteIn, A: ByteOut>(
 ) -> Served
     ensures served { (gone : List Item) × (paper.new ≡ paper.old ++ items_text gone)
         × ((above : List Item) → Serves (under above printer.old)
-            (link (R.to_come reader.old) (R.to_come reader.new) (A.written writer.old) (A.written writer.new))
-            PART_BYTES result (under (above ++ gone) printer.new)) }
+        (link (R.to_come reader.old) (R.to_come reader.new) (A.written writer.old) (A.written writer.new))
+        PART_BYTES result (under (above ++ gone) printer.new)) }
     ensures few { result.written ≤ 112 + 224 * result.read }
 {
     escpos_printer::laws::paper_above();

@@ -15,7 +15,6 @@ use Rattle.escpos_paper.specs.declared.item.Item.{Item}
 use Rattle.escpos_paper.specs.Styles.{is_empty}
 use Rattle.escpos_paper.specs.Cells.{cell}
 use Rattle.escpos_paper.specs.Rows.{fits}
-use Rattle.escpos_paper.specs.Printed.{row_and_feed}
 use Rattle.escpos_paper.specs.Page.{Sheet}
 use Rattle.escpos_paper.specs.Torn.{bare}
 use Rattle.escpos_paper.specs.Steps.{alignment_after, sheet_after}
@@ -60,8 +59,7 @@ puts : (s : Sheet) (b : ℕ) (fit : Bool) → fits (s.line ++ cell s.style b ∷
 puts s b true h q k =
     let same = either (is_empty s.line) s.alignment in
     let printed : sheet_after (bare s) (Char b) ≡ with s [] (cond (is_empty s.line) s.alignment s.alignment) (s.line ++ cell s.style b ∷ []) = cc h in
-    let now : bare (sheet_after s (Char b)) ≡ with s [] (cond (is_empty s.line) s.alignment s.alignment) (s.line ++ cell s.style b ∷ []) = cc h in
-    (
+    let now : bare (sheet_after s (Char b)) ≡ with s [] (cond (is_empty s.line) s.alignment s.alignment) (s.line ++ cell s.style b ∷ []) = cc h in (
       one_step (bare s) (bare (sheet_after s (Char b))) (Char b) (now ∙ sym printed) k q.0,
       same_sheet (blank s) (blank (sheet_after s (Char b))) (ap (λ v. with s [] v []) same) q.1,
     )
@@ -69,8 +67,7 @@ puts s b false h q k =
     let same = either (is_empty s.line) s.alignment in
     let alone : sheet_after (blank s) (Char b) ≡ with s [] s.alignment (cell s.style b ∷ []) =
     cc (either (fits (cell s.style b ∷ [])) (cell s.style b ∷ []), either {X = List Item} (fits (cell s.style b ∷ [])) []) in
-    let now : bare (sheet_after s (Char b)) ≡ with s [] (cond (is_empty s.line) s.alignment s.alignment) (cell s.style b ∷ []) = cc h in
-    (
+    let now : bare (sheet_after s (Char b)) ≡ with s [] (cond (is_empty s.line) s.alignment s.alignment) (cell s.style b ∷ []) = cc h in (
       one_step (blank s) (bare (sheet_after s (Char b))) (Char b) (now ∙ ap (λ v. with s [] v (cell s.style b ∷ [])) same ∙ sym alone) k q.1,
       same_sheet (blank s) (blank (sheet_after s (Char b))) (ap (λ v. with s [] v []) same) q.1,
     )

@@ -1,5 +1,5 @@
 -- A link in parts, and under paper that was torn off.
-use Rattle.std.proofs.Common.{◌≡◌, ℕ, ◌≤◌, ◌<◌, ◌+◌, ◌⊎◌, inl, inr, List, ◌++◌, length, sym, ap, subst, length-append, arith, Option, Some, None}
+use Rattle.std.proofs.Common.{◌≡◌, ℕ, ◌+◌, inl, inr, List, ◌++◌, sym, ap, subst, length-append, arith, Option, Some, None}
 use Rattle.std.proofs.KnownBytes.{Consumes-trans}
 use Rattle.escpos_command.specs.declared.command.Command.{Command}
 use Rattle.escpos_paper.specs.declared.item.Item.{Item}

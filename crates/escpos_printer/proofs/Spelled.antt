@@ -1,5 +1,5 @@
 -- Whole commands that are fed to a printer with no half command, where nothing stands in their way.
-use Rattle.std.proofs.Common.{◌≡◌, ◌≢◌, ◌⊎◌, ◌<◌, ◌≤◌, ◌+◌, inl, inr, ℕ, List, [], ◌∷◌, ◌++◌, Bool, true, false, length, take, drop, refl, sym, ◌∙◌, ap, subst, append_assoc, append-nil, length-append, take-append-drop, arith, IsTrue}
+use Rattle.std.proofs.Common.{◌≡◌, ◌⊎◌, ◌<◌, ◌+◌, inl, inr, ℕ, List, [], ◌∷◌, ◌++◌, true, false, length, take, drop, refl, sym, ◌∙◌, ap, subst, append_assoc, append-nil, length-append, take-append-drop, arith, IsTrue}
 use Rattle.std.specs.Prelude.{slice_index}
 use Rattle.std.specs.List.{AllByRecursion}
 use Rattle.std.proofs.lemmas.List.{take_all, drop_more}
@@ -10,7 +10,6 @@ use Rattle.escpos_command.specs.declared.fault.FaultReason.{FaultReason}
 use Rattle.escpos_command.specs.CommandTable.{AreCommands, Spells, spell}
 use Rattle.escpos_command.specs.Grammar.{FaultAt, Reads}
 use Rattle.escpos_command.specs.Laws.{IsRead, IsRefused}
-use Rattle.escpos_printer.specs.declared.condition.Condition.{Condition}
 use Rattle.escpos_printer.specs.declared.printer.FeedStop.{FeedStop}
 use Rattle.escpos_printer.specs.declared.printer.FeedStop.TheVariants as stop
 use Rattle.escpos_printer.specs.Feeds.{Feeds, HasCause, IsAnswered, IsLeft, IsReadyFor, PassesOffline, PrinterView, Took, is_status, most_waiting}

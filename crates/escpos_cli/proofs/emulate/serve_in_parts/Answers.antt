@@ -1,4 +1,4 @@
-use Rattle.std.proofs.Common.{◌≤◌, ◌+◌, ◌*◌, arith, []}
+use Rattle.std.proofs.Common.{◌+◌, ◌*◌, arith, []}
 use Rattle.escpos_cli.proofs.Parts.{first_part, next_part}
 use Rattle.escpos_cli.proofs.emulate.serve_in_parts.Goals as goal
 

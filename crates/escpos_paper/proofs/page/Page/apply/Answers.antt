@@ -1,16 +1,7 @@
 -- What `apply` leaves is the sheet after the command, and so the sheet of the list with one more command.
-use Rattle.std.proofs.Common.{◌≡◌, List, [], ◌∷◌, ◌++◌, ap, sym, ◌∙◌, subst, refl}
-use Rattle.escpos_paper.specs.declared.item.Item.{Item}
-use Rattle.escpos_paper.specs.declared.cell.Cell.{Cell}
-use Rattle.escpos_paper.specs.declared.style.BarStyle.{BarStyle}
-use Rattle.escpos_paper.specs.declared.style.Style.{Style}
-use Rattle.escpos_command.specs.declared.command.Command.{Command}
-use Rattle.escpos_command.specs.CommandTable.{IsCommand, AreCommands}
-use Rattle.escpos_command.specs.declared.parameter.choices.Alignment.{Alignment}
-use Rattle.escpos_paper.specs.Styles.{is_empty}
-use Rattle.escpos_paper.specs.Page.{Sheet, PageView}
-use Rattle.escpos_paper.specs.Steps.{style_after, bar_style_after, alignment_after, line_after, step_prints, sheet_after}
-use Rattle.escpos_paper.proofs.Sheets.{sheet_of, sheet_step}
+use Rattle.std.proofs.Common.{[], ◌∷◌, ◌++◌, ap, ◌∙◌, refl}
+use Rattle.escpos_paper.specs.Page.{PageView}
+use Rattle.escpos_paper.proofs.Sheets.{sheet_step}
 use Rattle.escpos_paper.specs.Torn.{below}
 use Rattle.escpos_paper.proofs.Applied.{width_of, one_more, sheet_made, step_below}
 use Rattle.escpos_paper.proofs.page.Page.apply.Goals as goal

@@ -1,5 +1,5 @@
 -- What is left is a sheet that other commands leave, too.
-use Rattle.std.proofs.Common.{◌≡◌, List, [], ◌∙◌, ap}
+use Rattle.std.proofs.Common.{List, [], ◌∙◌, ap}
 use Rattle.escpos_command.specs.declared.parameter.choices.Alignment.{Alignment}
 use Rattle.escpos_paper.specs.declared.cell.Cell.{Cell}
 use Rattle.escpos_paper.specs.declared.item.Item.{Item}
