@@ -268,6 +268,7 @@ PEERS = [
     printed("largest rasters", RASTER, b"link 1 read "),
     printed("characters", b"A", b"link 1 read "),
     printed("line feeds", b"\n", b"link 1 read "),
+    printed("lines of a character", b"A\n", b"link 1 read "),
     printed("as many bytes as may be", b"\r", b"link 1 read 16777216 consumed 16777216 written 0 TooLong\n", sizes=(LIMIT,)),
     printed("a byte less", b"\r", b"link 1 read 16777215 consumed 16777215 written 0 Ended\n", sizes=(LIMIT - 1,)),
     printed("a byte more", b"\r", b"link 1 read 16777216 consumed 16777216 written 0 TooLong\n", sizes=(LIMIT + 1,)),
