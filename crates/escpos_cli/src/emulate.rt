@@ -16,10 +16,7 @@ use crate::outcome::{MEMORY, say};
 use crate::paper_text::PaperText;
 use crate::status::Status;
 use escpos_command::LF;
-use escpos_io::{
-    ByteIn, ByteOut, Device, GATHERED_BYTES, Gather, Incoming, Outgoing, laws, put_all,
-};
-use escpos_paper::write_items;
+use escpos_io::{ByteIn, ByteOut, Device, GATHERED_BYTES, Gather, Incoming, Outgoing, laws};
 use escpos_printer::{Condition, LinkEnd, Printer, Served, serve_link};
 use std::alloc::Global;
 use std::net::{Net, SocketAddrV4, TcpListener, TcpStream};
@@ -87,7 +84,7 @@ pub fn emulate_on<W: ByteOut>(
     };
     let mut paper = PaperText::new(alloc);
     let status = serve_links(&mut printer, &mut paper, listener, links, output);
-    if put_all(paper.as_slice(), output).is_err() || write_items(printer.items(), output).is_err() {
+    if paper.put_above(printer.items(), output).is_err() {
         return Status::Device;
     }
     match status {

@@ -12,8 +12,7 @@ use crate::send::Marks;
 use crate::send_tests::receipt_at_last;
 use crate::status::Status;
 use escpos_host::Receipt;
-use escpos_io::{MemoryIn, MemoryOut, put_all};
-use escpos_paper::write_items;
+use escpos_io::{MemoryIn, MemoryOut};
 use escpos_printer::{LinkEnd, Printer};
 use std::alloc::Global;
 use std::io;
@@ -55,8 +54,7 @@ fn serves_and_tells(rt: &impl Abort, alloc: Global, printer: &mut Printer) -> bo
     assert_eq!(rt; output.written().len(), 43);
     // what isn't torn off for want of memory is still on the paper
     let torn = paper.as_slice().len();
-    assert!(rt; put_all(paper.as_slice(), &mut output).is_ok());
-    assert!(rt; write_items(printer.items(), &mut output).is_ok());
+    assert!(rt; paper.put_above(printer.items(), &mut output).is_ok());
     assert_eq!(rt; output.written(), EMULATED);
     assert!(rt; torn == 0 || printer.items().is_empty());
     true

@@ -13,6 +13,8 @@ mod check;
 #[cfg(test)]
 mod content_tests;
 mod emulate;
+#[cfg(test)]
+mod emulate_tests;
 mod encode;
 #[cfg(test)]
 mod examples;

@@ -3,13 +3,14 @@
 //! An item has hundreds of bytes and its text some ten. So where paper has to wait, as that of `emulate` until its last link has
 //! ended, it is torn off the printer from time to time, and only its text is kept.
 
-ghost use Rattle.std.specs.Prelude.{◌≡◌, ◌++◌, [], List};
+ghost use Rattle.std.specs.Prelude.{◌≡◌, ◌++◌, [], List, IsTrue, OnErr, OnOk};
+ghost use Rattle.std.specs.Io.KnownBytes.{Appends};
 ghost use Rattle.escpos_paper.specs.declared.item.Item.{Item};
 ghost use Rattle.escpos_paper.specs.ItemsText.{items_text};
 ghost use Rattle.escpos_printer.specs.Parts.{under};
 
-use escpos_io::{ByteOut, Failed};
-use escpos_paper::write_items;
+use escpos_io::{ByteOut, Device, Failed, put_all};
+use escpos_paper::{Item, write_items};
 use escpos_printer::Printer;
 use std::alloc::Global;
 use std::marker::Model;
@@ -59,6 +60,16 @@ impl PaperText {
         } else {
             self.kept.bytes.truncate(before);
         }
+    }
+
+    /// Puts the text that is kept, and below it that of `items`. `Err` comes only where `output` has failed.
+    pub fn put_above<W: ByteOut>(&self, items: &[Item], output: &mut W) -> Result<(), Device>
+        ensures put { OnOk result (Appends (W.written output.old) (W.written output.new) (self.now ++ items_text items.now)) }
+        ensures failed { OnErr result (IsTrue (W.failed output.new)) }
+        ensures not_failed { OnOk result (¬ IsTrue (W.failed output.old) → ¬ IsTrue (W.failed output.new)) }
+    {
+        put_all(self.as_slice(), output)?;
+        write_items(items, output)
     }
 }
 

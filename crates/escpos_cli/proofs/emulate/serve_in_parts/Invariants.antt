@@ -1,4 +1,4 @@
-use Rattle.std.proofs.Common.{◌≡◌, ◌≤◌, ◌+◌, ◌*◌}
+use Rattle.std.proofs.Common.{◌≤◌, ◌*◌}
 use Rattle.escpos_printer.specs.Serves.{link}
 use Rattle.escpos_cli.proofs.Parts.{ServedSoFar}
 use Rattle.escpos_cli.proofs.emulate.serve_in_parts.Given as goal
