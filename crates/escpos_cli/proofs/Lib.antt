@@ -9,3 +9,4 @@ pub mod Spellings
 pub mod Encodings
 pub mod Quiet
 pub mod Parts
+pub mod Plays

@@ -16,3 +16,4 @@ pub mod Send
 pub mod Perform
 pub mod Broken
 pub mod Told
+pub mod Play

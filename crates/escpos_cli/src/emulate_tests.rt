@@ -1,7 +1,7 @@
 //! The word `emulate` over 127.0.0.1, in one thread as `link_tests` says, and a link of it over memory.
 
 use crate::emulate::{ONLINE, emulate, emulate_on, serve_and_tell};
-use crate::link_tests::{ANY_PORT, NEVER, address_of, reads, says};
+use crate::link_tests::{NEVER, listens, reads, says};
 use crate::paper_text::PaperText;
 use crate::receipt_edge_tests::joined;
 use crate::status::Status;
@@ -27,8 +27,7 @@ fn emulates(
 
 #[test]
 fn two_clients(rt: HostRuntime) {
-    let listener = TcpListener::bind(&rt, ANY_PORT).expect(&rt, "no port");
-    let address = address_of(&rt, &listener);
+    let (listener, address) = listens(&rt);
     let mut first = TcpStream::connect(&rt, address).expect(&rt, "no link");
     says(&rt, &mut first, b"\x1D(H\x06\x00000000\x1B!");
     let mut second = TcpStream::connect(&rt, address).expect(&rt, "no link");
@@ -45,8 +44,7 @@ fn two_clients(rt: HostRuntime) {
 // A link that is refused a byte, and one whose client has gone, are followed by the next.
 #[test]
 fn other_links_follow(rt: HostRuntime) {
-    let listener = TcpListener::bind(&rt, ANY_PORT).expect(&rt, "no port");
-    let address = address_of(&rt, &listener);
+    let (listener, address) = listens(&rt);
     let mut garbage = TcpStream::connect(&rt, address).expect(&rt, "no link");
     says(&rt, &mut garbage, b"Hi\n\x1B$\xFF\x07");
     let gone = TcpStream::connect(&rt, address).expect(&rt, "no link");
@@ -67,8 +65,7 @@ fn other_links_follow(rt: HostRuntime) {
 // A client that goes with its answers unread resets its link: its writes fail, and the next link is served.
 #[test]
 fn client_resets(rt: HostRuntime) {
-    let listener = TcpListener::bind(&rt, ANY_PORT).expect(&rt, "no port");
-    let address = address_of(&rt, &listener);
+    let (listener, address) = listens(&rt);
     let mut gone = TcpStream::connect(&rt, address).expect(&rt, "no link");
     for _ in 0..160 {
         gone.write_all(b"\x10\x04\x01").expect(&rt, "can't write");
@@ -89,8 +86,7 @@ fn client_resets(rt: HostRuntime) {
 // Nobody connects to a listener that doesn't wait: no link can be accepted. An output that is full ends with the link's line.
 #[test]
 fn links_that_fail(rt: HostRuntime) {
-    let listener = TcpListener::bind(&rt, ANY_PORT).expect(&rt, "no port");
-    let address = address_of(&rt, &listener);
+    let (listener, address) = listens(&rt);
     listener.set_nonblocking(true).expect(&rt, "can't set");
     emulates(&rt, rt.alloc(), (&listener, 1), ("", Status::Device));
     let mut first = TcpStream::connect(&rt, address).expect(&rt, "no link");
@@ -223,8 +219,7 @@ fn long_link(rt: HostRuntime) {
 // Links are taken one after another: where the line of the first can't go out, the second is still to be accepted.
 #[test]
 fn lines_go_out_link_by_link(rt: HostRuntime) {
-    let listener = TcpListener::bind(&rt, ANY_PORT).expect(&rt, "no port");
-    let address = address_of(&rt, &listener);
+    let (listener, address) = listens(&rt);
     let mut first = TcpStream::connect(&rt, address).expect(&rt, "no link");
     says(&rt, &mut first, b"Hi\n");
     let mut second = TcpStream::connect(&rt, address).expect(&rt, "no link");
@@ -241,8 +236,7 @@ fn lines_go_out_link_by_link(rt: HostRuntime) {
 // As many links are served as there are to be, and their lines are counted.
 #[test]
 fn many_links(rt: HostRuntime) {
-    let listener = TcpListener::bind(&rt, ANY_PORT).expect(&rt, "no port");
-    let address = address_of(&rt, &listener);
+    let (listener, address) = listens(&rt);
     for _ in 0..120 {
         drop(TcpStream::connect(&rt, address).expect(&rt, "no link"));
     }

@@ -6,6 +6,7 @@
 use crate::growth_tests::printer_at_last;
 use crate::host_tests::{S, receipt_of};
 use crate::job_growth_tests::is_told;
+use crate::link_tests::{listens, says};
 use crate::outcome::MEMORY;
 use crate::paper_text::PaperText;
 use crate::send::Marks;
@@ -111,25 +112,13 @@ fn send_over_refused(rt: HostRuntime) {
     }
 }
 
-// A listener on a free port of 127.0.0.1, and its address.
-fn listens<N: Net<Stream = TcpStream, Listener = TcpListener> + Abort>(
-    rt: &N,
-) -> (TcpListener, SocketAddrV4) {
-    let listener = TcpListener::bind(rt, "127.0.0.1:0").expect(rt, "no port");
-    match listener.local_addr().expect(rt, "no address") {
-        SocketAddr::V4(address) => (listener, address),
-        SocketAddr::V6(_) => rt.abort(),
-    }
-}
-
 // A client that has written `LINK` and ends its writing.
 fn client<N: Net<Stream = TcpStream, Listener = TcpListener> + Abort>(
     rt: &N,
     address: SocketAddrV4,
 ) -> TcpStream {
     let mut stream = TcpStream::connect(rt, address).expect(rt, "no link");
-    stream.write_all(LINK).expect(rt, "can't write");
-    stream.shutdown(Shutdown::Write).expect(rt, "can't end");
+    says(rt, &mut stream, LINK);
     stream
 }
 

@@ -19,13 +19,13 @@ use std::io::{Read, Write};
 use std::net::{Ipv4Addr, Net, Shutdown, SocketAddr, SocketAddrV4, TcpListener, TcpStream};
 use std::process::Abort;
 
-// Any free port of 127.0.0.1.
-pub const ANY_PORT: &str = "127.0.0.1:0";
-
-// A listener's address.
-pub fn address_of(rt: &impl Abort, listener: &TcpListener) -> SocketAddrV4 {
+// A listener at any free port of 127.0.0.1, and its address.
+pub fn listens<N: Net<Stream = TcpStream, Listener = TcpListener> + Abort>(
+    rt: &N,
+) -> (TcpListener, SocketAddrV4) {
+    let listener = TcpListener::bind(rt, "127.0.0.1:0").expect(rt, "no port");
     match listener.local_addr().expect(rt, "no address") {
-        SocketAddr::V4(address) => address,
+        SocketAddr::V4(address) => (listener, address),
         SocketAddr::V6(_) => rt.abort(),
     }
 }
@@ -74,8 +74,8 @@ const ANSWERED: &[u8] = b"\x37\x220000\x00\
 #[test]
 fn send_recorded(rt: HostRuntime) {
     assert_eq!(&rt; ANSWERED.len(), 71);
-    let listener = TcpListener::bind(&rt, ANY_PORT).expect(&rt, "no port");
-    let client = TcpStream::connect(&rt, address_of(&rt, &listener)).expect(&rt, "no link");
+    let (listener, address) = listens(&rt);
+    let client = TcpStream::connect(&rt, address).expect(&rt, "no link");
     let (mut printer, _) = listener.accept().expect(&rt, "no link");
     printer.write_all(ANSWERED).expect(&rt, "can't write");
     let wanted = ("recorded 0\nnext 2\n", Status::Good);
@@ -106,8 +106,7 @@ fn ends_so(
 
 #[test]
 fn not_recorded(rt: HostRuntime) {
-    let listener = TcpListener::bind(&rt, ANY_PORT).expect(&rt, "no port");
-    let address = address_of(&rt, &listener);
+    let (listener, address) = listens(&rt);
     let rows: [((&[u8], usize), &str); 4] = [
         ((b"", 1), "not recorded Ended\nnext 10\n"),
         ((b"\x37\x220009\x00", 1), "not recorded Ended\nnext 11\n"),
@@ -126,8 +125,7 @@ fn not_recorded(rt: HostRuntime) {
 
 #[test]
 fn send_refused(rt: HostRuntime) {
-    let listener = TcpListener::bind(&rt, ANY_PORT).expect(&rt, "no port");
-    let address = address_of(&rt, &listener);
+    let (listener, address) = listens(&rt);
     let mut room = [0; 64];
     let mut input = MemoryIn::new(S.0, 100);
     let mut output = MemoryOut::new(&mut room);
@@ -156,8 +154,7 @@ fn send_refused(rt: HostRuntime) {
 // What isn't a receipt is refused before anything is connected.
 #[test]
 fn no_receipt_no_link(rt: HostRuntime) {
-    let listener = TcpListener::bind(&rt, ANY_PORT).expect(&rt, "no port");
-    let address = address_of(&rt, &listener);
+    let (listener, address) = listens(&rt);
     listener.set_nonblocking(true).expect(&rt, "can't set");
     let mut room = [0; 64];
     let mut input = MemoryIn::new(b"[{\"line\":\"Hi\"},{\"feed\":256}]", 100);
@@ -408,8 +405,7 @@ fn performs_over(
 // What the words ask for is done at their address, with their numbers.
 #[test]
 fn words_over_links(rt: HostRuntime) {
-    let listener = TcpListener::bind(&rt, ANY_PORT).expect(&rt, "no port");
-    let address = address_of(&rt, &listener);
+    let (listener, address) = listens(&rt);
     let client = TcpStream::connect(&rt, address).expect(&rt, "no link");
     let (mut printer, _) = listener.accept().expect(&rt, "no link");
     printer.write_all(ANSWERED).expect(&rt, "can't write");
@@ -440,8 +436,8 @@ fn words_over_links(rt: HostRuntime) {
 // A receipt that goes round to a printer which doesn't take it isn't recorded, and what is on paper is written.
 #[test]
 fn loop_breaks(rt: HostRuntime) {
-    let listener = TcpListener::bind(&rt, ANY_PORT).expect(&rt, "no port");
-    let near = TcpStream::connect(&rt, address_of(&rt, &listener)).expect(&rt, "no link");
+    let (listener, address) = listens(&rt);
+    let near = TcpStream::connect(&rt, address).expect(&rt, "no link");
     let (far, _) = listener.accept().expect(&rt, "no link");
     let mut printer = Printer::new(rt.alloc(), ONLINE).expect(&rt, "memory");
     let fed = printer.feed(b"Hi\n");

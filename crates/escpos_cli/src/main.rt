@@ -4,8 +4,9 @@
 //! to its modules: `task` reads the words, `perform` does what they ask for, `input`, `hexadecimal` and `receipt_input` read
 //! the input, `check`, `render` and `encode` are the jobs of those names over any source and sink and `job` has what
 //! the first two have in common, `play` is the job of that name, `script` reads the lines of its script and `told` has those
-//! that it prints, `emulate`, `send` and `both_ends` are the words over TCP, `paper_text` keeps the paper of `emulate`, `lines` has the lines of a listing, `refusal` the line that refuses a receipt, `usage` the texts of usage and help, `outcome` what all jobs say,
-//! and `status` what the program ends with.
+//! that it prints, `emulate`, `send` and `both_ends` are the words over TCP, `paper_text` keeps the paper of `emulate`,
+//! `lines` has the lines of a listing, `refusal` the line that refuses a receipt, `usage` the texts of usage and help,
+//! `outcome` what all jobs say, and `status` what the program ends with.
 #![tactic(auto)]
 
 mod both_ends;
@@ -21,6 +22,8 @@ mod examples;
 #[cfg(test)]
 mod growth_tests;
 mod hexadecimal;
+#[cfg(test)]
+mod host_size_tests;
 #[cfg(test)]
 mod host_tests;
 mod input;

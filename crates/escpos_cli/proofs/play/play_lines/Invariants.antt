@@ -1,10 +1,14 @@
--- What was told so far fits the buffer, and no failure of the sink is hidden.
-use Rattle.std.proofs.Common.{◌≢◌, Err, length, IsTrue}
+-- What was told so far of the script's lines is out or kept back, and no failure of the sink is hidden.
+use Rattle.std.proofs.Common.{ℕ, ◌≢◌, Err, List, length, IsTrue}
+use Rattle.escpos_io.specs.Gather.{Carries}
+use Rattle.escpos_cli.specs.Play.{LinesGo}
 use Rattle.escpos_cli.specs.declared.play.ScriptEnd.TheVariants as ScriptEnd
 use Rattle.escpos_cli.proofs.play.play_lines.Given as goal
 
 abbrev pub invariant-loop-end : goal.invariant-loop-end
 invariant-loop-end g l = record {
+  told : (text : List ℕ) × LinesGo l.end l.fn.sim text l.sim
+      × Carries (g.W.ByteOut.written l.fn.output) (g.W.ByteOut.written l.output) l.gather text;
   no_device : l.end ≢ Err ScriptEnd.Device;
   well : ¬ IsTrue (g.W.ByteOut.failed l.fn.output) → ¬ IsTrue (g.W.ByteOut.failed l.output);
 }
