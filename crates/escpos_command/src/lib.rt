@@ -17,8 +17,6 @@ mod mark;
 mod parameter;
 mod raster;
 mod spelling;
-#[cfg(test)]
-mod tests;
 mod writing;
 
 pub use answer::Answer;

@@ -13,8 +13,6 @@ mod letter;
 mod place;
 mod reading;
 mod stream;
-#[cfg(test)]
-mod tests;
 
 pub use decoder::{Ahead, DecodeFault, Decoder, Step};
 pub use reading::{Consumer, Stop, read_piece};

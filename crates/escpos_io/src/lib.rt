@@ -19,8 +19,6 @@ mod pieces;
 mod putting;
 mod reading;
 mod source;
-#[cfg(test)]
-mod tests;
 
 pub use device::{ByteIn, ByteOut, Failed};
 pub use gather::{GATHERED_BYTES, Gather};

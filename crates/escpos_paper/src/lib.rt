@@ -15,8 +15,6 @@ mod line;
 mod page;
 mod paper;
 mod style;
-#[cfg(test)]
-mod tests;
 mod text;
 mod write;
 

@@ -9,8 +9,6 @@ mod condition;
 pub mod laws;
 mod printer;
 mod serve;
-#[cfg(test)]
-mod tests;
 
 pub use condition::Condition;
 pub use printer::{Fed, FeedStop, MOST_WAITING, Printer};

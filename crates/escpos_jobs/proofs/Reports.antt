@@ -1,0 +1,220 @@
+-- What a job prints of a byte stream, from how far the stream was read.
+use Rattle.std.proofs.Common.{◌≡◌, ◌≢◌, ℕ, refl, inl, inr, List, [], ◌∷◌, ◌++◌, length, take, drop, append_assoc, append-nil, sym, ◌∙◌, ap, subst, arith, Result, Ok, Err, OnOk, false}
+use Rattle.std.specs.Prelude.{is_err, IsTrue, IsErr, IfSome, Option, Some, None, codes, ◌<◌, ◌≤◌}
+use Rattle.hex.specs.Hex.{decode_of}
+use Rattle.std.specs.Io.KnownBytes.{Appends}
+use Rattle.std.specs.List.{AllByRecursion}
+use Rattle.std.proofs.lemmas.Grind.{flat_map-append}
+use Rattle.std.proofs.lemmas.List.{nil_from_length, take-append-le, take-append-drop, take_all}
+use Rattle.escpos_command.specs.CommandTable.{IsCommand, row, spell}
+use Rattle.escpos_command.specs.declared.command.Command.{Command}
+use Rattle.escpos_command.specs.declared.fault.FaultReason.{FaultReason}
+use Rattle.escpos_command.specs.Grammar.{Reads, FaultAt}
+use Rattle.escpos_command.specs.Laws.{IsRead, IsRefused}
+use Rattle.escpos_jobs.specs.declared.input.TheConstants.{INPUT_LIMIT}
+use Rattle.escpos_jobs.specs.declared.input.InputFault.{InputFault}
+use Rattle.escpos_jobs.specs.declared.input.InputFault.TheVariants as fault_kind
+use Rattle.escpos_jobs.specs.Hexadecimal.{IsHexadecimal, digits_of}
+use Rattle.escpos_jobs.specs.declared.status.Status.{Status}
+use Rattle.escpos_jobs.specs.declared.status.Status.TheVariants.{Good, Refused, Usage, Device, Memory}
+use Rattle.escpos_jobs.specs.Lines.{fault_line}
+use Rattle.escpos_jobs.specs.Outcome.{Outcome, Says, Refuses, StatusFits, memory_line}
+use Rattle.escpos_jobs.specs.Report.{Shape, Reports, Runs, IsOfContent, IsCutShort}
+
+-- The call has succeeded.
+pub succeeded : {T E : Type 0} {P : Type 0} (r : Result T E) → false ≡ is_err r → OnOk r P → P
+succeeded (Ok x) e h = h
+succeeded (Err d) e h = absurd cc
+
+-- ## Statuses
+
+no_device : (o : Outcome) → IsOfContent o.status → o.status ≢ Device
+no_device o (inl e) d = let h = sym e ∙ d in cc
+no_device o (inr e) d = let h = sym e ∙ d in cc
+
+memory_no_device : (o : Outcome) → o.status ≡ Memory → o.status ≢ Device
+memory_no_device o e d = let h = sym e ∙ d in cc
+
+content_no_memory : (o : Outcome) → IsOfContent o.status → o.status ≢ Memory
+content_no_memory o (inl e) m = let h = sym e ∙ m in cc
+content_no_memory o (inr e) m = let h = sym e ∙ m in cc
+
+-- Where the sink has not failed the status is the one that was wanted.
+as_wanted : (o : Outcome) (text : List ℕ) (wanted : Status) → Says o text wanted → o.status ≢ Device → o.status ≡ wanted
+as_wanted o text wanted s d = elim s.ends [ inl e ↦ e | inr e ↦ absurd (d e.0) ]
+
+-- A failed sink alone gives a status that wasn't wanted.
+pub device_failed : (o : Outcome) (text : List ℕ) (wanted : Status) → Says o text wanted → wanted ≢ Device → o.status ≡ Device → IsTrue o.failed
+device_failed o text wanted s other e = elim s.ends [ inl h ↦ absurd (other (sym h ∙ e)) | inr h ↦ h.1 ]
+
+pub never_usage : (o : Outcome) (text : List ℕ) (wanted : Status) → Says o text wanted → wanted ≢ Usage → o.status ≢ Usage
+never_usage o text wanted s other u = elim s.ends [ inl h ↦ other (sym h ∙ u) | inr h ↦ let k = sym h.0 ∙ u in cc ]
+
+pub memory_is_no_device : Memory ≢ Device
+memory_is_no_device e = cc
+
+pub memory_is_no_usage : Memory ≢ Usage
+memory_is_no_usage e = cc
+
+memory_never_fits : (status : Status) (half : ℕ) → StatusFits status half → status ≢ Memory
+memory_never_fits status half (inl e) h = let k = sym h ∙ e.0 in cc
+memory_never_fits status half (inr e) h = let k = sym h ∙ e.0 in cc
+
+good_fits : (status : Status) (half : ℕ) → StatusFits status half → status ≡ Good → half ≡ 0
+good_fits status half (inl e) h = e.1
+good_fits status half (inr e) h = let k = sym h ∙ e.0 in cc
+
+refused_fits : (status : Status) (half : ℕ) → StatusFits status half → status ≡ Refused → half ≢ 0
+refused_fits status half (inl e) h = let k = sym h ∙ e.0 in cc
+refused_fits status half (inr e) h = e.1
+
+-- ## Reports
+
+-- All bytes were read.
+pub reports_read : ((bs : List ℕ) (cs ds : List Command) (x y : List ℕ) → Reads bs cs x → Reads bs ds y → (cs ≡ ds) × (x ≡ y))
+    → (shape : Shape) (o : Outcome) (bytes half line : List ℕ) (cs : List Command) (status : Status) → Reads bytes cs half
+    → line ≡ shape.last (length bytes) (length half) → StatusFits status (length half) → Says o (shape.gives cs ++ line) status → Reports shape o bytes
+reports_read one shape o bytes half line cs status r l fits s = record {
+  text = λ content. (shape.gives cs ++ line, inl (cs, half, r, ap (λ v. shape.gives cs ++ v) l), s.out (no_device o content));
+  good = λ e.
+      let none = good_fits status (length half) fits (sym (as_wanted o _ status s (no_device o (inl e))) ∙ e) in
+      (cs, subst (λ v. Reads bytes cs v) (nil_from_length half none) r);
+  refused = λ e all.
+      let some = refused_fits status (length half) fits (sym (as_wanted o _ status s (no_device o (inr e))) ∙ e) in
+      let same = one bytes cs all.0 half [] r all.1 in
+      some (ap length same.1);
+  memory = λ e. absurd (memory_never_fits status (length half) fits (sym (as_wanted o _ status s (memory_no_device o e)) ∙ e));
+}
+
+-- A byte was refused.
+pub reports_refused : ((bs : List ℕ) → IsRead bs → IsRefused bs → ⊥)
+    → (shape : Shape) (o : Outcome) (bytes rest line : List ℕ) (cs : List Command) (place : ℕ) (why : FaultReason) → FaultAt bytes cs rest place why
+    → line ≡ fault_line place why → Says o (shape.gives cs ++ line) Refused → Reports shape o bytes
+reports_refused not_both shape o bytes rest line cs place why f l s = record {
+  text = λ content. (shape.gives cs ++ line, inr (cs, rest, place, why, f, ap (λ v. shape.gives cs ++ v) l), s.out (no_device o content));
+  good = λ e. let k = sym e ∙ as_wanted o _ Refused s (no_device o (inl e)) in absurd cc;
+  refused = λ e all. not_both bytes (all.0, [], all.1) (cs, rest, place, why, f);
+  memory = λ e. let k = sym e ∙ as_wanted o _ Refused s (memory_no_device o e) in absurd cc;
+}
+
+-- Memory has run out after a front of the bytes.
+pub reports_cut_short : (shape : Shape) (o : Outcome) (bytes half : List ℕ) (k : ℕ) (cs : List Command) → Reads (take k bytes) cs half
+    → Says o (shape.gives cs ++ memory_line) Memory → Reports shape o bytes
+reports_cut_short shape o bytes half k cs r s = record {
+  text = λ content. absurd (content_no_memory o content (as_wanted o _ Memory s (no_device o content)));
+  good = λ e. let h = sym e ∙ as_wanted o _ Memory s (no_device o (inl e)) in absurd cc;
+  refused = λ e all. let h = sym e ∙ as_wanted o _ Memory s (no_device o (inr e)) in cc;
+  memory = λ e. (shape.gives cs ++ memory_line, (k, cs, half, r, refl), s.out (memory_no_device o e));
+}
+
+all_front : (cs ds : List Command) → AllByRecursion IsCommand (cs ++ ds) → AllByRecursion IsCommand cs
+all_front [] ds h = tt
+all_front (c ∷ cs) ds h = (h.0, all_front cs ds h.1)
+
+take_front : (front more : List ℕ) → take (length front) (front ++ more) ≡ front
+take_front front more = let within : length front ≤ length front = omega arith in rw (take-append-le (length front) front more within) (take_all (length front) front within)
+
+-- A front that ends in a command has a front without it.
+pub front_without : (bytes : List ℕ) (k : ℕ) (cs : List Command) (c : Command) → Reads (take k bytes) (cs ++ c ∷ []) []
+    → (j : ℕ) × Reads (take j bytes) cs []
+front_without bytes k cs c r =
+    let whole : bytes ≡ spell cs ++ ((spell (c ∷ []) ++ []) ++ drop k bytes) =
+    sym (take-append-drop k bytes) ∙ ap (λ v. v ++ drop k bytes) (r.whole ∙ ap (λ v. v ++ []) (flat_map-append row cs (c ∷ [])) ∙ append_assoc (spell cs) (spell (c ∷ [])) [])
+    ∙ append_assoc (spell cs) (spell (c ∷ []) ++ []) (drop k bytes) in
+    let front : take (length (spell cs)) bytes ≡ spell cs = ap (take (length (spell cs))) whole ∙ take_front (spell cs) _ in
+    (length (spell cs), record { commands = all_front cs (c ∷ []) r.commands; whole = front ∙ sym (append-nil (spell cs)); left = inl refl })
+
+reads_nothing : Reads [] [] []
+reads_nothing = record { commands = tt; whole = refl; left = inl refl }
+
+-- The bytes couldn't even be read, for want of memory.
+pub cut_short_at_once : (shape : Shape) (before after : Option (List ℕ)) (bytes : List ℕ) → Appends before after memory_line
+    → (text : List ℕ) × IsCutShort shape bytes text × Appends before after text
+cut_short_at_once shape before after bytes out =
+    (memory_line, (0, [], [], reads_nothing, ap (λ v. v ++ memory_line) (sym shape.starts_empty)), out)
+
+-- ## Input that gives no bytes
+
+-- What an input fault says of the input.
+pub record Shows (fault : InputFault) (input : List ℕ) : Type 0 where
+  pub too_long : fault ≡ fault_kind.TooLong → INPUT_LIMIT < length input
+  pub not_hexadecimal : fault ≡ fault_kind.NotHexadecimal → (length input ≤ INPUT_LIMIT) × IsErr (decode_of (digits_of input))
+
+-- What is said of an input fault.
+pub record Answers (fault : InputFault) (o : Outcome) : Type 0 where
+  pub too_long : fault ≡ fault_kind.TooLong → Says o (codes "refused input\n") Refused
+  pub not_hexadecimal : fault ≡ fault_kind.NotHexadecimal → Says o (codes "refused hex\n") Refused
+  pub memory : fault ≡ fault_kind.Memory → Says o memory_line Memory
+  pub device : fault ≡ fault_kind.Device → o.status ≡ Device
+
+refuses : (o : Outcome) (line : List ℕ) → Says o line Refused → Refuses o line
+refuses o line s = record {
+  never_good = λ e. let h = sym e ∙ as_wanted o line Refused s (no_device o (inl e)) in cc;
+  refusal = λ e. s.out (no_device o (inr e));
+  memory = λ e. let h = sym e ∙ as_wanted o line Refused s (memory_no_device o e) in absurd cc;
+}
+
+refuses_at_device : (o : Outcome) (line : List ℕ) → o.status ≡ Device → Refuses o line
+refuses_at_device o line d = record {
+  never_good = λ e. let h = sym e ∙ d in cc;
+  refusal = λ e. let h = sym e ∙ d in absurd cc;
+  memory = λ e. let h = sym e ∙ d in absurd cc;
+}
+
+refuses_at_memory : (o : Outcome) (line : List ℕ) → Says o memory_line Memory → Refuses o line
+refuses_at_memory o line s = record {
+  never_good = λ e. let h = sym e ∙ as_wanted o memory_line Memory s (no_device o (inl e)) in cc;
+  refusal = λ e. let h = sym e ∙ as_wanted o memory_line Memory s (no_device o (inr e)) in absurd cc;
+  memory = λ e. s.out (memory_no_device o e);
+}
+
+reports_at_device : (shape : Shape) (o : Outcome) (bytes : List ℕ) → o.status ≡ Device → Reports shape o bytes
+reports_at_device shape o bytes d = record {
+  text = λ content. absurd (no_device o content d);
+  good = λ e. absurd (no_device o (inl e) d);
+  refused = λ e all. no_device o (inr e) d;
+  memory = λ e. absurd (memory_no_device o e d);
+}
+
+reports_at_memory : (shape : Shape) (o : Outcome) (bytes : List ℕ) → Says o memory_line Memory → Reports shape o bytes
+reports_at_memory shape o bytes s = record {
+  text = λ content. absurd (content_no_memory o content (as_wanted o memory_line Memory s (no_device o content)));
+  good = λ e. absurd (content_no_memory o (inl e) (as_wanted o memory_line Memory s (no_device o (inl e))));
+  refused = λ e all. content_no_memory o (inr e) (as_wanted o memory_line Memory s (no_device o (inr e)));
+  memory = λ e. cut_short_at_once shape o.before o.after bytes (s.out (memory_no_device o e));
+}
+
+both_lengths : (input : List ℕ) → INPUT_LIMIT < length input → length input ≤ INPUT_LIMIT → ⊥
+both_lengths input h k = omega arith
+
+decoded_or_not : (input bytes : List ℕ) → IsErr (decode_of (digits_of input)) → IsHexadecimal input bytes → ⊥
+decoded_or_not input bytes h e = let clash = subst (λ r. IsErr r) e h in absurd cc
+
+runs_by : (shape : Shape) (o : Outcome) (fault : InputFault) (input : List ℕ) → Shows fault input → Answers fault o → Runs shape o input
+runs_by shape o fault_kind.TooLong input h s = record {
+  too_long = λ long. refuses o _ (s.too_long refl);
+  not_hexadecimal = λ short e. absurd (both_lengths input (h.too_long refl) short);
+  hexadecimal = λ bytes short e. absurd (both_lengths input (h.too_long refl) short);
+}
+runs_by shape o fault_kind.NotHexadecimal input h s = record {
+  too_long = λ long. absurd (both_lengths input long (h.not_hexadecimal refl).0);
+  not_hexadecimal = λ short e. refuses o _ (s.not_hexadecimal refl);
+  hexadecimal = λ bytes short e. absurd (decoded_or_not input bytes (h.not_hexadecimal refl).1 e);
+}
+runs_by shape o fault_kind.Device input h s = record {
+  too_long = λ long. refuses_at_device o _ (s.device refl);
+  not_hexadecimal = λ short e. refuses_at_device o _ (s.device refl);
+  hexadecimal = λ bytes short e. reports_at_device shape o bytes (s.device refl);
+}
+runs_by shape o fault_kind.Memory input h s = record {
+  too_long = λ long. refuses_at_memory o _ (s.memory refl);
+  not_hexadecimal = λ short e. refuses_at_memory o _ (s.memory refl);
+  hexadecimal = λ bytes short e. reports_at_memory shape o bytes (s.memory refl);
+}
+
+-- Where the source can name its bytes.
+pub runs_refused : (shape : Shape) (o : Outcome) (fault : InputFault) (known : Option (List ℕ)) → (fault ≡ fault_kind.TooLong → IfSome known (λ text. INPUT_LIMIT < length text))
+    → (fault ≡ fault_kind.NotHexadecimal → IfSome known (λ text. (length text ≤ INPUT_LIMIT) × IsErr (decode_of (digits_of text)))) → Answers fault o
+    → IfSome known (λ text. Runs shape o text)
+runs_refused shape o fault None long bad s = tt
+runs_refused shape o fault (Some text) long bad s = runs_by shape o fault text (record { too_long = long; not_hexadecimal = bad }) s

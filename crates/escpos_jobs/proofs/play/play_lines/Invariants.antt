@@ -1,0 +1,17 @@
+-- What was told so far of the script's lines is out or kept back, and no failure of the sink is hidden.
+use Rattle.std.proofs.Common.{ℕ, ◌≢◌, Err, List, length, IsTrue}
+use Rattle.escpos_io.specs.Gather.{Carries}
+use Rattle.escpos_jobs.specs.Play.{LinesGo}
+use Rattle.escpos_jobs.specs.declared.play.ScriptEnd.TheVariants as ScriptEnd
+use Rattle.escpos_jobs.proofs.play.play_lines.Given as goal
+
+abbrev pub invariant-loop-end : goal.invariant-loop-end
+invariant-loop-end g l = record {
+  told : (text : List ℕ) × LinesGo l.end l.fn.sim text l.sim
+      × Carries (g.W.ByteOut.written l.fn.output) (g.W.ByteOut.written l.output) l.gather text;
+  no_device : l.end ≢ Err ScriptEnd.Device;
+  well : ¬ IsTrue (g.W.ByteOut.failed l.fn.output) → ¬ IsTrue (g.W.ByteOut.failed l.output);
+}
+
+abbrev pub decreases-loop-end : goal.decreases-loop-end
+decreases-loop-end g l = length l.rest

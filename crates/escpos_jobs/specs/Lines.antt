@@ -1,0 +1,79 @@
+-- The lines of a listing, one for each command, with a note on a barcode whose check digit is wrong, and a last one. All numbers are decimal, and a byte is two
+-- lower-case hexadecimal digits.
+use Rattle.std.specs.Prelude.{ℕ, ◌+◌, List, [], ◌∷◌, ◌++◌, length, codes, decimal}
+use Rattle.escpos_command.specs.Barcodes.{barcode_mode}
+use Rattle.escpos_jobs.specs.Notes.{note_of}
+use Rattle.std.specs.List.{flat_map}
+use Rattle.hex.specs.Hex.{encode_lower}
+use Rattle.escpos_command.specs.declared.bytes.TheConstants.{LF}
+use Rattle.escpos_command.specs.declared.command.Command.{Command}
+use Rattle.escpos_command.specs.declared.command.Command.TheVariants as kind
+use Rattle.escpos_command.specs.declared.fault.FaultReason.{FaultReason}
+use Rattle.escpos_command.specs.Places.{number_of, name_of}
+use Rattle.escpos_command.specs.CommandTable.{row, entry_of}
+use Rattle.escpos_jobs.specs.declared.lines.TheConstants.{SPACE}
+use Rattle.escpos_jobs.specs.declared.lines.Last.{Last}
+use Rattle.escpos_jobs.specs.declared.lines.Last.TheVariants.{Nothing, End, Fault, Memory}
+use Rattle.escpos_jobs.specs.Outcome.{memory_line}
+
+-- The name of a command.
+abbrev pub word_of : Command → List ℕ
+word_of (kind.Char b) = codes "char"
+word_of kind.LineFeed = codes "lf"
+word_of kind.Return = codes "cr"
+word_of kind.Init = codes "init"
+word_of (kind.Mode n) = codes "mode"
+word_of (kind.Emphasis n) = codes "emphasis"
+word_of (kind.Underline n) = codes "underline"
+word_of (kind.Font n) = codes "font"
+word_of (kind.Table n) = codes "table"
+word_of (kind.Align n) = codes "align"
+word_of (kind.FeedLines n) = codes "feed"
+word_of (kind.FeedUnits n) = codes "units"
+word_of (kind.Pulse pulse) = codes "pulse"
+word_of (kind.Size n) = codes "size"
+word_of (kind.BarHeight n) = codes "barheight"
+word_of (kind.BarWidth n) = codes "barwidth"
+word_of (kind.HriPlace n) = codes "hriplace"
+word_of (kind.HriFont n) = codes "hrifont"
+word_of (kind.Bars bars) = codes "bars"
+word_of (kind.Raster raster) = codes "raster"
+word_of (kind.Cut cut) = codes "cut"
+word_of (kind.Status n) = codes "status"
+word_of (kind.Mark id) = codes "mark"
+
+-- A space and a byte.
+abbrev pub byte_value : ℕ → List ℕ
+byte_value n = SPACE ∷ encode_lower (n ∷ [])
+
+-- What follows the name: the parameter bytes as sent. The id of a mark stands as it is, since its bytes can be
+-- printed. A barcode has its mode and its content, and a raster its scale, width and height.
+abbrev pub values_of : Command → List ℕ
+values_of (kind.Mark id) = SPACE ∷ id
+values_of (kind.Bars bars) = byte_value (barcode_mode bars.form bars.symbology) ++ SPACE ∷ encode_lower bars.content
+values_of (kind.Raster raster) = byte_value raster.scale ++ SPACE ∷ decimal raster.width ++ SPACE ∷ decimal raster.height
+values_of c = flat_map byte_value (entry_of c).parameters
+
+-- The line of a command: the number of bytes before it, its name, and what it carries; and the note on it, if there is one.
+abbrev pub command_line : ℕ → Command → List ℕ
+command_line place c = decimal place ++ SPACE ∷ [] ++ word_of c ++ values_of c ++ LF ∷ [] ++ note_of place c
+
+-- The lines of commands, the first of which has so many bytes before it.
+abbrev pub command_lines : ℕ → List Command → List ℕ
+command_lines place [] = []
+command_lines place (c ∷ cs) = command_line place c ++ command_lines (place + length (row c)) cs
+
+-- The last line where all bytes were read: how many, and how many of them are a half command.
+abbrev pub end_line : ℕ → ℕ → List ℕ
+end_line count half = codes "end " ++ decimal count ++ codes " pending " ++ decimal half ++ LF ∷ []
+
+-- The last line where a byte is refused: its place in the input, and the reason's number and name.
+abbrev pub fault_line : ℕ → FaultReason → List ℕ
+fault_line place why = codes "fault " ++ decimal place ++ SPACE ∷ [] ++ decimal (number_of why) ++ SPACE ∷ [] ++ name_of why ++ LF ∷ []
+
+-- The last line of a text.
+abbrev pub last_text : Last → List ℕ
+last_text Nothing = []
+last_text (End count half) = end_line count half
+last_text (Fault place why) = fault_line place why
+last_text Memory = memory_line

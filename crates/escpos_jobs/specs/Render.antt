@@ -1,0 +1,28 @@
+-- What `render` prints: the paper as text, and a last line only where not all bytes are read.
+use Rattle.std.specs.Prelude.{ℕ, ◌≡◌, ◌==◌, List, [], Option, if◌then◌else◌, refl}
+use Rattle.escpos_command.specs.declared.command.Command.{Command}
+use Rattle.escpos_io.specs.Gather.{Carries, Gathered}
+use Rattle.escpos_paper.specs.Page.{Sheet, SheetIs}
+use Rattle.escpos_paper.specs.Torn.{below}
+use Rattle.escpos_paper.specs.Printed.{printed}
+use Rattle.escpos_paper.specs.ItemsText.{items_text}
+use Rattle.escpos_jobs.specs.Lines.{end_line}
+use Rattle.escpos_jobs.specs.Outcome.{Outcome}
+use Rattle.escpos_jobs.specs.Report.{Shape, Runs}
+
+-- The last line of the listing, where a half command is left.
+abbrev pub half_line : ℕ → ℕ → List ℕ
+half_line count half = if half == 0 then [] else end_line count half
+
+abbrev pub paper_shape : Shape
+paper_shape = record { gives = λ cs. items_text (printed cs); last = half_line; starts_empty = refl }
+
+-- What `render` does with its input.
+abbrev pub RendersInput : Outcome → List ℕ → Type 0
+RendersInput o input = Runs paper_shape o input
+
+-- Of these commands everything that is printed was torn off the sheet, and its text is out or kept back.
+pub record IsRendered (first sink : Option (List ℕ)) (gather : Gathered) (sheet : Sheet) (cs : List Command) : Type 0 where
+  pub torn : sheet.items ≡ []
+  pub sheet_is : SheetIs (below (printed cs) sheet) [] cs
+  pub carried : Carries first sink gather (items_text (printed cs))

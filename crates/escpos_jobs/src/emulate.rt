@@ -1,0 +1,229 @@
+//! The word `emulate`: a printer that serves links over TCP, one after another, and writes its paper at the end.
+//!
+//! What a link comes to is `serve_link`'s, over any source and sink; here it is given sockets, and its end gets a line. The paper
+//! waits for the last link as text (`paper_text`): a link is served in parts, and after each its paper is torn off.
+
+ghost use Rattle.std.specs.Prelude.{◌≡◌, ◌≢◌, ◌+◌, ◌*◌, ◌≤◌, ◌++◌, List, length, IfOk, IsTrue, OnErr, OnOk};
+ghost use Rattle.std.specs.Io.KnownBytes.{Appends};
+ghost use Rattle.escpos_paper.specs.declared.item.Item.{Item};
+ghost use Rattle.escpos_paper.specs.ItemsText.{items_text};
+ghost use Rattle.escpos_printer.specs.Parts.{under};
+ghost use Rattle.escpos_printer.specs.Serves.{Serves, link};
+ghost use Rattle.escpos_jobs.specs.Links.{link_line};
+
+use crate::lines::{SPACE, append_number};
+use crate::outcome::{MEMORY, say};
+use crate::paper_text::PaperText;
+use crate::status::Status;
+use escpos_command::LF;
+use escpos_io::{ByteIn, ByteOut, Device, GATHERED_BYTES, Gather, Incoming, Outgoing, laws};
+use escpos_printer::{Condition, LinkEnd, Printer, Served, serve_link};
+use std::alloc::Global;
+use std::net::{Net, SocketAddrV4, TcpListener, TcpStream};
+
+/// How many bytes of a link are read at most.
+pub const LINK_LIMIT: u32 = 16_777_216;
+
+const _: () = prove!(LINK_LIMIT == 16_777_216);
+
+/// How many bytes of a link are read before its paper is torn off, and how many such parts a link has at most.
+const PART_BYTES: u32 = 16_384;
+
+const PARTS: u32 = 1_024;
+
+const _: () = prove!(PART_BYTES == 16_384);
+
+const _: () = prove!(PARTS == 1_024);
+
+/// More than the line of a link has.
+const LINE_BYTES: usize = 256;
+
+const _: () = prove!(LINE_BYTES == 256);
+
+/// The condition of a printer that is online and has paper.
+pub const ONLINE: Condition = Condition {
+    cover_open: false,
+    near_end: false,
+    paper_end: false,
+};
+
+/// Listens at `address`, and serves so many links as `emulate_on` does. `Device` comes where it can't listen, too.
+pub fn emulate<N: Net<Stream = TcpStream, Listener = TcpListener>, W: ByteOut>(
+    net: &N,
+    alloc: Global,
+    address: SocketAddrV4,
+    links: u32,
+    output: &mut W,
+) -> Status
+    ensures never_usage { result ≢ Status.Usage }
+    ensures not_hidden { result ≢ Status.Device → ¬ IsTrue (W.failed output.old) → ¬ IsTrue (W.failed output.new) }
+{
+    match TcpListener::bind(net, address) {
+        Ok(listener) => emulate_on(alloc, &listener, links, output),
+        Err(_) => Status::Device,
+    }
+}
+
+/// Serves so many links of `listener`, one after another, as one printer that is online; each is read up to 16,777,216 bytes.
+/// Puts a line when a link has ended, `link I read R consumed C written W END`, and the paper at the end.
+///
+/// The status is `Device` where no link could be accepted or `output` has failed. Where a link ends for want of memory no
+/// other is served: the paper follows, then the line `memory`, and the status is `Memory`. However a link ends else, the
+/// next is served, and the status is `Good`.
+pub fn emulate_on<W: ByteOut>(
+    alloc: Global,
+    listener: &TcpListener,
+    links: u32,
+    output: &mut W,
+) -> Status
+    ensures never_usage { result ≢ Status.Usage }
+    ensures not_hidden { result ≢ Status.Device → ¬ IsTrue (W.failed output.old) → ¬ IsTrue (W.failed output.new) }
+{
+    let Ok(mut printer) = Printer::new(alloc, ONLINE) else {
+        return say(MEMORY, output, Status::Memory);
+    };
+    let mut paper = PaperText::new(alloc);
+    let status = serve_links(&mut printer, &mut paper, listener, links, output);
+    if paper.put_above(printer.items(), output).is_err() {
+        return Status::Device;
+    }
+    match status {
+        Status::Memory => say(MEMORY, output, Status::Memory),
+        other => other,
+    }
+}
+
+// Serves so many links, up to the first that can't be accepted, or ends for want of memory.
+fn serve_links<W: ByteOut>(
+    printer: &mut Printer,
+    paper: &mut PaperText,
+    listener: &TcpListener,
+    links: u32,
+    output: &mut W,
+) -> Status
+    ensures never_usage { result ≢ Status.Usage }
+    ensures not_hidden { result ≢ Status.Device → ¬ IsTrue (W.failed output.old) → ¬ IsTrue (W.failed output.new) }
+{
+    for number in 1..=links {
+        let Ok((stream, _)) = listener.accept() else {
+            return Status::Device;
+        };
+        match serve_stream(printer, paper, number, &stream, output) {
+            Ok(LinkEnd::Memory) => return Status::Memory,
+            Ok(_) => {}
+            Err(_) => return Status::Device,
+        }
+    }
+    Status::Good
+}
+
+// Serves the link of a stream. An answer has a few bytes and is waited for, so it goes out at once; a stream that can't do
+// so is served as it is.
+fn serve_stream<W: ByteOut>(
+    printer: &mut Printer,
+    paper: &mut PaperText,
+    number: u32,
+    stream: &TcpStream,
+    output: &mut W,
+) -> Result<LinkEnd, Device>
+    ensures failed { OnErr result (IsTrue (W.failed output.new)) }
+    ensures not_failed { OnOk result (¬ IsTrue (W.failed output.old) → ¬ IsTrue (W.failed output.new)) }
+{
+    let _ = stream.set_nodelay(true);
+    let mut reader = Incoming::new(stream);
+    let mut writer = Outgoing::new(stream);
+    let served = serve_and_tell(printer, paper, number, &mut reader, &mut writer, output)?;
+    Ok(served.end)
+}
+
+/// Serves a link, tears its paper off and puts its line. `Err` comes only where `output` has failed.
+pub fn serve_and_tell<R: ByteIn, A: ByteOut, W: ByteOut>(
+    printer: &mut Printer,
+    paper: &mut PaperText,
+    number: u32,
+    reader: &mut R,
+    writer: &mut A,
+    output: &mut W,
+) -> Result<Served, Device>
+    ensures served { IfOk result (λ served. (gone : List Item) × (paper.new ≡ paper.old ++ items_text gone)
+        × Serves printer.old (link (R.to_come reader.old) (R.to_come reader.new) (A.written writer.old) (A.written writer.new))
+        LINK_LIMIT served (under gone printer.new)) }
+    ensures told { IfOk result (λ served. Appends (W.written output.old) (W.written output.new) (link_line number served)) }
+    ensures failed { OnErr result (IsTrue (W.failed output.new)) }
+    ensures not_failed { OnOk result (¬ IsTrue (W.failed output.old) → ¬ IsTrue (W.failed output.new)) }
+{
+    laws::given_in_place();
+    let served = serve_in_parts(printer, paper, reader, writer);
+    let mut gather = Gather::new();
+    append_link(&mut gather, number, served);
+    gather.flush(output)?;
+    Ok(served)
+}
+
+// Serves a link, and tears its paper off.
+fn serve_in_parts<R: ByteIn, A: ByteOut>(
+    printer: &mut Printer,
+    paper: &mut PaperText,
+    reader: &mut R,
+    writer: &mut A,
+) -> Served
+    ensures { (gone : List Item) × (paper.new ≡ paper.old ++ items_text gone)
+        × Serves printer.old (link (R.to_come reader.old) (R.to_come reader.new) (A.written writer.old) (A.written writer.new))
+        LINK_LIMIT result (under gone printer.new) }
+{
+    escpos_printer::laws::parts();
+    let mut served = serve_part(printer, paper, reader, writer);
+    for _ in 1..PARTS {
+        match served.end {
+            LinkEnd::TooLong => {}
+            _ => return served,
+        }
+        let part = serve_part(printer, paper, reader, writer);
+        served = Served {
+            read: served.read + part.read,
+            consumed: served.consumed + part.consumed,
+            written: served.written + part.written,
+            end: part.end,
+        };
+    }
+    served
+}
+
+// Serves a part of a link, and tears its paper off. What was torn off before may be thought above it.
+fn serve_part<R: ByteIn, A: ByteOut>(
+    printer: &mut Printer,
+    paper: &mut PaperText,
+    reader: &mut R,
+    writer: &mut A,
+) -> Served
+    ensures served { (gone : List Item) × (paper.new ≡ paper.old ++ items_text gone)
+        × ((above : List Item) → Serves (under above printer.old)
+        (link (R.to_come reader.old) (R.to_come reader.new) (A.written writer.old) (A.written writer.new))
+        PART_BYTES result (under (above ++ gone) printer.new)) }
+    ensures few { result.written ≤ 112 + 224 * result.read }
+{
+    escpos_printer::laws::paper_above();
+    let _ = printer.items();
+    let served = serve_link(printer, reader, writer, PART_BYTES);
+    paper.tear_off(printer);
+    served
+}
+
+// The line of a link.
+fn append_link(gather: &mut Gather, number: u32, served: Served)
+    requires { length gather.old.kept + LINE_BYTES ≤ GATHERED_BYTES }
+    ensures kept { gather.new.kept ≡ gather.old.kept ++ link_line number served }
+    ensures same_count { gather.new.taken ≡ gather.old.taken }
+{
+    gather.extend(b"link ");
+    append_number(gather, number as usize);
+    gather.extend(b" read ");
+    append_number(gather, served.read);
+    gather.extend(b" consumed ");
+    append_number(gather, served.consumed);
+    gather.extend(b" written ");
+    append_number(gather, served.written);
+    gather.push(SPACE);
+    gather.extend(served.end.name().as_bytes());
+    gather.push(LF);
+}

@@ -1,0 +1,73 @@
+//! Hexadecimal input: all of a source, read to its end and turned into bytes.
+
+ghost use Rattle.std.specs.Prelude.{◌≡◌, ◌+◌, ◌<◌, ◌≤◌, length, IfOk, OnOk, IfSome, IsErr, IsErrOf, IsTrue};
+ghost use Rattle.hex.specs.Hex.{decode_of};
+ghost use Rattle.escpos_jobs.specs.Hexadecimal.{IsHexadecimal, digits_of};
+ghost use Rattle.escpos_jobs.specs.Input.{fault_of_hexadecimal, fault_of_reading};
+
+use crate::hexadecimal::{HexFault, bytes_of};
+use escpos_io::{ByteIn, ReadError, read_to_end};
+use std::alloc::Global;
+use thiserror::Error;
+
+/// How many bytes of standard input a job reads.
+pub const INPUT_LIMIT: usize = 16_777_216;
+
+const _: () = prove!(INPUT_LIMIT == 16_777_216);
+
+/// Why an input gave no bytes.
+#[derive(Clone, Copy, Debug, Drop, PartialEq, Eq, Error)]
+pub enum InputFault {
+    /// It has more than 16,777,216 bytes.
+    #[error("the input is too long")]
+    TooLong,
+    /// It isn't hexadecimal.
+    #[error("the input isn't hexadecimal")]
+    NotHexadecimal,
+    /// Its source failed.
+    #[error("the input can't be read")]
+    Device,
+    /// There is no memory for it.
+    #[error("there wasn't enough memory")]
+    Memory,
+}
+
+impl From<ReadError> for InputFault {
+    ghost from_gives = { λ error fault. fault ≡ fault_of_reading error };
+
+    fn from(error: ReadError) -> Self {
+        match error {
+            ReadError::TooLong => InputFault::TooLong,
+            ReadError::Failed => InputFault::Device,
+            ReadError::Memory => InputFault::Memory,
+        }
+    }
+}
+
+impl From<HexFault> for InputFault {
+    ghost from_gives = { λ error fault. fault ≡ fault_of_hexadecimal error };
+
+    fn from(fault: HexFault) -> Self {
+        match fault {
+            HexFault::Refused => InputFault::NotHexadecimal,
+            HexFault::Memory => InputFault::Memory,
+        }
+    }
+}
+
+/// The bytes that `input` writes in hexadecimal. At most 16,777,217 bytes are pulled, in as many calls at
+/// most.
+pub fn hexadecimal_input<R: ByteIn>(alloc: Global, input: &mut R) -> Result<Vec<u8>, InputFault>
+    ensures bytes { IfOk result (λ bytes. IfSome (R.to_come input.old) (λ text.
+        (length text ≤ INPUT_LIMIT) × IsHexadecimal text bytes.items)) }
+    ensures too_long { IsErrOf result InputFault.TooLong → IfSome (R.to_come input.old) (λ text. INPUT_LIMIT < length text) }
+    ensures not_hexadecimal { IsErrOf result InputFault.NotHexadecimal → IfSome (R.to_come input.old) (λ text.
+        (length text ≤ INPUT_LIMIT) × IsErr (decode_of (digits_of text))) }
+    ensures device { IsErrOf result InputFault.Device → IsTrue (R.failed input.new) }
+    ensures not_failed { OnOk result (¬ IsTrue (R.failed input.new)) }
+    ensures not_hidden { IsTrue (R.failed input.new) → IsErrOf result InputFault.Device }
+    ensures pulls { R.pull_count input.new ≤ R.pull_count input.old + INPUT_LIMIT + 1 }
+{
+    let text = read_to_end(alloc, input, INPUT_LIMIT)?;
+    Ok(bytes_of(alloc, text)?)
+}

@@ -1,0 +1,258 @@
+//! The lines of a listing, appended in place to the bytes that go out.
+
+ghost use Rattle.std.specs.Prelude.{◌≡◌, ◌+◌, ◌≤◌, ◌++◌, ◌∷◌, length, decimal};
+ghost use Rattle.std.specs.List.{flat_map};
+ghost use Rattle.escpos_jobs.specs.Lines.{byte_value, command_line, end_line, fault_line, last_text, values_of, word_of};
+ghost use Rattle.escpos_jobs.specs.Notes.{note_line};
+ghost use Rattle.escpos_command.specs.declared.command.Command.TheVariants as kind;
+ghost use Rattle.hex.specs.Hex.{encode_lower};
+
+use crate::notes::{WrongDigit, wrong_digit};
+use crate::outcome::MEMORY;
+use escpos_command::{Bars, Command, FaultReason, LF, Raster};
+use escpos_io::{ByteOut, Device, GATHERED_BYTES, Gather, Piece, laws};
+use itoa::Buffer;
+
+/// What stands between the parts of a line.
+pub const SPACE: u8 = 0x20;
+
+const _: () = prove!(SPACE == 32);
+
+/// More than the line of any command has, with the note on it.
+pub const LINE_BYTES: usize = 1024;
+
+const _: () = prove!(LINE_BYTES == 1024);
+
+/// The most bytes that the last line of a text has.
+const LAST_BYTES: usize = 128;
+
+const _: () = prove!(LAST_BYTES == 128);
+
+/// The last line of a text.
+#[derive(Clone, Copy, Debug, PartialEq, Eq)]
+pub enum Last {
+    /// There is none.
+    Nothing,
+    /// All of so many bytes were read, and the last `half` of them are a half command.
+    End { count: usize, half: usize },
+    /// The byte at this place was refused.
+    Fault { place: usize, why: FaultReason },
+    /// Memory has run out.
+    Memory,
+}
+
+impl Piece for Last {
+    ghost bytes = { last_text };
+
+    fn put<W: ByteOut>(&self, gather: &mut Gather, writer: &mut W) -> Result<(), Device> {
+        laws::piece_stopped();
+        gather.room(LAST_BYTES, writer)?;
+        match self {
+            Last::Nothing => {}
+            Last::End { count, half } => append_end(gather, *count, *half),
+            Last::Fault { place, why } => append_fault(gather, *place, *why),
+            Last::Memory => gather.extend(MEMORY),
+        }
+        Ok(())
+    }
+}
+
+/// Appends the line of a command that has `place` bytes before it.
+pub fn append_line(gather: &mut Gather, place: usize, command: &Command)
+    requires { length gather.old.kept + LINE_BYTES ≤ GATHERED_BYTES }
+    ensures kept { gather.new.kept ≡ gather.old.kept ++ command_line place command.now }
+    ensures same_count { gather.new.taken ≡ gather.old.taken }
+{
+    append_number(gather, place);
+    gather.push(SPACE);
+    gather.extend(word(command));
+    append_values(gather, command);
+    gather.push(LF);
+    if let Command::Bars(bars) = command {
+        append_note(gather, place, wrong_digit(bars));
+    }
+}
+
+// The note on a barcode with a wrong check digit.
+fn append_note(gather: &mut Gather, place: usize, wrong: Option<WrongDigit>)
+    requires { length gather.old.kept + 64 ≤ GATHERED_BYTES }
+    ensures kept { gather.new.kept ≡ gather.old.kept ++ note_line place wrong }
+    ensures same_count { gather.new.taken ≡ gather.old.taken }
+{
+    if let Some(wrong) = wrong {
+        gather.extend(b"note ");
+        append_number(gather, place);
+        gather.extend(b" check digit ");
+        append_small_number(gather, wrong.given);
+        gather.extend(b", right ");
+        append_small_number(gather, wrong.right);
+        gather.push(LF);
+    }
+}
+
+fn append_end(gather: &mut Gather, count: usize, half: usize)
+    requires { length gather.old.kept + LAST_BYTES ≤ GATHERED_BYTES }
+    ensures kept { gather.new.kept ≡ gather.old.kept ++ end_line count half }
+    ensures same_count { gather.new.taken ≡ gather.old.taken }
+    ensures short { length (end_line count half) ≤ LAST_BYTES }
+{
+    gather.extend(b"end ");
+    append_number(gather, count);
+    gather.extend(b" pending ");
+    append_number(gather, half);
+    gather.push(LF);
+}
+
+fn append_fault(gather: &mut Gather, place: usize, why: FaultReason)
+    requires { length gather.old.kept + LAST_BYTES ≤ GATHERED_BYTES }
+    ensures kept { gather.new.kept ≡ gather.old.kept ++ fault_line place why }
+    ensures same_count { gather.new.taken ≡ gather.old.taken }
+    ensures short { length (fault_line place why) ≤ LAST_BYTES }
+{
+    gather.extend(b"fault ");
+    append_number(gather, place);
+    gather.push(SPACE);
+    append_number(gather, usize::from(why.number()));
+    gather.push(SPACE);
+    gather.extend(why.name().as_bytes());
+    gather.push(LF);
+}
+
+/// Appends a number in decimal.
+pub fn append_number(gather: &mut Gather, number: usize)
+    requires { length gather.old.kept + 20 ≤ GATHERED_BYTES }
+    ensures kept { gather.new.kept ≡ gather.old.kept ++ decimal number }
+    ensures same_count { gather.new.taken ≡ gather.old.taken }
+    ensures short { length (decimal number) ≤ 20 }
+{
+    let mut buffer = Buffer::new();
+    gather.extend(buffer.format(number).as_bytes());
+}
+
+// A number up to 255, in decimal.
+fn append_small_number(gather: &mut Gather, number: u8)
+    requires { length gather.old.kept + 3 ≤ GATHERED_BYTES }
+    ensures kept { gather.new.kept ≡ gather.old.kept ++ decimal number }
+    ensures same_count { gather.new.taken ≡ gather.old.taken }
+    ensures short { length (decimal number) ≤ 3 }
+{
+    let mut buffer = Buffer::new();
+    gather.extend(buffer.format(number).as_bytes());
+}
+
+// The name of a command.
+fn word(command: &Command) -> &'static [u8]
+    ensures value { result.now ≡ word_of command.now }
+    ensures short { length result.now ≤ 9 }
+{
+    match command {
+        Command::Char(_) => b"char",
+        Command::LineFeed => b"lf",
+        Command::Return => b"cr",
+        Command::Init => b"init",
+        Command::Mode(_) => b"mode",
+        Command::Emphasis(_) => b"emphasis",
+        Command::Underline(_) => b"underline",
+        Command::Font(_) => b"font",
+        Command::Table(_) => b"table",
+        Command::Align(_) => b"align",
+        Command::FeedLines(_) => b"feed",
+        Command::FeedUnits(_) => b"units",
+        Command::Pulse(_) => b"pulse",
+        Command::Size(_) => b"size",
+        Command::BarHeight(_) => b"barheight",
+        Command::BarWidth(_) => b"barwidth",
+        Command::HriPlace(_) => b"hriplace",
+        Command::HriFont(_) => b"hrifont",
+        Command::Bars(_) => b"bars",
+        Command::Raster(_) => b"raster",
+        Command::Cut(_) => b"cut",
+        Command::Status(_) => b"status",
+        Command::Mark(_) => b"mark",
+    }
+}
+
+// What follows the name: a space and two digits for each parameter byte, a space and the id of a mark, or what a barcode or
+// a raster carries.
+fn append_values(gather: &mut Gather, command: &Command)
+    requires { length gather.old.kept + 520 ≤ GATHERED_BYTES }
+    ensures kept { gather.new.kept ≡ gather.old.kept ++ values_of command.now }
+    ensures same_count { gather.new.taken ≡ gather.old.taken }
+    ensures short { length (values_of command.now) ≤ 520 }
+{
+    match command {
+        Command::Char(character) => append_byte(gather, character.byte()),
+        Command::Mark(id) => {
+            gather.push(SPACE);
+            gather.extend(&id.bytes());
+        }
+        Command::Bars(bars) => append_bars(gather, bars),
+        Command::Raster(raster) => append_raster(gather, raster),
+        _ => append_bytes(gather, command.parts().parameters.as_slice()),
+    }
+}
+
+// The mode and the content of a barcode.
+fn append_bars(gather: &mut Gather, bars: &Bars)
+    requires { length gather.old.kept + 520 ≤ GATHERED_BYTES }
+    ensures kept { gather.new.kept ≡ gather.old.kept ++ values_of (kind.Bars bars.now) }
+    ensures same_count { gather.new.taken ≡ gather.old.taken }
+    ensures short { length (values_of (kind.Bars bars.now)) ≤ 520 }
+{
+    append_byte(gather, bars.mode());
+    gather.push(SPACE);
+    append_digits(gather, bars.content());
+}
+
+// The digits of a content.
+fn append_digits(gather: &mut Gather, bytes: &[u8])
+    requires few { length bytes.now ≤ 255 }
+    requires room { length gather.old.kept + 510 ≤ GATHERED_BYTES }
+    ensures kept { gather.new.kept ≡ gather.old.kept ++ encode_lower bytes.now }
+    ensures same_count { gather.new.taken ≡ gather.old.taken }
+    ensures short { length (encode_lower bytes.now) ≤ 510 }
+{
+    let mut room = [0; 510];
+    let digits = &mut room[..2 * bytes.len()];
+    hex::encode_to_slice(bytes, digits).unwrap();
+    gather.extend(digits);
+}
+
+// The scale and the size of a raster.
+fn append_raster(gather: &mut Gather, raster: &Raster)
+    requires { length gather.old.kept + 64 ≤ GATHERED_BYTES }
+    ensures kept { gather.new.kept ≡ gather.old.kept ++ values_of (kind.Raster raster.now) }
+    ensures same_count { gather.new.taken ≡ gather.old.taken }
+    ensures short { length (values_of (kind.Raster raster.now)) ≤ 64 }
+{
+    append_byte(gather, raster.mode());
+    gather.push(SPACE);
+    append_number(gather, usize::from(raster.width()));
+    gather.push(SPACE);
+    append_number(gather, usize::from(raster.height()));
+}
+
+// A space and two digits for each byte.
+fn append_bytes(gather: &mut Gather, bytes: &[u8])
+    requires few { length bytes.now ≤ 5 }
+    requires room { length gather.old.kept + 15 ≤ GATHERED_BYTES }
+    ensures kept { gather.new.kept ≡ gather.old.kept ++ flat_map byte_value bytes.now }
+    ensures same_count { gather.new.taken ≡ gather.old.taken }
+    ensures short { length (flat_map byte_value bytes.now) ≤ 15 }
+{
+    for byte in bytes {
+        append_byte(gather, *byte);
+    }
+}
+
+/// Appends a byte: a space and its two digits.
+pub fn append_byte(gather: &mut Gather, byte: u8)
+    requires { length gather.old.kept + 3 ≤ GATHERED_BYTES }
+    ensures kept { gather.new.kept ≡ gather.old.kept ++ byte_value byte }
+    ensures same_count { gather.new.taken ≡ gather.old.taken }
+    ensures short { length (byte_value byte) ≡ 3 }
+{
+    let mut digits = [SPACE; 3];
+    hex::encode_to_slice([byte], &mut digits[1..]).unwrap();
+    gather.extend(&digits);
+}

@@ -1,0 +1,56 @@
+//! How a job ends, and what all jobs say: the one line that stands for everything where there is nothing else to
+//! print, and the status that goes with it.
+
+ghost use Rattle.std.specs.Prelude.{◌≡◌, ◌≢◌, ◌⊎◌, IsTrue, codes};
+ghost use Rattle.escpos_jobs.specs.Outcome.{Says, StatusFits, memory_line, outcome};
+
+use crate::input::InputFault;
+use crate::status::Status;
+use escpos_io::{ByteOut, put_all};
+
+/// What is printed last where there isn't enough memory.
+pub const MEMORY: &[u8] = b"memory\n";
+
+/// Puts a text. The status is the one that is given, or `Device` where `output` has failed: a failure is
+/// never hidden by another status.
+pub fn say<W: ByteOut>(text: &[u8], output: &mut W, status: Status) -> Status
+    ensures says { Says (outcome (W.written output.old) (W.written output.new) (W.failed output.new) result) text.now status }
+    ensures not_hidden { result ≢ Status.Device → ¬ IsTrue (W.failed output.old) → ¬ IsTrue (W.failed output.new) }
+{
+    match put_all(text, output) {
+        Ok(()) => status,
+        Err(_) => Status::Device,
+    }
+}
+
+/// Puts the line that says why an input gave no bytes: `refused input` or `refused hex` with `Refused`,
+/// `memory` with `Memory`. Where the source has failed nothing is put and the status is `Device`, as it is
+/// where `output` has failed.
+pub fn refuse<W: ByteOut>(fault: InputFault, output: &mut W) -> Status
+    ensures too_long { fault ≡ InputFault.TooLong →
+        Says (outcome (W.written output.old) (W.written output.new) (W.failed output.new) result) (codes "refused input\n") Status.Refused }
+    ensures not_hexadecimal { fault ≡ InputFault.NotHexadecimal →
+        Says (outcome (W.written output.old) (W.written output.new) (W.failed output.new) result) (codes "refused hex\n") Status.Refused }
+    ensures memory { fault ≡ InputFault.Memory →
+        Says (outcome (W.written output.old) (W.written output.new) (W.failed output.new) result) memory_line Status.Memory }
+    ensures device { fault ≡ InputFault.Device → (result ≡ Status.Device) × (output.new ≡ output.old) }
+    ensures not_hidden { result ≢ Status.Device → ¬ IsTrue (W.failed output.old) → ¬ IsTrue (W.failed output.new) }
+{
+    match fault {
+        InputFault::TooLong => say(b"refused input\n", output, Status::Refused),
+        InputFault::NotHexadecimal => say(b"refused hex\n", output, Status::Refused),
+        InputFault::Device => Status::Device,
+        InputFault::Memory => say(MEMORY, output, Status::Memory),
+    }
+}
+
+/// The status of bytes that are all read, where so many of them are a half command.
+pub fn status_of(half: usize) -> Status
+    ensures { StatusFits result half }
+{
+    if half == 0 {
+        Status::Good
+    } else {
+        Status::Refused
+    }
+}

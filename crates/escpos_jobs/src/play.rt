@@ -1,0 +1,186 @@
+//! The word `play`: a script of events on a line between a host and a printer, and what comes of each.
+//!
+//! What an event does is `Sim::step`'s; here the lines of the script are read one after another, and each is told of before
+//! the next happens.
+
+ghost use Rattle.std.specs.Prelude.{ℕ, ◌≡◌, ◌≢◌, ◌⊎◌, ◌+◌, ◌≤◌, List, ◌++◌, length, Err, IfSome, IsTrue, OnErr, OnOk};
+ghost use Rattle.std.specs.Io.KnownBytes.{Appends};
+ghost use Rattle.escpos_link.specs.Stands.{Stands};
+ghost use Rattle.escpos_jobs.specs.Outcome.{IsFair, Says, outcome};
+ghost use Rattle.escpos_jobs.specs.Play.{IsNew, LineGoes, LinesGo, Plays, PlaysScript, closing_text};
+
+use crate::emulate::ONLINE;
+use crate::input::{INPUT_LIMIT, InputFault};
+use crate::outcome::{MEMORY, refuse, say};
+use crate::refusal::append_refusal;
+use crate::script::{NoEvent, event_of, first_line};
+use crate::status::Status;
+use crate::told::{TOLD_BYTES, append_note, append_records, append_refused, append_unreadable};
+use escpos_io::{ByteIn, ByteOut, Device, GATHERED_BYTES, Gather, laws, put_all, read_to_end};
+use escpos_link::{Refusal, Sim};
+use escpos_paper::write_items;
+use std::alloc::Global;
+
+/// Plays the script that `input` has: each line of it happens to a line between a printer that is online and a host whose first
+/// mark is mark 0, and puts one line on `output`. At the end come `paper`, the paper as `render` writes it, and `records N`: so
+/// many receipts stand on that paper, whole and in the order of recording.
+///
+/// An event that is refused says so, as does a receipt that is none, and the script goes on. A line that is none of a script ends
+/// it: the status is then `Refused`, and the paper follows all the same. Input that is too long is refused before anything
+/// happens, with `Refused`. For want of memory the line `memory` follows what was put by then, with `Memory`. `Device` comes only
+/// where `input` or `output` has failed, and no other status hides that one of them has failed in this call.
+pub fn play<R: ByteIn, W: ByteOut>(alloc: Global, input: &mut R, output: &mut W) -> Status
+    ensures plays { IfSome (R.to_come input.old) (λ text. Plays (outcome (W.written output.old) (W.written output.new) (W.failed output.new) result) text) }
+    ensures fair { IsFair result (R.failed input.new) (W.failed output.old, W.failed output.new)
+        (R.pull_count input.old, R.pull_count input.new) }
+    ensures nothing_put { IsTrue (R.failed input.new) → output.new ≡ output.old }
+{
+    match read_to_end(alloc, input, INPUT_LIMIT) {
+        Ok(script) => play_script(alloc, &script, output),
+        Err(error) => refuse(InputFault::from(error), output),
+    }
+}
+
+// How a script ends before its end.
+#[derive(Clone, Copy, Debug, PartialEq, Eq)]
+enum ScriptEnd {
+    // A line isn't one of a script.
+    Unreadable,
+    // There is no memory.
+    Memory,
+    // The sink has failed.
+    Device,
+}
+
+impl From<Device> for ScriptEnd {
+    ghost use Rattle.escpos_jobs.specs.declared.play.ScriptEnd.{ScriptEnd};
+
+    ghost from_gives = { λ _ end. end ≡ ScriptEnd.Device };
+
+    fn from(_device: Device) -> Self {
+        ScriptEnd::Device
+    }
+}
+
+// Plays a script from its first line to its last, and puts what comes of it.
+fn play_script<W: ByteOut>(alloc: Global, script: &[u8], output: &mut W) -> Status
+    ensures plays { PlaysScript (outcome (W.written output.old) (W.written output.new) (W.failed output.new) result) }
+    ensures device { result ≡ Status.Device → IsTrue (W.failed output.new) }
+    ensures not_hidden { result ≢ Status.Device → ¬ IsTrue (W.failed output.old) → ¬ IsTrue (W.failed output.new) }
+    ensures never_usage { result ≢ Status.Usage }
+{
+    let Ok(mut sim) = Sim::new(alloc, ONLINE, 0) else {
+        return say(MEMORY, output, Status::Memory);
+    };
+    play_on(alloc, script, &mut sim, output)
+}
+
+// Plays a script on a line, and shows what is left.
+fn play_on<W: ByteOut>(alloc: Global, script: &[u8], sim: &mut Sim, output: &mut W) -> Status
+    ensures plays { IsNew sim.old → PlaysScript (outcome (W.written output.old) (W.written output.new) (W.failed output.new) result) }
+    ensures device { result ≡ Status.Device → IsTrue (W.failed output.new) }
+    ensures not_hidden { result ≢ Status.Device → ¬ IsTrue (W.failed output.old) → ¬ IsTrue (W.failed output.new) }
+    ensures never_usage { result ≢ Status.Usage }
+{
+    match play_lines(alloc, script, sim, output) {
+        Ok(()) => close(sim, output, Status::Good),
+        Err(ScriptEnd::Unreadable) => close(sim, output, Status::Refused),
+        Err(ScriptEnd::Memory) => say(MEMORY, output, Status::Memory),
+        Err(ScriptEnd::Device) => Status::Device,
+    }
+}
+
+// Lets each line of a script happen, up to the end or to one that ends the script.
+fn play_lines<W: ByteOut>(
+    alloc: Global,
+    script: &[u8],
+    sim: &mut Sim,
+    output: &mut W,
+) -> Result<(), ScriptEnd>
+    ensures told { result ≢ Err ScriptEnd.Device → (text : List ℕ) × LinesGo result sim.old text sim.new
+        × Appends (W.written output.old) (W.written output.new) text }
+    ensures device { result ≡ Err ScriptEnd.Device → IsTrue (W.failed output.new) }
+    ensures not_hidden { result ≢ Err ScriptEnd.Device → ¬ IsTrue (W.failed output.old) → ¬ IsTrue (W.failed output.new) }
+{
+    laws::given_in_place();
+    let mut gather = Gather::new();
+    let mut rest = script;
+    let mut number: usize = 0;
+    let mut end = Ok(());
+    while !rest.is_empty() && end.is_ok() {
+        let (line, later) = first_line(rest);
+        rest = later;
+        number = number.saturating_add(1);
+        gather.room(TOLD_BYTES, output)?;
+        end = play_line(alloc, line, number, sim, &mut gather);
+    }
+    gather.flush(output)?;
+    end
+}
+
+// Lets one line of a script happen, and appends what comes of it.
+fn play_line(
+    alloc: Global,
+    line: &[u8],
+    number: usize,
+    sim: &mut Sim,
+    gather: &mut Gather,
+) -> Result<(), ScriptEnd>
+    requires { length gather.old.kept + TOLD_BYTES ≤ GATHERED_BYTES }
+    ensures told { (text : List ℕ) × LineGoes result sim.old text sim.new × (gather.new.kept ≡ gather.old.kept ++ text) }
+    ensures same_count { gather.new.taken ≡ gather.old.taken }
+    ensures no_device { result ≢ Err ScriptEnd.Device }
+{
+    match event_of(alloc, line) {
+        Ok(event) => match sim.step(event) {
+            Ok(note) => append_note(gather, note),
+            Err(refused) => {
+                if refused.why == Refusal::Memory {
+                    return Err(ScriptEnd::Memory);
+                }
+                append_refused(gather, refused.why);
+            }
+        },
+        Err(NoEvent::NoReceipt(fault)) => {
+            gather.extend(b"receipt ");
+            append_refusal(gather, fault);
+        }
+        Err(NoEvent::Unreadable) => {
+            append_unreadable(gather, number);
+            return Err(ScriptEnd::Unreadable);
+        }
+        Err(NoEvent::Memory) => return Err(ScriptEnd::Memory),
+    }
+    Ok(())
+}
+
+// Puts the closing part of a script's output.
+fn close<W: ByteOut>(sim: &Sim, output: &mut W, status: Status) -> Status
+    requires { (status ≡ Status.Good) ⊎ (status ≡ Status.Refused) }
+    ensures says { Says (outcome (W.written output.old) (W.written output.new) (W.failed output.new) result) (closing_text sim.now) status }
+    ensures stand { Stands sim.now.host.records sim.now.printer.sheet.items }
+    ensures device { result ≡ Status.Device → IsTrue (W.failed output.new) }
+    ensures not_hidden { result ≢ Status.Device → ¬ IsTrue (W.failed output.old) → ¬ IsTrue (W.failed output.new) }
+    ensures never_usage { result ≢ Status.Usage }
+{
+    match put_closing(sim, output) {
+        Ok(()) => status,
+        Err(_) => Status::Device,
+    }
+}
+
+// The paper, and how many receipts are recorded.
+fn put_closing<W: ByteOut>(sim: &Sim, output: &mut W) -> Result<(), Device>
+    ensures put { OnOk result (Appends (W.written output.old) (W.written output.new) (closing_text sim.now)) }
+    ensures stand { Stands sim.now.host.records sim.now.printer.sheet.items }
+    ensures failed { OnErr result (IsTrue (W.failed output.new)) }
+    ensures not_failed { OnOk result (¬ IsTrue (W.failed output.old) → ¬ IsTrue (W.failed output.new)) }
+{
+    laws::given_in_place();
+    let paper = sim.paper();
+    put_all(b"paper\n", output)?;
+    write_items(paper, output)?;
+    let mut gather = Gather::new();
+    append_records(&mut gather, sim.records().len());
+    gather.flush(output)
+}

@@ -1,0 +1,137 @@
+//! The job `render`: what a byte stream prints, as text. Each item goes out when it is printed.
+
+ghost use Rattle.std.specs.Prelude.{◌≡◌, ◌≢◌, ◌⊎◌, ◌+◌, ◌≤◌, ◌<◌, ◌++◌, [], ℕ, List, Option, OnOk, IfErr, IfSome, IsTrue};
+ghost use Rattle.std.proofs.Common.{ap, inl, inr, subst, sym, append-nil};
+ghost use Rattle.escpos_command.specs.declared.command.Command.{Command};
+ghost use Rattle.escpos_io.specs.Gather.{Carries};
+ghost use Rattle.escpos_paper.specs.ItemsText.{items_text};
+ghost use Rattle.escpos_paper.specs.Torn.{TornIs};
+ghost use Rattle.escpos_paper.specs.declared.paper.TheConstants.{MOST_ITEMS};
+ghost use Rattle.escpos_jobs.specs.declared.job.Obstacle.TheVariants as obstacle;
+ghost use Rattle.escpos_jobs.specs.Outcome.{IsFair, outcome};
+ghost use Rattle.escpos_jobs.specs.Render.{IsRendered, RendersInput, paper_shape};
+ghost use Rattle.escpos_jobs.specs.Obstacle.{device_is_no_memory, memory_is_no_device};
+
+use crate::job::{Job, Obstacle, run};
+use crate::lines::Last;
+use crate::status::Status;
+use escpos_command::Command;
+use escpos_decode::Consumer;
+use escpos_io::{ByteIn, ByteOut, Gather, Piece};
+use escpos_paper::{Item, Page};
+use std::alloc::Global;
+
+/// Reads a stream in hexadecimal from `input` and writes the paper that it prints to `output`, an item a
+/// line, and the last line of the listing after a fault or with a half command at the end.
+///
+/// `run` says which status comes when. At `Memory` the line `memory` follows the items of the commands so far. No item is
+/// kept once the next command is read.
+pub fn render<R: ByteIn, W: ByteOut>(alloc: Global, input: &mut R, output: &mut W) -> Status
+    ensures renders { IfSome (R.to_come input.old) (λ text. RendersInput (outcome (W.written output.old) (W.written output.new) (W.failed output.new) result) text) }
+    ensures fair { IsFair result (R.failed input.new) (W.failed output.old, W.failed output.new)
+        (R.pull_count input.old, R.pull_count input.new) }
+    ensures nothing_put { IsTrue (R.failed input.new) → output.new ≡ output.old }
+{
+    run::<R, W, Rendering>(alloc, input, output)
+}
+
+// The paper that the commands so far have printed on, of which all is torn off, and the text of it that isn't out yet.
+#[derive(Drop)]
+struct Rendering {
+    page: Page,
+    gather: Gather,
+}
+
+impl<W: ByteOut> Consumer<W> for Rendering {
+    type Refusal = Obstacle;
+
+    ghost took = { λ start now cs.
+        ((first : Option (List ℕ)) (before : List Command) → IsRendered first (W.written start.1) start.0.gather start.0.page.sheet before
+        → IsRendered first (W.written now.1) now.0.gather now.0.page.sheet (before ++ cs))
+        × (¬ IsTrue (W.failed start.1) → ¬ IsTrue (W.failed now.1)) };
+
+    ghost refused = { λ last now refusal.
+        ((refusal ≡ obstacle.Memory) × (last.0.page.room < MOST_ITEMS) × (now.1 ≡ last.1) × (now.0.gather ≡ last.0.gather) × (now.0.page.sheet ≡ last.0.page.sheet))
+        ⊎ ((refusal ≡ obstacle.Device) × IsTrue (W.failed now.1)) };
+
+    fn take(&mut self, command: Command, _place: usize, output: &mut W) -> Result<(), Obstacle> {
+        if self.page.apply(command).is_err() {
+            return Err(Obstacle::Memory);
+        }
+        match give_items(self.page.items(), &mut self.gather, output) {
+            Ok(()) => {
+                self.page.tear_off();
+                Ok(())
+            }
+            Err(why) => Err(why),
+        }
+    }
+
+    ghost nothing = { λ start. (
+      λ first before is. subst (IsRendered first (W.written start.1) start.0.gather start.0.page.sheet) (sym (append-nil before)) is,
+      λ well. well,
+    ) };
+}
+
+impl<W: ByteOut> Job<W> for Rendering {
+    ghost shape = { paper_shape };
+
+    ghost is_new = { λ rendering. ((sink : Option (List ℕ)) → Carries sink sink rendering.gather []) × TornIs rendering.page [] [] };
+
+    ghost gather = { λ rendering. rendering.gather };
+
+    fn new(alloc: Global) -> Self {
+        Rendering {
+            page: Page::new(alloc),
+            gather: Gather::new(),
+        }
+    }
+
+    fn last(count: usize, half: usize) -> Last {
+        if half == 0 {
+            Last::Nothing
+        } else {
+            Last::End { count, half }
+        }
+    }
+
+    fn into_gather(self) -> Gather {
+        self.gather
+    }
+
+    ghost carried = { λ start now cs new taken.
+        (taken.0 (W.written start.1) [] (record { torn = ap (λ s. s.items) new.1; sheet_is = new.1; carried = new.0 (W.written start.1) })).carried };
+
+    ghost well = { λ start now cs taken. taken.1 };
+
+    ghost no_memory = { λ start last now cs taken left. elim left [
+      | inl same ↦ (
+        λ first before is. subst (λ o. IsRendered first (W.written o) now.0.gather now.0.page.sheet (before ++ cs)) (sym same.2)
+            (subst (λ g. IsRendered first (W.written last.1) g now.0.page.sheet (before ++ cs)) (sym same.3)
+            (subst (λ s. IsRendered first (W.written last.1) last.0.gather s (before ++ cs)) (sym same.4) (taken.0 first before is))),
+        λ well. subst (λ o. ¬ IsTrue (W.failed o)) (sym same.2) (taken.1 well),
+      )
+      | inr failed ↦ absurd (memory_is_no_device failed.0)
+    ] };
+
+    ghost no_device = { λ last now left. elim left [ inl same ↦ absurd (device_is_no_memory same.0) | inr failed ↦ failed.1 ] };
+}
+
+// Gives the text of items to the gather.
+fn give_items<W: ByteOut>(
+    items: &[Item],
+    gather: &mut Gather,
+    output: &mut W,
+) -> Result<(), Obstacle>
+    ensures given { OnOk result ((first : Option (List ℕ)) (total : List ℕ) → Carries first (W.written output.old) gather.old total
+        → Carries first (W.written output.new) gather.new (total ++ items_text items.now)) }
+    ensures failed { IfErr result (λ why. (why ≡ obstacle.Device) × IsTrue (W.failed output.new)) }
+    ensures not_failed { OnOk result (¬ IsTrue (W.failed output.old) → ¬ IsTrue (W.failed output.new)) }
+{
+    for item in items {
+        if item.put(gather, output).is_err() {
+            return Err(Obstacle::Device);
+        }
+    }
+    Ok(())
+}

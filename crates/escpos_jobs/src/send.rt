@@ -1,0 +1,200 @@
+//! The word `send`: a receipt goes to a printer over TCP, and what became of it is told.
+//!
+//! What sending comes to is `send_link`'s, over any source and sink; here it is given a socket, and tells how it went.
+
+ghost use Rattle.std.specs.Prelude.{◌≡◌, ◌≢◌, ◌+◌, ◌≤◌, ◌++◌, [], length, max, IsTrue};
+ghost use Rattle.escpos_host.specs.Machine.{Down};
+ghost use Rattle.escpos_jobs.specs.declared.input.TheConstants.{INPUT_LIMIT};
+ghost use Rattle.escpos_jobs.specs.Outcome.{outcome};
+ghost use Rattle.escpos_jobs.specs.Send.{SendsAndTells, fault_line, is_memory, passed, recorded_line, sent_text, status_of_fault, status_of_sent};
+
+use crate::lines::append_number;
+use crate::outcome::{MEMORY, say};
+use crate::receipt_input::{read_receipt, refuse_input};
+use crate::status::Status;
+use escpos_command::LF;
+use escpos_host::{Host, HostError, Receipt, SendFault, Sent, send_link};
+use escpos_io::{ByteIn, ByteOut, GATHERED_BYTES, Gather, Incoming, Outgoing, laws};
+use std::alloc::Global;
+use std::net::{Net, SocketAddrV4, TcpStream};
+
+/// How many bytes of answers are read at most.
+pub const ANSWERS_LIMIT: u32 = 65_536;
+
+const _: () = prove!(ANSWERS_LIMIT == 65_536);
+
+/// More than what is printed of a receipt that was sent.
+const TEXT_BYTES: usize = 128;
+
+const _: () = prove!(TEXT_BYTES == 128);
+
+/// Reads a receipt in JSON from `input`, connects to the printer at `address`, and sends the receipt as `send_on` does.
+///
+/// Nothing is connected where there is no receipt: then the line goes out that says why, as for `encode`. Where there is no
+/// connection, the line is `no link` and the status `Device`.
+pub fn send_to<N: Net<Stream = TcpStream>, R: ByteIn, W: ByteOut>(
+    net: &N,
+    alloc: Global,
+    address: SocketAddrV4,
+    first: u32,
+    openings: u32,
+    input: &mut R,
+    output: &mut W,
+) -> Status
+    ensures never_usage { result ≢ Status.Usage }
+    ensures not_hidden { result ≢ Status.Device → ¬ IsTrue (W.failed output.old) → ¬ IsTrue (W.failed output.new) }
+    ensures all_read { result ≢ Status.Device → ¬ IsTrue (R.failed input.new) }
+    ensures nothing_put { IsTrue (R.failed input.new) → output.new ≡ output.old }
+    ensures pulls { R.pull_count input.new ≤ R.pull_count input.old + INPUT_LIMIT + 1 }
+{
+    let receipt = match read_receipt(alloc, input) {
+        Ok(receipt) => receipt,
+        Err(fault) => return refuse_input(fault, output),
+    };
+    match TcpStream::connect(net, address) {
+        Ok(stream) => send_on(alloc, &stream, first, openings, receipt, output),
+        Err(_) => say(NO_LINK, output, Status::Device),
+    }
+}
+
+/// What is printed where there is no connection.
+pub const NO_LINK: &[u8] = b"no link\n";
+
+/// Sends a receipt over a stream, with so many opening marks from the number `first` on, and puts what became of it and the
+/// next mark's number, as `send_over` does. A wait for the printer lasts as long as the stream.
+pub fn send_on<W: ByteOut>(
+    alloc: Global,
+    stream: &TcpStream,
+    first: u32,
+    openings: u32,
+    receipt: Receipt,
+    output: &mut W,
+) -> Status
+    ensures never_usage { result ≢ Status.Usage }
+    ensures not_hidden { result ≢ Status.Device → ¬ IsTrue (W.failed output.old) → ¬ IsTrue (W.failed output.new) }
+{
+    // the marks and the receipt go out at once; a stream that can't do so is used as it is
+    let _ = stream.set_nodelay(true);
+    let mut reader = Incoming::new(stream);
+    let mut writer = Outgoing::new(stream);
+    let marks = Marks { first, openings };
+    send_over(alloc, marks, receipt, &mut reader, &mut writer, output)
+}
+
+/// The numbers of the marks of a receipt.
+#[derive(Clone, Copy, Debug, PartialEq, Eq)]
+pub struct Marks {
+    /// The first one that is free.
+    pub first: u32,
+    /// How many opening marks are sent, one where it is 0.
+    pub openings: u32,
+}
+
+/// Sends a receipt and puts two lines: `recorded 0`, or `not recorded WHY`, or `memory` where that is why; then `next M`.
+///
+/// The status is `Good` where the receipt is recorded, `Refused` where the numbers of marks are used up, `Memory` for want of
+/// memory, and `Device` for every other reason, and where `output` has failed.
+pub fn send_over<R: ByteIn, A: ByteOut, W: ByteOut>(
+    alloc: Global,
+    marks: Marks,
+    receipt: Receipt,
+    reader: &mut R,
+    writer: &mut A,
+    output: &mut W,
+) -> Status
+    ensures sends { SendsAndTells (record { before = record { phase = Down; out = []; half = []; next = marks.first; records = []; left = [] }; receipt = receipt; openings = max marks.openings 1; most = ANSWERS_LIMIT })
+        (passed (R.to_come reader.old) (R.to_come reader.new) (A.written writer.old) (A.written writer.new))
+        (outcome (W.written output.old) (W.written output.new) (W.failed output.new) result) }
+    ensures never_usage { result ≢ Status.Usage }
+    ensures not_hidden { result ≢ Status.Device → ¬ IsTrue (W.failed output.old) → ¬ IsTrue (W.failed output.new) }
+{
+    laws::given_in_place();
+    let mut host = Host::new(alloc, marks.first);
+    let sent = send_link(
+        &mut host,
+        receipt,
+        marks.openings,
+        reader,
+        writer,
+        ANSWERS_LIMIT,
+    );
+    let mut gather = Gather::new();
+    append_sent(&mut gather, &sent, host.next_mark());
+    match gather.flush(output) {
+        Ok(()) => status_of_sent(&sent),
+        Err(_) => Status::Device,
+    }
+}
+
+// What became of the receipt, and the next mark's number.
+fn append_sent(gather: &mut Gather, sent: &Sent, next: u32)
+    requires { length gather.old.kept + TEXT_BYTES ≤ GATHERED_BYTES }
+    ensures kept { gather.new.kept ≡ gather.old.kept ++ sent_text sent.now next }
+    ensures same_count { gather.new.taken ≡ gather.old.taken }
+{
+    match sent {
+        Sent::Recorded(number) => append_recorded(gather, *number),
+        Sent::NotRecorded { why, .. } => append_fault(gather, *why),
+    }
+    gather.extend(b"next ");
+    append_number(gather, next as usize);
+    gather.push(LF);
+}
+
+// The line of a receipt that is recorded.
+fn append_recorded(gather: &mut Gather, number: usize)
+    requires { length gather.old.kept + 64 ≤ GATHERED_BYTES }
+    ensures kept { gather.new.kept ≡ gather.old.kept ++ recorded_line number }
+    ensures same_count { gather.new.taken ≡ gather.old.taken }
+    ensures short { length (recorded_line number) ≤ 64 }
+{
+    gather.extend(b"recorded ");
+    append_number(gather, number);
+    gather.push(LF);
+}
+
+// The line that says why a receipt isn't recorded.
+fn append_fault(gather: &mut Gather, why: SendFault)
+    requires { length gather.old.kept + 64 ≤ GATHERED_BYTES }
+    ensures kept { gather.new.kept ≡ gather.old.kept ++ fault_line why }
+    ensures same_count { gather.new.taken ≡ gather.old.taken }
+    ensures short { length (fault_line why) ≤ 64 }
+{
+    if is_memory(why) {
+        gather.extend(MEMORY);
+    } else {
+        gather.extend(b"not recorded ");
+        gather.extend(why.name().as_bytes());
+        gather.push(LF);
+    }
+}
+
+/// Whether a receipt isn't recorded for want of memory.
+pub fn is_memory(why: SendFault) -> bool
+    ensures { result ≡ is_memory why }
+{
+    match why {
+        SendFault::Refused(HostError::Memory) => true,
+        _ => false,
+    }
+}
+
+// The status of what became of a receipt.
+fn status_of_sent(sent: &Sent) -> Status
+    ensures { result ≡ status_of_sent sent.now }
+{
+    match sent {
+        Sent::Recorded(_) => Status::Good,
+        Sent::NotRecorded { why, .. } => status_of_fault(*why),
+    }
+}
+
+fn status_of_fault(why: SendFault) -> Status
+    ensures { result ≡ status_of_fault why }
+{
+    match why {
+        SendFault::Refused(HostError::MarksUsedUp) => Status::Refused,
+        SendFault::Refused(HostError::Memory) => Status::Memory,
+        _ => Status::Device,
+    }
+}

@@ -1,0 +1,335 @@
+//! Each call of the words over TCP that may answer want of memory, where any one growth is refused; `growth_tests` says how.
+//!
+//! They are over 127.0.0.1 and in one thread, as in `link_tests`. Where memory is refused the link is used up, and a new one is
+//! made.
+
+use crate::growth_tests::printer_at_last;
+use crate::host_tests::{S, receipt_of};
+use crate::job_growth_tests::is_told;
+use crate::link_tests::{listens, says};
+use crate::send_tests::receipt_at_last;
+use escpos_host::Receipt;
+use escpos_io::{MemoryIn, MemoryOut};
+use escpos_jobs::outcome::MEMORY;
+use escpos_jobs::paper_text::PaperText;
+use escpos_jobs::send::Marks;
+use escpos_jobs::status::Status;
+use escpos_printer::{LinkEnd, Printer};
+use std::alloc::Global;
+use std::io;
+use std::io::Write;
+use std::net::{Net, Shutdown, SocketAddr, SocketAddrV4, TcpListener, TcpStream};
+use std::process::Abort;
+
+// The link of a printer: a request and `STREAM`; the line and the paper that are put of it; and its answer.
+const LINK: &[u8] = b"\x10\x04\x01Hi\n\x1Dk\x035512345\x00\x1Dv0\x00\x01\x00\x02\x00\xF0\x0F";
+
+const EMULATED: &[u8] =
+    b"link 1 read 27 consumed 27 written 1 Ended\nrow left Hi\nfeed 1\nbars left ean8 162 3 none A 55123457\nraster left normal 1 2 f00f\n";
+
+// Serves a link over memory. Answers no where memory is refused: then the line says so.
+fn serves_and_tells(rt: &impl Abort, alloc: Global, printer: &mut Printer) -> bool {
+    let mut paper = PaperText::new(alloc);
+    let (mut room, mut printed) = ([0; 16], [0; 256]);
+    let mut reader = MemoryIn::new(LINK, 512);
+    let mut writer = MemoryOut::new(&mut room);
+    let mut output = MemoryOut::new(&mut printed);
+    let served = escpos_jobs::emulate::serve_and_tell(
+        printer,
+        &mut paper,
+        1,
+        &mut reader,
+        &mut writer,
+        &mut output,
+    );
+    let served = served.expect(rt, "a line");
+    assert!(rt; Some(writer.written()) == b"\x12".get(..served.written));
+    if served.end == LinkEnd::Memory {
+        assert!(rt; served.consumed < LINK.len());
+        assert!(rt; output.written().starts_with(b"link 1 read 27 consumed "));
+        assert!(rt; output.written().ends_with(b" Memory\n"));
+        return false;
+    }
+    assert_eq!(rt; served.written, 1);
+    assert!(rt; EMULATED.starts_with(output.written()));
+    assert_eq!(rt; output.written().len(), 43);
+    // what isn't torn off for want of memory is still on the paper
+    let torn = paper.as_slice().len();
+    assert!(rt; paper.put_above(printer.items(), &mut output).is_ok());
+    assert_eq!(rt; output.written(), EMULATED);
+    assert!(rt; torn == 0 || printer.items().is_empty());
+    true
+}
+
+#[test]
+fn serve_and_tell_refused(rt: HostRuntime) {
+    let mut printer = printer_at_last(&rt, rt.alloc());
+    if !serves_and_tells(&rt, rt.alloc(), &mut printer) {
+        let mut printer = printer_at_last(&rt, rt.alloc());
+        assert!(&rt; serves_and_tells(&rt, rt.alloc(), &mut printer));
+    }
+}
+
+// A receipt was sent with one opening mark: it is recorded. Answers no where memory is refused: that is all that is said, with
+// the next mark.
+fn is_sent(rt: &impl Abort, put: &[u8], status: Status) -> bool {
+    if status == Status::Memory {
+        assert!(rt; put.starts_with(b"memory\nnext "));
+        assert_eq!(rt; put.len(), 14);
+        return false;
+    }
+    assert_eq!(rt; put, b"recorded 0\nnext 2\n".as_slice());
+    assert_eq!(rt; status, Status::Good);
+    true
+}
+
+fn sends_over(rt: &impl Abort, alloc: Global, receipt: Receipt) -> bool {
+    let (mut room, mut printed) = ([0; 64], [0; 32]);
+    let mut reader = MemoryIn::new(b"\x37\x220000\x00\x37\x220001\x00", 7);
+    let mut writer = MemoryOut::new(&mut room);
+    let mut output = MemoryOut::new(&mut printed);
+    let marks = Marks {
+        first: 0,
+        openings: 1,
+    };
+    let status = escpos_jobs::send::send_over(
+        alloc,
+        marks,
+        receipt,
+        &mut reader,
+        &mut writer,
+        &mut output,
+    );
+    is_sent(rt, output.written(), status)
+}
+
+#[test]
+fn send_over_refused(rt: HostRuntime) {
+    let receipt = receipt_at_last(&rt, rt.alloc());
+    if !sends_over(&rt, rt.alloc(), receipt) {
+        let receipt = receipt_of(&rt, rt.alloc(), S.0);
+        assert!(&rt; sends_over(&rt, rt.alloc(), receipt));
+    }
+}
+
+// A client that has written `LINK` and ends its writing.
+fn client<N: Net<Stream = TcpStream, Listener = TcpListener> + Abort>(
+    rt: &N,
+    address: SocketAddrV4,
+) -> TcpStream {
+    let mut stream = TcpStream::connect(rt, address).expect(rt, "no link");
+    says(rt, &mut stream, LINK);
+    stream
+}
+
+// A printer has served one link. Answers no where memory is refused: the line of the link says so if it has one, and the last
+// line does.
+fn is_emulated(rt: &impl Abort, put: &[u8], status: Status) -> bool {
+    if status == Status::Memory {
+        assert!(rt; put.ends_with(MEMORY));
+        assert!(rt; put == MEMORY || put.starts_with(b"link 1 read 27 consumed "));
+        return false;
+    }
+    assert_eq!(rt; put, EMULATED);
+    assert_eq!(rt; status, Status::Good);
+    true
+}
+
+fn emulates_on(rt: &impl Abort, alloc: Global, listener: &TcpListener) -> bool {
+    let mut room = [0; 256];
+    let mut output = MemoryOut::new(&mut room);
+    let status = escpos_jobs::emulate::emulate_on(alloc, listener, 1, &mut output);
+    is_emulated(rt, output.written(), status)
+}
+
+#[test]
+fn emulate_on_refused(rt: HostRuntime) {
+    let (listener, address) = listens(&rt);
+    let _first = client(&rt, address);
+    if !emulates_on(&rt, rt.alloc(), &listener) {
+        let _second = client(&rt, address);
+        assert!(&rt; emulates_on(&rt, rt.alloc(), &listener));
+    }
+}
+
+// A network with this listener and this client, whatever the address.
+#[derive(Drop)]
+struct Standing<'a> {
+    listener: &'a TcpListener,
+    client: &'a TcpStream,
+}
+
+impl Net for Standing<'_> {
+    type Stream = TcpStream;
+
+    type Listener = TcpListener;
+
+    fn bind(&self, _addr: SocketAddr) -> io::Result<TcpListener> {
+        self.listener.try_clone()
+    }
+
+    fn connect(&self, _addr: SocketAddr) -> io::Result<TcpStream> {
+        self.client.try_clone()
+    }
+}
+
+fn emulates(rt: &impl Abort, alloc: Global, net: &Standing, address: SocketAddrV4) -> bool {
+    let mut room = [0; 256];
+    let mut output = MemoryOut::new(&mut room);
+    let status = escpos_jobs::emulate::emulate(net, alloc, address, 1, &mut output);
+    is_emulated(rt, output.written(), status)
+}
+
+#[test]
+fn emulate_refused(rt: HostRuntime) {
+    let (listener, address) = listens(&rt);
+    let first = client(&rt, address);
+    let net = Standing {
+        listener: &listener,
+        client: &first,
+    };
+    if !emulates(&rt, rt.alloc(), &net, address) {
+        let _second = client(&rt, address);
+        assert!(&rt; emulates(&rt, rt.alloc(), &net, address));
+    }
+}
+
+// A host's end of a link whose other end has written the answers to the marks 0 and 1, with a piece of status bytes between
+// them, and ends its writing.
+fn answered<N: Net<Stream = TcpStream, Listener = TcpListener> + Abort>(
+    rt: &N,
+    (listener, address): (&TcpListener, SocketAddrV4),
+) -> (TcpStream, TcpStream) {
+    let host = TcpStream::connect(rt, address).expect(rt, "no link");
+    let (mut printer, _) = listener.accept().expect(rt, "no link");
+    printer
+        .write_all(b"\x37\x220000\x00")
+        .expect(rt, "can't write");
+    for _ in 0..57 {
+        printer.write_all(b"\x12").expect(rt, "can't write");
+    }
+    printer
+        .write_all(b"\x37\x220001\x00")
+        .expect(rt, "can't write");
+    printer.shutdown(Shutdown::Write).expect(rt, "can't end");
+    (host, printer)
+}
+
+fn sends_on(rt: &impl Abort, alloc: Global, stream: &TcpStream) -> bool {
+    let receipt = receipt_at_last(rt, alloc);
+    let mut room = [0; 32];
+    let mut output = MemoryOut::new(&mut room);
+    let status = escpos_jobs::send::send_on(alloc, stream, 0, 1, receipt, &mut output);
+    is_sent(rt, output.written(), status)
+}
+
+#[test]
+fn send_on_refused(rt: HostRuntime) {
+    let (listener, address) = listens(&rt);
+    let (host, _printer) = answered(&rt, (&listener, address));
+    if !sends_on(&rt, rt.alloc(), &host) {
+        let (host, _printer) = answered(&rt, (&listener, address));
+        assert!(&rt; sends_on(&rt, rt.alloc(), &host));
+    }
+}
+
+// The same of a receipt that is read first. Where memory is refused before there is one, `memory` is all that is said.
+fn sends_to(rt: &impl Abort, alloc: Global, net: &Standing, address: SocketAddrV4) -> bool {
+    let mut room = [0; 32];
+    let mut source = MemoryIn::new(S.0, 7);
+    let mut output = MemoryOut::new(&mut room);
+    let status = escpos_jobs::send::send_to(net, alloc, address, 0, 1, &mut source, &mut output);
+    if output.written() == MEMORY {
+        assert_eq!(rt; status, Status::Memory);
+        return false;
+    }
+    is_sent(rt, output.written(), status)
+}
+
+#[test]
+fn send_to_refused(rt: HostRuntime) {
+    let (listener, address) = listens(&rt);
+    let (host, _printer) = answered(&rt, (&listener, address));
+    let net = Standing {
+        listener: &listener,
+        client: &host,
+    };
+    if !sends_to(&rt, rt.alloc(), &net, address) {
+        let (host, _printer) = answered(&rt, (&listener, address));
+        let net = Standing {
+            listener: &listener,
+            client: &host,
+        };
+        assert!(&rt; sends_to(&rt, rt.alloc(), &net, address));
+    }
+}
+
+// What goes round to a printer and back.
+const ROUND: (&[u8], Status) = (b"row left Hi\nfeed 1\nrecorded 0\n", Status::Good);
+
+fn goes_round<N: Net<Stream = TcpStream, Listener = TcpListener> + Abort>(
+    rt: &N,
+    alloc: Global,
+) -> bool {
+    let mut room = [0; 64];
+    let mut source = MemoryIn::new(S.0, 7);
+    let mut output = MemoryOut::new(&mut room);
+    let status = escpos_jobs::both_ends::loop_receipt(rt, alloc, &mut source, &mut output);
+    is_told(rt, (output.written(), status), ROUND)
+}
+
+#[test]
+fn loop_receipt_refused(rt: HostRuntime) {
+    if !goes_round(&rt, rt.alloc()) {
+        assert!(&rt; goes_round(&rt, rt.alloc()));
+    }
+}
+
+fn ends_meet<N: Net<Stream = TcpStream, Listener = TcpListener> + Abort>(
+    rt: &N,
+    alloc: Global,
+) -> bool {
+    let receipt = receipt_at_last(rt, alloc);
+    let mut room = [0; 64];
+    let mut output = MemoryOut::new(&mut room);
+    let status = escpos_jobs::both_ends::both_ends(rt, alloc, receipt, &mut output);
+    is_told(rt, (output.written(), status), ROUND)
+}
+
+#[test]
+fn both_ends_refused(rt: HostRuntime) {
+    if !ends_meet(&rt, rt.alloc()) {
+        assert!(&rt; ends_meet(&rt, rt.alloc()));
+    }
+}
+
+fn meets<N: Net<Stream = TcpStream, Listener = TcpListener> + Abort>(
+    rt: &N,
+    alloc: Global,
+    printer: &mut Printer,
+) -> bool {
+    let receipt = receipt_at_last(rt, alloc);
+    let (listener, address) = listens(rt);
+    let near = TcpStream::connect(rt, address).expect(rt, "no link");
+    let (far, _) = listener.accept().expect(rt, "no link");
+    let mut room = [0; 64];
+    let mut output = MemoryOut::new(&mut room);
+    let status = escpos_jobs::both_ends::both_ends_of(
+        alloc,
+        &near,
+        &far,
+        printer,
+        receipt,
+        &mut output,
+    );
+    is_told(rt, (output.written(), status), ROUND)
+}
+
+#[test]
+fn both_ends_of_refused(rt: HostRuntime) {
+    let mut printer = printer_at_last(&rt, rt.alloc());
+    if !meets(&rt, rt.alloc(), &mut printer) {
+        let mut printer = printer_at_last(&rt, rt.alloc());
+        assert!(&rt; meets(&rt, rt.alloc(), &mut printer));
+    }
+}
