@@ -1,15 +1,14 @@
 //! The program of ESC/POS receipts: one word for each job.
 //!
-//! `main` joins the words of the command line, the standard streams and the exit status. What the words mean and what the
-//! program does for them is escpos_jobs, whose modules are those of the program too.
+//! `main` joins the words of the command line, the standard streams and the exit status. What the words mean is
+//! escpos_words, and what the program does for them escpos_jobs; their modules are those of the program too.
 #![tactic(auto)]
 
 use escpos_io::{Incoming, Outgoing};
-use escpos_jobs::perform::perform;
-use escpos_jobs::task::{NoTask, Task, task_of, without_name};
-pub use escpos_jobs::{
-    both_ends, check, emulate, encode, perform, play, render, send, status, task,
-};
+pub use escpos_jobs::{both_ends, check, emulate, encode, play, render, send, status};
+use escpos_words::perform::perform;
+use escpos_words::task::{NoTask, Task, task_of, without_name};
+pub use escpos_words::{perform, task};
 use std::process::ExitCode;
 use std::{env, io};
 

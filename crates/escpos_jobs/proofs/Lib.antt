@@ -1,6 +1,4 @@
 pub mod CheckDigits
-pub mod TaskValues
-pub mod TaskWords
 pub mod Mapped
 pub mod Listings
 pub mod Renderings

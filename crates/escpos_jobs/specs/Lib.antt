@@ -7,13 +7,11 @@ pub mod Lines
 pub mod Report
 pub mod Check
 pub mod Render
-pub mod Task
 pub mod Obstacle
 pub mod Refusal
 pub mod Encode
 pub mod Links
 pub mod Send
-pub mod Perform
 pub mod Broken
 pub mod Told
 pub mod Play

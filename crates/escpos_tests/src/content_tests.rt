@@ -3,7 +3,7 @@
 use crate::job_tests::{Row, performs, performs_at_length, performs_rows};
 use escpos_io::MemoryIn;
 use escpos_jobs::status::Status;
-use escpos_jobs::task::Task;
+use escpos_words::task::Task;
 use std::test::Fail;
 
 const CHECKED: [Row; 25] = [

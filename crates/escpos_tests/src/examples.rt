@@ -5,7 +5,7 @@
 use crate::job_tests::performs;
 use escpos_io::MemoryIn;
 use escpos_jobs::status::Status;
-use escpos_jobs::task::Task;
+use escpos_words::task::Task;
 
 // A receipt: the stream in hexadecimal, its listing, and its paper as text.
 #[derive(Drop)]

@@ -15,8 +15,8 @@ use escpos_jobs::outcome::MEMORY;
 use escpos_jobs::receipt_input::{NoReceipt, read_receipt};
 use escpos_jobs::script::{NoEvent, event_of};
 use escpos_jobs::status::Status;
-use escpos_jobs::task::{NoTask, Task, task_of};
 use escpos_link::Event;
+use escpos_words::task::{NoTask, Task, task_of};
 use std::alloc::Global;
 use std::net::{Ipv4Addr, SocketAddrV4};
 use std::process::Abort;
@@ -150,7 +150,13 @@ fn performs(
     let mut room = [0; 512];
     let mut source = MemoryIn::new(text, 64);
     let mut sink = MemoryOut::new(&mut room);
-    let status = escpos_jobs::perform::perform(&NoNetwork, alloc, Ok(task), &mut source, &mut sink);
+    let status = escpos_words::perform::perform(
+        &NoNetwork,
+        alloc,
+        Ok(task),
+        &mut source,
+        &mut sink,
+    );
     is_told(rt, (sink.written(), status), wanted)
 }
 

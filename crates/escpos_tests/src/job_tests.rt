@@ -1,10 +1,10 @@
 //! What no clause says: that calls succeed, the texts, and the worked rows through the jobs.
 use escpos_io::{ByteIn, MemoryIn, MemoryOut, Outgoing};
 use escpos_jobs::hexadecimal::{HexFault, bytes_of};
-use escpos_jobs::perform::perform;
 use escpos_jobs::status::Status;
-use escpos_jobs::task::{NoTask, Task};
-use escpos_jobs::usage::{HELP, USAGE};
+use escpos_words::perform::perform;
+use escpos_words::task::{NoTask, Task};
+use escpos_words::usage::{HELP, USAGE};
 use std::alloc::Global;
 use std::io;
 use std::net::{Net, SocketAddr, TcpListener, TcpStream};

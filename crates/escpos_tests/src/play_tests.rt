@@ -3,7 +3,7 @@ use crate::job_tests::{Row, performs, performs_rows};
 use crate::receipt_edge_tests::joined;
 use escpos_io::MemoryIn;
 use escpos_jobs::status::Status;
-use escpos_jobs::task::Task;
+use escpos_words::task::Task;
 use std::alloc::Global;
 use std::process::Abort;
 use std::rt::HostRuntime;

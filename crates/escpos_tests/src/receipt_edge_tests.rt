@@ -3,10 +3,10 @@
 use crate::job_tests::NoNetwork;
 use escpos_host::{JsonError, JsonFault, ReceiptFault};
 use escpos_io::{MemoryIn, MemoryOut, Outgoing};
-use escpos_jobs::perform::perform;
 use escpos_jobs::status::Status;
-use escpos_jobs::task::Task;
-use escpos_jobs::usage::HELP;
+use escpos_words::perform::perform;
+use escpos_words::task::Task;
+use escpos_words::usage::HELP;
 use std::alloc::Global;
 use std::process::Abort;
 

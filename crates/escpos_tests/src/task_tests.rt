@@ -1,5 +1,5 @@
 //! The words of the command line, and what they ask for.
-use escpos_jobs::task::{NoTask, Task, task_of};
+use escpos_words::task::{NoTask, Task, task_of};
 use std::alloc::Global;
 use std::net::{Ipv4Addr, SocketAddrV4};
 use std::process::Abort;

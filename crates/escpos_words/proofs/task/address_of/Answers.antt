@@ -3,8 +3,8 @@ use Rattle.std.specs.Prelude.{IsSomeAnd}
 use Rattle.std.proofs.lemmas.Result.{IfOk-weaker}
 use Rattle.clap.specs.Words.{Text, found_of}
 use Rattle.clap.proofs.WalkLemmas.{first_value-rows}
-use Rattle.escpos_jobs.specs.Task.{IsAddress}
-use Rattle.escpos_jobs.proofs.task.address_of.Goals as goal
+use Rattle.escpos_words.specs.Task.{IsAddress}
+use Rattle.escpos_words.proofs.task.address_of.Goals as goal
 
 pub returns-in-Some-clause-read : goal.returns-in-Some-clause-read
 returns-in-Some-clause-read c =

@@ -1,6 +1,6 @@
 use Rattle.std.proofs.Common.{Some}
-use Rattle.escpos_jobs.proofs.TaskValues.{number_in}
-use Rattle.escpos_jobs.proofs.task.first_mark_of.Goals as goal
+use Rattle.escpos_words.proofs.TaskValues.{number_in}
+use Rattle.escpos_words.proofs.task.first_mark_of.Goals as goal
 
 pub returns-in_err-number_of-clause-taken : goal.returns-in_err-number_of-clause-taken
 returns-in_err-number_of-clause-taken c = λ n h below.

@@ -1,8 +1,8 @@
 use Rattle.std.proofs.Common.{◌∙◌, Ok, ap, sym, inl}
 use Rattle.std.proofs.lemmas.Slice.Eq.{bytes_eq-Decides}
 use Rattle.std.specs.Net.Text.{socket_v4_text}
-use Rattle.escpos_jobs.proofs.TaskValues.{address_unique}
-use Rattle.escpos_jobs.proofs.task.address_in.Goals as goal
+use Rattle.escpos_words.proofs.TaskValues.{address_unique}
+use Rattle.escpos_words.proofs.task.address_in.Goals as goal
 
 pub returns-in-Ok-format-clause-taken : goal.returns-in-Ok-format-clause-taken
 returns-in-Ok-format-clause-taken c = λ a h. inl (ap Ok (address_unique _ _ a c.in-Ok.ensures.value h))

@@ -1,5 +1,5 @@
-use Rattle.escpos_jobs.proofs.TaskValues.{or_number}
-use Rattle.escpos_jobs.proofs.task.count_of.Goals as goal
+use Rattle.escpos_words.proofs.TaskValues.{or_number}
+use Rattle.escpos_words.proofs.task.count_of.Goals as goal
 
 pub returns-in_err-number_of-clause-taken : goal.returns-in_err-number_of-clause-taken
 returns-in_err-number_of-clause-taken c = λ n h low high.

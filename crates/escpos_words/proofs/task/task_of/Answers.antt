@@ -3,10 +3,10 @@ use Rattle.std.specs.Prelude.{option_map}
 use Rattle.std.proofs.lemmas.Result.{IfOk-weaker, err_from_is_err_and}
 use Rattle.std.proofs.lemmas.List.{length-map}
 use Rattle.clap.specs.Words.{fault_of, found_of, rows_of}
-use Rattle.escpos_jobs.specs.Task.{Asks, command_words, name_of}
-use Rattle.escpos_jobs.proofs.TaskWords.{help_is_among, help_met, help_passes, is_found, is_help, is_word, met_by, none_found, plain_words, refused_for_help, refused_for_memory, same_name, task_met, task_passes}
-use Rattle.escpos_jobs.specs.declared.task.NoTask.TheVariants.{Help}
-use Rattle.escpos_jobs.proofs.task.task_of.Goals as goal
+use Rattle.escpos_words.specs.Task.{Asks, command_words, name_of}
+use Rattle.escpos_words.proofs.TaskWords.{help_is_among, help_met, help_passes, is_found, is_help, is_word, met_by, none_found, plain_words, refused_for_help, refused_for_memory, same_name, task_met, task_passes}
+use Rattle.escpos_words.specs.declared.task.NoTask.TheVariants.{Help}
+use Rattle.escpos_words.proofs.task.task_of.Goals as goal
 
 pub returns-in_err-matches-clause-named : goal.returns-in_err-matches-clause-named
 returns-in_err-matches-clause-named g c = λ task alone e.

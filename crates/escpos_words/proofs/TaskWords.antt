@@ -15,11 +15,11 @@ use Rattle.clap.specs.declared.builder.command.Command.{Command}
 use Rattle.clap.specs.declared.builder.command.Command.TheViews.{out-Command}
 use Rattle.clap.specs.declared.parser.matches.ArgMatches.{ArgMatches}
 use Rattle.clap.specs.declared.parser.matches.ArgMatches.TheViews.{out-ArgMatches, out-SubCommand}
-use Rattle.escpos_jobs.specs.Task.{AsksBy, IsPlain, command_words, help_words, name_of, no_task_of, words_of}
-use Rattle.escpos_jobs.specs.declared.task.NoTask.{NoTask}
-use Rattle.escpos_jobs.specs.declared.task.NoTask.TheVariants.{Help, Memory}
-use Rattle.escpos_jobs.specs.declared.task.Task.{Task}
-use Rattle.escpos_jobs.specs.declared.task.Task.TheVariants.{Check, Render, Encode, Play, Emulate, Send, Loop}
+use Rattle.escpos_words.specs.Task.{AsksBy, IsPlain, command_words, help_words, name_of, no_task_of, words_of}
+use Rattle.escpos_words.specs.declared.task.NoTask.{NoTask}
+use Rattle.escpos_words.specs.declared.task.NoTask.TheVariants.{Help, Memory}
+use Rattle.escpos_words.specs.declared.task.Task.{Task}
+use Rattle.escpos_words.specs.declared.task.Task.TheVariants.{Check, Render, Encode, Play, Emulate, Send, Loop}
 use Rattle.std.proofs.lemmas.Slice.Eq.{bytes_eq-Decides}
 
 pub is_exact : is_simple_and_free command_words ≡ true

@@ -2,9 +2,9 @@ use Rattle.std.proofs.Common.{Ok, Err, ap, sym, subst}
 use Rattle.std.specs.Str.Parse.{ParsesUnsigned, ExplainsUnsignedError, HasUnsignedDigitsIfOk}
 use Rattle.clap.specs.Words.{found_of}
 use Rattle.clap.proofs.WalkLemmas.{one_text-rows}
-use Rattle.escpos_jobs.specs.Task.{IsNumberIn}
-use Rattle.escpos_jobs.proofs.TaskValues.{number_unique, reads_number}
-use Rattle.escpos_jobs.proofs.task.number_of.Goals as goal
+use Rattle.escpos_words.specs.Task.{IsNumberIn}
+use Rattle.escpos_words.proofs.TaskValues.{number_unique, reads_number}
+use Rattle.escpos_words.proofs.task.number_of.Goals as goal
 
 pub returns-in-Ok-clause-read : goal.returns-in-Ok-clause-read
 returns-in-Ok-clause-read c =

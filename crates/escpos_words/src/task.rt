@@ -1,11 +1,11 @@
 //! The words of the command line: which task they name, and what is said where they name none.
 
-ghost use Rattle.std.specs.Prelude.{◌≡◌, ◌≢◌, ◌⊎◌, ◌≤◌, ◌<◌, ℕ, Option, [], ◌∷◌, IfErr, IfOk, IsSomeAnd, Contains, codes, drop, map};
+ghost use Rattle.std.specs.Prelude.{◌≡◌, ◌≢◌, ◌⊎◌, ◌≤◌, ◌<◌, ℕ, Option, [], ◌∷◌, false, IfErr, IfOk, IsSomeAnd, Contains, codes, drop, map};
 ghost use Rattle.std.specs.declared.net.socket_addr.SocketAddrV4.{SocketAddrV4};
-ghost use Rattle.clap.specs.Words.{HasKind, IsAmong, app_of, fault_of, first_of, found_of, kind_of, one_of, rows_of, subcommand_of, subcommand_rows_of};
+ghost use Rattle.clap.specs.Words.{HasKind, IsAmong, app_of, fault_of, first_of, found_of, kind_of, one_of, rows_of, rule_of, subcommand_of, subcommand_rows_of};
 ghost use Rattle.escpos_command.specs.Digits.{mark_count};
-ghost use Rattle.escpos_jobs.specs.declared.task.Task.{Task};
-ghost use Rattle.escpos_jobs.specs.Task.{Asks, AsksBy, InRange, IsAddress, IsNumber, IsNumberIn, IsNumberOr, IsPlain, command_words, emulate_words, help_words, name_of, no_task_of, send_words, words_of};
+ghost use Rattle.escpos_words.specs.declared.task.Task.{Task};
+ghost use Rattle.escpos_words.specs.Task.{Asks, AsksBy, InRange, IsAddress, IsNumber, IsNumberIn, IsNumberOr, IsPlain, address_rule, command_words, emulate_words, help_words, name_of, no_task_of, option_rule, send_words, stream_words, words_of};
 
 use clap::error::ErrorKind;
 use clap::{Arg, ArgAction, ArgMatches, Command};
@@ -255,8 +255,29 @@ fn matches_of<'a, S: AsStr>(alloc: Global, words: &'a [S]) -> Result<ArgMatches<
     ensures found { IfOk result (λ matches. subcommand_rows_of matches ≡ subcommand_of command_words (map S.text words.entry.now)) }
     ensures refused { IfErr result (HasKind (fault_of command_words (map S.text words.entry.now))) }
 {
+    let command = command_of_all(alloc)?;
+    command.try_get_matches_from(words)
+}
+
+// The program's words.
+fn command_of_all<'a>(alloc: Global) -> Result<Command<'a>, AllocError>
+    ensures shape { IfOk result (λ command. app_of command ≡ command_words) }
+{
+    let streams = command_of_streams(alloc)?;
     let emulate = emulate_command(alloc)?;
+    let links = streams.subcommand(emulate)?;
     let send = send_command(alloc)?;
+    let command = links
+        .subcommand(send)?
+        .subcommand(Command::new(alloc, "loop"))?
+        .subcommand(Command::new(alloc, "help"))?;
+    Ok(command)
+}
+
+// Those of the words that need no network.
+fn command_of_streams<'a>(alloc: Global) -> Result<Command<'a>, AllocError>
+    ensures shape { IfOk result (λ command. app_of command ≡ stream_words) }
+{
     let command = Command::new(alloc, "escpos_cli")
         .no_binary_name(true)
         .disable_help_subcommand(true)
@@ -264,25 +285,17 @@ fn matches_of<'a, S: AsStr>(alloc: Global, words: &'a [S]) -> Result<ArgMatches<
         .subcommand(Command::new(alloc, "check"))?
         .subcommand(Command::new(alloc, "render"))?
         .subcommand(Command::new(alloc, "encode"))?
-        .subcommand(Command::new(alloc, "play"))?
-        .subcommand(emulate)?
-        .subcommand(send)?
-        .subcommand(Command::new(alloc, "loop"))?
-        .subcommand(Command::new(alloc, "help"))?;
-    command.try_get_matches_from(words)
+        .subcommand(Command::new(alloc, "play"))?;
+    Ok(command)
 }
 
 // What may follow `emulate`.
 fn emulate_command<'a>(alloc: Global) -> Result<Command<'a>, AllocError>
     ensures shape { IfOk result (λ command. (app_of command).top ≡ emulate_words) }
 {
-    let address = Arg::new(alloc, "address")
-        .required(true)
-        .action(ArgAction::Set);
-    let links = Arg::new(alloc, "links")
-        .long("links")
-        .action(ArgAction::Set);
-    let command = Command::new(alloc, "emulate").arg(address)?.arg(links)?;
+    let command = Command::new(alloc, "emulate")
+        .arg(address(alloc))?
+        .arg(option(alloc, "links", false))?;
     Ok(command)
 }
 
@@ -290,19 +303,30 @@ fn emulate_command<'a>(alloc: Global) -> Result<Command<'a>, AllocError>
 fn send_command<'a>(alloc: Global) -> Result<Command<'a>, AllocError>
     ensures shape { IfOk result (λ command. (app_of command).top ≡ send_words) }
 {
-    let address = Arg::new(alloc, "address")
-        .required(true)
-        .action(ArgAction::Set);
-    let first = Arg::new(alloc, "first")
-        .long("first")
-        .required(true)
-        .action(ArgAction::Set);
-    let openings = Arg::new(alloc, "openings")
-        .long("openings")
-        .action(ArgAction::Set);
     let command = Command::new(alloc, "send")
-        .arg(address)?
-        .arg(first)?
-        .arg(openings)?;
+        .arg(address(alloc))?
+        .arg(option(alloc, "first", true))?
+        .arg(option(alloc, "openings", false))?;
     Ok(command)
+}
+
+// A value that has no name before it, and has to be given.
+fn address<'a>(alloc: Global) -> Arg<'a>
+    ensures rule { rule_of result ≡ address_rule }
+    ensures local { result.global ≡ false }
+{
+    Arg::new(alloc, "address")
+        .required(true)
+        .action(ArgAction::Set)
+}
+
+// A value that follows this name, and two dashes before it.
+fn option<'a>(alloc: Global, name: &'a str, required: bool) -> Arg<'a>
+    ensures rule { rule_of result ≡ option_rule name.entry.now required }
+    ensures local { result.global ≡ false }
+{
+    Arg::new(alloc, name)
+        .long(name)
+        .required(required)
+        .action(ArgAction::Set)
 }

@@ -1,5 +1,5 @@
 -- The words of the command line, and what they ask for.
-use Rattle.std.specs.Prelude.{◌≡◌, ◌<◌, ◌≤◌, ◌^◌, ℕ, ⊤, List, [], ◌∷◌, Option, Some, None, IsSomeAnd, codes, true}
+use Rattle.std.specs.Prelude.{◌≡◌, ◌<◌, ◌≤◌, ◌^◌, ℕ, ⊤, List, [], ◌∷◌, Option, Some, None, IsSomeAnd, codes, Bool, true, false}
 use Rattle.std.specs.Str.Parse.{IsNumeral, digits_value, without_leading_plus}
 use Rattle.std.specs.declared.net.socket_addr.SocketAddrV4.{SocketAddrV4}
 use Rattle.std.specs.Net.Grammar.{IsSocketV4Text}
@@ -10,11 +10,11 @@ use Rattle.clap.specs.declared.builder.action.ArgAction.TheVariants.{Set}
 use Rattle.clap.specs.declared.error.kind.ErrorKind.{ErrorKind}
 use Rattle.clap.specs.declared.error.kind.ErrorKind.TheVariants.{DisplayHelp, OutOfMemory}
 use Rattle.escpos_command.specs.Digits.{mark_count}
-use Rattle.escpos_jobs.specs.declared.task.TheConstants.{LINKS, MOST_LINKS, OPENINGS, MOST_OPENINGS}
-use Rattle.escpos_jobs.specs.declared.task.NoTask.{NoTask}
-use Rattle.escpos_jobs.specs.declared.task.NoTask.TheVariants.{Usage, Help, Memory}
-use Rattle.escpos_jobs.specs.declared.task.Task.{Task}
-use Rattle.escpos_jobs.specs.declared.task.Task.TheVariants.{Check, Render, Encode, Play, Emulate, Send, Loop}
+use Rattle.escpos_words.specs.declared.task.TheConstants.{LINKS, MOST_LINKS, OPENINGS, MOST_OPENINGS}
+use Rattle.escpos_words.specs.declared.task.NoTask.{NoTask}
+use Rattle.escpos_words.specs.declared.task.NoTask.TheVariants.{Usage, Help, Memory}
+use Rattle.escpos_words.specs.declared.task.Task.{Task}
+use Rattle.escpos_words.specs.declared.task.Task.TheVariants.{Check, Render, Encode, Play, Emulate, Send, Loop}
 
 -- ---- what a text says
 
@@ -101,36 +101,33 @@ help_words = (codes "help" ∷ []) ∷ (codes "--help" ∷ []) ∷ (codes "-h" �
 abbrev pub address_rule : Rule
 address_rule = record (new_rule (codes "address")) { required = true; action = Some Set }
 
--- a value that follows `--links`
-abbrev pub links_rule : Rule
-links_rule = record (new_rule (codes "links")) { long = Some (codes "links"); action = Some Set }
-
--- a value that follows `--first`, and has to be given
-abbrev pub first_rule : Rule
-first_rule = record (new_rule (codes "first")) { long = Some (codes "first"); required = true; action = Some Set }
-
--- a value that follows `--openings`
-abbrev pub openings_rule : Rule
-openings_rule = record (new_rule (codes "openings")) { long = Some (codes "openings"); action = Some Set }
+-- a value that follows this name, and two dashes before it
+abbrev pub option_rule : Text → Bool → Rule
+option_rule name required = record (new_rule name) { long = Some name; required = required; action = Some Set }
 
 -- what may follow `emulate`
 abbrev pub emulate_words : Shape
-emulate_words = (with_rule (with_rule (new_app (codes "emulate")) address_rule) links_rule).top
+emulate_words = (with_rule (with_rule (new_app (codes "emulate")) address_rule) (option_rule (codes "links") false)).top
 
 -- what may follow `send`
 abbrev pub send_words : Shape
-send_words = (with_rule (with_rule (with_rule (new_app (codes "send")) address_rule) first_rule) openings_rule).top
+send_words = (with_rule (with_rule (with_rule (new_app (codes "send")) address_rule) (option_rule (codes "first") true))
+    (option_rule (codes "openings") false)).top
 
--- the name of a task with its values, or `help`, and no other
-abbrev pub command_words : App
-command_words =
+-- the names of the tasks that need no network, and no other
+abbrev pub stream_words : App
+stream_words =
     let top = on_top (λ s. record s {
       no_binary_name = true;
       disable_help_subcommand = true;
       subcommand_required = true;
     }) (new_app (codes "escpos_cli")) in
-    with_subcommand (with_subcommand (with_subcommand (with_subcommand (with_subcommand (with_subcommand (with_subcommand (with_subcommand top
-    (new_shape (codes "check"))) (new_shape (codes "render"))) (new_shape (codes "encode"))) (new_shape (codes "play")))
+    with_subcommand (with_subcommand (with_subcommand (with_subcommand top
+    (new_shape (codes "check"))) (new_shape (codes "render"))) (new_shape (codes "encode"))) (new_shape (codes "play"))
+
+-- the name of a task with its values, or `help`, and no other
+abbrev pub command_words : App
+command_words = with_subcommand (with_subcommand (with_subcommand (with_subcommand stream_words
     emulate_words) send_words) (new_shape (codes "loop"))) (new_shape (codes "help"))
 
 -- what a refusal by `clap` comes to

@@ -1,8 +1,8 @@
 -- What the words ask for, by what it needs.
 use Rattle.std.specs.Prelude.{Result, Ok, Err, ⊤}
-use Rattle.escpos_jobs.specs.declared.task.NoTask.{NoTask}
-use Rattle.escpos_jobs.specs.declared.task.Task.{Task}
-use Rattle.escpos_jobs.specs.declared.task.Task.TheVariants.{Emulate, Send, Loop}
+use Rattle.escpos_words.specs.declared.task.NoTask.{NoTask}
+use Rattle.escpos_words.specs.declared.task.Task.{Task}
+use Rattle.escpos_words.specs.declared.task.Task.TheVariants.{Emulate, Send, Loop}
 
 -- Standard input is read: by each task but that of a printer, which has its links.
 abbrev pub ReadsInput : Result Task NoTask → Type 0

@@ -7,7 +7,7 @@ use Rattle.std.specs.Net.Grammar.{IsSocketV4Text}
 use Rattle.std.proofs.NetLemmas.Theorems.{IsSocketV4Text_unique}
 use Rattle.clap.specs.Words.{Text}
 use Rattle.clap.specs.Matches.{TriesOne}
-use Rattle.escpos_jobs.specs.Task.{IsAddress, IsNumber, IsNumberIn, IsNumberOr}
+use Rattle.escpos_words.specs.Task.{IsAddress, IsNumber, IsNumberIn, IsNumberOr}
 
 -- what a typed getter gives of a number
 pub reads_number : {E : Type 0} (text : Option Text) (G : List ℕ → Result ℕ E → Type 0) (r : Result (Option ℕ) E)

@@ -1,26 +1,26 @@
 //! What the program does for the words that it was given, over any source and sink: a job, a link, or a text.
 
 ghost use Rattle.std.specs.Prelude.{◌≡◌, ◌≢◌, ◌⊎◌, ◌+◌, ◌≤◌, IfSome, IsTrue};
-ghost use Rattle.escpos_jobs.specs.declared.usage.TheConstants.{HELP, USAGE};
 ghost use Rattle.escpos_jobs.specs.declared.input.TheConstants.{INPUT_LIMIT};
 ghost use Rattle.escpos_jobs.specs.Check.{Checks};
 ghost use Rattle.escpos_jobs.specs.Encode.{Encodes};
 ghost use Rattle.escpos_jobs.specs.Render.{RendersInput};
 ghost use Rattle.escpos_jobs.specs.Outcome.{Says, memory_line, outcome};
-ghost use Rattle.escpos_jobs.specs.Perform.{ReadsInput, UsesLinks};
+ghost use Rattle.escpos_words.specs.declared.usage.TheConstants.{HELP, USAGE};
+ghost use Rattle.escpos_words.specs.Perform.{ReadsInput, UsesLinks};
 
-use crate::both_ends::loop_receipt;
-use crate::check::check;
-use crate::emulate::emulate;
-use crate::encode::encode;
-use crate::outcome::{MEMORY, say};
-use crate::play::play;
-use crate::render::render;
-use crate::send::send_to;
-use crate::status::Status;
 use crate::task::{NoTask, Task};
 use crate::usage::{HELP, USAGE};
 use escpos_io::{ByteIn, ByteOut};
+use escpos_jobs::both_ends::loop_receipt;
+use escpos_jobs::check::check;
+use escpos_jobs::emulate::emulate;
+use escpos_jobs::encode::encode;
+use escpos_jobs::outcome::{MEMORY, say};
+use escpos_jobs::play::play;
+use escpos_jobs::render::render;
+use escpos_jobs::send::send_to;
+use escpos_jobs::status::Status;
 use std::alloc::Global;
 use std::net::{Net, TcpListener, TcpStream};
 

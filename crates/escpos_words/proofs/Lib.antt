@@ -1,0 +1,2 @@
+pub mod TaskValues
+pub mod TaskWords
