@@ -1,5 +1,5 @@
 -- From one byte after a half command to the same byte after any stream that ends in it.
-use Rattle.std.proofs.Common.{◌≡◌, ℕ, ◌+◌, inl, inr, List, [], ◌∷◌, ◌++◌, length, refl, sym, ◌∙◌, ap, subst, append_assoc, append-nil, length-append, arith, Result, Ok, Err}
+use Rattle.std.proofs.Common.{◌≡◌, ℕ, ◌+◌, inl, inr, List, [], ◌∷◌, ◌++◌, length, sym, ◌∙◌, ap, subst, append_assoc, append-nil, length-append, arith, Result, Ok, Err}
 use Rattle.escpos_command.specs.declared.command.Command.{Command}
 use Rattle.escpos_command.specs.declared.fault.FaultReason.{FaultReason}
 use Rattle.escpos_command.specs.CommandTable.{Spells, row, spell}

@@ -4,7 +4,7 @@ use Rattle.std.specs.Prelude.{◌==◌, ◌&&◌, nat_lt}
 use Rattle.std.proofs.lemmas.Bool.Decides.{nat_tests}
 use Rattle.escpos_command.specs.declared.command.Command.{Command}
 use Rattle.escpos_command.specs.Parameters.{is_byte}
-use Rattle.escpos_command.specs.Tree.{Tree, dead, leaf, node, walk, these, counted, closed, stopped, ending}
+use Rattle.escpos_command.specs.Tree.{dead, leaf, these, counted, closed, stopped, ending}
 use Rattle.escpos_decode.specs.Place.{step}
 
 one_less : (n : ℕ) → suc n - 1 ≡ n

@@ -1,14 +1,13 @@
 -- What is left of whole answers when a host has heard some of their bytes, event after event.
-use Rattle.std.proofs.Common.{◌≡◌, ◌≢◌, ◌⊎◌, ◌<◌, ◌≤◌, ◌+◌, inl, inr, ℕ, zero, suc, List, [], ◌∷◌, ◌++◌, length, take, drop, get_or, refl, sym, ◌∙◌, ap, subst, append_assoc, append-nil, length-drop, take-append-drop, arith}
+use Rattle.std.proofs.Common.{◌≡◌, ◌≢◌, ◌⊎◌, ◌<◌, ◌≤◌, ◌+◌, inl, inr, ℕ, List, [], ◌∷◌, ◌++◌, length, take, drop, refl, sym, ◌∙◌, ap, subst, append_assoc, length-drop, take-append-drop, arith}
 use Rattle.std.specs.Prelude.{slice_index}
-use Rattle.std.proofs.lemmas.List.{drop_at, take_more}
+use Rattle.std.proofs.lemmas.List.{take_more}
 use Rattle.escpos_command.specs.declared.answer.Answer.{Answer}
-use Rattle.escpos_command.specs.declared.answer.Answer.TheVariants as answer
 use Rattle.escpos_command.specs.Answers.{AnswerSpells, AreWholeAnswers, Hears}
 use Rattle.escpos_host.specs.declared.host.HostEvent.{HostEvent}
 use Rattle.escpos_host.specs.declared.host.HostEvent.TheVariants as event
 use Rattle.escpos_host.specs.Heard.{EndsLink, GoesOn, Grows, HearsAll, HearsByte, HearsInTurn, IsHeard, IsOff, Misfits, Passed, Turns, last_of, taken_at, with_half}
-use Rattle.escpos_host.specs.Machine.{HostView, InFlight, Phase, Down, Opening, Open, gone_down}
+use Rattle.escpos_host.specs.Machine.{HostView, Down, Open, gone_down}
 use Rattle.escpos_host.proofs.Passing.{Joined, whole_heard}
 
 -- Whole answers may be cut anywhere.

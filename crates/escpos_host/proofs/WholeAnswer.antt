@@ -1,13 +1,13 @@
 -- A host that has no half answer hears all the bytes of one answer.
-use Rattle.std.proofs.Common.{◌≡◌, ◌≢◌, ◌⊎◌, ◌<◌, ◌+◌, ◌-◌, inl, inr, ℕ, List, [], ◌∷◌, ◌++◌, length, take, drop, refl, sym, ◌∙◌, ap, subst, append-nil, append_assoc, length-append, length-take, take-append-drop, arith, IsTrue}
+use Rattle.std.proofs.Common.{◌≡◌, ◌≢◌, ◌<◌, ◌+◌, inl, inr, ℕ, List, [], ◌∷◌, ◌++◌, length, take, drop, refl, sym, ◌∙◌, ap, subst, append-nil, append_assoc, length-append, length-take, take-append-drop, arith, IsTrue}
 use Rattle.std.specs.Prelude.{slice_index}
 use Rattle.std.specs.List.{AllByRecursion}
 use Rattle.std.proofs.lemmas.List.{drop_all, drop_more}
 use Rattle.escpos_command.specs.declared.answer.Answer.{Answer}
-use Rattle.escpos_command.specs.Answers.{AnswerSpells, Hears, ViableAnswer, answer_bytes, is_answer, spell_answers}
+use Rattle.escpos_command.specs.Answers.{AnswerSpells, Hears, answer_bytes, is_answer, spell_answers}
 use Rattle.escpos_host.specs.declared.host.HostEvent.{HostEvent}
 use Rattle.escpos_host.specs.declared.host.HostEvent.TheVariants as event
-use Rattle.escpos_host.specs.Heard.{EndsLink, Grows, HearsAll, HearsByte, HearsInTurn, Ignores, IsHeard, Misfits, Passed, Turns, last_of, taken_at, with_half}
+use Rattle.escpos_host.specs.Heard.{EndsLink, HearsAll, HearsByte, HearsInTurn, Ignores, IsHeard, Passed, Turns, last_of, taken_at, with_half}
 use Rattle.escpos_host.specs.Machine.{HostView, Down}
 use Rattle.escpos_host.proofs.InTurn.{Later, counted, no_growth, turned}
 use Rattle.escpos_host.proofs.Passing.{whole_heard}

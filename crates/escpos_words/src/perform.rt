@@ -6,6 +6,7 @@ ghost use Rattle.escpos_jobs.specs.Check.{Checks};
 ghost use Rattle.escpos_jobs.specs.Encode.{Encodes};
 ghost use Rattle.escpos_jobs.specs.Render.{RendersInput};
 ghost use Rattle.escpos_jobs.specs.Outcome.{Says, memory_line, outcome};
+ghost use Rattle.escpos_jobs.specs.Play.{Plays};
 ghost use Rattle.escpos_words.specs.declared.usage.TheConstants.{HELP, USAGE};
 ghost use Rattle.escpos_words.specs.Perform.{ReadsInput, UsesLinks};
 
@@ -42,6 +43,8 @@ pub fn perform<N: Net<Stream = TcpStream, Listener = TcpListener>, R: ByteIn, W:
         IfSome (R.to_come input.old) (λ text. RendersInput (outcome (W.written output.old) (W.written output.new) (W.failed output.new) result) text) }
     ensures encode { asked ≡ Ok Task.Encode →
         IfSome (R.to_come input.old) (λ text. Encodes (outcome (W.written output.old) (W.written output.new) (W.failed output.new) result) text) }
+    ensures play { asked ≡ Ok Task.Play →
+        IfSome (R.to_come input.old) (λ text. Plays (outcome (W.written output.old) (W.written output.new) (W.failed output.new) result) text) }
     ensures help { asked ≡ Err NoTask.Help →
         Says (outcome (W.written output.old) (W.written output.new) (W.failed output.new) result) HELP.now Status.Good }
     ensures usage { asked ≡ Err NoTask.Usage →

@@ -1,4 +1,4 @@
-use Rattle.std.proofs.Common.{refl, arith, zero}
+use Rattle.std.proofs.Common.{refl}
 use Rattle.escpos_decode.proofs.Steps.{counted_goes, counted_last, byte_passes, one_fewer, some_are_left}
 use Rattle.escpos_decode.proofs.content.dots.Goals as goal
 

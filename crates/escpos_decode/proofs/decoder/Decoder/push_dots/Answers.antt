@@ -1,7 +1,6 @@
-use Rattle.std.proofs.Common.{◌≡◌, ◌<◌, ◌≤◌, ◌+◌, ◌-◌, ◌∙◌, ◌++◌, take, length, length-take, ap, sym, subst, append_assoc, arith, refl, true, IsTrue}
-use Rattle.std.specs.Prelude.{vec_len, vec_capacity, if◌then◌else◌, is_ok}
-use Rattle.escpos_decode.specs.Place.{IsAt, front_of, holds, wanted_at}
-use Rattle.escpos_decode.specs.Push.{IsRest}
+use Rattle.std.proofs.Common.{◌≡◌, ◌+◌, ◌-◌, ◌∙◌, ◌++◌, take, length, length-take, ap, sym, subst, append_assoc, arith}
+use Rattle.std.specs.Prelude.{vec_len, if◌then◌else◌, is_ok}
+use Rattle.escpos_decode.specs.Place.{IsAt, front_of, wanted_at}
 use Rattle.escpos_decode.specs.declared.place.Place.TheVariants.{Dots}
 use Rattle.escpos_decode.proofs.Places.{rest_at}
 use Rattle.escpos_decode.proofs.DotRuns.{bytes_pass, at_run, run_read, some_wanted}

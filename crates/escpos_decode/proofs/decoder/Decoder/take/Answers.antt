@@ -1,4 +1,4 @@
-use Rattle.std.proofs.Common.{◌≡◌, ◌∙◌, ◌+◌, ◌≤◌, ◌++◌, ◌∷◌, [], sym, ap, subst, refl, arith, length, append-nil, length-append}
+use Rattle.std.proofs.Common.{◌≡◌, ◌∙◌, ◌+◌, ◌≤◌, ◌++◌, ◌∷◌, [], sym, ap, subst, refl, arith, length, length-append}
 use Rattle.std.specs.Prelude.{vec_len, vec_capacity}
 use Rattle.escpos_command.specs.CommandTable.{IsCommand, Spells}
 use Rattle.escpos_command.specs.Places.{reason_after}
