@@ -1,21 +1,16 @@
-//! The tests of all crates: worked rows, each call on its happy path, and what no clause says.
+//! The tests of the host's side, of the line and of the program: worked rows, each call on its happy path, and what no clause
+//! says; and of all crates, that each growth of a call may be refused. The others of the printer's side are in
+//! escpos_printer_tests.
 //!
 //! They stand apart from what they test because tests are proved together with the functions of their crate: here no function
 //! is proved a second time for them. A test that looks into a value stands in the crate of that value.
 //!
-//! `devices`, `pieces`, `commands`, `decoder`, `paper` and `printer` are of the five lowest libraries; `receipt_tests`,
-//! `host_tests` and `send_tests` of receipts and of the host, `sim_tests` of the line; the others are of the words and jobs of
-//! the program. The files with `growth` in their names refuse each growth of a call in turn.
+//! `receipt_tests`, `host_tests` and `send_tests` are of receipts and of the host, `sim_tests` of the line; the others are of
+//! the words and jobs of the program. The files with `growth` in their names refuse each growth of a call in turn.
 #![tactic(auto)]
 
 #[cfg(test)]
-mod commands;
-#[cfg(test)]
 mod content_tests;
-#[cfg(test)]
-mod decoder;
-#[cfg(test)]
-mod devices;
 #[cfg(test)]
 mod emulate_tests;
 #[cfg(test)]
@@ -37,13 +32,7 @@ mod link_growth_tests;
 #[cfg(test)]
 mod link_tests;
 #[cfg(test)]
-mod paper;
-#[cfg(test)]
-mod pieces;
-#[cfg(test)]
 mod play_tests;
-#[cfg(test)]
-mod printer;
 #[cfg(test)]
 mod receipt_edge_tests;
 #[cfg(test)]
