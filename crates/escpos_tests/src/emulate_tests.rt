@@ -1,6 +1,7 @@
 //! The word `emulate` over 127.0.0.1, in one thread as `link_tests` says, and a link of it over memory.
 
-use crate::link_tests::{NEVER, listens, reads, says};
+use crate::job_tests::is_outcome;
+use crate::link_tests::{NEVER, listens, nobody_waits, reads, said, says};
 use crate::receipt_edge_tests::joined;
 use escpos_io::{MemoryIn, MemoryOut};
 use escpos_jobs::emulate::{ONLINE, emulate, emulate_on, serve_and_tell};
@@ -9,7 +10,7 @@ use escpos_jobs::status::Status;
 use escpos_printer::{Condition, Printer};
 use std::alloc::Global;
 use std::io::Write;
-use std::net::{TcpListener, TcpStream};
+use std::net::{Net, SocketAddrV4, TcpListener, TcpStream};
 use std::process::Abort;
 
 // The links of a listener are served, and this is printed.
@@ -19,10 +20,21 @@ fn emulates(
     (listener, links): (&TcpListener, u32),
     (text, status): (&str, Status),
 ) {
-    let mut room = [0; 512];
-    let mut output = MemoryOut::new(&mut room);
-    assert_eq!(rt; emulate_on(alloc, listener, links, &mut output), status);
-    assert_eq!(rt; output.written(), text.as_bytes());
+    let wanted = (text.as_bytes(), status);
+    emulates_in(rt, alloc, (listener, links), &mut [0; 512], wanted);
+}
+
+// The same of an output with this room.
+fn emulates_in(
+    rt: &impl Abort,
+    alloc: Global,
+    (listener, links): (&TcpListener, u32),
+    room: &mut [u8],
+    wanted: (&[u8], Status),
+) {
+    let mut output = MemoryOut::new(room);
+    let ended = emulate_on(alloc, listener, links, &mut output);
+    is_outcome(rt, (output.written(), ended), wanted);
 }
 
 #[test]
@@ -62,25 +74,45 @@ fn other_links_follow(rt: HostRuntime) {
     reads(&rt, &mut good, b"\x12");
 }
 
+// A client asks for so many answers that it can't but go with some of them unread.
+fn goes<N: Net<Stream = TcpStream> + Abort>(rt: &N, address: SocketAddrV4) {
+    let mut gone = TcpStream::connect(rt, address).expect(rt, "no link");
+    for _ in 0..160 {
+        gone.write_all(b"\x10\x04\x01").expect(rt, "can't write");
+    }
+}
+
+// The lines of a link whose writes fail, and of the next.
+fn is_reset(rt: &impl Abort, written: &[u8], status: Status) {
+    assert!(rt; status == Status::Good);
+    let text = str::from_utf8(written).expect(rt, "no text");
+    assert!(rt; text.starts_with("link 1 read "), "{text}");
+    let next = " WriteFault\nlink 2 read 3 consumed ";
+    assert!(rt; text.contains(next), "{text}");
+}
+
 // A client that goes with its answers unread resets its link: its writes fail, and the next link is served.
 #[test]
 fn client_resets(rt: HostRuntime) {
     let (listener, address) = listens(&rt);
-    let mut gone = TcpStream::connect(&rt, address).expect(&rt, "no link");
-    for _ in 0..160 {
-        gone.write_all(b"\x10\x04\x01").expect(&rt, "can't write");
-    }
-    drop(gone);
-    let mut good = TcpStream::connect(&rt, address).expect(&rt, "no link");
-    says(&rt, &mut good, b"Yo\n");
+    goes(&rt, address);
+    let _good = said(&rt, address, b"Yo\n");
     let mut room = [0; 512];
     let mut output = MemoryOut::new(&mut room);
     let status = emulate_on(rt.alloc(), &listener, 2, &mut output);
-    assert!(&rt; status == Status::Good);
-    let text = str::from_utf8(output.written()).expect(&rt, "no text");
-    assert!(&rt; text.starts_with("link 1 read "), "{text}");
-    let next = " WriteFault\nlink 2 read 3 consumed ";
-    assert!(&rt; text.contains(next), "{text}");
+    is_reset(&rt, output.written(), status);
+}
+
+// The port of this address is in use.
+fn is_in_use<N: Net<Stream = TcpStream, Listener = TcpListener> + Abort>(
+    rt: &N,
+    alloc: Global,
+    address: SocketAddrV4,
+) {
+    let mut room = [0; 41];
+    let mut output = MemoryOut::new(&mut room);
+    let ended = emulate(rt, alloc, address, 1, &mut output);
+    is_outcome(rt, (output.written(), ended), (b"", Status::Device));
 }
 
 // Nobody connects to a listener that doesn't wait: no link can be accepted. An output that is full ends with the link's line.
@@ -89,22 +121,20 @@ fn links_that_fail(rt: HostRuntime) {
     let (listener, address) = listens(&rt);
     listener.set_nonblocking(true).expect(&rt, "can't set");
     emulates(&rt, rt.alloc(), (&listener, 1), ("", Status::Device));
-    let mut first = TcpStream::connect(&rt, address).expect(&rt, "no link");
-    says(&rt, &mut first, b"Hi\n");
+    let _first = said(&rt, address, b"Hi\n");
     let text = "link 1 read 3 consumed 3 written 0 Ended\nrow left Hi\nfeed 1\n";
     emulates(&rt, rt.alloc(), (&listener, 2), (text, Status::Device));
-    let mut second = TcpStream::connect(&rt, address).expect(&rt, "no link");
-    says(&rt, &mut second, b"Hi\n");
-    let mut room = [0; 41];
-    let mut output = MemoryOut::new(&mut room);
-    let status = emulate_on(rt.alloc(), &listener, 1, &mut output);
-    assert!(&rt; status == Status::Device);
-    assert!(&rt; output.written() == b"link 1 read 3 consumed 3 written 0 Ended\n".as_slice());
-    // the port is in use
-    let mut output = MemoryOut::new(&mut room);
-    let status = emulate(&rt, rt.alloc(), address, 1, &mut output);
-    assert!(&rt; status == Status::Device);
-    assert!(&rt; output.written().is_empty());
+    let _second = said(&rt, address, b"Hi\n");
+    let line = b"link 1 read 3 consumed 3 written 0 Ended\n".as_slice();
+    let wanted = (line, Status::Device);
+    emulates_in(&rt, rt.alloc(), (&listener, 1), &mut [0; 41], wanted);
+    is_in_use(&rt, rt.alloc(), address);
+}
+
+// These are the answers to the first of three requests.
+fn are_answers(rt: &impl Abort, answers: &[u8]) {
+    let all = b"\x12\x12\x12".as_slice();
+    assert_eq!(rt; Some(answers), all.get(..answers.len()));
 }
 
 // A link of one printer is served over memory, with reads and writes that fail from these calls on, and its line is printed.
@@ -129,11 +159,7 @@ fn serves(
     );
     assert!(rt; served.is_ok());
     assert_eq!(rt; output.written(), text.as_bytes());
-    let answers = b"\x12\x12\x12".as_slice();
-    assert_eq!(rt;
-        Some(writer.written()),
-        answers.get(..writer.written().len())
-    );
+    are_answers(rt, writer.written());
 }
 
 #[test]
@@ -189,11 +215,16 @@ fn serves_long(
     let mut output = MemoryOut::new(&mut printed);
     let served = serve_and_tell(printer, paper, 7, &mut reader, &mut writer, &mut output);
     assert!(rt; served.is_ok());
-    let line = b"link 7 read 40012 consumed 40012 written 2 Ended\n".as_slice();
-    assert_eq!(rt; output.written(), line);
-    assert_eq!(rt; writer.written(), b"\x12\x12".as_slice());
     assert!(rt; printer.items().is_empty());
     assert!(rt; paper.as_slice() == text);
+    is_long(rt, output.written(), writer.written());
+}
+
+// The line of that link, and the answers over it.
+fn is_long(rt: &impl Abort, line: &[u8], answers: &[u8]) {
+    let wanted = b"link 7 read 40012 consumed 40012 written 2 Ended\n".as_slice();
+    assert_eq!(rt; line, wanted);
+    assert_eq!(rt; answers, b"\x12\x12".as_slice());
 }
 
 #[test]
@@ -220,17 +251,20 @@ fn long_link(rt: HostRuntime) {
 #[test]
 fn lines_go_out_link_by_link(rt: HostRuntime) {
     let (listener, address) = listens(&rt);
-    let mut first = TcpStream::connect(&rt, address).expect(&rt, "no link");
-    says(&rt, &mut first, b"Hi\n");
-    let mut second = TcpStream::connect(&rt, address).expect(&rt, "no link");
-    says(&rt, &mut second, b"Hi\n");
+    let _first = said(&rt, address, b"Hi\n");
+    let _second = said(&rt, address, b"Hi\n");
     let mut room = [0; 64];
     let mut output = MemoryOut::failing(&mut room, 1);
     let status = emulate_on(rt.alloc(), &listener, 2, &mut output);
     assert!(&rt; status == Status::Device);
-    listener.set_nonblocking(true).expect(&rt, "can't set");
-    assert!(&rt; listener.accept().is_ok());
-    assert!(&rt; listener.accept().is_err());
+    one_waits(&rt, &listener);
+}
+
+// One client waits to be accepted, and no other.
+fn one_waits(rt: &impl Abort, listener: &TcpListener) {
+    listener.set_nonblocking(true).expect(rt, "can't set");
+    assert!(rt; listener.accept().is_ok());
+    nobody_waits(rt, listener);
 }
 
 // As many links are served as there are to be, and their lines are counted.
@@ -246,7 +280,5 @@ fn many_links(rt: HostRuntime) {
     assert!(&rt; status == Status::Good);
     let last = b"\nlink 119 read 0 consumed 0 written 0 Ended\n".as_slice();
     assert!(&rt; output.written().ends_with(last));
-    listener.set_nonblocking(true).expect(&rt, "can't set");
-    assert!(&rt; listener.accept().is_ok());
-    assert!(&rt; listener.accept().is_err());
+    one_waits(&rt, &listener);
 }

@@ -85,13 +85,18 @@ fn chars_at_last(rt: &impl Abort, alloc: Global, text: &[u8]) -> Vec<Command> {
     }
 }
 
+// Commands are the characters of a text.
+fn are_chars(rt: &impl Abort, commands: &[Command], text: &[u8]) {
+    assert_eq!(rt; commands.len(), text.len());
+    for (command, byte) in commands.iter().zip(text) {
+        is_spelled(rt, command, &[*byte]);
+    }
+}
+
 #[test]
 fn chars_of_refused(rt: HostRuntime) {
     let commands = chars_at_last(&rt, rt.alloc(), b"Hi");
-    assert_eq!(&rt; commands.len(), 2);
-    for (command, byte) in commands.iter().zip(b"Hi") {
-        is_spelled(&rt, command, &[*byte]);
-    }
+    are_chars(&rt, &commands, b"Hi");
 }
 
 // A copy of a command. Where memory is refused, the command is copied again.
@@ -403,6 +408,14 @@ const SERVED: Served = Served {
     end: LinkEnd::Ended,
 };
 
+// Where memory is refused, what wasn't taken of a link prints the rest.
+fn prints_rest(rt: &impl Abort, printer: &mut Printer, served: Served) {
+    assert_eq!(rt; served.read, LINK.len());
+    assert_eq!(rt; printer.waiting(), 0);
+    let (_, rest) = LINK.split_at_checked(served.consumed).expect(rt, "a rest");
+    feeds(rt, printer, rest);
+}
+
 // Serves a link. Answers no where memory is refused: then the answers are those to what was taken, and what wasn't prints the
 // rest.
 fn serves(rt: &impl Abort, printer: &mut Printer) -> bool {
@@ -411,17 +424,14 @@ fn serves(rt: &impl Abort, printer: &mut Printer) -> bool {
     let mut writer = MemoryOut::new(&mut room);
     let served = serve_link(printer, &mut reader, &mut writer, 100);
     assert!(rt; Some(writer.written()) == ANSWERS.get(..served.written));
-    if served.end == LinkEnd::Memory {
-        assert_eq!(rt; served.read, LINK.len());
-        assert_eq!(rt; printer.waiting(), 0);
-        let (_, rest) = LINK.split_at_checked(served.consumed).expect(rt, "a rest");
-        feeds(rt, printer, rest);
-        prints(rt, printer.items(), PRINTED);
-        return false;
+    let is_whole = served.end != LinkEnd::Memory;
+    if is_whole {
+        assert_eq!(rt; served, SERVED);
+    } else {
+        prints_rest(rt, printer, served);
     }
-    assert_eq!(rt; served, SERVED);
     prints(rt, printer.items(), PRINTED);
-    true
+    is_whole
 }
 
 #[test]

@@ -21,6 +21,15 @@ use std::alloc::Global;
 use std::net::{Ipv4Addr, SocketAddrV4};
 use std::process::Abort;
 
+// A job that is refused memory has put the first lines of the whole, and the line that says so.
+fn is_cut_short(rt: &impl Abort, put: &[u8], whole: &[u8]) {
+    let count = put.len().saturating_sub(MEMORY.len());
+    let (front, last) = put.split_at_checked(count).expect(rt, "the line");
+    assert_eq!(rt; last, MEMORY);
+    assert!(rt; whole.starts_with(front));
+    assert!(rt; front.is_empty() || front.ends_with(b"\n"));
+}
+
 // What a job has put, and its status, are those with ample memory. Answers no where memory is refused: then the first lines of
 // that are out, and the line that says so.
 pub(crate) fn is_told(
@@ -33,11 +42,7 @@ pub(crate) fn is_told(
         assert_eq!(rt; status, wanted);
         return true;
     }
-    let count = put.len().saturating_sub(MEMORY.len());
-    let (front, last) = put.split_at_checked(count).expect(rt, "the line");
-    assert_eq!(rt; last, MEMORY);
-    assert!(rt; whole.starts_with(front));
-    assert!(rt; front.is_empty() || front.ends_with(b"\n"));
+    is_cut_short(rt, put, whole);
     false
 }
 

@@ -31,6 +31,16 @@ impl Net for NoNetwork {
 /// A worked row of a job: the input, what it prints, and the status.
 pub type Row = (&'static [u8], &'static [u8], Status);
 
+/// This is written, and this is the status.
+pub fn is_outcome(
+    rt: &impl Abort,
+    (written, ended): (&[u8], Status),
+    (output, status): (&[u8], Status),
+) {
+    assert_eq!(rt; ended, status);
+    assert_eq!(rt; written, output);
+}
+
 /// What was asked for writes this to a sink with this room, and ends with this status.
 pub fn performs(
     rt: &impl Abort,
@@ -38,14 +48,11 @@ pub fn performs(
     asked: Result<Task, NoTask>,
     source: &mut MemoryIn,
     room: &mut [u8],
-    (output, status): (&[u8], Status),
+    wanted: (&[u8], Status),
 ) {
     let mut sink = MemoryOut::new(room);
-    assert_eq!(rt;
-        perform(&NoNetwork, alloc, asked, source, &mut sink),
-        status
-    );
-    assert_eq!(rt; sink.written(), output);
+    let ended = perform(&NoNetwork, alloc, asked, source, &mut sink);
+    is_outcome(rt, (sink.written(), ended), wanted);
 }
 
 /// The same for a job whose output is long: a sink that has room for all of it.

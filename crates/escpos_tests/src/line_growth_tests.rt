@@ -47,14 +47,18 @@ fn line_at_last(rt: &impl Abort, alloc: Global) -> Sim {
     }
 }
 
+// Nothing has happened to a line.
+fn is_new(rt: &impl Abort, sim: &Sim) {
+    assert!(rt; sim.undisturbed());
+    assert!(rt; sim.host().state() == HostState::Down);
+    assert_eq!(rt; sim.host().next_mark(), 5);
+    assert!(rt; sim.records().is_empty());
+    assert!(rt; sim.paper().is_empty());
+}
+
 #[test]
 fn new_line_refused(rt: HostRuntime) {
-    let sim = line_at_last(&rt, rt.alloc());
-    assert!(&rt; sim.undisturbed());
-    assert!(&rt; sim.host().state() == HostState::Down);
-    assert_eq!(&rt; sim.host().next_mark(), 5);
-    assert!(&rt; sim.records().is_empty());
-    assert!(&rt; sim.paper().is_empty());
+    is_new(&rt, &line_at_last(&rt, rt.alloc()));
 }
 
 // The paper of S.
@@ -134,14 +138,20 @@ fn long_straight_refused(rt: HostRuntime) {
     assert!(&rt; sim.paper().len() >= 602);
 }
 
+// Memory is refused, and a receipt of so many commands comes back.
+fn comes_back(rt: &impl Abort, refused: &Refused, commands: usize) {
+    assert!(rt; refused.why == Refusal::Memory);
+    let back = refused.receipt.as_ref().expect(rt, "the receipt");
+    assert_eq!(rt; back.commands().len(), commands);
+}
+
 // A receipt is submitted. Where memory is refused it comes back, and the host is as it was.
 fn submits(rt: &impl Abort, sim: &mut Sim, receipt: Receipt) {
     let commands = receipt.commands().len();
     if let Err(refused) = sim.step(Event::Submit(receipt)) {
-        assert!(rt; refused.why == Refusal::Memory);
-        assert!(rt; sim.undisturbed());
+        comes_back(rt, &refused, commands);
         let back = refused.receipt.expect(rt, "the receipt");
-        assert_eq!(rt; back.commands().len(), commands);
+        assert!(rt; sim.undisturbed());
         assert!(rt; sim.step(Event::Submit(back)).is_ok());
     }
     assert!(rt; sim.host().state() == HostState::Sending);
@@ -226,21 +236,35 @@ fn events_at_last(rt: &impl Abort, alloc: Global) -> Vec<Event> {
     }
 }
 
-// Events happen to a line. Answers no where memory is refused: so many of them have happened, and no other.
-fn runs(rt: &impl Abort, sim: &mut Sim, events: Vec<Event>) -> bool {
-    if let Err(stop) = sim.run(events) {
-        is_memory(rt, &stop.refused);
-        assert!(rt; sim.host().state() != HostState::Ready);
-        assert_eq!(rt;
-            sim.host().next_mark() as usize,
-            5usize.saturating_add(stop.done.min(2))
-        );
-        return false;
-    }
+// All events have happened to the line.
+fn ran(rt: &impl Abort, sim: &Sim) {
     assert!(rt; sim.host().state() == HostState::Ready);
     assert_eq!(rt; sim.host().next_mark(), 7);
     assert_eq!(rt; sim.printer().waiting(), 1);
-    true
+}
+
+// So many events have happened to the line, and no other.
+fn ran_so_far(rt: &impl Abort, sim: &Sim, done: usize) {
+    assert!(rt; sim.host().state() != HostState::Ready);
+    assert_eq!(rt;
+        sim.host().next_mark() as usize,
+        5usize.saturating_add(done.min(2))
+    );
+}
+
+// Events happen to a line. Answers no where memory is refused: so many of them have happened, and no other.
+fn runs(rt: &impl Abort, sim: &mut Sim, events: Vec<Event>) -> bool {
+    match sim.run(events) {
+        Ok(()) => {
+            ran(rt, sim);
+            true
+        }
+        Err(stop) => {
+            is_memory(rt, &stop.refused);
+            ran_so_far(rt, sim, stop.done);
+            false
+        }
+    }
 }
 
 #[test]

@@ -14,7 +14,8 @@ use escpos_jobs::outcome::MEMORY;
 use escpos_jobs::paper_text::PaperText;
 use escpos_jobs::send::Marks;
 use escpos_jobs::status::Status;
-use escpos_printer::{LinkEnd, Printer};
+use escpos_paper::Item;
+use escpos_printer::{LinkEnd, Printer, Served};
 use std::alloc::Global;
 use std::io;
 use std::io::Write;
@@ -27,16 +28,37 @@ const LINK: &[u8] = b"\x10\x04\x01Hi\n\x1Dk\x035512345\x00\x1Dv0\x00\x01\x00\x02
 const EMULATED: &[u8] =
     b"link 1 read 27 consumed 27 written 1 Ended\nrow left Hi\nfeed 1\nbars left ean8 162 3 none A 55123457\nraster left normal 1 2 f00f\n";
 
-// Serves a link over memory. Answers no where memory is refused: then the line says so.
-fn serves_and_tells(rt: &impl Abort, alloc: Global, printer: &mut Printer) -> bool {
-    let mut paper = PaperText::new(alloc);
+// A link was served, and this line is put. Answers no where memory is refused: then the line says so.
+fn is_served(rt: &impl Abort, served: Served, line: &[u8]) -> bool {
+    if served.end == LinkEnd::Memory {
+        assert!(rt; served.consumed < LINK.len());
+        assert!(rt; line.starts_with(b"link 1 read 27 consumed "));
+        assert!(rt; line.ends_with(b" Memory\n"));
+        return false;
+    }
+    assert_eq!(rt; served.written, 1);
+    assert!(rt; EMULATED.starts_with(line));
+    assert_eq!(rt; line.len(), 43);
+    true
+}
+
+// The paper is put after the line: what isn't torn off for want of memory is still on it.
+fn puts_paper(rt: &impl Abort, paper: &PaperText, items: &[Item], output: &mut MemoryOut) {
+    let torn = paper.as_slice().len();
+    assert!(rt; paper.put_above(items, output).is_ok());
+    assert_eq!(rt; output.written(), EMULATED);
+    assert!(rt; torn == 0 || items.is_empty());
+}
+
+// Serves a link over memory. Answers no where memory is refused.
+fn serves_and_tells(rt: &impl Abort, printer: &mut Printer, paper: &mut PaperText) -> bool {
     let (mut room, mut printed) = ([0; 16], [0; 256]);
     let mut reader = MemoryIn::new(LINK, 512);
     let mut writer = MemoryOut::new(&mut room);
     let mut output = MemoryOut::new(&mut printed);
     let served = escpos_jobs::emulate::serve_and_tell(
         printer,
-        &mut paper,
+        paper,
         1,
         &mut reader,
         &mut writer,
@@ -44,29 +66,21 @@ fn serves_and_tells(rt: &impl Abort, alloc: Global, printer: &mut Printer) -> bo
     );
     let served = served.expect(rt, "a line");
     assert!(rt; Some(writer.written()) == b"\x12".get(..served.written));
-    if served.end == LinkEnd::Memory {
-        assert!(rt; served.consumed < LINK.len());
-        assert!(rt; output.written().starts_with(b"link 1 read 27 consumed "));
-        assert!(rt; output.written().ends_with(b" Memory\n"));
-        return false;
+    let is_whole = is_served(rt, served, output.written());
+    if is_whole {
+        puts_paper(rt, paper, printer.items(), &mut output);
     }
-    assert_eq!(rt; served.written, 1);
-    assert!(rt; EMULATED.starts_with(output.written()));
-    assert_eq!(rt; output.written().len(), 43);
-    // what isn't torn off for want of memory is still on the paper
-    let torn = paper.as_slice().len();
-    assert!(rt; paper.put_above(printer.items(), &mut output).is_ok());
-    assert_eq!(rt; output.written(), EMULATED);
-    assert!(rt; torn == 0 || printer.items().is_empty());
-    true
+    is_whole
 }
 
 #[test]
 fn serve_and_tell_refused(rt: HostRuntime) {
     let mut printer = printer_at_last(&rt, rt.alloc());
-    if !serves_and_tells(&rt, rt.alloc(), &mut printer) {
+    let mut paper = PaperText::new(rt.alloc());
+    if !serves_and_tells(&rt, &mut printer, &mut paper) {
         let mut printer = printer_at_last(&rt, rt.alloc());
-        assert!(&rt; serves_and_tells(&rt, rt.alloc(), &mut printer));
+        let mut paper = PaperText::new(rt.alloc());
+        assert!(&rt; serves_and_tells(&rt, &mut printer, &mut paper));
     }
 }
 

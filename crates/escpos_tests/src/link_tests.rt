@@ -2,7 +2,7 @@
 //! keeps its stream open. `emulate` by itself is tried in `emulate_tests`.
 
 use crate::host_tests::{S, receipt_of};
-use crate::job_tests::performs;
+use crate::job_tests::{is_outcome, performs};
 use crate::receipt_edge_tests::joined;
 use escpos_io::{ByteIn, MemoryIn, MemoryOut};
 use escpos_jobs::both_ends::{both_ends_of, loop_receipt};
@@ -36,6 +36,17 @@ pub fn says(rt: &impl Abort, stream: &mut TcpStream, bytes: &[u8]) {
     stream.shutdown(Shutdown::Write).expect(rt, "can't end");
 }
 
+// A client that has connected to an address and sent these bytes, and ends its writing.
+pub fn said<N: Net<Stream = TcpStream> + Abort>(
+    rt: &N,
+    address: SocketAddrV4,
+    bytes: &[u8],
+) -> TcpStream {
+    let mut stream = TcpStream::connect(rt, address).expect(rt, "no link");
+    says(rt, &mut stream, bytes);
+    stream
+}
+
 // A client reads these bytes, and then the end.
 pub fn reads(rt: &impl Abort, stream: &mut TcpStream, wanted: &[u8]) {
     let mut room = [0; 1];
@@ -60,8 +71,8 @@ fn sends(
     let mut room = [0; 128];
     let mut output = MemoryOut::new(&mut room);
     let ended = send_on(alloc, stream, first, openings, receipt, &mut output);
-    assert_eq!(rt; output.written(), text.as_bytes());
-    assert_eq!(rt; ended, status);
+    let wanted = (text.as_bytes(), status);
+    is_outcome(rt, (output.written(), ended), wanted);
 }
 
 // The answers to the marks 0 and 1, with 57 bytes of status between them.
@@ -71,20 +82,32 @@ const ANSWERED: &[u8] = b"\x37\x220000\x00\
     \x12\x12\x12\x12\x12\x12\x12\x12\x12\x12\x12\x12\x12\x12\x12\x12\x12\x12\x12\
     \x37\x220001\x00";
 
+// Both ends of a link, the printer's of which has sent `ANSWERED` and ends its writing.
+fn answered<N: Net<Stream = TcpStream, Listener = TcpListener> + Abort>(
+    rt: &N,
+    (listener, address): (&TcpListener, SocketAddrV4),
+) -> (TcpStream, TcpStream) {
+    let client = TcpStream::connect(rt, address).expect(rt, "no link");
+    let (mut printer, _) = listener.accept().expect(rt, "no link");
+    says(rt, &mut printer, ANSWERED);
+    (client, printer)
+}
+
+// What is short goes out at once over a stream, and a read waits as long as the link stands.
+fn is_prompt(rt: &impl Abort, stream: &TcpStream) {
+    assert!(rt; stream.nodelay().expect(rt, "no answer"));
+    assert!(rt; stream.read_timeout().expect(rt, "no answer").is_none());
+    stream.shutdown(Shutdown::Write).expect(rt, "can't end");
+}
+
 #[test]
 fn send_recorded(rt: HostRuntime) {
     assert_eq!(&rt; ANSWERED.len(), 71);
     let (listener, address) = listens(&rt);
-    let client = TcpStream::connect(&rt, address).expect(&rt, "no link");
-    let (mut printer, _) = listener.accept().expect(&rt, "no link");
-    printer.write_all(ANSWERED).expect(&rt, "can't write");
+    let (client, mut printer) = answered(&rt, (&listener, address));
     let wanted = ("recorded 0\nnext 2\n", Status::Good);
-    printer.shutdown(Shutdown::Write).expect(&rt, "can't end");
     sends(&rt, rt.alloc(), &client, (0, 1), wanted);
-    // what is short goes out at once, and a read waits as long as the link stands
-    assert!(&rt; client.nodelay().expect(&rt, "no answer"));
-    assert!(&rt; client.read_timeout().expect(&rt, "no answer").is_none());
-    client.shutdown(Shutdown::Write).expect(&rt, "can't end");
+    is_prompt(&rt, &client);
     let sent = b"\x1D(H\x06\x00000000\x1B@Hi\n\x1D(H\x06\x00000001";
     reads(&rt, &mut printer, sent);
 }
@@ -123,32 +146,39 @@ fn not_recorded(rt: HostRuntime) {
     }
 }
 
+// A receipt that is read from an input is sent to an address, and this is printed.
+fn sends_to<N: Net<Stream = TcpStream, Listener = TcpListener> + Abort>(
+    rt: &N,
+    alloc: Global,
+    (address, first, openings): (SocketAddrV4, u32, u32),
+    input: &mut MemoryIn,
+    wanted: (&[u8], Status),
+) {
+    let mut room = [0; 64];
+    let mut output = MemoryOut::new(&mut room);
+    let ended = send_to(rt, alloc, address, first, openings, input, &mut output);
+    is_outcome(rt, (output.written(), ended), wanted);
+}
+
 #[test]
 fn send_refused(rt: HostRuntime) {
     let (listener, address) = listens(&rt);
-    let mut room = [0; 64];
     let mut input = MemoryIn::new(S.0, 100);
-    let mut output = MemoryOut::new(&mut room);
-    let status = send_to(
-        &rt,
-        rt.alloc(),
-        address,
-        1_679_615,
-        2,
-        &mut input,
-        &mut output,
+    let wanted = (
+        b"not recorded MarksUsedUp\nnext 1679616\n".as_slice(),
+        Status::Refused,
     );
-    assert_eq!(&rt;
-        output.written(),
-        b"not recorded MarksUsedUp\nnext 1679616\n".as_slice()
-    );
-    assert!(&rt; status == Status::Refused);
+    let marks = (address, 1_679_615, 2);
+    sends_to(&rt, rt.alloc(), marks, &mut input, wanted);
     drop(listener);
     let mut input = MemoryIn::new(S.0, 100);
-    let mut output = MemoryOut::new(&mut room);
-    let status = send_to(&rt, rt.alloc(), address, 0, 1, &mut input, &mut output);
-    assert_eq!(&rt; output.written(), b"no link\n".as_slice());
-    assert!(&rt; status == Status::Device);
+    let wanted = (b"no link\n".as_slice(), Status::Device);
+    sends_to(&rt, rt.alloc(), (address, 0, 1), &mut input, wanted);
+}
+
+// Nobody waits to be accepted by a listener that doesn't wait.
+pub fn nobody_waits(rt: &impl Abort, listener: &TcpListener) {
+    assert!(rt; listener.accept().is_err());
 }
 
 // What isn't a receipt is refused before anything is connected.
@@ -156,19 +186,14 @@ fn send_refused(rt: HostRuntime) {
 fn no_receipt_no_link(rt: HostRuntime) {
     let (listener, address) = listens(&rt);
     listener.set_nonblocking(true).expect(&rt, "can't set");
-    let mut room = [0; 64];
     let mut input = MemoryIn::new(b"[{\"line\":\"Hi\"},{\"feed\":256}]", 100);
-    let mut output = MemoryOut::new(&mut room);
-    let status = send_to(&rt, rt.alloc(), address, 0, 3, &mut input, &mut output);
-    assert_eq!(&rt; output.written(), b"refused 6 BadShape 1\n".as_slice());
-    assert!(&rt; status == Status::Refused);
-    assert!(&rt; listener.accept().is_err());
+    let wanted = (b"refused 6 BadShape 1\n".as_slice(), Status::Refused);
+    sends_to(&rt, rt.alloc(), (address, 0, 3), &mut input, wanted);
+    nobody_waits(&rt, &listener);
     let mut input = MemoryIn::failing(S.0, 100, 1);
-    let mut output = MemoryOut::new(&mut room);
-    let status = send_to(&rt, rt.alloc(), address, 0, 3, &mut input, &mut output);
-    assert!(&rt; output.written().is_empty());
-    assert!(&rt; status == Status::Device);
-    assert!(&rt; listener.accept().is_err());
+    let wanted = (b"".as_slice(), Status::Device);
+    sends_to(&rt, rt.alloc(), (address, 0, 3), &mut input, wanted);
+    nobody_waits(&rt, &listener);
 }
 
 // A receipt goes over a link of the program with itself, and this is printed.
@@ -265,17 +290,21 @@ fn sends_over(
     let mut output = MemoryOut::new(&mut printed);
     let marks = Marks { first, openings: 3 };
     let ended = send_over(alloc, marks, receipt, &mut reader, &mut writer, &mut output);
-    assert_eq!(rt; output.written(), text.as_bytes());
-    assert_eq!(rt; ended, status);
-    // the same with an output that takes some bytes alone
+    let wanted = (text.as_bytes(), status);
+    is_outcome(rt, (output.written(), ended), wanted);
+}
+
+// The same with an output that takes some bytes alone.
+fn sends_over_few(rt: &impl Abort, alloc: Global, (first, text, _): (u32, &str, Status)) {
+    let front = text.as_bytes().get(..5).expect(rt, "a front");
     let receipt = receipt_of(rt, alloc, S.0);
+    let (mut room, mut few) = ([0; 64], [0; 5]);
     let mut reader = MemoryIn::new(b"", 7);
     let mut writer = MemoryOut::failing(&mut room, 1);
-    let mut few = [0; 5];
     let mut output = MemoryOut::new(&mut few);
+    let marks = Marks { first, openings: 3 };
     let ended = send_over(alloc, marks, receipt, &mut reader, &mut writer, &mut output);
-    assert_eq!(rt; ended, Status::Device);
-    assert_eq!(rt; Some(output.written()), text.as_bytes().get(..5));
+    is_outcome(rt, (output.written(), ended), (front, Status::Device));
 }
 
 #[test]
@@ -312,6 +341,7 @@ fn told_of_a_receipt(rt: HostRuntime) {
     ];
     for (faults, wanted) in rows {
         sends_over(&rt, rt.alloc(), faults, wanted);
+        sends_over_few(&rt, rt.alloc(), wanted);
     }
 }
 
@@ -397,8 +427,8 @@ fn performs_over(
     let mut source = MemoryIn::new(input, 100);
     let mut output = MemoryOut::new(&mut room);
     let ended = perform(net, alloc, Ok(task), &mut source, &mut output);
-    assert_eq!(rt; output.written(), text.as_bytes());
-    assert_eq!(rt; ended, status);
+    let wanted = (text.as_bytes(), status);
+    is_outcome(rt, (output.written(), ended), wanted);
     assert!(rt; (source.pulls() > 0) == !input.is_empty());
 }
 
@@ -406,10 +436,7 @@ fn performs_over(
 #[test]
 fn words_over_links(rt: HostRuntime) {
     let (listener, address) = listens(&rt);
-    let client = TcpStream::connect(&rt, address).expect(&rt, "no link");
-    let (mut printer, _) = listener.accept().expect(&rt, "no link");
-    printer.write_all(ANSWERED).expect(&rt, "can't write");
-    printer.shutdown(Shutdown::Write).expect(&rt, "can't end");
+    let (client, _printer) = answered(&rt, (&listener, address));
     let net = Prepared {
         address,
         listener: &listener,
@@ -422,10 +449,8 @@ fn words_over_links(rt: HostRuntime) {
     };
     let wanted = ("recorded 0\nnext 2\n", Status::Good);
     performs_over(&rt, rt.alloc(), &net, (send, S.0), wanted);
-    let mut first = TcpStream::connect(&rt, address).expect(&rt, "no link");
-    says(&rt, &mut first, b"Hi\n");
-    let mut second = TcpStream::connect(&rt, address).expect(&rt, "no link");
-    says(&rt, &mut second, b"Yo\n");
+    let _first = said(&rt, address, b"Hi\n");
+    let _second = said(&rt, address, b"Yo\n");
     let emulate = Task::Emulate { address, links: 2 };
     let text = "link 1 read 3 consumed 3 written 0 Ended\n\
         link 2 read 3 consumed 3 written 0 Ended\n\

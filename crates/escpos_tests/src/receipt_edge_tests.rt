@@ -22,6 +22,11 @@ fn gives(rt: &impl Abort, alloc: Global, text: &[u8], (line, status): (&[u8], St
     );
 }
 
+// A text goes on with this part.
+fn goes_on(rt: &impl Abort, text: &mut Vec<u8>, part: &str) {
+    text.extend_from_slice(part.as_bytes()).expect(rt, "memory");
+}
+
 // A front, a part that comes so many times, and an end.
 pub(crate) fn joined(
     rt: &impl Abort,
@@ -29,11 +34,12 @@ pub(crate) fn joined(
     [front, part, end]: [&str; 3],
     count: usize,
 ) -> Vec<u8> {
-    let mut text = front.as_bytes().to_vec(alloc).expect(rt, "memory");
+    let mut text = Vec::new(alloc);
+    goes_on(rt, &mut text, front);
     for _ in 0..count {
-        text.extend_from_slice(part.as_bytes()).expect(rt, "memory");
+        goes_on(rt, &mut text, part);
     }
-    text.extend_from_slice(end.as_bytes()).expect(rt, "memory");
+    goes_on(rt, &mut text, end);
     text
 }
 
@@ -82,8 +88,8 @@ const ENTRIES: [&str; 3] = ["[", "{\"feed\":1},", "{\"feed\":1}]"];
 // The front has 16 characters, and so has the part.
 const BLANKS: [&str; 3] = ["[{\"feed\":1}]    ", "                ", ""];
 
-const LARGE: [Long; 21] = [
-    // a barcode of each symbology, at its shortest and its longest content
+// A barcode of each symbology, at its shortest and its longest content.
+const BARCODES: [Long; 14] = [
     (11, UPCA, ["1d6b410b", "30", "\n"]),
     (12, UPCA, ["1d6b410c", "30", "\n"]),
     (12, EAN13, ["1d6b430c", "30", "\n"]),
@@ -98,6 +104,9 @@ const LARGE: [Long; 21] = [
     (253, CODABAR, ["1d6b47ff41", "31", "64\n"]),
     (0, CODE128, ["1d6b49027b42", "61", "\n"]),
     (253, CODE128, ["1d6b49ff7b42", "61", "\n"]),
+];
+
+const SIZES: [Long; 7] = [
     // 999, 1,000 and 1,001 entries
     (998, ENTRIES, ["", "1b6401", "1b6401\n"]),
     (999, ENTRIES, ["", "1b6401", "1b6401\n"]),
@@ -118,15 +127,17 @@ const LARGE: [Long; 21] = [
     ),
 ];
 
-fn large() -> [Long; 21] {
-    LARGE
+// Each of these texts gives its line.
+fn are_encoded(rt: &impl Abort, alloc: Global, rows: &[Long]) {
+    for row in rows {
+        gives_long(rt, alloc, *row, Status::Good);
+    }
 }
 
 #[test]
 fn large_receipts_have_memory(rt: HostRuntime) {
-    for row in large() {
-        gives_long(&rt, rt.alloc(), row, Status::Good);
-    }
+    are_encoded(&rt, rt.alloc(), &BARCODES);
+    are_encoded(&rt, rt.alloc(), &SIZES);
 }
 
 // A line of so many characters.
