@@ -6,7 +6,7 @@
 use crate::growth_tests::printer_at_last;
 use crate::host_tests::{S, receipt_of};
 use crate::job_growth_tests::is_told;
-use crate::link_tests::{listens, says};
+use crate::link_tests::{answered, listens, said};
 use crate::send_tests::receipt_at_last;
 use escpos_host::Receipt;
 use escpos_io::{MemoryIn, MemoryOut};
@@ -18,8 +18,7 @@ use escpos_paper::Item;
 use escpos_printer::{LinkEnd, Printer, Served};
 use std::alloc::Global;
 use std::io;
-use std::io::Write;
-use std::net::{Net, Shutdown, SocketAddr, SocketAddrV4, TcpListener, TcpStream};
+use std::net::{Net, SocketAddr, SocketAddrV4, TcpListener, TcpStream};
 use std::process::Abort;
 
 // The link of a printer: a request and `STREAM`; the line and the paper that are put of it; and its answer.
@@ -131,9 +130,7 @@ fn client<N: Net<Stream = TcpStream, Listener = TcpListener> + Abort>(
     rt: &N,
     address: SocketAddrV4,
 ) -> TcpStream {
-    let mut stream = TcpStream::connect(rt, address).expect(rt, "no link");
-    says(rt, &mut stream, LINK);
-    stream
+    said(rt, address, LINK)
 }
 
 // A printer has served one link. Answers no where memory is refused: the line of the link says so if it has one, and the last
@@ -208,27 +205,7 @@ fn emulate_refused(rt: HostRuntime) {
     }
 }
 
-// A host's end of a link whose other end has written the answers to the marks 0 and 1, with a piece of status bytes between
-// them, and ends its writing.
-fn answered<N: Net<Stream = TcpStream, Listener = TcpListener> + Abort>(
-    rt: &N,
-    (listener, address): (&TcpListener, SocketAddrV4),
-) -> (TcpStream, TcpStream) {
-    let host = TcpStream::connect(rt, address).expect(rt, "no link");
-    let (mut printer, _) = listener.accept().expect(rt, "no link");
-    printer
-        .write_all(b"\x37\x220000\x00")
-        .expect(rt, "can't write");
-    for _ in 0..57 {
-        printer.write_all(b"\x12").expect(rt, "can't write");
-    }
-    printer
-        .write_all(b"\x37\x220001\x00")
-        .expect(rt, "can't write");
-    printer.shutdown(Shutdown::Write).expect(rt, "can't end");
-    (host, printer)
-}
-
+// A receipt is sent over a link whose other end has answered. Answers no where memory is refused.
 fn sends_on(rt: &impl Abort, alloc: Global, stream: &TcpStream) -> bool {
     let receipt = receipt_at_last(rt, alloc);
     let mut room = [0; 32];

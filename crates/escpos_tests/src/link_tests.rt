@@ -83,7 +83,7 @@ const ANSWERED: &[u8] = b"\x37\x220000\x00\
     \x37\x220001\x00";
 
 // Both ends of a link, the printer's of which has sent `ANSWERED` and ends its writing.
-fn answered<N: Net<Stream = TcpStream, Listener = TcpListener> + Abort>(
+pub fn answered<N: Net<Stream = TcpStream, Listener = TcpListener> + Abort>(
     rt: &N,
     (listener, address): (&TcpListener, SocketAddrV4),
 ) -> (TcpStream, TcpStream) {
@@ -164,12 +164,9 @@ fn sends_to<N: Net<Stream = TcpStream, Listener = TcpListener> + Abort>(
 fn send_refused(rt: HostRuntime) {
     let (listener, address) = listens(&rt);
     let mut input = MemoryIn::new(S.0, 100);
-    let wanted = (
-        b"not recorded MarksUsedUp\nnext 1679616\n".as_slice(),
-        Status::Refused,
-    );
+    let text = b"not recorded MarksUsedUp\nnext 1679616\n".as_slice();
     let marks = (address, 1_679_615, 2);
-    sends_to(&rt, rt.alloc(), marks, &mut input, wanted);
+    sends_to(&rt, rt.alloc(), marks, &mut input, (text, Status::Refused));
     drop(listener);
     let mut input = MemoryIn::new(S.0, 100);
     let wanted = (b"no link\n".as_slice(), Status::Device);
