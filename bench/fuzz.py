@@ -1,4 +1,4 @@
-"""Makes random streams and receipts for `bench/fuzz.sh`, and says what the program has to make of them.
+"""Makes random streams and receipts for `bench/fuzz.sh`, and says what the program must make of them.
 
 The tables and the reading of JSON here are written on their own, from what docs/PROFILE.md says, and share nothing with the program.
 """
@@ -28,7 +28,7 @@ WITH_BYTE = {
 }
 WITH_BYTES = {"cut": b"\x1dV", "pulse": b"\x1bp", "mark": b"\x1d(H\x06\x0000"}
 SCALES = (0, 1, 2, 3, 48, 49, 50, 51)
-# The content of each symbology by its m in form A; in form B that is 65 more, and CODE128 has that form alone.
+# The content of each symbology by its m in form A; in form B that is 65 more, and CODE128 has only that form.
 CONTENTS = {
     0: rb"\d{11,12}",
     2: rb"\d{12,13}",
@@ -72,7 +72,7 @@ def some_content(pick, symbology):
 
 
 def check_digit(digits):
-    """Returns what makes the sum of the digits, weighted 3, 1, 3, 1, .. from the last leftwards, a multiple of ten."""
+    """Returns what makes a multiple of ten with the sum of the digits, weighted 3, 1, 3, 1, .. from the last leftwards."""
     return -sum((digit - 48) * (1 if at % 2 else 3) for at, digit in enumerate(reversed(digits))) % 10
 
 
@@ -103,7 +103,7 @@ def some_command(pick):
 
 
 def respelled(line, stream):
-    """Returns the bytes of the command that a line of a listing tells; the dots of a raster are those of the stream."""
+    """Returns the bytes of the command that a line of a listing shows; the dots of a raster are those of the stream."""
     place, name, values = (line + " ").split(" ", 2)
     values = values[:-1]
     if name in PLAIN:
@@ -126,7 +126,7 @@ def respelled(line, stream):
 
 
 def reason(half):
-    """Returns the number of the reason for which a byte behind these bytes of its command may be refused."""
+    """Returns the number of the reason for which a byte after these bytes of its command may be refused."""
     if half[:2] == b"\x1dk" and len(half) > 2:
         return 4
     if half[:3] == b"\x1dv0" and len(half) > 3:
@@ -168,7 +168,7 @@ def spoiled(pick, text):
 
 
 def note_of(line):
-    """Returns the line of a wrong check digit behind this line of a listing, or nothing."""
+    """Returns the line of a wrong check digit after this line of a listing, or nothing."""
     place, name, *values = line.split(" ")
     if name != "bars" or place == "note":
         return None
@@ -178,7 +178,7 @@ def note_of(line):
 
 
 def width_of(cells):
-    """Returns how many dots the cells of a row are wide."""
+    """Returns how many dots wide the cells of a row are."""
     dots, width = 0, 12
     for style, _ in re.findall(r"\[(.*?)\]|(\\..|.)", cells):
         if style:
@@ -227,7 +227,7 @@ def inner(value, names):
 
 
 def entry_commands(entry):
-    """Returns the commands of an entry of a receipt: what each is to the line, and its bytes."""
+    """Returns the commands of an entry of a receipt: what each does to the line, and its bytes."""
     if type(entry) is not dict or len(entry) != 1:
         raise Refused("6 BadShape")
     [(name, value)] = entry.items()
@@ -320,7 +320,7 @@ def some_entry(pick, name):
 
 
 def some_receipt(pick):
-    """Returns a receipt, as a value; some are none, for a character or for text that is left in the line."""
+    """Returns a receipt, as a value; some aren't one, because of a character or of text that is left in the line."""
     names = ("line",) * 5 + ("text", *FEEDS, *WITH_NUMBER, *WITH_WORD, "bold", "size", "pulse", "bars", "raster", "feed_cut")
     entries = []
     for name in pick.choices(names, k=pick.choice((1, 2, 4, 12))):
@@ -336,7 +336,7 @@ def written(pick, value):
 
 
 def encoded(text):
-    """Returns what `encode` has to make of a text: its status and its output."""
+    """Returns what `encode` must make of a text: its status and its output."""
     try:
         return 0, b"".join(commands_of(text)).hex() + "\n"
     except Refused as refused:

@@ -1,12 +1,13 @@
 #!/usr/bin/env python3
-"""Runs random streams, receipts and scripts through the built program, and checks what has to hold of any of them.
+"""Runs random streams, receipts and scripts through the built program, and checks what must hold for all of them.
 
 usage: bench/fuzz.sh SECONDS [SEED [FOLDER]]
 
-Streams are valid, cut off, spoiled or of random bytes; receipts are valid, spoiled or no JSON; scripts of `play` have restarts, lost
-answers, half commands and lines that are none; bench/fuzz.py makes them. What is checked stands in the functions `try_stream`,
-`try_receipt` and `try_script`. One seed, 1 if none is given, gives the same cases, in the same order. What doesn't hold is printed, and written to
-a file of FOLDER (fuzz_findings in the temporary directory) with all that the program was given; then the exit status is 1.
+Streams are valid, cut off, spoiled or of random bytes; receipts are valid, spoiled or not JSON; scripts of `play` have
+restarts, lost answers, half commands and lines that aren't events; bench/fuzz.py makes them. The functions `try_stream`,
+`try_receipt` and `try_script` have the checks. One seed, 1 if none is given, gives the same cases in the same order. What
+doesn't hold is printed, and written to a file of FOLDER (fuzz_findings in the temporary directory) with all that the program
+was given; then the exit status is 1.
 
 The program is crates/escpos_cli/out/escpos_cli (cd crates/escpos_cli && rt run -- help), or what PROGRAM names.
 """
@@ -20,7 +21,7 @@ RUNS = []  # what the program was given in this case, and what it made of it
 
 
 def run(word, text):
-    """Returns the exit status and the output of the program, which has to end with status 0 or 1."""
+    """Returns the exit status and the output of the program, which must end with status 0 or 1."""
     try:
         ran = subprocess.run([PROGRAM, word], input=text, capture_output=True, timeout=60)
         status, output = ran.returncode, ran.stdout
@@ -79,7 +80,7 @@ def try_stream(pick):
 
 
 def try_receipt(pick):
-    """Tries a receipt: what `encode` makes of it, and what its bytes are to `check`, `render` and `loop`."""
+    """Tries a receipt: what `encode` makes of it, and what `check`, `render` and `loop` make of its bytes."""
     whole = written(pick, some_receipt(pick))
     text = pick.choice((whole, whole, spoiled(pick, whole), whole[: pick.randint(0, len(whole))], pick.randbytes(20)))
     status, output = run("encode", text)
@@ -99,8 +100,8 @@ def try_receipt(pick):
 
 
 class Line:
-    """What is known of a line from the events and what `play` tells of them: the host, the bytes on the links, and those that the
-    printer took, in parts. A part ends where a half command is dropped; a restart is to the paper what ESC @ is."""
+    """What is known of a line from the events and what `play` prints for them: the host, the bytes on the links, and those that
+    the printer took, in parts. A part ends where a half command is dropped; a restart does to the paper what ESC @ does."""
 
     def __init__(self):
         self.up, self.state, self.next, self.out, self.most_coming = False, "Down", 0, b"", 0
@@ -116,7 +117,7 @@ class Line:
             self.links.pop(0)
 
     def put_mark(self, before=b""):
-        """Puts a mark out behind these bytes, where one is left; returns what is told."""
+        """Puts a mark out after these bytes, if one is left; returns what is printed."""
         if self.next >= MARKS:
             return "refused 2 MarksUsedUp"
         self.out += before + mark(self.next)
@@ -138,7 +139,7 @@ class Line:
         return told
 
     def deliver(self, most, told):
-        """Takes what is told of a delivery, which is compared with what it may be."""
+        """Takes what is printed for a delivery, which is compared with what it may be."""
         first = self.links[0] if self.links else b""
         _, count, stop, *why = told.split(" ")
         count = int(count)
@@ -155,7 +156,7 @@ class Line:
         return told
 
     def hear(self, most, told):
-        """Takes what is told of answers, which is compared with what it may be."""
+        """Takes what is printed for answers, which is compared with what it may be."""
         _, count, last, *value = told.split(" ")
         hold(int(count) <= min(most, self.most_coming), "it can't be so many:", told)
         self.most_coming -= int(count)
@@ -171,7 +172,7 @@ class Line:
         return told
 
     def told(self, event, line):
-        """Lets an event happen of which this line is told; returns the line that should have been told."""
+        """Lets an event happen for which this line is printed; returns the line that should have been printed."""
         word, _, value = event.partition(b" ")
         word, number = word.decode(), int(value) if value.isdigit() else 0
         if word == "linkup":
@@ -247,7 +248,7 @@ def some_events(pick):
 
 
 def stands(parts, paper):
-    """Returns whether these lists of lines stand on the paper one after another; each is looked for behind the one before it."""
+    """Returns whether these lists of lines stand on the paper one after another; each is looked for after the one before it."""
     start = 0
     for lines in parts:
         while paper[start : start + len(lines)] != lines:
@@ -259,7 +260,7 @@ def stands(parts, paper):
 
 
 def try_script(pick):
-    """Tries a script: what each event tells, what is on the paper at the end, and that the recorded receipts stand there."""
+    """Tries a script: what is printed for each event, what is on the paper at the end, and that the recorded receipts stand there."""
     events = some_events(pick)
     status, output = run("play", b"\n".join(events) + pick.choice((b"", b"\n")))
     told, line, expected = output.split("\n")[:-1], Line(), 0

@@ -5,15 +5,15 @@ usage: bench/hostile.sh [WORD..]    with words, only cases whose name has all of
 
 A line for each case: its name, the bytes that the program was given, the seconds of the quickest of three runs (one run where it
 takes more than 20), its processor seconds, the most MiB held (at least those of this script, some 12), the exit status, and
-for a case that grows by how much the processor seconds of the whole input pass those of a quarter of it: 4 where time is
-proportional, up to 8 where the larger one doesn't fit the processor's caches, and 16 where it is quadratic. A status that the
+for a case that grows the factor between the processor seconds of the whole input and of a quarter of it: 4 if time is
+proportional, up to 8 if the larger one doesn't fit the processor's caches, and 16 if it is quadratic. A status that the
 case can't end with, a last line that it can't have, a signal, more than 120 seconds, or a factor of more than 10 is printed as
 WRONG, and then this script ends with 1. The last two lines are the slowest case and the one with the most memory, as rows
 of a table of docs/GATE.md.
 
 The program is crates/escpos_cli/out/escpos_cli (cd crates/escpos_cli && rt run -- help), or what PROGRAM names. It may
-have MEMORY MiB of addresses, without it 12,288; a case that wants more ends with status 4. SIZE is the size of the inputs of
-cases that grow, without it 16,777,216 bytes.
+have MEMORY MiB of addresses, 12,288 by default; a case that needs more ends with status 4. SIZE is the size of the inputs of
+cases that grow, 16,777,216 bytes by default.
 """
 import collections, os, random, resource, select, signal, socket, struct, subprocess, sys, tempfile, time
 
@@ -35,23 +35,23 @@ PICTURE = b'{"raster":{"scale":"normal","x":128,"y":4095,"dots":"' + b"a5" * 524
 OPEN = b"linkup\nmove 11\ndeliver 11\nhandover\nanswer 7\n"
 
 Ran = collections.namedtuple("Ran", "seconds processor memory status count told")
-# The words for the program; the name; what makes its input; the sizes of that, or of what a peer sends: two where it grows; the
-# status that it has to have; what has to be in the beginning or in the end of what it tells; and a peer over TCP, if there is one.
+# The program's arguments; the name; what makes its input; the sizes of that, or of what a peer sends: two if it grows; the
+# status that it must have; what the start or the end of its output must have; and a peer over TCP, if there is one.
 Case = collections.namedtuple("Case", "words name make sizes status says peer", defaults=[None])
 
 
 def times(piece, before=b"", after=b""):
-    """Returns what makes an input of so many bytes of this piece again and again, between two others."""
+    """Returns what makes an input of the given number of bytes: this piece again and again, between two others."""
     return lambda size: before + piece * ((size - len(before) - len(after)) // len(piece)) + after
 
 
 def hexadecimal(make):
-    """Returns what makes the hexadecimal text, of so many bytes, of a stream."""
+    """Returns what makes the hexadecimal text, of the given number of bytes, of a stream."""
     return lambda size: make(size // 2).hex().encode()
 
 
 def entries(piece, count=None):
-    """Returns what makes an array of this entry again and again, or so many times."""
+    """Returns what makes an array of this entry again and again, or a given number of times."""
     return lambda size: b"[" + b",".join([piece] * (count or (size - 1) // (len(piece) + 1))) + b"]"
 
 
@@ -153,7 +153,7 @@ def growing(words, cases, wrap=lambda make: make):
 
 
 def padded(text, size):
-    """Returns a text with as many blanks behind its first byte as make it this long."""
+    """Returns a text with as many blanks after its first byte as make it this long."""
     return text[:1] + b" " * (size - len(text)) + text[1:]
 
 
@@ -199,7 +199,7 @@ LIMITS = [
 ]
 
 
-# What peers do on a stream; they may send so many bytes.
+# What peers do on a stream; they may send a given number of bytes.
 
 
 def talk(piece, reads=True, first=b""):
@@ -238,7 +238,7 @@ def opens_and_waits(stream, size):
 
 
 def answers_late(stream, size):
-    """A printer that sends so many bytes of answers, of which the first is that to mark 0, and the last that to mark 3."""
+    """A printer that sends the given number of bytes of answers, of which the first is to mark 0, and the last to mark 3."""
     stream.sendall(ANSWER)
     read = b""
     while not read.endswith(MARK[:10] + b"3"):
@@ -255,8 +255,8 @@ def sent(name, peer, size, status, told, make=lambda size: b'[{"line":"Hi"}]'):
     return Case("send ADDRESS --first 0".split(), name, make, (size,), status, told, peer)
 
 
-# Where nobody reads the answers the link stands still once the sockets are full, however much a peer has to send: time says
-# nothing of the size then.
+# If nobody reads the answers, the link stands still once the sockets are full, however much a peer would still send: then time says
+# nothing about the size.
 UNREAD = (SIZE,)
 
 PEERS = [
@@ -314,7 +314,7 @@ def forked(work):
 
 
 def visit(peer, port, size):
-    """Is a peer that connects to this port; who listens there may take some time to begin."""
+    """Is a peer that connects to this port; the program that listens there may take some time to start."""
     for _ in range(1000):
         with socket.socket() as stream:
             if stream.connect_ex(("127.0.0.1", port)) == 0:
@@ -323,7 +323,7 @@ def visit(peer, port, size):
 
 
 def receive(peer, listener, size):
-    """Is a peer that somebody connects to."""
+    """Is a peer that the program connects to."""
     with listener.accept()[0] as stream:
         peer(stream, size)
 
@@ -373,7 +373,7 @@ def best(case, size, path):
 
 
 def faults(case, ran, factor):
-    """Returns what is wrong with a run, nothing where all is as it has to be."""
+    """Returns what is wrong with a run, nothing if all is as it must be."""
     found = []
     if ran.status != case.status:
         found.append(f"status {ran.status} in place of {case.status}")

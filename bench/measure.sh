@@ -1,5 +1,5 @@
 # Sourced by the scripts beside it. It sets `folder`, a folder for inputs that is removed at the end, and
-# wants `program`, the built program.
+# needs `program`, the built program.
 [ -x "$program" ] || { echo "no program at $program: build it first" >&2; exit 1; }
 folder=$(mktemp -d)
 trap 'rm -rf "$folder"' EXIT

@@ -1,14 +1,14 @@
-//! The program of ESC/POS receipts: one word for each job.
+//! The program of ESC/POS receipts, with a subcommand for each job.
 //!
-//! `main` joins the words of the command line, the standard streams and the exit status. What the words mean is
-//! escpos_words, and what the program does for them escpos_jobs; their modules are those of the program too.
+//! `main` joins the arguments of the command line, the standard streams and the exit status. escpos_arguments says what the
+//! arguments ask for, and escpos_jobs does it; their names are also names of the program.
 #![tactic(auto)]
 
+pub use escpos_arguments::{task_of, without_name};
 use escpos_io::{Incoming, Outgoing};
-pub use escpos_jobs::{both_ends, check, emulate, encode, play, render, send, status};
-use escpos_words::perform::perform;
-use escpos_words::task::{NoTask, Task, task_of, without_name};
-pub use escpos_words::{perform, task};
+use escpos_jobs::perform::perform;
+use escpos_jobs::task::{NoTask, Task};
+pub use escpos_jobs::{check, emulate, encode, loop_link, perform, play, render, send, status, task};
 use std::process::ExitCode;
 use std::{env, io};
 
@@ -19,16 +19,16 @@ fn main(rt: HostRuntime) -> ExitCode {
     ExitCode::from(status)
 }
 
-// What the words after the program's name ask for.
+// What the arguments ask for.
 fn asked(rt: &HostRuntime) -> Result<Task, NoTask> {
-    let words = words_of(rt).map_err(|fault| match fault.kind() {
+    let given = arguments(rt).map_err(|fault| match fault.kind() {
         io::ErrorKind::OutOfMemory => NoTask::Memory,
         _ => NoTask::Usage,
     })?;
-    task_of(rt.alloc(), without_name(words.as_slice()))
+    task_of(rt.alloc(), without_name(given.as_slice()))
 }
 
-// The words of the command line, the program's name first. One that is no text makes this fail.
-fn words_of(rt: &HostRuntime) -> io::Result<Vec<String>> {
+// The arguments of the command line, the program's name first. It fails if one of them isn't text.
+fn arguments(rt: &HostRuntime) -> io::Result<Vec<String>> {
     Ok(env::args(rt)?.collect(rt.alloc())?)
 }

@@ -59,7 +59,8 @@ spelled_a : (s : Symbology) (xs : List ℕ) (m : ℕ) → m ≡ barcode_mode A s
 spelled_a s xs m mode form h =
     subst (λ v. Spells (kind.Bars (barcode A s xs)) (GS ∷ 0x6B ∷ v ∷ (xs ++ 0 ∷ []))) (sym mode) (at_row (kind.Bars (barcode A s xs)) (both _ _ form h))
 
--- A symbology all of whose places allow the same bytes, 0 among them and 00 not, and which has a content of the most bytes.
+-- A symbology that allows the same bytes at all places, the digit 0 among them and 00 not, and has a content of the most
+-- bytes.
 record Plain (s : Symbology) (most : ℕ) : Type 0 where
   form : has_form A s ≡ true
   same : (n : ℕ) (xs : List ℕ) → all_from 0 (allows s n) xs ≡ list_all (plain_byte s) xs

@@ -23,7 +23,7 @@ all_from-snoc place test (x ∷ xs) b h k =
     (all_from-snoc (place + 1) test xs b (and_right (test place x) (all_from (place + 1) test xs) h)
     (subst (λ n. test n b ≡ true) (let e : place + length (x ∷ xs) ≡ place + 1 + length xs = omega arith in e) k))
 
--- The bytes before a place pass, and so does the one there.
+-- Where all bytes before a place pass, and the one there does, all up to it do.
 pub all_before : (test : ℕ → ℕ → Bool) (xs : List ℕ) (at : ℕ) → at < length xs → all_from 0 test (take at xs) ≡ true → test at (slice_index_or xs at 0) ≡ true
     → all_from 0 test (take (at + 1) xs) ≡ true
 all_before test xs at inside h k =
@@ -31,7 +31,7 @@ all_before test xs at inside h k =
     (all_from-snoc 0 test (take at xs) (slice_index_or xs at 0) h
     (subst (λ n. test n (slice_index_or xs at 0) ≡ true) (let e : at ≡ 0 + length (take at xs) = omega (arith, length-take at xs) in e) k))
 
--- Where all bytes pass, each does.
+-- Where all bytes pass, the byte at each place does.
 pub all_at : (place : ℕ) (test : ℕ → ℕ → Bool) (xs : List ℕ) (at : ℕ) → all_from place test xs ≡ true → at < length xs → test (place + at) (slice_index_or xs at 0) ≡ true
 all_at place test [] at h inside = absurd (omega arith)
 all_at place test (x ∷ xs) zero h inside = subst (λ n. test n x ≡ true) (sym (add-zero place)) (and_left (test place x) (all_from (place + 1) test xs) h)
@@ -39,7 +39,7 @@ all_at place test (x ∷ xs) (suc at) h inside =
     subst (λ n. test n (slice_index_or xs at 0) ≡ true) (let e : place + 1 + at ≡ place + suc at = omega arith in e)
     (all_at (place + 1) test xs at (and_right (test place x) (all_from (place + 1) test xs) h) (omega arith))
 
--- So no byte of a content is one that can't stand where it is.
+-- So no byte of a content is refused at its place.
 pub no_first : (test : ℕ → ℕ → Bool) (xs : List ℕ) (at : ℕ) → all_from 0 test xs ≡ true → at < length xs → test at (slice_index_or xs at 0) ≡ false → ⊥
 no_first test xs at h inside k =
     let passes : test at (slice_index_or xs at 0) ≡ true = subst (λ n. test n (slice_index_or xs at 0) ≡ true) (let e : 0 + at ≡ at = omega arith in e) (all_at 0 test xs at h inside) in

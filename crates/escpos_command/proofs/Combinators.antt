@@ -1,5 +1,5 @@
--- The combinators of the tree: which bytes lead through them, and that they are good where their parts are.
--- Each fact is shown once, for any test, table or length.
+-- The combinators of the tree: which bytes lead through them, and that they are good where their parts are. Each fact is
+-- proved once, for any test, table or length.
 use Rattle.std.proofs.Common.{◌≡◌, ℕ, List, [], ◌∷◌, ◌++◌, length, refl, sym, ◌∙◌, ap, subst, append_assoc, arith, Bool, true, false, cond, zero, suc, append-nil, ◌+◌, ◌≤◌, length-append}
 use Rattle.std.specs.Prelude.{◌==◌, ◌&&◌}
 use Rattle.std.specs.List.{list_all, AllByRecursion}

@@ -1,4 +1,4 @@
--- Bytes copied from a place on to the front of a buffer, part by part.
+-- Bytes copied, from a place on, to the start of a buffer, part by part.
 use Rattle.std.proofs.Common.{◌≡◌, ◌≤◌, ◌⊎◌, inl, inr, ℕ, ◌+◌, ◌-◌, min, List, [], ◌++◌, sym, ◌∙◌, ap, arith, length, take, drop, length-take, length-drop, length-append, append_assoc, append-nil}
 use Rattle.std.proofs.lemmas.List.{take-append-le, drop-append-le, take_all, drop_all}
 use Rattle.std.proofs.Math.Seq.{take-append-add, drop-append-add, take-append_seam, drop-append_seam}
@@ -16,7 +16,7 @@ drop-append n xs ys (inr h) =
 one_side : (n m : ℕ) → (n ≤ m) ⊎ (m ≤ n)
 one_side n m = search arith
 
--- The front of two lists, of which the first is taken whole or nothing of the second is.
+-- A prefix of two lists joined, which either takes the whole first list or nothing of the second.
 take-append : (n k : ℕ) (xs ys : List ℕ) → n ≤ length xs → (n ≡ length xs) ⊎ (k ≡ 0) → take (n + k) (xs ++ ys) ≡ take n xs ++ take k ys
 take-append n k xs ys h (inl e) =
     ap (λ m. take (m + k) (xs ++ ys)) e ∙ take-append-add xs ys k ∙ ap (λ v. v ++ take k ys) (sym (ap (λ m. take m xs) e ∙ take_all (length xs) xs (omega arith)))

@@ -9,4 +9,5 @@ pub mod FirstProfile
 pub mod Ids
 pub mod Copied
 pub mod Resynchronisation
-pub mod Hearing
+pub mod AnswerReadings
+pub mod FirstReading

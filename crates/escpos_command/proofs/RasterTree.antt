@@ -8,7 +8,7 @@ use Rattle.escpos_command.specs.declared.command.Command.TheVariants as kind
 use Rattle.escpos_command.specs.Parameters.{is_byte, is_one_of_four}
 use Rattle.escpos_command.specs.Rasters.{picture, is_raster, is_width, is_height}
 use Rattle.escpos_command.specs.CommandTable.{Spells}
-use Rattle.escpos_command.specs.Tree.{leaf, dead, walk, passing, these, dots_of, raster}
+use Rattle.escpos_command.specs.Tree.{leaf, dead, walk, passing, these, dots_tree, raster}
 use Rattle.escpos_command.proofs.Walks.{Good}
 use Rattle.escpos_command.proofs.Combinators.{good_passing, good_these, good_counted, walk-counted, live_counted, all_from_all, and_left, and_right, both, same_number, number_itself, at_row}
 
@@ -53,13 +53,13 @@ leads_raster scale width height dots h =
     let size : (w low high : ℕ) → w ≡ width → is_byte low ≡ true → low + 256 * high ≡ height
     → walk raster (0x30 ∷ scale ∷ w ∷ 0 ∷ low ∷ high ∷ (dots ++ [])) ≡ leaf (kind.Raster (picture scale width height dots)) =
     λ w low high same is_low e.
-    ap (λ v. walk (cond v (passing is_width (λ w. these (0x00 ∷ []) (passing is_byte (λ low. passing (λ high. is_height (low + 256 * high)) (λ high. dots_of scale w (low + 256 * high) (w * (low + 256 * high)) []))))) dead) (w ∷ 0 ∷ low ∷ high ∷ (dots ++ []))) r.scale_in
-    ∙ ap (λ v. walk (cond v (these (0x00 ∷ []) (passing is_byte (λ low. passing (λ high. is_height (low + 256 * high)) (λ high. dots_of scale w (low + 256 * high) (w * (low + 256 * high)) [])))) dead) (0 ∷ low ∷ high ∷ (dots ++ []))) (ap is_width same ∙ r.width_in)
-    ∙ ap (λ v. walk (cond v (passing (λ high. is_height (low + 256 * high)) (λ high. dots_of scale w (low + 256 * high) (w * (low + 256 * high)) [])) dead) (high ∷ (dots ++ []))) is_low
-    ∙ ap (λ v. walk (cond v (dots_of scale w (low + 256 * high) (w * (low + 256 * high)) []) dead) (dots ++ [])) (ap is_height e ∙ r.height_in)
-    ∙ ap (λ v. walk (dots_of scale w v (w * v) []) (dots ++ [])) e
-    ∙ ap (λ v. walk (dots_of scale v height (v * height) []) (dots ++ [])) same
-    ∙ ap (walk (dots_of scale width height (width * height) [])) (append-nil dots)
+    ap (λ v. walk (cond v (passing is_width (λ w. these (0x00 ∷ []) (passing is_byte (λ low. passing (λ high. is_height (low + 256 * high)) (λ high. dots_tree scale w (low + 256 * high) (w * (low + 256 * high)) []))))) dead) (w ∷ 0 ∷ low ∷ high ∷ (dots ++ []))) r.scale_in
+    ∙ ap (λ v. walk (cond v (these (0x00 ∷ []) (passing is_byte (λ low. passing (λ high. is_height (low + 256 * high)) (λ high. dots_tree scale w (low + 256 * high) (w * (low + 256 * high)) [])))) dead) (0 ∷ low ∷ high ∷ (dots ++ []))) (ap is_width same ∙ r.width_in)
+    ∙ ap (λ v. walk (cond v (passing (λ high. is_height (low + 256 * high)) (λ high. dots_tree scale w (low + 256 * high) (w * (low + 256 * high)) [])) dead) (high ∷ (dots ++ []))) is_low
+    ∙ ap (λ v. walk (cond v (dots_tree scale w (low + 256 * high) (w * (low + 256 * high)) []) dead) (dots ++ [])) (ap is_height e ∙ r.height_in)
+    ∙ ap (λ v. walk (dots_tree scale w v (w * v) []) (dots ++ [])) e
+    ∙ ap (λ v. walk (dots_tree scale v height (v * height) []) (dots ++ [])) same
+    ∙ ap (walk (dots_tree scale width height (width * height) [])) (append-nil dots)
     ∙ walk-counted (width * height) (λ _. is_byte) (λ xs. kind.Raster (picture scale width height xs)) [] dots r.long (all_from_all 0 is_byte dots ∙ r.bytes) in
     ap (λ v. walk raster (0x30 ∷ scale ∷ width % 256 ∷ v ∷ height % 256 ∷ height / 256 ∷ (dots ++ []))) (width_high width r.width_in)
     ∙ size (width % 256) (height % 256) (height / 256) (width_low width r.width_in) (low_byte height) (height_bytes height)

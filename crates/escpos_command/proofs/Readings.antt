@@ -11,6 +11,7 @@ use Rattle.escpos_command.specs.declared.command.Command.TheVariants.{LineFeed}
 use Rattle.escpos_command.specs.declared.fault.FaultReason.{FaultReason}
 use Rattle.escpos_command.specs.CommandTable.{Spells, IsCommand, row, spell}
 use Rattle.escpos_command.specs.Grammar.{Viable, Half, Reads, FaultAt}
+use Rattle.escpos_command.specs.Laws.{IsRead, IsRefused}
 use Rattle.escpos_command.specs.Places.{reason_after}
 use Rattle.escpos_command.specs.Tree.{Tree, dead, leaf, node, walk, grammar}
 use Rattle.escpos_command.proofs.Walks.{IsLive, Good, walk-append, walk-nil, good_walk, good_live}
@@ -136,7 +137,7 @@ some_first : (c d : Command) (x y : List ℕ) → found c x ≡ found d y → (c
 unfolding command_of rest_of
 some_first c d x y e = (ap command_of e, ap rest_of e)
 
--- Joined spellings, followed by nothing whole, are those of one list of commands, and of one rest.
+-- Joined spellings, followed by bytes that hold no whole command, are those of one list of commands, and of one rest.
 one_split : (cs ds : List Command) (x y : List ℕ) → AllByRecursion IsCommand cs → AllByRecursion IsCommand ds → Silent x → Silent y
     → spell cs ++ x ≡ spell ds ++ y → (cs ≡ ds) × (x ≡ y)
 one_split [] [] x y hc hd sx sy e = (refl, e)
@@ -155,7 +156,7 @@ one_split (c ∷ cs) (d ∷ ds) x y hc hd sx sy e =
 
 pub one_reading : (bs : List ℕ) (cs ds : List Command) (x y : List ℕ) → Reads bs cs x → Reads bs ds y → (cs ≡ ds) × (x ≡ y)
 one_reading bs cs ds x y r s =
-    one_split cs ds x y r.commands s.commands (silent_rest x r.left) (silent_rest y s.left) (sym r.whole ∙ s.whole)
+    one_split cs ds x y r.commands s.commands (silent_rest x r.rest_is) (silent_rest y s.rest_is) (sym r.whole ∙ s.whole)
 
 -- ## One fault
 
@@ -172,7 +173,7 @@ fault_bytes bs cs rest k why f =
 
 fault_silent : (bs : List ℕ) (cs : List Command) (rest : List ℕ) (k : ℕ) (why : FaultReason) → FaultAt bs cs rest k why
     → Silent (rest ++ slice_index bs k ∷ drop (k + 1) bs)
-fault_silent bs cs rest k why f = silent_refused rest (slice_index bs k) (drop (k + 1) bs) f.before.left f.refused
+fault_silent bs cs rest k why f = silent_refused rest (slice_index bs k) (drop (k + 1) bs) f.before.rest_is f.refused
 
 -- A rest can't begin with another rest and the byte that is refused after it.
 rest_refused : (rest other : List ℕ) (b : ℕ) (more : List ℕ) → IsRest other → (Viable (rest ++ b ∷ []) → ⊥) → other ≡ rest ++ b ∷ more → ⊥
@@ -180,7 +181,7 @@ rest_refused rest other b more (inl e) r h = let longer = ap length (sym e ∙ h
 rest_refused rest other b more (inr p) r h =
     r (viable_prefix (rest ++ b ∷ []) more (subst (λ xs. Viable xs) (h ∙ sym (append_assoc rest (b ∷ []) more)) p.viable))
 
--- Where two lists agree, one front goes no further than the other, or they are the same.
+-- Where two lists agree, one prefix goes no further than the other, or they are the same.
 data Meets (x y : List ℕ) (b c : ℕ) : Type 0 where
   same : x ≡ y → Meets x y b c
   shorter : (more : List ℕ) → y ≡ x ++ b ∷ more → Meets x y b c
@@ -219,7 +220,7 @@ pub one_fault : (bs : List ℕ) (cs ds : List Command) (x y : List ℕ) (k l : �
 one_fault bs cs ds x y k l why also f g =
     let split = one_split cs ds _ _ f.before.commands g.before.commands (fault_silent bs cs x k why f) (fault_silent bs ds y l also g)
     (sym (fault_bytes bs cs x k why f) ∙ fault_bytes bs ds y l also g) in
-    let rest = one_rest x y _ _ (meets x y _ _ _ _ split.1) f.before.left g.before.left f.refused g.refused in (
+    let rest = one_rest x y _ _ (meets x y _ _ _ _ split.1) f.before.rest_is g.before.rest_is f.refused g.refused in (
       split.0,
       rest,
       fault_place bs cs x k why f ∙ ap (λ v. length (spell v ++ x)) split.0 ∙ ap (λ v. length (spell ds ++ v)) rest ∙ sym (fault_place bs ds y l also g),
@@ -229,9 +230,12 @@ one_fault bs cs ds x y k l why also f g =
 -- What is read has no fault.
 pub not_both : (bs : List ℕ) (cs ds : List Command) (x y : List ℕ) (k : ℕ) (why : FaultReason) → Reads bs cs x → FaultAt bs ds y k why → ⊥
 not_both bs cs ds x y k why r f =
-    let split = one_split cs ds x _ r.commands f.before.commands (silent_rest x r.left) (fault_silent bs ds y k why f)
+    let split = one_split cs ds x _ r.commands f.before.commands (silent_rest x r.rest_is) (fault_silent bs ds y k why f)
     (sym r.whole ∙ fault_bytes bs ds y k why f) in
-    rest_refused y x (slice_index bs k) (drop (k + 1) bs) r.left f.refused split.1
+    rest_refused y x (slice_index bs k) (drop (k + 1) bs) r.rest_is f.refused split.1
+
+pub never_both : (bs : List ℕ) → IsRead bs → IsRefused bs → ⊥
+never_both bs r f = not_both bs r.0 f.0 r.1 f.1 f.2 f.3 r.2 f.4
 
 -- ## Each byte list is read or refused
 
@@ -246,17 +250,17 @@ joined a b cs ds r s h k = record {
   whole =
       ap (λ xs. xs ++ b) h.whole ∙ append_assoc (spell cs) r b ∙ ap (λ xs. spell cs ++ xs) k.whole
       ∙ sym (append_assoc (spell cs) (spell ds) s) ∙ ap (λ xs. xs ++ s) (sym (flat_map-append row cs ds));
-  left = k.left;
+  rest_is = k.rest_is;
 }
 
 pub reads_nothing : Reads [] [] []
-reads_nothing = record { commands = tt; whole = refl; left = inl refl }
+reads_nothing = record { commands = tt; whole = refl; rest_is = inl refl }
 
 pub reads_command : (c : Command) (bs : List ℕ) → Spells c bs → Reads bs (c ∷ []) []
-reads_command c bs s = record { commands = (s.in_range, tt); whole = s.in_table ∙ sym (append-nil (row c)) ∙ sym (append-nil (row c ++ [])); left = inl refl }
+reads_command c bs s = record { commands = (s.in_range, tt); whole = s.in_table ∙ sym (append-nil (row c)) ∙ sym (append-nil (row c ++ [])); rest_is = inl refl }
 
 pub reads_half : (bs : List ℕ) → Half bs → Reads bs [] bs
-reads_half bs h = record { commands = tt; whole = refl; left = inr h }
+reads_half bs h = record { commands = tt; whole = refl; rest_is = inr h }
 
 pub not_empty : (bs : List ℕ) (b : ℕ) → bs ++ b ∷ [] ≢ []
 not_empty bs b e = let longer = ap length e in let count = length-append bs (b ∷ []) in omega arith
@@ -315,7 +319,7 @@ no_prefix c d a more s t =
 
 -- ## Faults of joined lists
 
--- A fault of the front of a list is one of the whole list.
+-- A fault in a prefix of a list is one of the whole list.
 pub fault_of_front : (a more : List ℕ) (cs : List Command) (rest : List ℕ) (k : ℕ) (why : FaultReason) → FaultAt a cs rest k why → FaultAt (a ++ more) cs rest k why
 fault_of_front a more cs rest k why f =
     let place = f.place in
@@ -328,7 +332,7 @@ fault_of_front a more cs rest k why f =
     }
 
 reads_spelled : (cs : List Command) → AllByRecursion IsCommand cs → Reads (spell cs) cs []
-reads_spelled cs h = record { commands = h; whole = sym (append-nil (spell cs)); left = inl refl }
+reads_spelled cs h = record { commands = h; whole = sym (append-nil (spell cs)); rest_is = inl refl }
 
 -- A fault goes on where a reading stopped.
 pub fault_joined : (a b : List ℕ) (cs ds : List Command) (r s : List ℕ) (k : ℕ) (why : FaultReason) → Reads a cs r → FaultAt (r ++ b) ds s k why
@@ -342,7 +346,7 @@ fault_joined a b cs ds r s k why h f =
       reason = f.reason;
     }
 
--- Where a list is read with nothing left, so is what is left of a front of it.
+-- Where a list is read with nothing left, so is what a prefix of it leaves.
 pub cut : (a b : List ℕ) (all some : List Command) (r : List ℕ) → Reads (a ++ b) all [] → Reads a some r
     → (others : List Command) × (all ≡ some ++ others) × Reads (r ++ b) others []
 cut a b all some r h k = elim (outcome (r ++ b)) [

@@ -74,7 +74,7 @@ inside : (h u id : List ℕ) → h ≢ [] → IsTrue (is_mark_id id) → GS ∷ 
 inside [] u id begun ok e = begun refl
 inside (b ∷ h) u id begun ok e = loud h u (subst (λ v. Quiet v) (tail_of GS b (later id) (h ++ GS ∷ u) e) (quiet_later id ok))
 
--- Where two lists with something after them agree, the first is longer than the second, or it isn't.
+-- Where two lists with something after them agree, either the first is longer than the second or it isn't.
 data Split (a s h : List ℕ) (g : ℕ) (t : List ℕ) : Type 0 where
   longer : (u : List ℕ) → a ≡ h ++ g ∷ u → t ≡ u ++ s → Split a s h g t
   shorter : (y : List ℕ) → h ≡ a ++ y → Split a s h g t

@@ -25,7 +25,7 @@ leads_character b h =
     let gs : (b == 29) ≡ false = grind (arith, nat_tests) in
     rw (line_feed, carriage_return, dle, esc, gs, h)
 
--- A mode with a feed is no mode without one.
+-- A mode with a feed isn't a mode without one.
 feed_mode_apart : (m : ℕ) → is_feed_cut_mode m ≡ true → is_one_of_two m ≡ false
 feed_mode_apart m h = grind (arith, nat_tests)
 

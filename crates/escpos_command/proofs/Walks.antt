@@ -1,5 +1,5 @@
--- A tree whose leaves spell their commands, and where every live part leads to one. From such a tree, and
--- from each command leading to its leaf, all laws of the grammar follow at once for every kind.
+-- A tree whose leaves spell their commands, and in which every live part leads to one. From such a tree, and from each
+-- command leading to its leaf, all laws of the grammar follow at once for every kind.
 use Rattle.std.proofs.Common.{◌≡◌, ℕ, List, [], ◌∷◌, ◌++◌, refl, sym, subst, append_assoc, append-nil}
 use Rattle.escpos_command.specs.declared.command.Command.{Command}
 use Rattle.escpos_command.specs.CommandTable.{Spells}
@@ -11,7 +11,7 @@ IsLive dead = ⊥
 IsLive (leaf c) = Unit {0}
 IsLive (node next) = Unit {0}
 
--- At the bytes p the tree has only what the table has, and can always be walked on to a leaf.
+-- At the bytes p: each leaf below has the spelling of its command, and each node some byte that leads on.
 abbrev pub Good : List ℕ → Tree → Type 0
 Good p dead = Unit {0}
 Good p (leaf c) = Spells c p
@@ -38,7 +38,7 @@ good_walk p (node next) [] g = subst (λ xs. Good xs (node next)) (sym (append-n
 good_walk p (node next) (b ∷ q) g =
     subst (λ xs. Good xs (walk (next b) q)) (append_assoc p (b ∷ []) q) (good_walk (p ++ b ∷ []) (next b) q (g.1 b))
 
--- From a live good tree some spelling goes on.
+-- The bytes that lead to a live good tree are a prefix of some spelling.
 pub good_live : (p : List ℕ) (t : Tree) → Good p t → IsLive t → (c : Command) × (more : List ℕ) × Spells c (p ++ more)
 good_live p dead g l = absurd l
 good_live p (leaf c) g l = (c, [], subst (λ xs. Spells c xs) (sym (append-nil p)) g)

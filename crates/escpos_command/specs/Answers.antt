@@ -1,5 +1,5 @@
--- What a printer answers, and what a list of bytes from a printer says. As for commands, none of these definitions reads
--- byte by byte: they ask for the bytes of an answer that exists, or speak of a whole list.
+-- What a printer answers, and which answers a list of bytes from a printer holds. As for commands, none of these
+-- definitions reads byte by byte: they ask for the bytes of an answer that exists, or speak of a whole list.
 use Rattle.std.specs.Prelude.{ℕ, ◌≡◌, ◌≢◌, ◌⊎◌, ◌&&◌, not, Bool, List, [], ◌∷◌, ◌++◌, IsTrue}
 use Rattle.std.specs.List.{flat_map, AllByRecursion}
 use Rattle.escpos_command.specs.declared.answer.Answer.{Answer}
@@ -7,7 +7,7 @@ use Rattle.escpos_command.specs.declared.answer.Answer.TheVariants as answer
 use Rattle.escpos_command.specs.Meanings.{has_bit}
 use Rattle.escpos_command.specs.Parameters.{is_byte, is_mark_id}
 
--- A status byte has the bits 1 and 4 set, and the bits 0 and 7 clear.
+-- A status byte has bits 1 and 4 set, and bits 0 and 7 clear.
 abbrev pub is_status_byte : ℕ → Bool
 is_status_byte b = is_byte b && has_bit b 1 && has_bit b 4 && not (has_bit b 0) && not (has_bit b 7)
 
@@ -26,7 +26,7 @@ pub record AnswerSpells (a : Answer) (bs : List ℕ) : Type 0 where
   pub in_range : IsTrue (is_answer a)
   pub in_table : bs ≡ answer_bytes a
 
--- The bytes are a front of some answer's, perhaps all of them. The empty list is.
+-- The bytes are a prefix of some answer's bytes, perhaps all of them or none.
 abbrev pub ViableAnswer : List ℕ → Type 0
 ViableAnswer bs = (a : Answer) × (more : List ℕ) × AnswerSpells a (bs ++ more)
 
@@ -44,7 +44,7 @@ spell_answers answers = flat_map answer_bytes answers
 pub record Hears (bs : List ℕ) (answers : List Answer) (rest : List ℕ) : Type 0 where
   pub in_range : AllByRecursion (λ a. IsTrue (is_answer a)) answers
   pub whole : bs ≡ spell_answers answers ++ rest
-  pub left : (rest ≡ []) ⊎ HalfAnswer rest
+  pub rest_is : (rest ≡ []) ⊎ HalfAnswer rest
 
 -- The bytes are those of answers, one after another, and nothing is left.
 abbrev pub AreWholeAnswers : List ℕ → Type 0

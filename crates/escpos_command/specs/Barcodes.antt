@@ -11,7 +11,7 @@ use Rattle.escpos_command.specs.declared.bars.Form.TheVariants.{A, B}
 use Rattle.escpos_command.specs.declared.bars.Symbology.{Symbology}
 use Rattle.escpos_command.specs.declared.bars.Symbology.TheVariants.{UpcA, Ean13, Ean8, Code39, Itf, Codabar, Code128}
 
--- How a barcode is seen: its form, its symbology and its content, the bytes that it encodes.
+-- The model of a barcode: its form, its symbology and its content, the bytes that it encodes.
 pub record Barcode : Type 0 where
   pub form : Form
   pub symbology : Symbology
@@ -20,8 +20,8 @@ pub record Barcode : Type 0 where
 abbrev pub barcode : Form → Symbology → List ℕ → Barcode
 barcode form symbology content = record { form = form; symbology = symbology; content = content }
 
--- The byte m of GS k: form A counts the symbologies from 0 and form B from 65. Between those of the profile lie UPC-E,
--- 1, and CODE93, 7.
+-- The byte m of GS k is this number in form A, and 65 more in form B. The numbers 1 and 7, UPC-E and CODE93, are not in the
+-- profile.
 abbrev pub symbology_number : Symbology → ℕ
 symbology_number UpcA = 0
 symbology_number Ean13 = 2
@@ -67,7 +67,7 @@ is_code_set b = nat_le 0x41 b && nat_le b 0x43
 
 -- ## Contents
 
--- A content of this symbology may have so many bytes.
+-- A content of this symbology may have this many bytes.
 abbrev pub has_length : Symbology → ℕ → Bool
 has_length UpcA n = n == 11 || n == 12
 has_length Ean13 n = n == 12 || n == 13
@@ -104,18 +104,18 @@ is_barcode barcode = has_form barcode.form barcode.symbology && is_content barco
 -- ## Refusals
 
 -- The byte at this place is the first that the test refuses where it stands.
-pub record IsFirst (at : ℕ) (test : ℕ → ℕ → Bool) (bs : List ℕ) : Type 0 where
+pub record IsLeast (at : ℕ) (test : ℕ → ℕ → Bool) (bs : List ℕ) : Type 0 where
   pub inside : at < length bs
   pub refused : test at (slice_index bs at) ≡ false
   pub before : IsTrue (all_from 0 test (take at bs))
 
--- The first reason for which this is no barcode.
+-- The first reason for which this isn't a barcode.
 abbrev pub IsBarFault : BarFault → Barcode → Type 0
 IsBarFault fault.Form bars = has_form bars.form bars.symbology ≡ false
 IsBarFault fault.Length bars = IsTrue (has_form bars.form bars.symbology) × (has_length bars.symbology (length bars.content) ≡ false)
 IsBarFault (fault.Byte at) bars =
     IsTrue (has_form bars.form bars.symbology) × IsTrue (has_length bars.symbology (length bars.content))
-    × IsFirst at (allows bars.symbology (length bars.content)) bars.content
+    × IsLeast at (allows bars.symbology (length bars.content)) bars.content
 
 -- Barcodes with the same mode and content are the same.
 abbrev pub same_barcode : Barcode → Barcode → Bool

@@ -13,44 +13,44 @@ use Rattle.escpos_command.specs.Barcodes.{Barcode, barcode_mode, is_barcode}
 use Rattle.escpos_command.specs.Rasters.{Picture, is_raster}
 
 -- A line of the table: the fixed bytes, the parameter bytes that follow them, the content of a barcode or the dots of a
--- raster, a closing byte, and whether parameters and content are in range.
+-- raster, a suffix byte, and whether parameters and content are in range.
 pub record Entry : Type 0 where
-  pub front : List ℕ
+  pub prefix : List ℕ
   pub parameters : List ℕ
   pub content : List ℕ
-  pub closing : List ℕ
+  pub suffix : List ℕ
   pub in_range : Bool
 
 -- A line with no content.
 abbrev pub entry : List ℕ → List ℕ → Bool → Entry
-entry front parameters in_range =
-    record { front = front; parameters = parameters; content = []; closing = []; in_range = in_range }
+entry prefix parameters in_range =
+    record { prefix = prefix; parameters = parameters; content = []; suffix = []; in_range = in_range }
 
--- Form A of a barcode is closed by 00; form B has the length of the content before it.
+-- Form A of a barcode ends with 00; form B has the length of the content before it.
 abbrev pub sent_length : Form → ℕ → List ℕ
 sent_length A n = []
 sent_length B n = n ∷ []
 
-abbrev pub sent_closing : Form → List ℕ
-sent_closing A = 0x00 ∷ []
-sent_closing B = []
+abbrev pub sent_suffix : Form → List ℕ
+sent_suffix A = 0x00 ∷ []
+sent_suffix B = []
 
 abbrev pub barcode_entry : Barcode → Entry
 barcode_entry bars = record {
-  front = GS ∷ 0x6B ∷ [];
+  prefix = GS ∷ 0x6B ∷ [];
   parameters = barcode_mode bars.form bars.symbology ∷ sent_length bars.form (length bars.content);
   content = bars.content;
-  closing = sent_closing bars.form;
+  suffix = sent_suffix bars.form;
   in_range = is_barcode bars;
 }
 
 -- The size of a raster is sent as four bytes, the low one of each number first.
 abbrev pub raster_entry : Picture → Entry
 raster_entry raster = record {
-  front = GS ∷ 0x76 ∷ 0x30 ∷ [];
+  prefix = GS ∷ 0x76 ∷ 0x30 ∷ [];
   parameters = raster.scale ∷ raster.width % 256 ∷ raster.width / 256 ∷ raster.height % 256 ∷ raster.height / 256 ∷ [];
   content = raster.dots;
-  closing = [];
+  suffix = [];
   in_range = is_raster raster;
 }
 
@@ -80,7 +80,7 @@ entry_of (kind.Cut cut) = entry (GS ∷ 0x56 ∷ []) (cut.0 ∷ option_to_list c
 entry_of (kind.Status n) = entry (DLE ∷ EOT ∷ []) (n ∷ []) (is_status_kind n)  -- DLE EOT
 entry_of (kind.Mark id) = entry (GS ∷ 0x28 ∷ 0x48 ∷ 0x06 ∷ 0x00 ∷ 0x30 ∷ 0x30 ∷ []) id (is_mark_id id)  -- GS ( H, function 48
 
--- The parameters are in the ranges of the table. "A command" below is one of these.
+-- The parameters are in the ranges of the table. "A command" means one of these in what follows.
 abbrev pub IsCommand : Command → Type 0
 IsCommand c = IsTrue (entry_of c).in_range
 
@@ -90,7 +90,7 @@ AreCommands cs = AllByRecursion IsCommand cs
 
 -- The bytes of the table's line, with the parameters and the content put in.
 abbrev pub row : Command → List ℕ
-row c = (entry_of c).front ++ (entry_of c).parameters ++ (entry_of c).content ++ (entry_of c).closing
+row c = (entry_of c).prefix ++ (entry_of c).parameters ++ (entry_of c).content ++ (entry_of c).suffix
 
 -- The bytes are the spelling of the command.
 pub record Spells (c : Command) (bs : List ℕ) : Type 0 where

@@ -1,6 +1,6 @@
--- The first profile of this project: the command table without ESC J and ESC p, and with rasters of at most 2,047 rows.
--- The definitions of the grammar are stated again for the commands of that profile alone, so that the laws can say what
--- has changed for those who relied on its refusals.
+-- The first profile of this project: the command table without ESC J and ESC p, and with rasters of at most 2,047 rows. The
+-- definitions of the grammar are stated again for the commands of that profile alone, so that the laws can say what has
+-- changed for programs that relied on its refusals.
 use Rattle.std.specs.Prelude.{ℕ, ◌≡◌, ◌≢◌, ◌<◌, ◌≤◌, ◌+◌, ◌*◌, ◌⊎◌, nat_le, Bool, true, false, IsTrue, List, [], ◌∷◌, ◌++◌, length, take, slice_index}
 use Rattle.std.specs.List.{AllByRecursion}
 use Rattle.escpos_command.specs.declared.bytes.TheConstants.{ESC, GS}
@@ -11,14 +11,14 @@ use Rattle.escpos_command.specs.CommandTable.{Spells, IsCommand, spell}
 use Rattle.escpos_command.specs.Places.{reason_after}
 
 -- The commands of the first profile.
-abbrev pub is_first : Command → Bool
-is_first (kind.FeedUnits n) = false
-is_first (kind.Pulse pulse) = false
-is_first (kind.Raster raster) = nat_le raster.height 2047
-is_first _ = true
+abbrev pub in_first_profile : Command → Bool
+in_first_profile (kind.FeedUnits n) = false
+in_first_profile (kind.Pulse pulse) = false
+in_first_profile (kind.Raster raster) = nat_le raster.height 2047
+in_first_profile _ = true
 
 abbrev pub SpellsFirst : Command → List ℕ → Type 0
-SpellsFirst c bs = IsTrue (is_first c) × Spells c bs
+SpellsFirst c bs = IsTrue (in_first_profile c) × Spells c bs
 
 abbrev pub ViableFirst : List ℕ → Type 0
 ViableFirst bs = (c : Command) × (more : List ℕ) × SpellsFirst c (bs ++ more)
@@ -29,9 +29,9 @@ pub record HalfFirst (bs : List ℕ) : Type 0 where
   pub no_spelling : (c : Command) → SpellsFirst c bs → ⊥
 
 pub record ReadsFirst (bs : List ℕ) (cs : List Command) (rest : List ℕ) : Type 0 where
-  pub commands : AllByRecursion (λ c. IsCommand c × IsTrue (is_first c)) cs
+  pub commands : AllByRecursion (λ c. IsCommand c × IsTrue (in_first_profile c)) cs
   pub whole : bs ≡ spell cs ++ rest
-  pub left : (rest ≡ []) ⊎ HalfFirst rest
+  pub rest_is : (rest ≡ []) ⊎ HalfFirst rest
 
 pub record FaultAtFirst (bs : List ℕ) (cs : List Command) (rest : List ℕ) (k : ℕ) (why : FaultReason) : Type 0 where
   pub place : k < length bs

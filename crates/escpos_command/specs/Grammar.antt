@@ -7,7 +7,7 @@ use Rattle.escpos_command.specs.declared.fault.FaultReason.{FaultReason}
 use Rattle.escpos_command.specs.CommandTable.{Spells, IsCommand, spell}
 use Rattle.escpos_command.specs.Places.{reason_after}
 
--- The bytes are a prefix of some spelling, perhaps all of it. The empty list is.
+-- The bytes are a prefix of some spelling, perhaps all of it or nothing.
 abbrev pub Viable : List ℕ → Type 0
 Viable bs = (c : Command) × (more : List ℕ) × Spells c (bs ++ more)
 
@@ -21,7 +21,7 @@ pub record Half (bs : List ℕ) : Type 0 where
 pub record Reads (bs : List ℕ) (cs : List Command) (rest : List ℕ) : Type 0 where
   pub commands : AllByRecursion IsCommand cs
   pub whole : bs ≡ spell cs ++ rest
-  pub left : (rest ≡ []) ⊎ Half rest
+  pub rest_is : (rest ≡ []) ⊎ Half rest
 
 -- The byte at place k is refused: the k bytes before it read as cs and rest, and no spelling begins with
 -- rest and that byte. The reason follows from rest.

@@ -1,4 +1,4 @@
--- Which bytes each parameter of the command table may be. A parameter is seen as its byte, kept as sent.
+-- Which bytes each parameter of the command table may be. The model of a parameter is its byte, as sent.
 use Rattle.std.specs.Prelude.{ℕ, ◌==◌, ◌&&◌, ◌||◌, ◌%◌, nat_le, nat_lt, Bool, List, length, Option, None, Some}
 use Rattle.std.specs.List.{list_all}
 
@@ -40,8 +40,8 @@ is_status_kind n = nat_le 1 n && nat_le n 4
 abbrev pub is_feed_cut_mode : ℕ → Bool
 is_feed_cut_mode m = m == 65 || m == 66
 
--- What GS V takes: a mode alone, 0 and 48 through, 1 and 49 leaving a point; or another mode and how far
--- the paper is fed first, in motion units.
+-- What GS V takes: a mode alone, 0 and 48 through, 1 and 49 leaving a point; or another mode and how far the paper is fed
+-- first, in motion units.
 abbrev pub is_cut : ℕ → Option ℕ → Bool
 is_cut m None = is_one_of_two m
 is_cut m (Some n) = is_feed_cut_mode m && is_byte n

@@ -30,17 +30,17 @@ reason_after (b ∷ letter ∷ third ∷ fourth ∷ bs) =
     if begins_barcode b letter then BadBarcode else if begins_raster b letter then BadSize else BadParameter
 
 -- The numbers that programs print.
-abbrev pub number_of : FaultReason → ℕ
-number_of UnknownByte = 1
-number_of UnknownCommand = 2
-number_of BadParameter = 3
-number_of BadBarcode = 4
-number_of BadSize = 5
+abbrev pub reason_number : FaultReason → ℕ
+reason_number UnknownByte = 1
+reason_number UnknownCommand = 2
+reason_number BadParameter = 3
+reason_number BadBarcode = 4
+reason_number BadSize = 5
 
 -- The names that programs print.
-abbrev pub name_of : FaultReason → List ℕ
-name_of UnknownByte = codes "UnknownByte"
-name_of UnknownCommand = codes "UnknownCommand"
-name_of BadParameter = codes "BadParameter"
-name_of BadBarcode = codes "BadBarcode"
-name_of BadSize = codes "BadSize"
+abbrev pub reason_name : FaultReason → List ℕ
+reason_name UnknownByte = codes "UnknownByte"
+reason_name UnknownCommand = codes "UnknownCommand"
+reason_name BadParameter = codes "BadParameter"
+reason_name BadBarcode = codes "BadBarcode"
+reason_name BadSize = codes "BadSize"

@@ -5,8 +5,8 @@ use Rattle.escpos_command.specs.declared.raster.RasterFault.{RasterFault}
 use Rattle.escpos_command.specs.declared.raster.RasterFault.TheVariants as fault
 use Rattle.escpos_command.specs.Parameters.{is_byte, is_one_of_four}
 
--- How a raster is seen: the byte of its scale as sent, the bytes in each of its rows, the number of rows, and the dots, row
--- by row from the top, eight to a byte.
+-- The model of a raster: the byte of its scale as sent, the bytes in each of its rows, the number of rows, and the dots,
+-- row by row from the top, eight to a byte.
 pub record Picture : Type 0 where
   pub scale : ℕ
   pub width : ℕ
@@ -29,12 +29,12 @@ is_width n = nat_le 1 n && nat_le n widest
 abbrev pub is_height : ℕ → Bool
 is_height n = nat_le 1 n && nat_le n highest
 
--- A scale of the table, a size, and as many bytes of dots as the size says.
+-- A scale of the table, a size in range, and as many bytes of dots as the size says.
 abbrev pub is_raster : Picture → Bool
 is_raster p =
     is_one_of_four p.scale && is_width p.width && is_height p.height && length p.dots == p.width * p.height && list_all is_byte p.dots
 
--- The first reason for which this is no raster.
+-- The first reason for which this isn't a raster.
 abbrev pub IsRasterFault : RasterFault → Picture → Type 0
 IsRasterFault fault.Scale p = is_one_of_four p.scale ≡ false
 IsRasterFault fault.Width p = IsTrue (is_one_of_four p.scale) × (is_width p.width ≡ false)

@@ -31,12 +31,12 @@ ends_text (kind.HriFont n) = false
 ends_text (kind.Status n) = false
 ends_text (kind.Mark id) = false
 
--- The character of a Char command, as a list of one; of any other command none.
+-- The character of a Char command, as a list of one; none for any other command.
 abbrev pub characters : Command → List ℕ
 characters (kind.Char b) = b ∷ []
 characters _ = []
 
--- The Char commands after the last command that ends text: each that no such command follows.
+-- The Char commands after the last command that ends text.
 abbrev pub text : List Command → List ℕ
 text [] = []
 text (c ∷ cs) = (if list_any ends_text cs then [] else characters c) ++ text cs

@@ -1,5 +1,5 @@
--- The command table as a tree of bytes. Proofs and private clauses alone go by it: the definitions of
--- CommandTable and Grammar do not, and are shown to agree with it.
+-- The command table as a tree of bytes. Only proofs and private clauses use it: the definitions of CommandTable and Grammar
+-- do not, and are proved to agree with it.
 use Rattle.std.proofs.Common.{zero, suc}
 use Rattle.std.specs.Prelude.{ℕ, ◌==◌, ◌+◌, ◌*◌, Bool, List, [], ◌∷◌, ◌++◌, length, if◌then◌else◌, None, Some}
 use Rattle.escpos_command.specs.declared.bytes.TheConstants.{LF, CR, DLE, ESC, GS, EOT}
@@ -12,13 +12,13 @@ use Rattle.escpos_command.specs.Parameters.{is_character, is_one_of_two, is_one_
 use Rattle.escpos_command.specs.Barcodes.{barcode, has_length, allows, is_digit, is_code39, is_codabar, is_codabar_end}
 use Rattle.escpos_command.specs.Rasters.{picture, is_width, is_height}
 
--- Where the bytes so far lead: to no command, to a whole one, or on, by the next byte.
+-- Where the bytes so far lead: to no command, to a whole one, or to a choice by the next byte.
 pub data Tree : Type 0 where
   dead : Tree
   leaf : Command → Tree
   node : (ℕ → Tree) → Tree
 
--- Where the bytes lead from a tree.
+-- Where bytes lead, from a tree on.
 abbrev pub walk : Tree → List ℕ → Tree
 walk dead bs = dead
 walk (leaf c) [] = leaf c
@@ -26,25 +26,25 @@ walk (leaf c) (b ∷ bs) = dead
 walk (node next) [] = node next
 walk (node next) (b ∷ bs) = walk (next b) bs
 
--- These bytes, and then a tree.
+-- These bytes, then a tree.
 abbrev pub these : List ℕ → Tree → Tree
 these [] t = t
 these (b ∷ bs) t = node (λ x. if x == b then these bs t else dead)
 
--- A byte that passes a test, and then a tree that it chooses.
+-- A byte that passes a test, then a tree that the byte chooses.
 abbrev pub passing : (ℕ → Bool) → (ℕ → Tree) → Tree
 passing test next = node (λ x. if test x then next x else dead)
 
--- n more bytes after those read so far, each of which passes a test of its place, and the command that all of them make.
+-- n more bytes after those read so far, each of which passes a test of its place, then the command that all of them make.
 unfoldable pub counted : ℕ → (ℕ → ℕ → Bool) → (List ℕ → Command) → List ℕ → Tree
 counted zero test make read = leaf (make read)
 counted (suc n) test make read = passing (test (length read)) (λ b. counted n test make (read ++ b ∷ []))
 
--- The command of a content that ends here, where it is whole.
+-- The command of a content that ends here, where the content is whole.
 abbrev pub ending : (List ℕ → Bool) → (List ℕ → Command) → List ℕ → Tree
 ending whole make read = if whole read then leaf (make read) else dead
 
--- At most n more bytes after those read so far, each of which passes a test, and then 00. All of them but the 00 make the
+-- At most n more bytes after those read so far, each of which passes a test, then 00. All of them but the 00 make the
 -- command, where they are whole.
 unfoldable pub closed : ℕ → (ℕ → Bool) → (List ℕ → Bool) → (List ℕ → Command) → List ℕ → Tree
 closed zero test whole make read = node (λ b. if b == 0 then ending whole make read else dead)
@@ -53,8 +53,8 @@ closed (suc n) test whole make read =
     else if test b then closed n test whole make (read ++ b ∷ [])
     else dead)
 
--- At most n more bytes after those read so far, each of which passes a test, then one that stops them, and then 00. All
--- of them but the 00 make the command.
+-- At most n more bytes after those read so far, each of which passes a test, then one that stops them, then 00. All of them
+-- but the 00 make the command.
 unfoldable pub stopped : ℕ → (ℕ → Bool) → (ℕ → Bool) → (List ℕ → Command) → List ℕ → Tree
 stopped zero test stops make read = node (λ b. if stops b then these (0x00 ∷ []) (leaf (make (read ++ b ∷ []))) else dead)
 stopped (suc n) test stops make read =
@@ -106,22 +106,22 @@ mark = these (0x48 ∷ 0x06 ∷ 0x00 ∷ 0x30 ∷ 0x30 ∷ []) (counted 4 (λ pl
 
 -- ## Barcodes
 
--- The bytes of a symbology all of whose places allow the same.
+-- The bytes of a symbology that allows the same bytes at all places.
 abbrev pub plain_byte : Symbology → ℕ → Bool
 plain_byte Code39 = is_code39
 plain_byte _ = is_digit
 
--- Form A of such a symbology, after the bytes of the content read so far; at most so many more follow, and then 00.
+-- Form A of such a symbology, after the bytes of the content read so far: at most this many more, then 00.
 abbrev pub plain_content : Symbology → ℕ → List ℕ → Tree
 plain_content symbology most read =
     closed most (plain_byte symbology) (λ content. has_length symbology (length content)) (λ content. kind.Bars (barcode A symbology content)) read
 
--- Form A of CODABAR, after the bytes read so far, the first among them: at most so many more follow, then the last, and
--- then 00.
+-- Form A of CODABAR, after the bytes of the content read so far, at least one: at most this many more, then the last, then
+-- 00.
 abbrev pub codabar_content : ℕ → List ℕ → Tree
 codabar_content most read = stopped most is_codabar is_codabar_end (λ content. kind.Bars (barcode A Codabar content)) read
 
--- Form B: the length n of the content, and then the content, of which so many bytes are still wanted.
+-- Form B: the length n of the content, then the content, of which this many bytes are still to come.
 abbrev pub content_of : Symbology → ℕ → ℕ → List ℕ → Tree
 content_of symbology n wanted read = counted wanted (allows symbology n) (λ content. kind.Bars (barcode B symbology content)) read
 
@@ -148,14 +148,14 @@ barcodes =
 
 -- ## Rasters
 
--- The dots of a raster of this scale and size, of which so many bytes are still wanted.
-abbrev pub dots_of : ℕ → ℕ → ℕ → ℕ → List ℕ → Tree
-dots_of scale width height wanted read = counted wanted (λ place. is_byte) (λ dots. kind.Raster (picture scale width height dots)) read
+-- The dots of a raster of this scale and size, of which this many bytes are still to come.
+abbrev pub dots_tree : ℕ → ℕ → ℕ → ℕ → List ℕ → Tree
+dots_tree scale width height wanted read = counted wanted (λ place. is_byte) (λ dots. kind.Raster (picture scale width height dots)) read
 
--- GS v 0: a scale, a width whose high byte is 0, a height with its low byte first, and the dots.
+-- GS v 0: a scale, a width whose high byte is 0, a height with its low byte first, then the dots.
 abbrev pub after_low : ℕ → ℕ → ℕ → Tree
 after_low scale width low =
-    passing (λ high. is_height (low + 256 * high)) (λ high. dots_of scale width (low + 256 * high) (width * (low + 256 * high)) [])
+    passing (λ high. is_height (low + 256 * high)) (λ high. dots_tree scale width (low + 256 * high) (width * (low + 256 * high)) [])
 
 abbrev pub after_width : ℕ → ℕ → Tree
 after_width scale width = passing is_byte (after_low scale width)

@@ -1,7 +1,7 @@
 //! What a printer answers: a status byte, or that everything before a mark is done.
 //!
-//! The bytes are this project's own choice. The first one tells which answer it is: bit 0 is clear in a status byte and
-//! set in 37. `specs/Answers.antt` has what a list of such bytes says.
+//! The bytes are this project's own choice. The first one shows which answer it is: bit 0 is clear in a status byte and set
+//! in 37. `specs/Answers.antt` defines which answers a list of such bytes holds.
 
 ghost use Rattle.std.specs.Prelude.{◌≡◌, IsTrue};
 ghost use Rattle.escpos_command.specs.Answers.{answer_bytes, is_answer, AnswerSpells};
@@ -19,7 +19,7 @@ pub enum Answer {
 }
 
 impl Answer {
-    /// The bytes that go to the host: a status byte as it is, and 37 22, the id and 00 for a mark. Takes no memory.
+    /// The bytes that go to the host: a status byte as it is, and 37 22, the id and 00 for a mark. Allocates nothing.
     pub fn bytes(self) -> ArrayVec<u8, 7>
         ensures bytes { result.items ≡ answer_bytes self }
         ensures spelled { IsTrue (is_answer self) → AnswerSpells self result.items }

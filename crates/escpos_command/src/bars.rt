@@ -1,15 +1,15 @@
-//! Barcodes: their symbologies, and the contents that each of them has. (Reference: GS k.)
+//! Barcodes: their symbologies, and the contents of each. (Reference: GS k.)
 //!
-//! `specs/Barcodes.antt` says what a content is. Here a content is checked as a whole; a reader that has only its front
-//! goes by the tests of single bytes (`Symbology::allows`, `is_digit` and its kin).
+//! `specs/Barcodes.antt` defines what a content is. Here a content is checked as a whole; a reader that has only its first
+//! bytes uses the tests of single bytes (`Symbology::allows`, `is_digit` and the like).
 
 ghost use Rattle.std.specs.Prelude.{◌≡◌, ◌≤◌, ◌<◌, length, IsTrue, IsOk, MatchOption, MatchResult};
-ghost use Rattle.escpos_command.specs.Barcodes.{barcode, barcode_mode, symbology_number, has_form, has_length, allows, all_from, is_barcode, is_digit, is_code39, is_codabar, is_codabar_end, IsBarFault, IsFirst};
+ghost use Rattle.escpos_command.specs.Barcodes.{barcode, barcode_mode, symbology_number, has_form, has_length, allows, all_from, is_barcode, is_digit, is_code39, is_codabar, is_codabar_end, IsBarFault, IsLeast};
 
 use crate::content::Bytes;
 use std::marker::Model;
 
-/// How the end of a barcode's content is told. (Reference: GS k.)
+/// How a reader finds the end of a barcode's content. (Reference: GS k.)
 #[derive(Clone, Copy, Debug, PartialEq, Eq)]
 pub enum Form {
     /// Function A: a byte 00 follows the content.
@@ -38,7 +38,7 @@ pub enum Symbology {
 }
 
 impl Symbology {
-    // How many symbologies the Reference counts before this one.
+    // How many symbologies come before this one in the Reference.
     fn number(self) -> u8
         ensures value { result ≡ symbology_number self }
         ensures small { result ≤ 8 }
@@ -61,7 +61,7 @@ impl Symbology {
         !matches!((self, form), (Symbology::Code128, Form::A))
     }
 
-    /// Whether a content may have so many bytes.
+    /// Whether a content may have this many bytes.
     pub fn has_length(self, length: usize) -> bool
         ensures { result ≡ has_length self length }
     {
@@ -75,7 +75,7 @@ impl Symbology {
         }
     }
 
-    /// Whether in a content of `length` bytes this byte may stand at this place, counted from 0.
+    /// Whether this byte may stand at this place, counted from 0, in a content of `length` bytes.
     pub fn allows(self, length: usize, place: usize, byte: u8) -> bool
         ensures { result ≡ allows self length place byte }
     {
@@ -130,7 +130,7 @@ pub fn is_codabar_end(byte: u8) -> bool
     matches!(byte, b'A'..=b'D' | b'a'..=b'd')
 }
 
-/// Why bytes are no barcode. The first reason that applies is given.
+/// Why bytes aren't a barcode: the first reason that applies.
 #[derive(Clone, Copy, Debug, PartialEq, Eq)]
 pub enum BarFault {
     /// 1: CODE128 has no form A.
@@ -161,9 +161,9 @@ impl Model for Bars {
 }
 
 impl Bars {
-    /// A barcode with this content. Takes no memory.
+    /// A barcode with this content. Allocates nothing.
     ///
-    /// `Err` hands the content back, with the first reason that applies.
+    /// `Err` returns the content, with the first reason that applies.
     pub fn new(
         form: Form,
         symbology: Symbology,
@@ -204,7 +204,7 @@ impl Bars {
         self.symbology
     }
 
-    /// The byte m, which tells symbology and form: 0 to 6 in form A, 65 to 73 in form B.
+    /// The byte m, which shows the symbology and the form: 0 to 6 in form A, 65 to 73 in form B.
     pub fn mode(&self) -> u8
         ensures { result ≡ barcode_mode self.now.form self.now.symbology }
     {
@@ -222,7 +222,7 @@ impl Bars {
         self.content.as_slice()
     }
 
-    /// Gives the content away. Takes no memory.
+    /// Gives the content away. Allocates nothing.
     pub fn into_content(self) -> Bytes
         ensures { result ≡ self.content }
     {
@@ -230,11 +230,11 @@ impl Bars {
     }
 }
 
-// The place of the first byte that can't stand where it does in a content of this symbology.
+// The first place with a byte that can't stand there in a content of this symbology.
 fn first_not_allowed(symbology: Symbology, content: &[u8]) -> Option<usize>
     ensures { MatchOption result
         (IsTrue (all_from 0 (allows symbology (length content.now)) content.now))
-        (λ at. IsFirst at (allows symbology (length content.now)) content.now) }
+        (λ at. IsLeast at (allows symbology (length content.now)) content.now) }
 {
     for (place, byte) in content.iter().enumerate() {
         if !symbology.allows(content.len(), place, *byte) {
@@ -248,7 +248,7 @@ impl PartialEq for Bars {
     ghost use Rattle.std.specs.Cmp.{partial_equiv_from_equiv};
     ghost use Rattle.escpos_command.specs.Barcodes.{same_barcode, same_barcode_equiv};
 
-    // The mode tells the form and the symbology.
+    // The mode shows the form and the symbology.
     ghost eq = { same_barcode };
 
     ghost laws = { partial_equiv_from_equiv same_barcode_equiv };

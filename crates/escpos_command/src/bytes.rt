@@ -9,14 +9,14 @@ pub const CR: u8 = 0x0D;
 /// Data link escape, the first byte of DLE EOT.
 pub const DLE: u8 = 0x10;
 
-/// Escape, the first byte of the commands ESC @ and its kin.
+/// Escape, the first byte of ESC @ and the commands like it.
 pub const ESC: u8 = 0x1B;
 
-/// Group separator, the first byte of the commands GS V and its kin.
+/// Group separator, the first byte of GS V and the commands like it.
 pub const GS: u8 = 0x1D;
 
 /// End of transmission, the second byte of DLE EOT.
 pub const EOT: u8 = 0x04;
 
-// The definitions cite these, so each is what the Reference says.
+// The definitions cite these values, so each is pinned to the Reference's.
 const _: () = prove!(LF == 10 && CR == 13 && DLE == 16 && ESC == 27 && GS == 29 && EOT == 4);

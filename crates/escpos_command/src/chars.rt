@@ -10,12 +10,12 @@ use crate::command::Command;
 use crate::parameter::Character;
 use std::alloc::{AllocError, Global};
 
-/// Why a text is no list of characters.
+/// Why a text isn't a list of characters.
 #[derive(Clone, Copy, Debug, PartialEq, Eq)]
 pub enum CharsFault {
     /// The byte at this place, the first such one, is below 20 hexadecimal.
     ControlByte { at: usize },
-    /// There is no memory for the commands of a text with no control byte.
+    /// Out of memory; the text has no control byte.
     Memory,
 }
 
@@ -30,7 +30,7 @@ impl From<AllocError> for CharsFault {
     }
 }
 
-/// One `Char` for each byte of `text`. A control byte is found before memory is asked for.
+/// One `Char` for each byte of `text`. A control byte is found before anything is allocated.
 pub fn chars_of(alloc: Global, text: &[u8]) -> Result<Vec<Command>, CharsFault>
     ensures chars { IfOk result (λ commands. commands.items ≡ map Char text.now) }
     ensures printing { IfOk result (λ _. AllPass is_character text.now) }
@@ -49,7 +49,7 @@ pub fn chars_of(alloc: Global, text: &[u8]) -> Result<Vec<Command>, CharsFault>
     Ok(commands)
 }
 
-// Whether the byte is a character.
+// Whether the byte is that of a character.
 fn is_character(byte: u8) -> bool
     ensures { result ≡ is_character byte }
 {

@@ -1,8 +1,8 @@
 //! The commands of the profile, and how each is spelled.
 //!
 //! A kind of command is a variant here with its line in `Command::parts`, a line of the command table
-//! (`specs/CommandTable.antt`), a branch of the tree of bytes (`specs/Tree.antt`) and a case of the proofs over that
-//! tree; no proof is about a pair of kinds. docs/ARCHITECTURE.md lists all places.
+//! (`specs/CommandTable.antt`), a branch of the tree of bytes (`specs/Tree.antt`) and a case of the proofs over that tree;
+//! no proof is about a pair of kinds. docs/ARCHITECTURE.md lists all places.
 
 ghost use Rattle.std.specs.Prelude.{◌≡◌, ◌≤◌, ◌+◌, [], ◌∷◌, length};
 ghost use Rattle.escpos_command.specs.CommandTable.{entry_of, barcode_entry, raster_entry, IsCommand};
@@ -25,9 +25,9 @@ pub enum Command {
     Char(Character),
     /// LF: prints the line and feeds one line. (Reference: LF.)
     LineFeed,
-    /// CR: taken and ignored. (Reference: CR.)
+    /// CR: ignored. (Reference: CR.)
     Return,
-    /// ESC @: drops the line and puts the power-on styles back. (Reference: ESC @.)
+    /// ESC @: drops the line and restores the power-on styles. (Reference: ESC @.)
     Init,
     /// ESC !: sets font, emphasis, size and underline at once. (Reference: ESC !.)
     Mode(Mode),
@@ -70,34 +70,35 @@ pub enum Command {
     Mark(MarkId),
 }
 
-/// The bytes of a command in four parts, one after another. Nothing of the size of a barcode or a raster is copied.
+/// The bytes of a command in four parts, one after another. The bytes of a barcode or a raster aren't copied.
 #[derive(Debug, Drop)]
 pub struct Parts<'a> {
     /// The fixed bytes that a command of this kind begins with; none for a character.
-    pub front: &'static [u8],
+    pub prefix: &'static [u8],
     /// The parameter bytes, at most 5.
     pub parameters: ArrayVec<u8, 5>,
     /// The content of a barcode or the dots of a raster; none for all other commands.
     pub content: &'a [u8],
-    /// The byte 00 that closes a barcode of form A; none for all other commands.
-    pub closing: &'static [u8],
+    /// The byte 00 that ends a barcode of form A; none for all other commands.
+    pub suffix: &'static [u8],
 }
 
-/// The most bytes that fixed bytes and parameters have.
-pub const LONGEST_FRONT: usize = 11;
+/// The most bytes that fixed bytes and parameters have together.
+pub const LONGEST_PREFIX: usize = 11;
 
-const _: () = prove!(LONGEST_FRONT == 11);
+const _: () = prove!(LONGEST_PREFIX == 11);
 
 impl Command {
-    /// The four parts of the spelling. Takes no memory.
-    // Left to itself the compiler calls this for each character of a listing as soon as it has a second caller.
+    /// The four parts of the spelling. Allocates nothing.
+    // Without the attribute the compiler no longer inlines this once it has a second caller, and a listing calls it for
+    // each character.
     #[inline]
     pub fn parts(&self) -> Parts<'_>
-        ensures front { result.front.now ≡ (entry_of self.now).front }
+        ensures prefix { result.prefix.now ≡ (entry_of self.now).prefix }
         ensures parameters { result.parameters.items ≡ (entry_of self.now).parameters }
         ensures content { result.content.now ≡ (entry_of self.now).content }
-        ensures closing { result.closing.now ≡ (entry_of self.now).closing }
-        ensures short { length result.front.now + length result.parameters.items ≤ LONGEST_FRONT }
+        ensures suffix { result.suffix.now ≡ (entry_of self.now).suffix }
+        ensures short { length result.prefix.now + length result.parameters.items ≤ LONGEST_PREFIX }
         ensures in_range { IsCommand self.now }
     {
         match self {
@@ -134,49 +135,49 @@ impl Command {
 }
 
 // Fixed bytes with no parameter.
-fn alone(front: &'static [u8]) -> Parts<'static>
-    ensures front { result.front.now ≡ front.now }
+fn alone(prefix: &'static [u8]) -> Parts<'static>
+    ensures prefix { result.prefix.now ≡ prefix.now }
     ensures parameters { result.parameters.items ≡ [] }
     ensures content { result.content.now ≡ [] }
-    ensures closing { result.closing.now ≡ [] }
+    ensures suffix { result.suffix.now ≡ [] }
 {
-    with_all(front, &[])
+    with_all(prefix, &[])
 }
 
 // Fixed bytes with one parameter byte.
-fn with(front: &'static [u8], parameter: u8) -> Parts<'static>
-    ensures front { result.front.now ≡ front.now }
+fn with(prefix: &'static [u8], parameter: u8) -> Parts<'static>
+    ensures prefix { result.prefix.now ≡ prefix.now }
     ensures parameters { result.parameters.items ≡ parameter ∷ [] }
     ensures content { result.content.now ≡ [] }
-    ensures closing { result.closing.now ≡ [] }
+    ensures suffix { result.suffix.now ≡ [] }
 {
-    with_all(front, &[parameter])
+    with_all(prefix, &[parameter])
 }
 
 // Fixed bytes with some parameter bytes.
-fn with_all(front: &'static [u8], bytes: &[u8]) -> Parts<'static>
+fn with_all(prefix: &'static [u8], bytes: &[u8]) -> Parts<'static>
     requires { length bytes.now ≤ 5 }
-    ensures front { result.front.now ≡ front.now }
+    ensures prefix { result.prefix.now ≡ prefix.now }
     ensures parameters { result.parameters.items ≡ bytes.now }
     ensures content { result.content.now ≡ [] }
-    ensures closing { result.closing.now ≡ [] }
+    ensures suffix { result.suffix.now ≡ [] }
 {
     let mut parameters = ArrayVec::new();
     parameters.try_extend_from_slice(bytes).unwrap();
     Parts {
-        front,
+        prefix,
         parameters,
         content: &[],
-        closing: &[],
+        suffix: &[],
     }
 }
 
 // The parts of a mark.
 fn mark(id: MarkId) -> Parts<'static>
-    ensures front { result.front.now ≡ (entry_of (kind.Mark id)).front }
+    ensures prefix { result.prefix.now ≡ (entry_of (kind.Mark id)).prefix }
     ensures parameters { result.parameters.items ≡ id }
     ensures content { result.content.now ≡ [] }
-    ensures closing { result.closing.now ≡ [] }
+    ensures suffix { result.suffix.now ≡ [] }
     ensures in_range { IsCommand (kind.Mark id) }
 {
     with_all(&[GS, b'(', b'H', 6, 0, b'0', b'0'], &id.bytes())
@@ -184,10 +185,10 @@ fn mark(id: MarkId) -> Parts<'static>
 
 // The parts of a barcode.
 fn barcode(bars: &Bars) -> Parts<'_>
-    ensures front { result.front.now ≡ (entry_of (kind.Bars bars.now)).front }
+    ensures prefix { result.prefix.now ≡ (entry_of (kind.Bars bars.now)).prefix }
     ensures parameters { result.parameters.items ≡ (entry_of (kind.Bars bars.now)).parameters }
     ensures content { result.content.now ≡ (entry_of (kind.Bars bars.now)).content }
-    ensures closing { result.closing.now ≡ (entry_of (kind.Bars bars.now)).closing }
+    ensures suffix { result.suffix.now ≡ (entry_of (kind.Bars bars.now)).suffix }
     ensures few { length result.parameters.items ≤ 2 }
     ensures in_range { IsCommand (kind.Bars bars.now) }
 {
@@ -195,7 +196,7 @@ fn barcode(bars: &Bars) -> Parts<'_>
     match bars.form() {
         Form::A => Parts {
             content,
-            closing: &[0],
+            suffix: &[0],
             ..with(&[GS, b'k'], bars.mode())
         },
         Form::B => Parts {
@@ -207,10 +208,10 @@ fn barcode(bars: &Bars) -> Parts<'_>
 
 // The parts of a raster.
 fn picture(raster: &Raster) -> Parts<'_>
-    ensures front { result.front.now ≡ (raster_entry raster.now).front }
+    ensures prefix { result.prefix.now ≡ (raster_entry raster.now).prefix }
     ensures parameters { result.parameters.items ≡ (raster_entry raster.now).parameters }
     ensures content { result.content.now ≡ raster.now.dots }
-    ensures closing { result.closing.now ≡ [] }
+    ensures suffix { result.suffix.now ≡ [] }
     ensures in_range { IsCommand (kind.Raster raster.now) }
 {
     let [width_low, width_high] = raster.width().to_le_bytes();

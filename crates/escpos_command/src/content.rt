@@ -1,4 +1,4 @@
-//! Bytes of any number that a command carries: the content of a barcode, or the dots of a raster.
+//! The bytes that a command carries, any number of them: the content of a barcode, or the dots of a raster.
 
 ghost use Rattle.std.specs.Prelude.{IsTrue};
 ghost use Rattle.std.specs.List.{list_all};
@@ -6,8 +6,8 @@ ghost use Rattle.escpos_command.specs.Parameters.{is_byte};
 
 use std::marker::Model;
 
-/// Bytes on the heap, seen in contracts as their list. They are moved from a list to a command and on to the paper, and
-/// no step of that copies them or takes memory.
+/// Bytes on the heap, whose model is their list. They move from a list to a command and on to the paper, and no step of
+/// that copies them or allocates.
 #[derive(Clone, Debug, Drop)]
 pub struct Bytes {
     bytes: Vec<u8>,
@@ -30,16 +30,17 @@ impl Bytes {
     ghost use Rattle.std.specs.List.{list_all};
     ghost use Rattle.escpos_command.specs.Parameters.{is_byte};
 
-    /// These bytes. Takes no memory.
+    /// These bytes. Allocates nothing.
     pub fn new(bytes: Vec<u8>) -> Self
         ensures same { result ≡ bytes.items }
         ensures bytes { IsTrue (list_all is_byte result) }
     {
+        // Proof only: each element is a byte.
         are_bytes(&bytes);
         Bytes { bytes }
     }
 
-    /// The bytes. Takes no memory.
+    /// The bytes. Allocates nothing.
     pub fn as_slice(&self) -> &[u8]
         ensures { result.now ≡ self.now }
     {
@@ -53,7 +54,7 @@ impl Bytes {
         self.bytes.len()
     }
 
-    /// Gives the list of the bytes back. Takes no memory.
+    /// Returns the list of the bytes. Allocates nothing.
     pub fn into_vec(self) -> Vec<u8>
         ensures { result.items ≡ self }
     {
@@ -61,7 +62,7 @@ impl Bytes {
     }
 }
 
-// Each u8 is a byte.
+// Proof only: gives the caller this fact: each u8 is a byte.
 fn are_bytes(bytes: &[u8])
     ensures { IsTrue (list_all is_byte bytes.now) }
 {}

@@ -2,8 +2,8 @@
 
 use std::fmt;
 
-/// Why a byte that continues no command is refused, by its place in the command. The numbers are those
-/// that programs print.
+/// Why a byte that continues no command is refused; the reason follows from its place in the command. Programs print these
+/// numbers.
 #[derive(Clone, Copy, Debug, PartialEq, Eq)]
 pub enum FaultReason {
     /// 1: no command begins with the byte.
@@ -20,18 +20,18 @@ pub enum FaultReason {
 
 impl FaultReason {
     ghost use Rattle.std.specs.Prelude.{◌≡◌, ◌≤◌, length};
-    ghost use Rattle.escpos_command.specs.Places.{number_of, name_of};
+    ghost use Rattle.escpos_command.specs.Places.{reason_number, reason_name};
 
     /// The number that programs print.
     pub fn number(self) -> u8
-        ensures { result ≡ number_of self }
+        ensures { result ≡ reason_number self }
     {
         self as u8
     }
 
     /// The name that programs print.
     pub fn name(self) -> &'static str
-        ensures value { result.now ≡ name_of self }
+        ensures value { result.now ≡ reason_name self }
         ensures short { length result.now ≤ 14 }
     {
         match self {
@@ -46,10 +46,10 @@ impl FaultReason {
 
 impl fmt::Display for FaultReason {
     ghost use Rattle.std.specs.Prelude.{Some, ◌++◌, ◌∷◌, decimal};
-    ghost use Rattle.escpos_command.specs.Places.{number_of, name_of};
+    ghost use Rattle.escpos_command.specs.Places.{reason_number, reason_name};
 
     // The number and the name, with a space between.
-    ghost output = { λ why. Some (decimal (number_of why) ++ 0x20 ∷ name_of why) };
+    ghost output = { λ why. Some (decimal (reason_number why) ++ 0x20 ∷ reason_name why) };
 
     fn fmt<W: fmt::Write>(&self, f: &mut fmt::Formatter<W>) -> fmt::Result {
         write!(f, "{} {}", self.number(), self.name())

@@ -1,6 +1,6 @@
-//! The laws of the grammar. Each is a function that does nothing and whose contract is the law, so that
-//! the law is proved with the crate and another crate can cite it by calling the function. (`in_range` asks
-//! the command for its parts, whose clauses say it, and `same_clone` clones it.)
+//! Proof only: the laws of the grammar. The contract of each function is the law; when run, most do nothing. A law is
+//! proved with this crate, and another crate cites it by calling the function. (`in_range` asks the command for its parts,
+//! whose contract gives the law; `same_clone` clones the command.)
 
 ghost use Rattle.std.specs.Prelude.{ℕ, ◌≡◌, ◌≢◌, ◌+◌, ◌<◌, ◌≤◌, ◌⊎◌, List, [], ◌++◌, length, slice_index, IsTrue, IfOk};
 ghost use Rattle.escpos_command.specs.declared.fault.FaultReason.{FaultReason};
@@ -28,7 +28,7 @@ pub fn unique_spellings()
     ensures no_prefix { (c d : Command) (a more : List ℕ) → Spells c a → Spells d (a ++ more) → more ≡ [] }
 {}
 
-/// One reading: each byte list either has exactly one reading, or a fault at exactly one place.
+/// One reading: each byte list has either exactly one reading, or a fault at exactly one place.
 pub fn one_reading()
     ensures read_or_refused { (bs : List ℕ) → IsRead bs ⊎ IsRefused bs }
     ensures one_reading { (bs : List ℕ) (cs ds : List Command) (x y : List ℕ) →
@@ -38,8 +38,8 @@ pub fn one_reading()
     ensures not_both { (bs : List ℕ) → IsRead bs → IsRefused bs → ⊥ }
 {}
 
-/// Joined readings: a reading goes on where it stopped, and so does a fault. So it doesn't matter where a
-/// stream is cut; and of whole commands the first part gives the first ones.
+/// Joined readings: a reading goes on where it stopped, and so does a fault, so it doesn't matter where a stream is cut. If
+/// the whole reads as commands with nothing left, the first part gives the first of them.
 pub fn joined_readings()
     ensures reading { (a b : List ℕ) (cs ds : List Command) (r s : List ℕ) →
         Reads a cs r → Reads (r ++ b) ds s → Reads (a ++ b) (cs ++ ds) s }
@@ -51,30 +51,33 @@ pub fn joined_readings()
         → (others : List Command) × (all ≡ some ++ others) × Reads (r ++ b) others [] }
 {}
 
-/// The first profile, which had no ESC J, no ESC p and no raster of more than 2,047 rows: what it read is read so by the
-/// whole table; and where it refused a byte, that byte is refused for the same reason, unless it is one of these.
+/// The first profile, which had no ESC J, no ESC p and no raster of more than 2,047 rows: it reads or refuses each byte list;
+/// what it read is read so by the whole table; and where it refused a byte, that byte is refused for the same reason, unless
+/// it is one of these.
 pub fn first_profile()
+    ensures read_or_refused { (bs : List ℕ) → ((cs : List Command) × (rest : List ℕ) × ReadsFirst bs cs rest)
+        ⊎ ((cs : List Command) × (rest : List ℕ) × (k : ℕ) × (why : FaultReason) × FaultAtFirst bs cs rest k why) }
     ensures read { (bs : List ℕ) (cs : List Command) (rest : List ℕ) → ReadsFirst bs cs rest → Reads bs cs rest }
     ensures refused { (bs : List ℕ) (cs : List Command) (rest : List ℕ) (k : ℕ) (why : FaultReason) →
         FaultAtFirst bs cs rest k why → FaultAt bs cs rest k why ⊎ IsNew rest (slice_index bs k) }
 {}
 
-/// Mark numbers: each of them has an id of its own.
+/// Mark numbers: each has an id of its own.
 pub fn mark_numbers()
     ensures ids { (n : ℕ) → n < mark_count → IsTrue (is_mark_id (mark_of n)) }
     ensures one_number { (m n : ℕ) → m < mark_count → n < mark_count → mark_of m ≡ mark_of n → m ≡ n }
 {}
 
-/// Resynchronisation: whatever came before a mark, a front of it is read as no mark, or nothing stood before it and the front
-/// is all of it; then the mark is what is read. So a mark that is read was read at its own place.
+/// Resynchronisation: a prefix of a mark, sent after anything, is read as no mark, except where nothing stood before it and
+/// the prefix is the whole mark; then it is read as that mark. So each mark that is read stands at its own place.
 pub fn resynchronisation()
     ensures { (half q more id : List ℕ) (cs : List Command) (rest : List ℕ) → (half ≡ []) ⊎ Half half → IsTrue (is_mark_id id) → q ≢ []
         → row (kind.Mark id) ≡ q ++ more → Reads (half ++ q) cs rest → IsMarkOrNone half more id cs }
 {}
 
-/// Answers: each has its bytes, no answer begins another, and a list of bytes is heard in one way at most. What was heard goes
-/// on where it stopped; and where bytes are whole answers, wherever they are cut, what is heard of the first part is the first
-/// of these answers, and the others go on from there.
+/// Answers: each has its own bytes, no answer begins another, and a list of bytes is heard in at most one way. A hearing
+/// goes on where it stopped. Where bytes are whole answers and are cut anywhere, the first part gives the first of these
+/// answers, and the others follow from there.
 pub fn answers()
     ensures one_answer { (a b : Answer) (bs : List ℕ) → AnswerSpells a bs → AnswerSpells b bs → a ≡ b }
     ensures no_prefix { (a b : Answer) (bs more : List ℕ) → AnswerSpells a bs → AnswerSpells b (bs ++ more) → more ≡ [] }
@@ -84,8 +87,8 @@ pub fn answers()
         → (others : List Answer) × (all ≡ some ++ others) × Hears (r ++ b) others [] }
 {}
 
-/// The tree of bytes: where a byte list leads in it says what the definitions say of the list. So a reader that
-/// walks the tree is a reader of the grammar.
+/// The tree of bytes: where a byte list leads in the tree is what the definitions say of the list. So a reader that walks
+/// the tree is a reader of the grammar.
 pub fn tree()
     ensures spelling { (c : Command) (bs : List ℕ) → walk grammar bs ≡ leaf c → Spells c bs }
     ensures half { (bs : List ℕ) (next : ℕ → Tree) → bs ≢ [] → walk grammar bs ≡ node next → Half bs }
@@ -96,10 +99,11 @@ pub fn tree()
 pub fn in_range(command: &Command)
     ensures { IsCommand command.now }
 {
+    // Proof only: the contract of `parts` is the law.
     let _ = command.parts();
 }
 
-/// A clone of a command is that command. The error is want of memory.
+/// A clone of a command is that command. The error is a failed allocation.
 pub fn same_clone(command: &Command) -> Result<Command, AllocError>
     ensures { IfOk result (λ same. same ≡ command.now) }
 {

@@ -1,8 +1,12 @@
 //! ESC/POS commands of the Kolatennis profile: values, spellings, and the laws that join them.
 //!
-//! `command` has the commands and `parameter` their parameters; `mark` has the ids of marks. `specs/CommandTable.antt` is
-//! the command table, `specs/Grammar.antt` says what a byte list is by that table alone, and `laws` offers what
-//! follows from it. Bytes are read in the crate above.
+//! `command` has the commands and `parameter` their parameters; `mark` has the ids of marks, `bars` barcodes and `raster`
+//! rasters, whose bytes are a `content`. `bytes` has the control bytes, `chars` makes commands of a text. `spelling` gives
+//! the bytes of a command, and `writing` puts those of a list. `answer` has what a printer answers, and `fault` why a byte
+//! is refused.
+//!
+//! `specs/CommandTable.antt` is the command table, `specs/Grammar.antt` defines what a byte list says by that table alone,
+//! and `laws` has what follows from it. The crate above reads bytes.
 #![tactic(auto)]
 
 mod answer;
@@ -23,7 +27,7 @@ pub use answer::Answer;
 pub use bars::{BarFault, Bars, Form, Symbology, is_codabar, is_codabar_end, is_code39, is_digit};
 pub use bytes::{CR, DLE, EOT, ESC, GS, LF};
 pub use chars::{CharsFault, chars_of};
-pub use command::{Command, LONGEST_FRONT, Parts};
+pub use command::{Command, LONGEST_PREFIX, Parts};
 pub use content::Bytes;
 pub use fault::FaultReason;
 pub use mark::{MarkId, is_mark_byte};

@@ -1,7 +1,7 @@
 //! The id of a mark, and the numbers that a host gives its marks.
 //!
-//! A mark is the process ID request GS ( H, function 48. Its id is any four printing characters; a host
-//! counts its marks, and writes the number as four base-36 digits.
+//! A mark is the process ID request GS ( H, function 48. Its id is any four printing characters; a host numbers its marks,
+//! and writes the number as four base-36 digits.
 
 ghost use Rattle.std.specs.Prelude.{◌≡◌, ◌≢◌, ◌<◌, ℕ, IsTrue, MatchOption};
 ghost use Rattle.std.specs.Option.{SomeIff};
@@ -63,7 +63,7 @@ impl MarkId {
         })
     }
 
-    /// The number whose id this is; `None` where a byte is no base-36 digit 0-9, A-Z.
+    /// The number whose id this is; `None` where a byte isn't a base-36 digit 0-9, A-Z.
     pub fn number(self) -> Option<u32>
         ensures { MatchOption result
             ((n : ℕ) → n < mark_count → mark_of n ≢ self)

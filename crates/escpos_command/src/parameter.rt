@@ -1,10 +1,9 @@
-//! The parameters of commands, each a type of its own whose values are exactly those of the command
-//! table. A parameter keeps its byte as it was sent, so that a command has one spelling; what the byte
-//! means is offered by a method.
+//! The parameters of commands. Each is a type of its own whose values are exactly those of the command table. A parameter
+//! keeps its byte as it was sent, so that a command has one spelling; a method says what the byte means.
 //!
-//! Each type is seen in contracts as its number, and a cut as its mode and feed. The id of a mark, four
-//! bytes with a number of their own, has the module `mark`. A new parameter is a test in
-//! `specs/Parameters.antt`, a meaning in `specs/Meanings.antt` and a type here.
+//! The model of each type is its number, and that of a cut its mode and feed. The id of a mark, four bytes with a number of
+//! their own, has the module `mark`. A new parameter is a test in `specs/Parameters.antt`, a meaning in
+//! `specs/Meanings.antt` and a type here.
 
 mod barcode;
 mod choices;

@@ -17,7 +17,7 @@ pub const HIGHEST: u16 = 4095;
 
 const _: () = prove!(WIDEST == 128 && HIGHEST == 4095);
 
-/// Why bytes are no raster. The first reason that applies is given.
+/// Why bytes aren't a raster: the first reason that applies.
 #[derive(Clone, Copy, Debug, PartialEq, Eq)]
 pub enum RasterFault {
     /// 1: no scale has this byte.
@@ -52,9 +52,9 @@ impl Model for Raster {
 
 impl Raster {
     /// A raster of these dots: `width` bytes to a row, the highest bit of each leftmost, `height` rows from the top. `mode`
-    /// is the byte m of its scale: 0 and 48 normal, 1 and 49 wide, 2 and 50 tall, 3 and 51 both. Takes no memory.
+    /// is the byte m of its scale: 0 and 48 normal, 1 and 49 wide, 2 and 50 tall, 3 and 51 both. Allocates nothing.
     ///
-    /// `Err` hands the dots back, with the first reason that applies.
+    /// `Err` returns the dots, with the first reason that applies.
     pub fn new(
         mode: u8,
         width: u16,
@@ -124,7 +124,7 @@ impl Raster {
         self.dots.as_slice()
     }
 
-    /// Gives the dots away. Takes no memory.
+    /// Gives the dots away. Allocates nothing.
     pub fn into_dots(self) -> Bytes
         ensures { result ≡ self.dots }
     {
@@ -132,21 +132,21 @@ impl Raster {
     }
 }
 
-/// Whether a scale has the byte: 0 to 3 and 48 to 51.
+/// Whether the byte is that of a scale: 0 to 3 or 48 to 51.
 pub fn is_scale(byte: u8) -> bool
     ensures { result ≡ is_one_of_four byte }
 {
     matches!(byte, 0..=3 | 48..=51)
 }
 
-/// Whether a row may have so many bytes: 1 to 128.
+/// Whether a row may have this many bytes: 1 to 128.
 pub fn is_width(width: u16) -> bool
     ensures { result ≡ is_width width }
 {
     matches!(width, 1..=WIDEST)
 }
 
-/// Whether there may be so many rows: 1 to 4,095.
+/// Whether a raster may have this many rows: 1 to 4,095.
 pub fn is_height(height: u16) -> bool
     ensures { result ≡ is_height height }
 {

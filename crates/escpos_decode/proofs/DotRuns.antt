@@ -1,5 +1,5 @@
 -- A run of dots, taken at once.
-use Rattle.std.proofs.Common.{◌≡◌, ◌<◌, ◌≤◌, ◌⊎◌, ℕ, ◌+◌, ◌-◌, List, [], ◌∷◌, ◌++◌, length, take, refl, sym, ◌∙◌, ap, append_assoc, append-nil, arith, zero, suc, true, Fits, w8}
+use Rattle.std.proofs.Common.{◌≡◌, ◌<◌, ◌≤◌, ◌⊎◌, ℕ, ◌-◌, List, [], ◌∷◌, ◌++◌, length, take, refl, sym, ◌∙◌, ap, append_assoc, append-nil, arith, zero, suc, true, Fits, w8}
 use Rattle.std.specs.Prelude.{slice_index_or, nat_lt}
 use Rattle.std.specs.List.{list_all}
 use Rattle.std.proofs.lemmas.Bool.{and_parts, and_from}
@@ -9,10 +9,10 @@ use Rattle.escpos_command.specs.Parameters.{is_byte}
 use Rattle.escpos_command.specs.Grammar.{Half, Reads}
 use Rattle.escpos_command.specs.CommandTable.{spell}
 use Rattle.escpos_command.specs.Tree.{Tree, dead, leaf, node, walk, grammar, counted}
-use Rattle.escpos_decode.specs.declared.place.Place.TheVariants.{Dots}
-use Rattle.escpos_decode.specs.Place.{step, front_of, tree_of, IsAt}
+use Rattle.escpos_decode.specs.declared.state.State.TheVariants.{Dots}
+use Rattle.escpos_decode.specs.State.{step, prefix_of, tree_of, IsAt}
 use Rattle.escpos_decode.proofs.Steps.{counted_goes, byte_passes}
-use Rattle.escpos_decode.proofs.Places.{walk-nil}
+use Rattle.escpos_decode.proofs.States.{walk-nil}
 
 pub bytes_pass : (bs : List ℕ) (k : ℕ) → ((i : ℕ) → Fits w8 (slice_index_or bs i 0)) → list_all is_byte (take k bs) ≡ true
 bytes_pass bs zero h = refl
@@ -48,14 +48,14 @@ walk-append (node next) (b ∷ p) q = walk-append (next b) p q
 some_left : (n k : ℕ) → k < n → nat_lt 0 (n - k) ≡ true
 some_left n k h = grind (arith, nat_tests)
 
--- The place after the run.
+-- The state after the run.
 pub at_run : (scale width height wanted : ℕ) (read ys now : List ℕ) → IsAt (Dots scale width height wanted) read → length ys < wanted → list_all is_byte ys ≡ true → now ≡ read ++ ys
     → IsAt (Dots scale width height (wanted - length ys)) now
 at_run scale width height wanted read ys now at few all e = record {
   leads =
-      ap (λ v. walk grammar (front_of (Dots scale width height wanted) ++ v)) e
-      ∙ ap (walk grammar) (sym (append_assoc (front_of (Dots scale width height wanted)) read ys))
-      ∙ walk-append grammar (front_of (Dots scale width height wanted) ++ read) ys ∙ ap (λ t. walk t ys) at.leads
+      ap (λ v. walk grammar (prefix_of (Dots scale width height wanted) ++ v)) e
+      ∙ ap (walk grammar) (sym (append_assoc (prefix_of (Dots scale width height wanted)) read ys))
+      ∙ walk-append grammar (prefix_of (Dots scale width height wanted) ++ read) ys ∙ ap (λ t. walk t ys) at.leads
       ∙ walk-run wanted _ read ys (omega arith) all ∙ ap (tree_of (Dots scale width height (wanted - length ys))) (sym e);
   held = some_left wanted (length ys) few;
   empty = λ h. absurd cc;
@@ -66,7 +66,7 @@ pub run_read : (a half ys now : List ℕ) (cs : List Command) → Reads a cs hal
 run_read a half ys now cs r e rest = record {
   commands = r.commands;
   whole = ap (λ v. v ++ ys) r.whole ∙ append_assoc (spell cs) half ys ∙ ap (λ v. spell cs ++ v) (sym e);
-  left = rest;
+  rest_is = rest;
 }
 
 pub some_wanted : (n : ℕ) → nat_lt 0 n ≡ true → 0 < n

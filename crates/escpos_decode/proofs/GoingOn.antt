@@ -10,7 +10,7 @@ use Rattle.escpos_decode.specs.declared.decoder.DecodeFault.{DecodeFault}
 use Rattle.escpos_decode.specs.declared.decoder.DecodeFault.TheVariants.{Fault, Memory}
 use Rattle.escpos_decode.specs.Push.{PushIs, GoesOn}
 
--- The law of joined readings, as the crate of the commands offers it.
+-- The law of joined readings, as `escpos_command` states it.
 pub record ReadingLaws : Type 0 where
   pub reading : (a b : List ℕ) (cs ds : List Command) (r s : List ℕ) → Reads a cs r → Reads (r ++ b) ds s → Reads (a ++ b) (cs ++ ds) s
   pub fault : (a b : List ℕ) (cs ds : List Command) (r s : List ℕ) (k : ℕ) (why : FaultReason) → Reads a cs r → FaultAt (r ++ b) ds s k why
@@ -18,13 +18,13 @@ pub record ReadingLaws : Type 0 where
   pub first_fault : (a more : List ℕ) (cs : List Command) (r : List ℕ) (k : ℕ) (why : FaultReason) → FaultAt a cs r k why → FaultAt (a ++ more) cs r k why
 
 reads_half : (bs after : List ℕ) → Half bs → after ≡ bs → Reads bs [] after
-reads_half bs after h e = record { commands = tt; whole = sym e; left = inr (subst (λ v. Half v) (sym e) h) }
+reads_half bs after h e = record { commands = tt; whole = sym e; rest_is = inr (subst (λ v. Half v) (sym e) h) }
 
 reads_one : (c : Command) (bs after : List ℕ) → Spells c bs → after ≡ [] → Reads bs (c ∷ []) after
 reads_one c bs after s e = record {
   commands = (s.in_range, tt);
   whole = s.in_table ∙ sym (append-nil (row c)) ∙ sym (append-nil (row c ++ [])) ∙ ap (λ v. (row c ++ []) ++ v) (sym e);
-  left = inl e;
+  rest_is = inl e;
 }
 
 pub goes_on : ReadingLaws → (r : Result Step DecodeFault) (half : List ℕ) (b : ℕ) (after : List ℕ) → PushIs r half b after → GoesOn r half b after

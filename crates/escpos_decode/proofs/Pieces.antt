@@ -10,7 +10,7 @@ use Rattle.escpos_command.specs.CommandTable.{spell}
 use Rattle.escpos_command.specs.Grammar.{Reads, FaultAt}
 use Rattle.escpos_decode.specs.Stream.{joined}
 
--- The laws of joined readings, as the crate of the definitions offers them.
+-- The laws of joined readings, as `escpos_command` states them.
 pub record JoinLaws : Type 0 where
   pub fault : (a b : List ℕ) (cs ds : List Command) (r s : List ℕ) (k : ℕ) (why : FaultReason) → Reads a cs r → FaultAt (r ++ b) ds s k why → FaultAt (a ++ b) (cs ++ ds) s (length (spell cs) + k) why
   pub first_fault : (a more : List ℕ) (cs : List Command) (r : List ℕ) (k : ℕ) (why : FaultReason) → FaultAt a cs r k why → FaultAt (a ++ more) cs r k why
@@ -22,7 +22,7 @@ joined_around pieces i d h =
     ∙ sym (flat_map-append (λ piece. piece.now) (take i pieces) (get_or pieces i d ∷ drop (suc i) pieces))
     ∙ ap joined (ap (λ v. take i pieces ++ v) (sym (drop-cons pieces i d h)) ∙ take-append-drop i pieces)
 
--- A byte of a piece is refused: it is a byte of the stream.
+-- A refused byte of a piece is a byte of the stream.
 pub stream_fault : JoinLaws → (pieces : List (Bor (List ℕ))) (i : ℕ) (d : Bor (List ℕ)) (cs ds all : List Command) (half rest : List ℕ) (at n : ℕ) (why : FaultReason) → i < length pieces
     → Reads (joined (take i pieces)) cs half → n ≡ length (joined (take i pieces)) → FaultAt (half ++ (get_or pieces i d).now) ds rest (length half + at) why → all ≡ cs ++ ds
     → (left : List ℕ) × FaultAt (joined pieces) all left (n + at) why

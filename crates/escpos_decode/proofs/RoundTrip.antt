@@ -11,7 +11,7 @@ use Rattle.escpos_decode.specs.declared.stream.End.TheVariants.{Read, Fault}
 use Rattle.escpos_decode.specs.Stream.{EndsIn, LeavesNothing}
 
 reads_spelled : (cs : List Command) → AllByRecursion IsCommand cs → Reads (spell cs) cs []
-reads_spelled cs h = record { commands = h; whole = sym (append-nil (spell cs)); left = inl refl }
+reads_spelled cs h = record { commands = h; whole = sym (append-nil (spell cs)); rest_is = inl refl }
 
 pub again : ((bs : List ℕ) (cs ds : List Command) (x y : List ℕ) → Reads bs cs x → Reads bs ds y → (cs ≡ ds) × (x ≡ y))
     → ((bs : List ℕ) → IsRead bs → IsRefused bs → ⊥)

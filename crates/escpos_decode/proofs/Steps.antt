@@ -5,7 +5,7 @@ use Rattle.std.proofs.lemmas.Bool.Decides.{nat_tests}
 use Rattle.escpos_command.specs.declared.command.Command.{Command}
 use Rattle.escpos_command.specs.Parameters.{is_byte}
 use Rattle.escpos_command.specs.Tree.{dead, leaf, these, counted, closed, stopped, ending}
-use Rattle.escpos_decode.specs.Place.{step}
+use Rattle.escpos_decode.specs.State.{step}
 
 one_less : (n : ℕ) → suc n - 1 ≡ n
 one_less n = omega arith

@@ -33,76 +33,76 @@ length-rest piece at n inside h = let short = length-take (length piece - at) (d
 -- ## The loop over a piece
 
 -- The bytes so far are read, and their commands taken; the half command starts at this place.
-pub record Turn (took : List Command → Type 0) (bytes half : List ℕ) (start : ℕ) : Type 0 where
+pub record Turn (accepted : List Command → Type 0) (bytes half : List ℕ) (start : ℕ) : Type 0 where
   pub commands : List Command
   pub read : Reads bytes commands half
-  pub taken : took commands
+  pub all_accepted : accepted commands
   pub placed : start ≡ length (spell commands)
 
 -- The byte continues a command.
-pub turn_more : (took : List Command → Type 0) (a piece half after : List ℕ) (at start then_start : ℕ) → at < length piece
-    → Turn took (a ++ take at piece) half start
+pub turn_more : (accepted : List Command → Type 0) (a piece half after : List ℕ) (at start then_start : ℕ) → at < length piece
+    → Turn accepted (a ++ take at piece) half start
     → ((b : List ℕ) (cs : List Command) → Reads b cs half → Reads (b ++ slice_index piece at ∷ []) cs after) → then_start ≡ start
-    → Turn took (a ++ take (at + 1) piece) after then_start
-turn_more took a piece half after at start then_start h t on e = record {
+    → Turn accepted (a ++ take (at + 1) piece) after then_start
+turn_more accepted a piece half after at start then_start h t on e = record {
   commands = t.commands;
   read = subst (λ bs. Reads bs t.commands after) (piece_more a piece at h) (on (a ++ take at piece) t.commands t.read);
-  taken = t.taken;
+  all_accepted = t.all_accepted;
   placed = e ∙ t.placed;
 }
 
 -- More bytes of the piece continue it.
-pub turn_run : (took : List Command → Type 0) (a piece half after : List ℕ) (at n most start : ℕ) → at + n ≤ length piece → n ≤ most
-    → Turn took (a ++ take at piece) half start
+pub turn_run : (accepted : List Command → Type 0) (a piece half after : List ℕ) (at n most start : ℕ) → at + n ≤ length piece → n ≤ most
+    → Turn accepted (a ++ take at piece) half start
     → ((b : List ℕ) (cs : List Command) → Reads b cs half → Reads (b ++ take n (take most (drop at piece))) cs after)
-    → Turn took (a ++ take (at + n) piece) after start
-turn_run took a piece half after at n most start h few t on =
+    → Turn accepted (a ++ take (at + n) piece) after start
+turn_run accepted a piece half after at n most start h few t on =
     let run : (a ++ take at piece) ++ take n (take most (drop at piece)) ≡ a ++ take (at + n) piece = front_and_run a piece at n most h few in
     record {
       commands = t.commands;
       read = subst (λ bs. Reads bs t.commands after) run (on (a ++ take at piece) t.commands t.read);
-      taken = t.taken;
+      all_accepted = t.all_accepted;
       placed = t.placed;
     }
 
 -- The byte ends a command.
-pub turn_done : (took next : List Command → Type 0) (a piece half after : List ℕ) (at start then_start : ℕ) (c : Command) → at < length piece
-    → Turn took (a ++ take at piece) half start → ((cs : List Command) → took cs → start ≡ length (spell cs) → next (cs ++ c ∷ []))
+pub turn_done : (accepted next : List Command → Type 0) (a piece half after : List ℕ) (at start then_start : ℕ) (c : Command) → at < length piece
+    → Turn accepted (a ++ take at piece) half start → ((cs : List Command) → accepted cs → start ≡ length (spell cs) → next (cs ++ c ∷ []))
     → ((b : List ℕ) (cs : List Command) → Reads b cs half → Reads (b ++ slice_index piece at ∷ []) (cs ++ c ∷ []) after)
     → after ≡ [] → then_start ≡ length a + at + 1 → Turn next (a ++ take (at + 1) piece) after then_start
-turn_done took next a piece half after at start then_start c h t take_it on none e =
+turn_done accepted next a piece half after at start then_start c h t take_it on none e =
     let read = subst (λ bs. Reads bs (t.commands ++ c ∷ []) after) (piece_more a piece at h) (on (a ++ take at piece) t.commands t.read) in
     let long = ap length read.whole ∙ ap (λ v. length (spell (t.commands ++ c ∷ []) ++ v)) none ∙ ap length (append-nil (spell (t.commands ++ c ∷ []))) in
     record {
       commands = t.commands ++ c ∷ [];
       read = read;
-      taken = take_it t.commands t.taken t.placed;
+      all_accepted = take_it t.commands t.all_accepted t.placed;
       placed = omega (arith, e, long, length-append a (take (at + 1) piece), length-take (at + 1) piece);
     }
 
 -- The byte is refused.
-pub turn_fault : (took : List Command → Type 0) (a piece half after : List ℕ) (at start : ℕ) (why : FaultReason) → at < length piece
-    → Turn took (a ++ take at piece) half start
+pub turn_fault : (accepted : List Command → Type 0) (a piece half after : List ℕ) (at start : ℕ) (why : FaultReason) → at < length piece
+    → Turn accepted (a ++ take at piece) half start
     → ((b more : List ℕ) (cs : List Command) → Reads b cs half → FaultAt (b ++ slice_index piece at ∷ more) cs half (length b) why)
-    → after ≡ [] → (cs : List Command) × (rest : List ℕ) × FaultAt (a ++ piece) cs rest (length a + at) why × took cs × (after ≡ [])
-turn_fault took a piece half after at start why h t refused none =
+    → after ≡ [] → (cs : List Command) × (rest : List ℕ) × FaultAt (a ++ piece) cs rest (length a + at) why × accepted cs × (after ≡ [])
+turn_fault accepted a piece half after at start why h t refused none =
     let found = refused (a ++ take at piece) (drop (at + 1) piece) t.commands t.read in (
       t.commands,
       half,
       subst (λ n. FaultAt (a ++ piece) t.commands half n why) (length-before a piece at h)
           (subst (λ xs. FaultAt xs t.commands half (length (a ++ take at piece)) why) (piece_around a piece at h) found),
-      t.taken,
+      t.all_accepted,
       none,
     )
 
 -- The byte ends a command, which isn't taken.
-pub turn_refused : (took : List Command → Type 0) (a piece half after : List ℕ) (at start : ℕ) (c : Command) → at < length piece
-    → Turn took (a ++ take at piece) half start
+pub turn_refused : (accepted : List Command → Type 0) (a piece half after : List ℕ) (at start : ℕ) (c : Command) → at < length piece
+    → Turn accepted (a ++ take at piece) half start
     → ((b : List ℕ) (cs : List Command) → Reads b cs half → Reads (b ++ slice_index piece at ∷ []) (cs ++ c ∷ []) after)
-    → after ≡ [] → (cs : List Command) × Reads (a ++ take (at + 1) piece) (cs ++ c ∷ []) [] × took cs
-turn_refused took a piece half after at start c h t on none = (
+    → after ≡ [] → (cs : List Command) × Reads (a ++ take (at + 1) piece) (cs ++ c ∷ []) [] × accepted cs
+turn_refused accepted a piece half after at start c h t on none = (
   t.commands,
   subst (λ v. Reads (a ++ take (at + 1) piece) (t.commands ++ c ∷ []) v) none
       (subst (λ bs. Reads bs (t.commands ++ c ∷ []) after) (piece_more a piece at h) (on (a ++ take at piece) t.commands t.read)),
-  t.taken,
+  t.all_accepted,
 )

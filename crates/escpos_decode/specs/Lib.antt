@@ -1,5 +1,5 @@
-pub mod Letters
-pub mod Place
+pub mod OneParameter
+pub mod State
 pub mod Push
 pub mod Reading
 pub mod Stream

@@ -1,4 +1,4 @@
--- What is decoded of a stream in pieces.
+-- What is decoded from a stream in pieces.
 use Rattle.std.specs.Prelude.{ℕ, ◌≡◌, List, length}
 use Rattle.std.specs.List.{flat_map}
 use Rattle.std.specs.Borrow.{Bor}

@@ -1,20 +1,20 @@
-//! The places of barcodes and rasters: their modes and sizes, and their contents and dots.
+//! The states of barcodes and rasters: their modes and sizes, and their contents and dots.
 
 ghost use Rattle.std.specs.Prelude.{ℕ, List, [], ◌≡◌, ◌<◌, ◌&&◌, nat_lt, IsTrue};
 ghost use Rattle.escpos_command.specs.Rasters.{is_width};
 ghost use Rattle.escpos_command.specs.Tree.{plain_byte};
-ghost use Rattle.escpos_decode.specs.Place.{NextIs};
-ghost use Rattle.escpos_decode.specs.declared.place.Place.TheVariants as place;
-ghost use Rattle.escpos_decode.specs.declared.place.Next.TheVariants as next;
+ghost use Rattle.escpos_decode.specs.State.{NextIs};
+ghost use Rattle.escpos_decode.specs.declared.state.State.TheVariants as state;
+ghost use Rattle.escpos_decode.specs.declared.state.Next.TheVariants as next;
 
-use crate::place::{Ending, Next, Place};
+use crate::state::{Ending, Next, State};
 use escpos_command::{
     Form, Symbology, is_codabar, is_codabar_end, is_code39, is_digit, is_height, is_scale, is_width,
 };
 
-/// The mode of a barcode, which tells its form and its symbology.
+/// The mode of a barcode, which shows its form and its symbology.
 pub fn bars_mode(byte: u8) -> Next
-    ensures { (read : List ℕ) → NextIs result place.BarsMode read byte }
+    ensures { (read : List ℕ) → NextIs result state.BarsMode read byte }
 {
     match byte {
         0 => form_a(Symbology::UpcA, 12),
@@ -22,7 +22,7 @@ pub fn bars_mode(byte: u8) -> Next
         3 => form_a(Symbology::Ean8, 8),
         4 => form_a(Symbology::Code39, 255),
         5 => form_a(Symbology::Itf, 254),
-        6 => Next::To(Place::CodabarFirst),
+        6 => Next::To(State::CodabarFirst),
         65 => form_b(Symbology::UpcA),
         67 => form_b(Symbology::Ean13),
         68 => form_b(Symbology::Ean8),
@@ -35,20 +35,20 @@ pub fn bars_mode(byte: u8) -> Next
 }
 
 fn form_a(symbology: Symbology, most: u8) -> Next
-    ensures { result ≡ next.To (place.PlainContent symbology most) }
+    ensures { result ≡ next.To (state.PlainContent symbology most) }
 {
-    Next::To(Place::PlainContent { symbology, most })
+    Next::To(State::PlainContent { symbology, most })
 }
 
 fn form_b(symbology: Symbology) -> Next
-    ensures { result ≡ next.To (place.ContentLength symbology) }
+    ensures { result ≡ next.To (state.ContentLength symbology) }
 {
-    Next::To(Place::ContentLength { symbology })
+    Next::To(State::ContentLength { symbology })
 }
 
-/// A byte of a content of form A all of whose places allow the same bytes, or the 00 after it.
+/// A byte of a content of form A that allows the same bytes at all places, or the 00 after it.
 pub fn plain(symbology: Symbology, most: u8, content: &[u8], byte: u8) -> Next
-    ensures { NextIs result (place.PlainContent symbology most) content.now byte }
+    ensures { NextIs result (state.PlainContent symbology most) content.now byte }
 {
     if byte == 0 {
         return if symbology.has_length(content.len()) {
@@ -58,7 +58,7 @@ pub fn plain(symbology: Symbology, most: u8, content: &[u8], byte: u8) -> Next
         };
     }
     if is_one_more(most, is_plain(symbology, byte)) {
-        Next::Grow(Place::PlainContent {
+        Next::Grow(State::PlainContent {
             symbology,
             most: most - 1,
         })
@@ -67,7 +67,7 @@ pub fn plain(symbology: Symbology, most: u8, content: &[u8], byte: u8) -> Next
     }
 }
 
-// Whether all places of such a symbology allow the byte.
+// Whether such a symbology allows the byte at all places.
 fn is_plain(symbology: Symbology, byte: u8) -> bool
     ensures { result ≡ plain_byte symbology byte }
 {
@@ -77,7 +77,7 @@ fn is_plain(symbology: Symbology, byte: u8) -> bool
     }
 }
 
-// Whether a byte that passes is one of those that may still follow.
+// Whether a byte passes and one more may follow.
 fn is_one_more(most: u8, passes: bool) -> bool
     ensures { result ≡ (nat_lt 0 most && passes) }
 {
@@ -86,10 +86,10 @@ fn is_one_more(most: u8, passes: bool) -> bool
 
 /// The first byte of a content of CODABAR in form A.
 pub fn codabar_first(byte: u8) -> Next
-    ensures { NextIs result place.CodabarFirst [] byte }
+    ensures { NextIs result state.CodabarFirst [] byte }
 {
     if is_codabar_end(byte) {
-        Next::Grow(Place::CodabarContent { most: 253 })
+        Next::Grow(State::CodabarContent { most: 253 })
     } else {
         Next::Refused
     }
@@ -97,12 +97,12 @@ pub fn codabar_first(byte: u8) -> Next
 
 /// A byte of such a content after the first.
 pub fn codabar(most: u8, byte: u8) -> Next
-    ensures { (read : List ℕ) → NextIs result (place.CodabarContent most) read byte }
+    ensures { (read : List ℕ) → NextIs result (state.CodabarContent most) read byte }
 {
     if is_codabar_end(byte) {
-        Next::Grow(Place::CodabarEnd)
+        Next::Grow(State::CodabarEnd)
     } else if is_one_more(most, is_codabar(byte)) {
-        Next::Grow(Place::CodabarContent { most: most - 1 })
+        Next::Grow(State::CodabarContent { most: most - 1 })
     } else {
         Next::Refused
     }
@@ -110,7 +110,7 @@ pub fn codabar(most: u8, byte: u8) -> Next
 
 /// The 00 after such a content.
 pub fn codabar_end(byte: u8) -> Next
-    ensures { (read : List ℕ) → NextIs result place.CodabarEnd read byte }
+    ensures { (read : List ℕ) → NextIs result state.CodabarEnd read byte }
 {
     if byte == 0 {
         Next::Closes(Ending::Bars(Form::A, Symbology::Codabar))
@@ -121,11 +121,11 @@ pub fn codabar_end(byte: u8) -> Next
 
 /// The length of a content of form B.
 pub fn length(symbology: Symbology, byte: u8) -> Next
-    ensures { (read : List ℕ) → NextIs result (place.ContentLength symbology) read byte }
+    ensures { (read : List ℕ) → NextIs result (state.ContentLength symbology) read byte }
 {
     if symbology.has_length(byte as usize) {
         Next::Room(
-            Place::Content {
+            State::Content {
                 symbology,
                 length: byte,
                 wanted: byte,
@@ -140,7 +140,7 @@ pub fn length(symbology: Symbology, byte: u8) -> Next
 /// A byte of a content of form B.
 pub fn counted(symbology: Symbology, length: u8, wanted: u8, content: &[u8], byte: u8) -> Next
     requires { 0 < wanted }
-    ensures { NextIs result (place.Content symbology length wanted) content.now byte }
+    ensures { NextIs result (state.Content symbology length wanted) content.now byte }
 {
     if !symbology.allows(length as usize, content.len(), byte) {
         return Next::Refused;
@@ -148,7 +148,7 @@ pub fn counted(symbology: Symbology, length: u8, wanted: u8, content: &[u8], byt
     if wanted == 1 {
         Next::Last(Ending::Bars(Form::B, symbology))
     } else {
-        Next::Keep(Place::Content {
+        Next::Keep(State::Content {
             symbology,
             length,
             wanted: wanted - 1,
@@ -158,30 +158,30 @@ pub fn counted(symbology: Symbology, length: u8, wanted: u8, content: &[u8], byt
 
 /// The scale of a raster.
 pub fn raster_scale(byte: u8) -> Next
-    ensures { (read : List ℕ) → NextIs result place.RasterScale read byte }
+    ensures { (read : List ℕ) → NextIs result state.RasterScale read byte }
 {
     if is_scale(byte) {
-        Next::To(Place::RasterWidth { scale: byte })
+        Next::To(State::RasterWidth { scale: byte })
     } else {
         Next::Refused
     }
 }
 
-/// The low byte of its width.
+/// The low byte of a raster's width.
 pub fn raster_width(scale: u8, byte: u8) -> Next
-    ensures { (read : List ℕ) → NextIs result (place.RasterWidth scale) read byte }
+    ensures { (read : List ℕ) → NextIs result (state.RasterWidth scale) read byte }
 {
     if is_width(u16::from(byte)) {
-        Next::To(Place::RasterWidthHigh { scale, width: byte })
+        Next::To(State::RasterWidthHigh { scale, width: byte })
     } else {
         Next::Refused
     }
 }
 
-/// The high byte of its height.
+/// The high byte of a raster's height.
 pub fn raster_height(scale: u8, width: u8, low: u8, byte: u8) -> Next
     requires { IsTrue (is_width width) }
-    ensures { (read : List ℕ) → NextIs result (place.RasterHeightHigh scale width low) read byte }
+    ensures { (read : List ℕ) → NextIs result (state.RasterHeightHigh scale width low) read byte }
 {
     let height = u16::from_le_bytes([low, byte]);
     if !is_height(height) {
@@ -189,7 +189,7 @@ pub fn raster_height(scale: u8, width: u8, low: u8, byte: u8) -> Next
     }
     let wanted = u32::from(width) * u32::from(height);
     Next::Room(
-        Place::Dots {
+        State::Dots {
             scale,
             width,
             height,
@@ -199,10 +199,10 @@ pub fn raster_height(scale: u8, width: u8, low: u8, byte: u8) -> Next
     )
 }
 
-/// A byte of the dots.
+/// A byte of the dots of a raster.
 pub fn dots(scale: u8, width: u8, height: u16, wanted: u32, byte: u8) -> Next
     requires { 0 < wanted }
-    ensures { (read : List ℕ) → NextIs result (place.Dots scale width height wanted) read byte }
+    ensures { (read : List ℕ) → NextIs result (state.Dots scale width height wanted) read byte }
 {
     if wanted == 1 {
         Next::Last(Ending::Raster {
@@ -211,7 +211,7 @@ pub fn dots(scale: u8, width: u8, height: u16, wanted: u32, byte: u8) -> Next
             height,
         })
     } else {
-        Next::Keep(Place::Dots {
+        Next::Keep(State::Dots {
             scale,
             width,
             height,

@@ -1,8 +1,8 @@
-//! The decoder: it takes one byte at a time, and knows where in the command table it is.
+//! The decoder: it takes one byte at a time, and knows where in the command table it stands.
 //!
-//! Between commands it holds nothing. Within one it holds its place with the parameters read so far, the content or the
-//! dots read so far, and how many bytes of them are still wanted. The half command that contracts see is computed from
-//! these; it isn't kept.
+//! Between commands it holds nothing. Within a command it holds its state with the parameters read so far, the content or
+//! the dots read so far, and how many bytes of them are still to come. The half command that contracts speak of is computed
+//! from these; it isn't kept.
 
 ghost use Rattle.std.specs.Prelude.{ℕ, List, ◌≡◌, ◌<◌, ◌≤◌, [], ◌∷◌, ◌++◌, length, take, IsTrue, IfSome, Ok, Err};
 ghost use Rattle.escpos_command.specs.declared.command.Command.{Command};
@@ -10,50 +10,51 @@ ghost use Rattle.escpos_command.specs.declared.command.Command.TheVariants.{Char
 ghost use Rattle.escpos_command.specs.Grammar.{Reads};
 ghost use Rattle.escpos_command.specs.CommandTable.{IsCommand};
 ghost use Rattle.escpos_command.specs.Laws.{longest_spelling};
-ghost use Rattle.escpos_decode.specs.Place.{begins_content, command_of};
-ghost use Rattle.escpos_decode.specs.Push.{IsRest, PushIs, GoesOn, AheadIs, completed};
+ghost use Rattle.escpos_command.specs.Places.{reason_after};
+ghost use Rattle.escpos_decode.specs.State.{command_of, completed};
+ghost use Rattle.escpos_decode.specs.Push.{IsRest, PushIs, GoesOn, AheadIs, begins_content};
 ghost use Rattle.escpos_decode.specs.declared.decoder.DecodeFault.TheVariants.{Memory};
 ghost use Rattle.escpos_decode.specs.declared.decoder.Step.TheVariants.{Done};
 
-use crate::place::{Ending, Next, Place};
+use crate::state::{Ending, Next, State};
 use escpos_command::{Bars, Character, Command, FaultReason, Raster, laws};
-use std::alloc::Global;
+use std::alloc::{AllocError, Global};
 use std::marker::Model;
 use std::mem;
 
-/// A resumable decoder, seen as its half command: the bytes that begin a command which isn't whole yet.
+/// A resumable decoder. Its model is its half command: the bytes that begin a command which isn't whole yet.
 #[derive(Drop)]
 pub struct Decoder {
-    place: Place,
+    state: State,
     content: Vec<u8>,
     alloc: Global,
 }
 
 impl Model for Decoder {
     ghost use Rattle.std.specs.Prelude.{List, ℕ, ◌+◌, ◌≤◌, ◌++◌, vec_len, vec_capacity};
-    ghost use Rattle.escpos_decode.specs.Place.{front_of, wanted_at, IsAt};
+    ghost use Rattle.escpos_decode.specs.State.{prefix_of, wanted_at, IsAt};
 
     ghost Value = { List ℕ };
 
-    ghost view = { λ d. front_of d.place ++ d.content.items };
+    ghost view = { λ d. prefix_of d.state ++ d.content.items };
 
-    // It may stand at its place, and has room for the bytes of content that are still wanted there.
-    ghost invariant = { λ d. IsAt d.place d.content.items × (vec_len d.content + wanted_at d.place ≤ vec_capacity d.content) };
+    // A decoder may stand at this state, and has room for the bytes of content that are still to come there.
+    ghost invariant = { λ d. IsAt d.state d.content.items × (vec_len d.content + wanted_at d.state ≤ vec_capacity d.content) };
 }
 
 /// What a byte that isn't refused makes of the half command.
 #[derive(Debug, Drop, PartialEq, Eq)]
 pub enum Step {
-    /// It continues a command, which isn't whole yet.
+    /// The byte continues a command, which isn't whole yet.
     More,
-    /// It ends this command.
+    /// The byte ends this command.
     Done(Command),
 }
 
 /// What a byte would complete.
 #[derive(Clone, Copy, Debug, PartialEq, Eq)]
 pub enum Ahead {
-    /// No command: it would continue one, or it would be refused.
+    /// No command: the byte would continue one, or it would be refused.
     Nothing,
     /// A status request.
     Status,
@@ -66,18 +67,18 @@ pub enum Ahead {
 /// Why a byte isn't taken.
 #[derive(Clone, Copy, Debug, PartialEq, Eq)]
 pub enum DecodeFault {
-    /// No spelling begins with the half command and this byte. `at` is the number of bytes of the half
-    /// command before it. The half command is dropped, and the next byte begins a command.
+    /// No spelling begins with the half command and this byte. `at` is the number of bytes of the half command before it.
+    /// The half command is dropped, and the next byte is read as the start of a command.
     Fault { at: usize, why: FaultReason },
-    /// There is no memory for the content of a barcode or the dots of a raster. The decoder is unchanged and the byte
-    /// isn't taken. It comes only for a byte that isn't refused, and only within a barcode or a raster.
+    /// Out of memory for the content of a barcode or the dots of a raster. The decoder is unchanged and the byte isn't
+    /// taken. It comes only for a byte that isn't refused, and only within a barcode or a raster.
     Memory,
 }
 
 impl DecodeFault {
     ghost use Rattle.escpos_decode.specs.Push.{number_of_fault};
 
-    /// The number that programs print: 1 to 5 for a fault's reason, 6 for want of memory.
+    /// The number that programs print: 1 to 5 for a fault's reason, 6 for out of memory.
     pub fn number(self) -> u8
         ensures { result ≡ number_of_fault self }
     {
@@ -88,37 +89,45 @@ impl DecodeFault {
     }
 }
 
+impl From<AllocError> for DecodeFault {
+    ghost use Rattle.escpos_decode.specs.declared.decoder.DecodeFault.TheVariants.{Memory};
+
+    ghost from_gives = { λ _ fault. fault ≡ Memory };
+
+    fn from(_error: AllocError) -> Self {
+        DecodeFault::Memory
+    }
+}
+
 impl Decoder {
-    /// A decoder with no half command. Takes no memory.
+    /// A decoder with no half command. Allocates nothing.
     pub fn new(alloc: Global) -> Self
         ensures { result ≡ [] }
     {
         Decoder {
-            place: Place::Start,
+            state: State::Start,
             content: Vec::new(alloc),
             alloc,
         }
     }
 
-    /// Takes one byte.
-    ///
-    /// See `DecodeFault` for what is left after each fault.
+    /// Takes one byte. `DecodeFault` says what each fault leaves.
     #[inline]
     pub fn push(&mut self, byte: u8) -> Result<Step, DecodeFault>
         ensures step { PushIs result self.old byte self.new }
-        // Whatever bytes of a stream came before, it is read as far as this byte, or refused at its place.
+        // Whatever bytes of a stream came before, the stream is read up to this byte, or refused at its place.
         ensures stream { GoesOn result self.old byte self.new }
         ensures rest { IsRest self.new }
-        // Nothing but the content of a barcode and the dots of a raster takes memory.
+        // Only the content of a barcode and the dots of a raster are allocated.
         ensures memory { result ≡ Err Memory → IsTrue (begins_content (self.old ++ byte ∷ [])) }
     {
-        laws::joined_readings();
         let step = self.step(byte);
+        // Proof only: the half command is nothing or the start of a spelling.
         self.is_rest();
         step
     }
 
-    // Takes one byte, as `push` says.
+    // Takes one byte, as `push` does.
     #[inline]
     fn step(&mut self, byte: u8) -> Result<Step, DecodeFault>
         ensures step { PushIs result self.old byte self.new }
@@ -130,40 +139,41 @@ impl Decoder {
         }
     }
 
-    /// The character that the byte is where the decoder is between commands. Then it needn't be pushed: it leaves the decoder
-    /// as it is. Most bytes of a receipt are characters, which need no look at the table.
+    /// The character that the byte is, if the decoder is between commands. Such a byte need not be pushed: it leaves the
+    /// decoder as it is. Most bytes of a receipt are characters, for which the table isn't needed.
     #[inline]
     pub(crate) fn character(&self, byte: u8) -> Option<Character>
         ensures step { IfSome result (λ character. PushIs (Ok (Done (Char character))) self.now byte self.now) }
         ensures stream { IfSome result (λ character. GoesOn (Ok (Done (Char character))) self.now byte self.now) }
     {
+        // Proof only: readings join.
         laws::joined_readings();
-        match self.place {
-            Place::Start => Character::new(byte),
+        match self.state {
+            State::Start => Character::new(byte),
             _ => None,
         }
     }
 
-    /// Takes the dots of a raster at the front of `bytes`, all but its last, and answers how many they are: 0 where the half
-    /// command has no dots to come or only one. No such byte is refused or ends a command. Takes no memory.
+    /// Takes the dots of a raster at the start of `bytes`, all but the raster's last byte, and returns how many bytes it
+    /// took: 0 where the half command has no dots to come, or only one byte of them. No such byte is refused or ends a
+    /// command. Allocates nothing.
     pub fn push_dots(&mut self, bytes: &[u8]) -> usize
         ensures count { result ≤ length bytes.now }
         ensures grown { self.new ≡ self.old ++ take result bytes.now }
         ensures stream { (a : List ℕ) (cs : List Command) → Reads a cs self.old → Reads (a ++ take result bytes.now) cs self.new }
     {
-        laws::tree();
-        let Place::Dots {
+        let State::Dots {
             scale,
             width,
             height,
             wanted,
-        } = self.place
+        } = self.state
         else {
             return 0;
         };
         let count = bytes.len().min(wanted as usize - 1);
         self.content.extend_from_slice(&bytes[..count]).unwrap();
-        self.place = Place::Dots {
+        self.state = State::Dots {
             scale,
             width,
             height,
@@ -178,91 +188,94 @@ impl Decoder {
         ensures step { PushIs result self.old byte self.new }
         ensures memory { result ≡ Err Memory → IsTrue (begins_content (self.old ++ byte ∷ [])) }
     {
-        laws::tree();
-        match self.place.next(self.content.as_slice(), byte) {
-            Next::Refused => {
-                let at = self.place.front_len() + self.content.len();
-                let why = self.place.reason(self.content.as_slice());
-                self.clear();
-                Err(DecodeFault::Fault { at, why })
-            }
-            Next::To(place) => {
-                self.place = place;
+        match self.state.next(self.content.as_slice(), byte) {
+            Next::Refused => Err(self.refuse()),
+            Next::To(state) => {
+                self.state = state;
                 Ok(Step::More)
             }
-            Next::Room(place, count) => match self.content.reserve(count) {
+            Next::Room(state, count) => {
+                self.content.reserve(count)?;
+                self.state = state;
+                Ok(Step::More)
+            }
+            Next::Grow(state) => match self.content.push(byte) {
                 Ok(()) => {
-                    self.place = place;
+                    self.state = state;
                     Ok(Step::More)
                 }
                 Err(_) => Err(DecodeFault::Memory),
             },
-            Next::Grow(place) => match self.content.push(byte) {
-                Ok(()) => {
-                    self.place = place;
-                    Ok(Step::More)
-                }
-                Err(_) => Err(DecodeFault::Memory),
-            },
-            Next::Keep(place) => {
+            Next::Keep(state) => {
                 self.content.push_reserved(byte);
-                self.place = place;
+                self.state = state;
                 Ok(Step::More)
             }
             Next::Done(command) => {
-                self.place = Place::Start;
+                self.state = State::Start;
                 Ok(Step::Done(command))
             }
             Next::Last(ending) => {
                 self.content.push_reserved(byte);
-                self.place = Place::Start;
+                self.state = State::Start;
                 Ok(Step::Done(end(&mut self.content, ending, self.alloc)))
             }
             Next::Closes(ending) => {
-                self.place = Place::Start;
+                self.state = State::Start;
                 Ok(Step::Done(end(&mut self.content, ending, self.alloc)))
             }
         }
     }
 
-    // What the decoder holds is nothing or a half command.
+    // Drops the half command, and returns the fault of the byte after it.
+    fn refuse(&mut self) -> DecodeFault
+        ensures fault { result ≡ DecodeFault.Fault (length self.old) (reason_after self.old) }
+        ensures empty { self.new ≡ [] }
+    {
+        let at = self.state.prefix_len() + self.content.len();
+        let why = self.state.reason(self.content.as_slice());
+        self.clear();
+        DecodeFault::Fault { at, why }
+    }
+
+    // Proof only: gives the caller this fact: the decoder holds nothing or a half command.
     #[inline]
     fn is_rest(&self)
         ensures { IsRest self.now }
     {
-        laws::tree();
-        let _ = &self.place;
+        // Proof only: where bytes lead in the tree is what they are; the decoder's invariant.
+        let _ = &self.state;
     }
 
-    /// What the byte would complete, as `push` of it would. Changes nothing and takes no memory.
+    /// What `push` of the byte would complete. Changes nothing and allocates nothing.
     pub fn would_complete(&self, byte: u8) -> Ahead
         ensures { AheadIs result self.now byte }
     {
-        laws::tree();
-        completed(&self.place.next(self.content.as_slice(), byte))
+        completed(&self.state.next(self.content.as_slice(), byte))
     }
 
-    /// The number of bytes of the half command, at most 524,167: less than the longest spelling has. Takes no memory.
+    /// The number of bytes of the half command, at most 524,167: fewer than the longest spelling has. Allocates nothing.
     pub fn pending_len(&self) -> usize
         ensures value { result ≡ length self.now }
         ensures rest { IsRest self.now }
         ensures short { result < longest_spelling }
     {
+        // Proof only: a half command is shorter than the longest spelling.
         laws::unique_spellings();
         self.is_rest();
-        self.place.front_len() + self.content.len()
+        self.state.prefix_len() + self.content.len()
     }
 
-    /// Drops the half command with its memory. The next byte begins a command. Takes no memory.
+    /// Drops the half command and frees its memory. The next byte is read as the start of a command. Allocates nothing.
     pub fn clear(&mut self)
         ensures { self.new ≡ [] }
     {
-        self.place = Place::Start;
+        self.state = State::Start;
         self.content = Vec::new(self.alloc);
     }
 }
 
-// What is completed where a byte leads here.
+// What a step completes.
 fn completed(next: &Next) -> Ahead
     ensures { result ≡ completed next.now }
 {
@@ -276,7 +289,7 @@ fn completed(next: &Next) -> Ahead
     }
 }
 
-// The command of a content that has ended. The content goes to it, and none is left.
+// The command of a content that has ended. It takes the content, and none is left.
 fn end(content: &mut Vec<u8>, ending: Ending, alloc: Global) -> Command
     requires { IsCommand (command_of ending content.old.items) }
     ensures command { result ≡ command_of ending content.old.items }

@@ -25,30 +25,30 @@ pub struct Decoded {
 pub enum End {
     /// All bytes are read, and the last `half` of them are a half command.
     Read { half: usize },
-    /// The byte at this place of the stream is refused. The bytes that follow it aren't looked at.
+    /// The byte at this place of the stream is refused. The bytes after it aren't read.
     Fault { at: u128, why: FaultReason },
 }
 
 /// The commands of a stream that comes in these pieces, up to its end or its first refused byte.
 ///
-/// The error is want of memory.
+/// The error is a failed allocation.
 pub fn decode(alloc: Global, pieces: &[&[u8]]) -> Result<Decoded, AllocError>
-    // It doesn't matter where the stream is cut: the answer is that of the joined pieces.
+    // It doesn't matter where the stream is cut: the result is that of the joined pieces.
     ensures decoded { IfOk result (λ decoded. IsDecoded decoded (joined pieces.now)) }
     // What the encoder spells is decoded to the same commands.
     ensures encoded { IfOk result (λ decoded. (cs : List Command) → AllByRecursion IsCommand cs → joined pieces.now ≡ spell cs →
         (decoded.commands.items ≡ cs) × LeavesNothing decoded.end) }
-    // What is decoded with nothing left is spelled so by the encoder.
+    // What is decoded with nothing left, the encoder spells so.
     ensures spelled_again { IfOk result (λ decoded. LeavesNothing decoded.end → spell decoded.commands.items ≡ joined pieces.now) }
 {
-    laws::one_reading();
     decode_pieces(alloc, pieces)
 }
 
-// The decoder over the pieces, one after another.
+// Runs the decoder over the pieces, one after another.
 fn decode_pieces(alloc: Global, pieces: &[&[u8]]) -> Result<Decoded, AllocError>
     ensures { IfOk result (λ decoded. IsDecoded decoded (joined pieces.now)) }
 {
+    // Proof only: readings join.
     laws::joined_readings();
     let mut decoder = Decoder::new(alloc);
     let mut commands = Vec::new(alloc);
@@ -76,11 +76,11 @@ fn decode_pieces(alloc: Global, pieces: &[&[u8]]) -> Result<Decoded, AllocError>
     })
 }
 
-// A list of commands takes each at its end.
+// A list of commands takes each as its new last element.
 impl Consumer<()> for Vec<Command> {
     type Refusal = AllocError;
 
-    ghost took = { λ start now cs. now.0.items ≡ start.0.items ++ cs };
+    ghost accepted = { λ start now cs. now.0.items ≡ start.0.items ++ cs };
 
     ghost refused = { λ last now _. (now.0.items ≡ last.0.items) × (vec_capacity last.0 ≤ vec_len last.0) };
 

@@ -1,4 +1,4 @@
--- The fronts of a mark's answer are half answers, and a byte that doesn't go on with one goes on with no answer.
+-- The prefixes of a mark's answer are half answers, and a byte that doesn't continue one continues no answer.
 use Rattle.std.proofs.Common.{◌⊎◌, inl, inr, ◌≡◌, ◌≢◌, ℕ, ◌≤◌, ◌&&◌, ◌==◌, Bool, true, false, List, [], ◌∷◌, ◌++◌, length, length-append, append_assoc, zero, suc, arith, refl, sym, ◌∙◌, ap, IsTrue}
 use Rattle.std.specs.Prelude.{if◌then◌else◌}
 use Rattle.std.specs.List.{list_all}
@@ -7,7 +7,7 @@ use Rattle.escpos_command.specs.declared.answer.Answer.{Answer}
 use Rattle.escpos_command.specs.declared.answer.Answer.TheVariants as answer
 use Rattle.escpos_command.specs.Answers.{is_status_byte, AnswerSpells, HalfAnswer, ViableAnswer}
 use Rattle.escpos_command.specs.Parameters.{is_mark_id, is_mark_byte}
-use Rattle.escpos_host.specs.Hearing.{IsFront, goes_on}
+use Rattle.escpos_host.specs.AnswerReader.{IsFront, goes_on}
 
 -- An id is four bytes of marks.
 data Four (id : List ℕ) : Type 0 where
@@ -34,11 +34,11 @@ four_of (a ∷ b ∷ c ∷ d ∷ e ∷ id) h =
     let long : length (a ∷ b ∷ c ∷ d ∷ e ∷ id) ≡ 4 = same_number _ 4 (both _ _ h).0 in
     absurd (omega arith)
 
--- A byte that is this one goes on, where this one does.
+-- A byte that is equal to one that continues a half answer continues it too.
 clash : (f : ℕ → Bool) (b c : ℕ) → b ≡ c → f c ≡ true → f b ≡ false → ⊥
 clash f b c same on off = let bad : true ≡ false = sym on ∙ ap f (sym same) ∙ off in cc
 
--- A byte that doesn't go on with the front of a mark's answer is not the one that comes there.
+-- A byte that doesn't continue a prefix of a mark's answer is not the one that comes there.
 not_of_mark : (h : List ℕ) (b : ℕ) (id more : List ℕ) → IsFront h → goes_on h b ≡ false → Four id → (h ++ b ∷ []) ++ more ≡ 0x37 ∷ 0x22 ∷ (id ++ 0x00 ∷ []) → ⊥
 not_of_mark [] b id more front off (four i j k l e p q r s) same = clash (λ n. n == 0x37) b 0x37 (cc) (refl {a = true}) off
 not_of_mark (x ∷ []) b id more front off (four i j k l e p q r s) same = clash (λ n. n == 0x22) b 0x22 (cc) (refl {a = true}) off
@@ -59,7 +59,7 @@ pub not_viable : (h : List ℕ) (b : ℕ) → IsFront h → goes_on h b ≡ fals
 not_viable h b front off no_status (answer.Status s, more, spelled) = not_of_status h b s more no_status spelled.in_range spelled.in_table
 not_viable h b front off no_status (answer.Mark id, more, spelled) = not_of_mark h b id more front off (four_of id spelled.in_range) spelled.in_table
 
--- A front with the next byte is a front, as long as the answer isn't whole.
+-- A prefix with the next byte is a prefix, as long as the answer isn't whole.
 all_with : (id : List ℕ) (b : ℕ) → IsTrue (list_all is_mark_byte id) → is_mark_byte b ≡ true → IsTrue (list_all is_mark_byte (id ++ b ∷ []))
 all_with [] b all on = rw on
 all_with (a ∷ id) b all on =
@@ -81,7 +81,7 @@ longer (x ∷ y ∷ id) b front on short =
       all_with id b front.3 byte,
     )
 
--- What follows a front of a mark's answer, to make some answer whole.
+-- What follows a prefix of a mark's answer, to make some answer whole.
 abbrev padding : ℕ → List ℕ
 padding zero = 0x30 ∷ 0x30 ∷ 0x30 ∷ 0x30 ∷ []
 padding (suc zero) = 0x30 ∷ 0x30 ∷ 0x30 ∷ []
@@ -98,7 +98,7 @@ padded (a ∷ b ∷ c ∷ []) short all = all
 padded (a ∷ b ∷ c ∷ d ∷ []) short all = all
 padded (a ∷ b ∷ c ∷ d ∷ e ∷ id) short all = absurd (omega (arith, short))
 
--- Nothing that is as short as a front, and begins with 37, is a whole answer.
+-- Nothing that is as short as a prefix, and begins with 37, is a whole answer.
 no_answer : (h : List ℕ) → (x : ℕ) → x ≡ 0x37 → length h ≤ 5 → (a : Answer) → AnswerSpells a (x ∷ h) → ⊥
 no_answer h x first short (answer.Status s) spelled = clash is_status_byte 0x37 s (sym first ∙ cc spelled.in_table) spelled.in_range (refl {a = false})
 no_answer h x first short (answer.Mark id) spelled = elim (four_of id spelled.in_range) [
@@ -125,11 +125,11 @@ half_of (x ∷ y ∷ id) front some = record {
   no_answer = no_answer (y ∷ id) x front.0 (omega (arith, front.2));
 }
 
--- A byte that goes on with the front of a mark's answer makes a half answer, as long as that isn't whole.
+-- A byte that continues a prefix of a mark's answer makes a half answer, as long as that isn't whole.
 pub goes_on_half : (h : List ℕ) (b : ℕ) → IsFront h → goes_on h b ≡ true → length h ≢ 6 → HalfAnswer (h ++ b ∷ [])
 goes_on_half h b front on short = half_of (h ++ b ∷ []) (longer h b front on short) (λ e. absurd (omega (arith, ap length e, length-append h (b ∷ []))))
 
--- A front is nothing or a half answer.
+-- A prefix is nothing or a half answer.
 pub front_or_nothing : (h : List ℕ) → IsFront h → (h ≡ []) ⊎ HalfAnswer h
 front_or_nothing [] front = inl refl
 front_or_nothing (x ∷ h) front = inr (half_of (x ∷ h) front (λ e. let bad : x ∷ h ≡ [] = e in cc))

@@ -13,7 +13,7 @@ use Rattle.escpos_host.specs.Awaits.{RefusesOpening, dialled}
 use Rattle.escpos_host.specs.Machine.{HostView, Down, Opening, RefusesLinkUp, RefusesNudge, gone_down, linked, nudged}
 use Rattle.escpos_host.specs.Says.{marks_from}
 use Rattle.escpos_host.specs.Sends.{IsCut}
-use Rattle.escpos_host.proofs.Saying.{marks-snoc}
+use Rattle.escpos_host.proofs.Said.{marks-snoc}
 
 pub dialled_first : (h : HostView) → linked h ≡ dialled h 1
 dialled_first h = ap (λ out. record { phase = Opening h.next; out = out; half = []; next = h.next + 1; records = h.records; left = [] }) (sym (append-nil (row (kind.Mark (mark_of h.next)))))
@@ -51,7 +51,7 @@ refused_later error.InFlightFull h after n openings down some few marks refuses 
 
 -- ## Putting out
 
--- What was copied from the front of the bytes to take out.
+-- What was copied from the first bytes to take out.
 pub copied_front : (out piece new : List ℕ) (count : ℕ) → count ≤ length out → new ≡ take count out ++ drop count piece → take count new ≡ take count out
 copied_front out piece new count few copied =
     let whole : length (take count out) ≡ count = let p = length-take count out in omega (arith, p, few) in

@@ -1,8 +1,8 @@
 -- The bytes that passed, and one more.
 use Rattle.std.proofs.Common.{◌≡◌, ◌⊎◌, inl, inr, ℕ, List, [], ◌∷◌, ◌++◌, refl, sym, ◌∙◌, ap, subst, append-nil, append_assoc}
-use Rattle.std.specs.List.{AllByRecursion}
 use Rattle.escpos_command.specs.declared.answer.Answer.{Answer}
 use Rattle.escpos_command.specs.Answers.{AnswerSpells, HalfAnswer, Hears, answer_bytes, spell_answers}
+use Rattle.escpos_receipt.proofs.Prefixes.{all_joined}
 use Rattle.escpos_host.specs.declared.host.HostEvent.TheVariants as event
 use Rattle.escpos_host.specs.Heard.{HearsByte, Ignores, Passed, with_half}
 use Rattle.escpos_host.specs.Machine.{HostView}
@@ -13,23 +13,19 @@ Joined = (a b : List ℕ) (some others : List Answer) (r s : List ℕ) → Hears
 
 -- Nothing is heard yet.
 pub none_passed : (h : HostView) → (h.half ≡ []) ⊎ HalfAnswer h.half → Passed h [] h.half
-none_passed h sound = record { ignored = []; hears = record { in_range = tt; whole = append-nil h.half; left = sound }; each = tt }
+none_passed h sound = record { ignored = []; hears = record { in_range = tt; whole = append-nil h.half; rest_is = sound }; each = tt }
 
--- A byte goes on with a half answer.
+-- A byte continues a half answer.
 half_heard : (bs : List ℕ) → HalfAnswer bs → Hears bs [] bs
-half_heard bs half = record { in_range = tt; whole = refl; left = inr half }
+half_heard bs half = record { in_range = tt; whole = refl; rest_is = inr half }
 
 -- A byte makes an answer whole.
 pub whole_heard : (bs : List ℕ) (a : Answer) → AnswerSpells a bs → Hears bs (a ∷ []) []
 whole_heard bs a spelled = record {
   in_range = (spelled.in_range, tt);
   whole = spelled.in_table ∙ sym (append-nil (spell_answers (a ∷ [])) ∙ append-nil (answer_bytes a));
-  left = inl refl;
+  rest_is = inl refl;
 }
-
-pub all_joined : {X : Type 0} (P : X → Type 0) (some others : List X) → AllByRecursion P some → AllByRecursion P others → AllByRecursion P (some ++ others)
-all_joined P [] others all more = more
-all_joined P (x ∷ some) others all more = (all.0, all_joined P some others all.1 more)
 
 -- What passed, and what the host is then.
 pub record PassedOn (h : HostView) (bytes : List ℕ) (after : HostView) : Type 0 where

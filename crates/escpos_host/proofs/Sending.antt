@@ -1,4 +1,4 @@
--- The two waits of a call that sends a receipt, and what comes of it.
+-- The two waits of a call that sends a receipt, and their results.
 use Rattle.std.proofs.Common.{◌≡◌, ◌≢◌, ◌⊎◌, ◌<◌, ◌≤◌, ◌+◌, ◌-◌, inl, inr, ℕ, List, [], ◌∷◌, ◌++◌, length, take, drop, refl, sym, ◌∙◌, ap, subst, append-nil, append_assoc, length-append, length-take, length-drop, arith, Option, Some, Result, Ok, Err, IfErr}
 use Rattle.std.specs.Prelude.{slice_get, slice_index}
 use Rattle.std.specs.Result.{IsErrAnd}
@@ -19,11 +19,11 @@ use Rattle.escpos_host.specs.declared.send.SendFault.TheVariants as fault
 use Rattle.escpos_host.specs.Awaits.{Brought, Closes, HearsOut, IsOverlooked, IsSilence, IsStop, Lost, Opens, Overlooked, RefusesOpening, Silent, Stops, dialled, ready, sending, with_out}
 use Rattle.escpos_host.specs.Heard.{HearsByte, IsClosing, IsOpeningMark, recorded, opened, with_half}
 use Rattle.escpos_host.specs.Machine.{HostView, InFlight, Phase, Down, Opening, Open, RefusesSubmit, gone_down, handed_out, most_in_flight, submitted}
-use Rattle.escpos_host.specs.Sends.{Call, Closed, Fails, HasMarks, IsCut, IsToClosing, IsToOpening, Opened, Refuses, Unclosed, Unopened, Waits, closing, given_up, opening_bytes, receipt_bytes, recorded_by}
+use Rattle.escpos_host.specs.Sends.{Call, Closed, Fails, HasMarks, IsCut, IsToClosing, IsToOpening, Opened, RefusesSend, Unclosed, Unopened, Waits, closing, given_up, opening_bytes, receipt_bytes, recorded_by}
 use Rattle.escpos_host.proofs.Passing.{Joined, whole_heard}
 use Rattle.escpos_host.proofs.Waiting.{split_at}
 
--- What a host that waits so looks like: what it has to say is said.
+-- The host during such a wait: what it had to say is said.
 abbrev pub asking : Call → HostView
 asking c = with_out (dialled c.before c.openings) []
 
@@ -123,7 +123,7 @@ opened_all c front rest half after f short o = record {
   hears = f.hears;
   each = f.each;
   opening = f.opening;
-  behind = o.answers;
+  following = o.answers;
   hears_rest = subst (λ (v : HostView). Hears (v.half ++ rest) o.answers half) f.same o.hears;
   short = short;
 }
@@ -153,7 +153,7 @@ misfit_hoping c after early_half half byte place at (inr (inr (a, spelled, (p, p
 
 -- ## How a wait ends
 
--- No answer came before the reader ended or failed, or so many bytes were read.
+-- No answer came before the reader ended or failed, or before this many bytes were read.
 fails_silently : (c : Call) (why : SendFault) (bytes half out : List ℕ) (used : ℕ) → HasMarks c used → IsSilence why → Waits c bytes half out used → (why ≡ fault.TooLong → length bytes ≡ c.most)
     → ((why ≡ fault.Ended) ⊎ (why ≡ fault.ReadFault) → length bytes < c.most) → Fails c why bytes out (given_up c used)
 fails_silently c fault.Ended bytes half out used marks silence waits long early = (half, used, waits, early (inl refl), marks, refl)
@@ -453,7 +453,7 @@ closes_all joined c early early_half before left a b piece most number awaited a
       same = done.2;
     }
 
--- What `?` hands on.
+-- What `?` returns.
 pub if_err : {A E : Type 0} (P : E → Type 0) (r : Result A E) (e : E) → IsErrAnd r (λ x. x ≡ e) → P e → IfErr r P
 if_err P (Ok a) e h p = tt
 if_err P (Err x) e h p = subst P (sym h) p
@@ -465,7 +465,7 @@ lost_up h after up same gone = inr ((λ e. up (sym same ∙ e)), gone)
 -- ## A whole call
 
 -- The link can't be opened.
-pub refused_opening : (c : Call) (why : HostError) (after : HostView) → RefusesOpening why c.before c.openings after → Refuses c why [] [] after
+pub refused_opening : (c : Call) (why : HostError) (after : HostView) → RefusesOpening why c.before c.openings after → RefusesSend c why [] [] after
 refused_opening c error.NotReady after h = absurd h
 refused_opening c error.AlreadyUp after h = (h.0, (refl, refl), h.1)
 refused_opening c error.MarksUsedUp after (down, inl (few, same)) = (down, inl (few, (refl, refl), same))
@@ -476,7 +476,7 @@ refused_opening c error.InFlightFull after h = absurd h
 
 -- The receipt isn't taken.
 pub refused_receipt : (c : Call) (why : HostError) (h after : HostView) (bytes half : List ℕ) → c.before.phase ≡ Down → 1 ≤ c.openings → c.before.next + c.openings ≤ mark_count → Opened c bytes half → h ≡ ready c half
-    → RefusesSubmit why h → after ≡ gone_down h → Refuses c why bytes (opening_bytes c) after
+    → RefusesSubmit why h → after ≡ gone_down h → RefusesSend c why bytes (opening_bytes c) after
 refused_receipt c error.NotReady h after bytes half down some marks o same refuses gone = absurd (refuses [] (ap (λ (v : HostView). v.phase) same))
 refused_receipt c error.AlreadyUp h after bytes half down some marks o same refuses gone = absurd refuses
 refused_receipt c error.MarksUsedUp h after bytes half down some marks o same (flight, is_open, room, none) gone =
@@ -504,6 +504,10 @@ has_marks c half m same marks = let next = ap (λ (v : HostView). v.next) same i
 pub closed_down : (h m after : HostView) → Lost h m → (m.phase ≢ Down → after ≡ gone_down m) → (m.phase ≡ Down → after ≡ m) → after ≡ gone_down h
 closed_down h m after (inl gone) up down = down (ap (λ (v : HostView). v.phase) gone) ∙ gone
 closed_down h m after (inr (some, same)) up down = up some ∙ same
+
+-- So where it was known what was put out before.
+pub closed_from : (q r t known : HostView) → q ≡ known → Lost q r → (r.phase ≢ Down → t ≡ gone_down r) → (r.phase ≡ Down → t ≡ r) → t ≡ gone_down known
+closed_from q r t known same lost up down = closed_down q r t lost up down ∙ ap gone_down same
 
 -- The receipt that was in flight is handed out.
 pub one_left : (c : Call) (half : List ℕ) (q : HostView) → q ≡ gone_down (sending c half) → slice_get q.left 0 ≡ Some c.receipt

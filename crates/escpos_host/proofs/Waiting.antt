@@ -14,7 +14,8 @@ use Rattle.escpos_host.specs.declared.host.HostEvent.TheVariants as event
 use Rattle.escpos_host.specs.Awaits.{Brought, HearsOut, IsOverlooked, IsStop, Overlooked}
 use Rattle.escpos_host.specs.Heard.{HearsByte, Ignores, IsHeard, Passed, taken_at, with_half}
 use Rattle.escpos_host.specs.Machine.{HostView, Phase}
-use Rattle.escpos_host.proofs.Passing.{Joined, all_joined, none_passed, whole_heard}
+use Rattle.escpos_receipt.proofs.Prefixes.{all_joined}
+use Rattle.escpos_host.proofs.Passing.{Joined, none_passed, whole_heard}
 
 -- What is ignored is overlooked.
 ignored_one : (phase : Phase) (next : ℕ) (a : Answer) → Ignores phase next a → IsOverlooked phase next a
@@ -75,7 +76,7 @@ pub record Waited (h : HostView) (before left : Option (List ℕ)) (read : ℕ) 
 rest_length : (bytes : List ℕ) (taken : ℕ) → taken ≤ length bytes → length (take (length bytes - taken) (drop taken bytes)) ≡ length bytes - taken
 rest_length bytes taken h = let p = length-take (length bytes - taken) (drop taken bytes) in let r = length-drop taken bytes in omega (arith, p, r, h)
 
--- So many bytes of the rest come after those that were taken.
+-- This many bytes of the rest come after those that were taken.
 front_on : (bytes : List ℕ) (taken count : ℕ) → taken ≤ length bytes → count ≤ length bytes - taken
     → take taken bytes ++ take count (take (length bytes - taken) (drop taken bytes)) ≡ take (taken + count) bytes
 front_on bytes taken count h few = ap (λ v. take taken bytes ++ v) (take-take count (length bytes - taken) (drop taken bytes) few) ∙ sym (take-add taken count bytes)
@@ -83,7 +84,7 @@ front_on bytes taken count h few = ap (λ v. take taken bytes ++ v) (take-take c
 byte_in_rest : (bytes : List ℕ) (taken at : ℕ) → at < length bytes - taken → slice_index (take (length bytes - taken) (drop taken bytes)) at ≡ slice_index bytes (taken + at)
 byte_in_rest bytes taken at inside = get_or-take (length bytes - taken) (drop taken bytes) at 0 inside ∙ get_or-drop taken bytes at 0
 
--- A status in the rest of a piece whose front is overlooked.
+-- A status in the rest of a piece whose first bytes are overlooked.
 pub told_on : Joined → (h m after : HostView) (bytes : List ℕ) (taken consumed byte : ℕ) → taken ≤ length bytes → Overlooked h (take taken bytes) m.half → m ≡ with_half h m.half
     → IsHeard m (take (length bytes - taken) (drop taken bytes)) consumed (event.Status byte) after
     → (taken + consumed ≤ length bytes) × Overlooked h (take (taken + consumed) bytes) after.half × (after ≡ with_half h after.half) × (0 < consumed)
@@ -114,7 +115,7 @@ taken_later event.Opened taken at = omega arith
 taken_later (event.Recorded number) taken at = omega arith
 taken_later (event.BadAnswer place) taken at = refl
 
--- Another event, or none, in the rest of a piece whose front is overlooked.
+-- Another event, or none, in the rest of a piece whose first bytes are overlooked.
 pub hears_out : Joined → (h m after : HostView) (bytes : List ℕ) (taken consumed : ℕ) (e : HostEvent) → taken ≤ length bytes → Overlooked h (take taken bytes) m.half → m ≡ with_half h m.half
     → ((byte : ℕ) → e ≢ event.Status byte) → IsHeard m (take (length bytes - taken) (drop taken bytes)) consumed e after → HearsOut h bytes (taken + consumed) e after
 hears_out joined h m after bytes taken consumed e inside front same other (inl (none, count, passed, left)) =
@@ -207,7 +208,7 @@ brought_on joined h m q before r r1 y piece read k consumed e w came count some 
           ap (λ n. take (k - n) (drop n piece)) all ∙ sym (drop-take (at + 1) (k - (at + 1)) piece) ∙ ap (λ n. drop (at + 1) (take n piece)) joint ∙ ap (λ v. drop (at + 1) v) front;
     }
 
--- The bytes at the front of a buffer into which they were pulled.
+-- The bytes at the start of a buffer into which they were pulled.
 pub pulled_front : (count : ℕ) (new rest : List ℕ) → count ≤ length new → take count (new ++ rest) ≡ take count new
 pulled_front count new rest h = take-append-le count new rest h
 

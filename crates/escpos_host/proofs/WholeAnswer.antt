@@ -9,7 +9,7 @@ use Rattle.escpos_host.specs.declared.host.HostEvent.{HostEvent}
 use Rattle.escpos_host.specs.declared.host.HostEvent.TheVariants as event
 use Rattle.escpos_host.specs.Heard.{EndsLink, HearsAll, HearsByte, HearsInTurn, Ignores, IsHeard, Passed, Turns, last_of, taken_at, with_half}
 use Rattle.escpos_host.specs.Machine.{HostView, Down}
-use Rattle.escpos_host.proofs.InTurn.{Later, counted, no_growth, turned}
+use Rattle.escpos_host.proofs.EventsInTurn.{Later, counted, no_growth, turned}
 use Rattle.escpos_host.proofs.Passing.{whole_heard}
 
 -- What the laws of answers say.
@@ -23,7 +23,7 @@ pub record Laws : Type 0 where
 spells : (a : Answer) → IsTrue (is_answer a) → AnswerSpells a (answer_bytes a)
 spells a known = record { in_range = known; in_table = refl }
 
--- A half answer that is no answer at all changes nothing.
+-- An empty half answer changes nothing.
 same_half : (h after : HostView) (half : List ℕ) → h.half ≡ [] → half ≡ [] → after ≡ with_half h half → after ≡ h
 same_half h after half none also same = same ∙ ap (with_half h) (also ∙ sym none)
 
@@ -111,7 +111,7 @@ by_byte laws h after a half byte at consumed e none known some place count (inr 
 heard_none : Laws → (h after : HostView) (consumed : ℕ) → h.half ≡ [] → IsHeard h [] consumed event.None after → after ≡ h
 heard_none laws h after consumed none (inl (no_event, all, passed, same)) =
     let hears : Hears [] passed.ignored after.half = subst (λ x. Hears (x ++ []) passed.ignored after.half) none passed.hears in
-    let one = laws.one_hearing [] passed.ignored [] after.half [] hears (record { in_range = tt; whole = refl; left = inl refl }) in
+    let one = laws.one_hearing [] passed.ignored [] after.half [] hears (record { in_range = tt; whole = refl; rest_is = inl refl }) in
     same_half h after after.half none one.1 same
 heard_none laws h after consumed none (inr (at, half, within, some, is_count, passed, heard)) = absurd (some refl)
 

@@ -1,5 +1,6 @@
--- What the parts of `send_link` come to, for a host that has a link: hearing answers up to an event that isn't a status, reading
--- them until there is one, and putting out what the host has to say.
+-- What the parts of `send_link` do, for a host that has a link: hearing answers up to an event that isn't a status, reading
+-- them until there is one, and putting out what the host has to say. Only private clauses, invariants and proofs use these
+-- definitions.
 use Rattle.std.specs.Prelude.{ℕ, ◌≡◌, ◌≢◌, ◌+◌, ◌<◌, ◌≤◌, ◌-◌, ◌⊎◌, List, [], ◌∷◌, ◌++◌, length, take, drop, slice_index, Option}
 use Rattle.std.specs.List.{AllByRecursion}
 use Rattle.std.specs.Io.KnownBytes.{Appends, Consumes}
@@ -22,23 +23,23 @@ use Rattle.escpos_host.specs.Sends.{Call, Closed, Fails, Opened, closing, given_
 
 -- ## Opening
 
--- The host whose link is up, with so many opening marks put out.
+-- The host whose link is up, with this many opening marks put out.
 abbrev pub dialled : HostView → ℕ → HostView
 dialled h count = record { phase = Opening h.next; out = spell (marks_from count h.next); half = []; next = h.next + count; records = h.records; left = [] }
 
--- The host whose link was given up after so many.
-abbrev pub hung_up : HostView → ℕ → HostView
-hung_up h count = record { phase = Down; out = []; half = []; next = h.next + count; records = h.records; left = [] }
+-- The host whose link was given up after this many opening marks.
+abbrev pub given_up_after : HostView → ℕ → HostView
+given_up_after h count = record { phase = Down; out = []; half = []; next = h.next + count; records = h.records; left = [] }
 
--- Why so many opening marks can't be put out.
+-- Why this many opening marks can't be put out.
 abbrev pub RefusesOpening : HostError → HostView → ℕ → HostView → Type 0
 RefusesOpening error.AlreadyUp h openings after = (h.phase ≢ Down) × (after ≡ h)
 RefusesOpening error.MarksUsedUp h openings after =
     (h.phase ≡ Down)
-    × (((mark_count ≤ h.next) × (after ≡ h)) ⊎ ((used : ℕ) × (0 < used) × (used < openings) × (h.next + used ≡ mark_count) × (after ≡ hung_up h used)))
+    × (((mark_count ≤ h.next) × (after ≡ h)) ⊎ ((used : ℕ) × (0 < used) × (used < openings) × (h.next + used ≡ mark_count) × (after ≡ given_up_after h used)))
 RefusesOpening error.Memory h openings after =
     (h.phase ≡ Down) × (h.next < mark_count)
-    × ((after ≡ h) ⊎ ((used : ℕ) × (0 < used) × (used < openings) × (h.next + used < mark_count) × (after ≡ hung_up h used)))
+    × ((after ≡ h) ⊎ ((used : ℕ) × (0 < used) × (used < openings) × (h.next + used < mark_count) × (after ≡ given_up_after h used)))
 RefusesOpening _ h openings after = ⊥
 
 -- ## Hearing
@@ -60,7 +61,7 @@ IsStop event.None = ⊥
 IsStop (event.Status byte) = ⊥
 IsStop _ = Unit {0}
 
--- What hearing a piece up to such an event comes to.
+-- What hearing a piece up to such an event does.
 abbrev pub HearsOut : HostView → List ℕ → ℕ → HostEvent → HostView → Type 0
 HearsOut h bytes consumed e after =
     ((e ≡ event.None) × (consumed ≡ length bytes) × Overlooked h bytes after.half × (after ≡ with_half h after.half))
@@ -86,7 +87,7 @@ pub record Brought (h : HostView) (before left : Option (List ℕ)) (piece : Lis
   pub end : awaited.count ≤ length piece
   pub rest : ((at : ℕ) → awaited.event ≢ event.BadAnswer at) → take (awaited.count - awaited.heard) (drop awaited.heard piece) ≡ tail
 
--- None came before the reader ended or failed, or so many bytes were read.
+-- No event came before the reader ended or failed, or before this many bytes were read.
 pub record Silent (h : HostView) (before left : Option (List ℕ)) (most : ℕ) (why : SendFault) (after : HostView) : Type 0 where
   pub bytes : List ℕ
   pub came : Consumes before left bytes
@@ -144,7 +145,7 @@ pub record Closes (c : Call) (early : List ℕ) (before left put_before put_afte
   pub place : number ≡ length c.before.records
   pub same : after ≡ recorded_by c
 
--- A wait ends otherwise; before it these bytes were read, and these said.
+-- A wait ends in another way; before it these bytes were read, and these were said.
 pub record Stops (c : Call) (early said : List ℕ) (before left put_before put_after : Option (List ℕ)) (most : ℕ) (why : SendFault) (used : ℕ) : Type 0 where
   pub bytes : List ℕ
   pub out : List ℕ

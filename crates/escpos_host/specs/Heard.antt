@@ -1,4 +1,4 @@
--- What hearing the bytes of answers comes to. It speaks of a whole piece; the code takes it byte by byte.
+-- What hearing the bytes of answers does. It speaks of a whole piece; the code takes it byte by byte.
 use Rattle.std.specs.Prelude.{ℕ, ◌≡◌, ◌≢◌, ◌+◌, ◌<◌, ◌≤◌, ◌⊎◌, List, [], ◌∷◌, ◌++◌, length, take, drop, slice_index}
 use Rattle.std.specs.List.{AllByRecursion}
 use Rattle.escpos_command.specs.declared.answer.Answer.{Answer}
@@ -9,11 +9,11 @@ use Rattle.escpos_host.specs.declared.host.HostEvent.{HostEvent}
 use Rattle.escpos_host.specs.declared.host.HostEvent.TheVariants as event
 use Rattle.escpos_host.specs.Machine.{HostView, InFlight, Phase, Down, Opening, Open, gone_down}
 
--- The id is that of a mark with a number from the first up to the next, which isn't one of them.
+-- The id is that of a mark with a number from the first up to the next one, which isn't included.
 abbrev pub IsOpeningMark : ℕ → ℕ → List ℕ → Type 0
 IsOpeningMark first next id = (n : ℕ) × (first ≤ n) × (n < next) × (n < mark_count) × (mark_of n ≡ id)
 
--- The id is that of the closing mark of one of these.
+-- The id is that of the closing mark of one of these receipts in flight.
 abbrev pub IsClosing : List InFlight → List ℕ → Type 0
 IsClosing [] id = ⊥
 IsClosing (p ∷ ps) id = (p.mark ≡ id) ⊎ IsClosing ps id
@@ -40,7 +40,7 @@ opened h = record { phase = Open []; out = h.out; half = h.half; next = h.next; 
 abbrev pub recorded : HostView → InFlight → List InFlight → HostView
 recorded h p ps = record { phase = Open ps; out = h.out; half = h.half; next = h.next; records = h.records ++ p.receipt ∷ []; left = h.left }
 
--- What a whole answer does to a host that has a link, and the event that tells of it.
+-- What a whole answer does to a host that has a link, and the event that it brings.
 abbrev pub Turns : HostView → Answer → ℕ → HostEvent → HostView → Type 0
 Turns h a at event.None after = Ignores h.phase h.next a × (after ≡ h)
 Turns h a at event.Opened after =
@@ -51,7 +51,7 @@ Turns h a at (event.Status byte) after = (a ≡ answer.Status byte) × (after �
 Turns h a at (event.BadAnswer place) after =
     (p : InFlight) × (ps : List InFlight) × (id : List ℕ) × (h.phase ≡ Open (p ∷ ps)) × (a ≡ answer.Mark id) × (p.mark ≢ id) × IsClosing ps id × (place ≡ at) × (after ≡ gone_down h)
 
--- What one more byte does to it: it goes on with an answer, it makes one whole, or it fits none.
+-- What one more byte does to the host: it continues an answer, completes one, or fits none.
 abbrev pub Grows : HostView → ℕ → HostEvent → HostView → Type 0
 Grows h byte event.None after = (after ≡ with_half h (h.half ++ byte ∷ [])) × HalfAnswer (h.half ++ byte ∷ [])
 Grows h byte _ after = ⊥
@@ -70,13 +70,13 @@ pub record Passed (h : HostView) (bytes : List ℕ) (half : List ℕ) : Type 0 w
   pub hears : Hears (h.half ++ bytes) ignored half
   pub each : AllByRecursion (Ignores h.phase h.next) ignored
 
--- How many bytes are taken at an event: a byte that ends the link isn't.
+-- How many bytes are taken at an event: a byte that ends the link isn't taken.
 abbrev pub taken_at : HostEvent → ℕ → ℕ
 taken_at (event.BadAnswer place) at = at
 taken_at _ at = at + 1
 
--- What hearing a piece comes to, for a host that has a link: all of it passed; or the bytes before some place did, and the
--- byte there brought this event.
+-- What hearing a piece does, for a host that has a link: all of it passed; or the bytes before some place did, and the byte
+-- there brought this event.
 abbrev pub IsHeard : HostView → List ℕ → ℕ → HostEvent → HostView → Type 0
 IsHeard h bytes consumed e after =
     ((e ≡ event.None) × (consumed ≡ length bytes) × Passed h bytes after.half × (after ≡ with_half h after.half))
@@ -94,8 +94,8 @@ abbrev pub EndsLink : HostEvent → Type 0
 EndsLink (event.BadAnswer place) = Unit {0}
 EndsLink _ = ⊥
 
--- What hearing all of a piece comes to, event after event, for a host that has a link: up to its end, or up to an event that
--- ends the link. The place of a byte that fits no answer is counted from that event's own part of the piece.
+-- What hearing all of a piece does, event after event, for a host that has a link: up to its end, or up to an event that
+-- ends the link. The place of a byte that fits no answer is counted from the start of that event's own part of the piece.
 abbrev pub HearsInTurn : HostView → List ℕ → List HostEvent → ℕ → HostView → Type 0
 HearsInTurn h bytes [] consumed after = IsHeard h bytes consumed event.None after
 HearsInTurn h bytes (e ∷ es) consumed after =
@@ -108,8 +108,9 @@ abbrev pub HearsAll : HostView → List ℕ → List HostEvent → ℕ → HostV
 HearsAll h bytes events consumed after =
     ((h.phase ≡ Down) × (events ≡ []) × (consumed ≡ length bytes) × (after ≡ h)) ⊎ ((h.phase ≢ Down) × HearsInTurn h bytes events consumed after)
 
--- What hearing a piece leaves where the half answer, the piece and the bytes after it are whole answers: the host is off its link,
--- by the last event; or it has heard all of the piece, and its half answer and the bytes after the piece are whole answers.
+-- What hearing a piece leaves where the half answer, the piece and the bytes after it are whole answers together: either
+-- the host is off its link, by the last event; or it has heard all of the piece, and its half answer and the bytes after
+-- the piece are whole answers.
 pub record IsOff (events : List HostEvent) (after : HostView) : Type 0 where
   pub ends : EndsLink (last_of events)
   pub phase : after.phase ≡ Down

@@ -1,4 +1,4 @@
--- What a host keeps, and how that is seen. For its invariant and for proofs.
+-- What a host keeps, and what it means. Only private clauses, invariants and proofs use these definitions.
 use Rattle.std.specs.Prelude.{ℕ, ◌≡◌, ◌+◌, ◌<◌, ◌≤◌, ◌⊎◌, List, [], ◌∷◌, length, take, drop}
 use Rattle.std.specs.List.{AllByRecursion}
 use Rattle.escpos_command.specs.declared.command.Command.{Command}
@@ -8,7 +8,7 @@ use Rattle.escpos_host.specs.declared.host.Stage.TheVariants as stage
 use Rattle.escpos_host.specs.declared.host.Standing.{Standing}
 use Rattle.escpos_host.specs.declared.host.Standing.TheVariants as standing
 use Rattle.escpos_host.specs.Machine.{HostView, InFlight, Phase, Down, Opening, Open}
-use Rattle.escpos_host.specs.Out.{Pending, Within, left}
+use Rattle.escpos_host.specs.Out.{Pending, Within, unsent}
 
 -- Receipts with the numbers of their closing marks.
 abbrev pub pairs : List (List Command) → List ℕ → List InFlight
@@ -24,11 +24,11 @@ abbrev pub left_of : Stage → List (List Command) → List (List Command)
 left_of stage.Down rs = rs
 left_of _ rs = []
 
--- The receipts of a host are those that are recorded and then those that are in flight, or left.
+-- The receipts of a host are those that are recorded, then those that are in flight or left.
 abbrev pub view_of : Stage → List (List Command) → ℕ → List ℕ → Pending → List ℕ → ℕ → HostView
 view_of s receipts recorded marks out half next = record {
   phase = phase_of s (drop recorded receipts) marks;
-  out = left receipts out;
+  out = unsent receipts out;
   half = half;
   next = next;
   records = take recorded receipts;
@@ -36,19 +36,19 @@ view_of s receipts recorded marks out half next = record {
 }
 
 -- What is kept fits together, by stage.
-abbrev pub Fits : Stage → List (List Command) → ℕ → List ℕ → Pending → List ℕ → Type 0
-Fits stage.Down receipts recorded marks out half =
-    (marks ≡ []) × ((rs : List (List Command)) → Within rs out × (left rs out ≡ [])) × (half ≡ []) × (recorded ≤ length receipts)
-Fits (stage.Opening first) receipts recorded marks out half = (marks ≡ []) × Within receipts out × (length receipts ≡ recorded)
-Fits stage.Open receipts recorded marks out half =
+abbrev pub IsConsistent : Stage → List (List Command) → ℕ → List ℕ → Pending → List ℕ → Type 0
+IsConsistent stage.Down receipts recorded marks out half =
+    (marks ≡ []) × ((rs : List (List Command)) → Within rs out × (unsent rs out ≡ [])) × (half ≡ []) × (recorded ≤ length receipts)
+IsConsistent (stage.Opening first) receipts recorded marks out half = (marks ≡ []) × Within receipts out × (length receipts ≡ recorded)
+IsConsistent stage.Open receipts recorded marks out half =
     Within receipts out × (length receipts ≡ recorded + length marks) × AllByRecursion (λ n. n < mark_count) marks
 
--- The mark of one of these numbers has this id.
+-- A mark with one of these numbers has this id.
 abbrev pub HasIdAmong : List ℕ → List ℕ → Type 0
 HasIdAmong [] id = ⊥
 HasIdAmong (n ∷ ns) id = ((n < mark_count) × (mark_of n ≡ id)) ⊎ HasIdAmong ns id
 
--- Where the mark with this id stands among those of these numbers.
+-- Where the mark with this id stands among the marks with these numbers.
 abbrev pub StandsSo : List ℕ → List ℕ → Standing → Type 0
 StandsSo numbers id standing.Oldest = (n : ℕ) × (ns : List ℕ) × (numbers ≡ n ∷ ns) × (mark_of n ≡ id)
 StandsSo numbers id standing.Later =

@@ -1,9 +1,6 @@
-pub mod Describes
-pub mod Entries
 pub mod Out
 pub mod Refusals
-pub mod Whole
-pub mod Hearing
+pub mod AnswerReader
 pub mod Machine
 pub mod Kept
 pub mod Heard

@@ -1,13 +1,13 @@
 -- The host machine: the protocol of a receipt line, from the host's end.
 --
--- A printer that is sent a receipt says nothing of it. But it answers a mark once everything before the mark is done. So the
--- host sends a mark after each receipt, its closing mark, and the answer to that mark says that the receipt is on paper:
--- provided that the printer read the receipt as the host meant it. A printer may still hold the half command of an older
--- link, and take the first bytes of a new one for the rest of it. So the host sends marks first, its opening marks, and no
--- receipt before one of them is answered: a mark that is answered was read at its own place, and from there on the printer
--- reads what the host puts. Styles that an older receipt left behind are put back by the Init that goes before each receipt.
--- No number of a mark is ever used again, so an answer tells which mark it is to, whatever answers are late. Of the receipts
--- in flight only the oldest one's closing mark records: a printer answers in order, so an answer to a later one would mean
+-- A printer that is sent a receipt doesn't report that it printed it. But it answers a mark once everything before the mark
+-- is done. So the host sends a mark after each receipt, its closing mark, and the answer to that mark says that the receipt
+-- is on paper, provided that the printer read the receipt as the host meant it. A printer may still hold the half command
+-- of an older link, and take the first bytes of a new one for the rest of it. So the host first sends other marks, its
+-- opening marks, and no receipt before one of them is answered: a mark that is answered was read at its own place, and from
+-- there on the printer reads what the host puts. The Init before each receipt resets styles that an older receipt left. No
+-- number of a mark is ever used again, so an answer shows which mark it answers, however late it comes. Of the receipts in
+-- flight only the closing mark of the oldest records: a printer answers in order, so an answer to a later one would mean
 -- that it lost one between.
 --
 --   State     | link_up | nudge   | submit  | ask     | answer to a mark of this link
@@ -17,8 +17,8 @@
 --   Sending   | refused | refused | Sending | refused | to the oldest closing mark: recorded, and Ready or Sending;
 --             |         |         |         |         | to a later one: Down
 --
--- Any other mark's answer is ignored. A status byte is told of in every state but Down. `link_down`, and a byte that is no
--- answer's, lead to Down; what was in flight then is left.
+-- An answer to any other mark is ignored. A status byte is an event in every state but Down. `link_down`, and a byte that
+-- fits no answer, lead to Down; what was in flight then is left.
 use Rattle.std.specs.Prelude.{ℕ, ◌≡◌, ◌≢◌, ◌⊎◌, ◌+◌, ◌<◌, ◌≤◌, List, [], ◌∷◌, ◌++◌, length, drop, map}
 use Rattle.escpos_command.specs.declared.command.Command.{Command}
 use Rattle.escpos_command.specs.declared.command.Command.TheVariants as kind
@@ -36,13 +36,13 @@ pub record InFlight : Type 0 where
   pub mark : List ℕ
 
 -- Where a host stands with its link: there is none; its opening marks are those from this number up to the next one, which
--- isn't used yet; or it is open, with these receipts in flight, the oldest first: Ready where there is none.
+-- isn't used yet; or it is open, with these receipts in flight, the oldest first (Ready if there are none).
 pub data Phase : Type 0 where
   Down : Phase
   Opening : ℕ → Phase
   Open : List InFlight → Phase
 
--- How a host is seen: beside its phase the bytes to take out, the half answer, the number of the next mark, the receipts that
+-- The model of a host: its phase, the bytes to take out, the half answer, the number of the next mark, the receipts that
 -- are recorded, and those that were in flight when the link went down and weren't taken since.
 pub record HostView : Type 0 where
   pub phase : Phase
@@ -58,7 +58,7 @@ state_of (Opening first) = state.Opening
 state_of (Open []) = state.Ready
 state_of (Open (p ∷ ps)) = state.Sending
 
--- How many receipts may be in flight.
+-- The most receipts that may be in flight.
 abbrev pub most_in_flight : ℕ
 most_in_flight = 4
 
@@ -94,19 +94,19 @@ abbrev pub in_flight : Phase → List (List Command)
 in_flight (Open flight) = map (λ p. p.receipt) flight
 in_flight _ = []
 
--- The link is gone: nothing is to be taken out, no half answer is left, and what was in flight is left.
+-- The link is gone: nothing is to be taken out, there is no half answer, and what was in flight is left.
 abbrev pub gone_down : HostView → HostView
 gone_down h = record { phase = Down; out = []; half = []; next = h.next; records = h.records; left = in_flight h.phase }
 
 -- The first bytes are taken out.
-abbrev pub taken : HostView → ℕ → HostView
-taken h count = record { phase = h.phase; out = drop count h.out; half = h.half; next = h.next; records = h.records; left = h.left }
+abbrev pub taken_out : HostView → ℕ → HostView
+taken_out h count = record { phase = h.phase; out = drop count h.out; half = h.half; next = h.next; records = h.records; left = h.left }
 
--- The first receipt of those that are left is handed out.
+-- The first of the receipts that are left is returned to the caller.
 abbrev pub handed_out : HostView → HostView
 handed_out h = record { phase = h.phase; out = h.out; half = h.half; next = h.next; records = h.records; left = drop 1 h.left }
 
--- What is true of every host.
+-- What holds for every host.
 pub record IsSound (h : HostView) : Type 0 where
   pub quiet : h.phase ≡ Down → (h.out ≡ []) × (h.half ≡ [])
   pub none_left : h.phase ≢ Down → h.left ≡ []

@@ -6,17 +6,17 @@ use Rattle.escpos_command.specs.declared.command.Command.TheVariants as kind
 use Rattle.escpos_command.specs.Digits.{mark_count, mark_of}
 use Rattle.escpos_command.specs.Parameters.{is_status_kind}
 use Rattle.escpos_command.specs.CommandTable.{spell}
-use Rattle.escpos_host.specs.Whole.{Whole}
+use Rattle.escpos_receipt.specs.Whole.{Whole}
 use Rattle.escpos_host.specs.Machine.{HostView, InFlight, Phase, Down, Opening, Open}
 
--- So many marks, from this number on.
+-- This many marks, from this number on.
 abbrev pub marks_from : ℕ → ℕ → List Command
 marks_from zero first = []
 marks_from (suc count) first = kind.Mark (mark_of first) ∷ marks_from count (first + 1)
 
 -- A receipt with Init before it and its closing mark after it.
-abbrev pub sent : InFlight → List Command
-sent p = kind.Init ∷ (p.receipt ++ kind.Mark p.mark ∷ [])
+abbrev pub framed : InFlight → List Command
+framed p = kind.Init ∷ (p.receipt ++ kind.Mark p.mark ∷ [])
 
 -- A status request, or a receipt.
 pub data Part : Type 0 where
@@ -25,9 +25,9 @@ pub data Part : Type 0 where
 
 abbrev pub said_by : Part → List Command
 said_by (Asked n) = kind.Status n ∷ []
-said_by (Sent p) = sent p
+said_by (Sent p) = framed p
 
--- What was sent is a receipt, and its closing mark is one that has a number.
+-- What was sent is a receipt, and its closing mark has a number.
 abbrev pub IsSent : InFlight → Type 0
 IsSent p = Whole p.receipt × ((n : ℕ) × (n < mark_count) × (p.mark ≡ mark_of n))
 
@@ -35,20 +35,20 @@ abbrev pub IsPart : Part → Type 0
 IsPart (Asked n) = IsTrue (is_status_kind n)
 IsPart (Sent p) = IsSent p
 
--- What a host in this phase has said, where its next mark has this number: its opening marks, one or more; once one of them is
--- answered status requests and receipts after them; and last the receipts that are in flight, the oldest first.
+-- What a host in this phase has said, where its next mark has this number: its opening marks, one or more; once one of them
+-- is answered, status requests and receipts after them; and last the receipts that are in flight, the oldest first.
 abbrev pub SaysIn : Phase → ℕ → List Command → Type 0
 SaysIn Down next said = ⊥
 SaysIn (Opening first) next said =
     (count : ℕ) × (next ≡ first + suc count) × (next ≤ mark_count) × (said ≡ marks_from (suc count) first)
 SaysIn (Open flight) next said =
     (first : ℕ) × (count : ℕ) × (parts : List Part) × (first + suc count ≤ mark_count) × AllByRecursion IsPart parts × AllByRecursion IsSent flight
-    × (said ≡ marks_from (suc count) first ++ flat_map said_by parts ++ flat_map sent flight)
+    × (said ≡ marks_from (suc count) first ++ flat_map said_by parts ++ flat_map framed flight)
 
 abbrev pub Says : HostView → List Command → Type 0
 Says h said = SaysIn h.phase h.next said
 
--- The host has said this on its link, and of the bytes of it these were taken out; the others are still to be.
+-- The host has said this on its link, and of its bytes these were taken out; the others are still to be taken out.
 pub record Talks (h : HostView) (out : List ℕ) (said : List Command) : Type 0 where
   pub says : Says h said
   pub whole : spell said ≡ out ++ h.out

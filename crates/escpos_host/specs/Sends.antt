@@ -1,10 +1,10 @@
--- What a call of `send_link` comes to. It speaks of all bytes of answers that were read and of all bytes that were written; the
+-- What a call of `send_link` does. It speaks of all bytes of answers that were read and of all bytes that were written; the
 -- code reads pieces, and writes what its host has to say.
 --
--- A call goes through three stages. First it waits for an answer to one of its opening marks, and nothing but these marks was
--- written (`Unopened`). Such an answer ends in some piece of answers, all of which is heard before the receipt is put out
--- (`Opened`). Then it waits for the answer to the receipt's closing mark (`Unclosed`), until that is read (`Closed`). What comes
--- of a call says how far it went.
+-- A call goes through three stages. First it waits for an answer to one of its opening marks, when it has written nothing
+-- but these marks (`Unopened`). Such an answer ends in some piece of answers, all of which is heard before the receipt is
+-- put out (`Opened`). Then it waits for the answer to the receipt's closing mark (`Unclosed`), until that is read
+-- (`Closed`). The result of a call says how far it went.
 use Rattle.std.specs.Prelude.{ℕ, ◌≡◌, ◌≢◌, ◌+◌, ◌<◌, ◌≤◌, ◌⊎◌, List, [], ◌∷◌, ◌++◌, length}
 use Rattle.std.specs.List.{AllByRecursion}
 use Rattle.escpos_command.specs.declared.answer.Answer.{Answer}
@@ -21,16 +21,16 @@ use Rattle.escpos_host.specs.declared.send.Sent.{Sent}
 use Rattle.escpos_host.specs.declared.send.Sent.TheVariants as became
 use Rattle.escpos_host.specs.Heard.{IsOpeningMark}
 use Rattle.escpos_host.specs.Machine.{HostView, Down, Open}
-use Rattle.escpos_host.specs.Says.{marks_from, sent}
+use Rattle.escpos_host.specs.Says.{marks_from, framed}
 
--- A call: the host as it was, the receipt, how many opening marks there are to be, and how many bytes of answers may be read.
+-- A call: the host as it was, the receipt, the number of opening marks, and how many bytes of answers may be read.
 pub record Call : Type 0 where
   pub before : HostView
   pub receipt : List Command
   pub openings : ℕ
   pub most : ℕ
 
--- How many bytes a piece of answers has at most.
+-- The most bytes that a piece of answers has.
 abbrev pub most_in_piece : ℕ
 most_in_piece = 64
 
@@ -43,9 +43,9 @@ abbrev pub opening_bytes : Call → List ℕ
 opening_bytes c = spell (marks_from c.openings c.before.next)
 
 abbrev pub receipt_bytes : Call → List ℕ
-receipt_bytes c = spell (sent (record { receipt = c.receipt; mark = closing c }))
+receipt_bytes c = spell (framed (record { receipt = c.receipt; mark = closing c }))
 
--- ## How far a call went, with these bytes of answers, of which these may be a half answer
+-- ## How far a call went, after these bytes of answers, the last of which may be a half answer
 
 abbrev pub IsToOpening : Call → Answer → Type 0
 IsToOpening c (answer.Status b) = ⊥
@@ -61,7 +61,7 @@ pub record Unopened (c : Call) (bytes half : List ℕ) : Type 0 where
   pub hears : Hears bytes answers half
   pub each : AllByRecursion (λ a. IsToOpening c a → ⊥) answers
 
--- The first answer to an opening mark ends with `front`; fewer bytes than a piece has come after it.
+-- The first answer to an opening mark ends with `front`; fewer bytes than a piece come after it.
 pub record Opened (c : Call) (bytes half : List ℕ) : Type 0 where
   pub front : List ℕ
   pub rest : List ℕ
@@ -71,11 +71,12 @@ pub record Opened (c : Call) (bytes half : List ℕ) : Type 0 where
   pub hears : Hears front (others ++ first ∷ []) []
   pub each : AllByRecursion (λ a. IsToOpening c a → ⊥) others
   pub opening : IsToOpening c first
-  pub behind : List Answer
-  pub hears_rest : Hears rest behind half
+  pub following : List Answer
+  pub hears_rest : Hears rest following half
   pub short : length rest < most_in_piece
 
--- The receipt was put out when the bytes `early` were read, and none of the answers that end after them is to its closing mark.
+-- The receipt was put out when the bytes `early` were read, and none of the answers that end after them is to its closing
+-- mark.
 pub record Unclosed (c : Call) (bytes half : List ℕ) : Type 0 where
   pub early : List ℕ
   pub early_half : List ℕ
@@ -86,7 +87,7 @@ pub record Unclosed (c : Call) (bytes half : List ℕ) : Type 0 where
   pub hears : Hears (early_half ++ later) answers half
   pub each : AllByRecursion (λ a. IsToClosing c a → ⊥) answers
 
--- The first answer to the closing mark that ends after `early` ends with `later`; fewer bytes than a piece has come after it,
+-- The first answer to the closing mark that ends after `early` ends with `later`; fewer bytes than a piece come after it,
 -- and are dropped.
 pub record Closed (c : Call) (bytes : List ℕ) : Type 0 where
   pub early : List ℕ
@@ -102,13 +103,13 @@ pub record Closed (c : Call) (bytes : List ℕ) : Type 0 where
   pub closing : IsToClosing c last
   pub short : length dropped < most_in_piece
 
--- ## What comes of it
+-- ## The results
 
--- So many marks from the next one on have numbers.
+-- This many marks from the next one on have numbers.
 abbrev pub HasMarks : Call → ℕ → Type 0
 HasMarks c used = c.before.next + used ≤ mark_count
 
--- The link is given up, and so many marks were used.
+-- The link is given up, and this many marks were used.
 abbrev pub given_up : Call → ℕ → HostView
 given_up c used = record { phase = Down; out = []; half = []; next = c.before.next + used; records = c.before.records; left = [] }
 
@@ -141,7 +142,7 @@ Waits c bytes half out used =
 abbrev pub IsDue : Call → List ℕ → List ℕ → List ℕ → ℕ → Type 0
 IsDue c bytes half out used = Opened c bytes half × (out ≡ opening_bytes c) × (used ≡ c.openings)
 
--- A byte that fits no answer comes after bytes that do; fewer bytes than a piece has come after it.
+-- A byte that fits no answer comes after bytes that do; fewer bytes than a piece come after it.
 pub record IsBad (c : Call) (bytes out : List ℕ) (used : ℕ) : Type 0 where
   pub good : List ℕ
   pub half : List ℕ
@@ -159,22 +160,22 @@ Breaks c bytes out used =
     ⊎ ((half : List ℕ) × (some : List ℕ) × Opened c bytes half × (out ≡ opening_bytes c ++ some) × IsCut (receipt_bytes c) some × (used ≡ c.openings + 1))
 
 -- Why the host refused a call: to open the link, to put one more opening mark out, or to take the receipt.
-abbrev pub Refuses : Call → HostError → List ℕ → List ℕ → HostView → Type 0
-Refuses c error.AlreadyUp bytes out after = (c.before.phase ≢ Down) × Nothing bytes out × (after ≡ c.before)
-Refuses c error.MarksUsedUp bytes out after =
+abbrev pub RefusesSend : Call → HostError → List ℕ → List ℕ → HostView → Type 0
+RefusesSend c error.AlreadyUp bytes out after = (c.before.phase ≢ Down) × Nothing bytes out × (after ≡ c.before)
+RefusesSend c error.MarksUsedUp bytes out after =
     (c.before.phase ≡ Down)
     × (((mark_count ≤ c.before.next) × Nothing bytes out × (after ≡ c.before))
     ⊎ ((used : ℕ) × (0 < used) × (used < c.openings) × (c.before.next + used ≡ mark_count) × Nothing bytes out × (after ≡ given_up c used))
     ⊎ ((half : List ℕ) × (c.before.next + c.openings ≡ mark_count) × IsDue c bytes half out c.openings × (after ≡ given_up c c.openings)))
-Refuses c error.Memory bytes out after =
+RefusesSend c error.Memory bytes out after =
     (c.before.phase ≡ Down) × (c.before.next < mark_count)
     × ((Nothing bytes out × (after ≡ c.before))
     ⊎ ((used : ℕ) × (0 < used) × (used < c.openings) × (c.before.next + used < mark_count) × Nothing bytes out × (after ≡ given_up c used))
     ⊎ ((half : List ℕ) × (c.before.next + c.openings < mark_count) × IsDue c bytes half out c.openings × (after ≡ given_up c c.openings)))
-Refuses c _ bytes out after = ⊥
+RefusesSend c _ bytes out after = ⊥
 
--- What the bytes read and written are where the receipt isn't recorded, and how the host is left. The end of the answers and
--- the reader's failure are found by a read alone, and none is tried once as many bytes were read as may be.
+-- Which bytes were read and written if the receipt isn't recorded, and how the host is left. The end of the answers and the
+-- reader's failure are found only by a read, and there is no read once as many bytes were read as may be.
 abbrev pub Fails : Call → SendFault → List ℕ → List ℕ → HostView → Type 0
 Fails c fault.Ended bytes out after =
     (half : List ℕ) × (used : ℕ) × Waits c bytes half out used × (length bytes < c.most) × HasMarks c used × (after ≡ given_up c used)
@@ -184,9 +185,9 @@ Fails c fault.TooLong bytes out after =
     (half : List ℕ) × (used : ℕ) × Waits c bytes half out used × (length bytes ≡ c.most) × HasMarks c used × (after ≡ given_up c used)
 Fails c fault.WriteFault bytes out after = (used : ℕ) × Breaks c bytes out used × HasMarks c used × (after ≡ given_up c used)
 Fails c fault.BadAnswer bytes out after = (used : ℕ) × IsBad c bytes out used × HasMarks c used × (after ≡ given_up c used)
-Fails c (fault.Refused why) bytes out after = Refuses c why bytes out after
+Fails c (fault.Refused why) bytes out after = RefusesSend c why bytes out after
 
--- What a call comes to, with these bytes read and these written.
+-- What a call does, with these bytes read and these written.
 abbrev pub Sends : Call → List ℕ → List ℕ → Sent → HostView → Type 0
 Sends c bytes out (became.Recorded number) after =
     (c.before.phase ≡ Down) × HasMarks c (c.openings + 1) × Closed c bytes × (out ≡ opening_bytes c ++ receipt_bytes c) × (number ≡ length c.before.records)

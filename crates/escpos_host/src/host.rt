@@ -1,24 +1,24 @@
 //! The host: what it may say on a link, and when a receipt is recorded as printed.
 //!
-//! Everything that changes a host stands here. The protocol is `specs/Machine.antt`; `outbox` keeps what is to be put out, and
-//! `hearing` reads answers.
+//! Everything that changes a host is in this module. The protocol is `specs/Machine.antt`; `outbox` keeps what is to be put
+//! out, and `answer_reader` reads answers.
 
 ghost use Rattle.std.specs.Prelude.{◌≡◌, ◌≢◌, ◌+◌, ◌<◌, ◌≤◌, ◌↔◌, min, not, List, [], ◌∷◌, ◌++◌, length, take, drop, slice_get, Ok, Err, OnOk, IfErr, IsTrue, IsOk};
 ghost use Rattle.escpos_command.specs.Digits.{mark_count, mark_of};
 ghost use Rattle.escpos_command.specs.declared.answer.Answer.TheVariants as answer;
 ghost use Rattle.escpos_host.specs.Kept.{HasIdAmong, StandsSo};
 ghost use Rattle.escpos_host.specs.Heard.{HearsByte, IsHeard, IsOpeningMark, Turns};
-ghost use Rattle.escpos_host.specs.Machine.{HostView, InFlight, Down, Opening, Open, HasMark, IsOpening, IsSound, RefusesAsk, RefusesLinkUp, RefusesNudge, RefusesSubmit, asked, error_number, gone_down, linked, most_in_flight, nudged, state_of, submitted, taken, handed_out};
+ghost use Rattle.escpos_host.specs.Machine.{HostView, InFlight, Down, Opening, Open, HasMark, IsOpening, IsSound, RefusesAsk, RefusesLinkUp, RefusesNudge, RefusesSubmit, asked, error_number, gone_down, linked, most_in_flight, nudged, state_of, submitted, taken_out, handed_out};
 
-use crate::hearing::{AnswerReader, NoAnswer};
-use crate::outbox::{Out, Part};
-use crate::receipt::Receipt;
+use crate::answer_reader::{AnswerReader, NoAnswer};
+use crate::outbox::{Out, OutPart};
 use arrayvec::ArrayVec;
 use escpos_command::{Answer, MarkId, StatusKind, laws};
+use escpos_receipt::Receipt;
 use std::alloc::Global;
 use std::marker::Model;
 
-/// How many receipts may be in flight on a link.
+/// The most receipts that may be in flight on a link.
 pub const MOST_IN_FLIGHT: usize = 4;
 
 const _: () = prove!(MOST_IN_FLIGHT == 4);
@@ -28,7 +28,7 @@ const _: () = prove!(MOST_IN_FLIGHT == 4);
 pub enum HostState {
     /// There is no link.
     Down,
-    /// Opening marks were put out, and none is answered yet.
+    /// Opening marks were put out, and none of them is answered yet.
     Opening,
     /// The link is open, and no receipt is in flight.
     Ready,
@@ -36,16 +36,16 @@ pub enum HostState {
     Sending,
 }
 
-/// Why a call of a host is refused. It leaves the host as it was.
+/// Why a call of a host is refused. A refused call leaves the host as it was.
 #[derive(Clone, Copy, Debug, PartialEq, Eq)]
 pub enum HostError {
-    /// 1: the host's state has no such call.
+    /// 1: the host isn't in a state for this call.
     NotReady,
-    /// 2: no number of a mark is left.
+    /// 2: no number for a mark is left.
     MarksUsedUp,
     /// 3: there is a link already.
     AlreadyUp,
-    /// 4: there is no memory.
+    /// 4: out of memory.
     Memory,
     /// 6: four receipts are in flight.
     InFlightFull,
@@ -89,11 +89,12 @@ pub enum HostEvent {
     None,
     /// An opening mark of this link was answered.
     Opened,
-    /// The oldest receipt in flight is printed: it is the record with this number, from 0.
+    /// The oldest receipt in flight is printed: it is the record with this number, counted from 0.
     Recorded(usize),
-    /// The printer told its status, as this byte. (Reference: DLE EOT.)
+    /// The printer sent this status byte. (Reference: DLE EOT.)
     Status(u8),
-    /// The byte at this place fits no answer, or is the last one of an answer out of turn. The link is given up.
+    /// The byte at this place fits no answer, or it is the last one of an answer to a later closing mark. The link is given
+    /// up.
     BadAnswer { at: usize },
 }
 
@@ -117,7 +118,7 @@ enum Stage {
 /// A host: the receipts that it has recorded, and what it says and hears on a link.
 #[derive(Drop)]
 pub struct Host {
-    // those that are recorded, and then those that are in flight, or left
+    // those that are recorded, then those that are in flight or left
     receipts: Vec<Receipt>,
     recorded: usize,
     stage: Stage,
@@ -130,26 +131,26 @@ pub struct Host {
 
 impl Model for Host {
     ghost use Rattle.escpos_host.specs.Machine.{HostView};
-    ghost use Rattle.escpos_host.specs.Kept.{Fits, view_of};
+    ghost use Rattle.escpos_host.specs.Kept.{IsConsistent, view_of};
 
     ghost Value = { HostView };
 
     ghost view = { λ h. view_of h.stage h.receipts.items h.recorded h.closing.items h.out h.reader h.next };
 
-    ghost invariant = { λ h. Fits h.stage h.receipts.items h.recorded h.closing.items h.out h.reader };
+    ghost invariant = { λ h. IsConsistent h.stage h.receipts.items h.recorded h.closing.items h.out h.reader };
 }
 
 impl Host {
-    /// A host with no link and no record, whose first mark will have this number. Of 1,679,616 or more it has no mark left.
-    /// Takes no memory.
+    /// A host with no link and no record, whose first mark will have this number. From 1,679,616 on, no mark is left.
+    /// Allocates nothing.
     pub fn new(alloc: Global, first_mark: u32) -> Self
         ensures { result ≡ record { phase = Down; out = []; half = []; next = first_mark; records = []; left = [] } }
     {
         Host::resume(alloc, first_mark, Vec::new(alloc))
     }
 
-    /// A host that goes on after a restart: with these records, and with this number for its next mark, which has to be one
-    /// that it never used. Takes no memory.
+    /// A host that goes on after a restart, with these records and with this number for its next mark, which must be one
+    /// that the host has never used. Allocates nothing.
     pub fn resume(alloc: Global, first_mark: u32, records: Vec<Receipt>) -> Self
         ensures { result ≡ record { phase = Down; out = []; half = []; next = first_mark; records = records.items; left = [] } }
     {
@@ -164,7 +165,7 @@ impl Host {
         }
     }
 
-    /// Where the host stands with its link. Takes no memory.
+    /// Where the host stands with its link. Allocates nothing.
     pub fn state(&self) -> HostState
         ensures { result ≡ state_of self.now.phase }
     {
@@ -176,14 +177,14 @@ impl Host {
         }
     }
 
-    /// The receipts that are recorded as printed, in order. Takes no memory.
+    /// The receipts that are recorded as printed, in order. Allocates nothing.
     pub fn records(&self) -> &[Receipt]
         ensures { result.now ≡ self.now.records }
     {
         &self.receipts[..self.recorded]
     }
 
-    /// The number of the next mark. Takes no memory.
+    /// The number of the next mark. Allocates nothing.
     pub fn next_mark(&self) -> u32
         ensures { result ≡ self.now.next }
     {
@@ -191,23 +192,24 @@ impl Host {
         *next
     }
 
-    /// Whether there are bytes to take out. Takes no memory.
+    /// Whether there are bytes to take out. Allocates nothing.
     pub fn has_out(&self) -> bool
         ensures { IsTrue result ↔ (self.now.out ≢ []) }
     {
         !self.out.is_empty()
     }
 
-    /// With no link there is nothing to take out, and no half answer; with one no receipt is left, and at most four are in
-    /// flight. It does nothing: its contract says so.
+    /// Proof only: gives the caller these facts: with no link there is nothing to take out, and no half answer; with a link
+    /// no receipt is left, and at most four are in flight.
     pub fn is_sound(&self)
         ensures { IsSound self.now }
     {
+        // Proof only: the host's invariant.
         let _ = self.closing.len();
         self.reader.is_sound();
     }
 
-    /// Opens a link: puts one opening mark out. What was left of the link before is dropped.
+    /// Opens a link: puts one opening mark out. Receipts left by the link before are dropped.
     pub fn link_up(&mut self) -> Result<(), HostError>
         ensures up { OnOk result ((self.old.phase ≡ Down) × HasMark self.old × (self.new ≡ linked self.old)) }
         ensures refused { IfErr result (λ why. RefusesLinkUp why self.old × (self.new ≡ self.old)) }
@@ -218,7 +220,7 @@ impl Host {
         let Some(mark) = MarkId::of_number(self.next) else {
             return Err(HostError::MarksUsedUp);
         };
-        if self.out.push(Part::Mark(mark)).is_err() {
+        if self.out.push(OutPart::Mark(mark)).is_err() {
             return Err(HostError::Memory);
         }
         self.receipts.truncate(self.recorded);
@@ -227,7 +229,7 @@ impl Host {
         Ok(())
     }
 
-    /// Puts one more opening mark out, while none is answered.
+    /// Puts one more opening mark out; possible while none is answered.
     pub fn nudge(&mut self) -> Result<(), HostError>
         ensures nudged { OnOk result (IsOpening self.old.phase × HasMark self.old × (self.new ≡ nudged self.old)) }
         ensures refused { IfErr result (λ why. RefusesNudge why self.old × (self.new ≡ self.old)) }
@@ -238,16 +240,16 @@ impl Host {
         let Some(mark) = MarkId::of_number(self.next) else {
             return Err(HostError::MarksUsedUp);
         };
-        if self.out.push(Part::Mark(mark)).is_err() {
+        if self.out.push(OutPart::Mark(mark)).is_err() {
             return Err(HostError::Memory);
         }
         self.next += 1;
         Ok(())
     }
 
-    /// Puts a receipt out, after Init and before its closing mark, where fewer than four are in flight.
+    /// Puts a receipt out, after Init and before its closing mark; possible while fewer than four are in flight.
     ///
-    /// `Err` hands the receipt back.
+    /// `Err` returns the receipt.
     pub fn submit(&mut self, receipt: Receipt) -> Result<(), (HostError, Receipt)>
         ensures submitted { OnOk result ((flight : List InFlight) × (self.old.phase ≡ Open flight) × (length flight < most_in_flight)
             × HasMark self.old × (self.new ≡ submitted self.old flight receipt)) }
@@ -266,7 +268,7 @@ impl Host {
             return Err((HostError::Memory, receipt));
         }
         let place = self.receipts.len();
-        if self.out.push(Part::Receipt { place, closing }).is_err() {
+        if self.out.push(OutPart::Receipt { place, closing }).is_err() {
             return Err((HostError::Memory, receipt));
         }
         self.receipts.push_reserved(receipt);
@@ -275,7 +277,7 @@ impl Host {
         Ok(())
     }
 
-    /// Puts a status request out, where no receipt is in flight.
+    /// Puts a status request out; possible while no receipt is in flight.
     pub fn ask(&mut self, kind: StatusKind) -> Result<(), HostError>
         ensures asked { OnOk result ((self.old.phase ≡ Open []) × (self.new ≡ asked self.old kind)) }
         ensures refused { IfErr result (λ why. RefusesAsk why self.old × (self.new ≡ self.old)) }
@@ -283,18 +285,18 @@ impl Host {
         if self.state() != HostState::Ready {
             return Err(HostError::NotReady);
         }
-        if self.out.push(Part::Ask(kind)).is_err() {
+        if self.out.push(OutPart::Ask(kind)).is_err() {
             return Err(HostError::Memory);
         }
         Ok(())
     }
 
-    /// Moves the next bytes to the front of `out`, as many as there are and fit, and answers their number. The rest of `out` is
-    /// unchanged. Takes no memory.
+    /// Moves the next bytes to the start of `out`, as many as there are and fit, and returns their number. The rest of
+    /// `out` is unchanged. Allocates nothing.
     pub fn take_out(&mut self, out: &mut [u8]) -> usize
         ensures count { result ≡ min (length out.old) (length self.old.out) }
         ensures copied { out.new ≡ take result self.old.out ++ drop result out.old }
-        ensures taken { self.new ≡ taken self.old result }
+        ensures taken { self.new ≡ taken_out self.old result }
     {
         if let Stage::Down = self.stage {
             return 0;
@@ -302,18 +304,18 @@ impl Host {
         self.out.take_out(&self.receipts, out)
     }
 
-    /// Hears bytes of answers, up to the first event. With no link all of them are taken and ignored. Takes no memory.
+    /// Hears bytes of answers, up to the first event. With no link all of them are taken and ignored. Allocates nothing.
     pub fn heard(&mut self, bytes: &[u8]) -> Heard
         ensures down { self.old.phase ≡ Down → (result.consumed ≡ length bytes.now) × (result.event ≡ HostEvent.None) × (self.new ≡ self.old) }
         ensures up { self.old.phase ≢ Down → IsHeard self.old bytes.now result.consumed result.event self.new }
     {
-        laws::answers();
         if let Stage::Down = self.stage {
             return Heard {
                 consumed: bytes.len(),
                 event: HostEvent::None,
             };
         }
+        // Proof only: the reader holds nothing or a half answer.
         self.reader.is_sound();
         for (at, byte) in bytes.iter().enumerate() {
             match self.hear_byte(*byte, at) {
@@ -399,8 +401,8 @@ impl Host {
         }
     }
 
-    /// Gives the link up: what wasn't taken out is dropped, and the half answer; what was in flight is left. Where there is no
-    /// link nothing changes. Takes no memory.
+    /// Gives the link up: what wasn't taken out and the half answer are dropped; what was in flight is left. With no link
+    /// nothing changes. Allocates nothing.
     pub fn link_down(&mut self)
         ensures up { self.old.phase ≢ Down → self.new ≡ gone_down self.old }
         ensures down { self.old.phase ≡ Down → self.new ≡ self.old }
@@ -414,8 +416,8 @@ impl Host {
         self.reader.clear();
     }
 
-    /// Hands out the receipts that were in flight when the link went down, one by one in the order in which they were
-    /// submitted. Takes no memory.
+    /// Returns the receipts that were in flight when the link went down, one by one in the order in which they were
+    /// submitted. Allocates nothing.
     pub fn take_left(&mut self) -> Option<Receipt>
         ensures receipt { result ≡ slice_get self.old.left 0 }
         ensures rest { self.new ≡ handed_out self.old }
@@ -429,7 +431,7 @@ impl Host {
         Some(self.receipts.remove(self.recorded))
     }
 
-    /// Ends the host, and hands out the receipts that are recorded. Takes no memory.
+    /// Ends the host, and returns the receipts that are recorded. Allocates nothing.
     pub fn into_records(self) -> Vec<Receipt>
         ensures { result.items ≡ self.records }
     {
@@ -443,6 +445,7 @@ impl Host {
 fn is_opening(id: MarkId, first: u32, next: u32) -> bool
     ensures { IsTrue result ↔ IsOpeningMark first next id }
 {
+    // Proof only: each mark number has an id of its own.
     laws::mark_numbers();
     match id.number() {
         Some(number) => first <= number && number < next,
@@ -458,7 +461,7 @@ enum Standing {
     Other,
 }
 
-// Where the mark with this id stands among those of these numbers.
+// Where the mark with this id stands among the marks with these numbers.
 fn standing_of(numbers: &[u32], id: MarkId) -> Standing
     ensures { StandsSo numbers.now id result }
 {
@@ -476,7 +479,7 @@ fn standing_of(numbers: &[u32], id: MarkId) -> Standing
     }
 }
 
-// Whether the mark of one of these numbers has this id.
+// Whether a mark with one of these numbers has this id.
 fn is_among(numbers: &[u32], id: MarkId) -> bool
     ensures { IsTrue result ↔ HasIdAmong numbers.now id }
 {
@@ -486,7 +489,7 @@ fn is_among(numbers: &[u32], id: MarkId) -> bool
     }
 }
 
-// Whether the mark of this number has this id.
+// Whether the mark with this number has this id.
 fn is_id_of(number: u32, id: MarkId) -> bool
     ensures { IsTrue result ↔ ((number < mark_count) × (mark_of number ≡ id)) }
 {

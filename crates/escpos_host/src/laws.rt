@@ -1,5 +1,6 @@
-//! The laws of the host machine. Each is a function that does nothing and whose contract is the law, so that the law is proved
-//! with the crate and another crate can cite it by calling the function. (Some cite the laws of answers.)
+//! Proof only: the laws of the host machine. The contract of each function is the law; when run, it does nothing. A law is
+//! proved with this crate, and another crate cites it by calling the function. The calls in the bodies cite laws of
+//! answers.
 
 ghost use Rattle.std.specs.Prelude.{◌≡◌, ◌≢◌, ◌⊎◌, ◌<◌, ◌≤◌, ℕ, List, [], ◌∷◌, ◌++◌, length, take, IsTrue};
 ghost use Rattle.escpos_command.specs.declared.command.Command.{Command};
@@ -9,14 +10,14 @@ ghost use Rattle.escpos_command.specs.Answers.{AreWholeAnswers, answer_bytes, is
 ghost use Rattle.escpos_command.specs.Parameters.{is_status_kind};
 ghost use Rattle.escpos_host.specs.declared.host.HostEvent.{HostEvent};
 ghost use Rattle.escpos_host.specs.Heard.{EndsLink, GoesOn, HearsAll, IsHeard, IsOff, Turns, last_of};
-ghost use Rattle.escpos_host.specs.Machine.{HasMark, HostView, InFlight, IsOpening, Down, Open, asked, handed_out, linked, next_mark, nudged, submitted, taken};
+ghost use Rattle.escpos_host.specs.Machine.{HasMark, HostView, InFlight, IsOpening, Down, Open, asked, handed_out, linked, next_mark, nudged, submitted, taken_out};
 ghost use Rattle.escpos_host.specs.Says.{Talks};
-ghost use Rattle.escpos_host.specs.Whole.{Whole};
+ghost use Rattle.escpos_receipt.specs.Whole.{Whole};
 
-/// What a host says: if it has said this on its link, and of the bytes of it these were taken out and the others are still to
-/// be, that holds again after each call that leaves the link up, with what the call puts out added; so also after what it
-/// hears. First come opening marks; only when one of them is answered status requests and receipts, each receipt with Init
-/// before it and its closing mark after it; and last the receipts that are in flight.
+/// What a host says: suppose that it has said these commands on its link, of whose bytes some were taken out and the others
+/// are still to be. This holds again after each call that leaves the link up, with what the call puts out added, and also
+/// after what the host hears. What it has said is: first opening marks; then, once one of them is answered, status requests
+/// and receipts, each receipt with Init before it and its closing mark after it; and last the receipts that are in flight.
 pub fn says()
     ensures linked { (h : HostView) → HasMark h → Talks (linked h) [] (next_mark h ∷ []) }
     ensures nudged { (h : HostView) (out : List ℕ) (said : List Command) → IsOpening h.phase → HasMark h → Talks h out said
@@ -25,14 +26,15 @@ pub fn says()
         → Talks (asked h n) out (said ++ kind.Status n ∷ []) }
     ensures submitted { (h : HostView) (out : List ℕ) (said : List Command) (flight : List InFlight) (receipt : List Command) → h.phase ≡ Open flight
         → HasMark h → Whole receipt → Talks h out said → Talks (submitted h flight receipt) out (said ++ (kind.Init ∷ (receipt ++ next_mark h ∷ []))) }
-    ensures taken { (h : HostView) (out : List ℕ) (said : List Command) (count : ℕ) → Talks h out said → Talks (taken h count) (out ++ take count h.out) said }
+    ensures taken { (h : HostView) (out : List ℕ) (said : List Command) (count : ℕ) → Talks h out said → Talks (taken_out h count) (out ++ take count h.out) said }
     ensures heard { (h after : HostView) (out : List ℕ) (said : List Command) (bytes : List ℕ) (consumed : ℕ) (event : HostEvent) → after.phase ≢ Down
         → IsHeard h bytes consumed event after → Talks h out said → Talks after out said }
     ensures handed_out { (h : HostView) (out : List ℕ) (said : List Command) → Talks h out said → Talks (handed_out h) out said }
 {}
 
-/// Whole answers: where a host's half answer, a piece that it hears and the bytes after that are whole answers, it hears the whole
-/// piece, and what is left of it and the bytes after it are whole answers; or an event has ended its link.
+/// Whole answers: suppose that a host's half answer, a piece that it hears and the bytes after that are whole answers
+/// together. Then it hears the whole piece, and what is left of it and the bytes after it are whole answers; or an event
+/// ends its link.
 pub fn whole_answers()
     ensures { (h after : HostView) (bytes more : List ℕ) (events : List HostEvent) (consumed : ℕ) → h.phase ≢ Down → AreWholeAnswers (h.half ++ (bytes ++ more))
         → HearsAll h bytes events consumed after → IsOff events after ⊎ GoesOn bytes more events consumed after }
@@ -40,7 +42,7 @@ pub fn whole_answers()
     escpos_command::laws::answers();
 }
 
-/// One answer: a host with no half answer that hears the bytes of an answer does what it does at that answer, and nothing else.
+/// One answer: a host with no half answer that hears the bytes of an answer does what that answer does, and nothing else.
 pub fn one_answer()
     ensures { (h after : HostView) (a : Answer) (events : List HostEvent) (consumed : ℕ) → h.phase ≢ Down → h.half ≡ [] → IsTrue (is_answer a)
         → HearsAll h (answer_bytes a) events consumed after → (at : ℕ) × Turns h a at (last_of events) after }
@@ -48,7 +50,7 @@ pub fn one_answer()
     escpos_command::laws::answers();
 }
 
-/// One event: a host whose link an event doesn't end still has it, and the event took bytes of the piece.
+/// One event: if an event doesn't end a host's link, the host still has the link, and the event took bytes of the piece.
 pub fn one_event()
     ensures { (h after : HostView) (bytes : List ℕ) (count : ℕ) (event : HostEvent) → h.phase ≢ Down → (EndsLink event → ⊥) → IsHeard h bytes count event after
         → (count ≤ length bytes) × (after.phase ≢ Down) × (event ≢ HostEvent.None → 0 < count) }

@@ -1,8 +1,8 @@
-//! What a host has still to put on its link.
+//! What a host must still put on its link.
 //!
-//! Nothing is spelled ahead and no receipt is copied: `Out` keeps the parts and how far the first of them is, and `take_out`
-//! spells the commands straight into the caller's buffer. When a part comes, and what its marks mean, is left to the host.
-//! `specs/Out.antt` has the bytes as one list.
+//! Nothing is spelled ahead and no receipt is copied: `Out` keeps the parts and how much of the first of them is out, and
+//! `take_out` spells the commands straight into the caller's buffer. When a part comes, and what its marks mean, is left to
+//! the host. `specs/Out.antt` has the bytes as one list.
 
 ghost use Rattle.std.specs.Prelude.{◌≡◌, ◌≢◌, ◌+◌, ◌<◌, ◌≤◌, ◌↔◌, min, List, [], ◌∷◌, ◌++◌, length, take, drop, slice_index_or, IsTrue, OnOk, OnErr};
 ghost use Rattle.escpos_command.specs.CommandTable.{row, spell};
@@ -10,17 +10,17 @@ ghost use Rattle.escpos_command.specs.Copied.{Copied};
 ghost use Rattle.escpos_command.specs.Laws.{longest_spelling};
 ghost use Rattle.escpos_command.specs.declared.command.Command.{Command};
 ghost use Rattle.escpos_command.specs.declared.command.Command.TheVariants as kind;
-ghost use Rattle.escpos_host.specs.Out.{part_commands, left, IsPlaced, Within, Taken};
+ghost use Rattle.escpos_host.specs.Out.{part_commands, unsent, IsPlaced, Within, CopiedOut};
 
-use crate::receipt::Receipt;
 use escpos_command::{Command, MarkId, StatusKind};
+use escpos_receipt::Receipt;
 use std::alloc::{AllocError, Global};
 use std::collections::VecDeque;
 use std::marker::Model;
 
 /// A part of what is to be put out.
 #[derive(Clone, Copy, Debug, PartialEq, Eq)]
-pub enum Part {
+pub enum OutPart {
     /// An opening mark.
     Mark(MarkId),
     /// A status request.
@@ -29,10 +29,10 @@ pub enum Part {
     Receipt { place: usize, closing: MarkId },
 }
 
-/// The parts that are still to be taken out, and how far the first of them is.
+/// The parts that are still to be taken out, and how much of the first of them is out.
 #[derive(Debug, Drop)]
 pub struct Out {
-    parts: VecDeque<Part>,
+    parts: VecDeque<OutPart>,
     item: usize, // commands of the first part that are out
     from: usize, // bytes of its next command that are out
 }
@@ -46,9 +46,9 @@ impl Model for Out {
 }
 
 impl Out {
-    /// Nothing to put out. Takes no memory.
+    /// Nothing to put out. Allocates nothing.
     pub fn new(alloc: Global) -> Self
-        ensures left { (receipts : List (List Command)) → left receipts result ≡ [] }
+        ensures unsent { (receipts : List (List Command)) → unsent receipts result ≡ [] }
         ensures within { (receipts : List (List Command)) → Within receipts result }
     {
         Out {
@@ -58,12 +58,10 @@ impl Out {
         }
     }
 
-    /// Appends a part.
-    ///
-    /// `Err` is want of memory: then nothing is changed.
-    pub fn push(&mut self, part: Part) -> Result<(), AllocError>
-        ensures left { OnOk result ((receipts : List (List Command)) → Within receipts self.old
-            → left receipts self.new ≡ left receipts self.old ++ spell (part_commands receipts part)) }
+    /// Appends a part. If the allocation fails, nothing is changed.
+    pub fn push(&mut self, part: OutPart) -> Result<(), AllocError>
+        ensures unsent { OnOk result ((receipts : List (List Command)) → Within receipts self.old
+            → unsent receipts self.new ≡ unsent receipts self.old ++ spell (part_commands receipts part)) }
         ensures within { OnOk result ((receipts : List (List Command)) → Within receipts self.old → IsPlaced receipts part → Within receipts self.new) }
         ensures err { OnErr result (self.new ≡ self.old) }
     {
@@ -71,9 +69,9 @@ impl Out {
         Ok(())
     }
 
-    /// Drops all that is left. Takes no memory.
+    /// Drops all that is left. Allocates nothing.
     pub fn clear(&mut self)
-        ensures left { (receipts : List (List Command)) → left receipts self.new ≡ [] }
+        ensures unsent { (receipts : List (List Command)) → unsent receipts self.new ≡ [] }
         ensures within { (receipts : List (List Command)) → Within receipts self.new }
     {
         self.parts.clear();
@@ -83,20 +81,20 @@ impl Out {
 
     /// Whether nothing is left to be taken out.
     pub fn is_empty(&self) -> bool
-        ensures { (receipts : List (List Command)) → Within receipts self.now → (IsTrue result ↔ (left receipts self.now ≡ [])) }
+        ensures { (receipts : List (List Command)) → Within receipts self.now → (IsTrue result ↔ (unsent receipts self.now ≡ [])) }
     {
         self.parts.is_empty()
     }
 
-    /// Copies the next bytes to the front of `out`, as many as there are and fit, and answers their number. The rest of
-    /// `out` is unchanged. Takes no memory.
+    /// Copies the next bytes to the start of `out`, as many as there are and fit, and returns their number. The rest of
+    /// `out` is unchanged. Allocates nothing.
     ///
-    /// `receipts` are the host's, at whose places the parts have theirs.
+    /// `receipts` are the host's receipts, among which the parts have theirs.
     pub fn take_out(&mut self, receipts: &[Receipt], out: &mut [u8]) -> usize
         requires { Within receipts.now self.old }
-        ensures count { result ≡ min (length out.old) (length (left receipts.now self.old)) }
-        ensures copied { out.new ≡ take result (left receipts.now self.old) ++ drop result out.old }
-        ensures left { left receipts.now self.new ≡ drop result (left receipts.now self.old) }
+        ensures count { result ≡ min (length out.old) (length (unsent receipts.now self.old)) }
+        ensures copied { out.new ≡ take result (unsent receipts.now self.old) ++ drop result out.old }
+        ensures unsent { unsent receipts.now self.new ≡ drop result (unsent receipts.now self.old) }
         ensures within { Within receipts.now self.new }
     {
         let mut filled = 0;
@@ -106,13 +104,13 @@ impl Out {
         filled
     }
 
-    // Copies bytes of the next command alone, as many as there are and fit, and answers their number.
+    // Copies bytes of the next command only, as many as there are and fit, and returns their number.
     fn take_command(&mut self, receipts: &[Receipt], out: &mut [u8]) -> usize
         requires within { Within receipts.now self.old }
         requires some_left { self.old.parts ≢ [] }
         requires room { 0 < length out.old }
         ensures some { 0 < result }
-        ensures taken { Taken receipts.now self.old self.new out.old out.new result }
+        ensures taken { CopiedOut receipts.now self.old self.new out.old out.new result }
     {
         let Some(part) = self.parts.front() else {
             return 0;
@@ -139,19 +137,19 @@ struct Step {
     is_end: bool,
 }
 
-impl Part {
-    // The number of its commands.
+impl OutPart {
+    // The number of commands of the part.
     fn command_count(&self, receipts: &[Receipt]) -> usize
         requires { IsPlaced receipts.now self.now }
         ensures { result ≡ length (part_commands receipts.now self.now) }
     {
         match *self {
-            Part::Mark(_) | Part::Ask(_) => 1,
-            Part::Receipt { place, .. } => receipts[place].commands().len() + 2,
+            OutPart::Mark(_) | OutPart::Ask(_) => 1,
+            OutPart::Receipt { place, .. } => receipts[place].commands().len() + 2,
         }
     }
 
-    // Copies bytes of the command at this place of its commands, from byte `from` on, as many as there are and fit.
+    // Copies bytes of the part's command at this place, from byte `from` on, as many as there are and fit.
     fn copy_command(&self, receipts: &[Receipt], item: usize, from: usize, out: &mut [u8]) -> Step
         requires placed { IsPlaced receipts.now self.now }
         requires item { item < length (part_commands receipts.now self.now) }
@@ -161,9 +159,9 @@ impl Part {
         ensures most { from + result.count ≤ longest_spelling }
     {
         match *self {
-            Part::Mark(id) => copy(&Command::Mark(id), from, out),
-            Part::Ask(kind) => copy(&Command::Status(kind), from, out),
-            Part::Receipt { place, closing } => {
+            OutPart::Mark(id) => copy(&Command::Mark(id), from, out),
+            OutPart::Ask(kind) => copy(&Command::Status(kind), from, out),
+            OutPart::Receipt { place, closing } => {
                 if item == 0 {
                     return copy(&Command::Init, from, out);
                 }

@@ -1,7 +1,7 @@
 //! Sending a receipt: a host opens a link, puts a receipt out, and waits for the answer to its closing mark.
 //!
-//! What is said on the link, and what an answer means, is the host's. Here is decided when bytes are put and when answers are
-//! read. `specs/Sends.antt` has what comes of it.
+//! What is said on the link, and what an answer means, is left to the host. This module decides when bytes are put and when
+//! answers are read. `specs/Sends.antt` defines the results.
 
 ghost use Rattle.std.specs.Prelude.{◌≡◌, ◌≢◌, ◌+◌, ◌<◌, ◌≤◌, max, ℕ, List, [], length, IsTrue, IsErrOf, IfOk, IfErr, OnOk, OnErr};
 ghost use Rattle.std.specs.Io.KnownBytes.{Appends, Consumes};
@@ -12,9 +12,8 @@ ghost use Rattle.escpos_host.specs.Machine.{Down};
 ghost use Rattle.escpos_host.specs.Sends.{Call, HasMarks, IsCut, Opened, Sends, Why, most_in_piece, opening_bytes};
 
 use crate::host::{Heard, Host, HostError, HostEvent};
-use crate::receipt::Receipt;
-use escpos_command::laws;
 use escpos_io::{ByteIn, ByteOut, Device, Failed, put_all};
+use escpos_receipt::Receipt;
 
 /// Why a receipt isn't known to be printed.
 #[derive(Clone, Copy, Debug, PartialEq, Eq)]
@@ -36,7 +35,7 @@ pub enum SendFault {
 impl SendFault {
     ghost use Rattle.escpos_host.specs.Refusals.{fault_name};
 
-    /// The name that programs print: the reason's, and of a refusal that of the host's reason.
+    /// The name that programs print; for `Refused` it is that of the host's reason.
     pub fn name(self) -> &'static str
         ensures value { result.now ≡ fault_name self }
         ensures short { length result.now ≤ 12 }
@@ -65,9 +64,9 @@ impl From<Device> for SendFault {
 /// What became of a receipt.
 #[derive(Debug, Drop)]
 pub enum Sent {
-    /// It is printed: it is the record with this number, from 0.
+    /// The receipt is printed: it is the record with this number, counted from 0.
     Recorded(usize),
-    /// It isn't known to be printed, and is handed back.
+    /// The receipt isn't known to be printed, and is returned.
     NotRecorded { why: SendFault, receipt: Receipt },
 }
 
@@ -82,25 +81,25 @@ struct Awaited {
     heard: usize,
 }
 
-// How many bytes of answers one call of `pull` asks for at most.
+// The most bytes of answers that one call of `pull` asks for.
 const PIECE_BYTES: usize = 64;
 
 const _: () = prove!(PIECE_BYTES == 64);
 
-// How many bytes are put at a time.
+// The most bytes that are put at a time.
 const PUT_BYTES: usize = 512;
 
 const _: () = prove!(PUT_BYTES == 512);
 
 /// Sends a receipt over a link and waits until it is recorded as printed.
 ///
-/// It brings the host's link up and puts out that many opening marks, one where `openings` is 0. Once one of them is answered,
-/// and the piece of answers that this came in is heard, it submits the receipt; when its closing mark is answered, the receipt
-/// is recorded (Reference: GS ( H, function 48). Answers are read in pieces of at most 64 bytes, `max_bytes` of them in all, with at most `max_bytes` + 1 calls
-/// of `pull`; what is left of the last piece is dropped.
+/// It brings the host's link up and puts out `openings` opening marks (0 counts as 1). Once one of them is answered, and
+/// the piece of answers in which that came is heard, it submits the receipt; when the receipt's closing mark is answered,
+/// the receipt is recorded (Reference: GS ( H, function 48). Answers are read in pieces of at most 64 bytes, `max_bytes` in
+/// all, with at most `max_bytes` + 1 calls of `pull`; what is left of the last piece is dropped.
 ///
-/// The receipt is handed back where it isn't recorded. Then the host's records are as before, and its link is down; a host
-/// whose link was up before is left as it was, and nothing is read or written.
+/// If the receipt isn't recorded, it is returned. Then the host's records are as before, and its link is down. If the
+/// host's link was up before the call, the host is left as it was, and nothing is read or written.
 pub fn send_link<R: ByteIn, W: ByteOut>(
     host: &mut Host,
     receipt: Receipt,
@@ -152,7 +151,7 @@ pub fn send_link<R: ByteIn, W: ByteOut>(
     }
 }
 
-// Brings the link up and puts so many opening marks out, at least one. Where one more is refused the link is given up.
+// Brings the link up and puts out this many opening marks, at least one. If one of them is refused, the link is given up.
 fn open(host: &mut Host, openings: u32) -> Result<(), HostError>
     ensures opened { OnOk result ((host.old.phase ≡ Down) × (host.new ≡ dialled host.old (max openings 1))) }
     ensures marks { OnOk result (host.old.next + max openings 1 ≤ mark_count) }
@@ -168,8 +167,8 @@ fn open(host: &mut Host, openings: u32) -> Result<(), HostError>
     Ok(())
 }
 
-// Puts the opening marks out and waits for an answer to one of them. All of the piece that it comes in is heard. Says how many
-// bytes were read.
+// Puts the opening marks out and waits for an answer to one of them. The whole piece in which it comes is heard. Returns
+// how many bytes were read.
 fn await_opened<R: ByteIn, W: ByteOut>(
     host: &mut Host,
     reader: &mut R,
@@ -191,7 +190,6 @@ fn await_opened<R: ByteIn, W: ByteOut>(
     ensures reader_well { ¬ IsErrOf result SendFault.ReadFault → ¬ IsTrue (R.failed reader.old) → ¬ IsTrue (R.failed reader.new) }
     ensures writer_well { ¬ IsErrOf result SendFault.WriteFault → ¬ IsTrue (W.failed writer.old) → ¬ IsTrue (W.failed writer.new) }
 {
-    laws::answers();
     put_out(host, writer)?;
     let mut piece = [0; PIECE_BYTES];
     let awaited = await_event(host, reader, &mut piece, most)?;
@@ -204,7 +202,7 @@ fn await_opened<R: ByteIn, W: ByteOut>(
     }
 }
 
-// Puts the receipt out and waits for the answer to its closing mark. Says the number of its record.
+// Puts the receipt out and waits for the answer to its closing mark. Returns the number of its record.
 fn await_recorded<R: ByteIn, W: ByteOut>(
     host: &mut Host,
     reader: &mut R,
@@ -224,7 +222,6 @@ fn await_recorded<R: ByteIn, W: ByteOut>(
     ensures reader_well { ¬ IsErrOf result SendFault.ReadFault → ¬ IsTrue (R.failed reader.old) → ¬ IsTrue (R.failed reader.new) }
     ensures writer_well { ¬ IsErrOf result SendFault.WriteFault → ¬ IsTrue (W.failed writer.old) → ¬ IsTrue (W.failed writer.new) }
 {
-    laws::answers();
     put_out(host, writer)?;
     let mut piece = [0; PIECE_BYTES];
     let awaited = await_event(host, reader, &mut piece, most)?;
@@ -252,7 +249,7 @@ fn put_out<W: ByteOut>(host: &mut Host, writer: &mut W) -> Result<(), SendFault>
     Ok(())
 }
 
-// Reads answers until one brings an event that isn't a status.
+// Reads answers until one of them brings an event that isn't a status.
 fn await_event<R: ByteIn>(
     host: &mut Host,
     reader: &mut R,
@@ -271,7 +268,7 @@ fn await_event<R: ByteIn>(
     ensures failed { IsErrOf result SendFault.ReadFault → IsTrue (R.failed reader.new) }
     ensures not_failed { ¬ IsErrOf result SendFault.ReadFault → ¬ IsTrue (R.failed reader.old) → ¬ IsTrue (R.failed reader.new) }
 {
-    laws::answers();
+    // Proof only: a list of answers is read in one way, wherever it is cut; the host holds nothing or a half answer.
     host.is_sound();
     let mut read = 0;
     while read < most {
@@ -302,7 +299,7 @@ fn hear(host: &mut Host, bytes: &[u8]) -> Heard
     requires { host.old.phase ≢ Down }
     ensures { HearsOut host.old bytes.now result.consumed result.event host.new }
 {
-    laws::answers();
+    // Proof only: a list of answers is read in one way, wherever it is cut; the host holds nothing or a half answer.
     host.is_sound();
     let mut taken = 0;
     loop {

@@ -1,4 +1,4 @@
--- Bytes that are given to a gather by several calls: the laws that the module `laws` states.
+-- Bytes given to a gather by several calls: the laws that the module `laws` states.
 use Rattle.std.proofs.Common.{◌≡◌, ℕ, ◌+◌, ◌<◌, ◌≤◌, ◌^◌, Bool, List, [], ◌++◌, length, Option, Result, Ok, Err, subst, append_assoc, append-nil, length-append, arith}
 use Rattle.std.specs.Bool.{⊤}
 use Rattle.std.specs.Result.{IfErr, IsErrAnd}
@@ -30,7 +30,7 @@ pub given_in_turn : (result : Result ⊤ Device) (before between after : Option 
 given_in_turn result before between after failed_before failed_between failed_after old middle new front more bytes f g e =
     rw e (given_both result before between after failed_before failed_between failed_after old middle new front more f g)
 
--- A call that failed.
+-- A call that failed stopped within any longer run of bytes too.
 given_front : (device : Device) (sink : Passage) (old new : Gathered) (front more : List ℕ) → IsGiven (Err device) sink old new front
     → IsGiven (Err device) sink old new (front ++ more)
 given_front device sink old new front more f = record {
@@ -48,9 +48,9 @@ given_in_the_front result device sink old new front more bytes r f e =
     let p = err_from_is_err_and result r in
     rw (p.1, p.2, e) (given_front device sink old new front more f)
 
--- Bytes that are appended to those that are kept back.
+-- Bytes appended to those that are kept back.
 pub given_appended : (sink : Option (List ℕ)) (failed : Bool) (old new : Gathered) (bytes : List ℕ) → new.kept ≡ old.kept ++ bytes
-    → new.taken ≡ old.taken → IsGiven (Ok tt) (passage sink sink failed failed) old new bytes
+    → new.written ≡ old.written → IsGiven (Ok tt) (passage sink sink failed failed) old new bytes
 given_appended sink failed old new bytes k n = record {
   ok = λ first total w. carries_appended first sink old new total bytes w k n;
   err = tt;
@@ -58,11 +58,12 @@ given_appended sink failed old new bytes k n = record {
   not_failed = λ well. well;
 }
 
--- The first bytes of a piece are counted after those before it.
+-- The first bytes of a piece are counted after those before the piece.
 counted_after : (total front : List ℕ) → length front ≤ PIECE_BYTES → length total + PIECE_BYTES < 2 ^ 128 → length (total ++ front ++ []) < 2 ^ 128
 counted_after total front few fits = rw (append-nil, length-append) (omega (arith, few, fits))
 
--- A sink that stopped within the first bytes of a piece, which are few, stopped within these with any others after them.
+-- A sink that stopped within the first bytes of a piece stopped within these with any others after them, if the
+-- first are few.
 piece_stops : (result : Result ⊤ Device) (sink : Passage) (old new : Gathered) (front rest : List ℕ) → IsGiven result sink old new front
     → length front ≤ PIECE_BYTES → IfErr result (λ device. (first : Option (List ℕ)) (total more : List ℕ) → Carries first sink.before old total
     → length total + PIECE_BYTES < 2 ^ 128 → StopsIn first sink.after (total ++ (front ++ rest) ++ more) device.written)

@@ -5,9 +5,9 @@ use Rattle.escpos_io.specs.declared.pieces.TheConstants.{PIECE_BYTES}
 use Rattle.escpos_io.specs.Gather.{Carries, Gathered, StopsIn}
 use Rattle.escpos_io.specs.Putting.{Passage}
 
--- The gather was given these bytes after all that it was given before, and the sink has not failed, unless it had
--- before; or the sink has failed, and of all bytes ever given, with any `more` after them, it took exactly the first
--- `written`, where these are few enough to be counted.
+-- Either the gather was given these bytes after all that it was given before, and the sink has not failed unless it
+-- had before; or the sink has failed, and of all bytes ever given, with any `more` after them, it took exactly the
+-- first `written`, where these are few enough to be counted.
 pub record IsGiven (result : Result ⊤ Device) (sink : Passage) (old new : Gathered) (bytes : List ℕ) : Type 0 where
   pub ok : OnOk result ((first : Option (List ℕ)) (total : List ℕ) →
       Carries first sink.before old total → Carries first sink.after new (total ++ bytes))
@@ -17,9 +17,9 @@ pub record IsGiven (result : Result ⊤ Device) (sink : Passage) (old new : Gath
   pub failed : IfErr result (λ device. IsTrue sink.has_failed)
   pub not_failed : OnOk result (¬ IsTrue sink.had_failed → ¬ IsTrue sink.has_failed)
 
--- The gather was given the bytes of a piece, `PIECE_BYTES` at most, and the sink has not failed, unless it had before; or
--- the sink has failed, and of all bytes ever given, with any `more` after them, it took exactly the first `written`, where
--- those before the piece, and `PIECE_BYTES` more, are few enough to be counted.
+-- Either the gather was given the bytes of a piece, `PIECE_BYTES` at most, and the sink has not failed unless it
+-- had before; or the sink has failed, and of all bytes ever given, with any `more` after them, it took exactly the
+-- first `written`, where those before the piece, and `PIECE_BYTES` more, are few enough to be counted.
 pub record IsPiecePut (result : Result ⊤ Device) (sink : Passage) (old new : Gathered) (bytes : List ℕ) : Type 0 where
   pub ok : OnOk result ((first : Option (List ℕ)) (total : List ℕ) →
       Carries first sink.before old total → Carries first sink.after new (total ++ bytes))

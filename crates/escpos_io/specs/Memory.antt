@@ -1,14 +1,14 @@
--- What a `MemoryIn` and a `MemoryOut` show.
+-- What the contracts say of a `MemoryIn` and a `MemoryOut`.
 use Rattle.std.specs.Prelude.{ℕ, Bool, ◌-◌, List, take, drop, length, max, Option, Some}
 use Rattle.escpos_io.specs.declared.memory_in.MemoryIn.{MemoryIn}
 use Rattle.escpos_io.specs.declared.memory_out.MemoryOut.{MemoryOut}
 use Rattle.escpos_io.specs.Source.{has_failed_of, has_ended_of, bytes_to_come}
 
--- the bytes of the slice that no pull gave
+-- the bytes of the slice that no pull has given yet
 abbrev pub bytes_left : MemoryIn → List ℕ
 bytes_left source = source.left.now
 
--- what a `MemoryIn` gives from here on
+-- what a `MemoryIn` gives from now on
 abbrev pub to_come_of : MemoryIn → Option (List ℕ)
 to_come_of source = bytes_to_come source.progress (Some source.left.now)
 
@@ -20,15 +20,15 @@ has_failed source = has_failed_of source.progress
 abbrev pub has_ended : MemoryIn → Bool
 has_ended source = has_ended_of source.progress
 
--- how often `pull` was called
+-- how many calls of `pull` there were
 abbrev pub pull_count_of : MemoryIn → ℕ
 pull_count_of source = source.pulls
 
--- how many bytes one pull gives at most
+-- the most bytes that one pull gives
 abbrev pub most_per_pull : MemoryIn → ℕ
 most_per_pull source = max source.most 1
 
--- the call of `pull` from which on each fails
+-- the call of `pull` from which on each call fails
 abbrev pub pull_failing_from : MemoryIn → Option ℕ
 pull_failing_from source = source.from_call
 
@@ -44,14 +44,14 @@ unwritten_bytes sink = drop sink.len sink.room.now
 abbrev pub room_left : MemoryOut → ℕ
 room_left sink = length sink.room.now - sink.len
 
--- how many bytes one put takes at most
+-- the most bytes that one put takes
 abbrev pub most_per_put : MemoryOut → ℕ
 most_per_put sink = max sink.most 1
 
--- the call of `put` from which on each fails
+-- the call of `put` from which on each call fails
 abbrev pub put_failing_from : MemoryOut → Option ℕ
 put_failing_from sink = sink.from_call
 
--- how often `put` was called
+-- how many calls of `put` there were
 abbrev pub put_count : MemoryOut → ℕ
 put_count sink = sink.puts

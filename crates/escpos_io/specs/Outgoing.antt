@@ -1,4 +1,4 @@
--- What an `Outgoing` shows.
+-- What the contracts say of an `Outgoing`.
 use Rattle.std.specs.Prelude.{Bool}
 use Rattle.escpos_io.specs.declared.outgoing.Outgoing.{Outgoing}
 

@@ -14,8 +14,8 @@ pub record Passage : Type 0 where
 abbrev pub passage : Option (List ℕ) → Option (List ℕ) → Bool → Bool → Passage
 passage before after had_failed has_failed = record { before = before; after = after; had_failed = had_failed; has_failed = has_failed }
 
--- All of these bytes went out and the sink has not failed, unless it had before; or it has failed, and exactly the
--- first `written` of them went out, and not all.
+-- Either all of these bytes went out, and the sink has not failed unless it had before; or it has failed, and
+-- exactly the first `written` of them went out, and not all.
 pub record IsPut (result : Result ⊤ Device) (sink : Passage) (bytes : List ℕ) : Type 0 where
   pub ok : OnOk result (Appends sink.before sink.after bytes)
   pub err : IfErr result (λ device. StopsIn sink.before sink.after bytes device.written)

@@ -1,4 +1,4 @@
--- What the progress of a source says of it.
+-- What the progress of a source means.
 use Rattle.std.specs.Prelude.{ℕ, Bool, true, false, List, [], Option, None, Some, ◌≤◌}
 use Rattle.escpos_io.specs.declared.source.Progress.{Progress}
 use Rattle.escpos_io.specs.declared.source.Progress.TheVariants.{Open, Ended, Failed}
@@ -15,13 +15,13 @@ has_ended_of Open = false
 has_ended_of Ended = true
 has_ended_of Failed = false
 
--- what a source gives from here on, over bytes of which `left` is known: after its end it gives none
+-- what a source gives from now on, where its device has `left` to come, if known: after its end it gives nothing
 abbrev pub bytes_to_come : Progress → Option (List ℕ) → Option (List ℕ)
 bytes_to_come Open left = left
 bytes_to_come Ended left = Some []
 bytes_to_come Failed left = left
 
--- call `call` is to fail, where the calls from a given one on do
+-- call number `call` must fail, where all calls from a given one on do
 abbrev pub IsDue : Option ℕ → ℕ → Type 0
 IsDue None call = ⊥
 IsDue (Some from_call) call = from_call ≤ call

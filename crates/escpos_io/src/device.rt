@@ -1,13 +1,13 @@
 //! The traits of a source and of a sink.
 //!
-//! Each says which bytes went through it, whether it has failed and whether it has ended, so that the contract
-//! of a core can name the bytes it was given and the bytes it gave. What a device is, a socket or a slice of
-//! memory, is left to the modules beside this one and to the programs.
+//! Each says which bytes went through it, whether it has failed and whether it has ended, so that the contract of a
+//! core can name the bytes that it was given and those that it gave. What a device is, a socket or a slice, is left
+//! to the modules beside this one and to the programs.
 
 ghost use Rattle.std.specs.Prelude.{◌≡◌, ℕ, ◌+◌, ◌-◌, ◌^◌, ◌<◌, ◌≤◌, ◌↔◌, ◌⊎◌, min, Bool, List, length, take, Option, IsTrue, IsErr, IfOk, MatchResult};
 ghost use Rattle.std.specs.Io.KnownBytes.{Keeps, Appends, Consumes, IsAtEnd};
 
-/// A device has failed, and every call from then on fails too.
+/// A device has failed; every later call fails too.
 #[derive(Clone, Copy, Debug, PartialEq, Eq, Hash)]
 pub struct Failed;
 
@@ -25,10 +25,10 @@ pub trait ByteIn {
     // How often `pull` was called, up to the greatest u64.
     ghost pull_count: { Self → ℕ };
 
-    /// Moves the next bytes into the front of `piece` and says how many.
+    /// Moves the next bytes to the start of `piece` and returns how many.
     ///
-    /// 0 at a piece that isn't empty means that the bytes have ended; then every later call answers 0
-    /// too. After `Failed`, which takes no byte, every later call fails.
+    /// 0 with a piece that isn't empty means that the bytes have ended; every later call returns 0 too. After
+    /// `Failed`, which takes no byte, every later call fails.
     fn pull(&mut self, piece: &mut [u8]) -> Result<usize, Failed>
         ensures within { IfOk result (λ n. n ≤ length piece.old) }
         ensures bytes { MatchResult result
@@ -45,11 +45,11 @@ pub trait ByteIn {
     fn has_failed(&self) -> bool
         ensures { result ≡ failed self.now };
 
-    /// Whether a `pull` of a piece that isn't empty has answered 0.
+    /// Whether a `pull` with a piece that isn't empty has returned 0.
     fn has_ended(&self) -> bool
         ensures { result ≡ ended self.now };
 
-    /// How often `pull` was called so far; at the greatest u64 the number stays.
+    /// How many calls of `pull` there were; the count stops at the greatest u64.
     fn pulls(&self) -> u64
         ensures { result ≡ pull_count self.now };
 }
@@ -62,10 +62,10 @@ pub trait ByteOut {
     // A call has failed.
     ghost failed: { Self → Bool };
 
-    /// Takes some of the front of `piece`, and says how many bytes.
+    /// Takes a prefix of `piece`, and returns how many bytes that is.
     ///
-    /// Of a piece that isn't empty it takes at least one byte or fails. After `Failed`, which takes no
-    /// byte, every later call fails.
+    /// If the piece isn't empty, it takes at least one byte or fails. After `Failed`, which takes no byte, every
+    /// later call fails.
     fn put(&mut self, piece: &[u8]) -> Result<usize, Failed>
         ensures within { IfOk result (λ n. n ≤ length piece.now) }
         ensures progress { 0 < length piece.now → IfOk result (λ n. 0 < n) }

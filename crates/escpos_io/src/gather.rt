@@ -1,8 +1,8 @@
 //! Bytes gathered into large pieces before they are put.
 //!
-//! A sink may take a system call for each `put`. `Gather` keeps up to 16 KiB back, so that many small
-//! pieces go out as few large ones, and counts what the sink has taken, up to the greatest u128. It takes no
-//! memory. What the bytes are is left to its users; `pieces` has the loop over values that are put as bytes.
+//! A sink may make a system call for each `put`. `Gather` keeps up to 16 KiB back, so that many small pieces go out
+//! as few large ones, and counts the bytes that the sink has taken, up to the greatest u128. It allocates nothing.
+//! What the bytes are is left to its users; `pieces` has the loop over values that are put as bytes.
 
 ghost use Rattle.std.specs.Prelude.{◌≡◌, ◌+◌, ◌<◌, ◌≤◌, ℕ, List, [], ◌∷◌, ◌++◌, length, Ok, Option, OnOk, Bool};
 ghost use Rattle.std.specs.Io.KnownBytes.{Appends};
@@ -14,15 +14,15 @@ use crate::{ByteOut, Device, laws, put_all};
 use arrayvec::ArrayVec;
 use std::marker::Model;
 
-/// How many bytes are gathered at most.
+/// The most bytes that are kept back.
 pub const GATHERED_BYTES: usize = 16384;
 
 const _: () = prove!(GATHERED_BYTES == 16384);
 
-/// The bytes for one sink, seen as those that are kept back and the number of those that the sink
-/// has taken; at the greatest u128 that number stays.
+/// The bytes for one sink. Its model has those that are kept back, and how many the sink has taken (a count that
+/// stops at the greatest u128).
 ///
-/// After an `Err` the sink takes no more, and what a later call says was written means nothing.
+/// After an `Err` the sink takes no more, and the `written` of a later error means nothing.
 #[derive(Drop)]
 pub struct Gather {
     piece: ArrayVec<u8, GATHERED_BYTES>,
@@ -34,14 +34,14 @@ impl Model for Gather {
 
     ghost Value = { Gathered };
 
-    ghost view = { λ g. record { kept = g.piece.items; taken = g.written } };
+    ghost view = { λ g. record { kept = g.piece.items; written = g.written } };
 }
 
 impl Gather {
-    /// Nothing kept back and nothing taken.
+    /// A gather that keeps nothing back and has put nothing.
     pub fn new() -> Self
         ensures kept { result.kept ≡ [] }
-        ensures taken { result.taken ≡ 0 }
+        ensures written { result.written ≡ 0 }
         ensures carries { (sink : Option (List ℕ)) → Carries sink sink result [] }
     {
         Gather {
@@ -50,10 +50,10 @@ impl Gather {
         }
     }
 
-    /// Makes room for `count` more bytes: puts all that is kept back, where they don't fit after it.
+    /// Makes room for `count` more bytes, `GATHERED_BYTES` at most: if they don't fit, puts all that is kept back.
     ///
-    /// On `Err` the sink has failed, and took exactly the first `written` of all bytes ever given (and so
-    /// of these with any `more` after them), where these are few enough to be counted.
+    /// On `Err` the sink has failed, and took exactly the first `written` of all bytes ever given (and so of these
+    /// with any `more` after them), as long as these are few enough to be counted.
     #[inline]
     pub fn room<W: ByteOut>(&mut self, count: usize, writer: &mut W) -> Result<(), Device>
         requires { count ≤ GATHERED_BYTES }
@@ -69,42 +69,45 @@ impl Gather {
         self.flush(writer)
     }
 
-    /// Appends `byte` to what is kept back; `room` makes the room for it.
+    /// Appends `byte` to what is kept back, where there must be room for it (see `room`).
     #[inline]
     pub fn push(&mut self, byte: u8)
         requires { length self.old.kept < GATHERED_BYTES }
         ensures kept { self.new.kept ≡ self.old.kept ++ byte ∷ [] }
-        ensures same_count { self.new.taken ≡ self.old.taken }
+        ensures same_count { self.new.written ≡ self.old.written }
         ensures given { (sink : Option (List ℕ)) (failed : Bool) →
             IsGiven (Ok tt) (passage sink sink failed failed) self.old self.new (byte ∷ []) }
     {
+        // Proof only: an appended byte counts as given.
         laws::given_in_place();
         self.piece.push(byte);
     }
 
-    /// Appends `bytes` to what is kept back; `room` makes the room for them.
+    /// Appends `bytes` to what is kept back, where there must be room for them (see `room`).
     #[inline]
     pub fn extend(&mut self, bytes: &[u8])
         requires { length self.old.kept + length bytes.now ≤ GATHERED_BYTES }
         ensures kept { self.new.kept ≡ self.old.kept ++ bytes.now }
-        ensures same_count { self.new.taken ≡ self.old.taken }
+        ensures same_count { self.new.written ≡ self.old.written }
         ensures given { (sink : Option (List ℕ)) (failed : Bool) →
             IsGiven (Ok tt) (passage sink sink failed failed) self.old self.new bytes.now }
     {
+        // Proof only: appended bytes count as given.
         laws::given_in_place();
         self.piece.try_extend_from_slice(bytes).unwrap();
     }
 
-    /// Takes `bytes` after those that are kept back, and puts what doesn't fit.
+    /// Appends `bytes` to those that are kept back, and puts what doesn't fit.
     ///
-    /// On `Err` the sink has failed, and took exactly the first `written` of all bytes ever given (and so
-    /// of these with any `more` after them), where these are few enough to be counted.
+    /// On `Err` the sink has failed, and took exactly the first `written` of all bytes ever given (and so of these
+    /// with any `more` after them), as long as these are few enough to be counted.
     pub fn put<W: ByteOut>(&mut self, bytes: &[u8], writer: &mut W) -> Result<(), Device>
         ensures given { IsGiven result (passage (W.written writer.old) (W.written writer.new) (W.failed writer.old) (W.failed writer.new))
             self.old self.new bytes.now }
         ensures kept_back { length self.old.kept + length bytes.now ≤ GATHERED_BYTES
             → (result ≡ Ok tt) × (self.new.kept ≡ self.old.kept ++ bytes.now) × (writer.new ≡ writer.old) }
     {
+        // Proof only: the calls below give the bytes as one call does.
         laws::given_in_turn();
         laws::given_in_the_front();
         laws::given_in_place();
@@ -119,8 +122,8 @@ impl Gather {
 
     /// Puts all that is kept back.
     ///
-    /// On `Err` the sink has failed, and took exactly the first `written` of all bytes ever given (and so
-    /// of these with any `more` after them), where these are few enough to be counted.
+    /// On `Err` the sink has failed, and took exactly the first `written` of all bytes ever given (and so of these
+    /// with any `more` after them), as long as these are few enough to be counted.
     #[inline(never)]
     pub fn flush<W: ByteOut>(&mut self, writer: &mut W) -> Result<(), Device>
         ensures ok { OnOk result ((first : Option (List ℕ)) (total : List ℕ) →
@@ -142,7 +145,7 @@ impl Gather {
         }
     }
 
-    // Puts `bytes` past the buffer, where nothing is kept back.
+    // Puts `bytes` without copying them; nothing may be kept back.
     fn put_large<W: ByteOut>(&mut self, bytes: &[u8], writer: &mut W) -> Result<(), Device>
         requires { self.old.kept ≡ [] }
         ensures given { IsGiven result (passage (W.written writer.old) (W.written writer.new) (W.failed writer.old) (W.failed writer.new))

@@ -1,6 +1,6 @@
 //! `Incoming`: a standard reader as a source of bytes.
 //!
-//! It keeps what a reader need not keep: that an end and a failure are for good. `source` has that state.
+//! It adds what a standard reader doesn't promise: an end and a failure are permanent. `source` has that state.
 
 ghost use Rattle.std.specs.Prelude.{◌≡◌, ◌+◌, ◌-◌, ◌^◌, ◌<◌, ◌≤◌, ◌⊎◌, ◌↔◌, min, length, take, false, IsTrue, IsErr, IfOk, MatchResult};
 ghost use Rattle.std.specs.Io.KnownBytes.{Keeps, Consumes, IsAtEnd};
@@ -13,8 +13,8 @@ use std::io::Read;
 
 /// A source over a standard reader, such as a socket or standard input.
 ///
-/// Any error of the reader, an interruption too, is a failure. After a failure, and after the end, the
-/// reader is never called again.
+/// Any error of the reader, an interruption too, is a failure. After a failure, and after the end, the reader is
+/// never called again.
 #[derive(Drop)]
 pub struct Incoming<R: Read> {
     reader: R,
@@ -23,7 +23,7 @@ pub struct Incoming<R: Read> {
 }
 
 impl<R: Read> Incoming<R> {
-    /// A source of what `reader` gives from here on.
+    /// A source of what `reader` gives from now on.
     pub fn new(reader: R) -> Self
         ensures reader { reader_of result ≡ reader }
         ensures to_come { ⟦<Incoming<R> as ByteIn>⟧.to_come result ≡ R.remaining reader }
@@ -38,7 +38,7 @@ impl<R: Read> Incoming<R> {
         }
     }
 
-    /// The reader, with what it hasn't given yet.
+    /// The reader, with the bytes that it hasn't given yet.
     pub fn into_inner(self) -> R
         ensures { result ≡ reader_of self }
     {
@@ -50,7 +50,7 @@ impl<R: Read> Incoming<R> {
         reader
     }
 
-    // One read of a source that neither failed nor ended.
+    // One read from a source that has neither failed nor ended.
     fn pull_open(&mut self, piece: &mut [u8]) -> Result<usize, Failed>
         requires { self.old.progress ≡ Progress.Open }
         ensures within { IfOk result (λ n. n ≤ length piece.old) }

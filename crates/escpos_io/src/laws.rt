@@ -1,5 +1,5 @@
-//! The laws of gathered bytes. Each is a function that does nothing and whose contract is the law, so that
-//! the law is proved with the crate and another crate can cite it by calling the function.
+//! Proof only: the laws of gathered bytes. The contract of each function is the law; when run, it does nothing. A
+//! law is proved with this crate, and another crate cites it by calling the function.
 
 ghost use Rattle.std.specs.Prelude.{◌≡◌, ◌*◌, ◌≤◌, ℕ, length, Bool, List, [], ◌++◌, Option, Result, Ok, Err, ⊤, IsErrAnd};
 ghost use Rattle.hex.specs.Hex.{encode_lower};
@@ -16,7 +16,7 @@ pub fn stop_in_the_front()
         StopsIn sink_old sink_new front written → StopsIn sink_old sink_new (front ++ more) written }
 {}
 
-/// Bytes that two calls gave, one after another, are given as by one call.
+/// Bytes given by two calls, one after another, are given as by one call.
 #[inline]
 pub fn given_in_turn()
     ensures { (result : Result ⊤ Device) (before between after : Option (List ℕ)) (failed_before failed_between failed_after : Bool)
@@ -26,8 +26,8 @@ pub fn given_in_turn()
         → bytes ≡ front ++ more → IsGiven result (passage before after failed_before failed_after) old new bytes }
 {}
 
-/// A call that failed within some bytes failed within these with any others after them; `result` is what a `?` gives
-/// back there.
+/// A call that failed within some bytes failed within these with any others after them; `result` is what `?`
+/// returns there.
 #[inline]
 pub fn given_in_the_front()
     ensures { (result : Result ⊤ Device) (device : Device) (sink : Passage) (old new : Gathered) (front more bytes : List ℕ) →
@@ -35,22 +35,23 @@ pub fn given_in_the_front()
         → bytes ≡ front ++ more → IsGiven result sink old new bytes }
 {}
 
-/// Bytes that were appended to what a gather keeps back, while its sink took no more, are given as by a call.
+/// Bytes appended to what a gather keeps back, while its sink took no more, are given as by a call.
 #[inline]
 pub fn given_in_place()
     ensures { (sink : Option (List ℕ)) (failed : Bool) (old new : Gathered) (bytes : List ℕ) →
-        new.kept ≡ old.kept ++ bytes → new.taken ≡ old.taken → IsGiven (Ok tt) (passage sink sink failed failed) old new bytes }
+        new.kept ≡ old.kept ++ bytes → new.written ≡ old.written → IsGiven (Ok tt) (passage sink sink failed failed) old new bytes }
 {}
 
-/// A call that gave all bytes of a piece, or failed within them, is a `Piece::put`, where they are few.
+/// A call that gave all bytes of a piece, or failed within them, is a `Piece::put`, if they are at most
+/// `PIECE_BYTES`.
 #[inline]
 pub fn piece_put()
     ensures { (result : Result ⊤ Device) (sink : Passage) (old new : Gathered) (bytes : List ℕ) →
         IsGiven result sink old new bytes → length bytes ≤ PIECE_BYTES → IsPiecePut result sink old new bytes }
 {}
 
-/// A call that failed within the first bytes of a piece is a `Piece::put` that failed, where those are few, however many
-/// follow; `result` is what a `?` gives back there.
+/// A call that failed within the first bytes of a piece is a `Piece::put` that failed, if those are at most
+/// `PIECE_BYTES`, however many follow; `result` is what `?` returns there.
 #[inline]
 pub fn piece_stopped()
     ensures { (result : Result ⊤ Device) (device : Device) (sink : Passage) (old new : Gathered) (front rest bytes : List ℕ) →
@@ -58,8 +59,8 @@ pub fn piece_stopped()
         → length front ≤ PIECE_BYTES → bytes ≡ front ++ rest → IsPiecePut result sink old new bytes }
 {}
 
-/// The digits of two runs of bytes, one after another, are those of the run that both make. Of no bytes there are none, and
-/// of each byte there are two.
+/// The digits of two runs of bytes, one after another, are those of the runs joined. No bytes have no digits, and
+/// each byte has two.
 #[inline]
 pub fn digits_in_turn()
     ensures joined { (front more : List ℕ) → encode_lower (front ++ more) ≡ encode_lower front ++ encode_lower more }

@@ -1,6 +1,6 @@
 //! `MemoryIn`: a slice as a source of bytes, for tests.
 //!
-//! It gives few bytes a call, or fails from a given call on, as a test asks; a program reads by `Incoming`.
+//! It gives few bytes a call, or fails from a given call on, as a test asks; programs read with `Incoming`.
 
 ghost use Rattle.std.specs.Prelude.{◌≡◌, ◌+◌, ◌-◌, ◌^◌, ◌<◌, ◌≤◌, ◌⊎◌, ◌↔◌, min, max, length, take, drop, ◌++◌, ◌≢◌, false, None, Some, IsTrue, IsErr, IfOk, MatchResult};
 ghost use Rattle.std.specs.Io.KnownBytes.{Keeps, Consumes, IsAtEnd};
@@ -10,7 +10,7 @@ ghost use Rattle.escpos_io.specs.Memory.{to_come_of, has_failed, has_ended, pull
 use crate::source::{Progress, is_due};
 use crate::{ByteIn, Failed};
 
-/// A source of the bytes of a slice, a few at a time, that may fail from some call on.
+/// A source of the bytes of a slice, a few at a time, that may fail from a given call on.
 #[derive(Debug, Drop)]
 pub struct MemoryIn<'a> {
     left: &'a [u8],
@@ -21,7 +21,7 @@ pub struct MemoryIn<'a> {
 }
 
 impl<'a> MemoryIn<'a> {
-    /// A source of `bytes`, of which one `pull` gives at most `most`; 0 counts as 1 there.
+    /// A source of `bytes`. One `pull` gives at most `most` of them; 0 counts as 1.
     pub fn new(bytes: &'a [u8], most: usize) -> Self
         ensures to_come { ⟦<MemoryIn<'a> as ByteIn>⟧.to_come result ≡ Some bytes.now }
         ensures failed { ⟦<MemoryIn<'a> as ByteIn>⟧.failed result ≡ false }
@@ -41,7 +41,7 @@ impl<'a> MemoryIn<'a> {
 
     /// The same, where each call of `pull` from `from_call` on fails; the first call is number 1.
     ///
-    /// Where the end was found before that call, `pull` answers 0 for good and doesn't fail.
+    /// If the end was found before that call, `pull` still returns 0 and doesn't fail.
     pub fn failing(bytes: &'a [u8], most: usize, from_call: u64) -> Self
         ensures to_come { ⟦<MemoryIn<'a> as ByteIn>⟧.to_come result ≡ Some bytes.now }
         ensures failed { ⟦<MemoryIn<'a> as ByteIn>⟧.failed result ≡ false }
@@ -56,7 +56,7 @@ impl<'a> MemoryIn<'a> {
         }
     }
 
-    // The next bytes, of a source that neither failed nor ended.
+    // Gives the next bytes; the source has neither failed nor ended.
     fn pull_open(&mut self, piece: &mut [u8]) -> usize
         requires { self.old.progress ≡ Progress.Open }
         ensures amount { result

@@ -1,13 +1,13 @@
 //! `MemoryOut`: a slice as a sink of bytes, for tests.
 //!
-//! It takes few bytes a call, or fails from a given call on, as a test asks; a program writes by `Outgoing`.
+//! It takes few bytes a call, or fails from a given call on, as a test asks; programs write with `Outgoing`.
 
 ghost use Rattle.std.specs.Prelude.{◌≡◌, ◌≤◌, length};
 
 use crate::source::is_due;
 use crate::{ByteOut, Failed};
 
-/// A sink that puts its bytes into a slice, and fails once that is full, or from some call on.
+/// A sink that puts its bytes into a slice. It fails once that is full, or from a given call on.
 #[derive(Drop)]
 pub struct MemoryOut<'a> {
     room: &'a mut [u8],
@@ -53,8 +53,8 @@ impl<'a> MemoryOut<'a> {
         sink
     }
 
-    /// A sink that takes at most `most` bytes of a piece, with room for as many bytes as `room` has; a
-    /// `most` of 0 counts as 1.
+    /// A sink that takes at most `most` bytes of a piece (0 counts as 1), with room for as many bytes as `room`
+    /// has.
     pub fn taking(room: &'a mut [u8], most: usize) -> Self
         ensures written { ⟦<MemoryOut<'a> as ByteOut>⟧.written result ≡ Some [] }
         ensures failed { ⟦<MemoryOut<'a> as ByteOut>⟧.failed result ≡ false }
@@ -82,7 +82,7 @@ impl<'a> MemoryOut<'a> {
         &self.room[..self.len]
     }
 
-    // Puts the front of `piece` after what was put, as much as one call takes, and says how much.
+    // Puts as long a prefix of `piece` as one call takes after what was put before, and returns its length.
     fn put_front(&mut self, piece: &[u8]) -> usize
         ensures amount { result
             ≡ min (min (length piece.now) (room_left self.old)) (most_per_put self.old) }

@@ -1,6 +1,7 @@
 //! `Outgoing`: a standard writer as a sink of bytes.
 //!
-//! It keeps what a writer need not keep: that a failure is for good. Buffers and flushes are left to the writer.
+//! It adds what a standard writer doesn't promise: a failure is permanent. Buffers and flushes are left to the
+//! writer.
 
 ghost use Rattle.std.specs.Prelude.{◌≡◌, ◌<◌, ◌≤◌, ◌↔◌, false, length, take, IsTrue, IsErr, IfOk, MatchResult};
 ghost use Rattle.std.specs.Io.KnownBytes.{Keeps, Appends};
@@ -11,8 +12,8 @@ use std::io::Write;
 
 /// A sink over a standard writer, such as a socket or standard output.
 ///
-/// Any error of the writer, an interruption too, is a failure, and so is a write that takes no byte of a
-/// piece that isn't empty. After a failure the writer is never called again. Nothing is flushed.
+/// Any error of the writer, an interruption too, is a failure, and so is a write that takes no byte of a piece that
+/// isn't empty. After a failure the writer is never called again. Nothing is flushed.
 #[derive(Drop)]
 pub struct Outgoing<W: Write> {
     writer: W,

@@ -1,6 +1,6 @@
-//! Putting a whole run of bytes into a sink, and the error that says how many of them it took.
+//! Puts all of some bytes into a sink; the error says how many of them it took.
 //!
-//! Bytes that come in small pieces are for `gather`, which puts them with the function here.
+//! `gather`, for bytes that come in small pieces, calls the function here.
 
 ghost use Rattle.std.specs.Prelude.{◌≡◌, ◌-◌, ◌<◌, length, take, IsTrue, OnOk, IfErr};
 ghost use Rattle.std.specs.Io.KnownBytes.{Appends};
@@ -17,8 +17,8 @@ pub struct Device {
 
 /// Puts all of `bytes` into `writer`, in as many calls as it takes.
 ///
-/// On `Err` the writer took exactly the first `written` bytes, fewer than there are, and has failed.
-/// Where there are no bytes the writer is not called.
+/// On `Err` the writer has failed, and took exactly the first `written` bytes, fewer than there are. If there are
+/// no bytes, the writer isn't called.
 pub fn put_all<W: ByteOut>(bytes: &[u8], writer: &mut W) -> Result<(), Device>
     ensures all { OnOk result (Appends (W.written writer.old) (W.written writer.new) bytes.now) }
     ensures some { IfErr result (λ device.

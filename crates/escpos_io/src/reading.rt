@@ -1,6 +1,6 @@
-//! Reading a whole input up to a limit.
+//! Reads a whole input up to a limit.
 //!
-//! What the bytes mean, and what a program says of an error, is left to the callers.
+//! What the bytes mean, and what a program prints about an error, is left to the callers.
 
 ghost use Rattle.std.specs.Prelude.{◌≡◌, ℕ, ◌+◌, ◌-◌, ◌<◌, ◌≤◌, List, length, take, vec_len, IsTrue, IfOk, OnOk, IfSome, IsErr, IsErrOf};
 ghost use Rattle.std.specs.Io.KnownBytes.{Consumes, IsAtEnd};
@@ -15,7 +15,7 @@ pub enum ReadError {
     TooLong,
     /// The source failed.
     Failed,
-    /// There is no memory for the bytes.
+    /// Out of memory.
     Memory,
 }
 
@@ -39,17 +39,17 @@ impl From<Failed> for ReadError {
     }
 }
 
-// How many bytes one call of `pull` asks for at most.
+// The most bytes that one call of `pull` asks for.
 const PULLED_BYTES: usize = 65536;
 
 const _: () = prove!(PULLED_BYTES == 65_536);
 
-/// Reads `reader` to its end, where that comes after `limit` bytes at most.
+/// Reads `reader` to its end, which must come after `limit` bytes at most.
 ///
-/// It takes at most `limit` + 1 bytes, in pieces of up to 64 KiB, and calls `pull` at most `limit` + 1
-/// times. A source that has failed before or fails on the way gives `Failed`, and nothing else does. After
-/// `TooLong` the source stands after the byte that was too many; after `Memory` some of its bytes may be
-/// lost.
+/// It takes at most `limit` + 1 bytes, in pieces of up to 64 KiB, and calls `pull` at most `limit` + 1 times.
+/// `Failed` comes exactly where the source has failed, before the call or during it. `TooLong` comes at the first
+/// byte after the limit, which is taken; the source can go on after it. `Memory` comes where an allocation failed;
+/// the bytes taken until then, `limit` at most, are lost.
 pub fn read_to_end<R: ByteIn>(
     alloc: Global,
     reader: &mut R,
@@ -87,7 +87,7 @@ pub fn read_to_end<R: ByteIn>(
     }
 }
 
-// Pulls the next bytes into the front of `piece`, and says how many; one more than `room` is too many.
+// Pulls the next bytes to the start of `piece` and returns how many; more than `room` of them is `TooLong`.
 fn pull_piece<R: ByteIn>(reader: &mut R, piece: &mut [u8], room: usize) -> Result<usize, ReadError>
     requires { 0 < length piece.old }
     ensures within { IfOk result (λ n. (n ≤ room) × (n ≤ length piece.new)) }

@@ -1,11 +1,11 @@
-//! How far a source of bytes has come, which `Incoming` and `MemoryIn` both keep.
+//! The state of a source of bytes, which `Incoming` and `MemoryIn` share.
 //!
 //! Where the bytes come from is left to them.
 
 ghost use Rattle.std.specs.Prelude.{◌≡◌, ◌↔◌, IsTrue};
 ghost use Rattle.escpos_io.specs.Source.{has_failed_of, has_ended_of, IsDue};
 
-/// Whether a source can still give bytes. An end and a failure are both for good.
+/// Whether a source can still give bytes. An end is permanent, and so is a failure.
 #[derive(Clone, Copy, Debug, PartialEq, Eq)]
 pub(super) enum Progress {
     Open,
@@ -27,7 +27,7 @@ impl Progress {
     }
 }
 
-/// Whether call number `call` fails, where the calls from `from_call` on do.
+/// Whether call number `call` fails, where all calls from `from_call` on do.
 pub(super) fn is_due(from_call: Option<u64>, call: u64) -> bool
     ensures { IsTrue result ↔ IsDue from_call call }
 {

@@ -24,7 +24,7 @@ given symbology content h k = absurd (cc)
 pub digits_of_bars : (bars : Barcode) → is_barcode bars ≡ true → has_check_digit bars.symbology (length bars.content) ≡ true → all_digits bars.content ≡ true
 digits_of_bars bars h k = given bars.symbology bars.content k (and_parts (has_form bars.form bars.symbology) (is_content bars.symbology bars.content) h).1
 
--- So is its front, and each of its bytes is a digit.
+-- So is a prefix of it, and each of its bytes is a digit.
 pub front_digits : (n : ℕ) (bs : List ℕ) → all_digits bs ≡ true → all_digits (take n bs) ≡ true
 front_digits zero bs h = refl
 front_digits (suc n) [] h = refl

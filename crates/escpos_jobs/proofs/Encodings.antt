@@ -1,24 +1,24 @@
--- A text is encoded where what was read of it is put.
+-- A text is encoded if what was read of it is printed.
 use Rattle.std.proofs.Common.{◌≡◌, ℕ, List, Result, Ok, Err, IfOk, refl, sym, ◌∙◌, inl, inr}
 use Rattle.std.specs.Prelude.{IsErrOf}
 use Rattle.escpos_command.specs.declared.command.Command.{Command}
-use Rattle.escpos_host.specs.declared.json.JsonError.{JsonError}
-use Rattle.escpos_host.specs.declared.json.JsonError.TheVariants as error
-use Rattle.escpos_host.specs.declared.json.JsonFault.{JsonFault}
-use Rattle.escpos_host.specs.Describes.{Describes, IsJsonFault}
-use Rattle.escpos_host.specs.Whole.{Whole}
+use Rattle.escpos_receipt.specs.declared.json.JsonError.{JsonError}
+use Rattle.escpos_receipt.specs.declared.json.JsonError.TheVariants as error
+use Rattle.escpos_receipt.specs.declared.json.JsonFault.{JsonFault}
+use Rattle.escpos_receipt.specs.Describes.{Describes, IsJsonFault}
+use Rattle.escpos_receipt.specs.Whole.{Whole}
 use Rattle.escpos_jobs.specs.declared.status.Status.{Status}
 use Rattle.escpos_jobs.specs.declared.status.Status.TheVariants.{Good, Refused, Device, Memory}
-use Rattle.escpos_jobs.specs.Outcome.{Outcome, Says, Puts, memory_line}
+use Rattle.escpos_jobs.specs.Ending.{JobEnd, PrintsText, Puts, memory_line}
 use Rattle.escpos_jobs.specs.Refusal.{refusal_line}
 use Rattle.escpos_jobs.specs.Encode.{EncodesText, digits_line}
 
--- Where the status is the one that is wanted and not that of a failed device, the text went out.
-put_by : (o : Outcome) (text : List ℕ) (wanted : Status) → Says o text wanted → o.status ≡ wanted → (wanted ≡ Device → ⊥) → Puts o text
+-- If the status is the one that is wanted and not that of a failed device, the text was printed.
+put_by : (o : JobEnd) (text : List ℕ) (wanted : Status) → PrintsText o text wanted → o.status ≡ wanted → (wanted ≡ Device → ⊥) → Puts o text
 put_by o text wanted said at other = said.out (λ e. other (sym at ∙ e))
 
--- A status that was neither wanted nor that of a failed device isn't there.
-not_said : (o : Outcome) (text : List ℕ) (wanted status : Status) → Says o text wanted → o.status ≡ status → (wanted ≡ status → ⊥) → (Device ≡ status → ⊥) → ⊥
+-- The status is the one that was wanted, or that of a failed device.
+not_said : (o : JobEnd) (text : List ℕ) (wanted status : Status) → PrintsText o text wanted → o.status ≡ status → (wanted ≡ status → ⊥) → (Device ≡ status → ⊥) → ⊥
 not_said o text wanted status said at other well = elim said.ends [ inl e ↦ other (sym e ∙ at) | inr failed ↦ well (sym failed.0 ∙ at) ]
 
 good_is_well : Good ≡ Device → ⊥
@@ -27,9 +27,9 @@ good_is_well e = cc
 refused_is_well : Refused ≡ Device → ⊥
 refused_is_well e = cc
 
-pub encodes_by : (o : Outcome) (text : List ℕ) (read : Result (List Command) JsonError) → IfOk read (λ cs. Describes text cs × Whole cs)
-    → ((why : JsonFault) → IsErrOf read (error.Refused why) → IsJsonFault why text) → IfOk read (λ cs. Says o (digits_line cs) Good)
-    → ((why : JsonFault) → read ≡ Err (error.Refused why) → Says o (refusal_line why) Refused) → (read ≡ Err error.Memory → Says o memory_line Memory) → EncodesText o text
+pub encodes_by : (o : JobEnd) (text : List ℕ) (read : Result (List Command) JsonError) → IfOk read (λ cs. Describes text cs × Whole cs)
+    → ((why : JsonFault) → IsErrOf read (error.Refused why) → IsJsonFault why text) → IfOk read (λ cs. PrintsText o (digits_line cs) Good)
+    → ((why : JsonFault) → read ≡ Err (error.Refused why) → PrintsText o (refusal_line why) Refused) → (read ≡ Err error.Memory → PrintsText o memory_line Memory) → EncodesText o text
 encodes_by o text (Ok cs) described due says refuses wants = record {
   good = λ e. (cs, described.0, described.1, put_by o (digits_line cs) Good says e good_is_well);
   refused = λ e. absurd (not_said o (digits_line cs) Good Refused says e (λ c. cc c) (λ c. cc c));

@@ -6,5 +6,5 @@ pub mod Reports
 pub mod Spellings
 pub mod Encodings
 pub mod Quiet
-pub mod Parts
+pub mod TornParts
 pub mod Plays

@@ -4,7 +4,7 @@ use Rattle.escpos_command.specs.declared.command.Command.{Command}
 use Rattle.escpos_command.specs.CommandTable.{row, spell}
 use Rattle.escpos_jobs.specs.Lines.{command_line, command_lines}
 
--- One line more.
+-- One more line.
 pub lines_more : (n : ℕ) (cs : List Command) (c : Command) → command_lines n (cs ++ c ∷ []) ≡ command_lines n cs ++ command_line (n + length (spell cs)) c
 lines_more n [] c = append-nil (command_line n c) ∙ ap (λ m. command_line m c) (let e : n ≡ n + 0 = omega arith in e)
 lines_more n (d ∷ cs) c =
@@ -12,7 +12,7 @@ lines_more n (d ∷ cs) c =
     ap (λ v. command_line n d ++ v) (lines_more (n + length (row d)) cs c) ∙ sym (append_assoc (command_line n d) (command_lines (n + length (row d)) cs) _)
     ∙ ap (λ m. command_lines n (d ∷ cs) ++ command_line m c) place
 
--- One line more after other bytes.
+-- One more line after other bytes.
 pub lines_after : (total : List ℕ) (cs : List Command) (c : Command) (place : ℕ) → place ≡ length (spell cs)
     → (total ++ command_lines 0 cs) ++ command_line place c ≡ total ++ command_lines 0 (cs ++ c ∷ [])
 lines_after total cs c place e =

@@ -1,4 +1,4 @@
--- What a host hears puts nothing more out: what it has still to say stays as it is, or is dropped with the link.
+-- What a host hears puts nothing more out: what it still has to say stays as it is, or is dropped with the link.
 use Rattle.std.proofs.Common.{◌≡◌, ◌≢◌, ◌≤◌, ℕ, List, [], length, arith, refl, ap, inl, inr}
 use Rattle.escpos_command.specs.declared.answer.Answer.{Answer}
 use Rattle.escpos_host.specs.declared.host.HostEvent.{HostEvent}
@@ -55,7 +55,7 @@ is_quiet h bytes consumed e after heard = elim heard [
   | inr (at, half, inside, some, count, passed, byte) ↦ hears_byte (with_half h half) _ at e after byte
 ]
 
--- so it is whether there is a link or not
+-- so it is with and without a link
 pub stays_quiet : (phase : Phase) (h : HostView) (bytes : List ℕ) (consumed : ℕ) (e : HostEvent) (after : HostView)
     → (phase ≡ Down → (consumed ≡ length bytes) × (e ≡ event.None) × (after ≡ h)) → (phase ≢ Down → IsHeard h bytes consumed e after) → IsQuiet h after
 stays_quiet Down h bytes consumed e after down up = same h after (ap out_of (down refl).2)

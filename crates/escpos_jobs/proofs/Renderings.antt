@@ -10,9 +10,9 @@ use Rattle.escpos_paper.specs.Page.{Sheet, SheetIs}
 use Rattle.escpos_paper.specs.Torn.{bare, below}
 use Rattle.escpos_paper.specs.Printed.{printed}
 use Rattle.escpos_paper.specs.ItemsText.{item_text, items_text}
-use Rattle.escpos_jobs.specs.Render.{IsRendered}
+use Rattle.escpos_jobs.specs.RenderSteps.{IsRendered}
 
--- The text of the front of some items, and of the next one.
+-- The text of the first of some items, and of the next one.
 pub one_more : (items : List Item) (i : ℕ) (x : Item) → i < length items → x ≡ get_or items i x
     → items_text (take i items) ++ item_text x ≡ items_text (take (i + 1) items)
 one_more items i x h e =
@@ -22,7 +22,7 @@ one_more items i x h e =
 pub all_items : (items : List Item) (i : ℕ) → length items ≤ i → items_text (take i items) ≡ items_text items
 all_items items i h = ap items_text (take_all i items h)
 
--- What a command left below the paper that was torn off is torn off too, and its text given.
+-- What a command left after the paper that was torn off is torn off too, and its text given.
 pub rendered_on : (first sink : Option (List ℕ)) (gather : Gathered) (left torn : Sheet) (cs : List Command) (c : Command)
     → SheetIs (below (printed cs) left) [] (cs ++ c ∷ []) → torn ≡ bare left
     → Carries first sink gather (items_text (printed cs) ++ items_text left.items) → IsRendered first sink gather torn (cs ++ c ∷ [])

@@ -1,4 +1,4 @@
--- What a job prints of a byte stream, from how far the stream was read.
+-- What a job prints for a byte stream, from how far the stream was read.
 use Rattle.std.proofs.Common.{◌≡◌, ◌≢◌, ℕ, refl, inl, inr, List, [], ◌∷◌, ◌++◌, length, take, drop, append_assoc, append-nil, sym, ◌∙◌, ap, subst, arith, Result, Ok, Err, OnOk, false}
 use Rattle.std.specs.Prelude.{is_err, IsTrue, IsErr, IfSome, Option, Some, None, codes, ◌<◌, ◌≤◌}
 use Rattle.hex.specs.Hex.{decode_of}
@@ -18,7 +18,7 @@ use Rattle.escpos_jobs.specs.Hexadecimal.{IsHexadecimal, digits_of}
 use Rattle.escpos_jobs.specs.declared.status.Status.{Status}
 use Rattle.escpos_jobs.specs.declared.status.Status.TheVariants.{Good, Refused, Usage, Device, Memory}
 use Rattle.escpos_jobs.specs.Lines.{fault_line}
-use Rattle.escpos_jobs.specs.Outcome.{Outcome, Says, Refuses, StatusFits, memory_line}
+use Rattle.escpos_jobs.specs.Ending.{JobEnd, PrintsText, RefusesInput, StatusFits, memory_line}
 use Rattle.escpos_jobs.specs.Report.{Shape, Reports, Runs, IsOfContent, IsCutShort}
 
 -- The call has succeeded.
@@ -28,26 +28,26 @@ succeeded (Err d) e h = absurd cc
 
 -- ## Statuses
 
-no_device : (o : Outcome) → IsOfContent o.status → o.status ≢ Device
+no_device : (o : JobEnd) → IsOfContent o.status → o.status ≢ Device
 no_device o (inl e) d = let h = sym e ∙ d in cc
 no_device o (inr e) d = let h = sym e ∙ d in cc
 
-memory_no_device : (o : Outcome) → o.status ≡ Memory → o.status ≢ Device
+memory_no_device : (o : JobEnd) → o.status ≡ Memory → o.status ≢ Device
 memory_no_device o e d = let h = sym e ∙ d in cc
 
-content_no_memory : (o : Outcome) → IsOfContent o.status → o.status ≢ Memory
+content_no_memory : (o : JobEnd) → IsOfContent o.status → o.status ≢ Memory
 content_no_memory o (inl e) m = let h = sym e ∙ m in cc
 content_no_memory o (inr e) m = let h = sym e ∙ m in cc
 
 -- Where the sink has not failed the status is the one that was wanted.
-as_wanted : (o : Outcome) (text : List ℕ) (wanted : Status) → Says o text wanted → o.status ≢ Device → o.status ≡ wanted
+as_wanted : (o : JobEnd) (text : List ℕ) (wanted : Status) → PrintsText o text wanted → o.status ≢ Device → o.status ≡ wanted
 as_wanted o text wanted s d = elim s.ends [ inl e ↦ e | inr e ↦ absurd (d e.0) ]
 
 -- A failed sink alone gives a status that wasn't wanted.
-pub device_failed : (o : Outcome) (text : List ℕ) (wanted : Status) → Says o text wanted → wanted ≢ Device → o.status ≡ Device → IsTrue o.failed
+pub device_failed : (o : JobEnd) (text : List ℕ) (wanted : Status) → PrintsText o text wanted → wanted ≢ Device → o.status ≡ Device → IsTrue o.failed
 device_failed o text wanted s other e = elim s.ends [ inl h ↦ absurd (other (sym h ∙ e)) | inr h ↦ h.1 ]
 
-pub never_usage : (o : Outcome) (text : List ℕ) (wanted : Status) → Says o text wanted → wanted ≢ Usage → o.status ≢ Usage
+pub never_usage : (o : JobEnd) (text : List ℕ) (wanted : Status) → PrintsText o text wanted → wanted ≢ Usage → o.status ≢ Usage
 never_usage o text wanted s other u = elim s.ends [ inl h ↦ other (sym h ∙ u) | inr h ↦ let k = sym h.0 ∙ u in cc ]
 
 pub memory_is_no_device : Memory ≢ Device
@@ -72,8 +72,8 @@ refused_fits status half (inr e) h = e.1
 
 -- All bytes were read.
 pub reports_read : ((bs : List ℕ) (cs ds : List Command) (x y : List ℕ) → Reads bs cs x → Reads bs ds y → (cs ≡ ds) × (x ≡ y))
-    → (shape : Shape) (o : Outcome) (bytes half line : List ℕ) (cs : List Command) (status : Status) → Reads bytes cs half
-    → line ≡ shape.last (length bytes) (length half) → StatusFits status (length half) → Says o (shape.gives cs ++ line) status → Reports shape o bytes
+    → (shape : Shape) (o : JobEnd) (bytes half line : List ℕ) (cs : List Command) (status : Status) → Reads bytes cs half
+    → line ≡ shape.last (length bytes) (length half) → StatusFits status (length half) → PrintsText o (shape.gives cs ++ line) status → Reports shape o bytes
 reports_read one shape o bytes half line cs status r l fits s = record {
   text = λ content. (shape.gives cs ++ line, inl (cs, half, r, ap (λ v. shape.gives cs ++ v) l), s.out (no_device o content));
   good = λ e.
@@ -88,8 +88,8 @@ reports_read one shape o bytes half line cs status r l fits s = record {
 
 -- A byte was refused.
 pub reports_refused : ((bs : List ℕ) → IsRead bs → IsRefused bs → ⊥)
-    → (shape : Shape) (o : Outcome) (bytes rest line : List ℕ) (cs : List Command) (place : ℕ) (why : FaultReason) → FaultAt bytes cs rest place why
-    → line ≡ fault_line place why → Says o (shape.gives cs ++ line) Refused → Reports shape o bytes
+    → (shape : Shape) (o : JobEnd) (bytes rest line : List ℕ) (cs : List Command) (place : ℕ) (why : FaultReason) → FaultAt bytes cs rest place why
+    → line ≡ fault_line place why → PrintsText o (shape.gives cs ++ line) Refused → Reports shape o bytes
 reports_refused not_both shape o bytes rest line cs place why f l s = record {
   text = λ content. (shape.gives cs ++ line, inr (cs, rest, place, why, f, ap (λ v. shape.gives cs ++ v) l), s.out (no_device o content));
   good = λ e. let k = sym e ∙ as_wanted o _ Refused s (no_device o (inl e)) in absurd cc;
@@ -97,9 +97,9 @@ reports_refused not_both shape o bytes rest line cs place why f l s = record {
   memory = λ e. let k = sym e ∙ as_wanted o _ Refused s (memory_no_device o e) in absurd cc;
 }
 
--- Memory has run out after a front of the bytes.
-pub reports_cut_short : (shape : Shape) (o : Outcome) (bytes half : List ℕ) (k : ℕ) (cs : List Command) → Reads (take k bytes) cs half
-    → Says o (shape.gives cs ++ memory_line) Memory → Reports shape o bytes
+-- Memory ran out after a prefix of the bytes.
+pub reports_cut_short : (shape : Shape) (o : JobEnd) (bytes half : List ℕ) (k : ℕ) (cs : List Command) → Reads (take k bytes) cs half
+    → PrintsText o (shape.gives cs ++ memory_line) Memory → Reports shape o bytes
 reports_cut_short shape o bytes half k cs r s = record {
   text = λ content. absurd (content_no_memory o content (as_wanted o _ Memory s (no_device o content)));
   good = λ e. let h = sym e ∙ as_wanted o _ Memory s (no_device o (inl e)) in absurd cc;
@@ -114,7 +114,7 @@ all_front (c ∷ cs) ds h = (h.0, all_front cs ds h.1)
 take_front : (front more : List ℕ) → take (length front) (front ++ more) ≡ front
 take_front front more = let within : length front ≤ length front = omega arith in rw (take-append-le (length front) front more within) (take_all (length front) front within)
 
--- A front that ends in a command has a front without it.
+-- A prefix that ends in a command has a prefix without it.
 pub front_without : (bytes : List ℕ) (k : ℕ) (cs : List Command) (c : Command) → Reads (take k bytes) (cs ++ c ∷ []) []
     → (j : ℕ) × Reads (take j bytes) cs []
 front_without bytes k cs c r =
@@ -122,12 +122,12 @@ front_without bytes k cs c r =
     sym (take-append-drop k bytes) ∙ ap (λ v. v ++ drop k bytes) (r.whole ∙ ap (λ v. v ++ []) (flat_map-append row cs (c ∷ [])) ∙ append_assoc (spell cs) (spell (c ∷ [])) [])
     ∙ append_assoc (spell cs) (spell (c ∷ []) ++ []) (drop k bytes) in
     let front : take (length (spell cs)) bytes ≡ spell cs = ap (take (length (spell cs))) whole ∙ take_front (spell cs) _ in
-    (length (spell cs), record { commands = all_front cs (c ∷ []) r.commands; whole = front ∙ sym (append-nil (spell cs)); left = inl refl })
+    (length (spell cs), record { commands = all_front cs (c ∷ []) r.commands; whole = front ∙ sym (append-nil (spell cs)); rest_is = inl refl })
 
 reads_nothing : Reads [] [] []
-reads_nothing = record { commands = tt; whole = refl; left = inl refl }
+reads_nothing = record { commands = tt; whole = refl; rest_is = inl refl }
 
--- The bytes couldn't even be read, for want of memory.
+-- The bytes couldn't even be read, because an allocation failed.
 pub cut_short_at_once : (shape : Shape) (before after : Option (List ℕ)) (bytes : List ℕ) → Appends before after memory_line
     → (text : List ℕ) × IsCutShort shape bytes text × Appends before after text
 cut_short_at_once shape before after bytes out =
@@ -140,35 +140,35 @@ pub record Shows (fault : InputFault) (input : List ℕ) : Type 0 where
   pub too_long : fault ≡ fault_kind.TooLong → INPUT_LIMIT < length input
   pub not_hexadecimal : fault ≡ fault_kind.NotHexadecimal → (length input ≤ INPUT_LIMIT) × IsErr (decode_of (digits_of input))
 
--- What is said of an input fault.
-pub record Answers (fault : InputFault) (o : Outcome) : Type 0 where
-  pub too_long : fault ≡ fault_kind.TooLong → Says o (codes "refused input\n") Refused
-  pub not_hexadecimal : fault ≡ fault_kind.NotHexadecimal → Says o (codes "refused hex\n") Refused
-  pub memory : fault ≡ fault_kind.Memory → Says o memory_line Memory
+-- What is printed for an input fault.
+pub record Answers (fault : InputFault) (o : JobEnd) : Type 0 where
+  pub too_long : fault ≡ fault_kind.TooLong → PrintsText o (codes "refused input\n") Refused
+  pub not_hexadecimal : fault ≡ fault_kind.NotHexadecimal → PrintsText o (codes "refused hex\n") Refused
+  pub memory : fault ≡ fault_kind.Memory → PrintsText o memory_line Memory
   pub device : fault ≡ fault_kind.Device → o.status ≡ Device
 
-refuses : (o : Outcome) (line : List ℕ) → Says o line Refused → Refuses o line
+refuses : (o : JobEnd) (line : List ℕ) → PrintsText o line Refused → RefusesInput o line
 refuses o line s = record {
   never_good = λ e. let h = sym e ∙ as_wanted o line Refused s (no_device o (inl e)) in cc;
   refusal = λ e. s.out (no_device o (inr e));
   memory = λ e. let h = sym e ∙ as_wanted o line Refused s (memory_no_device o e) in absurd cc;
 }
 
-refuses_at_device : (o : Outcome) (line : List ℕ) → o.status ≡ Device → Refuses o line
+refuses_at_device : (o : JobEnd) (line : List ℕ) → o.status ≡ Device → RefusesInput o line
 refuses_at_device o line d = record {
   never_good = λ e. let h = sym e ∙ d in cc;
   refusal = λ e. let h = sym e ∙ d in absurd cc;
   memory = λ e. let h = sym e ∙ d in absurd cc;
 }
 
-refuses_at_memory : (o : Outcome) (line : List ℕ) → Says o memory_line Memory → Refuses o line
+refuses_at_memory : (o : JobEnd) (line : List ℕ) → PrintsText o memory_line Memory → RefusesInput o line
 refuses_at_memory o line s = record {
   never_good = λ e. let h = sym e ∙ as_wanted o memory_line Memory s (no_device o (inl e)) in cc;
   refusal = λ e. let h = sym e ∙ as_wanted o memory_line Memory s (no_device o (inr e)) in absurd cc;
   memory = λ e. s.out (memory_no_device o e);
 }
 
-reports_at_device : (shape : Shape) (o : Outcome) (bytes : List ℕ) → o.status ≡ Device → Reports shape o bytes
+reports_at_device : (shape : Shape) (o : JobEnd) (bytes : List ℕ) → o.status ≡ Device → Reports shape o bytes
 reports_at_device shape o bytes d = record {
   text = λ content. absurd (no_device o content d);
   good = λ e. absurd (no_device o (inl e) d);
@@ -176,7 +176,7 @@ reports_at_device shape o bytes d = record {
   memory = λ e. absurd (memory_no_device o e d);
 }
 
-reports_at_memory : (shape : Shape) (o : Outcome) (bytes : List ℕ) → Says o memory_line Memory → Reports shape o bytes
+reports_at_memory : (shape : Shape) (o : JobEnd) (bytes : List ℕ) → PrintsText o memory_line Memory → Reports shape o bytes
 reports_at_memory shape o bytes s = record {
   text = λ content. absurd (content_no_memory o content (as_wanted o memory_line Memory s (no_device o content)));
   good = λ e. absurd (content_no_memory o (inl e) (as_wanted o memory_line Memory s (no_device o (inl e))));
@@ -190,7 +190,7 @@ both_lengths input h k = omega arith
 decoded_or_not : (input bytes : List ℕ) → IsErr (decode_of (digits_of input)) → IsHexadecimal input bytes → ⊥
 decoded_or_not input bytes h e = let clash = subst (λ r. IsErr r) e h in absurd cc
 
-runs_by : (shape : Shape) (o : Outcome) (fault : InputFault) (input : List ℕ) → Shows fault input → Answers fault o → Runs shape o input
+runs_by : (shape : Shape) (o : JobEnd) (fault : InputFault) (input : List ℕ) → Shows fault input → Answers fault o → Runs shape o input
 runs_by shape o fault_kind.TooLong input h s = record {
   too_long = λ long. refuses o _ (s.too_long refl);
   not_hexadecimal = λ short e. absurd (both_lengths input (h.too_long refl) short);
@@ -213,7 +213,7 @@ runs_by shape o fault_kind.Memory input h s = record {
 }
 
 -- Where the source can name its bytes.
-pub runs_refused : (shape : Shape) (o : Outcome) (fault : InputFault) (known : Option (List ℕ)) → (fault ≡ fault_kind.TooLong → IfSome known (λ text. INPUT_LIMIT < length text))
+pub runs_refused : (shape : Shape) (o : JobEnd) (fault : InputFault) (known : Option (List ℕ)) → (fault ≡ fault_kind.TooLong → IfSome known (λ text. INPUT_LIMIT < length text))
     → (fault ≡ fault_kind.NotHexadecimal → IfSome known (λ text. (length text ≤ INPUT_LIMIT) × IsErr (decode_of (digits_of text)))) → Answers fault o
     → IfSome known (λ text. Runs shape o text)
 runs_refused shape o fault None long bad s = tt

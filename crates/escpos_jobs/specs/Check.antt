@@ -1,12 +1,12 @@
 -- What `check` prints: a line for each command, and always a last line.
 use Rattle.std.specs.Prelude.{ℕ, List, refl}
 use Rattle.escpos_jobs.specs.Lines.{command_lines, end_line}
-use Rattle.escpos_jobs.specs.Outcome.{Outcome}
+use Rattle.escpos_jobs.specs.Ending.{JobEnd}
 use Rattle.escpos_jobs.specs.Report.{Shape, Runs}
 
 abbrev pub listing_shape : Shape
 listing_shape = record { gives = command_lines 0; last = end_line; starts_empty = refl }
 
 -- What `check` does with its input.
-abbrev pub Checks : Outcome → List ℕ → Type 0
+abbrev pub Checks : JobEnd → List ℕ → Type 0
 Checks o input = Runs listing_shape o input

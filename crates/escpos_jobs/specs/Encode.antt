@@ -1,29 +1,29 @@
--- What `encode` prints of a receipt's text in JSON, and its exit status.
+-- What `encode` prints for a receipt's text in JSON, and its exit status.
 use Rattle.std.specs.Prelude.{ℕ, ◌≡◌, ◌<◌, ◌≤◌, List, [], ◌∷◌, ◌++◌, length, codes}
 use Rattle.hex.specs.Hex.{encode_lower}
 use Rattle.escpos_command.specs.declared.bytes.TheConstants.{LF}
 use Rattle.escpos_command.specs.declared.command.Command.{Command}
 use Rattle.escpos_command.specs.CommandTable.{spell}
-use Rattle.escpos_host.specs.declared.json.JsonFault.{JsonFault}
-use Rattle.escpos_host.specs.Describes.{Describes, IsJsonFault}
-use Rattle.escpos_host.specs.Whole.{Whole}
+use Rattle.escpos_receipt.specs.declared.json.JsonFault.{JsonFault}
+use Rattle.escpos_receipt.specs.Describes.{Describes, IsJsonFault}
+use Rattle.escpos_receipt.specs.Whole.{Whole}
 use Rattle.escpos_jobs.specs.declared.input.TheConstants.{INPUT_LIMIT}
 use Rattle.escpos_jobs.specs.declared.status.Status.TheVariants.{Good, Refused, Memory}
-use Rattle.escpos_jobs.specs.Outcome.{Outcome, Puts, Refuses, memory_line}
+use Rattle.escpos_jobs.specs.Ending.{JobEnd, Puts, RefusesInput, memory_line}
 use Rattle.escpos_jobs.specs.Refusal.{refusal_line}
 
 -- The bytes of the commands as hexadecimal text, in one line.
 abbrev pub digits_line : List Command → List ℕ
 digits_line cs = encode_lower (spell cs) ++ LF ∷ []
 
--- What is done with a text: the line of a receipt that it describes goes out, or the line of a reason for which it
--- describes none; or, for want of memory, the one that says so.
-pub record EncodesText (o : Outcome) (text : List ℕ) : Type 0 where
+-- What is done with a text: the line of a receipt that it describes is printed, or the line of a reason for which it
+-- describes none; or, if an allocation fails, the one that says so.
+pub record EncodesText (o : JobEnd) (text : List ℕ) : Type 0 where
   pub good : o.status ≡ Good → (cs : List Command) × Describes text cs × Whole cs × Puts o (digits_line cs)
   pub refused : o.status ≡ Refused → (why : JsonFault) × IsJsonFault why text × Puts o (refusal_line why)
   pub memory : o.status ≡ Memory → Puts o memory_line
 
 -- What `encode` does with its input: too long, or a text.
-pub record Encodes (o : Outcome) (input : List ℕ) : Type 0 where
-  pub too_long : INPUT_LIMIT < length input → Refuses o (codes "refused input\n")
+pub record Encodes (o : JobEnd) (input : List ℕ) : Type 0 where
+  pub too_long : INPUT_LIMIT < length input → RefusesInput o (codes "refused input\n")
   pub short : length input ≤ INPUT_LIMIT → EncodesText o input

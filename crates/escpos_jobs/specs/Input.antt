@@ -1,4 +1,4 @@
--- Why an input gives no bytes: what the errors below it come to.
+-- Why an input gives no bytes, by the errors of the layers below.
 use Rattle.escpos_io.specs.declared.reading.ReadError.{ReadError}
 use Rattle.escpos_io.specs.declared.reading.ReadError.TheVariants as reading
 use Rattle.escpos_jobs.specs.declared.hexadecimal.HexFault.{HexFault}

@@ -1,5 +1,5 @@
 pub mod Status
-pub mod Outcome
+pub mod Ending
 pub mod Hexadecimal
 pub mod Input
 pub mod Notes
@@ -13,5 +13,10 @@ pub mod Encode
 pub mod Links
 pub mod Send
 pub mod Broken
-pub mod Told
+pub mod ScriptOutput
 pub mod Play
+pub mod Perform
+pub mod ScriptSteps
+pub mod RenderSteps
+pub mod LastText
+pub mod ScriptLines

@@ -1,5 +1,5 @@
--- The lines of a listing, one for each command, with a note on a barcode whose check digit is wrong, and a last one. All numbers are decimal, and a byte is two
--- lower-case hexadecimal digits.
+-- The lines of a listing, one for each command, with a note on a barcode whose check digit is wrong, and a last one. All
+-- numbers are decimal, and a byte is two lower-case hexadecimal digits.
 use Rattle.std.specs.Prelude.{ℕ, ◌+◌, List, [], ◌∷◌, ◌++◌, length, codes, decimal}
 use Rattle.escpos_command.specs.Barcodes.{barcode_mode}
 use Rattle.escpos_jobs.specs.Notes.{note_of}
@@ -9,12 +9,12 @@ use Rattle.escpos_command.specs.declared.bytes.TheConstants.{LF}
 use Rattle.escpos_command.specs.declared.command.Command.{Command}
 use Rattle.escpos_command.specs.declared.command.Command.TheVariants as kind
 use Rattle.escpos_command.specs.declared.fault.FaultReason.{FaultReason}
-use Rattle.escpos_command.specs.Places.{number_of, name_of}
+use Rattle.escpos_command.specs.Places.{reason_number, reason_name}
 use Rattle.escpos_command.specs.CommandTable.{row, entry_of}
 use Rattle.escpos_jobs.specs.declared.lines.TheConstants.{SPACE}
 use Rattle.escpos_jobs.specs.declared.lines.Last.{Last}
 use Rattle.escpos_jobs.specs.declared.lines.Last.TheVariants.{Nothing, End, Fault, Memory}
-use Rattle.escpos_jobs.specs.Outcome.{memory_line}
+use Rattle.escpos_jobs.specs.Ending.{memory_line}
 
 -- The name of a command.
 abbrev pub word_of : Command → List ℕ
@@ -58,7 +58,7 @@ values_of c = flat_map byte_value (entry_of c).parameters
 abbrev pub command_line : ℕ → Command → List ℕ
 command_line place c = decimal place ++ SPACE ∷ [] ++ word_of c ++ values_of c ++ LF ∷ [] ++ note_of place c
 
--- The lines of commands, the first of which has so many bytes before it.
+-- The lines of commands, the first of which has this many bytes before it.
 abbrev pub command_lines : ℕ → List Command → List ℕ
 command_lines place [] = []
 command_lines place (c ∷ cs) = command_line place c ++ command_lines (place + length (row c)) cs
@@ -69,11 +69,4 @@ end_line count half = codes "end " ++ decimal count ++ codes " pending " ++ deci
 
 -- The last line where a byte is refused: its place in the input, and the reason's number and name.
 abbrev pub fault_line : ℕ → FaultReason → List ℕ
-fault_line place why = codes "fault " ++ decimal place ++ SPACE ∷ [] ++ decimal (number_of why) ++ SPACE ∷ [] ++ name_of why ++ LF ∷ []
-
--- The last line of a text.
-abbrev pub last_text : Last → List ℕ
-last_text Nothing = []
-last_text (End count half) = end_line count half
-last_text (Fault place why) = fault_line place why
-last_text Memory = memory_line
+fault_line place why = codes "fault " ++ decimal place ++ SPACE ∷ [] ++ decimal (reason_number why) ++ SPACE ∷ [] ++ reason_name why ++ LF ∷ []

@@ -1,4 +1,4 @@
--- What `emulate` prints of a link.
+-- What `emulate` prints for a link.
 use Rattle.std.specs.Prelude.{ℕ, List, [], ◌∷◌, ◌++◌, codes, decimal}
 use Rattle.escpos_command.specs.declared.bytes.TheConstants.{LF}
 use Rattle.escpos_printer.specs.declared.serve.Served.{Served}

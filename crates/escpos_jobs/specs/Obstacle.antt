@@ -1,4 +1,4 @@
--- The two obstacles of a job are two.
+-- The two obstacles of a job are different. Only private clauses, invariants and proofs use these definitions.
 use Rattle.std.specs.Prelude.{◌≡◌}
 use Rattle.std.proofs.Common.{sym}
 use Rattle.escpos_jobs.specs.declared.job.Obstacle.TheVariants.{Memory, Device}

@@ -7,7 +7,7 @@ use Rattle.escpos_paper.specs.Torn.{below}
 use Rattle.escpos_paper.specs.Printed.{printed}
 use Rattle.escpos_paper.specs.ItemsText.{items_text}
 use Rattle.escpos_jobs.specs.Lines.{end_line}
-use Rattle.escpos_jobs.specs.Outcome.{Outcome}
+use Rattle.escpos_jobs.specs.Ending.{JobEnd}
 use Rattle.escpos_jobs.specs.Report.{Shape, Runs}
 
 -- The last line of the listing, where a half command is left.
@@ -18,11 +18,5 @@ abbrev pub paper_shape : Shape
 paper_shape = record { gives = λ cs. items_text (printed cs); last = half_line; starts_empty = refl }
 
 -- What `render` does with its input.
-abbrev pub RendersInput : Outcome → List ℕ → Type 0
+abbrev pub RendersInput : JobEnd → List ℕ → Type 0
 RendersInput o input = Runs paper_shape o input
-
--- Of these commands everything that is printed was torn off the sheet, and its text is out or kept back.
-pub record IsRendered (first sink : Option (List ℕ)) (gather : Gathered) (sheet : Sheet) (cs : List Command) : Type 0 where
-  pub torn : sheet.items ≡ []
-  pub sheet_is : SheetIs (below (printed cs) sheet) [] cs
-  pub carried : Carries first sink gather (items_text (printed cs))

@@ -1,5 +1,5 @@
--- What a job prints of a byte stream, and its exit status. A listing and a paper have one shape: what the commands
--- give, and then the last line.
+-- What a job prints for a byte stream, and its exit status. A listing and a paper have one shape: what the commands give,
+-- then the last line.
 use Rattle.std.specs.Prelude.{ℕ, ◌≡◌, ◌<◌, ◌≤◌, ◌⊎◌, List, [], ◌++◌, length, take, codes, IsErr}
 use Rattle.hex.specs.Hex.{decode_of}
 use Rattle.escpos_command.specs.declared.command.Command.{Command}
@@ -10,10 +10,10 @@ use Rattle.escpos_jobs.specs.declared.status.Status.{Status}
 use Rattle.escpos_jobs.specs.declared.status.Status.TheVariants.{Good, Refused, Memory}
 use Rattle.escpos_jobs.specs.Hexadecimal.{IsHexadecimal, digits_of}
 use Rattle.escpos_jobs.specs.Lines.{fault_line}
-use Rattle.escpos_jobs.specs.Outcome.{Outcome, Puts, Refuses, memory_line}
+use Rattle.escpos_jobs.specs.Ending.{JobEnd, Puts, RefusesInput, memory_line}
 
--- What distinguishes the text of one job from that of another: what commands give (no command gives nothing), and the
--- last line where so many bytes are read and so many of them are a half command.
+-- What distinguishes the text of one job from that of another: what commands give (no command gives nothing), and the last
+-- line where this many bytes are read and this many of them are a half command.
 pub record Shape : Type 0 where
   pub gives : List Command → List ℕ
   pub last : ℕ → ℕ → List ℕ
@@ -26,8 +26,8 @@ IsText shape bytes text =
     ((cs : List Command) × (rest : List ℕ) × Reads bytes cs rest × (text ≡ shape.gives cs ++ shape.last (length bytes) (length rest)))
     ⊎ ((cs : List Command) × (rest : List ℕ) × (place : ℕ) × (why : FaultReason) × FaultAt bytes cs rest place why × (text ≡ shape.gives cs ++ fault_line place why))
 
--- What is printed where memory runs out: what the commands of some front of the bytes give, none where the bytes
--- couldn't even be read, and the line that says so.
+-- What is printed when memory runs out: what the commands of some prefix of the bytes give, nothing if the bytes couldn't
+-- even be read, then the line that says so.
 abbrev pub IsCutShort : Shape → List ℕ → List ℕ → Type 0
 IsCutShort shape bytes text = (k : ℕ) × (cs : List Command) × (rest : List ℕ) × Reads (take k bytes) cs rest × (text ≡ shape.gives cs ++ memory_line)
 
@@ -39,16 +39,16 @@ IsAllRead bytes = (cs : List Command) × Reads bytes cs []
 abbrev pub IsOfContent : Status → Type 0
 IsOfContent status = (status ≡ Good) ⊎ (status ≡ Refused)
 
--- What a job does with these bytes: their text goes out, and the status is good exactly where all is read. For want
--- of memory the text is cut short.
-pub record Reports (shape : Shape) (o : Outcome) (bytes : List ℕ) : Type 0 where
+-- What a job does with these bytes: their text is printed, and the status is good exactly if all is read. If an allocation
+-- fails, the text is cut short.
+pub record Reports (shape : Shape) (o : JobEnd) (bytes : List ℕ) : Type 0 where
   pub text : IsOfContent o.status → (text : List ℕ) × IsText shape bytes text × Puts o text
   pub good : o.status ≡ Good → IsAllRead bytes
   pub refused : o.status ≡ Refused → IsAllRead bytes → ⊥
   pub memory : o.status ≡ Memory → (text : List ℕ) × IsCutShort shape bytes text × Puts o text
 
 -- What a job does with its input: too long, not hexadecimal, or bytes.
-pub record Runs (shape : Shape) (o : Outcome) (input : List ℕ) : Type 0 where
-  pub too_long : INPUT_LIMIT < length input → Refuses o (codes "refused input\n")
-  pub not_hexadecimal : length input ≤ INPUT_LIMIT → IsErr (decode_of (digits_of input)) → Refuses o (codes "refused hex\n")
+pub record Runs (shape : Shape) (o : JobEnd) (input : List ℕ) : Type 0 where
+  pub too_long : INPUT_LIMIT < length input → RefusesInput o (codes "refused input\n")
+  pub not_hexadecimal : length input ≤ INPUT_LIMIT → IsErr (decode_of (digits_of input)) → RefusesInput o (codes "refused hex\n")
   pub hexadecimal : (bytes : List ℕ) → length input ≤ INPUT_LIMIT → IsHexadecimal input bytes → Reports shape o bytes

@@ -1,4 +1,4 @@
--- What a shell learns of a run.
+-- The exit status of a run.
 use Rattle.std.specs.Prelude.{ℕ}
 use Rattle.escpos_jobs.specs.declared.status.Status.{Status}
 use Rattle.escpos_jobs.specs.declared.status.Status.TheVariants.{Good, Refused, Usage, Device, Memory}

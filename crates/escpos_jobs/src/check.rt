@@ -1,11 +1,11 @@
-//! The job `check`: a byte stream as a listing of its commands. Each line goes out as its command comes.
+//! The job `check`: a byte stream as a listing of its commands. Each line is given to the output as its command comes.
 
 ghost use Rattle.std.specs.Prelude.{◌≡◌, ◌≢◌, ◌⊎◌, ◌+◌, ◌≤◌, ◌++◌, [], ℕ, List, Option, IfSome, IsTrue};
 ghost use Rattle.std.proofs.Common.{subst, sym, append-nil};
 ghost use Rattle.escpos_io.specs.Gather.{Carries};
 ghost use Rattle.escpos_jobs.specs.declared.job.Obstacle.TheVariants as obstacle;
 ghost use Rattle.escpos_jobs.specs.Lines.{command_lines};
-ghost use Rattle.escpos_jobs.specs.Outcome.{IsFair, outcome};
+ghost use Rattle.escpos_jobs.specs.Ending.{IsFair, job_end};
 ghost use Rattle.escpos_jobs.specs.Obstacle.{memory_is_no_device};
 ghost use Rattle.escpos_jobs.specs.Check.{Checks, listing_shape};
 
@@ -14,14 +14,14 @@ use crate::lines::{LINE_BYTES, Last, append_line};
 use crate::status::Status;
 use escpos_command::Command;
 use escpos_decode::Consumer;
-use escpos_io::{ByteIn, ByteOut, Gather, laws};
+use escpos_io::{ByteIn, ByteOut, Gather};
 use std::alloc::Global;
 
 /// Reads a stream in hexadecimal from `input` and lists its commands on `output`.
 ///
-/// `run` says which status comes when. At `Memory` the line `memory` follows the lines of the commands so far.
+/// `run` says which status comes when. With `Memory` the line `memory` follows the lines of the commands so far.
 pub fn check<R: ByteIn, W: ByteOut>(alloc: Global, input: &mut R, output: &mut W) -> Status
-    ensures checks { IfSome (R.to_come input.old) (λ text. Checks (outcome (W.written output.old) (W.written output.new) (W.failed output.new) result) text) }
+    ensures checks { IfSome (R.to_come input.old) (λ text. Checks (job_end (W.written output.old) (W.written output.new) (W.failed output.new) result) text) }
     ensures fair { IsFair result (R.failed input.new) (W.failed output.old, W.failed output.new)
         (R.pull_count input.old, R.pull_count input.new) }
     ensures nothing_put { IsTrue (R.failed input.new) → output.new ≡ output.old }
@@ -29,7 +29,7 @@ pub fn check<R: ByteIn, W: ByteOut>(alloc: Global, input: &mut R, output: &mut W
     run::<R, W, Listing>(alloc, input, output)
 }
 
-// The lines that aren't out yet.
+// The lines that aren't printed yet.
 #[derive(Drop)]
 struct Listing {
     gather: Gather,
@@ -38,7 +38,7 @@ struct Listing {
 impl<W: ByteOut> Consumer<W> for Listing {
     type Refusal = Obstacle;
 
-    ghost took = { λ start now cs.
+    ghost accepted = { λ start now cs.
         ((first : Option (List ℕ)) (total : List ℕ) → Carries first (W.written start.1) start.0.gather total
         → Carries first (W.written now.1) now.0.gather (total ++ command_lines 0 cs))
         × (¬ IsTrue (W.failed start.1) → ¬ IsTrue (W.failed now.1)) };
@@ -46,7 +46,6 @@ impl<W: ByteOut> Consumer<W> for Listing {
     ghost refused = { λ last now refusal. (refusal ≡ obstacle.Device) × IsTrue (W.failed now.1) };
 
     fn take(&mut self, command: Command, place: usize, output: &mut W) -> Result<(), Obstacle> {
-        laws::given_in_place();
         if let Err(_) = self.gather.room(LINE_BYTES, output) {
             return Err(Obstacle::Device);
         }

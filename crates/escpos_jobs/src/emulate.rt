@@ -1,27 +1,28 @@
-//! The word `emulate`: a printer that serves links over TCP, one after another, and writes its paper at the end.
+//! The job `emulate`: a printer that serves links over TCP, one after another, and writes its paper at the end.
 //!
-//! What a link comes to is `serve_link`'s, over any source and sink; here it is given sockets, and its end gets a line. The paper
-//! waits for the last link as text (`paper_text`): a link is served in parts, and after each its paper is torn off.
+//! Serving a link is left to `serve_link`, over any source and sink; here it is given sockets, and the end of a link prints
+//! a line. The paper waits for the last link as text (`paper_text`): a link is served in parts, and its paper is torn off
+//! after each part.
 
 ghost use Rattle.std.specs.Prelude.{◌≡◌, ◌≢◌, ◌+◌, ◌*◌, ◌≤◌, ◌++◌, List, length, IfOk, IsTrue, OnErr, OnOk};
 ghost use Rattle.std.specs.Io.KnownBytes.{Appends};
 ghost use Rattle.escpos_paper.specs.declared.item.Item.{Item};
 ghost use Rattle.escpos_paper.specs.ItemsText.{items_text};
-ghost use Rattle.escpos_printer.specs.Parts.{under};
+ghost use Rattle.escpos_printer.specs.LinkInParts.{under};
 ghost use Rattle.escpos_printer.specs.Serves.{Serves, link};
 ghost use Rattle.escpos_jobs.specs.Links.{link_line};
 
-use crate::lines::{SPACE, append_number};
-use crate::outcome::{MEMORY, say};
+use crate::lines::SPACE;
+use crate::ending::{MEMORY, say};
 use crate::paper_text::PaperText;
 use crate::status::Status;
 use escpos_command::LF;
-use escpos_io::{ByteIn, ByteOut, Device, GATHERED_BYTES, Gather, Incoming, Outgoing, laws};
+use escpos_io::{ByteIn, ByteOut, Device, GATHERED_BYTES, Gather, Incoming, Outgoing, append_number, laws};
 use escpos_printer::{Condition, LinkEnd, Printer, Served, serve_link};
 use std::alloc::Global;
 use std::net::{Net, SocketAddrV4, TcpListener, TcpStream};
 
-/// How many bytes of a link are read at most.
+/// The most bytes of a link that are read.
 pub const LINK_LIMIT: u32 = 16_777_216;
 
 const _: () = prove!(LINK_LIMIT == 16_777_216);
@@ -35,7 +36,7 @@ const _: () = prove!(PART_BYTES == 16_384);
 
 const _: () = prove!(PARTS == 1_024);
 
-/// More than the line of a link has.
+/// More bytes than the line of a link has.
 const LINE_BYTES: usize = 256;
 
 const _: () = prove!(LINE_BYTES == 256);
@@ -47,7 +48,7 @@ pub const ONLINE: Condition = Condition {
     paper_end: false,
 };
 
-/// Listens at `address`, and serves so many links as `emulate_on` does. `Device` comes where it can't listen, too.
+/// Listens at `address`, and serves `links` links as `emulate_on` does. The status is also `Device` if it can't listen.
 pub fn emulate<N: Net<Stream = TcpStream, Listener = TcpListener>, W: ByteOut>(
     net: &N,
     alloc: Global,
@@ -64,12 +65,12 @@ pub fn emulate<N: Net<Stream = TcpStream, Listener = TcpListener>, W: ByteOut>(
     }
 }
 
-/// Serves so many links of `listener`, one after another, as one printer that is online; each is read up to 16,777,216 bytes.
-/// Puts a line when a link has ended, `link I read R consumed C written W END`, and the paper at the end.
+/// Serves `links` links of `listener`, one after another, as one printer that is online; each is read up to 16,777,216
+/// bytes. Prints a line when a link has ended, `link I read R consumed C written W END`, and the paper at the end.
 ///
-/// The status is `Device` where no link could be accepted or `output` has failed. Where a link ends for want of memory no
-/// other is served: the paper follows, then the line `memory`, and the status is `Memory`. However a link ends else, the
-/// next is served, and the status is `Good`.
+/// The status is `Device` if a link can't be accepted or `output` has failed. If a link ends because memory ran out, no
+/// other is served: the paper follows, then the line `memory`, and the status is `Memory`. After any other end the next
+/// link is served, and the status is `Good`.
 pub fn emulate_on<W: ByteOut>(
     alloc: Global,
     listener: &TcpListener,
@@ -93,7 +94,7 @@ pub fn emulate_on<W: ByteOut>(
     }
 }
 
-// Serves so many links, up to the first that can't be accepted, or ends for want of memory.
+// Serves `links` links, up to the first that can't be accepted, or that ends because memory ran out.
 fn serve_links<W: ByteOut>(
     printer: &mut Printer,
     paper: &mut PaperText,
@@ -117,8 +118,8 @@ fn serve_links<W: ByteOut>(
     Status::Good
 }
 
-// Serves the link of a stream. An answer has a few bytes and is waited for, so it goes out at once; a stream that can't do
-// so is served as it is.
+// Serves the link of a stream. An answer has a few bytes and the host waits for it, so it is sent at once; a stream that
+// can't do so is served as it is.
 fn serve_stream<W: ByteOut>(
     printer: &mut Printer,
     paper: &mut PaperText,
@@ -136,7 +137,7 @@ fn serve_stream<W: ByteOut>(
     Ok(served.end)
 }
 
-/// Serves a link, tears its paper off and puts its line. `Err` comes only where `output` has failed.
+/// Serves a link, tears its paper off and prints its line. `Err` comes only if `output` has failed.
 pub fn serve_and_tell<R: ByteIn, A: ByteOut, W: ByteOut>(
     printer: &mut Printer,
     paper: &mut PaperText,
@@ -152,6 +153,7 @@ pub fn serve_and_tell<R: ByteIn, A: ByteOut, W: ByteOut>(
     ensures failed { OnErr result (IsTrue (W.failed output.new)) }
     ensures not_failed { OnOk result (¬ IsTrue (W.failed output.old) → ¬ IsTrue (W.failed output.new)) }
 {
+    // Proof only: appended bytes count as given.
     laws::given_in_place();
     let served = serve_in_parts(printer, paper, reader, writer);
     let mut gather = Gather::new();
@@ -171,6 +173,7 @@ fn serve_in_parts<R: ByteIn, A: ByteOut>(
         × Serves printer.old (link (R.to_come reader.old) (R.to_come reader.new) (A.written writer.old) (A.written writer.new))
         LINK_LIMIT result (under gone printer.new) }
 {
+    // Proof only: a link that is served in parts is served as a whole.
     escpos_printer::laws::parts();
     let mut served = serve_part(printer, paper, reader, writer);
     for _ in 1..PARTS {
@@ -189,7 +192,7 @@ fn serve_in_parts<R: ByteIn, A: ByteOut>(
     served
 }
 
-// Serves a part of a link, and tears its paper off. What was torn off before may be thought above it.
+// Serves a part of a link, and tears its paper off. What was torn off before may be imagined above it.
 fn serve_part<R: ByteIn, A: ByteOut>(
     printer: &mut Printer,
     paper: &mut PaperText,
@@ -202,6 +205,7 @@ fn serve_part<R: ByteIn, A: ByteOut>(
         PART_BYTES result (under (above ++ gone) printer.new)) }
     ensures few { result.written ≤ 112 + 224 * result.read }
 {
+    // Proof only: what stands on the paper above makes no difference, and the printer's sheet is one that commands leave.
     escpos_printer::laws::paper_above();
     let _ = printer.items();
     let served = serve_link(printer, reader, writer, PART_BYTES);
@@ -209,11 +213,11 @@ fn serve_part<R: ByteIn, A: ByteOut>(
     served
 }
 
-// The line of a link.
+// Appends the line of a link.
 fn append_link(gather: &mut Gather, number: u32, served: Served)
     requires { length gather.old.kept + LINE_BYTES ≤ GATHERED_BYTES }
     ensures kept { gather.new.kept ≡ gather.old.kept ++ link_line number served }
-    ensures same_count { gather.new.taken ≡ gather.old.taken }
+    ensures same_count { gather.new.written ≡ gather.old.written }
 {
     gather.extend(b"link ");
     append_number(gather, number as usize);

@@ -6,12 +6,12 @@ ghost use Rattle.escpos_command.specs.CommandTable.{row, spell};
 ghost use Rattle.escpos_io.specs.Giving.{IsGiven};
 ghost use Rattle.escpos_io.specs.Putting.{passage};
 ghost use Rattle.escpos_jobs.specs.Encode.{Encodes, EncodesText, digits_line};
-ghost use Rattle.escpos_host.specs.declared.json.JsonFault.{JsonFault};
-ghost use Rattle.escpos_jobs.specs.Outcome.{IsFair, Says, memory_line, outcome};
+ghost use Rattle.escpos_receipt.specs.declared.json.JsonFault.{JsonFault};
+ghost use Rattle.escpos_jobs.specs.Ending.{IsFair, PrintsText, memory_line, job_end};
 ghost use Rattle.escpos_jobs.specs.Refusal.{refusal_line};
 
 use crate::input::{INPUT_LIMIT, InputFault};
-use crate::outcome::refuse;
+use crate::ending::refuse;
 use crate::receipt_input::refuse_text;
 use crate::status::Status;
 use escpos_command::{Command, LF};
@@ -19,14 +19,14 @@ use escpos_host::{JsonError, Receipt};
 use escpos_io::{ByteIn, ByteOut, Device, Gather, laws, put_digits, read_to_end};
 use std::alloc::Global;
 
-/// Reads a receipt in JSON from `input`, and puts the bytes of its commands on `output`, in hexadecimal and one line.
+/// Reads a receipt in JSON from `input`, and prints the bytes of its commands on `output`, in hexadecimal and in one line.
 ///
-/// The status is `Good` where the text describes a receipt. It is `Refused` where the input is too long or the text gives no
-/// receipt, which prints the one line that says why. `Memory` comes for want of memory: then the line `memory` goes out, and
-/// nothing else. `Device` comes only where `input` or `output` has failed, and no other status hides that one of them has
-/// failed in this call; `Usage` never comes. `input` is pulled at most 16,777,217 times.
+/// The status is `Good` if the text describes a receipt. It is `Refused` if the input is too long or the text gives no
+/// receipt, for which the one line that says why is printed. It is `Memory` if an allocation failed: then the line `memory`
+/// is printed, and nothing else. `Device` comes only where `input` or `output` has failed, and no other status hides that
+/// one of them has failed in this call; `Usage` never comes. `input` is pulled at most 16,777,217 times.
 pub fn encode<R: ByteIn, W: ByteOut>(alloc: Global, input: &mut R, output: &mut W) -> Status
-    ensures encodes { IfSome (R.to_come input.old) (λ text. Encodes (outcome (W.written output.old) (W.written output.new) (W.failed output.new) result) text) }
+    ensures encodes { IfSome (R.to_come input.old) (λ text. Encodes (job_end (W.written output.old) (W.written output.new) (W.failed output.new) result) text) }
     ensures fair { IsFair result (R.failed input.new) (W.failed output.old, W.failed output.new)
         (R.pull_count input.old, R.pull_count input.new) }
     ensures nothing_put { IsTrue (R.failed input.new) → output.new ≡ output.old }
@@ -37,9 +37,9 @@ pub fn encode<R: ByteIn, W: ByteOut>(alloc: Global, input: &mut R, output: &mut 
     }
 }
 
-// Puts what the text gives.
+// Prints the line for a text.
 fn encode_text<W: ByteOut>(alloc: Global, text: &[u8], output: &mut W) -> Status
-    ensures encodes { EncodesText (outcome (W.written output.old) (W.written output.new) (W.failed output.new) result) text.now }
+    ensures encodes { EncodesText (job_end (W.written output.old) (W.written output.new) (W.failed output.new) result) text.now }
     ensures device { result ≡ Status.Device → IsTrue (W.failed output.new) }
     ensures not_hidden { result ≢ Status.Device → ¬ IsTrue (W.failed output.old) → ¬ IsTrue (W.failed output.new) }
     ensures never_usage { result ≢ Status.Usage }
@@ -47,14 +47,14 @@ fn encode_text<W: ByteOut>(alloc: Global, text: &[u8], output: &mut W) -> Status
     answer(Receipt::from_json(alloc, text), output)
 }
 
-// Puts the line of a receipt, or the line that says why there is none.
+// Prints the line of a receipt, or the line that says why there is none.
 fn answer<W: ByteOut>(read: Result<Receipt, JsonError>, output: &mut W) -> Status
     ensures receipt { IfOk read (λ receipt.
-        Says (outcome (W.written output.old) (W.written output.new) (W.failed output.new) result) (digits_line receipt) Status.Good) }
+        PrintsText (job_end (W.written output.old) (W.written output.new) (W.failed output.new) result) (digits_line receipt) Status.Good) }
     ensures refused { (fault : JsonFault) → read ≡ Err (JsonError.Refused fault) →
-        Says (outcome (W.written output.old) (W.written output.new) (W.failed output.new) result) (refusal_line fault) Status.Refused }
+        PrintsText (job_end (W.written output.old) (W.written output.new) (W.failed output.new) result) (refusal_line fault) Status.Refused }
     ensures memory { read ≡ Err JsonError.Memory →
-        Says (outcome (W.written output.old) (W.written output.new) (W.failed output.new) result) memory_line Status.Memory }
+        PrintsText (job_end (W.written output.old) (W.written output.new) (W.failed output.new) result) memory_line Status.Memory }
     ensures device { result ≡ Status.Device → IsTrue (W.failed output.new) }
     ensures never_usage { result ≢ Status.Usage }
     ensures not_hidden { result ≢ Status.Device → ¬ IsTrue (W.failed output.old) → ¬ IsTrue (W.failed output.new) }
@@ -65,9 +65,9 @@ fn answer<W: ByteOut>(read: Result<Receipt, JsonError>, output: &mut W) -> Statu
     }
 }
 
-// Puts the bytes of the commands in hexadecimal, and the end of the line.
+// Prints the bytes of the commands in hexadecimal, and the end of the line.
 fn put_line<W: ByteOut>(commands: &[Command], output: &mut W) -> Status
-    ensures says { Says (outcome (W.written output.old) (W.written output.new) (W.failed output.new) result) (digits_line commands.now) Status.Good }
+    ensures says { PrintsText (job_end (W.written output.old) (W.written output.new) (W.failed output.new) result) (digits_line commands.now) Status.Good }
     ensures not_hidden { result ≢ Status.Device → ¬ IsTrue (W.failed output.old) → ¬ IsTrue (W.failed output.new) }
 {
     let mut gather = Gather::new();
@@ -83,7 +83,7 @@ fn put_line<W: ByteOut>(commands: &[Command], output: &mut W) -> Status
     }
 }
 
-// The bytes of the commands, one after another.
+// Gives the bytes of the commands, one after another.
 fn put_commands<W: ByteOut>(
     gather: &mut Gather,
     commands: &[Command],
@@ -92,9 +92,8 @@ fn put_commands<W: ByteOut>(
     ensures { IsGiven result (passage (W.written writer.old) (W.written writer.new) (W.failed writer.old) (W.failed writer.new))
         gather.old gather.new (encode_lower (spell commands.now)) }
 {
+    // Proof only: of no bytes there are no digits, and appended bytes count as given.
     laws::digits_in_turn();
-    laws::given_in_turn();
-    laws::given_in_the_front();
     laws::given_in_place();
     for command in commands {
         put_command(gather, command, writer)?;
@@ -102,7 +101,7 @@ fn put_commands<W: ByteOut>(
     Ok(())
 }
 
-// The bytes of a command, part by part: a barcode's content and a raster's dots aren't copied.
+// Gives the bytes of a command, part by part: a barcode's content and a raster's dots aren't copied.
 fn put_command<W: ByteOut>(
     gather: &mut Gather,
     command: &Command,
@@ -111,12 +110,9 @@ fn put_command<W: ByteOut>(
     ensures { IsGiven result (passage (W.written writer.old) (W.written writer.new) (W.failed writer.old) (W.failed writer.new))
         gather.old gather.new (encode_lower (row command.now)) }
 {
-    laws::digits_in_turn();
-    laws::given_in_turn();
-    laws::given_in_the_front();
     let parts = command.parts();
-    put_digits(gather, parts.front, writer)?;
+    put_digits(gather, parts.prefix, writer)?;
     put_digits(gather, parts.parameters.as_slice(), writer)?;
     put_digits(gather, parts.content, writer)?;
-    put_digits(gather, parts.closing, writer)
+    put_digits(gather, parts.suffix, writer)
 }

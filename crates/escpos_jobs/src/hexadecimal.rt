@@ -1,4 +1,4 @@
-//! Bytes from the hexadecimal text that a person writes: digits of either case, with blanks anywhere.
+//! Bytes from hexadecimal text as a person writes it: digits of either case, with blanks anywhere.
 
 ghost use Rattle.std.specs.Prelude.{◌≡◌, ◌≢◌, ◌%◌, length, IfOk, IsErr};
 ghost use Rattle.hex.specs.Hex.{decode_of};
@@ -11,15 +11,15 @@ use thiserror::Error;
 /// Why a text gave no bytes.
 #[derive(Clone, Copy, Debug, Drop, PartialEq, Eq, Error)]
 pub enum HexFault {
-    /// It isn't hexadecimal: a byte is neither a digit nor a blank, or the digits are odd in number.
+    /// It isn't hexadecimal: a byte is neither a digit nor a blank, or the number of digits is odd.
     #[error("the text isn't hexadecimal")]
     Refused,
-    /// There was no memory for the bytes.
+    /// Out of memory.
     #[error("there wasn't enough memory")]
     Memory,
 }
 
-/// The bytes that the text writes, spaces, tabs, CR and LF left out.
+/// The bytes that the text writes; spaces, tabs, CR and LF are left out.
 pub fn bytes_of(alloc: Global, mut text: Vec<u8>) -> Result<Vec<u8>, HexFault>
     ensures bytes { IfOk result (λ v. IsHexadecimal text.items v.items) }
     ensures memory { result ≡ Err HexFault.Memory → length (digits_of text.items) % 2 ≢ 1 }
@@ -29,7 +29,7 @@ pub fn bytes_of(alloc: Global, mut text: Vec<u8>) -> Result<Vec<u8>, HexFault>
     hex::decode(alloc, text.as_slice()).map_err(fault_by)
 }
 
-// What a refusal of the digits comes to.
+// The fault for a refusal of the digits.
 fn fault_by(refusal: FromHexError) -> HexFault
     ensures refused { result ≡ HexFault.Refused → refusal ≢ FromHexError.OutOfMemory }
     ensures memory { result ≡ HexFault.Memory → refusal ≡ FromHexError.OutOfMemory }

@@ -10,7 +10,7 @@ use escpos_io::{ByteIn, ReadError, read_to_end};
 use std::alloc::Global;
 use thiserror::Error;
 
-/// How many bytes of standard input a job reads.
+/// The most bytes of standard input that a job reads.
 pub const INPUT_LIMIT: usize = 16_777_216;
 
 const _: () = prove!(INPUT_LIMIT == 16_777_216);
@@ -27,7 +27,7 @@ pub enum InputFault {
     /// Its source failed.
     #[error("the input can't be read")]
     Device,
-    /// There is no memory for it.
+    /// Out of memory.
     #[error("there wasn't enough memory")]
     Memory,
 }
@@ -55,8 +55,7 @@ impl From<HexFault> for InputFault {
     }
 }
 
-/// The bytes that `input` writes in hexadecimal. At most 16,777,217 bytes are pulled, in as many calls at
-/// most.
+/// The bytes that `input` writes in hexadecimal. At most 16,777,217 bytes are pulled, in at most as many calls.
 pub fn hexadecimal_input<R: ByteIn>(alloc: Global, input: &mut R) -> Result<Vec<u8>, InputFault>
     ensures bytes { IfOk result (λ bytes. IfSome (R.to_come input.old) (λ text.
         (length text ≤ INPUT_LIMIT) × IsHexadecimal text bytes.items)) }

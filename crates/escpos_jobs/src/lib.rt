@@ -1,28 +1,32 @@
-//! What the program does, over any source, sink and network: one word for each job. escpos_words reads the words.
+//! What the program does, over any source, sink and network: a job for each task. escpos_arguments reads the command line.
 //!
-//! `input`, `hexadecimal` and `receipt_input` read the input, `check`, `render` and `encode` are the jobs of those names over
-//! any source and sink and `job` has what the first two have in common, `play` is the job of that name, `script` reads the
-//! lines of its script and `told` has those that it prints, `emulate`, `send` and `both_ends` are the words over TCP,
-//! `paper_text` keeps the paper of `emulate`, `lines` has the lines of a listing, `refusal` the line that refuses a receipt,
-//! `outcome` what all jobs say, and `status` what the program ends with.
+//! `task` has what may be asked for, and `perform` does it; `usage` has the texts of usage and help. `check`, `render`,
+//! `encode` and `play` are the jobs over any source and sink, and `emulate`, `send` and `loop_link` those over TCP. `job`
+//! has what `check` and `render` share, `script` reads the lines of a script and `script_output` has those that `play`
+//! prints, `lines` has the lines of a listing, `notes` the note on a wrong check digit, and `paper_text` keeps the paper of
+//! `emulate`. `input`, `hexadecimal` and `receipt_input` read the input, `refusal` has the line that refuses a receipt,
+//! `ending` the line that a job prints in place of everything else, and `status` the exit status of the program.
 #![tactic(auto)]
 
-pub mod both_ends;
 pub mod check;
 pub mod emulate;
 pub mod encode;
+pub mod ending;
 pub mod hexadecimal;
 pub mod input;
 mod job;
 mod lines;
+pub mod loop_link;
 mod notes;
-pub mod outcome;
 pub mod paper_text;
+pub mod perform;
 pub mod play;
 pub mod receipt_input;
 mod refusal;
 pub mod render;
 pub mod script;
+mod script_output;
 pub mod send;
 pub mod status;
-mod told;
+pub mod task;
+pub mod usage;

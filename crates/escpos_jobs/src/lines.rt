@@ -1,19 +1,21 @@
-//! The lines of a listing, appended in place to the bytes that go out.
+//! The lines of a listing, appended to the bytes that a gather keeps back.
 
 ghost use Rattle.std.specs.Prelude.{◌≡◌, ◌+◌, ◌≤◌, ◌++◌, ◌∷◌, length, decimal};
 ghost use Rattle.std.specs.List.{flat_map};
-ghost use Rattle.escpos_jobs.specs.Lines.{byte_value, command_line, end_line, fault_line, last_text, values_of, word_of};
+ghost use Rattle.escpos_jobs.specs.Lines.{byte_value, command_line, end_line, fault_line, values_of, word_of};
+ghost use Rattle.escpos_jobs.specs.LastText.{last_text};
 ghost use Rattle.escpos_jobs.specs.Notes.{note_line};
 ghost use Rattle.escpos_command.specs.declared.command.Command.TheVariants as kind;
 ghost use Rattle.hex.specs.Hex.{encode_lower};
 
 use crate::notes::{WrongDigit, wrong_digit};
-use crate::outcome::MEMORY;
+use crate::ending::MEMORY;
 use escpos_command::{Bars, Command, FaultReason, LF, Raster};
-use escpos_io::{ByteOut, Device, GATHERED_BYTES, Gather, Piece, laws};
-use itoa::Buffer;
+use escpos_io::{
+    ByteOut, Device, GATHERED_BYTES, Gather, Piece, append_digits_after, append_number, append_small_number,
+};
 
-/// What stands between the parts of a line.
+/// The byte between the parts of a line.
 pub const SPACE: u8 = 0x20;
 
 const _: () = prove!(SPACE == 32);
@@ -31,13 +33,13 @@ const _: () = prove!(LAST_BYTES == 128);
 /// The last line of a text.
 #[derive(Clone, Copy, Debug, PartialEq, Eq)]
 pub enum Last {
-    /// There is none.
+    /// There is no last line.
     Nothing,
-    /// All of so many bytes were read, and the last `half` of them are a half command.
+    /// All `count` bytes were read, and the last `half` of them are a half command.
     End { count: usize, half: usize },
     /// The byte at this place was refused.
     Fault { place: usize, why: FaultReason },
-    /// Memory has run out.
+    /// Out of memory.
     Memory,
 }
 
@@ -45,7 +47,6 @@ impl Piece for Last {
     ghost bytes = { last_text };
 
     fn put<W: ByteOut>(&self, gather: &mut Gather, writer: &mut W) -> Result<(), Device> {
-        laws::piece_stopped();
         gather.room(LAST_BYTES, writer)?;
         match self {
             Last::Nothing => {}
@@ -61,7 +62,7 @@ impl Piece for Last {
 pub fn append_line(gather: &mut Gather, place: usize, command: &Command)
     requires { length gather.old.kept + LINE_BYTES ≤ GATHERED_BYTES }
     ensures kept { gather.new.kept ≡ gather.old.kept ++ command_line place command.now }
-    ensures same_count { gather.new.taken ≡ gather.old.taken }
+    ensures same_count { gather.new.written ≡ gather.old.written }
 {
     append_number(gather, place);
     gather.push(SPACE);
@@ -73,11 +74,11 @@ pub fn append_line(gather: &mut Gather, place: usize, command: &Command)
     }
 }
 
-// The note on a barcode with a wrong check digit.
+// Appends the note on a barcode with a wrong check digit.
 fn append_note(gather: &mut Gather, place: usize, wrong: Option<WrongDigit>)
     requires { length gather.old.kept + 64 ≤ GATHERED_BYTES }
     ensures kept { gather.new.kept ≡ gather.old.kept ++ note_line place wrong }
-    ensures same_count { gather.new.taken ≡ gather.old.taken }
+    ensures same_count { gather.new.written ≡ gather.old.written }
 {
     if let Some(wrong) = wrong {
         gather.extend(b"note ");
@@ -93,7 +94,7 @@ fn append_note(gather: &mut Gather, place: usize, wrong: Option<WrongDigit>)
 fn append_end(gather: &mut Gather, count: usize, half: usize)
     requires { length gather.old.kept + LAST_BYTES ≤ GATHERED_BYTES }
     ensures kept { gather.new.kept ≡ gather.old.kept ++ end_line count half }
-    ensures same_count { gather.new.taken ≡ gather.old.taken }
+    ensures same_count { gather.new.written ≡ gather.old.written }
     ensures short { length (end_line count half) ≤ LAST_BYTES }
 {
     gather.extend(b"end ");
@@ -106,7 +107,7 @@ fn append_end(gather: &mut Gather, count: usize, half: usize)
 fn append_fault(gather: &mut Gather, place: usize, why: FaultReason)
     requires { length gather.old.kept + LAST_BYTES ≤ GATHERED_BYTES }
     ensures kept { gather.new.kept ≡ gather.old.kept ++ fault_line place why }
-    ensures same_count { gather.new.taken ≡ gather.old.taken }
+    ensures same_count { gather.new.written ≡ gather.old.written }
     ensures short { length (fault_line place why) ≤ LAST_BYTES }
 {
     gather.extend(b"fault ");
@@ -116,28 +117,6 @@ fn append_fault(gather: &mut Gather, place: usize, why: FaultReason)
     gather.push(SPACE);
     gather.extend(why.name().as_bytes());
     gather.push(LF);
-}
-
-/// Appends a number in decimal.
-pub fn append_number(gather: &mut Gather, number: usize)
-    requires { length gather.old.kept + 20 ≤ GATHERED_BYTES }
-    ensures kept { gather.new.kept ≡ gather.old.kept ++ decimal number }
-    ensures same_count { gather.new.taken ≡ gather.old.taken }
-    ensures short { length (decimal number) ≤ 20 }
-{
-    let mut buffer = Buffer::new();
-    gather.extend(buffer.format(number).as_bytes());
-}
-
-// A number up to 255, in decimal.
-fn append_small_number(gather: &mut Gather, number: u8)
-    requires { length gather.old.kept + 3 ≤ GATHERED_BYTES }
-    ensures kept { gather.new.kept ≡ gather.old.kept ++ decimal number }
-    ensures same_count { gather.new.taken ≡ gather.old.taken }
-    ensures short { length (decimal number) ≤ 3 }
-{
-    let mut buffer = Buffer::new();
-    gather.extend(buffer.format(number).as_bytes());
 }
 
 // The name of a command.
@@ -172,12 +151,12 @@ fn word(command: &Command) -> &'static [u8]
     }
 }
 
-// What follows the name: a space and two digits for each parameter byte, a space and the id of a mark, or what a barcode or
-// a raster carries.
+// Appends what follows the name: a space and two digits for each parameter byte, a space and the id of a mark, or what a
+// barcode or a raster carries.
 fn append_values(gather: &mut Gather, command: &Command)
     requires { length gather.old.kept + 520 ≤ GATHERED_BYTES }
     ensures kept { gather.new.kept ≡ gather.old.kept ++ values_of command.now }
-    ensures same_count { gather.new.taken ≡ gather.old.taken }
+    ensures same_count { gather.new.written ≡ gather.old.written }
     ensures short { length (values_of command.now) ≤ 520 }
 {
     match command {
@@ -192,11 +171,11 @@ fn append_values(gather: &mut Gather, command: &Command)
     }
 }
 
-// The mode and the content of a barcode.
+// Appends the mode and the content of a barcode.
 fn append_bars(gather: &mut Gather, bars: &Bars)
     requires { length gather.old.kept + 520 ≤ GATHERED_BYTES }
     ensures kept { gather.new.kept ≡ gather.old.kept ++ values_of (kind.Bars bars.now) }
-    ensures same_count { gather.new.taken ≡ gather.old.taken }
+    ensures same_count { gather.new.written ≡ gather.old.written }
     ensures short { length (values_of (kind.Bars bars.now)) ≤ 520 }
 {
     append_byte(gather, bars.mode());
@@ -204,12 +183,12 @@ fn append_bars(gather: &mut Gather, bars: &Bars)
     append_digits(gather, bars.content());
 }
 
-// The digits of a content.
+// Appends the digits of a content.
 fn append_digits(gather: &mut Gather, bytes: &[u8])
     requires few { length bytes.now ≤ 255 }
     requires room { length gather.old.kept + 510 ≤ GATHERED_BYTES }
     ensures kept { gather.new.kept ≡ gather.old.kept ++ encode_lower bytes.now }
-    ensures same_count { gather.new.taken ≡ gather.old.taken }
+    ensures same_count { gather.new.written ≡ gather.old.written }
     ensures short { length (encode_lower bytes.now) ≤ 510 }
 {
     let mut room = [0; 510];
@@ -218,11 +197,11 @@ fn append_digits(gather: &mut Gather, bytes: &[u8])
     gather.extend(digits);
 }
 
-// The scale and the size of a raster.
+// Appends the scale and the size of a raster.
 fn append_raster(gather: &mut Gather, raster: &Raster)
     requires { length gather.old.kept + 64 ≤ GATHERED_BYTES }
     ensures kept { gather.new.kept ≡ gather.old.kept ++ values_of (kind.Raster raster.now) }
-    ensures same_count { gather.new.taken ≡ gather.old.taken }
+    ensures same_count { gather.new.written ≡ gather.old.written }
     ensures short { length (values_of (kind.Raster raster.now)) ≤ 64 }
 {
     append_byte(gather, raster.mode());
@@ -232,12 +211,12 @@ fn append_raster(gather: &mut Gather, raster: &Raster)
     append_number(gather, usize::from(raster.height()));
 }
 
-// A space and two digits for each byte.
+// Appends a space and two digits for each byte.
 fn append_bytes(gather: &mut Gather, bytes: &[u8])
     requires few { length bytes.now ≤ 5 }
     requires room { length gather.old.kept + 15 ≤ GATHERED_BYTES }
     ensures kept { gather.new.kept ≡ gather.old.kept ++ flat_map byte_value bytes.now }
-    ensures same_count { gather.new.taken ≡ gather.old.taken }
+    ensures same_count { gather.new.written ≡ gather.old.written }
     ensures short { length (flat_map byte_value bytes.now) ≤ 15 }
 {
     for byte in bytes {
@@ -245,14 +224,12 @@ fn append_bytes(gather: &mut Gather, bytes: &[u8])
     }
 }
 
-/// Appends a byte: a space and its two digits.
+/// Appends a space and the two digits of a byte.
 pub fn append_byte(gather: &mut Gather, byte: u8)
     requires { length gather.old.kept + 3 ≤ GATHERED_BYTES }
     ensures kept { gather.new.kept ≡ gather.old.kept ++ byte_value byte }
-    ensures same_count { gather.new.taken ≡ gather.old.taken }
+    ensures same_count { gather.new.written ≡ gather.old.written }
     ensures short { length (byte_value byte) ≡ 3 }
 {
-    let mut digits = [SPACE; 3];
-    hex::encode_to_slice([byte], &mut digits[1..]).unwrap();
-    gather.extend(&digits);
+    append_digits_after(gather, SPACE, byte);
 }

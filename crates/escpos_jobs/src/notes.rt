@@ -1,4 +1,4 @@
-//! The note on a barcode whose content has a check digit that is wrong.
+//! The note on a barcode whose content has a wrong check digit.
 //!
 //! Such a barcode is a command like any other: a given check digit is kept as sent. A listing points it out.
 
@@ -8,14 +8,14 @@ ghost use Rattle.escpos_jobs.specs.Notes.{has_check_digit, wrong_digit};
 use escpos_command::{Bars, Symbology};
 use escpos_paper::check_digit;
 
-/// A check digit that isn't the one of the digits before it, and that one: numbers 0 to 9.
+/// A check digit that isn't the one of the digits before it, and the right one: numbers 0 to 9.
 #[derive(Clone, Copy, Debug, PartialEq, Eq)]
 pub struct WrongDigit {
     pub given: u8,
     pub right: u8,
 }
 
-/// The check digit of the barcode and the right one, where its content has one and they differ.
+/// The check digit of the barcode and the right one, if its content has one and they differ.
 pub fn wrong_digit(bars: &Bars) -> Option<WrongDigit>
     ensures { result ≡ wrong_digit bars.now }
 {
@@ -33,7 +33,7 @@ pub fn wrong_digit(bars: &Bars) -> Option<WrongDigit>
     }
 }
 
-// Whether a content of so many bytes ends with its check digit.
+// Whether a content of this many bytes ends with its check digit.
 fn has_check_digit(symbology: Symbology, length: usize) -> bool
     ensures { result ≡ has_check_digit symbology length }
 {

@@ -1,13 +1,13 @@
-//! Paper as text, kept until it may go out.
+//! Paper as text, kept until it may be printed.
 //!
-//! An item has hundreds of bytes and its text some ten. So where paper has to wait, as that of `emulate` until its last link has
-//! ended, it is torn off the printer from time to time, and only its text is kept.
+//! An item takes hundreds of bytes of memory, its text about ten. So where paper must wait, as that of `emulate` until its
+//! last link has ended, it is torn off the printer from time to time, and only its text is kept.
 
 ghost use Rattle.std.specs.Prelude.{◌≡◌, ◌++◌, [], List, IsTrue, OnErr, OnOk};
 ghost use Rattle.std.specs.Io.KnownBytes.{Appends};
 ghost use Rattle.escpos_paper.specs.declared.item.Item.{Item};
 ghost use Rattle.escpos_paper.specs.ItemsText.{items_text};
-ghost use Rattle.escpos_printer.specs.Parts.{under};
+ghost use Rattle.escpos_printer.specs.LinkInParts.{under};
 
 use escpos_io::{ByteOut, Device, Failed, put_all};
 use escpos_paper::{Item, write_items};
@@ -15,7 +15,7 @@ use escpos_printer::Printer;
 use std::alloc::Global;
 use std::marker::Model;
 
-/// The text of what was torn off a printer's paper, a line for each item. In contracts it is the list of its bytes.
+/// The text of what was torn off a printer's paper, a line for each item. Its model is the list of its bytes.
 #[derive(Drop)]
 pub struct PaperText {
     kept: Kept,
@@ -30,7 +30,7 @@ impl Model for PaperText {
 }
 
 impl PaperText {
-    /// No text. Takes no memory.
+    /// No text. Allocates nothing.
     pub fn new(alloc: Global) -> Self
         ensures { result ≡ [] }
     {
@@ -49,8 +49,8 @@ impl PaperText {
         self.kept.bytes.as_slice()
     }
 
-    /// Tears the paper off, and keeps its text after what is kept. Where memory is wanting for the text the paper stays, now
-    /// and at later calls.
+    /// Tears the paper off, and appends its text to what is kept. If the allocation for the text fails, the paper stays,
+    /// now and at later calls.
     pub fn tear_off(&mut self, printer: &mut Printer)
         ensures { (gone : List Item) × (self.new ≡ self.old ++ items_text gone) × (printer.old ≡ under gone printer.new) }
     {
@@ -62,7 +62,7 @@ impl PaperText {
         }
     }
 
-    /// Puts the text that is kept, and below it that of `items`. `Err` comes only where `output` has failed.
+    /// Prints the text that is kept, then that of `items`. `Err` comes only if `output` has failed.
     pub fn put_above<W: ByteOut>(&self, items: &[Item], output: &mut W) -> Result<(), Device>
         ensures put { OnOk result (Appends (W.written output.old) (W.written output.new) (self.now ++ items_text items.now)) }
         ensures failed { OnErr result (IsTrue (W.failed output.new)) }
@@ -73,7 +73,7 @@ impl PaperText {
     }
 }
 
-// Bytes in memory as a sink. It fails where there is no memory for more.
+// Bytes in memory as a sink. It fails when memory runs out.
 #[derive(Drop)]
 struct Kept {
     bytes: Vec<u8>,

@@ -1,36 +1,38 @@
-//! The word `play`: a script of events on a line between a host and a printer, and what comes of each.
+//! The job `play`: a script of events on a line between a host and a printer, and the effect of each.
 //!
-//! What an event does is `Sim::step`'s; here the lines of the script are read one after another, and each is told of before
-//! the next happens.
+//! What an event does is left to `Sim::step`. Here the lines of the script are read one after another, and the effect of
+//! each is printed before the next happens.
 
-ghost use Rattle.std.specs.Prelude.{ℕ, ◌≡◌, ◌≢◌, ◌⊎◌, ◌+◌, ◌≤◌, List, ◌++◌, length, Err, IfSome, IsTrue, OnErr, OnOk};
+ghost use Rattle.std.specs.Prelude.{ℕ, ◌≡◌, ◌≢◌, ◌⊎◌, ◌+◌, ◌≤◌, List, [], ◌++◌, length, Err, IfSome, IsTrue, OnErr, OnOk};
 ghost use Rattle.std.specs.Io.KnownBytes.{Appends};
 ghost use Rattle.escpos_link.specs.Stands.{Stands};
-ghost use Rattle.escpos_jobs.specs.Outcome.{IsFair, Says, outcome};
-ghost use Rattle.escpos_jobs.specs.Play.{IsNew, LineGoes, LinesGo, Plays, PlaysScript, closing_text};
+ghost use Rattle.escpos_jobs.specs.Ending.{IsFair, PrintsText, job_end};
+ghost use Rattle.escpos_jobs.specs.Play.{IsNew, Plays, PlaysScript, closing_text};
+ghost use Rattle.escpos_jobs.specs.ScriptSteps.{LineGoes, LinesGo};
 
 use crate::emulate::ONLINE;
 use crate::input::{INPUT_LIMIT, InputFault};
-use crate::outcome::{MEMORY, refuse, say};
+use crate::ending::{MEMORY, refuse, say};
 use crate::refusal::append_refusal;
 use crate::script::{NoEvent, event_of, first_line};
 use crate::status::Status;
-use crate::told::{TOLD_BYTES, append_note, append_records, append_refused, append_unreadable};
-use escpos_io::{ByteIn, ByteOut, Device, GATHERED_BYTES, Gather, laws, put_all, read_to_end};
+use crate::script_output::{EVENT_BYTES, append_note, append_records, append_refused, append_unreadable};
+use escpos_io::{ByteIn, ByteOut, Device, GATHERED_BYTES, Gather, put_all, read_to_end};
 use escpos_link::{Refusal, Sim};
 use escpos_paper::write_items;
 use std::alloc::Global;
 
-/// Plays the script that `input` has: each line of it happens to a line between a printer that is online and a host whose first
-/// mark is mark 0, and puts one line on `output`. At the end come `paper`, the paper as `render` writes it, and `records N`: so
-/// many receipts stand on that paper, whole and in the order of recording.
+/// Plays the script in `input`: each of its lines happens to a line between a printer that is online and a host whose first
+/// mark is mark 0, and prints one line on `output`. At the end come `paper`, the paper as `render` writes it, and `records
+/// N`: this many receipts stand on that paper, whole and in the order of recording.
 ///
-/// An event that is refused says so, as does a receipt that is none, and the script goes on. A line that is none of a script ends
-/// it: the status is then `Refused`, and the paper follows all the same. Input that is too long is refused before anything
-/// happens, with `Refused`. For want of memory the line `memory` follows what was put by then, with `Memory`. `Device` comes only
-/// where `input` or `output` has failed, and no other status hides that one of them has failed in this call.
+/// An event that is refused prints the reason, and so does text that isn't a receipt; the script goes on. A line that isn't
+/// one of a script ends it: the status is then `Refused`, and the paper follows all the same. Input that is too long is
+/// refused before anything happens, with `Refused`. Where an allocation failed, the line `memory` follows what was printed
+/// by then, with `Memory`. `Device` comes only where `input` or `output` has failed, and no other status hides that one of
+/// them has failed in this call.
 pub fn play<R: ByteIn, W: ByteOut>(alloc: Global, input: &mut R, output: &mut W) -> Status
-    ensures plays { IfSome (R.to_come input.old) (λ text. Plays (outcome (W.written output.old) (W.written output.new) (W.failed output.new) result) text) }
+    ensures plays { IfSome (R.to_come input.old) (λ text. Plays (job_end (W.written output.old) (W.written output.new) (W.failed output.new) result) text) }
     ensures fair { IsFair result (R.failed input.new) (W.failed output.old, W.failed output.new)
         (R.pull_count input.old, R.pull_count input.new) }
     ensures nothing_put { IsTrue (R.failed input.new) → output.new ≡ output.old }
@@ -46,7 +48,7 @@ pub fn play<R: ByteIn, W: ByteOut>(alloc: Global, input: &mut R, output: &mut W)
 enum ScriptEnd {
     // A line isn't one of a script.
     Unreadable,
-    // There is no memory.
+    // Out of memory.
     Memory,
     // The sink has failed.
     Device,
@@ -62,9 +64,9 @@ impl From<Device> for ScriptEnd {
     }
 }
 
-// Plays a script from its first line to its last, and puts what comes of it.
+// Plays a script from its first line to its last, and prints the effects.
 fn play_script<W: ByteOut>(alloc: Global, script: &[u8], output: &mut W) -> Status
-    ensures plays { PlaysScript (outcome (W.written output.old) (W.written output.new) (W.failed output.new) result) }
+    ensures plays { PlaysScript (job_end (W.written output.old) (W.written output.new) (W.failed output.new) result) script.now }
     ensures device { result ≡ Status.Device → IsTrue (W.failed output.new) }
     ensures not_hidden { result ≢ Status.Device → ¬ IsTrue (W.failed output.old) → ¬ IsTrue (W.failed output.new) }
     ensures never_usage { result ≢ Status.Usage }
@@ -75,9 +77,9 @@ fn play_script<W: ByteOut>(alloc: Global, script: &[u8], output: &mut W) -> Stat
     play_on(alloc, script, &mut sim, output)
 }
 
-// Plays a script on a line, and shows what is left.
+// Plays a script on a line, and prints what is left at the end.
 fn play_on<W: ByteOut>(alloc: Global, script: &[u8], sim: &mut Sim, output: &mut W) -> Status
-    ensures plays { IsNew sim.old → PlaysScript (outcome (W.written output.old) (W.written output.new) (W.failed output.new) result) }
+    ensures plays { IsNew sim.old → PlaysScript (job_end (W.written output.old) (W.written output.new) (W.failed output.new) result) script.now }
     ensures device { result ≡ Status.Device → IsTrue (W.failed output.new) }
     ensures not_hidden { result ≢ Status.Device → ¬ IsTrue (W.failed output.old) → ¬ IsTrue (W.failed output.new) }
     ensures never_usage { result ≢ Status.Usage }
@@ -97,12 +99,11 @@ fn play_lines<W: ByteOut>(
     sim: &mut Sim,
     output: &mut W,
 ) -> Result<(), ScriptEnd>
-    ensures told { result ≢ Err ScriptEnd.Device → (text : List ℕ) × LinesGo result sim.old text sim.new
+    ensures told { result ≢ Err ScriptEnd.Device → (text : List ℕ) × LinesGo result script.now [] sim.old text sim.new
         × Appends (W.written output.old) (W.written output.new) text }
     ensures device { result ≡ Err ScriptEnd.Device → IsTrue (W.failed output.new) }
     ensures not_hidden { result ≢ Err ScriptEnd.Device → ¬ IsTrue (W.failed output.old) → ¬ IsTrue (W.failed output.new) }
 {
-    laws::given_in_place();
     let mut gather = Gather::new();
     let mut rest = script;
     let mut number: usize = 0;
@@ -110,15 +111,15 @@ fn play_lines<W: ByteOut>(
     while !rest.is_empty() && end.is_ok() {
         let (line, later) = first_line(rest);
         rest = later;
-        number = number.saturating_add(1);
-        gather.room(TOLD_BYTES, output)?;
+        number += 1;
+        gather.room(EVENT_BYTES, output)?;
         end = play_line(alloc, line, number, sim, &mut gather);
     }
     gather.flush(output)?;
     end
 }
 
-// Lets one line of a script happen, and appends what comes of it.
+// Lets one line of a script happen, and appends its effect.
 fn play_line(
     alloc: Global,
     line: &[u8],
@@ -126,9 +127,9 @@ fn play_line(
     sim: &mut Sim,
     gather: &mut Gather,
 ) -> Result<(), ScriptEnd>
-    requires { length gather.old.kept + TOLD_BYTES ≤ GATHERED_BYTES }
-    ensures told { (text : List ℕ) × LineGoes result sim.old text sim.new × (gather.new.kept ≡ gather.old.kept ++ text) }
-    ensures same_count { gather.new.taken ≡ gather.old.taken }
+    requires { length gather.old.kept + EVENT_BYTES ≤ GATHERED_BYTES }
+    ensures told { (text : List ℕ) × LineGoes result number sim.old text sim.new × (gather.new.kept ≡ gather.old.kept ++ text) }
+    ensures same_count { gather.new.written ≡ gather.old.written }
     ensures no_device { result ≢ Err ScriptEnd.Device }
 {
     match event_of(alloc, line) {
@@ -154,10 +155,10 @@ fn play_line(
     Ok(())
 }
 
-// Puts the closing part of a script's output.
+// Prints the closing part of a script's output.
 fn close<W: ByteOut>(sim: &Sim, output: &mut W, status: Status) -> Status
     requires { (status ≡ Status.Good) ⊎ (status ≡ Status.Refused) }
-    ensures says { Says (outcome (W.written output.old) (W.written output.new) (W.failed output.new) result) (closing_text sim.now) status }
+    ensures says { PrintsText (job_end (W.written output.old) (W.written output.new) (W.failed output.new) result) (closing_text sim.now) status }
     ensures stand { Stands sim.now.host.records sim.now.printer.sheet.items }
     ensures device { result ≡ Status.Device → IsTrue (W.failed output.new) }
     ensures not_hidden { result ≢ Status.Device → ¬ IsTrue (W.failed output.old) → ¬ IsTrue (W.failed output.new) }
@@ -169,14 +170,13 @@ fn close<W: ByteOut>(sim: &Sim, output: &mut W, status: Status) -> Status
     }
 }
 
-// The paper, and how many receipts are recorded.
+// Prints the paper, and how many receipts are recorded.
 fn put_closing<W: ByteOut>(sim: &Sim, output: &mut W) -> Result<(), Device>
     ensures put { OnOk result (Appends (W.written output.old) (W.written output.new) (closing_text sim.now)) }
     ensures stand { Stands sim.now.host.records sim.now.printer.sheet.items }
     ensures failed { OnErr result (IsTrue (W.failed output.new)) }
     ensures not_failed { OnOk result (¬ IsTrue (W.failed output.old) → ¬ IsTrue (W.failed output.new)) }
 {
-    laws::given_in_place();
     let paper = sim.paper();
     put_all(b"paper\n", output)?;
     write_items(paper, output)?;

@@ -1,17 +1,17 @@
-//! Receipt input: a receipt in JSON that a source has, read to its end, and what is said where there is none.
+//! Receipt input: a receipt in JSON, read from a source to its end, and what is printed if there is none.
 
 ghost use Rattle.std.specs.Prelude.{◌≡◌, ◌≢◌, ◌⊎◌, ◌+◌, ◌<◌, ◌≤◌, length, Err, IfOk, IfSome, IsErrOf, IsTrue, OnOk, codes};
-ghost use Rattle.escpos_host.specs.Describes.{Describes, IsJsonFault};
-ghost use Rattle.escpos_host.specs.Whole.{Whole};
-ghost use Rattle.escpos_host.specs.declared.json.JsonError.{JsonError};
-ghost use Rattle.escpos_host.specs.declared.json.JsonFault.{JsonFault};
+ghost use Rattle.escpos_receipt.specs.Describes.{Describes, IsJsonFault};
+ghost use Rattle.escpos_receipt.specs.Whole.{Whole};
+ghost use Rattle.escpos_receipt.specs.declared.json.JsonError.{JsonError};
+ghost use Rattle.escpos_receipt.specs.declared.json.JsonFault.{JsonFault};
 ghost use Rattle.escpos_jobs.specs.declared.input.InputFault.{InputFault};
 ghost use Rattle.escpos_jobs.specs.Input.{fault_of_reading};
-ghost use Rattle.escpos_jobs.specs.Outcome.{Says, memory_line, outcome};
+ghost use Rattle.escpos_jobs.specs.Ending.{PrintsText, memory_line, job_end};
 ghost use Rattle.escpos_jobs.specs.Refusal.{refusal_line};
 
 use crate::input::{INPUT_LIMIT, InputFault};
-use crate::outcome::{MEMORY, refuse, say};
+use crate::ending::{MEMORY, refuse, say};
 use crate::refusal::refuse_receipt;
 use crate::status::Status;
 use escpos_host::{JsonError, Receipt};
@@ -25,7 +25,7 @@ pub enum NoReceipt {
     /// Its bytes can't be read.
     #[error("the input can't be read")]
     Input(InputFault),
-    /// They describe no receipt, or there is no memory to tell.
+    /// They don't describe a receipt, or memory ran out while they were read.
     #[error("the text describes no receipt")]
     Text(JsonError),
 }
@@ -50,7 +50,7 @@ impl From<JsonError> for NoReceipt {
     }
 }
 
-/// The receipt that `input` describes in JSON. At most 16,777,217 bytes are pulled, in as many calls at most.
+/// The receipt that `input` describes in JSON. At most 16,777,217 bytes are pulled, in at most as many calls.
 pub fn read_receipt<R: ByteIn>(alloc: Global, input: &mut R) -> Result<Receipt, NoReceipt>
     ensures receipt { IfOk result (λ receipt. IfSome (R.to_come input.old) (λ text.
         (length text ≤ INPUT_LIMIT) × Describes text receipt × Whole receipt)) }
@@ -65,15 +65,16 @@ pub fn read_receipt<R: ByteIn>(alloc: Global, input: &mut R) -> Result<Receipt, 
     Ok(Receipt::from_json(alloc, &text)?)
 }
 
-/// Puts the line that says why an input gives no receipt: `refused input` or the line of the reason with `Refused`, `memory`
-/// with `Memory`. Where the source has failed nothing is put and the status is `Device`, as it is where `output` has failed.
+/// Prints the line that says why an input gives no receipt: `refused input` or the line of the reason, with `Refused`, or
+/// `memory`, with `Memory`. If the source has failed, nothing is printed and the status is `Device`, as it is if `output`
+/// has failed.
 pub fn refuse_input<W: ByteOut>(fault: NoReceipt, output: &mut W) -> Status
     ensures too_long { fault ≡ NoReceipt.Input InputFault.TooLong →
-        Says (outcome (W.written output.old) (W.written output.new) (W.failed output.new) result) (codes "refused input\n") Status.Refused }
+        PrintsText (job_end (W.written output.old) (W.written output.new) (W.failed output.new) result) (codes "refused input\n") Status.Refused }
     ensures refused { (why : JsonFault) → fault ≡ NoReceipt.Text (JsonError.Refused why) →
-        Says (outcome (W.written output.old) (W.written output.new) (W.failed output.new) result) (refusal_line why) Status.Refused }
+        PrintsText (job_end (W.written output.old) (W.written output.new) (W.failed output.new) result) (refusal_line why) Status.Refused }
     ensures memory { (fault ≡ NoReceipt.Input InputFault.Memory) ⊎ (fault ≡ NoReceipt.Text JsonError.Memory) →
-        Says (outcome (W.written output.old) (W.written output.new) (W.failed output.new) result) memory_line Status.Memory }
+        PrintsText (job_end (W.written output.old) (W.written output.new) (W.failed output.new) result) memory_line Status.Memory }
     ensures device { fault ≡ NoReceipt.Input InputFault.Device → (result ≡ Status.Device) × (output.new ≡ output.old) }
     ensures never_usage { result ≢ Status.Usage }
     ensures not_hidden { result ≢ Status.Device → ¬ IsTrue (W.failed output.old) → ¬ IsTrue (W.failed output.new) }
@@ -84,13 +85,13 @@ pub fn refuse_input<W: ByteOut>(fault: NoReceipt, output: &mut W) -> Status
     }
 }
 
-/// Puts the line that says why a text gives no receipt, or that there is no memory to tell. The status is `Refused`, or
-/// `Memory`, or `Device` where `output` has failed.
+/// Prints the line that says why a text gives no receipt, or `memory`. The status is `Refused`, or `Memory`, or `Device` if
+/// `output` has failed.
 pub fn refuse_text<W: ByteOut>(fault: JsonError, output: &mut W) -> Status
     ensures refused { (why : JsonFault) → fault ≡ JsonError.Refused why →
-        Says (outcome (W.written output.old) (W.written output.new) (W.failed output.new) result) (refusal_line why) Status.Refused }
+        PrintsText (job_end (W.written output.old) (W.written output.new) (W.failed output.new) result) (refusal_line why) Status.Refused }
     ensures memory { fault ≡ JsonError.Memory →
-        Says (outcome (W.written output.old) (W.written output.new) (W.failed output.new) result) memory_line Status.Memory }
+        PrintsText (job_end (W.written output.old) (W.written output.new) (W.failed output.new) result) memory_line Status.Memory }
     ensures device { result ≡ Status.Device → IsTrue (W.failed output.new) }
     ensures never_usage { result ≢ Status.Usage }
     ensures not_hidden { result ≢ Status.Device → ¬ IsTrue (W.failed output.old) → ¬ IsTrue (W.failed output.new) }

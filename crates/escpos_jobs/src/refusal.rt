@@ -1,26 +1,27 @@
 //! The line that says why a text gives no receipt.
 
 ghost use Rattle.std.specs.Prelude.{◌≡◌, ◌≢◌, ◌+◌, ◌≤◌, ◌++◌, length, IsTrue};
-ghost use Rattle.escpos_jobs.specs.Outcome.{Says, outcome};
+ghost use Rattle.escpos_jobs.specs.Ending.{PrintsText, job_end};
 ghost use Rattle.escpos_jobs.specs.Refusal.{place_text, refusal_line};
 
-use crate::lines::{SPACE, append_number};
+use crate::lines::SPACE;
 use crate::status::Status;
 use escpos_command::LF;
 use escpos_host::JsonFault;
-use escpos_io::{ByteOut, GATHERED_BYTES, Gather, laws};
+use escpos_io::{ByteOut, GATHERED_BYTES, Gather, append_number, laws};
 
 /// The most bytes that the line has.
 pub const LINE_BYTES: usize = 64;
 
 const _: () = prove!(LINE_BYTES == 64);
 
-/// Puts the line `refused NUMBER NAME`, followed by the place of the entry or the command where there is one. The status is
-/// `Refused`, or `Device` where `output` has failed.
+/// Prints the line `refused NUMBER NAME`, followed by the place of the entry or the command if there is one. The status is
+/// `Refused`, or `Device` if `output` has failed.
 pub fn refuse_receipt<W: ByteOut>(fault: JsonFault, output: &mut W) -> Status
-    ensures says { Says (outcome (W.written output.old) (W.written output.new) (W.failed output.new) result) (refusal_line fault) Status.Refused }
+    ensures says { PrintsText (job_end (W.written output.old) (W.written output.new) (W.failed output.new) result) (refusal_line fault) Status.Refused }
     ensures not_hidden { result ≢ Status.Device → ¬ IsTrue (W.failed output.old) → ¬ IsTrue (W.failed output.new) }
 {
+    // Proof only: appended bytes count as given.
     laws::given_in_place();
     let mut gather = Gather::new();
     append_refusal(&mut gather, fault);
@@ -30,11 +31,11 @@ pub fn refuse_receipt<W: ByteOut>(fault: JsonFault, output: &mut W) -> Status
     }
 }
 
-/// Appends the line.
+/// Appends that line.
 pub fn append_refusal(gather: &mut Gather, fault: JsonFault)
     requires { length gather.old.kept + LINE_BYTES ≤ GATHERED_BYTES }
     ensures kept { gather.new.kept ≡ gather.old.kept ++ refusal_line fault }
-    ensures same_count { gather.new.taken ≡ gather.old.taken }
+    ensures same_count { gather.new.written ≡ gather.old.written }
 {
     gather.extend(b"refused ");
     append_number(gather, usize::from(fault.number()));
@@ -44,11 +45,11 @@ pub fn append_refusal(gather: &mut Gather, fault: JsonFault)
     gather.push(LF);
 }
 
-/// Appends a space and the place, where there is one.
+/// Appends a space and the place, if there is one.
 pub fn append_place(gather: &mut Gather, place: Option<usize>)
     requires { length gather.old.kept + 21 ≤ GATHERED_BYTES }
     ensures kept { gather.new.kept ≡ gather.old.kept ++ place_text place }
-    ensures same_count { gather.new.taken ≡ gather.old.taken }
+    ensures same_count { gather.new.written ≡ gather.old.written }
     ensures short { length (place_text place) ≤ 21 }
 {
     if let Some(at) = place {

@@ -1,4 +1,5 @@
-//! The job `render`: what a byte stream prints, as text. Each item goes out when it is printed.
+//! The job `render`: what a byte stream prints, as text. The text of each item is given to the output as soon as it is
+//! printed.
 
 ghost use Rattle.std.specs.Prelude.{◌≡◌, ◌≢◌, ◌⊎◌, ◌+◌, ◌≤◌, ◌<◌, ◌++◌, [], ℕ, List, Option, OnOk, IfErr, IfSome, IsTrue};
 ghost use Rattle.std.proofs.Common.{ap, inl, inr, subst, sym, append-nil};
@@ -8,8 +9,9 @@ ghost use Rattle.escpos_paper.specs.ItemsText.{items_text};
 ghost use Rattle.escpos_paper.specs.Torn.{TornIs};
 ghost use Rattle.escpos_paper.specs.declared.paper.TheConstants.{MOST_ITEMS};
 ghost use Rattle.escpos_jobs.specs.declared.job.Obstacle.TheVariants as obstacle;
-ghost use Rattle.escpos_jobs.specs.Outcome.{IsFair, outcome};
-ghost use Rattle.escpos_jobs.specs.Render.{IsRendered, RendersInput, paper_shape};
+ghost use Rattle.escpos_jobs.specs.Ending.{IsFair, job_end};
+ghost use Rattle.escpos_jobs.specs.Render.{RendersInput, paper_shape};
+ghost use Rattle.escpos_jobs.specs.RenderSteps.{IsRendered};
 ghost use Rattle.escpos_jobs.specs.Obstacle.{device_is_no_memory, memory_is_no_device};
 
 use crate::job::{Job, Obstacle, run};
@@ -21,13 +23,13 @@ use escpos_io::{ByteIn, ByteOut, Gather, Piece};
 use escpos_paper::{Item, Page};
 use std::alloc::Global;
 
-/// Reads a stream in hexadecimal from `input` and writes the paper that it prints to `output`, an item a
-/// line, and the last line of the listing after a fault or with a half command at the end.
+/// Reads a stream in hexadecimal from `input` and writes the paper that it prints to `output`, an item a line, and the last
+/// line of the listing after a fault or with a half command at the end.
 ///
-/// `run` says which status comes when. At `Memory` the line `memory` follows the items of the commands so far. No item is
+/// `run` says which status comes when. With `Memory` the line `memory` follows the items of the commands so far. No item is
 /// kept once the next command is read.
 pub fn render<R: ByteIn, W: ByteOut>(alloc: Global, input: &mut R, output: &mut W) -> Status
-    ensures renders { IfSome (R.to_come input.old) (λ text. RendersInput (outcome (W.written output.old) (W.written output.new) (W.failed output.new) result) text) }
+    ensures renders { IfSome (R.to_come input.old) (λ text. RendersInput (job_end (W.written output.old) (W.written output.new) (W.failed output.new) result) text) }
     ensures fair { IsFair result (R.failed input.new) (W.failed output.old, W.failed output.new)
         (R.pull_count input.old, R.pull_count input.new) }
     ensures nothing_put { IsTrue (R.failed input.new) → output.new ≡ output.old }
@@ -35,7 +37,7 @@ pub fn render<R: ByteIn, W: ByteOut>(alloc: Global, input: &mut R, output: &mut 
     run::<R, W, Rendering>(alloc, input, output)
 }
 
-// The paper that the commands so far have printed on, of which all is torn off, and the text of it that isn't out yet.
+// The paper that the commands so far have printed on, all of which is torn off, and the text of it that isn't printed yet.
 #[derive(Drop)]
 struct Rendering {
     page: Page,
@@ -45,7 +47,7 @@ struct Rendering {
 impl<W: ByteOut> Consumer<W> for Rendering {
     type Refusal = Obstacle;
 
-    ghost took = { λ start now cs.
+    ghost accepted = { λ start now cs.
         ((first : Option (List ℕ)) (before : List Command) → IsRendered first (W.written start.1) start.0.gather start.0.page.sheet before
         → IsRendered first (W.written now.1) now.0.gather now.0.page.sheet (before ++ cs))
         × (¬ IsTrue (W.failed start.1) → ¬ IsTrue (W.failed now.1)) };

@@ -1,6 +1,7 @@
-//! Play scripts: a text whose lines say, in words, what happens on a line between a host and a printer, one event each.
+//! Play scripts: a text whose lines each name an event on a line between a host and a printer.
 
 ghost use Rattle.std.specs.Prelude.{◌≡◌, ◌≢◌, ◌<◌, ◌≤◌, [], length, IfSome};
+ghost use Rattle.escpos_jobs.specs.ScriptLines.{IsFirstLine};
 
 use crate::lines::SPACE;
 use escpos_command::{LF, StatusKind};
@@ -9,14 +10,14 @@ use escpos_link::Event;
 use escpos_printer::Condition;
 use std::alloc::Global;
 
-/// Why a line of a script says no event.
+/// Why a line of a script names no event.
 #[derive(Clone, Copy, Debug, PartialEq, Eq)]
 pub enum NoEvent {
     /// It isn't a line of a script.
     Unreadable,
-    /// What is to be printed is no receipt.
+    /// The text that is to be printed isn't a receipt.
     NoReceipt(JsonFault),
-    /// There is no memory to read it.
+    /// Out of memory.
     Memory,
 }
 
@@ -32,15 +33,20 @@ impl From<JsonError> for NoEvent {
 /// The first line of a text that isn't empty, without its end, and what follows it.
 pub fn first_line(text: &[u8]) -> (&[u8], &[u8])
     requires { text.now ≢ [] }
+    ensures first { IsFirstLine text.now result.0.now result.1.now }
     ensures shorter { length result.1.now < length text.now }
 {
-    match text.iter().position(|byte| *byte == LF) {
-        Some(at) => (&text[..at], &text[at + 1..]),
-        None => (text, &[]),
+    let mut at = 0;
+    while at < text.len() {
+        if text[at] == LF {
+            return (&text[..at], &text[at + 1..]);
+        }
+        at += 1;
     }
+    (text, &[])
 }
 
-/// The event that a line of a script says.
+/// The event that a line of a script names.
 pub fn event_of(alloc: Global, line: &[u8]) -> Result<Event, NoEvent> {
     let (word, value) = word_and_value(line);
     match value {
@@ -52,7 +58,7 @@ pub fn event_of(alloc: Global, line: &[u8]) -> Result<Event, NoEvent> {
     }
 }
 
-// The word of a line, and what follows the first space, where there is one.
+// The first word of a line, and what follows the first space, if there is one.
 fn word_and_value(line: &[u8]) -> (&[u8], Option<&[u8]>) {
     match line.iter().position(|byte| *byte == SPACE) {
         Some(at) => (&line[..at], Some(&line[at + 1..])),
@@ -60,7 +66,7 @@ fn word_and_value(line: &[u8]) -> (&[u8], Option<&[u8]>) {
     }
 }
 
-// The event of a word that stands alone.
+// The event of a word that needs no value.
 fn plain_event(word: &[u8]) -> Option<Event> {
     match word {
         b"linkup" => Some(Event::LinkUp),
@@ -77,17 +83,17 @@ fn plain_event(word: &[u8]) -> Option<Event> {
 fn event_with(word: &[u8], value: &[u8]) -> Option<Event> {
     match word {
         b"ask" => Some(Event::Ask(kind_of(value)?)),
-        b"move" => Some(Event::Move(number_of(value)? as usize)),
-        b"deliver" => Some(Event::Deliver(number_of(value)? as usize)),
-        b"answer" => Some(Event::Answer(number_of(value)? as usize)),
-        b"host-restart" => Some(Event::HostRestart(number_of(value)?)),
+        b"move" => Some(Event::Move(number_in(value)? as usize)),
+        b"deliver" => Some(Event::Deliver(number_in(value)? as usize)),
+        b"answer" => Some(Event::Answer(number_in(value)? as usize)),
+        b"host-restart" => Some(Event::HostRestart(number_in(value)?)),
         b"condition" => Some(Event::SetCondition(condition_of(value)?)),
         _ => None,
     }
 }
 
 // A number in decimal, up to the greatest u32.
-fn number_of(text: &[u8]) -> Option<u32> {
+fn number_in(text: &[u8]) -> Option<u32> {
     if text.is_empty() {
         return None;
     }
@@ -105,7 +111,7 @@ fn number_of(text: &[u8]) -> Option<u32> {
 
 // The kind of a status request.
 fn kind_of(text: &[u8]) -> Option<StatusKind> {
-    let number = u8::try_from(number_of(text)?).ok()?;
+    let number = u8::try_from(number_in(text)?).ok()?;
     StatusKind::new(number)
 }
 

@@ -1,36 +1,35 @@
-//! The word `send`: a receipt goes to a printer over TCP, and what became of it is told.
+//! The job `send`: a receipt goes to a printer over TCP, and the result is printed.
 //!
-//! What sending comes to is `send_link`'s, over any source and sink; here it is given a socket, and tells how it went.
+//! Sending is left to `send_link`, over any source and sink; here it is given a socket, and its result is printed.
 
 ghost use Rattle.std.specs.Prelude.{◌≡◌, ◌≢◌, ◌+◌, ◌≤◌, ◌++◌, [], length, max, IsTrue};
 ghost use Rattle.escpos_host.specs.Machine.{Down};
 ghost use Rattle.escpos_jobs.specs.declared.input.TheConstants.{INPUT_LIMIT};
-ghost use Rattle.escpos_jobs.specs.Outcome.{outcome};
-ghost use Rattle.escpos_jobs.specs.Send.{SendsAndTells, fault_line, is_memory, passed, recorded_line, sent_text, status_of_fault, status_of_sent};
+ghost use Rattle.escpos_jobs.specs.Ending.{job_end};
+ghost use Rattle.escpos_jobs.specs.Send.{SendsAndTells, not_recorded_line, is_memory_fault, passed, recorded_line, sent_text, status_of_fault, status_of_sent};
 
-use crate::lines::append_number;
-use crate::outcome::{MEMORY, say};
+use crate::ending::{MEMORY, say};
 use crate::receipt_input::{read_receipt, refuse_input};
 use crate::status::Status;
 use escpos_command::LF;
 use escpos_host::{Host, HostError, Receipt, SendFault, Sent, send_link};
-use escpos_io::{ByteIn, ByteOut, GATHERED_BYTES, Gather, Incoming, Outgoing, laws};
+use escpos_io::{ByteIn, ByteOut, GATHERED_BYTES, Gather, Incoming, Outgoing, append_number, laws};
 use std::alloc::Global;
 use std::net::{Net, SocketAddrV4, TcpStream};
 
-/// How many bytes of answers are read at most.
+/// The most bytes of answers that are read.
 pub const ANSWERS_LIMIT: u32 = 65_536;
 
 const _: () = prove!(ANSWERS_LIMIT == 65_536);
 
-/// More than what is printed of a receipt that was sent.
+/// More bytes than are printed for a receipt that was sent.
 const TEXT_BYTES: usize = 128;
 
 const _: () = prove!(TEXT_BYTES == 128);
 
 /// Reads a receipt in JSON from `input`, connects to the printer at `address`, and sends the receipt as `send_on` does.
 ///
-/// Nothing is connected where there is no receipt: then the line goes out that says why, as for `encode`. Where there is no
+/// If there is no receipt, nothing is connected, and the line that says why is printed, as for `encode`. If there is no
 /// connection, the line is `no link` and the status `Device`.
 pub fn send_to<N: Net<Stream = TcpStream>, R: ByteIn, W: ByteOut>(
     net: &N,
@@ -57,10 +56,10 @@ pub fn send_to<N: Net<Stream = TcpStream>, R: ByteIn, W: ByteOut>(
     }
 }
 
-/// What is printed where there is no connection.
+/// What is printed if there is no connection.
 pub const NO_LINK: &[u8] = b"no link\n";
 
-/// Sends a receipt over a stream, with so many opening marks from the number `first` on, and puts what became of it and the
+/// Sends a receipt over a stream, with `openings` opening marks from the number `first` on, and prints the result and the
 /// next mark's number, as `send_over` does. A wait for the printer lasts as long as the stream.
 pub fn send_on<W: ByteOut>(
     alloc: Global,
@@ -84,16 +83,17 @@ pub fn send_on<W: ByteOut>(
 /// The numbers of the marks of a receipt.
 #[derive(Clone, Copy, Debug, PartialEq, Eq)]
 pub struct Marks {
-    /// The first one that is free.
+    /// The first number that is free.
     pub first: u32,
-    /// How many opening marks are sent, one where it is 0.
+    /// How many opening marks are sent; 0 counts as 1.
     pub openings: u32,
 }
 
-/// Sends a receipt and puts two lines: `recorded 0`, or `not recorded WHY`, or `memory` where that is why; then `next M`.
+/// Sends a receipt and prints two lines: `recorded 0`, or `not recorded WHY`, or `memory` if that is the reason; then `next
+/// M`.
 ///
-/// The status is `Good` where the receipt is recorded, `Refused` where the numbers of marks are used up, `Memory` for want of
-/// memory, and `Device` for every other reason, and where `output` has failed.
+/// The status is `Good` if the receipt is recorded, `Refused` if the mark numbers are used up, `Memory` if an allocation
+/// failed, and `Device` for every other reason, and if `output` has failed.
 pub fn send_over<R: ByteIn, A: ByteOut, W: ByteOut>(
     alloc: Global,
     marks: Marks,
@@ -104,10 +104,11 @@ pub fn send_over<R: ByteIn, A: ByteOut, W: ByteOut>(
 ) -> Status
     ensures sends { SendsAndTells (record { before = record { phase = Down; out = []; half = []; next = marks.first; records = []; left = [] }; receipt = receipt; openings = max marks.openings 1; most = ANSWERS_LIMIT })
         (passed (R.to_come reader.old) (R.to_come reader.new) (A.written writer.old) (A.written writer.new))
-        (outcome (W.written output.old) (W.written output.new) (W.failed output.new) result) }
+        (job_end (W.written output.old) (W.written output.new) (W.failed output.new) result) }
     ensures never_usage { result ≢ Status.Usage }
     ensures not_hidden { result ≢ Status.Device → ¬ IsTrue (W.failed output.old) → ¬ IsTrue (W.failed output.new) }
 {
+    // Proof only: appended bytes count as given.
     laws::given_in_place();
     let mut host = Host::new(alloc, marks.first);
     let sent = send_link(
@@ -126,11 +127,11 @@ pub fn send_over<R: ByteIn, A: ByteOut, W: ByteOut>(
     }
 }
 
-// What became of the receipt, and the next mark's number.
+// Appends what became of the receipt, and the next mark's number.
 fn append_sent(gather: &mut Gather, sent: &Sent, next: u32)
     requires { length gather.old.kept + TEXT_BYTES ≤ GATHERED_BYTES }
     ensures kept { gather.new.kept ≡ gather.old.kept ++ sent_text sent.now next }
-    ensures same_count { gather.new.taken ≡ gather.old.taken }
+    ensures same_count { gather.new.written ≡ gather.old.written }
 {
     match sent {
         Sent::Recorded(number) => append_recorded(gather, *number),
@@ -141,11 +142,11 @@ fn append_sent(gather: &mut Gather, sent: &Sent, next: u32)
     gather.push(LF);
 }
 
-// The line of a receipt that is recorded.
+// Appends the line of a receipt that is recorded.
 fn append_recorded(gather: &mut Gather, number: usize)
     requires { length gather.old.kept + 64 ≤ GATHERED_BYTES }
     ensures kept { gather.new.kept ≡ gather.old.kept ++ recorded_line number }
-    ensures same_count { gather.new.taken ≡ gather.old.taken }
+    ensures same_count { gather.new.written ≡ gather.old.written }
     ensures short { length (recorded_line number) ≤ 64 }
 {
     gather.extend(b"recorded ");
@@ -153,14 +154,14 @@ fn append_recorded(gather: &mut Gather, number: usize)
     gather.push(LF);
 }
 
-// The line that says why a receipt isn't recorded.
+// Appends the line that says why a receipt isn't recorded.
 fn append_fault(gather: &mut Gather, why: SendFault)
     requires { length gather.old.kept + 64 ≤ GATHERED_BYTES }
-    ensures kept { gather.new.kept ≡ gather.old.kept ++ fault_line why }
-    ensures same_count { gather.new.taken ≡ gather.old.taken }
-    ensures short { length (fault_line why) ≤ 64 }
+    ensures kept { gather.new.kept ≡ gather.old.kept ++ not_recorded_line why }
+    ensures same_count { gather.new.written ≡ gather.old.written }
+    ensures short { length (not_recorded_line why) ≤ 64 }
 {
-    if is_memory(why) {
+    if is_memory_fault(why) {
         gather.extend(MEMORY);
     } else {
         gather.extend(b"not recorded ");
@@ -169,9 +170,9 @@ fn append_fault(gather: &mut Gather, why: SendFault)
     }
 }
 
-/// Whether a receipt isn't recorded for want of memory.
-pub fn is_memory(why: SendFault) -> bool
-    ensures { result ≡ is_memory why }
+/// Whether a receipt isn't recorded because an allocation failed.
+pub fn is_memory_fault(why: SendFault) -> bool
+    ensures { result ≡ is_memory_fault why }
 {
     match why {
         SendFault::Refused(HostError::Memory) => true,
@@ -179,7 +180,7 @@ pub fn is_memory(why: SendFault) -> bool
     }
 }
 
-// The status of what became of a receipt.
+// The status for what became of a receipt.
 fn status_of_sent(sent: &Sent) -> Status
     ensures { result ≡ status_of_sent sent.now }
 {

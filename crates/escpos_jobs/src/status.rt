@@ -1,4 +1,4 @@
-//! What the program ends with.
+//! The exit status of the program.
 
 ghost use Rattle.std.specs.Prelude.{◌≡◌};
 ghost use Rattle.std.specs.Process.{exit_status};
@@ -13,11 +13,11 @@ pub enum Status {
     Good,
     /// The input was read and isn't what it should be.
     Refused,
-    /// The words after the program's name name no task.
+    /// The program's arguments name no task.
     Usage,
     /// A stream, a link or another device failed.
     Device,
-    /// There wasn't enough memory.
+    /// Out of memory.
     Memory,
 }
 

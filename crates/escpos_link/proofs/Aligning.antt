@@ -1,13 +1,14 @@
--- Alignment: once a mark of a link was run, what is run from there on is what the host put behind it.
+-- Alignment: once a mark of a link was run, what is run from there on is what the host put after it.
 --
--- A printer may come to a link with a half command of an older one, and so takes the first bytes of the new link for the rest of
--- that: a raster may swallow a hundred marks. But only marks are put on a link before one of them is answered. Whatever stood
--- before a mark, a front of it is read as no mark at all, or nothing stood before it and it was read whole, at its own place: that is
--- what resynchronisation says of one mark, because the byte 1D begins a mark and stands nowhere else in it. So take the marks
--- that were put on a link, one after another. As long as none was run, each was read behind some half command and leaves one, which
--- is what the next comes behind. If one was run, nothing stood before it and nothing is left of it; and then the next bytes are the
--- first ones of the commands that the host put behind it, whose first part is read as the first of them. So the printer reads from
--- there on what the host meant, however the bytes were cut on the way.
+-- A printer may come to a link with a half command of an older one, and so takes the first bytes of the new link for the
+-- rest of that: a raster may swallow a hundred marks. But only marks are put on a link before one of them is answered.
+-- Whatever stood before a mark, a prefix of it is read as no mark at all, unless nothing stood before it and it was read
+-- whole, at its own place. That is what resynchronisation says of one mark, because the byte 1D begins a mark and stands
+-- nowhere else in it. So take the marks that were put on a link, one after another. As long as none was run, each was read
+-- after some half command and leaves one, which the next mark comes after. If one was run, nothing stood before it and
+-- nothing is left of it; and then the next bytes are the first ones of the commands that the host put after it, whose first
+-- part is read as the first of them. So the printer reads from there on what the host meant, however the bytes were cut on
+-- the way.
 use Rattle.std.proofs.Common.{◌≡◌, ◌≢◌, ◌⊎◌, ◌+◌, inl, inr, ℕ, List, [], ◌∷◌, ◌++◌, refl, sym, ◌∙◌, ap, subst, append-nil, append_assoc, map, IsTrue, length}
 use Rattle.std.proofs.lemmas.Grind.{flat_map-append}
 use Rattle.std.specs.Prelude.{option_to_list}
@@ -22,7 +23,7 @@ use Rattle.escpos_command.specs.Parameters.{is_mark_id}
 use Rattle.escpos_link.specs.Trusted.{IsRest, Known}
 use Rattle.escpos_link.proofs.Numbers.{OfNumbers}
 
--- What is below of readings.
+-- What the layers below say of readings.
 pub record OfReadings : Type 0 where
   pub read_or_refused : (bs : List ℕ) → IsRead bs ⊎ IsRefused bs
   pub one_reading : (bs : List ℕ) (cs ds : List Command) (x y : List ℕ) → Reads bs cs x → Reads bs ds y → (cs ≡ ds) × (x ≡ y)
@@ -53,10 +54,10 @@ commands_of of b [] k = tt
 commands_of of b (id ∷ ids) k = (id_of_known of b id ids k, commands_of of b ids k.1)
 
 pub reads_all : (cs : List Command) → AreCommands cs → Reads (spell cs) cs []
-reads_all cs are = record { commands = are; whole = sym (append-nil (spell cs)); left = inl refl }
+reads_all cs are = record { commands = are; whole = sym (append-nil (spell cs)); rest_is = inl refl }
 
 rest_reads : (h : List ℕ) → IsRest h → Reads (h ++ []) [] h
-rest_reads h rest = record { commands = tt; whole = append-nil h; left = rest }
+rest_reads h rest = record { commands = tt; whole = append-nil h; rest_is = rest }
 
 -- Nothing came, so nothing was read.
 pub none_read : OfReadings → (h q : List ℕ) (cs : List Command) (next : List ℕ) → IsRest h → q ≡ [] → Reads (h ++ q) cs next → cs ≡ []
@@ -86,7 +87,7 @@ cut_reading below a b cs next whole (inl (some, mid, reads)) = cut_at below a b 
 cut_reading below a b cs next whole (inr (some, mid, k, why, fault)) =
     absurd (below.not_both (a ++ b) (cs, next, whole) (some, mid, k, why, below.first_fault a b some mid k why fault))
 
--- ## A front of two lists
+-- ## A prefix of two lists
 
 pub tail_same : {X : Type 0} (x y : X) (xs ys : List X) → x ∷ xs ≡ y ∷ ys → xs ≡ ys
 tail_same x y xs ys e = cc
@@ -94,7 +95,8 @@ tail_same x y xs ys e = cc
 pub head_same : {X : Type 0} (x y : X) (xs ys : List X) → x ∷ xs ≡ y ∷ ys → x ≡ y
 head_same x y xs ys e = cc
 
--- Where two lists with something after them agree, the first is a front of the second, or the second a front of the first.
+-- Where two lists with something after them agree, the first is a prefix of the second, or the second a prefix of the
+-- first.
 abbrev pub Fronts : {X : Type 0} → List X → List X → List X → List X → Type 0
 Fronts {X} a s b t = ((y : List X) × (b ≡ a ++ y) × (s ≡ y ++ t)) ⊎ ((y : List X) × (a ≡ b ++ y) × (t ≡ y ++ s))
 
@@ -115,10 +117,10 @@ pub nothing_last : {X : Type 0} (a b : List X) → a ++ b ≡ [] → b ≡ []
 nothing_last [] b e = e
 nothing_last (x ∷ a) b e = absurd cc
 
--- ## Marks behind whatever stood before them
+-- ## Marks after whatever stood before them
 
--- What is left when marks were put behind a half command, a part of them was delivered, and read so: no mark was; or what is left of
--- it, and what is still to come, are commands, whose marks with those that were read are known.
+-- What is left when marks were put after a half command, and a part of them was delivered and read so: no mark was read; or
+-- what is left of it, and what is still to come, are commands, whose marks are known together with those that were read.
 abbrev pub MayTurn : ℕ → List ℕ → List Command → List ℕ → Type 0
 MayTurn b later cs next =
     (marks cs ≡ []) ⊎ ((others : List Command) × Reads (next ++ later) others [] × Known b (marks cs ++ marks others))
@@ -133,7 +135,7 @@ none_left below h id cs next ok none r =
     subst (λ v. Reads v (kind.Mark id ∷ []) []) (append-nil (row (kind.Mark id))) (reads_all (kind.Mark id ∷ []) (ok, tt)) in
     (below.one_reading (row (kind.Mark id)) cs (kind.Mark id ∷ []) next [] (subst (λ v. Reads (v ++ row (kind.Mark id)) cs next) none r) one).1
 
--- A mark was read: the marks behind it are, as far as they came.
+-- A mark was read: the marks after it are read too, as far as they came.
 turned : OfReadings → OfNumbers → (b : ℕ) (id : List ℕ) (ids : List (List ℕ)) (q later : List ℕ) (some cs : List Command) (next : List ℕ) → Known b (id ∷ ids)
     → some ≡ kind.Mark id ∷ [] → q ++ later ≡ spell (map kind.Mark ids) → Reads q cs next → MayTurn b later (some ++ cs) next
 turned below of b id ids q later some cs next known is spelled reads =
@@ -143,7 +145,7 @@ turned below of b id ids q later some cs next known is spelled reads =
     ap (λ v. marks (v ++ cs) ++ marks c.0) is ∙ ap (λ v. id ∷ v) (sym (marks_append cs c.0) ∙ ap marks (sym c.1) ∙ marks_of ids) in
     inr (c.0, c.2, subst (Known b) (sym same) known)
 
--- A front of the first mark came, perhaps all of it.
+-- A prefix of the first mark came, perhaps all of it.
 front_came : OfReadings → OfNumbers → (b : ℕ) (id : List ℕ) (ids : List (List ℕ)) (h q y later : List ℕ) (cs : List Command) (next : List ℕ) → IsRest h
     → Known b (id ∷ ids) → row (kind.Mark id) ≡ q ++ y → later ≡ y ++ spell (map kind.Mark ids) → Reads (h ++ q) cs next → MayTurn b later cs next
 front_came below of b id ids h [] y later cs next rest known is after reads = inl (ap marks (none_read below h [] cs next rest refl reads))
@@ -154,12 +156,12 @@ front_came below of b id ids h (x ∷ q) y later cs next rest known is after rea
       | inr (first, whole, one) ↦
           let all : row (kind.Mark id) ≡ x ∷ q = is ∙ ap (λ v. (x ∷ q) ++ v) whole ∙ append-nil (x ∷ q) in
           let left = none_left below h id cs next ok first (subst (λ v. Reads (h ++ v) cs next) (sym all) reads) in
-          let nothing : Reads [] [] next = subst (λ v. Reads [] [] v) (sym left) (record { commands = tt; whole = refl; left = inl refl }) in
+          let nothing : Reads [] [] next = subst (λ v. Reads [] [] v) (sym left) (record { commands = tt; whole = refl; rest_is = inl refl }) in
           subst (λ v. MayTurn b later v next) (append-nil cs)
           (turned below of b id ids [] later cs [] next known one (after ∙ ap (λ v. v ++ spell (map kind.Mark ids)) whole) nothing)
     ]
 
--- What is true of these marks, whatever stood before them.
+-- What holds for these marks, whatever stood before them.
 abbrev Behind : ℕ → List (List ℕ) → Type 0
 Behind b ids = (h q later : List ℕ) (cs : List Command) (next : List ℕ) → IsRest h → q ++ later ≡ spell (map kind.Mark ids) → Reads (h ++ q) cs next
     → MayTurn b later cs next
@@ -173,7 +175,7 @@ all_came below of b id ids h q y later cs next rest known is after c behind =
     let one = below.resynchronisation h (row (kind.Mark id)) [] id c.some c.mid rest ok (row_begins id) (sym (append-nil (row (kind.Mark id)))) c.reads in
     subst (λ v. MayTurn b later v next) (sym c.all)
     (elim one.none_else [
-      | inl none ↦ elim (behind c.mid y later c.others next c.reads.left (sym after) c.goes) [
+      | inl none ↦ elim (behind c.mid y later c.others next c.reads.rest_is (sym after) c.goes) [
         | inl also ↦ inl (marks_append c.some c.others ∙ ap (λ v. v ++ marks c.others) none ∙ also)
         | inr (others, goes, ks) ↦
             inr (others, goes, subst (λ v. Known b (v ++ marks others)) (sym (marks_append c.some c.others ∙ ap (λ v. v ++ marks c.others) none)) ks)

@@ -1,12 +1,13 @@
--- Standing: a receipt whose closing mark is answered stands on the paper, behind all receipts that are recorded or were sent before it.
+-- Standing: a receipt whose closing mark is answered stands on the paper, after all receipts that are recorded or were sent
+-- before it.
 --
--- The host puts an Init before each receipt and its closing mark behind it, and the printer runs commands in the order in which they
--- were put. What was printed before an Init doesn't matter to what is printed after it: from there on the receipt's commands print what
--- they print on a printer just switched on. So when they have been run, exactly those items are on the paper, behind the items of the
--- receipts before it; and a closing mark that is run comes behind all of them. Nothing removes an item, so what stands stands. A
--- closing mark is answered only after it was run, and each has a number of its own, which no older mark has. The answers come in the
--- order of the marks, so the one to the oldest receipt in flight comes first, and the receipts that the host records are just those that stand,
--- in order.
+-- The host puts an Init before each receipt and its closing mark after it, and the printer runs commands in the order in
+-- which they were put. What was printed before an Init doesn't matter to what is printed after it: from there on the
+-- receipt's commands print what they print on a printer just switched on. So when they have been run, exactly those items
+-- are on the paper, after the items of the receipts before it; and a closing mark that is run comes after all of them.
+-- Nothing removes an item, so what stands stays. A closing mark is answered only after it was run, and each has a number of
+-- its own, which no older mark has. The answers come in the order of the marks, so the one to the oldest receipt in flight
+-- comes first, and the receipts that the host records are just those that stand, in order.
 use Rattle.std.proofs.Common.{◌≡◌, ◌⊎◌, ◌<◌, ◌≤◌, ◌+◌, inl, inr, ℕ, List, [], ◌∷◌, ◌++◌, refl, sym, ◌∙◌, ap, subst, arith, append-nil, append_assoc}
 use Rattle.std.proofs.lemmas.List.{append_cancel_right}
 use Rattle.std.specs.List.{AllByRecursion}
@@ -19,17 +20,17 @@ use Rattle.escpos_paper.specs.Printed.{printed}
 use Rattle.escpos_host.specs.Heard.{IsClosing}
 use Rattle.escpos_host.specs.Machine.{InFlight}
 use Rattle.escpos_link.specs.Stands.{Stands}
-use Rattle.escpos_link.specs.Trusted.{Course, InOrder, IsKnown, Known, Owed, Printing, Rising, Stood, closing, receipts, sends}
+use Rattle.escpos_link.specs.Trusted.{Course, InOrder, IsKnown, Known, Owed, Printing, Rising, Stood, closing_marks, receipts, sends}
 use Rattle.escpos_link.proofs.Aligning.{head_same, marks_append, tail_same}
 use Rattle.escpos_link.proofs.Numbers.{OfNumbers, known_front, known_join, known_more, not_closing, rising_add, rising_known, rising_more, rising_within}
 use Rattle.escpos_link.proofs.Standing.{stands_add, stands_front, stands_more}
 
--- What is below of paper.
+-- What the layers below say of paper.
 pub record OfPaper : Type 0 where
   pub init : (a b : List Command) → printed (a ++ kind.Init ∷ [] ++ b) ≡ printed a ++ printed b
   pub grows : (a b : List Command) → (more : List Item) × (printed (a ++ b) ≡ printed a ++ more)
 
-closing_append : (a b : List InFlight) → closing (a ++ b) ≡ closing a ++ closing b
+closing_append : (a b : List InFlight) → closing_marks (a ++ b) ≡ closing_marks a ++ closing_marks b
 closing_append [] b = refl
 closing_append (p ∷ a) b = ap (λ v. p.mark ∷ v) (closing_append a b)
 
@@ -50,44 +51,44 @@ unmarked_add : (todo : List InFlight) (p : InFlight) → Unmarked todo → marks
 unmarked_add [] p u none = (none, tt)
 unmarked_add (q ∷ todo) p u none = (u.0, unmarked_add todo p u.1 none)
 
-marks_sends : (todo : List InFlight) → Unmarked todo → marks (sends todo) ≡ closing todo
+marks_sends : (todo : List InFlight) → Unmarked todo → marks (sends todo) ≡ closing_marks todo
 marks_sends [] u = refl
 marks_sends (p ∷ ps) u =
     marks_append p.receipt (kind.Mark p.mark ∷ sends ps) ∙ ap (λ v. v ++ (p.mark ∷ marks (sends ps))) u.0 ∙ ap (λ v. p.mark ∷ v) (marks_sends ps u.1)
 
--- ## A front of the marks that are to be heard
+-- ## A prefix of the marks that are to be heard
 
 record Front (base : ℕ) (done : List InFlight) (xs : List (List ℕ)) : Type 0 where
   old : List (List ℕ)
   first : List InFlight
   more : List InFlight
   known : Known base old
-  front_is : xs ≡ old ++ closing first
+  front_is : xs ≡ old ++ closing_marks first
   done_is : done ≡ first ++ more
 
-front_done : (base : ℕ) (xs ys : List (List ℕ)) (done : List InFlight) → xs ++ ys ≡ closing done
-    → (first : List InFlight) × (more : List InFlight) × (xs ≡ closing first) × (done ≡ first ++ more)
+front_done : (base : ℕ) (xs ys : List (List ℕ)) (done : List InFlight) → xs ++ ys ≡ closing_marks done
+    → (first : List InFlight) × (more : List InFlight) × (xs ≡ closing_marks first) × (done ≡ first ++ more)
 front_done base [] ys done e = ([], done, refl, refl)
 front_done base (x ∷ xs) ys [] e = absurd cc
 front_done base (x ∷ xs) ys (d ∷ done) e =
-    let r = front_done base xs ys done (tail_same x d.mark (xs ++ ys) (closing done) e) in (
+    let r = front_done base xs ys done (tail_same x d.mark (xs ++ ys) (closing_marks done) e) in (
       d ∷ r.0,
       r.1,
-      ap (λ v. v ∷ xs) (head_same x d.mark (xs ++ ys) (closing done) e) ∙ ap (λ v. d.mark ∷ v) r.2,
+      ap (λ v. v ∷ xs) (head_same x d.mark (xs ++ ys) (closing_marks done) e) ∙ ap (λ v. d.mark ∷ v) r.2,
       ap (λ v. d ∷ v) r.3,
     )
 
-front_queue : (base : ℕ) (old : List (List ℕ)) (done : List InFlight) (xs ys : List (List ℕ)) → Known base old → xs ++ ys ≡ old ++ closing done → Front base done xs
+front_queue : (base : ℕ) (old : List (List ℕ)) (done : List InFlight) (xs ys : List (List ℕ)) → Known base old → xs ++ ys ≡ old ++ closing_marks done → Front base done xs
 front_queue base [] done xs ys k e =
     let r = front_done base xs ys done e in record { old = []; first = r.0; more = r.1; known = tt; front_is = r.2; done_is = r.3 }
 front_queue base (o ∷ old) done [] ys k e = record { old = []; first = []; more = done; known = tt; front_is = refl; done_is = refl }
 front_queue base (o ∷ old) done (x ∷ xs) ys k e =
-    let r = front_queue base old done xs ys k.1 (tail_same x o (xs ++ ys) (old ++ closing done) e) in
+    let r = front_queue base old done xs ys k.1 (tail_same x o (xs ++ ys) (old ++ closing_marks done) e) in
     record {
       old = x ∷ r.old;
       first = r.first;
       more = r.more;
-      known = (subst (IsKnown base) (sym (head_same x o (xs ++ ys) (old ++ closing done) e)) k.0, r.known);
+      known = (subst (IsKnown base) (sym (head_same x o (xs ++ ys) (old ++ closing_marks done) e)) k.0, r.known);
       front_is = ap (λ v. x ∷ v) r.front_is;
       done_is = r.done_is;
     }
@@ -113,7 +114,7 @@ owed_front records flight next items xs ys w =
       stands = stands_front (records ++ receipts f.first) (receipts f.more) items (subst (λ v. Stands v items) all w.stands);
     }
 
--- ## What a course comes to where nothing of it is run any more
+-- ## What a course gives when nothing of it is run any more
 
 printed_so : OfPaper → (kept : List Item) (first run ran : List Command) → ran ≡ first ++ kind.Init ∷ [] ++ run
     → (kept ++ printed first) ++ printed run ≡ kept ++ printed ran
@@ -131,10 +132,10 @@ settles paper records flight done todo next kept ran pending rest is order (inl 
 settles paper records flight done todo next kept ran pending rest is order (inr p) =
     let split : done ++ todo ≡ p.before ++ (p.current ∷ todo) = ap (λ v. v ++ todo) p.done_is ∙ append_assoc p.before (p.current ∷ []) todo in
     let id = p.current.mark in
-    let long : (pending ++ marks p.left) ++ id ∷ [] ≡ (order.old ++ closing p.before) ++ id ∷ [] =
-    append_assoc pending (marks p.left) (id ∷ []) ∙ ap (λ v. pending ++ v) (sym (marks_last p.left id rest p.rest_is)) ∙ order.queue_is
-    ∙ ap (λ v. order.old ++ v) (ap closing p.done_is ∙ closing_append p.before (p.current ∷ [])) ∙ sym (append_assoc order.old (closing p.before) (id ∷ [])) in (
-      marks p.left,
+    let long : (pending ++ marks p.to_run) ++ id ∷ [] ≡ (order.old ++ closing_marks p.before) ++ id ∷ [] =
+    append_assoc pending (marks p.to_run) (id ∷ []) ∙ ap (λ v. pending ++ v) (sym (marks_last p.to_run id rest p.rest_is)) ∙ order.queue_is
+    ∙ ap (λ v. order.old ++ v) (ap closing_marks p.done_is ∙ closing_append p.before (p.current ∷ [])) ∙ sym (append_assoc order.old (closing_marks p.before) (id ∷ [])) in (
+      marks p.to_run,
       record {
         done = p.before;
         todo = p.current ∷ todo;
@@ -144,7 +145,7 @@ settles paper records flight done todo next kept ran pending rest is order (inr 
           base = order.base;
           known = order.known;
           rising = subst (λ v. Rising order.base v next) split order.rising;
-          queue_is = append_cancel_right (pending ++ marks p.left) (order.old ++ closing p.before) (id ∷ []) long;
+          queue_is = append_cancel_right (pending ++ marks p.to_run) (order.old ++ closing_marks p.before) (id ∷ []) long;
         };
         stands = subst (λ v. Stands (records ++ receipts p.before) v) (printed_so paper kept p.first p.run ran p.ran_is)
             (stands_more (records ++ receipts p.before) (kept ++ printed p.first) (printed p.run) p.stands);
@@ -168,24 +169,24 @@ course_stands paper records flight next kept ran pending due c =
     let s = settles paper records flight c.done c.todo next kept ran pending c.rest c.flight_is c.order c.stood in
     owed_stands records flight next (kept ++ printed ran) (pending ++ s.0) s.1
 
-order_known : (done todo : List InFlight) (next : ℕ) (queue : List (List ℕ)) → InOrder done todo next queue → Known next (queue ++ closing todo)
+order_known : (done todo : List InFlight) (next : ℕ) (queue : List (List ℕ)) → InOrder done todo next queue → Known next (queue ++ closing_marks todo)
 order_known done todo next queue o =
     let within = rising_within o.base next (done ++ todo) o.rising in
-    let all : queue ++ closing todo ≡ o.old ++ closing (done ++ todo) =
-    ap (λ v. v ++ closing todo) o.queue_is ∙ append_assoc o.old (closing done) (closing todo) ∙ ap (λ v. o.old ++ v) (sym (closing_append done todo)) in
+    let all : queue ++ closing_marks todo ≡ o.old ++ closing_marks (done ++ todo) =
+    ap (λ v. v ++ closing_marks todo) o.queue_is ∙ append_assoc o.old (closing_marks done) (closing_marks todo) ∙ ap (λ v. o.old ++ v) (sym (closing_append done todo)) in
     subst (Known next) (sym all)
-    (known_join next o.old (closing (done ++ todo)) (known_more o.base next o.old within o.known) (rising_known o.base next (done ++ todo) o.rising))
+    (known_join next o.old (closing_marks (done ++ todo)) (known_more o.base next o.old within o.known) (rising_known o.base next (done ++ todo) o.rising))
 
 pub owed_known : (records : List (List Command)) (flight : List InFlight) (next : ℕ) (items : List Item) (pending : List (List ℕ))
     → Owed records flight next items pending → Known next pending
-owed_known records flight next items pending w = known_front next pending (closing w.todo) (order_known w.done w.todo next pending w.order)
+owed_known records flight next items pending w = known_front next pending (closing_marks w.todo) (order_known w.done w.todo next pending w.order)
 
 pub course_known : (records : List (List Command)) (flight : List InFlight) (next : ℕ) (kept : List Item) (ran : List Command) (pending : List (List ℕ))
     (due : List Command) → Course records flight next kept ran pending due → Known next (pending ++ marks due)
 course_known records flight next kept ran pending due c =
-    let of_due : marks due ≡ marks c.rest ++ closing c.todo =
+    let of_due : marks due ≡ marks c.rest ++ closing_marks c.todo =
     ap marks c.due_is ∙ marks_append c.rest (sends c.todo) ∙ ap (λ v. marks c.rest ++ v) (marks_sends c.todo c.unmarked) in
-    subst (Known next) (append_assoc pending (marks c.rest) (closing c.todo) ∙ ap (λ v. pending ++ v) (sym of_due))
+    subst (Known next) (append_assoc pending (marks c.rest) (closing_marks c.todo) ∙ ap (λ v. pending ++ v) (sym of_due))
     (order_known c.done c.todo next (pending ++ marks c.rest) c.order)
 
 -- ## With no receipt in flight
@@ -288,7 +289,7 @@ more_printed paper rs kept ran cs s =
 
 -- A receipt that is printed to its end stands.
 finished : OfPaper → (records : List (List Command)) (done : List InFlight) (rest : List Command) (kept : List Item) (ran : List Command)
-    → (p : Printing records done rest kept ran) → p.left ≡ [] → Stands (records ++ receipts done) (kept ++ printed ran)
+    → (p : Printing records done rest kept ran) → p.to_run ≡ [] → Stands (records ++ receipts done) (kept ++ printed ran)
 finished paper records done rest kept ran p none =
     let whole : p.run ≡ p.current.receipt = sym (append-nil p.run) ∙ ap (λ v. p.run ++ v) (sym none) ∙ sym p.receipt_is in
     let all : (records ++ receipts p.before) ++ p.current.receipt ∷ [] ≡ records ++ receipts done =
@@ -300,7 +301,7 @@ finished paper records done rest kept ran p none =
     (stands_add (records ++ receipts p.before) p.current.receipt (kept ++ printed p.first) p.stands))
 
 printing_on : OfPaper → (records : List (List Command)) (done : List InFlight) (d : Command) (rest : List Command) (kept : List Item) (ran left : List Command)
-    → (p : Printing records done (d ∷ rest) kept ran) → p.left ≡ left → Stood records done rest kept (ran ++ d ∷ [])
+    → (p : Printing records done (d ∷ rest) kept ran) → p.to_run ≡ left → Stood records done rest kept (ran ++ d ∷ [])
 printing_on paper records done d rest kept ran [] p is =
     inl (more_printed paper (records ++ receipts done) kept ran (d ∷ []) (finished paper records done (d ∷ rest) kept ran p is))
 printing_on paper records done d rest kept ran (l ∷ left) p is =
@@ -311,7 +312,7 @@ printing_on paper records done d rest kept ran (l ∷ left) p is =
       current = p.current;
       first = p.first;
       run = p.run ++ d ∷ [];
-      left = left;
+      to_run = left;
       done_is = p.done_is;
       ran_is = ap (λ v. v ++ d ∷ []) p.ran_is ∙ append_assoc (p.first ++ kind.Init ∷ []) p.run (d ∷ []);
       receipt_is = p.receipt_is ∙ ap (λ v. p.run ++ v) (is ∙ ap (λ v. v ∷ left) (sym same)) ∙ sym (append_assoc p.run (d ∷ []) left);
@@ -322,7 +323,7 @@ printing_on paper records done d rest kept ran (l ∷ left) p is =
 stood_on : OfPaper → (records : List (List Command)) (done : List InFlight) (d : Command) (rest : List Command) (kept : List Item) (ran : List Command)
     → Stood records done (d ∷ rest) kept ran → Stood records done rest kept (ran ++ d ∷ [])
 stood_on paper records done d rest kept ran (inl s) = inl (more_printed paper (records ++ receipts done) kept ran (d ∷ []) s)
-stood_on paper records done d rest kept ran (inr p) = printing_on paper records done d rest kept ran p.left p refl
+stood_on paper records done d rest kept ran (inr p) = printing_on paper records done d rest kept ran p.to_run p refl
 
 -- The next command of what was begun.
 step_on : OfPaper → (records : List (List Command)) (flight done todo : List InFlight) (next : ℕ) (kept : List Item) (ran : List Command) (pending : List (List ℕ))
@@ -357,7 +358,7 @@ step_init records flight done todo q next kept ran pending is order unmarked s =
         base = order.base;
         known = order.known;
         rising = subst (λ v. Rising order.base v next) split order.rising;
-        queue_is = ap (λ v. (pending ++ []) ++ v) mark ∙ ap (λ v. v ++ q.mark ∷ []) order.queue_is ∙ append_assoc order.old (closing done) (q.mark ∷ [])
+        queue_is = ap (λ v. (pending ++ []) ++ v) mark ∙ ap (λ v. v ++ q.mark ∷ []) order.queue_is ∙ append_assoc order.old (closing_marks done) (q.mark ∷ [])
             ∙ ap (λ v. order.old ++ v) (sym (closing_append done (q ∷ [])));
       };
       due_is = sym (append_assoc q.receipt (kind.Mark q.mark ∷ []) (sends todo));
@@ -367,7 +368,7 @@ step_init records flight done todo q next kept ran pending is order unmarked s =
         current = q;
         first = ran;
         run = [];
-        left = q.receipt;
+        to_run = q.receipt;
         done_is = refl;
         ran_is = sym (append-nil (ran ++ kind.Init ∷ []));
         receipt_is = refl;
@@ -387,7 +388,7 @@ step_at paper records flight done todo next kept ran pending c (d ∷ rest) due 
     subst (λ v. Course records flight next kept (ran ++ v ∷ []) (pending ++ marks (v ∷ [])) due) (sym (head_same c d due (rest ++ sends todo) due_is))
     (step_on paper records flight done todo next kept ran pending d rest due is order (tail_same c d due (rest ++ sends todo) due_is) unmarked stood)
 step_at paper records flight done [] next kept ran pending c [] due is order due_is unmarked stood = absurd (cc due_is)
-step_at paper records flight done (q ∷ todo) next kept ran pending c [] due is order due_is unmarked (inr p) = absurd (ends_never p.left (kind.Mark p.current.mark) p.rest_is)
+step_at paper records flight done (q ∷ todo) next kept ran pending c [] due is order due_is unmarked (inr p) = absurd (ends_never p.to_run (kind.Mark p.current.mark) p.rest_is)
 step_at paper records flight done (q ∷ todo) next kept ran pending c [] due is order due_is unmarked (inl s) =
     let after = q.receipt ++ (kind.Mark q.mark ∷ sends todo) in
     subst (λ v. Course records flight next kept (ran ++ v ∷ []) (pending ++ marks (v ∷ [])) due) (sym (head_same c kind.Init due after due_is))
@@ -414,7 +415,7 @@ course_run paper records flight next kept ran pending (d ∷ cs) due c =
 
 -- ## The host hears the next mark
 
--- The mark is none of those in flight; or it is that of the oldest receipt, which is recorded.
+-- The mark isn't one of those in flight; or it is that of the oldest receipt, which is recorded.
 abbrev pub Popped : (List (List Command) → List InFlight → Type 0) → List (List Command) → List InFlight → List ℕ → Type 0
 Popped P records flight id =
     ((IsClosing flight id → ⊥) × P records flight)
@@ -423,24 +424,24 @@ Popped P records flight id =
 abbrev TurnsIn : List InFlight → List InFlight → ℕ → List ℕ → List (List ℕ) → Type 0
 TurnsIn done todo next id queue =
     ((IsClosing (done ++ todo) id → ⊥) × InOrder done todo next queue)
-    ⊎ ((q : InFlight) × (others : List InFlight) × (done ≡ q ∷ others) × (q.mark ≡ id) × (queue ≡ closing others) × InOrder others todo next queue)
+    ⊎ ((q : InFlight) × (others : List InFlight) × (done ≡ q ∷ others) × (q.mark ≡ id) × (queue ≡ closing_marks others) × InOrder others todo next queue)
 
 turn_at : OfNumbers → (base : ℕ) (old : List (List ℕ)) (done todo : List InFlight) (next : ℕ) (id : List ℕ) (queue : List (List ℕ)) → Known base old
-    → Rising base (done ++ todo) next → id ∷ queue ≡ old ++ closing done → TurnsIn done todo next id queue
+    → Rising base (done ++ todo) next → id ∷ queue ≡ old ++ closing_marks done → TurnsIn done todo next id queue
 turn_at of base (o ∷ old) done todo next id queue known rising e =
-    let same = head_same id o queue (old ++ closing done) e in
+    let same = head_same id o queue (old ++ closing_marks done) e in
     inl (
       not_closing of base next (done ++ todo) id (subst (IsKnown base) (sym same) known.0) rising,
-      record { old = old; base = base; known = known.1; rising = rising; queue_is = tail_same id o queue (old ++ closing done) e },
+      record { old = old; base = base; known = known.1; rising = rising; queue_is = tail_same id o queue (old ++ closing_marks done) e },
     )
 turn_at of base [] [] todo next id queue known rising e = absurd (cc e)
 turn_at of base [] (q ∷ others) todo next id queue known (n, from, few, is, rising) e =
-    let rest = tail_same id q.mark queue (closing others) e in
+    let rest = tail_same id q.mark queue (closing_marks others) e in
     inr (
       q,
       others,
       refl,
-      sym (head_same id q.mark queue (closing others) e),
+      sym (head_same id q.mark queue (closing_marks others) e),
       rest,
       record { old = []; base = n + 1; known = tt; rising = rising; queue_is = rest },
     )
@@ -475,11 +476,11 @@ marks_end left id pending rest is none =
 
 printing_turn : (records : List (List Command)) (done : List InFlight) (rest : List Command) (kept : List Item) (ran : List Command) (q : InFlight)
     (others before : List InFlight) (pending : List (List ℕ)) → (p : Printing records done rest kept ran) → p.before ≡ before → done ≡ q ∷ others
-    → pending ++ marks rest ≡ closing others → Printing (records ++ q.receipt ∷ []) others rest kept ran
+    → pending ++ marks rest ≡ closing_marks others → Printing (records ++ q.receipt ∷ []) others rest kept ran
 printing_turn records done rest kept ran q others [] pending p none is queue =
     let one : q ∷ others ≡ p.current ∷ [] = sym is ∙ p.done_is ∙ ap (λ v. v ++ p.current ∷ []) none in
     let last = tail_same q p.current others [] one in
-    absurd (marks_end p.left p.current.mark pending rest p.rest_is (queue ∙ ap closing last))
+    absurd (marks_end p.to_run p.current.mark pending rest p.rest_is (queue ∙ ap closing_marks last))
 printing_turn records done rest kept ran q others (b ∷ before) pending p some is queue =
     let all : q ∷ others ≡ b ∷ (before ++ p.current ∷ []) = sym is ∙ p.done_is ∙ ap (λ v. v ++ p.current ∷ []) some in
     let same = head_same q b others (before ++ p.current ∷ []) all in
@@ -488,7 +489,7 @@ printing_turn records done rest kept ran q others (b ∷ before) pending p some 
       current = p.current;
       first = p.first;
       run = p.run;
-      left = p.left;
+      to_run = p.to_run;
       done_is = tail_same q b others (before ++ p.current ∷ []) all;
       ran_is = p.ran_is;
       receipt_is = p.receipt_is;
@@ -497,7 +498,7 @@ printing_turn records done rest kept ran q others (b ∷ before) pending p some 
     }
 
 stood_turn : (records : List (List Command)) (done : List InFlight) (rest : List Command) (kept : List Item) (ran : List Command) (q : InFlight)
-    (others : List InFlight) (pending : List (List ℕ)) → done ≡ q ∷ others → pending ++ marks rest ≡ closing others → Stood records done rest kept ran
+    (others : List InFlight) (pending : List (List ℕ)) → done ≡ q ∷ others → pending ++ marks rest ≡ closing_marks others → Stood records done rest kept ran
     → Stood (records ++ q.receipt ∷ []) others rest kept ran
 stood_turn records done rest kept ran q others pending is queue (inl s) =
     inl (subst (λ v. Stands v (kept ++ printed ran)) (shifted records q done others is) s)

@@ -9,7 +9,7 @@ use Rattle.escpos_paper.specs.Printed.{printed}
 use Rattle.escpos_host.specs.Machine.{Phase, Down, Opening}
 use Rattle.escpos_link.specs.EventTable.{ended_fed, first_of, live_fed}
 use Rattle.escpos_link.specs.Stands.{Stands}
-use Rattle.escpos_link.specs.Trusted.{Course, IsRest, Known, Newest, Owed, Served, Way, flight_of}
+use Rattle.escpos_link.specs.Trusted.{Course, IsRest, Known, Newest, Owed, ServedLink, Way, flight_of}
 use Rattle.escpos_link.proofs.Aligning.{OfReadings, none_read}
 use Rattle.escpos_link.proofs.Claiming.{OfPaper, course_run, more_printed, rested}
 use Rattle.escpos_link.proofs.Leaving.{items_are}
@@ -129,7 +129,7 @@ fed_way below of paper phase out next records sheet after half rest [] (Some byt
 fed_way below of paper phase out next records sheet after half rest (bytes ∷ others) None pending k n cs few r (inl w) = absurd (cc w.only)
 fed_way below of paper phase out next records sheet after half rest (bytes ∷ others) None pending k n cs few r (inr w) =
     let piece = take k (take n bytes) in
-    let on = served_on below of next half piece (drop k bytes) rest cs (subst (Served next half) (sym (fed_split k n bytes few)) w.given_up.0) r.reads in
+    let on = served_on below of next half piece (drop k bytes) rest cs (subst (ServedLink next half) (sym (fed_split k n bytes few)) w.given_up.0) r.reads in
     inr (record {
       down = w.down;
       stands = still_stands paper records sheet after half rest piece cs r w.stands;
@@ -139,7 +139,7 @@ fed_way below of paper phase out next records sheet after half rest (bytes ∷ o
 fed_way below of paper phase out next records sheet after half rest (bytes ∷ others) (Some newer) pending k n cs few r (inl w) = absurd (cc w.only)
 fed_way below of paper phase out next records sheet after half rest (bytes ∷ others) (Some newer) pending k n cs few r (inr w) =
     let piece = take k (take n bytes) in
-    let on = served_on below of w.first half piece (drop k bytes) rest cs (subst (Served w.first half) (sym (fed_split k n bytes few)) w.given_up.0) r.reads in
+    let on = served_on below of w.first half piece (drop k bytes) rest cs (subst (ServedLink w.first half) (sym (fed_split k n bytes few)) w.given_up.0) r.reads in
     inr (record {
       first = w.first;
       opening = w.opening;

@@ -1,4 +1,4 @@
--- What is true of a line is true of it after whatever event, and after whatever refusal.
+-- What holds for a line holds after any event, and after any refusal.
 use Rattle.std.proofs.Common.{◌≡◌, ◌≢◌, List, Result, Ok, Err, IfErr, refl, sym, ◌∙◌, subst}
 use Rattle.escpos_command.specs.declared.command.Command.{Command}
 use Rattle.escpos_host.specs.Machine.{InFlight, IsOpening, IsSound, Phase, Down, Opening, Open, asked, nudged, submitted}
@@ -12,8 +12,9 @@ use Rattle.escpos_link.specs.declared.event.Refused.{Refused}
 use Rattle.escpos_link.specs.EventTable.{After, HandsOver, IsRefused, Leaves, conditioned, delivered, restarted, with_host, with_printer}
 use Rattle.escpos_link.specs.Line.{IsLine, LineView}
 use Rattle.escpos_link.specs.Steps.{Happens}
-use Rattle.escpos_link.specs.Trusted.{Fits, Trusted, Trusting}
-use Rattle.escpos_link.proofs.Hearing.{Leaves as LeavesAnswers, answer_kept}
+use Rattle.escpos_link.specs.Trusted.{IsFitting, Trusted, Trusting}
+use Rattle.escpos_link.specs.LowerLaws.{LeavesAnswers}
+use Rattle.escpos_link.proofs.AfterHearing.{answer_kept}
 use Rattle.escpos_link.proofs.Keeping.{AreAnswers, Fitting, Joined, delivered_kept, drop_kept, fed_answers, handed_kept, left_by_kept, moved_kept, off_link_kept, on_its_way_kept, opened_kept, with_host_kept, with_printer_kept, without_first_kept}
 
 -- What the layers below say of answers.
@@ -79,18 +80,18 @@ left_kept below event.HostDrops l after sound i same = subst IsLine (sym same) i
 left_kept below (event.HostRestart f) l after sound i same = subst IsLine (sym same) i
 left_kept below (event.SetCondition condition) l after sound i same = subst IsLine (sym same) i
 
--- So whatever became of the event.
+-- So it holds whatever became of the event.
 pub whatever_kept : Below → (e : Event) (l after : LineView) (r : Result Note Refused) → IsSound l.host → IsLine l → IfOk r (λ n. After e l n after)
     → IfErr r (λ refused. IsRefused e l refused after) → IsLine after
 whatever_kept below e l after (Ok n) sound i happened refused = kept below e l after n sound i happened
 whatever_kept below e l after (Err why) sound i happened refused = left_kept below e l after sound i refused.line
 
-pub whatever_trusted : Trusting → (e : Event) (l after : LineView) (r : Result Note Refused) → Fits e → IsSound l.host → IsLine l
+pub whatever_trusted : Trusting → (e : Event) (l after : LineView) (r : Result Note Refused) → IsFitting e → IsSound l.host → IsLine l
     → IfOk r (λ n. After e l n after) → IfErr r (λ refused. IsRefused e l refused after) → Trusted l → Trusted after
 whatever_trusted law e l after (Ok n) fits sound i happened refused t = law.kept e l after n fits sound i happened t
-whatever_trusted law e l after (Err why) fits sound i happened refused t = law.left e l after sound i refused.line t
+whatever_trusted law e l after (Err why) fits sound i happened refused t = law.leaves e l after sound i refused.line t
 
--- What is told of an event is in turn.
+-- The effect of an event is in turn.
 pub happens : Trusting → (e : Event) (l after : LineView) (r : Result Note Refused) → IsLine l → Trusted l → IfOk r (λ n. After e l n after)
     → IfOk r (λ n. Happens e l n after)
 happens law e l after (Ok n) i t happened = (happened, law.in_turn e l after n i t happened)

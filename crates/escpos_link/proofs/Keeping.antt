@@ -1,4 +1,4 @@
--- What is true of a line is true of it after each event.
+-- What holds for a line holds after each event.
 use Rattle.std.proofs.Common.{◌≡◌, ◌≢◌, inl, ℕ, List, [], ◌∷◌, ◌++◌, take, drop, Option, Some, None, refl, sym, ◌∙◌, ap, subst, append_assoc, append-nil, IsTrue}
 use Rattle.std.specs.Prelude.{option_map}
 use Rattle.std.specs.List.{AllByRecursion}
@@ -12,14 +12,14 @@ use Rattle.escpos_printer.specs.declared.printer.FeedStop.TheVariants as stop
 use Rattle.escpos_printer.specs.Feeds.{PrinterView, Feeds}
 use Rattle.escpos_printer.specs.Replies.{replies}
 use Rattle.escpos_host.specs.Machine.{HostView, IsSound, Phase, Down, Opening, Open}
-use Rattle.escpos_link.specs.EventTable.{answers_left, delivered, ended_fed, hung_up, left_by, live_fed, live_left, moved, off_link, on_its_way, opened, with_host, with_printer, without_first}
+use Rattle.escpos_link.specs.EventTable.{answers_left, delivered, ended_fed, hung_up, left_by, live_fed, live_left, moved, off_link, on_its_way, linked_up, with_host, with_printer, without_first}
 use Rattle.escpos_link.specs.Line.{IsLine, LineView}
 
 abbrev pub AreAnswers : List Answer → Type 0
 AreAnswers answers = AllByRecursion (λ a. IsTrue (is_answer a)) answers
 
 none_whole : AreWholeAnswers []
-none_whole = ([], record { in_range = tt; whole = refl; left = inl refl })
+none_whole = ([], record { in_range = tt; whole = refl; rest_is = inl refl })
 
 -- ## The host's calls
 
@@ -37,7 +37,7 @@ with_host_kept l host i half from to = record {
 some_none : (bytes : List ℕ) → Some bytes ≡ None → ⊥
 some_none bytes e = cc e
 
-pub opened_kept : (l : LineView) → IsLine l → l.host.phase ≡ Down → IsLine (opened l)
+pub opened_kept : (l : LineView) → IsLine l → l.host.phase ≡ Down → IsLine (linked_up l)
 opened_kept l i is_down = record {
   down = λ e. let bad : Opening l.host.next ≡ Down = e in absurd cc;
   alone = λ up e. absurd (some_none [] e);
@@ -117,7 +117,7 @@ none_fed : (ended : List (List ℕ)) (live : Option (List ℕ)) (k : ℕ) → li
 none_fed [] live k e = mapped_none (drop k) live e
 none_fed (bytes ∷ others) live k e = e
 
--- The answers that wait are those of before, or answers to commands as well.
+-- The answers that wait are those of before, and perhaps answers to commands.
 pub with_printer_kept : (l : LineView) (printer : PrinterView) → IsLine l → AreAnswers printer.waiting → IsLine (with_printer l printer)
 with_printer_kept l printer i answers = record { down = i.down; alone = i.alone; quiet = i.quiet; whole = i.whole; fitting = answers }
 
@@ -148,7 +148,7 @@ all_append (a ∷ some) others h k = (h.0, all_append some others h.1 k)
 pub fed_answers : Fitting → (before after : PrinterView) (piece : List ℕ) (k : ℕ) (why : FeedStop) → AreAnswers before.waiting → Feeds before piece k why after
     → AreAnswers after.waiting
 fed_answers fitting before after piece k why answers f =
-    let same : after.waiting ≡ before.waiting ++ replies before.condition f.commands = ap (λ (p : PrinterView). p.waiting) f.left ∙ f.took.answers in
+    let same : after.waiting ≡ before.waiting ++ replies before.condition f.commands = ap (λ (p : PrinterView). p.waiting) f.leaves ∙ f.took.answers in
     subst AreAnswers (sym same) (all_append before.waiting (replies before.condition f.commands) answers (fitting before.condition f.commands f.took.ran.reads.commands))
 
 -- ## Answers on their way
@@ -158,7 +158,7 @@ Joined = (a b : List ℕ) (some others : List Answer) (r s : List ℕ) → Hears
 
 one_heard : (a : Answer) → IsTrue (is_answer a) → Hears (answer_bytes a) (a ∷ []) []
 one_heard a known =
-    record { in_range = (known, tt); whole = sym (append-nil (spell_answers (a ∷ [])) ∙ append-nil (answer_bytes a)); left = inl refl }
+    record { in_range = (known, tt); whole = sym (append-nil (spell_answers (a ∷ [])) ∙ append-nil (answer_bytes a)); rest_is = inl refl }
 
 pub on_its_way_kept : Joined → (l : LineView) (a : Answer) (answers : List Answer) → IsLine l → l.printer.waiting ≡ a ∷ answers → l.live ≢ None
     → IsLine (on_its_way l a answers)

@@ -1,9 +1,9 @@
 pub mod Keeping
-pub mod Hearing
+pub mod AfterHearing
 pub mod Happening
 pub mod Straight
 pub mod Receipts
-pub mod InTurn
+pub mod HeardInTurn
 pub mod Moving
 pub mod Running
 pub mod Standing
@@ -13,7 +13,7 @@ pub mod Claiming
 pub mod Turning
 pub mod Links
 pub mod Leaving
-pub mod Saying
+pub mod AfterPutting
 pub mod Feeding
-pub mod Answering
+pub mod AfterAnswers
 pub mod Trusting

@@ -7,7 +7,7 @@ use Rattle.escpos_command.specs.declared.command.Command.TheVariants as kind
 use Rattle.escpos_command.specs.CommandTable.{AreCommands, row, spell}
 use Rattle.escpos_command.specs.Grammar.{Reads}
 use Rattle.escpos_command.specs.Marks.{marks}
-use Rattle.escpos_link.specs.Trusted.{Fresh, GivenUp, IsKnown, IsRest, Known, Late, Newest, Served, Unread}
+use Rattle.escpos_link.specs.Trusted.{Fresh, GivenUp, IsKnown, IsRest, Known, Late, Newest, ServedLink, Unread}
 use Rattle.escpos_link.proofs.Aligning.{OfReadings, marks_append, may_turn, reads_all}
 use Rattle.escpos_link.proofs.Numbers.{OfNumbers, known_back, known_front, known_join, known_more}
 
@@ -44,13 +44,13 @@ unread_on below of b half piece stream next cs u reads =
     ]
 
 served_unread : OfReadings → OfNumbers → (b : ℕ) (half piece bytes more next : List ℕ) (cs : List Command) → StillOrTurned b next (bytes ++ more) cs
-    → Served b next bytes × Known b (marks cs)
+    → ServedLink b next bytes × Known b (marks cs)
 served_unread below of b half piece bytes more next cs (inl (none, u)) = ((more, inl u), subst (Known b) (sym none) tt)
 served_unread below of b half piece bytes more next cs (inr (others, goes, known)) =
     ((more, inr (record { due = others; aligned = goes; known = known_back b (marks cs) (marks others) known })), known_front b (marks cs) (marks others) known)
 
-pub served_on : OfReadings → OfNumbers → (b : ℕ) (half piece bytes next : List ℕ) (cs : List Command) → Served b half (piece ++ bytes) → Reads (half ++ piece) cs next
-    → Served b next bytes × Known b (marks cs)
+pub served_on : OfReadings → OfNumbers → (b : ℕ) (half piece bytes next : List ℕ) (cs : List Command) → ServedLink b half (piece ++ bytes) → Reads (half ++ piece) cs next
+    → ServedLink b next bytes × Known b (marks cs)
 served_on below of b half piece bytes next cs (more, inl u) reads =
     served_unread below of b half piece bytes more next cs
     (unread_on below of b half piece (bytes ++ more) next cs (subst (Unread b half) (append_assoc piece bytes more) u) reads)
@@ -72,7 +72,7 @@ fresh_unread b half stream rest (ids, known, is) = record {
   pending = rest;
   known = known;
   spelled = is;
-  reads = record { commands = tt; whole = append-nil half; left = rest };
+  reads = record { commands = tt; whole = append-nil half; rest_is = rest };
   no_mark = refl;
 }
 
@@ -102,7 +102,7 @@ unread_more b c half stream more u = record {
   no_mark = u.no_mark;
 }
 
-served_more : (b c : ℕ) (half bytes : List ℕ) → b ≤ c → Served b half bytes → Served c half bytes
+served_more : (b c : ℕ) (half bytes : List ℕ) → b ≤ c → ServedLink b half bytes → ServedLink c half bytes
 served_more b c half bytes more (rest, inl u) = (rest, inl (unread_more b c half (bytes ++ rest) more u))
 served_more b c half bytes more (rest, inr i) =
     (rest, inr (record { due = i.due; aligned = i.aligned; known = known_more b c (marks i.due) more i.known }))

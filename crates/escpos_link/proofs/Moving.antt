@@ -12,17 +12,18 @@ use Rattle.escpos_printer.specs.Feeds.{Feeds, IsLeft, PrinterView, Took}
 use Rattle.escpos_host.specs.declared.host.HostEvent.{HostEvent}
 use Rattle.escpos_host.specs.declared.host.HostEvent.TheVariants as event
 use Rattle.escpos_host.specs.Heard.{EndsLink, HearsAll, last_of}
-use Rattle.escpos_host.specs.Machine.{HostView, Down, Open, taken}
+use Rattle.escpos_host.specs.Machine.{HostView, Down, Open, taken_out}
 use Rattle.escpos_link.specs.declared.event.Event.TheVariants as happening
 use Rattle.escpos_link.specs.declared.event.Handed.TheVariants as handed
 use Rattle.escpos_link.specs.declared.event.Note.TheVariants as note
 use Rattle.escpos_link.specs.declared.event.Refusal.TheVariants as refusal
 use Rattle.escpos_link.specs.declared.event.Refused.{Refused}
-use Rattle.escpos_link.specs.EventTable.{After, HandsOver, HasMoved, IsRefused, Leaves, answers_left, delivered, ended_fed, first_of, live_fed, moved, off_link, put_on, told_at, with_host, with_printer}
+use Rattle.escpos_link.specs.EventTable.{After, HandsOver, IsRefused, Leaves, answers_left, delivered, ended_fed, first_of, live_fed, moved, off_link, put_on, told_at, with_host, with_printer}
+use Rattle.escpos_link.specs.MoveSteps.{HasMoved}
 use Rattle.escpos_link.specs.Line.{LineView}
 use Rattle.escpos_link.specs.Straight.{IsAtRest}
-use Rattle.escpos_link.proofs.Hearing.{heard_line, heard_line_is, off_line_is}
-use Rattle.escpos_link.proofs.InTurn.{told_ends}
+use Rattle.escpos_link.proofs.AfterHearing.{heard_line, heard_line_is, off_line_is}
+use Rattle.escpos_link.proofs.HeardInTurn.{told_ends}
 
 -- ## Out of the host
 
@@ -32,7 +33,7 @@ put_on_both (Some bytes) xs ys = ap Some (append_assoc bytes xs ys)
 
 pub moved_more : (h now after : HostView) (live on later : Option (List ℕ)) (n k : ℕ) → HasMoved h live n now on → HasMoved now on k after later → HasMoved h live (n + k) after later
 moved_more h now after live on later n k first second = (
-  second.0 ∙ ap (λ v. taken v k) first.0
+  second.0 ∙ ap (λ v. taken_out v k) first.0
       ∙ ap (λ out. record { phase = h.phase; out = out; half = h.half; next = h.next; records = h.records; left = h.left }) (drop-drop k n h.out),
   second.1 ∙ ap (λ v. put_on on (take k v.out)) first.0 ∙ ap (λ v. put_on v (take k (drop n h.out))) first.1 ∙ put_on_both live (take n h.out) (take k (drop n h.out))
       ∙ ap (put_on live) (sym (take-add n k h.out)),
@@ -115,7 +116,7 @@ take_within (suc k) (suc m) (x ∷ xs) few = ap (λ v. x ∷ v) (take_within k m
 same_left : (why : FeedStop) (taken q : PrinterView) → why ≡ stop.Memory → IsLeft why taken q → IsLeft stop.All taken q
 same_left why taken q e left = let same : IsLeft stop.Memory taken q = subst (λ w. IsLeft w taken q) e left in same
 
--- A piece that was fed up to some byte, for want of memory, is a shorter one that was fed whole.
+-- A piece that was fed up to some byte, because an allocation failed, is a shorter one that was fed whole.
 pub cut_short : (p q : PrinterView) (bytes : List ℕ) (most k : ℕ) (why : FeedStop) → why ≡ stop.Memory → Feeds p (take most bytes) k why q → (k < most) × Feeds p (take k bytes) k stop.All q
 cut_short p q bytes most k why memory f =
     let few : k < length (take most bytes) = within_piece f.cause in
@@ -130,7 +131,7 @@ cut_short p q bytes most k why memory f =
         took = subst (λ bs. Took p bs f.commands f.taken) front f.took;
         cause = inl (refl, whole);
         place = tt;
-        left = same_left why f.taken q memory f.left;
+        leaves = same_left why f.taken q memory f.leaves;
       },
     )
   where
@@ -149,6 +150,14 @@ fewer_fed l after printer most k why memory feeds same =
       (fed, printer, refl, short.1, (λ e. cc e), same),
       (printer, subst (λ w. Feeds l.printer (take most (first_of l.ended l.live)) k w printer) memory feeds, same),
     )
+
+-- Where memory ran out, there was a byte to be fed.
+pub some_fed : (p q : PrinterView) (piece : List ℕ) (k : ℕ) (why : FeedStop) → why ≡ stop.Memory → Feeds p piece k why q → piece ≢ []
+some_fed p q piece k why memory feeds none =
+    elim feeds.cause [
+      | inl all ↦ let bad : stop.Memory ≡ stop.All = sym memory ∙ all.0 in cc
+      | inr some ↦ omega (arith, some.0, ap length none)
+    ]
 
 -- ## Answers
 
@@ -178,7 +187,7 @@ pub after_bad_answer : (l after : LineView) (k consumed at : ℕ) (told : HostEv
 after_bad_answer l after k consumed at told host events hears is_told bad same =
     (events, consumed, host, ap (note.Heard consumed) is_told, hears, same ∙ sym (off_line_is (last_of events) l consumed host (told_ends (last_of events) consumed at (sym bad ∙ is_told))))
 
--- ## The same of a line that is seen as another says
+-- ## The same for a line whose model another line gives
 
 -- Its own view, and what is left of it, are given by what it keeps.
 pub fed_ended_seen : (m l after : LineView) (printer : PrinterView) (bytes rest : List ℕ) (most k : ℕ) (why : FeedStop) → m ≡ l
@@ -218,7 +227,7 @@ refused_seen m l after most fewer refused host live seen why same less within so
     (subst (λ v. IsRefused (happening.Move most) v (record { why = refusal.Memory; receipt = None }) after) seen (record {
       reason = (refl, some);
       line = fewer_moved m after most fewer less within (same ∙ ap (λ h. record { host = h; printer = m.printer; ended = m.ended; live = live; coming = m.coming }) has_moved.0
-          ∙ ap (λ on. record { host = taken m.host fewer; printer = m.printer; ended = m.ended; live = on; coming = m.coming }) has_moved.1);
+          ∙ ap (λ on. record { host = taken_out m.host fewer; printer = m.printer; ended = m.ended; live = on; coming = m.coming }) has_moved.1);
       receipt = refl;
     }))
 
@@ -231,14 +240,14 @@ pub no_link : (links : List (List ℕ)) (count : ℕ) → count ≡ length links
 no_link [] count same none = refl
 no_link (x ∷ links) count same none = absurd (none (omega (arith, same)))
 
--- A list of which as many elements are dropped as it has.
+-- A list from which as many elements are dropped as it has.
 pub empty_drop : (xs : List ℕ) (k n : ℕ) → k ≤ length xs → n ≡ length xs → (IsTrue (k == n) → drop k xs ≡ []) × (drop k xs ≡ [] → IsTrue (k == n))
 empty_drop xs k n few all = (
   λ is. let same : k ≡ n = grind (arith, nat_tests) in drop_all k xs (omega (arith, same, all)),
   λ none. let same : k ≡ n = omega (arith, ap length none, length-drop k xs, few, all) in grind (arith, nat_tests),
 )
 
--- Where all that a host has to take out went onto a link, it is less than a number can say.
+-- If all that a host has to take out went onto a link, it is shorter than `usize::MAX`.
 pub short_out : (live : Option (List ℕ)) (out : List ℕ) (count most : ℕ) → count ≡ min most (length out) → live ≢ None
     → IfSome (put_on live (take count out)) (λ bytes. length bytes < most) → length out ≤ most
 short_out None out count most is_count some short = absurd (some refl)

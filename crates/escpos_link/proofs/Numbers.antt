@@ -1,12 +1,12 @@
--- Marks with numbers below a bound, and the numbers of closing marks, which grow.
+-- Marks with numbers below a bound, and the numbers of closing marks, which rise.
 use Rattle.std.proofs.Common.{◌≡◌, ◌<◌, ◌≤◌, ◌+◌, inl, inr, ℕ, List, [], ◌∷◌, ◌++◌, sym, ◌∙◌, arith, IsTrue}
 use Rattle.escpos_command.specs.Digits.{mark_count, mark_of}
 use Rattle.escpos_command.specs.Parameters.{is_mark_id}
 use Rattle.escpos_host.specs.Heard.{IsClosing, IsOpeningMark}
 use Rattle.escpos_host.specs.Machine.{InFlight}
-use Rattle.escpos_link.specs.Trusted.{IsKnown, Known, Rising, closing}
+use Rattle.escpos_link.specs.Trusted.{IsKnown, Known, Rising, closing_marks}
 
--- What is below of mark numbers.
+-- What the layers below say of mark numbers.
 pub record OfNumbers : Type 0 where
   pub ids : (n : ℕ) → n < mark_count → IsTrue (is_mark_id (mark_of n))
   pub one_number : (m n : ℕ) → m < mark_count → n < mark_count → mark_of m ≡ mark_of n → m ≡ n
@@ -34,7 +34,7 @@ pub rising_within : (base next : ℕ) (flight : List InFlight) → Rising base f
 rising_within base next [] r = r
 rising_within base next (p ∷ ps) (n, from, few, is, r) = let more = rising_within (n + 1) next ps r in omega (arith, from, more)
 
-pub rising_known : (base next : ℕ) (flight : List InFlight) → Rising base flight next → Known next (closing flight)
+pub rising_known : (base next : ℕ) (flight : List InFlight) → Rising base flight next → Known next (closing_marks flight)
 rising_known base next [] r = tt
 rising_known base next (p ∷ ps) (n, from, few, is, r) =
     let more = rising_within (n + 1) next ps r in ((n, omega (arith, more), few, sym is), rising_known (n + 1) next ps r)
@@ -48,7 +48,7 @@ pub rising_add : (base next : ℕ) (flight : List InFlight) (p : InFlight) → n
 rising_add base next [] p few is r = (next, r, few, is, omega arith)
 rising_add base next (q ∷ qs) p few is (k, from, less, mark, r) = (k, from, less, mark, rising_add (k + 1) next qs p few is r)
 
--- A mark below all closing marks is none of them.
+-- A mark below all closing marks isn't one of them.
 pub not_closing : OfNumbers → (base next : ℕ) (flight : List InFlight) (id : List ℕ) → IsKnown base id → Rising base flight next → IsClosing flight id → ⊥
 not_closing of base next [] id k r is = is
 not_closing of base next (p ∷ ps) id (k, less, some, mark) (n, from, few, is, r) (inl same) =
@@ -56,7 +56,7 @@ not_closing of base next (p ∷ ps) id (k, less, some, mark) (n, from, few, is, 
 not_closing of base next (p ∷ ps) id (k, less, some, mark) (n, from, few, is, r) (inr later) =
     not_closing of (n + 1) next ps id (k, omega (arith, less, from), some, mark) r later
 
--- A mark below all opening marks is none of them.
+-- A mark below all opening marks isn't one of them.
 pub not_opening : OfNumbers → (first next : ℕ) (id : List ℕ) → IsKnown first id → IsOpeningMark first next id → ⊥
 not_opening of first next id (k, less, some, mark) (n, from, below, few, is) =
     let one = of.one_number k n some few (mark ∙ sym is) in omega (arith, less, from, one)

@@ -12,12 +12,13 @@ use Rattle.escpos_paper.specs.declared.item.Item.{Item}
 use Rattle.escpos_paper.specs.Page.{Sheet, SheetIs}
 use Rattle.escpos_paper.specs.Printed.{printed}
 use Rattle.escpos_printer.specs.declared.condition.Condition.{Condition}
-use Rattle.escpos_printer.specs.Feeds.{IsReadyFor, PassesOffline, PrinterView, Took}
+use Rattle.escpos_printer.specs.Feeds.{PassesOffline, PrinterView, Took}
+use Rattle.escpos_printer.specs.ReadyFor.{IsReadyFor}
 use Rattle.escpos_printer.specs.Replies.{is_offline, replies, reply}
 use Rattle.escpos_host.specs.declared.host.HostEvent.TheVariants as heard
 use Rattle.escpos_host.specs.Heard.{IsClosing, opened as opened_host, recorded}
 use Rattle.escpos_host.specs.Machine.{HostView, InFlight, IsSound, Down, Opening, Open, linked, next_mark, submitted}
-use Rattle.escpos_host.specs.Whole.{Whole, is_forbidden}
+use Rattle.escpos_receipt.specs.Whole.{Whole, is_forbidden}
 use Rattle.escpos_link.specs.declared.event.Event.TheVariants as event
 use Rattle.escpos_link.specs.declared.event.Note.{Note}
 use Rattle.escpos_link.specs.EventTable.{After, answers_left, with_host}
@@ -25,7 +26,8 @@ use Rattle.escpos_link.specs.Line.{IsLine, LineView}
 use Rattle.escpos_link.specs.Steps.{Happened}
 use Rattle.escpos_link.specs.Straight.{Undisturbed, WentStraight, all_bytes, exchange, marks_for, opening}
 use Rattle.escpos_link.proofs.Running.{joined}
-use Rattle.escpos_link.proofs.Straight.{Exchanged, Expects, Laws, Loaded, emptied, exchanged, plain_line}
+use Rattle.escpos_link.specs.LowerLaws.{Laws}
+use Rattle.escpos_link.proofs.Straight.{Exchanged, Expects, Loaded, emptied, exchanged, plain_line}
 
 -- ## What a printer makes of it
 
@@ -98,7 +100,7 @@ opening_expects h few at (heard.Recorded n) after (p, ps, phase, is, number, sam
 opening_expects h few at (heard.Status b) after (is, same) = let bad : answer.Mark (mark_of h.next) ≡ answer.Status b = is in absurd cc
 opening_expects h few at (heard.BadAnswer place) after (p, ps, id, phase, is, other, closing, here, same) = let bad : Opening h.next ≡ Open (p ∷ ps) = phase in absurd cc
 
--- A printer from which the answers were taken that is as it was but for what it took.
+-- A printer from which the answers were taken, otherwise as it was but for what it took.
 taken_ready : (expected : HostView) (before after : PrinterView) (cs : List Command) → Took before (spell cs) cs after → after.half ≡ [] → is_offline before.condition ≡ false
     → expected.phase ≡ Open [] → expected.out ≡ [] → expected.half ≡ [] → IsReady (plain_line expected (answers_left after []) [] [])
 taken_ready expected before after cs took none online phase out half = record {
@@ -257,10 +259,11 @@ at_rest_ready laws l u i sound phase live out = record {
     no_half_left : (l.host.half ≡ []) ⊎ HalfAnswer l.host.half → AreWholeAnswers (l.host.half ++ []) → l.host.half ≡ []
     no_half_left (inl none) whole = none
     no_half_left (inr half) (answers, hears) =
-        (laws.one_hearing l.host.half [] answers l.host.half [] (record { in_range = tt; whole = refl; left = inr half })
+        (laws.one_hearing l.host.half [] answers l.host.half [] (record { in_range = tt; whole = refl; rest_is = inr half })
         (subst (λ bs. Hears bs answers []) (append-nil l.host.half) hears)).1
 
--- The line once there is a link: it is ready, its host's records and what is on paper are those of before, and its page is one that commands leave.
+-- The line once there is a link: it is ready, its host's records and what is on paper are those of before, and its page is
+-- one that commands leave.
 pub record IsBegun (l m : LineView) : Type 0 where
   pub ready : IsReady m
   pub records : m.host.records ≡ l.host.records
@@ -320,7 +323,7 @@ went laws l m after receipt b whole known short first second =
       happened = joined (opening l.host.phase) (event.Submit receipt ∷ exchange) l m after first second;
     }
 
--- What a receipt puts out is less than a number can say, where all of it went onto the link.
+-- What a receipt puts out is shorter than `usize::MAX`, if all of it went onto the link.
 pub short_sent : (m k : LineView) (receipt : List Command) (n : Note) → IsReady m → After (event.Submit receipt) m n k → (k.live ≢ None → length k.host.out ≤ all_bytes)
     → length (submitted m.host [] receipt).out ≤ all_bytes
 short_sent m k receipt n ready (flight, done, phase, few, mark, same) short =

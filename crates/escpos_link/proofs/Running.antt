@@ -72,11 +72,11 @@ pub on_ok : {A B : Type 0} {P : Type 0} (r : Result A B) → is_err r ≡ false 
 on_ok (Ok a) is h = h
 on_ok (Err b) bad h = absurd cc
 
--- Of the events of an exchange only those that move bytes may be refused, for want of memory.
+-- Of the events of an exchange only those that move bytes may be refused, and only because an allocation failed.
 pub no_answer_refused : (k : ℕ) (l : LineView) (refused : Refused) (after : LineView) → IsRefused (event.Answer k) l refused after → ⊥
 no_answer_refused k l refused after is = is.reason
 
--- A link is opened where there is none, and there is a mark: it is refused for want of memory alone.
+-- A link is opened where there is none, and there is a mark: it is refused only out of memory.
 pub opens : (l : LineView) → l.host.phase ≡ Down → l.host.next < mark_count → (why : Refusal) → Refuses event.LinkUp l why → why ≡ refusal.Memory
 opens l is_down few why (error.NotReady, is, refuses) = absurd refuses
 opens l is_down few why (error.MarksUsedUp, is, refuses) = absurd (omega (arith, few, refuses.1))
@@ -84,7 +84,7 @@ opens l is_down few why (error.AlreadyUp, is, refuses) = absurd (refuses is_down
 opens l is_down few why (error.Memory, is, refuses) = is
 opens l is_down few why (error.InFlightFull, is, refuses) = absurd refuses
 
--- So is a receipt, where the host is ready.
+-- The same for a receipt, where the host is ready.
 pub submits : (l : LineView) (receipt : List Command) → l.host.phase ≡ Open [] → l.host.next < mark_count → (why : Refusal) → Refuses (event.Submit receipt) l why → why ≡ refusal.Memory
 submits l receipt ready few why (error.NotReady, is, refuses) = absurd (refuses [] ready)
 submits l receipt ready few why (error.MarksUsedUp, is, (flight, phase, some, used)) = absurd (omega (arith, few, used))
@@ -93,7 +93,7 @@ submits l receipt ready few why (error.Memory, is, refuses) = is
 submits l receipt ready few why (error.InFlightFull, is, (flight, phase, full)) =
     let none : flight ≡ [] = cc (sym phase ∙ ready) in absurd (omega (arith, full, ap length none))
 
--- What is known of a result that is an error, and of one that is none.
+-- What is known of a result that is an error, and of one that isn't.
 pub of_err : {A B : Type 0} {P : B → Type 0} (r : Result A B) → is_err r ≡ true → IfErr r P → (x : B) × P x
 of_err (Ok a) bad h = absurd cc
 of_err (Err b) is h = (b, h)
@@ -115,10 +115,10 @@ stops_at l before after done others e refused happened memory is =
       happened = happened;
       refused = subst (Refuses e before) (memory refused.why is.reason) is.reason;
       memory = memory;
-      left = is.line;
+      leaves = is.line;
     }
 
--- So after other events.
+-- The same after other events.
 pub stops_later : (l now after : LineView) (before events : List Event) → Happened l before now → StopsIn events now after → StopsIn (before ++ events) l after
 stops_later l now after before events happened s = record {
   done = before ++ s.done;
@@ -129,10 +129,10 @@ stops_later l now after before events happened s = record {
   happened = joined before s.done l now s.before happened s.happened;
   refused = s.refused;
   memory = s.memory;
-  left = s.left;
+  leaves = s.leaves;
 }
 
--- So where more events were to follow.
+-- The same where more events were to follow.
 pub stops_before : (l after : LineView) (events more : List Event) → StopsIn events l after → StopsIn (events ++ more) l after
 stops_before l after events more s = record {
   done = s.done;
@@ -143,7 +143,7 @@ stops_before l after events more s = record {
   happened = s.happened;
   refused = s.refused;
   memory = s.memory;
-  left = s.left;
+  leaves = s.leaves;
 }
 
 pub on_err : {A B : Type 0} {P Q : Type 0} (r : Result A B) → OnErr r P → (P → Q) → OnErr r Q
@@ -200,7 +200,7 @@ stopped_sending l m k after receipt n opened submitted s =
         happened = stops.happened;
         refused = stops.refused;
         memory = stops.memory;
-        left = stops.left;
+        leaves = stops.leaves;
       };
       receipt_back = inr (refl, more);
     }

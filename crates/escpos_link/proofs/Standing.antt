@@ -1,4 +1,5 @@
--- Receipts that stand on paper still stand when more is printed, one more stands behind them, and the first of them stand alone.
+-- Receipts that stand on paper still stand when more is printed; one more stands after them; and the first of them stand
+-- alone.
 use Rattle.std.proofs.Common.{◌≡◌, List, [], ◌∷◌, ◌++◌, sym, ◌∙◌, ap, append-nil, append_assoc}
 use Rattle.escpos_command.specs.declared.command.Command.{Command}
 use Rattle.escpos_paper.specs.declared.item.Item.{Item}

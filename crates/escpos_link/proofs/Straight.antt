@@ -1,18 +1,15 @@
 -- A receipt that goes over a line on which nothing is under way: each event in turn, and what the line is then.
-use Rattle.std.proofs.Common.{◌≡◌, ◌≢◌, ◌⊎◌, ◌<◌, ◌≤◌, inl, inr, ℕ, List, [], ◌∷◌, ◌++◌, length, take, drop, min, Some, refl, sym, ◌∙◌, ap, subst, append-nil, arith, IsTrue}
+use Rattle.std.proofs.Common.{◌≡◌, ◌≢◌, ◌≤◌, inl, inr, ℕ, List, [], ◌∷◌, ◌++◌, length, take, drop, min, Some, refl, sym, ◌∙◌, ap, subst, append-nil, arith, IsTrue}
 use Rattle.std.proofs.lemmas.List.{drop_all, take_all}
 use Rattle.escpos_command.specs.declared.answer.Answer.{Answer}
 use Rattle.escpos_command.specs.declared.answer.Answer.TheVariants as answer
 use Rattle.escpos_command.specs.declared.command.Command.{Command}
-use Rattle.escpos_command.specs.declared.command.Command.TheVariants as kind
-use Rattle.escpos_command.specs.Answers.{AreWholeAnswers, Hears, answer_bytes, is_answer, spell_answers}
+use Rattle.escpos_command.specs.Answers.{AreWholeAnswers, answer_bytes, is_answer, spell_answers}
 use Rattle.escpos_command.specs.CommandTable.{spell}
-use Rattle.escpos_command.specs.Digits.{mark_count, mark_of}
-use Rattle.escpos_command.specs.Parameters.{is_mark_id}
-use Rattle.escpos_paper.specs.Printed.{printed}
 use Rattle.escpos_printer.specs.declared.printer.FeedStop.{FeedStop}
 use Rattle.escpos_printer.specs.declared.printer.FeedStop.TheVariants as stop
-use Rattle.escpos_printer.specs.Feeds.{Feeds, IsReadyFor, PrinterView, Took}
+use Rattle.escpos_printer.specs.Feeds.{Feeds, PrinterView, Took}
+use Rattle.escpos_printer.specs.ReadyFor.{IsReadyFor}
 use Rattle.escpos_printer.specs.Replies.{replies}
 use Rattle.escpos_host.specs.declared.host.HostEvent.{HostEvent}
 use Rattle.escpos_host.specs.Heard.{EndsLink, HearsAll, Turns, last_of}
@@ -24,19 +21,8 @@ use Rattle.escpos_link.specs.EventTable.{After, HandsOver, answers_left, deliver
 use Rattle.escpos_link.specs.Line.{LineView}
 use Rattle.escpos_link.specs.Steps.{Happened}
 use Rattle.escpos_link.specs.Straight.{all_bytes, exchange}
-use Rattle.escpos_link.proofs.Hearing.{Leaves, heard_line_is}
-
--- What the laws of the layers below say.
-pub record Laws : Type 0 where
-  pub whole_commands : (p q : PrinterView) (cs : List Command) (k : ℕ) (why : FeedStop) → IsReadyFor p cs → Feeds p (spell cs) k why q
-      → (why ≡ stop.Memory) ⊎ ((why ≡ stop.All) × (k ≡ length (spell cs)) × Took p (spell cs) cs q × (q.half ≡ []))
-  pub one_answer : (h after : HostView) (a : Answer) (events : List HostEvent) (consumed : ℕ) → h.phase ≢ Down → h.half ≡ [] → IsTrue (is_answer a)
-      → HearsAll h (answer_bytes a) events consumed after → (at : ℕ) × Turns h a at (last_of events) after
-  pub leaves : Leaves
-  pub one_hearing : (bs : List ℕ) (some others : List Answer) (x y : List ℕ) → Hears bs some x → Hears bs others y → (some ≡ others) × (x ≡ y)
-  pub init : (a b : List Command) → printed (a ++ kind.Init ∷ [] ++ b) ≡ printed a ++ printed b
-  pub marks : (cs : List Command) (id : List ℕ) → printed (cs ++ kind.Mark id ∷ []) ≡ printed cs
-  pub ids : (n : ℕ) → n < mark_count → IsTrue (is_mark_id (mark_of n))
+use Rattle.escpos_link.specs.LowerLaws.{Laws}
+use Rattle.escpos_link.proofs.AfterHearing.{heard_line_is}
 
 -- A line with one live link and nothing else between its ends.
 abbrev pub plain_line : HostView → PrinterView → List ℕ → List ℕ → LineView
@@ -128,7 +114,7 @@ one_whole a known = (
   record {
     in_range = (known, tt);
     whole = append-nil (answer_bytes a) ∙ sym (append-nil (spell_answers (a ∷ [])) ∙ append-nil (answer_bytes a));
-    left = inl refl;
+    rest_is = inl refl;
   },
 )
 

@@ -1,4 +1,5 @@
--- What lets records be trusted is true of a line after each event, and after each refusal; and no answer ends the host's link.
+-- What lets records be trusted holds for a line after each event, and after each refusal; and no answer ends the host's
+-- link.
 use Rattle.std.proofs.Common.{◌≡◌, ◌≢◌, ◌≤◌, inl, inr, ℕ, List, [], ◌∷◌, ◌++◌, length, take, drop, Option, Some, None, refl, sym, ◌∙◌, ap, subst, arith, append-nil, append_assoc, take-append-drop, IsTrue}
 use Rattle.std.proofs.lemmas.Grind.{flat_map-append}
 use Rattle.std.specs.List.{AllByRecursion}
@@ -26,18 +27,18 @@ use Rattle.escpos_link.specs.declared.event.Handed.{Handed}
 use Rattle.escpos_link.specs.declared.event.Handed.TheVariants as handed
 use Rattle.escpos_link.specs.declared.event.Note.{Note}
 use Rattle.escpos_link.specs.declared.event.Note.TheVariants as note
-use Rattle.escpos_link.specs.EventTable.{After, HandsOver, Leaves, Restarted, answers_left, delivered, ended_fed, first_link, heard_to, hung_up, left_by, live_fed, moved, off_link, on_its_way, opened, restarted, told_at, with_host, with_printer, without_first}
+use Rattle.escpos_link.specs.EventTable.{After, HandsOver, Leaves, Restarted, answers_left, delivered, ended_fed, first_link, heard_to, hung_up, left_by, live_fed, moved, off_link, on_its_way, linked_up, restarted, told_at, with_host, with_printer, without_first}
 use Rattle.escpos_link.specs.Line.{IsLine, LineView}
 use Rattle.escpos_link.specs.Stands.{Stands}
-use Rattle.escpos_link.specs.Trusted.{Fits, IsRest, Known, Off, Trusted, Way, answered, answered_marks, flight_of}
+use Rattle.escpos_link.specs.Trusted.{IsFitting, IsRest, Known, Off, Trusted, Way, answered, answered_marks, flight_of}
 use Rattle.escpos_link.proofs.Aligning.{OfReadings, marks_append}
-use Rattle.escpos_link.proofs.Answering.{InWay, turn_way}
+use Rattle.escpos_link.proofs.AfterAnswers.{InWay, turn_way}
 use Rattle.escpos_link.proofs.Claiming.{OfPaper, course_stands, owed_stands}
 use Rattle.escpos_link.proofs.Feeding.{Read, fed_way}
-use Rattle.escpos_link.proofs.Hearing.{dropped, drop-nil, heard_line, heard_line_is}
+use Rattle.escpos_link.proofs.AfterHearing.{dropped, drop-nil, heard_line, heard_line_is}
 use Rattle.escpos_link.proofs.Leaving.{items_are, leaves_way, off_way, opened_way}
 use Rattle.escpos_link.proofs.Numbers.{OfNumbers, known_back, known_front, known_join}
-use Rattle.escpos_link.proofs.Saying.{asked_way, moved_way, nudged_way, submitted_way}
+use Rattle.escpos_link.proofs.AfterPutting.{asked_way, moved_way, nudged_way, submitted_way}
 use Rattle.escpos_link.proofs.Turning.{Goes, OfAnswers, heard_in_turn}
 
 -- What the laws of the layers below say.
@@ -56,7 +57,7 @@ marks_join : (some others : List Answer) → answered_marks (some ++ others) ≡
 marks_join some others = flat_map-append answered some others
 
 none_heard : Hears [] [] []
-none_heard = record { in_range = tt; whole = refl; left = inl refl }
+none_heard = record { in_range = tt; whole = refl; rest_is = inl refl }
 
 -- ## The headline
 
@@ -73,7 +74,7 @@ stands paper l t = way_stands paper _ _ _ _ _ _ _ l.live _ t.way
 
 -- ## What the host does
 
-opened_trusted : Laws → (l : LineView) → IsSound l.host → IsLine l → l.host.phase ≡ Down → HasMark l.host → Trusted l → Trusted (opened l)
+opened_trusted : Laws → (l : LineView) → IsSound l.host → IsLine l → l.host.phase ≡ Down → HasMark l.host → Trusted l → Trusted (linked_up l)
 opened_trusted laws l sound i is_down few t = record {
   answers = [];
   hears = subst (λ v. Hears v [] []) (sym (i.quiet is_down)) none_heard;
@@ -104,7 +105,7 @@ are_join [] others a b = b
 are_join (c ∷ some) others a b = (a.0, are_join some others a.1 b)
 
 submitted_trusted : Laws → (l : LineView) (flight : List InFlight) (receipt : List Command) → l.host.phase ≡ Open flight → HasMark l.host
-    → Fits (event.Submit receipt) → Trusted l → Trusted (with_host l (submitted l.host flight receipt))
+    → IsFitting (event.Submit receipt) → Trusted l → Trusted (with_host l (submitted l.host flight receipt))
 submitted_trusted laws l flight receipt is few fits t =
     let all : AreCommands (kind.Init ∷ (receipt ++ kind.Mark (mark_of l.host.next) ∷ [])) =
     (refl, are_join receipt (kind.Mark (mark_of l.host.next) ∷ []) fits.1 (laws.numbers.ids l.host.next few, tt)) in
@@ -112,7 +113,7 @@ submitted_trusted laws l flight receipt is few fits t =
     (submitted_way laws.readings laws.numbers l.host.phase l.host.out l.host.next l.host.records l.printer.sheet l.printer.half l.ended l.live _ flight receipt is few
     fits.0 fits.1 all t.way)
 
-asked_trusted : Laws → (l : LineView) (n : ℕ) → l.host.phase ≡ Open [] → Fits (event.Ask n) → Trusted l → Trusted (with_host l (asked l.host n))
+asked_trusted : Laws → (l : LineView) (n : ℕ) → l.host.phase ≡ Open [] → IsFitting (event.Ask n) → Trusted l → Trusted (with_host l (asked l.host n))
 asked_trusted laws l n is fits t =
     put_trusted l (asked l.host n) t refl
     (asked_way laws.readings laws.paper l.host.phase l.host.out l.host.next l.host.records l.printer.sheet l.printer.half l.ended l.live _ n is fits t.way)
@@ -200,7 +201,7 @@ taken_trusted laws l k n cs printer few took t =
     record {
       answers = t.answers;
       hears = t.hears;
-      half = ran.reads.left;
+      half = ran.reads.rest_is;
       reached = (t.reached.0, t.reached.1 ++ cs, ran.page t.reached.0 t.reached.1 t.reached.2);
       way = subst (Way l.host.phase l.host.out l.host.next l.host.records printer.sheet printer.half (ended_fed l.ended k) (live_fed l.ended l.live k)) grown
           (fed_way laws.readings laws.numbers laws.paper l.host.phase l.host.out l.host.next l.host.records l.printer.sheet printer.sheet l.printer.half printer.half
@@ -221,7 +222,7 @@ stopped_trusted laws l k (stop.Fault at why) taken t =
 fed_trusted : Laws → (l : LineView) (k n : ℕ) (why : FeedStop) (printer : PrinterView) → Feeds l.printer (take n (first_link l)) k why printer → Trusted l
     → Trusted (left_by why (delivered l k printer))
 fed_trusted laws l k n why printer feeds t =
-    subst (λ p. Trusted (left_by why (delivered l k p))) (sym feeds.left)
+    subst (λ p. Trusted (left_by why (delivered l k p))) (sym feeds.leaves)
     (stopped_trusted laws l k why feeds.taken (taken_trusted laws l k n feeds.commands feeds.taken feeds.within feeds.took t))
 
 -- ## Answers
@@ -266,7 +267,7 @@ handed_trusted : Laws → (l : LineView) (a : Answer) (answers : List Answer) �
 handed_trusted laws l a answers i is t =
     let fits = subst (AllByRecursion (λ (v : Answer). IsTrue (is_answer v))) is i.fitting in
     let one : Hears (answer_bytes a) (a ∷ []) [] =
-    record { in_range = (fits.0, tt); whole = sym (append-nil (spell_answers (a ∷ [])) ∙ append-nil (answer_bytes a)); left = inl refl } in
+    record { in_range = (fits.0, tt); whole = sym (append-nil (spell_answers (a ∷ [])) ∙ append-nil (answer_bytes a)); rest_is = inl refl } in
     record {
       answers = t.answers ++ a ∷ [];
       hears = subst (λ v. Hears v (t.answers ++ a ∷ []) []) (append_assoc l.host.half l.coming (answer_bytes a))
@@ -322,7 +323,7 @@ answered_trusted laws l k consumed events host i (inr (up, hears)) t =
 
 -- ## Every event
 
-pub trusted : Laws → (e : Event) (l after : LineView) (n : Note) → Fits e → IsSound l.host → IsLine l → After e l n after → Trusted l → Trusted after
+pub trusted : Laws → (e : Event) (l after : LineView) (n : Note) → IsFitting e → IsSound l.host → IsLine l → After e l n after → Trusted l → Trusted after
 trusted laws event.LinkUp l after n fits sound i (done, is_down, mark, same) t = subst Trusted (sym same) (opened_trusted laws l sound i is_down mark t)
 trusted laws event.Nudge l after n fits sound i (done, opening, mark, same) t = subst Trusted (sym same) (nudged_trusted laws l opening mark t)
 trusted laws (event.Submit receipt) l after n fits sound i (flight, done, is, few, mark, same) t =
@@ -344,20 +345,20 @@ trusted laws (event.SetCondition condition) l after n fits sound i (done, same) 
     subst Trusted (sym same) (record { answers = t.answers; hears = t.hears; half = t.half; reached = t.reached; way = t.way })
 
 -- A refusal leaves the line as it was, or as after fewer bytes.
-pub left : Laws → (e : Event) (l after : LineView) → IsSound l.host → IsLine l → Leaves e l after → Trusted l → Trusted after
-left laws event.LinkUp l after sound i same t = subst Trusted (sym same) t
-left laws event.Nudge l after sound i same t = subst Trusted (sym same) t
-left laws (event.Submit receipt) l after sound i same t = subst Trusted (sym same) t
-left laws (event.Ask kind) l after sound i same t = subst Trusted (sym same) t
-left laws (event.Move k) l after sound i (fewer, n, less, within, moves) t = trusted laws (event.Move fewer) l after n tt sound i moves t
-left laws (event.Deliver k) l after sound i (fewer, n, less, feeds, wanted) t = trusted laws (event.Deliver fewer) l after n tt sound i feeds t
-left laws event.HandOver l after sound i same t = subst Trusted (sym same) t
-left laws (event.Answer k) l after sound i same t = subst Trusted (sym same) t
-left laws event.PrinterLeaves l after sound i same t = subst Trusted (sym same) t
-left laws event.PrinterRestart l after sound i same t = subst Trusted (sym same) t
-left laws event.HostDrops l after sound i same t = subst Trusted (sym same) t
-left laws (event.HostRestart f) l after sound i same t = subst Trusted (sym same) t
-left laws (event.SetCondition condition) l after sound i same t = subst Trusted (sym same) t
+pub leaves_trusted : Laws → (e : Event) (l after : LineView) → IsSound l.host → IsLine l → Leaves e l after → Trusted l → Trusted after
+leaves_trusted laws event.LinkUp l after sound i same t = subst Trusted (sym same) t
+leaves_trusted laws event.Nudge l after sound i same t = subst Trusted (sym same) t
+leaves_trusted laws (event.Submit receipt) l after sound i same t = subst Trusted (sym same) t
+leaves_trusted laws (event.Ask kind) l after sound i same t = subst Trusted (sym same) t
+leaves_trusted laws (event.Move k) l after sound i (fewer, n, less, within, moves) t = trusted laws (event.Move fewer) l after n tt sound i moves t
+leaves_trusted laws (event.Deliver k) l after sound i (fewer, n, less, feeds, wanted) t = trusted laws (event.Deliver fewer) l after n tt sound i feeds t
+leaves_trusted laws event.HandOver l after sound i same t = subst Trusted (sym same) t
+leaves_trusted laws (event.Answer k) l after sound i same t = subst Trusted (sym same) t
+leaves_trusted laws event.PrinterLeaves l after sound i same t = subst Trusted (sym same) t
+leaves_trusted laws event.PrinterRestart l after sound i same t = subst Trusted (sym same) t
+leaves_trusted laws event.HostDrops l after sound i same t = subst Trusted (sym same) t
+leaves_trusted laws (event.HostRestart f) l after sound i same t = subst Trusted (sym same) t
+leaves_trusted laws (event.SetCondition condition) l after sound i same t = subst Trusted (sym same) t
 
 -- ## No answer ends the host's link
 
@@ -380,7 +381,7 @@ bad_told laws l after k consumed place n i t (events, count, host, told, hears, 
 done_told : (consumed place : ℕ) (n : Note) → n ≡ note.Done → n ≡ note.Heard consumed (heard.BadAnswer place) → ⊥
 done_told consumed place n done bad = let both : note.Done ≡ note.Heard consumed (heard.BadAnswer place) = sym done ∙ bad in cc
 
--- No event tells of a byte that fits no answer, or of an answer out of turn.
+-- No event reports a byte that fits no answer, or an answer out of turn.
 pub none_bad : Laws → (e : Event) (l after : LineView) (n : Note) (consumed place : ℕ) → IsLine l → Trusted l → After e l n after
     → n ≢ note.Heard consumed (heard.BadAnswer place)
 none_bad laws event.LinkUp l after n consumed place i t (done, is_down, mark, same) bad = done_told consumed place n done bad

@@ -1,5 +1,6 @@
--- Hearing bytes of whole answers is hearing the answers, one after another: what is true of a host and the answers that are to come, and
--- goes on from answer to answer, is true when the host has heard any part of their bytes. And none of them ends its link.
+-- Hearing bytes of whole answers is hearing the answers, one after another: what holds for a host and the answers to come,
+-- and goes on from answer to answer, holds after the host has heard any part of their bytes. And none of them ends its
+-- link.
 use Rattle.std.proofs.Common.{◌≡◌, ◌≢◌, ◌⊎◌, ◌<◌, ◌≤◌, ◌+◌, inl, inr, ℕ, List, [], ◌∷◌, ◌++◌, length, take, drop, refl, sym, ◌∙◌, ap, subst, append_assoc, append-nil, length-drop, take-append-drop, arith, IsTrue}
 use Rattle.std.specs.Prelude.{slice_index}
 use Rattle.std.specs.List.{AllByRecursion}
@@ -14,7 +15,7 @@ use Rattle.escpos_host.specs.Heard.{EndsLink, Grows, HearsByte, HearsInTurn, Ign
 use Rattle.escpos_host.specs.Machine.{HostView, Phase, Down}
 use Rattle.escpos_link.proofs.Aligning.{fronts, nothing_first, nothing_last}
 
--- What is below of answers.
+-- What the layers below say of answers.
 pub record OfAnswers : Type 0 where
   pub no_prefix : (a b : Answer) (bs more : List ℕ) → AnswerSpells a bs → AnswerSpells b (bs ++ more) → more ≡ []
   pub joined : (a b : List ℕ) (some others : List Answer) (r s : List ℕ) → Hears a some r → Hears (r ++ b) others s → Hears (a ++ b) (some ++ others) s
@@ -35,7 +36,7 @@ abbrev pub Turner : Holding → Type 0
 Turner P = (h after : HostView) (a : Answer) (others : List Answer) (at : ℕ) (e : HostEvent) → h.phase ≢ Down → P h.phase h.out h.next h.records (a ∷ others)
     → Turns h a at e after → Turned P h after others e
 
--- A host that is up, its half answer and the bytes to come, which are answers, of which it holds.
+-- A host that is up, its half answer and the bytes to come, which are answers, and for which it holds.
 pub record Goes (P : Holding) (h : HostView) (bytes : List ℕ) : Type 0 where
   pub up : h.phase ≢ Down
   pub answers : List Answer
@@ -147,7 +148,7 @@ by_answer P below turner h next bytes more half at e a others up within holds he
     let b = slice_index bytes at in
     let tail = drop (at + 1) bytes ++ more in
     let one : Hears (half ++ b ∷ []) (a ∷ []) [] =
-    record { in_range = (spelled.in_range, tt); whole = spelled.in_table ∙ sym (append-nil (spell_answers (a ∷ [])) ∙ append-nil (answer_bytes a)); left = inl refl } in
+    record { in_range = (spelled.in_range, tt); whole = spelled.in_table ∙ sym (append-nil (spell_answers (a ∷ [])) ∙ append-nil (answer_bytes a)); rest_is = inl refl } in
     let c = below.cut (half ++ b ∷ []) tail others (a ∷ []) [] (subst (λ v. Hears v others []) (sym (append_assoc half (b ∷ []) tail)) hears) one in
     let t = turner (with_half (with_half h half) []) next a c.0 at e up (subst (P h.phase h.out h.next h.records) c.1 holds) turns in
     let count = counted e at t.on in
@@ -186,7 +187,7 @@ one_heard P below turner h next bytes more count e some g (inr (at, half, within
     let c = below.cut (h.half ++ front) (b ∷ (back ++ more)) g.answers passed.ignored half (subst (λ v. Hears v g.answers []) split g.hears) passed.hears in
     let holds = passed_by P turner h passed.ignored c.0 g.up passed.each (subst (P h.phase h.out h.next h.records) c.1 g.holds) in
     subst (λ k. After P next bytes more k e) (sym is_count)
-    (by_byte P below turner h next bytes more half at e c.0 g.up within some passed.hears.left holds c.2 heard)
+    (by_byte P below turner h next bytes more half at e c.0 g.up within some passed.hears.rest_is holds c.2 heard)
 
 -- ## Event after event
 

@@ -1,10 +1,10 @@
--- The event table: what each event does to a line, what is told of it, and why it is refused.
+-- The event table: what each event does to a line, its effect as reported, and why it is refused.
 --
 -- A link carries bytes one way, from the host to the printer, and answers the other way. It may be cut at any moment, and
--- neither end learns from that what the other one has had: so bytes stay on a link that the host has given up, until the printer
--- has them or leaves it; and an answer that the printer hands over to such a link is lost, as one is that is on its way when
--- the host gives its link up. The printer serves its links in the order in which they were opened, and knows nothing of them: it
--- is a stream to it, and what it was told half it may be told to the end by the next link.
+-- neither end learns from that what the other one has received. So bytes stay on a link that the host has given up, until
+-- the printer has them or leaves it; and an answer that the printer hands over to such a link is lost, and so is one that
+-- is on its way when the host gives its link up. The printer serves its links in the order in which they were opened, and
+-- knows nothing of them: it is a stream to it, and a command cut off on one link may be completed by the next.
 --
 --   Event          | What it does
 --   LinkUp         | the host opens a link; a new one with nothing on it is the live one
@@ -14,15 +14,15 @@
 --   Deliver k      | the printer is fed up to k first bytes of the first link; after a fault it leaves that link
 --   HandOver       | the oldest answer leaves the printer: on its way to the host where the only link is the live one, lost where the first
 --                  | one has ended; where there is no link it stays
---   Answer k       | the host hears up to k first bytes of those on their way, event after event; if one is no answer, it is off its link
+--   Answer k       | the host hears up to k first bytes of those on their way, event after event; if one fits no answer, it is off its link
 --   PrinterLeaves  | the first link is gone, with what is on it
 --   PrinterRestart | the printer is restarted, and leaves the first link
 --   HostDrops      | the host is off its link
 --   HostRestart f  | the host is made anew from its records, with f for its next mark, and is off its link
 --   SetCondition c | the printer's sensors say c
 --
--- `After event line note after`: the event may happen to this line; then this is told of it, and so the line is left. `Refuses
--- event line why`: the event is refused for this reason; what is left then is what `Leaves` says.
+-- `After event line note after`: the event may happen to this line; then `note` is its effect, and `after` is the line.
+-- `Refuses event line why`: the event is refused for this reason; `Leaves` says what is left then.
 use Rattle.std.specs.Prelude.{ℕ, ◌≡◌, ◌≢◌, ◌<◌, ◌≤◌, ◌⊎◌, min, List, [], ◌∷◌, ◌++◌, length, take, drop, Option, Some, None, option_map, option_to_list}
 use Rattle.escpos_command.specs.declared.answer.Answer.{Answer}
 use Rattle.escpos_command.specs.declared.command.Command.{Command}
@@ -37,7 +37,7 @@ use Rattle.escpos_host.specs.declared.host.HostError.{HostError}
 use Rattle.escpos_host.specs.declared.host.HostEvent.{HostEvent}
 use Rattle.escpos_host.specs.declared.host.HostEvent.TheVariants as heard
 use Rattle.escpos_host.specs.Heard.{HearsAll, last_of}
-use Rattle.escpos_host.specs.Machine.{HasMark, HostView, InFlight, IsOpening, Phase, Down, Open, RefusesAsk, RefusesLinkUp, RefusesNudge, RefusesSubmit, asked, gone_down, linked, most_in_flight, nudged, submitted, taken}
+use Rattle.escpos_host.specs.Machine.{HasMark, HostView, InFlight, IsOpening, Phase, Down, Open, RefusesAsk, RefusesLinkUp, RefusesNudge, RefusesSubmit, asked, gone_down, linked, most_in_flight, nudged, submitted, taken_out}
 use Rattle.escpos_link.specs.declared.event.Event.{Event}
 use Rattle.escpos_link.specs.declared.event.Event.TheVariants as event
 use Rattle.escpos_link.specs.declared.event.Handed.{Handed}
@@ -59,7 +59,7 @@ with_host l host = record { host = host; printer = l.printer; ended = l.ended; l
 abbrev pub with_printer : LineView → PrinterView → LineView
 with_printer l printer = record { host = l.host; printer = printer; ended = l.ended; live = l.live; coming = l.coming }
 
--- The bytes on the first link, the one that the printer serves: the oldest that was given up, or else the live one.
+-- The bytes on the first link, the one that the printer serves: the oldest that was given up, otherwise the live one.
 abbrev pub first_of : List (List ℕ) → Option (List ℕ) → List ℕ
 first_of (bytes ∷ others) live = bytes
 first_of [] (Some bytes) = bytes
@@ -77,7 +77,7 @@ abbrev pub live_fed : List (List ℕ) → Option (List ℕ) → ℕ → Option (
 live_fed [] live k = option_map (drop k) live
 live_fed (bytes ∷ others) live k = live
 
--- The live link where the first one is gone: it may have been that one.
+-- The live link after the first one is gone: it may have been that one.
 abbrev pub live_left : List (List ℕ) → Option (List ℕ) → Option (List ℕ)
 live_left [] live = None
 live_left (bytes ∷ others) live = live
@@ -85,19 +85,15 @@ live_left (bytes ∷ others) live = live
 -- ## What events do
 
 -- A new link is the live one.
-abbrev pub opened : LineView → LineView
-opened l = record { host = linked l.host; printer = l.printer; ended = l.ended; live = Some []; coming = l.coming }
+abbrev pub linked_up : LineView → LineView
+linked_up l = record { host = linked l.host; printer = l.printer; ended = l.ended; live = Some []; coming = l.coming }
 
 -- The first bytes to take out left the host, for the live link.
 abbrev pub put_on : Option (List ℕ) → List ℕ → Option (List ℕ)
 put_on live bytes = option_map (λ before. before ++ bytes) live
 
 abbrev pub moved : LineView → ℕ → LineView
-moved l n = record { host = taken l.host n; printer = l.printer; ended = l.ended; live = put_on l.live (take n l.host.out); coming = l.coming }
-
--- The same of the host and the live link alone.
-abbrev pub HasMoved : HostView → Option (List ℕ) → ℕ → HostView → Option (List ℕ) → Type 0
-HasMoved host live n after on = (after ≡ taken host n) × (on ≡ put_on live (take n host.out))
+moved l n = record { host = taken_out l.host n; printer = l.printer; ended = l.ended; live = put_on l.live (take n l.host.out); coming = l.coming }
 
 -- The first bytes of the first link reached the printer.
 abbrev pub delivered : LineView → ℕ → PrinterView → LineView
@@ -132,12 +128,12 @@ HandsOver l handed.Lost after =
 HandsOver l handed.On after =
     (a : Answer) × (answers : List Answer) × (l.printer.waiting ≡ a ∷ answers) × (l.ended ≡ []) × (l.live ≢ None) × (after ≡ on_its_way l a answers)
 
--- The host heard so many of the bytes on their way, up to an event that ends its link if it was one.
+-- The host heard this many of the bytes on their way, up to an event that ends its link if it was one.
 abbrev pub heard_to : HostEvent → LineView → ℕ → HostView → LineView
 heard_to (heard.BadAnswer at) l consumed host = off_link (with_host l host)
 heard_to _ l consumed host = record { host = host; printer = l.printer; ended = l.ended; live = l.live; coming = drop consumed l.coming }
 
--- What is told of the last event: the place of a byte that fits no answer is counted in all that was heard.
+-- The last event as reported: the place of a byte that fits no answer is counted in all that was heard.
 abbrev pub told_at : HostEvent → ℕ → HostEvent
 told_at (heard.BadAnswer at) consumed = heard.BadAnswer consumed
 told_at e consumed = e
@@ -164,7 +160,7 @@ restarted h f = record { phase = Down; out = []; half = []; next = f; records = 
 -- ## The table
 
 abbrev pub After : Event → LineView → Note → LineView → Type 0
-After event.LinkUp l n after = (n ≡ note.Done) × (l.host.phase ≡ Down) × HasMark l.host × (after ≡ opened l)
+After event.LinkUp l n after = (n ≡ note.Done) × (l.host.phase ≡ Down) × HasMark l.host × (after ≡ linked_up l)
 After event.Nudge l n after = (n ≡ note.Done) × IsOpening l.host.phase × HasMark l.host × (after ≡ with_host l (nudged l.host))
 After (event.Submit receipt) l n after =
     (flight : List InFlight) × (n ≡ note.Done) × (l.host.phase ≡ Open flight) × (length flight < most_in_flight) × HasMark l.host
@@ -186,21 +182,21 @@ After (event.SetCondition condition) l n after = (n ≡ note.Done) × (after ≡
 
 -- ## Refusals
 
--- Why an event is refused. A host's refusals are those of its machine; memory may be wanting for a new link, and for bytes on a link
--- and on their way to the host.
+-- Why an event is refused. A host's refusals are those of its machine; out of memory comes for a new link, for bytes that go onto the
+-- live link, where there are bytes to be fed to the printer, and for an answer that goes on its way to the host.
 abbrev pub Refuses : Event → LineView → Refusal → Type 0
 Refuses event.LinkUp l why = (e : HostError) × (why ≡ of_host e) × RefusesLinkUp e l.host
 Refuses event.Nudge l why = (e : HostError) × (why ≡ of_host e) × RefusesNudge e l.host
 Refuses (event.Submit receipt) l why = (e : HostError) × (why ≡ of_host e) × RefusesSubmit e l.host
 Refuses (event.Ask kind) l why = (e : HostError) × (why ≡ of_host e) × RefusesAsk e l.host
 Refuses (event.Move k) l why = (why ≡ refusal.Memory) × (l.live ≢ None)
-Refuses (event.Deliver k) l why = why ≡ refusal.Memory
+Refuses (event.Deliver k) l why = (why ≡ refusal.Memory) × (take k (first_link l) ≢ [])
 Refuses event.HandOver l why = (why ≡ refusal.Memory) × (l.printer.waiting ≢ []) × (l.ended ≡ []) × (l.live ≢ None)
 Refuses (event.HostRestart f) l why = (why ≡ refusal.MarkReused l.host.next) × (f < l.host.next)
 Refuses _ l why = ⊥
 
--- What a refusal leaves: the line as it was; but where memory was wanting for bytes, fewer of them moved, or the printer was fed up
--- to the one that wanted it, which is as if no more of them had been there to be delivered.
+-- What a refusal leaves: the line as it was; but where an allocation failed for bytes, fewer of them moved, or the printer
+-- was fed up to the one that failed, as if no more of them had been there to be delivered.
 abbrev pub Leaves : Event → LineView → LineView → Type 0
 Leaves (event.Move k) l after = (fewer : ℕ) × (n : Note) × (fewer < k) × (fewer < length l.host.out) × After (event.Move fewer) l n after
 Leaves (event.Deliver k) l after =

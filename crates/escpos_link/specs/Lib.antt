@@ -5,3 +5,5 @@ pub mod Steps
 pub mod Straight
 pub mod Stands
 pub mod Trusted
+pub mod MoveSteps
+pub mod LowerLaws

@@ -5,13 +5,13 @@ use Rattle.escpos_host.specs.declared.host.HostError.TheVariants as error
 use Rattle.escpos_link.specs.declared.event.Refusal.{Refusal}
 use Rattle.escpos_link.specs.declared.event.Refusal.TheVariants.{NotReady, MarksUsedUp, AlreadyUp, Memory, MarkReused, InFlightFull}
 
-abbrev pub number_of : Refusal → ℕ
-number_of NotReady = 1
-number_of MarksUsedUp = 2
-number_of AlreadyUp = 3
-number_of Memory = 4
-number_of (MarkReused least) = 5
-number_of InFlightFull = 6
+abbrev pub refusal_number : Refusal → ℕ
+refusal_number NotReady = 1
+refusal_number MarksUsedUp = 2
+refusal_number AlreadyUp = 3
+refusal_number Memory = 4
+refusal_number (MarkReused least) = 5
+refusal_number InFlightFull = 6
 
 abbrev pub name_of : Refusal → List ℕ
 name_of NotReady = codes "NotReady"
@@ -30,7 +30,7 @@ least_of Memory = None
 least_of (MarkReused least) = Some least
 least_of InFlightFull = None
 
--- A host's refusal, as one of its line.
+-- A host's refusal as one of its line.
 abbrev pub of_host : HostError → Refusal
 of_host error.NotReady = NotReady
 of_host error.MarksUsedUp = MarksUsedUp

@@ -4,8 +4,8 @@ use Rattle.escpos_command.specs.declared.command.Command.{Command}
 use Rattle.escpos_paper.specs.declared.item.Item.{Item}
 use Rattle.escpos_paper.specs.Printed.{printed}
 
--- The receipts stand on the paper whole, one after another in this order, each exactly the items that its commands print on a
--- printer just initialised. Other items may stand before, between and behind them.
+-- The receipts stand on the paper whole, one after another in this order, each exactly the items that its commands print on
+-- a printer just initialised. Other items may stand before, between and after them.
 abbrev pub Stands : List (List Command) → List Item → Type 0
 Stands [] paper = Unit {0}
 Stands (r ∷ rs) paper = (front : List Item) × (after : List Item) × (paper ≡ front ++ (printed r ++ after)) × Stands rs after

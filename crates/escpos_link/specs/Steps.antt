@@ -10,11 +10,12 @@ use Rattle.escpos_link.specs.declared.sim.RunStop.{RunStop}
 use Rattle.escpos_link.specs.EventTable.{After, IsRefused, Leaves, Refuses}
 use Rattle.escpos_link.specs.Line.{LineView}
 
--- What is told of an event is no answer that ends the host's link: neither a byte that fits no answer nor an answer out of turn.
+-- The effect of an event isn't an answer that ends the host's link: neither a byte that fits no answer nor an answer out of
+-- turn.
 abbrev pub IsInTurn : Note → Type 0
 IsInTurn told = (consumed at : ℕ) → told ≢ note.Heard consumed (heard.BadAnswer at)
 
--- The event happened to the line, and what is told of it is in turn.
+-- The event happened to the line, and its effect is in turn.
 abbrev pub Happens : Event → LineView → Note → LineView → Type 0
 Happens e l told after = After e l told after × IsInTurn told
 
@@ -23,7 +24,7 @@ abbrev pub Happened : LineView → List Event → LineView → Type 0
 Happened l [] after = after ≡ l
 Happened l (e ∷ es) after = (n : Note) × (next : LineView) × Happens e l n next × Happened next es after
 
--- The first so many of the events happened, and the next one was refused.
+-- This many of the events happened, the first ones, and the next one was refused.
 pub record IsStopped (l : LineView) (events : List Event) (stop : RunStop) (after : LineView) : Type 0 where
   pub event : Event
   pub before : LineView
@@ -31,7 +32,8 @@ pub record IsStopped (l : LineView) (events : List Event) (stop : RunStop) (afte
   pub happened : Happened l (take stop.done events) before
   pub refused : IsRefused event before stop.refused after
 
--- Some of the events happened, and the next one was refused for want of memory, which is the only reason there is; this is what is left.
+-- Some of the events happened, and the next one was refused because an allocation failed, the only possible reason; this is
+-- what is left.
 pub record StopsIn (events : List Event) (l : LineView) (after : LineView) : Type 0 where
   pub done : List Event
   pub event : Event
@@ -41,4 +43,4 @@ pub record StopsIn (events : List Event) (l : LineView) (after : LineView) : Typ
   pub happened : Happened l done before
   pub refused : Refuses event before refusal.Memory
   pub memory : (why : Refusal) → Refuses event before why → why ≡ refusal.Memory
-  pub left : Leaves event before after
+  pub leaves : Leaves event before after

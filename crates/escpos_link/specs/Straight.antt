@@ -10,7 +10,7 @@ use Rattle.escpos_link.specs.declared.event.Event.TheVariants as event
 use Rattle.escpos_link.specs.Line.{LineView}
 use Rattle.escpos_link.specs.Steps.{Happened, StopsIn}
 
--- How many marks it takes to send a receipt: its closing mark, and where there is no link one to open it.
+-- How many marks it takes to send a receipt: its closing mark, and one to open a link if there is none.
 abbrev pub marks_for : Phase → ℕ
 marks_for Down = 2
 marks_for _ = 1
@@ -50,7 +50,7 @@ abbrev pub opening : Phase → List Event
 opening Down = event.LinkUp ∷ exchange
 opening _ = []
 
--- The events that send a receipt, and of them those before it is submitted.
+-- The events that send a receipt, and those of them before it is submitted.
 abbrev pub straight_events : Phase → List Command → List Event
 straight_events phase receipt = opening phase ++ (event.Submit receipt ∷ exchange)
 
@@ -66,7 +66,7 @@ pub record WentStraight (l : LineView) (receipt : List Command) (number : ℕ) (
   pub silent : IsSilent after
   pub happened : Happened l (straight_events l.host.phase receipt) after
 
--- Memory was wanting for one of these events: those before it happened. The receipt comes back if it wasn't submitted.
+-- An allocation failed in one of these events; those before it happened. The receipt comes back if it wasn't submitted.
 pub record StoppedStraight (l : LineView) (receipt : List Command) (back : Option (List Command)) (after : LineView) : Type 0 where
   pub stops : StopsIn (straight_events l.host.phase receipt) l after
   pub receipt_back :

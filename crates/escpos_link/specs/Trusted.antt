@@ -1,10 +1,11 @@
--- Why records can be trusted: what is true of host, printer and links together at all times, of which the records that stand on
--- the paper are a part. Each part is needed for the next event, whatever it is.
+-- Why records can be trusted: what holds for host, printer and links together at all times. That the records stand on the
+-- paper is a part of it. Each part is needed for the next event, whatever that is.
 --
--- A line is in one of four ways. Off: the host has no link. Left: the host is up, but the printer has left its link, so what
--- was put on it is lost and only answers may still come. Unopened: the host is opening its link, and no mark of that was run;
--- the printer may still serve older links, or hold a half command of one, and so may read what comes as something else. Serving:
--- a mark of the live link was run, or so it is as if one was: the printer reads from there on what the host puts.
+-- A line is in one of four ways. Off: the host has no link. Left: the host is up, but the printer has left its link, so
+-- what was put on it is lost and only answers may still come. Unopened: the host is opening its link, and no mark of that
+-- link was run; the printer may still serve older links, or hold a half command of one, and so may read what comes as
+-- something else. Serving: a mark of the live link was run, or the line is as if one was: from there on the printer reads
+-- what the host puts.
 --
 --   Way      | Link        | What the host may hear
 --   Off      | none        | nothing
@@ -12,8 +13,9 @@
 --   Unopened | the newest  | marks below its first opening mark, all of which it ignores
 --   Serving  | the only    | its own marks, in the order in which it put them
 --
--- A host gets from Unopened to Serving by no event of its own: it is Serving once the printer has run one of its opening marks.
--- Only then is there an answer to one, and only that lets the host put a receipt.
+-- No event of the host takes it from Unopened to Serving: the line is Serving once the printer has run one of the host's
+-- opening marks. Only then is there an answer to one, and only that lets the host put a receipt. Only private clauses,
+-- invariants and proofs use these definitions.
 use Rattle.std.specs.Prelude.{ℕ, ◌≡◌, ◌≢◌, ◌<◌, ◌≤◌, ◌+◌, ◌⊎◌, List, [], ◌∷◌, ◌++◌, map, Option, Some, None}
 use Rattle.std.specs.List.{flat_map, AllByRecursion}
 use Rattle.escpos_command.specs.declared.answer.Answer.{Answer}
@@ -60,50 +62,51 @@ abbrev pub flight_of : Phase → List InFlight
 flight_of (Open flight) = flight
 flight_of _ = []
 
-abbrev pub closing : List InFlight → List (List ℕ)
-closing flight = map (λ (p : InFlight). p.mark) flight
+abbrev pub closing_marks : List InFlight → List (List ℕ)
+closing_marks flight = map (λ (p : InFlight). p.mark) flight
 
 abbrev pub receipts : List InFlight → List (List Command)
 receipts flight = map (λ (p : InFlight). p.receipt) flight
 
--- What the host puts for receipts: each behind an Init and before its closing mark.
+-- What the host puts for receipts: each after an Init and before its closing mark.
 abbrev pub sends : List InFlight → List Command
 sends [] = []
 sends (p ∷ ps) = kind.Init ∷ (p.receipt ++ (kind.Mark p.mark ∷ sends ps))
 
--- The numbers of their closing marks grow from one on, and are below the next.
+-- The numbers of their closing marks rise from one on, and are below the next.
 abbrev pub Rising : ℕ → List InFlight → ℕ → Type 0
 Rising from [] next = from ≤ next
 Rising from (p ∷ ps) next = (n : ℕ) × (from ≤ n) × (n < mark_count) × (p.mark ≡ mark_of n) × Rising (n + 1) ps next
 
--- The marks of a queue are older ones and then the closing marks of the receipts that are done, in order. Those to do come after
--- them; all of their numbers grow.
+-- The marks of a queue are older ones, then the closing marks of the receipts that are done, in order. Those to do come
+-- after them; all of their numbers rise.
 pub record InOrder (done todo : List InFlight) (next : ℕ) (queue : List (List ℕ)) : Type 0 where
   pub old : List (List ℕ)
   pub base : ℕ
   pub known : Known base old
   pub rising : Rising base (done ++ todo) next
-  pub queue_is : queue ≡ old ++ closing done
+  pub queue_is : queue ≡ old ++ closing_marks done
 
--- The last of the receipts that are done is still being printed: its Init was run, and the rest of it and its closing mark are to come.
+-- The last of the receipts that are done is still being printed: its Init was run, and the rest of it and its closing mark
+-- are still to come.
 pub record Printing (records : List (List Command)) (done : List InFlight) (rest : List Command) (kept : List Item) (ran : List Command) : Type 0 where
   pub before : List InFlight
   pub current : InFlight
   pub first : List Command
   pub run : List Command
-  pub left : List Command
+  pub to_run : List Command
   pub done_is : done ≡ before ++ current ∷ []
   pub ran_is : ran ≡ first ++ kind.Init ∷ [] ++ run
-  pub receipt_is : current.receipt ≡ run ++ left
-  pub rest_is : rest ≡ left ++ kind.Mark current.mark ∷ []
+  pub receipt_is : current.receipt ≡ run ++ to_run
+  pub rest_is : rest ≡ to_run ++ kind.Mark current.mark ∷ []
   pub stands : Stands (records ++ receipts before) (kept ++ printed first)
 
 -- What is recorded and what is done stands on the paper; or all of it but the last, which is being printed.
 abbrev pub Stood : List (List Command) → List InFlight → List Command → List Item → List Command → Type 0
 Stood records done rest kept ran = Stands (records ++ receipts done) (kept ++ printed ran) ⊎ Printing records done rest kept ran
 
--- How far the receipts in flight are, where these commands were run on paper that held some items, these marks are answered and not heard
--- yet, and these commands are due: the rest of what was begun, and then the receipts to do.
+-- How far the receipts in flight are, where these commands were run on paper that held some items, these marks are answered
+-- and not heard yet, and these commands are due: the rest of what was begun, then the receipts to do.
 pub record Course (records : List (List Command)) (flight : List InFlight) (next : ℕ) (kept : List Item) (ran : List Command) (pending : List (List ℕ))
     (due : List Command) : Type 0 where
   pub done : List InFlight
@@ -115,7 +118,7 @@ pub record Course (records : List (List Command)) (flight : List InFlight) (next
   pub unmarked : AllByRecursion (λ (p : InFlight). marks p.receipt ≡ []) todo
   pub stood : Stood records done rest kept ran
 
--- The same where nothing is due any more: of the receipts in flight those whose closing marks are answered stand.
+-- The same where nothing is due any more: those of the receipts in flight whose closing marks are answered stand.
 pub record Owed (records : List (List Command)) (flight : List InFlight) (next : ℕ) (items : List Item) (pending : List (List ℕ)) : Type 0 where
   pub done : List InFlight
   pub todo : List InFlight
@@ -128,8 +131,8 @@ pub record Owed (records : List (List Command)) (flight : List InFlight) (next :
 abbrev pub IsRest : List ℕ → Type 0
 IsRest half = (half ≡ []) ⊎ Half half
 
--- No mark of the link was run: marks alone were put on it, and what was delivered of them was read behind an older half command as
--- commands without a mark.
+-- No mark of the link was run: only marks were put on it, and what was delivered of them was read after an older half
+-- command as commands without a mark.
 pub record Unread (bound : ℕ) (half stream : List ℕ) : Type 0 where
   pub older : List ℕ
   pub delivered : List ℕ
@@ -151,9 +154,10 @@ pub record InStep (bound : ℕ) (half stream : List ℕ) : Type 0 where
 abbrev pub Fresh : ℕ → List ℕ → Type 0
 Fresh bound stream = (ids : List (List ℕ)) × Known bound ids × (stream ≡ spell (map kind.Mark ids))
 
--- A link that was given up has a front of what would have been put on it: the one that the printer serves, and a later one.
-abbrev pub Served : ℕ → List ℕ → List ℕ → Type 0
-Served bound half bytes = (more : List ℕ) × (Unread bound half (bytes ++ more) ⊎ InStep bound half (bytes ++ more))
+-- A link that was given up holds a prefix of what would have been put on it: the one that the printer serves, and a later
+-- one.
+abbrev pub ServedLink : ℕ → List ℕ → List ℕ → Type 0
+ServedLink bound half bytes = (more : List ℕ) × (Unread bound half (bytes ++ more) ⊎ InStep bound half (bytes ++ more))
 
 abbrev pub Late : ℕ → List ℕ → Type 0
 Late bound bytes = (more : List ℕ) × Fresh bound (bytes ++ more)
@@ -161,7 +165,7 @@ Late bound bytes = (more : List ℕ) × Fresh bound (bytes ++ more)
 -- The links that were given up; and the live one, where nothing of it was run.
 abbrev pub GivenUp : ℕ → List ℕ → List (List ℕ) → Type 0
 GivenUp bound half [] = Unit {0}
-GivenUp bound half (bytes ∷ others) = Served bound half bytes × AllByRecursion (Late bound) others
+GivenUp bound half (bytes ∷ others) = ServedLink bound half bytes × AllByRecursion (Late bound) others
 
 abbrev pub Newest : ℕ → List ℕ → List (List ℕ) → List ℕ → Type 0
 Newest bound half [] stream = Unread bound half stream
@@ -207,7 +211,7 @@ Way phase out next records sheet half ended None pending = Left phase next recor
 Way phase out next records sheet half ended (Some bytes) pending =
     Serving phase out next records sheet half ended bytes pending ⊎ Unopened phase out next records sheet half ended bytes pending
 
--- What is true of every line, so that its records can be trusted.
+-- What holds for every line, so that its records can be trusted.
 pub record Trusted (l : LineView) : Type 0 where
   pub answers : List Answer
   pub hears : Hears (l.host.half ++ l.coming) answers []
@@ -219,15 +223,15 @@ pub record Trusted (l : LineView) : Type 0 where
 -- ## Event after event
 
 -- What an event may be made of: a receipt has no mark, and all commands are in range.
-abbrev pub Fits : Event → Type 0
-Fits (event.Submit receipt) = (marks receipt ≡ []) × AreCommands receipt
-Fits (event.Ask n) = IsCommand (kind.Status n)
-Fits _ = Unit {0}
+abbrev pub IsFitting : Event → Type 0
+IsFitting (event.Submit receipt) = (marks receipt ≡ []) × AreCommands receipt
+IsFitting (event.Ask n) = IsCommand (kind.Status n)
+IsFitting _ = Unit {0}
 
--- The law of the line: where records can be trusted, they stand on the paper; they can be trusted after whatever event, and after
--- whatever refusal; and the host hears no byte that fits no answer, and no answer out of turn.
+-- The law of the line: where records can be trusted, they stand on the paper; they can still be trusted after any event and
+-- after any refusal; and the host hears no byte that fits no answer, and no answer out of turn.
 pub record Trusting : Type 0 where
   pub stands : (l : LineView) → Trusted l → Stands l.host.records l.printer.sheet.items
-  pub kept : (e : Event) (l after : LineView) (n : Note) → Fits e → IsSound l.host → IsLine l → After e l n after → Trusted l → Trusted after
-  pub left : (e : Event) (l after : LineView) → IsSound l.host → IsLine l → Leaves e l after → Trusted l → Trusted after
+  pub kept : (e : Event) (l after : LineView) (n : Note) → IsFitting e → IsSound l.host → IsLine l → After e l n after → Trusted l → Trusted after
+  pub leaves : (e : Event) (l after : LineView) → IsSound l.host → IsLine l → Leaves e l after → Trusted l → Trusted after
   pub in_turn : (e : Event) (l after : LineView) (n : Note) → IsLine l → Trusted l → After e l n after → IsInTurn n

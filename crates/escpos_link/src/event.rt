@@ -1,8 +1,8 @@
-//! What may happen on a line, what is told of it, and why it is refused.
+//! What may happen on a line, the effect of each event, and why it is refused.
 
 ghost use Rattle.std.specs.Prelude.{◌≡◌, ◌≤◌, length};
-ghost use Rattle.escpos_link.specs.Trusted.{Fits};
-ghost use Rattle.escpos_link.specs.Refusals.{least_of, name_of, number_of, of_host};
+ghost use Rattle.escpos_link.specs.Trusted.{IsFitting};
+ghost use Rattle.escpos_link.specs.Refusals.{least_of, name_of, refusal_number, of_host};
 
 use escpos_command::StatusKind;
 use escpos_host::{HostError, HostEvent, Receipt};
@@ -15,18 +15,18 @@ pub enum Event {
     LinkUp,
     /// The host puts one more opening mark out.
     Nudge,
-    /// The host is to print this receipt.
+    /// The host is given this receipt to print.
     Submit(Receipt),
     /// The host asks for a status.
     Ask(StatusKind),
-    /// Up to so many bytes leave the host: for the newest link if it is live, else they are lost.
+    /// Up to this many bytes leave the host: for the newest link if it is live, otherwise they are lost.
     Move(usize),
-    /// Up to so many bytes of the first link reach the printer. A fault ends that link, as if the printer left it.
+    /// Up to this many bytes of the first link reach the printer. A fault ends that link, as if the printer left it.
     Deliver(usize),
-    /// The printer hands its oldest answer over: to the host if the link that it serves is live; the answer is lost if that link has
-    /// ended, and stays where there is no link.
+    /// The printer gives up its oldest answer: it is on its way to the host if the link that the printer serves is live, it
+    /// is lost if that link has ended, and it stays if there is no link.
     HandOver,
-    /// The host hears up to so many of the bytes that are on their way to it.
+    /// The host hears up to this many of the bytes that are on their way to it.
     Answer(usize),
     /// The printer leaves the first link. What is on it is lost.
     PrinterLeaves,
@@ -41,15 +41,17 @@ pub enum Event {
 }
 
 impl Event {
-    // A receipt holds no mark, and whatever is to be put out is in range.
+    // Proof only: gives the caller these facts: a receipt holds no mark, and whatever is to be put out is in range.
     pub(crate) fn fits(&self)
-        ensures { Fits self.now }
+        ensures { IsFitting self.now }
     {
         match self {
             Event::Submit(receipt) => {
+                // Proof only: the receipt is whole, and its commands are in range.
                 let _ = receipt.commands();
             }
             Event::Ask(kind) => {
+                // Proof only: the kind is in range.
                 let _ = kind.byte();
             }
             _ => {}
@@ -57,10 +59,10 @@ impl Event {
     }
 }
 
-/// What became of an answer that the printer was to hand over.
+/// What became of the printer's oldest answer in `HandOver`.
 #[derive(Clone, Copy, Debug, PartialEq, Eq)]
 pub enum Handed {
-    /// There is none, or no link.
+    /// No answer waits, or there is no link.
     None,
     /// It is lost: the first link isn't the live one.
     Lost,
@@ -68,33 +70,33 @@ pub enum Handed {
     On,
 }
 
-/// What is told of an event.
+/// The effect of an event.
 #[derive(Clone, Copy, Debug, PartialEq, Eq)]
 pub enum Note {
-    /// It is done.
+    /// It happened; there is nothing more to report.
     Done,
-    /// So many bytes left the host.
+    /// This many bytes left the host.
     Moved(usize),
-    /// So far the printer was fed.
+    /// The printer was fed this far.
     Fed(Fed),
     /// This became of an answer.
     Handed(Handed),
-    /// The host took so many bytes, and this was the last thing that it heard, None where it heard nothing that matters.
+    /// The host took this many bytes; `last` is the last event that it heard, `None` if it heard none.
     Heard { consumed: usize, last: HostEvent },
 }
 
 /// Why an event is refused.
 #[derive(Clone, Copy, Debug, PartialEq, Eq)]
 pub enum Refusal {
-    /// 1: the host's state has no such call.
+    /// 1: the host isn't in a state for this call.
     NotReady,
-    /// 2: no number of a mark is left.
+    /// 2: no number for a mark is left.
     MarksUsedUp,
     /// 3: there is a link already.
     AlreadyUp,
-    /// 4: there is no memory.
+    /// 4: out of memory.
     Memory,
-    /// 5: marks below this number may have been used.
+    /// 5: a restarted host must start with a mark number from `least` on; smaller ones may have been used.
     MarkReused { least: u32 },
     /// 6: four receipts are in flight.
     InFlightFull,
@@ -103,7 +105,7 @@ pub enum Refusal {
 impl Refusal {
     /// The number that programs print.
     pub fn number(self) -> u8
-        ensures { result ≡ number_of self }
+        ensures { result ≡ refusal_number self }
     {
         match self {
             Refusal::NotReady => 1,
@@ -130,7 +132,7 @@ impl Refusal {
         }
     }
 
-    /// The least number that a restarted host may have for its next mark, where that is what it was refused for.
+    /// The least number that a restarted host may have for its next mark, if the refusal is `MarkReused`.
     pub fn least(self) -> Option<u32>
         ensures { result ≡ least_of self }
     {
@@ -140,7 +142,7 @@ impl Refusal {
         }
     }
 
-    // A host's refusal, as one of its line.
+    // A host's refusal as one of its line.
     pub(crate) fn of_host(error: HostError) -> Self
         ensures { result ≡ of_host error }
     {
@@ -159,6 +161,6 @@ impl Refusal {
 pub struct Refused {
     /// The reason.
     pub why: Refusal,
-    /// The receipt that was to be printed, where the event had one.
+    /// The receipt that was to be printed, if the event had one.
     pub receipt: Option<Receipt>,
 }

@@ -1,10 +1,11 @@
-//! The law of the line: what lets records be trusted. It is a function that does nothing and whose contract is the law, so that
-//! it is proved once, from the laws of the layers below, and each call of `Sim` cites it.
+//! Proof only: the law of the line, by which records can be trusted. The contract of `trust` is the law; when run, it does
+//! nothing. It is proved once, from the laws of the layers below, which its body cites, and each call of `Sim` cites it.
 
+ghost use Rattle.escpos_link.specs.LowerLaws.{Laws};
 ghost use Rattle.escpos_link.specs.Trusted.{Trusting};
 
-// Trust: on a line that can be trusted the recorded receipts stand on the paper; it can be trusted after whatever event, and after
-// whatever refusal; and the host hears no answer there that ends its link.
+// Trust: on a line that can be trusted the recorded receipts stand on the paper; it can still be trusted after any event
+// and after any refusal; and the host hears no answer there that ends its link.
 pub(crate) fn trust()
     ensures { Trusting }
 {
@@ -15,4 +16,17 @@ pub(crate) fn trust()
     escpos_command::laws::answers();
     escpos_paper::laws::initialisation();
     escpos_paper::laws::paper_grows();
+}
+
+// What the laws of the layers below say of a receipt that goes over a line on which nothing is under way.
+pub(crate) fn of_straight()
+    ensures { Laws }
+{
+    escpos_command::laws::mark_numbers();
+    escpos_command::laws::answers();
+    escpos_paper::laws::initialisation();
+    escpos_paper::laws::marks();
+    escpos_printer::laws::whole_commands();
+    escpos_host::laws::one_answer();
+    escpos_host::laws::whole_answers();
 }

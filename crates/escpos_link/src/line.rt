@@ -1,18 +1,19 @@
 //! The line: both ends, the links between them, and what each event does to them.
 //!
-//! Everything that changes a line stands here, one function for each event that isn't a call of one end alone. What is true of
-//! a line at all times is left to `sim`.
+//! Everything that changes a line is in this module: one function for each event that isn't a call of one end alone. What
+//! holds for a line at all times is left to `sim`.
 
 ghost use Rattle.std.specs.Prelude.{ℕ, ◌≡◌, ◌≢◌, ◌+◌, ◌<◌, ◌≤◌, min, List, [], ◌∷◌, ◌++◌, length, take, drop, option_map, None, IfOk, IfErr, IfSome, IsTrue, OnOk, OnErr, ◌↔◌};
 ghost use Rattle.escpos_host.specs.declared.host.HostEvent.{HostEvent};
 ghost use Rattle.escpos_host.specs.Heard.{HearsAll, last_of};
-ghost use Rattle.escpos_host.specs.Machine.{HostView, IsSound, Down, taken};
+ghost use Rattle.escpos_host.specs.Machine.{HostView, IsSound, Down, taken_out};
 ghost use Rattle.escpos_paper.specs.Page.{SheetIs};
 ghost use Rattle.escpos_printer.specs.declared.printer.FeedStop.TheVariants as stop;
 ghost use Rattle.escpos_printer.specs.Feeds.{Feeds, PrinterView};
 ghost use Rattle.escpos_link.specs.Refusals.{of_host};
 ghost use Rattle.escpos_link.specs.Straight.{HasMarks, IsAtRest, IsSilent, Undisturbed, all_bytes};
-ghost use Rattle.escpos_link.specs.EventTable.{After, HandsOver, HasMoved, IsRefused, Restarted, delivered, first_link, heard_to, hung_up, left_by, moved, off_link, opened, restarted, told_at, with_host, with_printer, without_first};
+ghost use Rattle.escpos_link.specs.EventTable.{After, HandsOver, IsRefused, Restarted, delivered, first_link, heard_to, hung_up, left_by, moved, off_link, linked_up, restarted, told_at, with_host, with_printer, without_first};
+ghost use Rattle.escpos_link.specs.MoveSteps.{HasMoved};
 
 use crate::event::{Event, Handed, Note, Refusal, Refused};
 use crate::undelivered::Undelivered;
@@ -48,13 +49,13 @@ impl Model for Line {
 
     ghost view = { λ l. record { host = l.host; printer = l.printer; ended = l.ended.items; live = l.live; coming = l.coming } };
 
-    // Where there is a live link there is room for it among those that have ended, so that giving it up takes no memory.
+    // While there is a live link, there is room for it among those that have ended, so that giving it up allocates nothing.
     ghost invariant = { λ l. (l.live ≡ None) ⊎ (deque_len l.ended < deque_capacity l.ended) };
 }
 
 impl Line {
-    /// A line without links, between a host without records and a printer with nothing on its paper. The error is want of
-    /// memory.
+    /// A line without links, between a host without records and a printer with nothing on its paper. The error is a failed
+    /// allocation.
     pub fn new(alloc: Global, condition: Condition, first_mark: u32) -> Result<Self, AllocError>
         ensures host { IfOk result (λ line. line.host ≡ record { phase = Down; out = []; half = []; next = first_mark; records = []; left = [] }) }
         ensures sheet { IfOk result (λ line. SheetIs line.printer.sheet [] []) }
@@ -75,21 +76,23 @@ impl Line {
         })
     }
 
-    /// What is true of a host is true of this one's. It does nothing: its contract says so.
+    /// Proof only: gives the caller this fact: what holds for every host holds for this one.
     pub fn is_sound(&self)
         ensures { IsSound self.now.host }
     {
+        // Proof only: the host's invariant.
         self.host.is_sound();
     }
 
-    /// Whether nothing is under way, and there are marks enough for a receipt.
+    /// Whether nothing is under way, and there are enough mark numbers for a receipt.
     pub fn is_undisturbed(&self) -> bool
         ensures { IsTrue result ↔ Undisturbed self.now }
     {
         self.is_at_rest() && self.has_no_answer() && self.has_marks()
     }
 
-    // Whether there is no link and the host is down, or the host is ready on one live link that is empty, with nothing to take out.
+    // Whether there is no link and the host is down, or the host is ready on one live link that is empty, with nothing to
+    // take out.
     fn is_at_rest(&self) -> bool
         ensures { IsTrue result ↔ IsAtRest self.now }
     {
@@ -107,7 +110,7 @@ impl Line {
         }
     }
 
-    // Whether the printer is online, with no half command and no answer, and none is on its way.
+    // Whether the printer is online, with no half command and no answer, and no answer is on its way.
     fn has_no_answer(&self) -> bool
         ensures { IsTrue result ↔ IsSilent self.now }
     {
@@ -117,7 +120,7 @@ impl Line {
             && self.coming.is_empty()
     }
 
-    // Whether there are marks enough for a receipt.
+    // Whether there are enough mark numbers for a receipt.
     fn has_marks(&self) -> bool
         ensures { IsTrue result ↔ HasMarks self.now }
     {
@@ -131,17 +134,18 @@ impl Line {
         }
     }
 
-    /// No link has as many bytes as a number can say. It does nothing: its contract says so.
+    /// Proof only: gives the caller this fact: the number of bytes on the live link is below `usize::MAX`.
     pub fn is_short(&self)
         ensures { IfSome self.now.live (λ bytes. length bytes < all_bytes) }
     {
         if let Some(link) = &self.live {
+            // Proof only: the same fact of the link.
             link.is_short();
         }
     }
 
-    /// Lets an event happen, and tells of it. A refusal leaves the line as it was, except that after Memory in `Move` or
-    /// `Deliver` it is as after fewer bytes.
+    /// Lets an event happen, and returns its effect. A refusal leaves the line as it was, except that after `Memory` in
+    /// `Move` or `Deliver` it is as after fewer bytes.
     pub fn happen(&mut self, event: Event) -> Result<Note, Refused>
         ensures happened { IfOk result (λ note. After event self.old note self.new) }
         ensures refused { IfErr result (λ refused. IsRefused event self.old refused self.new) }
@@ -205,7 +209,7 @@ impl Line {
         Ok(Note::Done)
     }
 
-    // The host is to print a receipt.
+    // The host is given a receipt to print.
     fn submit(&mut self, receipt: Receipt) -> Result<Note, Refused>
         ensures happened { IfOk result (λ note. After (Event.Submit receipt) self.old note self.new) }
         ensures refused { IfErr result (λ refused. IsRefused (Event.Submit receipt) self.old refused self.new) }
@@ -230,7 +234,7 @@ impl Line {
         Ok(Note::Done)
     }
 
-    // Up to so many bytes leave the host.
+    // Up to `most` bytes leave the host.
     fn move_bytes(&mut self, most: usize) -> Result<Note, Refused>
         ensures happened { IfOk result (λ note. After (Event.Move most) self.old note self.new) }
         ensures refused { IfErr result (λ refused. IsRefused (Event.Move most) self.old refused self.new) }
@@ -242,7 +246,7 @@ impl Line {
         Ok(Note::Moved(count))
     }
 
-    // The printer is fed up to so many bytes of the first link, and leaves it at a fault.
+    // The printer is fed up to `most` bytes of the first link, and leaves it at a fault.
     fn deliver(&mut self, most: usize) -> Result<Note, Refused>
         ensures happened { IfOk result (λ note. After (Event.Deliver most) self.old note self.new) }
         ensures refused { IfErr result (λ refused. IsRefused (Event.Deliver most) self.old refused self.new) }
@@ -256,7 +260,7 @@ impl Line {
         Ok(Note::Fed(fed))
     }
 
-    // Feeds the printer up to so many bytes of the first link.
+    // Feeds the printer up to `most` bytes of the first link.
     fn feed_first(&mut self, most: usize) -> Fed
         ensures { (printer : PrinterView) × Feeds self.old.printer (take most (first_link self.old)) result.consumed result.stop printer
             × (self.new ≡ delivered self.old result.consumed printer) }
@@ -270,7 +274,7 @@ impl Line {
         self.printer.feed(&[])
     }
 
-    // The printer hands its oldest answer over.
+    // The oldest answer leaves the printer.
     fn hand_over(&mut self) -> Result<Note, Refused>
         ensures happened { IfOk result (λ note. After Event.HandOver self.old note self.new) }
         ensures refused { IfErr result (λ refused. IsRefused Event.HandOver self.old refused self.new) }
@@ -291,7 +295,7 @@ impl Line {
         }
     }
 
-    // The host hears up to so many of the bytes on their way.
+    // The host hears up to `most` of the bytes on their way.
     fn answer(&mut self, most: usize) -> Note
         ensures { After (Event.Answer most) self.old result self.new }
     {
@@ -352,7 +356,7 @@ fn refused_by(error: HostError) -> Refused
     }
 }
 
-// Up to so many bytes leave the host, for the live link, or are lost where there is none. Answers how many.
+// Up to `most` bytes leave the host, for the live link, or are lost where there is none. Returns how many.
 fn put_all_out(
     host: &mut Host,
     live: &mut Option<Undelivered>,
@@ -369,7 +373,8 @@ fn put_all_out(
     Ok(moved)
 }
 
-// Bytes leave the host, some of those that are to be taken out, for the live link, or are lost where there is none. Answers how many.
+// Some of the bytes that are to be taken out leave the host, for the live link, or are lost where there is none. Returns
+// how many.
 fn put_out(
     host: &mut Host,
     live: &mut Option<Undelivered>,
@@ -389,7 +394,7 @@ fn put_out(
     }
 }
 
-// Feeds the printer up to so many bytes of a link.
+// Feeds the printer up to `most` bytes of a link.
 fn feed(printer: &mut Printer, link: &mut Undelivered, most: usize) -> Fed
     ensures fed { Feeds printer.old (take most link.old) result.consumed result.stop printer.new }
     ensures left { link.new ≡ drop result.consumed link.old }
@@ -399,7 +404,8 @@ fn feed(printer: &mut Printer, link: &mut Undelivered, most: usize) -> Fed
     fed
 }
 
-// Lets a host hear all of a piece, event after event, up to one that ends its link. Answers how many bytes it took, and the last event.
+// Lets a host hear all of a piece, event after event, up to one that ends its link. Returns how many bytes it took, and the
+// last event.
 fn hear_all(host: &mut Host, bytes: &[u8]) -> (usize, HostEvent)
     ensures heard { (events : List HostEvent) × HearsAll host.old bytes.now events result.0 host.new × (result.1 ≡ told_at (last_of events) result.0) }
     ensures within { result.0 ≤ length bytes.now }
@@ -407,6 +413,7 @@ fn hear_all(host: &mut Host, bytes: &[u8]) -> (usize, HostEvent)
     if host.state() == HostState::Down {
         return (bytes.len(), HostEvent::None);
     }
+    // Proof only: an event that doesn't end the link took bytes of the piece.
     laws::one_event();
     let mut consumed = 0;
     let mut last = HostEvent::None;

@@ -1,4 +1,4 @@
-//! A simulated line: every list of events may happen to it.
+//! A simulated line, to which every list of events may happen.
 
 ghost use Rattle.std.specs.Prelude.{ℕ, ◌≡◌, ◌≢◌, ◌≤◌, ◌↔◌, List, [], ◌∷◌, length, None, IfOk, IfErr, OnOk, OnErr, IsTrue};
 ghost use Rattle.escpos_command.specs.declared.command.Command.{Command};
@@ -23,8 +23,9 @@ use std::alloc::{AllocError, Global};
 use std::collections::VecDeque;
 use std::marker::Model;
 
-/// A line between a host and a printer. Whatever happens to it, the receipts that the host has recorded stand on the printer's
-/// paper, whole and in the order of recording, each exactly what its commands print on a printer just initialised.
+/// A line between a host and a printer. Whatever happens to it, the receipts that the host has recorded stand on the
+/// printer's paper, whole and in the order of recording, each exactly what its commands print on a printer just
+/// initialised.
 #[derive(Drop)]
 pub struct Sim {
     line: Line,
@@ -41,25 +42,25 @@ impl Model for Sim {
     ghost invariant = { λ s. IsLine s.line × Trusted s.line };
 }
 
-/// A receipt that couldn't be sent for want of memory.
+/// A receipt that couldn't be sent, because an allocation failed.
 #[derive(Debug, Drop)]
 pub struct StraightStop {
-    /// The receipt, where it wasn't submitted.
+    /// The receipt, if it wasn't submitted.
     pub receipt: Option<Receipt>,
 }
 
 /// A list of events that was stopped by a refusal.
 #[derive(Debug, Drop)]
 pub struct RunStop {
-    /// How many events happened before.
+    /// How many events happened before it.
     pub done: usize,
     /// The refusal of the next one.
     pub refused: Refused,
 }
 
 impl Sim {
-    /// A line without links, between a host without records, whose first mark will have this number, and a printer with nothing
-    /// on its paper, switched on in this condition. The error is want of memory.
+    /// A line without links, between a host without records, whose first mark will have this number, and a printer with
+    /// nothing on its paper, switched on in this condition. The error is a failed allocation.
     pub fn new(alloc: Global, condition: Condition, first_mark: u32) -> Result<Self, AllocError>
         ensures host { IfOk result (λ sim. sim.host ≡ record { phase = Down; out = []; half = []; next = first_mark; records = []; left = [] }) }
         ensures sheet { IfOk result (λ sim. SheetIs sim.printer.sheet [] []) }
@@ -75,16 +76,17 @@ impl Sim {
         Ok(Sim { line })
     }
 
-    /// Lets an event happen, and tells of it.
+    /// Lets an event happen, and returns its effect.
     ///
-    /// `Err` says why not, and hands a receipt back. It leaves the line as it was, except that after Memory in `Move` or
-    /// `Deliver` it is as after the same event with fewer bytes.
+    /// `Err` says why it is refused, and returns the event's receipt. It leaves the line as it was, except that after
+    /// `Memory` in `Move` or `Deliver` it is as after the same event with fewer bytes.
     pub fn step(&mut self, event: Event) -> Result<Note, Refused>
         ensures happened { IfOk result (λ told. Happens event self.old told self.new) }
         ensures refused { IfErr result (λ refused. IsRefused event self.old refused self.new) }
         // The recorded receipts stand on the paper, whatever happened.
         ensures stands { Stands self.new.host.records self.new.printer.sheet.items }
     {
+        // Proof only: what holds for a line holds after any event and any refusal.
         escpos_command::laws::answers();
         escpos_printer::laws::replies();
         escpos_host::laws::whole_answers();
@@ -96,7 +98,8 @@ impl Sim {
 
     /// Lets events happen, in order, up to the first that is refused.
     ///
-    /// `Err` says how many happened, and why the next one was refused. The line is then as after these and that refusal.
+    /// `Err` says how many happened, and why the next one was refused. The line is then as after these events and that
+    /// refusal.
     pub fn run(&mut self, events: Vec<Event>) -> Result<(), RunStop>
         ensures happened { OnOk result (Happened self.old events.items self.new) }
         ensures refused { IfErr result (λ stop. IsStopped self.old events.items stop self.new) }
@@ -110,42 +113,39 @@ impl Sim {
                 return Err(RunStop { done, refused });
             }
         }
-        // (`paper` says that what is recorded stands there.)
+        // Proof only: what is recorded stands on the paper.
         let _ = self.paper();
         Ok(())
     }
 
-    /// Whether nothing is under way: the host is down and there is no link, or it is ready on one live link that is empty and has
-    /// nothing to take out; the printer is online, with no half command and no answer that waits; no answer is on its way; and two
-    /// mark numbers are left where the host is down, one where it is ready. Takes no memory.
+    /// Whether nothing is under way: the host is down and there is no link, or it is ready on one live link that is empty
+    /// and has nothing to take out; the printer is online, with no half command and no answer that waits; no answer is on
+    /// its way; and two mark numbers are left if the host is down, one if it is ready. Allocates nothing.
     pub fn undisturbed(&self) -> bool
         ensures { IsTrue result ↔ Undisturbed self.now }
     {
         self.line.is_undisturbed()
     }
 
-    /// Sends a receipt over a line on which nothing is under way: opens a link where there is none, submits the receipt, and lets
-    /// all bytes and the answer to its closing mark arrive. Answers the number of its record.
+    /// Sends a receipt over a line on which nothing is under way: opens a link if there is none, submits the receipt, and
+    /// lets all bytes and the answer to its closing mark arrive. Returns the number of its record.
     ///
-    /// `Err` comes only for want of memory. The line is then as after the events before the one that wanted it, and that refusal.
+    /// `Err` comes only where an allocation failed. The line is then as after the events before the one that failed, and
+    /// that refusal.
     pub fn straight(&mut self, receipt: Receipt) -> Result<usize, StraightStop>
         requires { Undisturbed self.old }
         ensures recorded { IfOk result (λ number. WentStraight self.old receipt number self.new) }
         ensures stopped { IfErr result (λ stop. StoppedStraight self.old receipt stop.receipt self.new) }
         ensures stands { Stands self.new.host.records self.new.printer.sheet.items }
     {
-        escpos_host::laws::one_answer();
-        escpos_host::laws::whole_answers();
-        escpos_printer::laws::whole_commands();
-        escpos_paper::laws::initialisation();
-        escpos_paper::laws::marks();
-        escpos_command::laws::mark_numbers();
-        escpos_command::laws::answers();
+        // Proof only: the laws below, what holds of every line and every receipt, and that what is recorded stands on the paper.
+        laws::of_straight();
         self.line.is_sound();
         let _ = self.paper();
         let _ = receipt.commands();
         let number = self.records().len();
         if self.open().is_err() {
+            // Proof only: what is recorded stands on the paper.
             let _ = self.paper();
             return Err(StraightStop {
                 receipt: Some(receipt),
@@ -157,7 +157,7 @@ impl Sim {
             });
         }
         match self.exchange() {
-            // (`paper` says that what is recorded stands there, here and above.)
+            // Proof only, in both cases: what is recorded stands on the paper.
             Ok(()) => {
                 let _ = self.paper();
                 Ok(number)
@@ -169,7 +169,7 @@ impl Sim {
         }
     }
 
-    // Opens a link where there is none, and lets the answer to its opening mark arrive. The error is want of memory.
+    // Opens a link if there is none, and lets the answer to its opening mark arrive. The error is a failed allocation.
     fn open(&mut self) -> Result<(), AllocError>
         requires { Undisturbed self.old }
         ensures happened { OnOk result (Happened self.old (opening self.old.host.phase) self.new) }
@@ -184,7 +184,7 @@ impl Sim {
         self.exchange()
     }
 
-    // Lets all bytes that the host has put out arrive, and an answer to them. The error is want of memory.
+    // Lets all bytes that the host has put out arrive, and an answer to them. The error is a failed allocation.
     fn exchange(&mut self) -> Result<(), AllocError>
         ensures happened { OnOk result (Happened self.old exchange self.new) }
         ensures short { OnOk result (self.old.live ≢ None → length self.old.host.out ≤ all_bytes) }
@@ -193,6 +193,7 @@ impl Sim {
         if self.step(Event::Move(usize::MAX)).is_err() {
             return Err(AllocError);
         }
+        // Proof only: the number of bytes on the live link is below `usize::MAX`.
         self.line.is_short();
         if self.step(Event::Deliver(usize::MAX)).is_err() {
             return Err(AllocError);
@@ -206,7 +207,7 @@ impl Sim {
         Ok(())
     }
 
-    /// What is printed on the paper, from top to bottom. Takes no memory.
+    /// What is printed on the paper, from top to bottom. Allocates nothing.
     pub fn paper(&self) -> &[Item]
         ensures items { result.now ≡ self.now.printer.sheet.items }
         // Every paper is one that commands leave, on paper that held some items.
@@ -214,28 +215,30 @@ impl Sim {
         // The receipts that the host has recorded stand on every paper.
         ensures stands { Stands self.now.host.records result.now }
     {
+        // Proof only: on a line that can be trusted the recorded receipts stand on the paper.
         laws::trust();
         self.line.printer.items()
     }
 
-    /// The receipts that the host has recorded as printed, in order. Takes no memory.
+    /// The receipts that the host has recorded as printed, in order. Allocates nothing.
     pub fn records(&self) -> &[Receipt]
         ensures { result.now ≡ self.now.host.records }
     {
         self.line.host.records()
     }
 
-    /// The host. Takes no memory.
+    /// The host. Allocates nothing.
     pub fn host(&self) -> &Host
         ensures value { result.now ≡ self.now.host }
-        // Whatever it hears next, it is an answer in its turn.
+        // Whatever it hears next, no answer is out of turn.
         ensures in_turn { (k : ℕ) (told : Note) (after : LineView) → After (event.Answer k) self.now told after → IsInTurn told }
     {
+        // Proof only: the host hears no answer that ends its link.
         laws::trust();
         &self.line.host
     }
 
-    /// The printer. Takes no memory.
+    /// The printer. Allocates nothing.
     pub fn printer(&self) -> &Printer
         ensures { result.now ≡ self.now.printer }
     {

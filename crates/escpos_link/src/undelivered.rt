@@ -1,12 +1,12 @@
 //! Bytes that are on their way from one end of a line to the other.
 //!
-//! They go in at the end and come out at the front. What was taken out is given up once it is more than what is left, so that
-//! a line that runs for long holds little, and each byte is moved once at most on average.
+//! They are added at the end and taken out at the start. Bytes that were taken out are dropped once they are more than
+//! those that are left, so that a line that runs for long holds little, and each byte is moved at most once on average.
 
 ghost use Rattle.std.specs.Prelude.{◌≡◌, ◌+◌, ◌<◌, ◌≤◌, min, List, [], ◌∷◌, ◌++◌, length, take, drop, vec_len, vec_capacity, IfOk, IsTrue, OnOk, OnErr, ◌↔◌};
 ghost use Rattle.escpos_command.specs.declared.answer.Answer.{Answer};
 ghost use Rattle.escpos_command.specs.Answers.{answer_bytes};
-ghost use Rattle.escpos_host.specs.Machine.{taken};
+ghost use Rattle.escpos_host.specs.Machine.{taken_out};
 ghost use Rattle.escpos_link.specs.EventTable.{answers_left};
 ghost use Rattle.escpos_link.specs.Straight.{all_bytes};
 
@@ -15,10 +15,10 @@ use escpos_printer::Printer;
 use std::alloc::{AllocError, Global};
 use std::marker::Model;
 
-// How many bytes leave a host at a time.
+// The most bytes that leave a host at a time.
 const PIECE_BYTES: usize = 512;
 
-// How many bytes an answer has at most.
+// The most bytes that an answer has.
 const ANSWER_BYTES: usize = 7;
 
 /// Bytes that were put on their way and not yet delivered.
@@ -39,7 +39,7 @@ impl Model for Undelivered {
 }
 
 impl Undelivered {
-    /// No bytes. Takes no memory.
+    /// No bytes. Allocates nothing.
     pub fn new(alloc: Global) -> Self
         ensures { result ≡ [] }
     {
@@ -49,7 +49,7 @@ impl Undelivered {
         }
     }
 
-    /// The first bytes, at most so many.
+    /// The first bytes, at most `most` of them.
     pub fn front(&self, most: usize) -> &[u8]
         ensures { result.now ≡ take most self.now }
     {
@@ -57,7 +57,7 @@ impl Undelivered {
         &left[..most.min(left.len())]
     }
 
-    /// Takes so many bytes out at the front. Takes no memory.
+    /// Takes this many bytes out at the start. Allocates nothing.
     pub fn deliver(&mut self, count: usize)
         requires { count ≤ length self.old }
         ensures { self.new ≡ drop count self.old }
@@ -65,21 +65,22 @@ impl Undelivered {
         self.delivered += count;
     }
 
-    /// Whether there are none.
+    /// Whether there are no bytes.
     pub fn is_empty(&self) -> bool
         ensures { IsTrue result ↔ (self.now ≡ []) }
     {
         self.delivered == self.bytes.len()
     }
 
-    /// There are fewer than a number can say. It does nothing: its contract says so.
+    /// Proof only: gives the caller this fact: the number of bytes is below `usize::MAX`.
     pub fn is_short(&self)
         ensures { length self.now < all_bytes }
     {
+        // Proof only: the length of a list is a `usize`.
         let _ = self.bytes.len();
     }
 
-    /// Drops all bytes. Takes no memory.
+    /// Drops all bytes. Allocates nothing.
     pub fn clear(&mut self)
         ensures { self.new ≡ [] }
     {
@@ -87,12 +88,12 @@ impl Undelivered {
         self.delivered = 0;
     }
 
-    /// Takes the next bytes out of a host, at most so many and at most 512, and puts them at the end. Answers how many.
+    /// Takes the next bytes out of a host, at most `most` and at most 512, puts them at the end, and returns how many.
     ///
-    /// `Err` is want of memory: then nothing has changed.
+    /// `Err` is a failed allocation: then nothing has changed.
     pub fn take_from_host(&mut self, host: &mut Host, most: usize) -> Result<usize, AllocError>
         ensures count { IfOk result (λ count. count ≡ min (min most 512) (length host.old.out)) }
-        ensures moved { IfOk result (λ count. (host.new ≡ taken host.old count) × (self.new ≡ self.old ++ take count host.old.out)) }
+        ensures moved { IfOk result (λ count. (host.new ≡ taken_out host.old count) × (self.new ≡ self.old ++ take count host.old.out)) }
         ensures refused { OnErr result ((host.new ≡ host.old) × (self.new ≡ self.old)) }
     {
         make_room(&mut self.bytes, &mut self.delivered, PIECE_BYTES)?;
@@ -102,9 +103,9 @@ impl Undelivered {
         Ok(count)
     }
 
-    /// Takes the oldest answer out of a printer in which one waits, and puts its bytes at the end.
+    /// Takes the oldest answer out of a printer, in which one must wait, and puts its bytes at the end.
     ///
-    /// `Err` is want of memory: then nothing has changed.
+    /// `Err` is a failed allocation: then nothing has changed.
     pub fn take_from_printer(&mut self, printer: &mut Printer) -> Result<(), AllocError>
         requires { 0 < length printer.old.waiting }
         ensures taken { OnOk result ((a : Answer) × (answers : List Answer) × (printer.old.waiting ≡ a ∷ answers)
@@ -119,7 +120,8 @@ impl Undelivered {
     }
 }
 
-// Makes room for so many more bytes after those that are left. Those that were delivered are given up once they are the most.
+// Makes room for `count` more bytes after those that are left. The delivered bytes are dropped first if they are more than
+// the others.
 fn make_room(bytes: &mut Vec<u8>, delivered: &mut usize, count: usize) -> Result<(), AllocError>
     requires { delivered.old ≤ vec_len bytes.old }
     ensures same { drop delivered.new bytes.new.items ≡ drop delivered.old bytes.old.items }

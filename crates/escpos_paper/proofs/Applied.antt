@@ -1,4 +1,4 @@
--- What carrying out a command leaves, in the pieces that a page finds it in.
+-- What carrying out a command leaves, in the pieces that a page has it in.
 use Rattle.std.proofs.Common.{◌≡◌, List, [], ◌∷◌, ◌++◌, ap, sym, ◌∙◌, subst, append_assoc}
 use Rattle.escpos_paper.specs.declared.item.Item.{Item}
 use Rattle.escpos_paper.specs.declared.cell.Cell.{Cell}
@@ -23,7 +23,7 @@ pub one_more : (cs : List Command) (c : Command) → AreCommands cs → IsComman
 one_more [] c h k = (k, tt)
 one_more (d ∷ cs) c h k = (h.0, one_more cs c h.1 k)
 
--- The sheet after a command, from its parts.
+-- The sheet after a command, made of its parts.
 pub sheet_made : (items printed : List Item) (s t : Style) (b d : BarStyle) (align also : Alignment) (row rest : List Cell) (c : Command)
     → printed ≡ items ++ step_prints s b align row c → t ≡ style_after s c → d ≡ bar_style_after b c
     → also ≡ alignment_after (is_empty row) align c → rest ≡ line_after s row c

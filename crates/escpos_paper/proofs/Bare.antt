@@ -1,8 +1,8 @@
 -- A sheet whose items are torn off is one that commands leave, too.
 --
--- Take the commands that led to it, and leave out those that end a line, with the line that they ended. What sets something
--- is kept, and so are the characters of the line that isn't printed yet; these print nothing. To end a line its characters
--- have to be left out: so beside the sheet without its items goes the one without its line, too.
+-- Take the commands that led to the sheet, and leave out those that end a line, together with the line that they ended.
+-- What sets something is kept, and so are the characters of the line that isn't printed yet; these print nothing. To end a
+-- line, its characters must be left out: so beside the sheet without its items goes the one without its line, too.
 use Rattle.std.proofs.Common.{◌≡◌, ℕ, List, [], ◌∷◌, ◌++◌, refl, sym, ◌∙◌, ap, subst, append-nil, Bool, true, false, cond}
 use Rattle.std.proofs.Math.Seq.{append_snoc}
 use Rattle.escpos_command.specs.declared.command.Command.{Command}

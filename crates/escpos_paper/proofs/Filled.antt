@@ -1,5 +1,5 @@
--- A plain program that cuts cells into rows: it fills a row until a cell doesn't fit. `OneCut` shows that what
--- it finds is the cut, and `AllCuts` that the definitions agree with it.
+-- A plain program that cuts cells into rows: it fills a row until a cell doesn't fit. `OneCut` proves that what it finds is
+-- the cut, and `AllCuts` that the definitions agree with it.
 use Rattle.std.specs.Prelude.{List, [], ◌∷◌, ◌++◌, if◌then◌else◌}
 use Rattle.escpos_paper.specs.declared.cell.Cell.{Cell}
 use Rattle.escpos_paper.specs.Rows.{fits}

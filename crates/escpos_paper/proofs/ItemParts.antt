@@ -4,7 +4,7 @@ use Rattle.hex.specs.Hex.{encode_lower}
 use Rattle.escpos_paper.specs.declared.item.Item.{Item}
 use Rattle.escpos_paper.specs.declared.item.Item.TheVariants.{Raster}
 use Rattle.escpos_paper.specs.ItemsText.{words}
-use Rattle.escpos_paper.specs.Parts.{front, dots_of}
+use Rattle.escpos_paper.specs.ItemParts.{front, dots_of}
 
 pub in_parts : encode_lower [] ≡ [] → (item : Item) → words item ≡ front item ++ encode_lower (dots_of item)
 in_parts none (Raster align scale x y dots) = refl

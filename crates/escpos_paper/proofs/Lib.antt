@@ -11,3 +11,4 @@ pub mod Bare
 pub mod Above
 pub mod Worked
 pub mod ItemParts
+pub mod FirstItems

@@ -219,7 +219,7 @@ seam (x ∷ a) b [] d e = longer x a refl (sym e)
 seam (x ∷ a) b (y ∷ c) d e =
     seam_cons x y a b c d (first_same x y (a ++ b) (c ++ d) e) (seam a b c d (rest_same x y (a ++ b) (c ++ d) e))
 
--- A row of one cut isn't the front of a wider row in another.
+-- A row of one cut isn't a prefix of a wider row in another.
 wider : (row : List Cell) (x : Cell) (more : List Cell) → dots (row ++ x ∷ []) ≤ dots (row ++ x ∷ more)
 wider row x more = omega (arith, sum_by-append cell_dots row (x ∷ []), sum_by-append cell_dots row (x ∷ more), sum_by-cons cell_dots x more, sum_by-cons cell_dots x [])
 

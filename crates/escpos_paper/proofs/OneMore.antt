@@ -96,7 +96,7 @@ bar_style-snoc cs c =
 
 -- ## Places
 
--- What f gives with one more place, where with it f gives at each place before it what g gives without it.
+-- What f gives with one more place, where at each place before it f then gives what g gives without it.
 pub over-snoc : {X : Type 0} (f g : List Command → Command → List Command → List X) (before cs : List Command) (c : Command)
     → ((b : List Command) (d : Command) (following : List Command) → f b d (following ++ c ∷ []) ≡ g b d following)
     → over_places f before (cs ++ c ∷ []) ≡ over_places g before cs ++ f (before ++ cs) c []

@@ -27,12 +27,12 @@ five_commands : printed (Init ∷ Char 0x48 ∷ Char 0x69 ∷ LineFeed ∷ Cut (
     ≡ Row Left (cell power_on 0x48 ∷ cell power_on 0x69 ∷ []) ∷ Feed 1 ∷ Cutting false None ∷ []
 five_commands = refl
 
--- an Align in mid-line has no effect, one on an empty line has
+-- an Align in mid-line has no effect, one on an empty line has one
 align_in_mid_line : printed (Char 0x41 ∷ Char 0x42 ∷ Align 1 ∷ Char 0x43 ∷ LineFeed ∷ Align 1 ∷ Char 0x44 ∷ LineFeed ∷ [])
     ≡ Row Left (cell power_on 0x41 ∷ cell power_on 0x42 ∷ cell power_on 0x43 ∷ []) ∷ Feed 1 ∷ Row Center (cell power_on 0x44 ∷ []) ∷ Feed 1 ∷ []
 align_in_mid_line = refl
 
--- emphasis in mid-line is that of the characters after it
+-- emphasis set in mid-line is that of the characters after it
 emphasis_in_mid_line : printed (Emphasis 1 ∷ Char 0x41 ∷ Emphasis 0 ∷ Char 0x42 ∷ LineFeed ∷ [])
     ≡ Row Left (cell (record power_on { bold = true }) 0x41 ∷ cell power_on 0x42 ∷ []) ∷ Feed 1 ∷ []
 emphasis_in_mid_line = refl
@@ -91,8 +91,8 @@ wide : printed (Size 0x70 ∷ replicate 6 (Char 0x61) ++ LineFeed ∷ [])
     Row Left (x ∷ x ∷ x ∷ x ∷ x ∷ []) ∷ Feed 1 ∷ Row Left (x ∷ []) ∷ Feed 1 ∷ [])
 wide = refl
 
--- 42 characters of font A fill a line, and 56 of font B. There are too many ways to cut so many cells; the plain
--- program finds the one.
+-- 42 characters of font A fill a line, and 56 of font B. There are too many ways to cut so many cells; the plain program
+-- finds the one.
 font_a : map length (rows (replicate 43 (Char 0x61))) ≡ 42 ∷ 1 ∷ []
 font_a = ap (map length) (rows_filled (replicate 43 (Char 0x61)))
 

@@ -11,13 +11,13 @@ abbrev pub all_digits : List ℕ → Bool
 all_digits bs = list_all is_digit bs
 
 -- The number of a digit.
-abbrev pub number_of : ℕ → ℕ
-number_of b = b - 0x30
+abbrev pub digit_value : ℕ → ℕ
+digit_value b = b - 0x30
 
--- A sum of digits with two weights in turn.
+-- A sum of digits, with two weights that take turns.
 abbrev pub weighted : ℕ → ℕ → List ℕ → ℕ
 weighted weight next [] = 0
-weighted weight next (b ∷ bs) = weight * number_of b + weighted next weight bs
+weighted weight next (b ∷ bs) = weight * digit_value b + weighted next weight bs
 
 -- The weights of the digits are 3, 1, 3, 1, .. from the last leftwards.
 abbrev pub weighted_sum : List ℕ → ℕ
@@ -30,12 +30,12 @@ completes digits n = (n + weighted_sum digits) % 10 == 0
 abbrev pub zero_to_nine : List ℕ
 zero_to_nine = 0 ∷ 1 ∷ 2 ∷ 3 ∷ 4 ∷ 5 ∷ 6 ∷ 7 ∷ 8 ∷ 9 ∷ []
 
--- The check digit: of the numbers 0 to 9 the one that completes the digits. The law `one_check_digit` says that there is
+-- The check digit: the one of the numbers 0 to 9 that completes the digits. The law `one_check_digit` says that there is
 -- exactly one.
 abbrev pub digit : List ℕ → ℕ
 digit digits = last_or 0 (filter (completes digits) zero_to_nine)
 
--- A content of so many bytes has no check digit, and its symbology has one.
+-- A content of this many bytes has no check digit, and its symbology has one.
 abbrev pub lacks_check_digit : Symbology → ℕ → Bool
 lacks_check_digit UpcA n = n == 11
 lacks_check_digit Ean13 n = n == 12

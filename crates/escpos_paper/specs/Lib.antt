@@ -8,4 +8,5 @@ pub mod Page
 pub mod Torn
 pub mod Steps
 pub mod ItemsText
-pub mod Parts
+pub mod ItemParts
+pub mod FirstPaper

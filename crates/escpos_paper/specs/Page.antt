@@ -1,4 +1,4 @@
--- How a page is seen, and which commands leave it.
+-- The model of a page, and which commands leave it.
 use Rattle.std.specs.Prelude.{ℕ, ◌≡◌, List, ◌++◌}
 use Rattle.escpos_command.specs.declared.command.Command.{Command}
 use Rattle.escpos_command.specs.CommandTable.{AreCommands}
@@ -20,7 +20,7 @@ pub record Sheet : Type 0 where
   pub alignment : Alignment
   pub line : List Cell
 
--- How a page is seen: its sheet, and for how many more items it has room.
+-- The model of a page: its sheet, and for how many more items it has room.
 pub record PageView : Type 0 where
   pub sheet : Sheet
   pub room : ℕ
@@ -36,7 +36,7 @@ SheetIs sheet kept cs = sheet ≡ record {
   line = line cs;
 }
 
--- The same of a page, of whose room nothing is said.
+-- The same for a page; its room is left open.
 abbrev pub PageIs : PageView → List Item → List Command → Type 0
 PageIs page kept cs = SheetIs page.sheet kept cs
 

@@ -20,7 +20,7 @@ abbrev pub row_of : Alignment → List Cell → List Item
 row_of align [] = []
 row_of align (x ∷ xs) = Row align (x ∷ xs) ∷ []
 
--- The same with a feed of one line after it.
+-- The same, with a feed of one line after it.
 abbrev pub row_and_feed : Alignment → List Cell → List Item
 row_and_feed align [] = []
 row_and_feed align (x ∷ xs) = Row align (x ∷ xs) ∷ Feed 1 ∷ []
@@ -35,8 +35,9 @@ bars_item align style bars =
 abbrev pub raster_item : Alignment → Picture → Item
 raster_item align raster = Raster align (scale_of (choice raster.scale)) raster.width raster.height raster.dots
 
--- What a command prints after others: LF, ESC d and ESC J the line and their feed; a barcode, a raster or a cut the
--- line with a feed of one, and then the item; a character that begins a row the line before it with a feed of one.
+-- What a command prints after others. LF, ESC d and ESC J print the line and their feed; a barcode, a raster or a cut
+-- prints the line with a feed of one, then the item; a character that begins a row prints the line before it with a feed of
+-- one.
 abbrev pub prints : List Command → Command → List Item
 prints before (kind.Char b) =
     if nat_lt (length (rows before)) (length (rows (before ++ kind.Char b ∷ []))) then row_and_feed (alignment before) (line before) else []

@@ -17,7 +17,7 @@ are_full [] = true
 are_full (row ∷ []) = true
 are_full (row ∷ next ∷ rows) = not (fits (row ++ take 1 next)) && are_full (next ∷ rows)
 
--- Rows as long as the width of the line lets them be.
+-- Rows as long as the width of the line allows.
 abbrev pub is_at_width : List (List Cell) → Bool
 is_at_width rows = list_all fits rows && are_full rows
 
@@ -37,11 +37,11 @@ abbrev pub cuts : List Cell → List (List (List Cell))
 cuts [] = [] ∷ []
 cuts (x ∷ xs) = flat_map (with_first x) (cuts xs)
 
--- The rows of the line: of all ways to cut its cells into rows the one at the width of the line. The law
--- `one_cut` says that there is exactly one.
+-- The rows of the line: the one of all ways to cut its cells into rows that is at the width of the line. The law `one_cut`
+-- says that there is exactly one.
 abbrev pub rows : List Command → List (List Cell)
 rows cs = last_or [] (filter is_at_width (cuts (cells cs)))
 
--- The last of them. It isn't printed yet.
+-- The last of the rows. It isn't printed yet.
 abbrev pub line : List Command → List Cell
 line cs = last_or [] (rows cs)

@@ -1,5 +1,5 @@
--- What one more command makes of styles, line and paper. Private clauses and proofs alone go by these; the
--- definitions of a whole list of commands are shown to agree with them.
+-- What one more command makes of styles, line and paper. Only private clauses and proofs use these definitions; those of a
+-- whole list of commands are proved to agree with them.
 use Rattle.std.specs.Prelude.{Bool, false, List, [], ◌∷◌, ◌++◌, Option, if◌then◌else◌}
 use Rattle.std.specs.Option.{unwrap_or}
 use Rattle.escpos_command.specs.declared.command.Command.{Command}

@@ -17,7 +17,7 @@ use Rattle.escpos_paper.specs.declared.style.Style.{Style}
 use Rattle.escpos_paper.specs.declared.style.BarStyle.{BarStyle}
 use Rattle.escpos_paper.specs.OverPlaces.{over_places}
 
--- Which commands set an attribute, and to what. ESC ! and the special command set the same attribute.
+-- Which commands set an attribute, and to what. ESC ! sets attributes that each have a command of their own, too.
 abbrev pub sets_table : Command → Option ℕ
 sets_table (kind.Table n) = Some n
 sets_table _ = None
@@ -71,12 +71,12 @@ abbrev pub is_init : Command → Bool
 is_init kind.Init = true
 is_init _ = false
 
--- The commands after the last Init: each that is no Init and that no Init follows.
+-- The commands after the last Init: each that isn't an Init and that no Init follows.
 abbrev pub after_init : List Command → List Command
 after_init [] = []
 after_init (c ∷ cs) = (if list_any is_init (c ∷ cs) then [] else c ∷ []) ++ after_init cs
 
--- The last of a list, or a value in its place.
+-- The last element of a list, or a given value if there is none.
 abbrev pub last_or : {X : Type 0} → X → List X → X
 last_or x [] = x
 last_or x (y ∷ ys) = last_or y ys
@@ -93,7 +93,7 @@ power_on = record { table = 0; font = A; width = 1; height = 1; bold = false; un
 abbrev pub power_on_bars : BarStyle
 power_on_bars = record { height = 162; module_width = 3; place = Nowhere; hri_font = A }
 
--- Whether two styles are one.
+-- Whether two styles are the same.
 abbrev pub same_face : FontFace → FontFace → Bool
 same_face A A = true
 same_face A B = false
@@ -137,8 +137,7 @@ abbrev pub is_align : Command → Bool
 is_align (kind.Align n) = true
 is_align _ = false
 
--- The command as a list of one, or none where it is an Align with text before it in its line: that one
--- doesn't count.
+-- The command as a list of one, or nothing if it is an Align with text before it in its line: such an Align doesn't count.
 abbrev pub if_it_counts : List Command → Command → List Command → List Command
 if_it_counts before c following = if is_align c && not (is_empty (text before)) then [] else c ∷ []
 

@@ -24,7 +24,7 @@ below gone sheet = record {
   line = sheet.line;
 }
 
--- The page is what these commands leave, from power-on styles and an empty line, where the items `gone` were torn off:
--- they and those that are still there are what the commands print.
+-- The page is what these commands leave, from power-on styles and an empty line, after the items `gone` were torn off: they
+-- and those that are still there are what the commands print.
 abbrev pub TornIs : PageView → List Item → List Command → Type 0
 TornIs page gone cs = SheetIs (below gone page.sheet) [] cs

@@ -1,4 +1,4 @@
-//! Barcodes and rasters as items of the paper. Their bytes are moved there and not copied.
+//! Barcodes and rasters as items of the paper. Their bytes are moved there, not copied.
 
 ghost use Rattle.std.specs.Prelude.{◌≡◌};
 ghost use Rattle.escpos_paper.specs.CheckDigit.{lacks_check_digit, added_digit};
@@ -51,7 +51,7 @@ fn added_digit(bars: &Bars) -> Option<u8>
     }
 }
 
-// Whether a content of so many bytes has no check digit, though its symbology has one.
+// Whether a content of this many bytes has no check digit, though its symbology has one.
 fn lacks_check_digit(symbology: Symbology, length: usize) -> bool
     ensures { result ≡ lacks_check_digit symbology length }
 {

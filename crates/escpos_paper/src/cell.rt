@@ -51,13 +51,13 @@ fn face_dots(face: FontFace) -> usize
 impl Default for Cell {
     ghost is_default = { λ x. x ≡ cell power_on 0x20 };
 
-    // A space as a printer just switched on prints it. `ArrayVec` puts one into each of its unused places.
+    // A space as a printer just switched on prints it. `ArrayVec` fills its unused places with it.
     fn default() -> Self {
         Style::power_on().cell(b' ')
     }
 }
 
-/// The cells of a row, in order: at most 56. They lie in the value itself, so they take no memory.
+/// The cells of a row, in order: at most 56. They are part of the value itself, so they allocate nothing.
 #[derive(Debug, Drop)]
 pub struct Cells {
     cells: ArrayVec<Cell, LINE_CELLS>,

@@ -36,10 +36,11 @@ impl Model for Content {
 }
 
 impl Content {
-    /// The content of a barcode. Takes no memory.
+    /// The content of a barcode. Allocates nothing.
     pub fn of(bars: Bars) -> Self
         ensures { result ≡ bars.content }
     {
+        // Proof only: the content of a barcode has at most 255 bytes.
         let _ = bars.content();
         Content {
             bytes: bars.into_content(),
@@ -73,10 +74,11 @@ impl Model for Dots {
 }
 
 impl Dots {
-    /// The dots of a raster. Takes no memory.
+    /// The dots of a raster. Allocates nothing.
     pub fn of(raster: Raster) -> Self
         ensures { result ≡ raster.dots }
     {
+        // Proof only: the raster is in range, so its dots have at most 524,160 bytes.
         let _ = raster.dots();
         Dots {
             dots: raster.into_dots(),

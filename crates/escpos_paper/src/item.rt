@@ -12,9 +12,9 @@ pub enum Item {
         align: Alignment,
         cells: Cells,
     },
-    /// A feed of so many lines.
+    /// A feed of this many lines.
     Feed(u8),
-    /// A feed of so many motion units.
+    /// A feed of this many motion units.
     FeedUnits(u8),
     /// A barcode.
     Bars {
@@ -43,8 +43,8 @@ pub enum Item {
         /// The dots, row by row from the top, eight to a byte, the highest bit leftmost.
         dots: Dots,
     },
-    /// A cut, with one point left uncut where `partial`. Where there is a `feed`, the paper is fed by so many
-    /// motion units before it.
+    /// A cut, with one point left uncut if `partial`. If there is a `feed`, the paper is fed by this many motion units
+    /// before it.
     Cut {
         partial: bool,
         feed: Option<u8>,

@@ -3,6 +3,11 @@
 //! A `Page` takes commands one at a time and keeps the items that they print until they are torn off, the styles that are
 //! set and the line that isn't printed yet. The definitions of `specs/` say the same of a whole list of commands,
 //! and look back in it instead of keeping anything.
+//!
+//! `page` has the page, and `paper` what one command does to the items, the styles and the line. `style` has the styles,
+//! `cell` a character in its style, `print_buffer` the line that isn't printed yet, and `item` what is printed. `barcode`
+//! makes items of barcodes and rasters, whose bytes `content` keeps without copying them, and `digits` has check digits.
+//! `text` is the text of an item, `write` that of the paper. `laws` has what follows from the definitions.
 #![tactic(auto)]
 
 mod barcode;
@@ -11,9 +16,9 @@ mod content;
 mod digits;
 mod item;
 pub mod laws;
-mod line;
 mod page;
 mod paper;
+mod print_buffer;
 mod style;
 mod text;
 mod write;

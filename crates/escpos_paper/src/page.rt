@@ -1,9 +1,9 @@
 //! The page: what the commands so far have put on paper.
 //!
-//! What is printed stays on a page until it is torn off; so a stream of any length can be printed in the memory that one command
-//! takes. A page keeps one style, the settings of barcodes, one alignment and one line. That these are what the definitions find by looking
-//! back in the whole list of commands is the invariant of its type. What each command does to them is left to
-//! `paper`; a page makes room for it.
+//! What is printed stays on a page until it is torn off; where each command's items are torn off, a stream of any length
+//! can be printed in the memory that one command takes. A page keeps one style, the settings of barcodes, one alignment and
+//! one line. The invariant of its type says that these are what the definitions find by looking back in the whole list of
+//! commands. What each command does to them is left to `paper`; a page makes room for it.
 
 ghost use Rattle.std.specs.Prelude.{◌≡◌, ◌+◌, ◌≤◌, nat_le, IsOk, IfErr, OnOk, OnErr, List, [], ◌∷◌, ◌++◌, length};
 ghost use Rattle.escpos_command.specs.declared.command.Command.{Command};
@@ -56,7 +56,7 @@ impl Model for Page {
 }
 
 impl Page {
-    /// Paper with nothing on it, power-on styles and an empty line. Takes no memory.
+    /// Paper with nothing on it, power-on styles and an empty line. Allocates nothing.
     pub fn new(alloc: Global) -> Self
         ensures { PageIs result [] [] }
     {
@@ -65,9 +65,9 @@ impl Page {
         }
     }
 
-    /// Makes room for the items of any one command. The error is want of memory.
+    /// Makes room for the items of any one command. The error is a failed allocation.
     ///
-    /// Items, styles and line stay as they are, whatever the answer.
+    /// Items, styles and line stay as they are in either case.
     pub fn ready(&mut self) -> Result<(), AllocError>
         ensures same { self.new.sheet ≡ self.old.sheet }
         ensures room { OnOk result (MOST_ITEMS ≤ self.new.room) }
@@ -76,15 +76,15 @@ impl Page {
         self.paper.items.reserve(MOST_ITEMS)
     }
 
-    /// Whether there is room for any one command. Takes no memory.
+    /// Whether there is room for any one command. Allocates nothing.
     pub fn has_room(&self) -> bool
         ensures { result ≡ nat_le MOST_ITEMS self.now.room }
     {
         self.paper.items.capacity() - self.paper.items.len() >= MOST_ITEMS
     }
 
-    /// Carries out a command. `Err` gives the command back where memory is wanting, and then items, styles
-    /// and line are as they were. Takes no memory where the page has room.
+    /// Carries out a command. `Err` returns the command where an allocation failed, and leaves items, styles and line as
+    /// they were. Allocates nothing where the page has room.
     pub fn apply(&mut self, command: Command) -> Result<(), Command>
         ensures taken { OnOk result ((kept : List Item) (cs : List Command) →
             PageIs self.old kept cs → PageIs self.new kept (cs ++ command ∷ [])) }
@@ -94,6 +94,7 @@ impl Page {
         ensures given_back { IfErr result (λ back. back ≡ command) }
         ensures no_memory { MOST_ITEMS ≤ self.old.room → IsOk result }
     {
+        // Proof only: the command is in range.
         laws::in_range(&command);
         if self.ready().is_err() {
             return Err(command);
@@ -102,7 +103,7 @@ impl Page {
         Ok(())
     }
 
-    /// What is printed on the paper and wasn't torn off, from top to bottom. Takes no memory.
+    /// What is printed on the paper and wasn't torn off, from top to bottom. Allocates nothing.
     pub fn items(&self) -> &[Item]
         ensures items { result.now ≡ self.now.sheet.items }
         ensures reached { IsReached self.now }
@@ -110,7 +111,8 @@ impl Page {
         self.paper.items.as_slice()
     }
 
-    /// Drops what is printed on the paper. Styles and line stay, and so does the room of what was dropped. Takes no memory.
+    /// Drops what is printed on the paper. Styles and line stay, and so does the room of what was dropped. Allocates
+    /// nothing.
     pub fn tear_off(&mut self)
         ensures torn { self.new.sheet ≡ bare self.old.sheet }
         ensures room { self.new.room ≡ self.old.room + length self.old.sheet.items }
@@ -118,8 +120,7 @@ impl Page {
         self.paper.items.clear();
     }
 
-    /// Forgets the commands so far: drops the line and puts the power-on styles back. The paper stays.
-    /// Takes no memory.
+    /// Forgets the commands so far: drops the line and restores the power-on styles. The paper stays. Allocates nothing.
     pub fn restart(&mut self)
         ensures forgotten { PageIs self.new self.old.sheet.items [] }
         ensures same_room { self.new.room ≡ self.old.room }

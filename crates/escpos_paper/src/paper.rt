@@ -1,7 +1,7 @@
 //! What one command does to the paper, the styles and the line.
 //!
-//! `Paper::carry_out` has an arm for every kind of command, and nothing else in this crate goes over the
-//! kinds. `page` makes room for the items first, so nothing here can fail.
+//! `Paper::carry_out` has an arm for every kind of command, and is the only function of this crate that has. `page` makes
+//! room for the items first, so nothing here can fail.
 
 ghost use Rattle.std.specs.Prelude.{◌≡◌, ◌+◌, ◌≤◌, [], ◌∷◌, ◌++◌, if◌then◌else◌, vec_len, vec_capacity};
 ghost use Rattle.escpos_command.specs.declared.command.Command.TheVariants as kind;
@@ -16,7 +16,7 @@ ghost use Rattle.escpos_paper.specs.Steps.{step_prints, style_after, bar_style_a
 use crate::barcode::{bars_item, raster_item};
 use crate::cell::Cell;
 use crate::item::Item;
-use crate::line::Line;
+use crate::print_buffer::PrintBuffer;
 use crate::style::{BarStyle, Style};
 use escpos_command::{Align, Alignment, Command, Cut};
 use std::alloc::Global;
@@ -34,11 +34,11 @@ pub struct Paper {
     pub style: Style,
     pub bar_style: BarStyle,
     pub alignment: Alignment,
-    pub line: Line,
+    pub line: PrintBuffer,
 }
 
 impl Paper {
-    /// Paper with nothing on it, power-on styles and an empty line. Takes no memory.
+    /// Paper with nothing on it, power-on styles and an empty line. Allocates nothing.
     pub fn new(alloc: Global) -> Self
         ensures items { result.items.items ≡ [] }
         ensures style { result.style ≡ power_on }
@@ -51,11 +51,11 @@ impl Paper {
             style: Style::power_on(),
             bar_style: BarStyle::power_on(),
             alignment: Alignment::Left,
-            line: Line::new(),
+            line: PrintBuffer::new(),
         }
     }
 
-    /// Drops the line and puts the power-on styles back. The items stay.
+    /// Drops the line and restores the power-on styles. The items stay.
     pub fn initialise(&mut self)
         ensures items { self.new.items ≡ self.old.items }
         ensures style { self.new.style ≡ power_on }
@@ -66,7 +66,7 @@ impl Paper {
         self.style = Style::power_on();
         self.bar_style = BarStyle::power_on();
         self.alignment = Alignment::Left;
-        self.line = Line::new();
+        self.line = PrintBuffer::new();
     }
 
     /// Carries out a command. The bytes of a barcode or a raster are moved onto the paper.
@@ -139,8 +139,8 @@ impl Paper {
     }
 }
 
-// Puts a cell into the line, and ends the line before it where it doesn't fit.
-fn put_cell(items: &mut Vec<Item>, line: &mut Line, alignment: Alignment, cell: Cell)
+// Puts a cell into the line; if it doesn't fit, ends the line before it.
+fn put_cell(items: &mut Vec<Item>, line: &mut PrintBuffer, alignment: Alignment, cell: Cell)
     requires room { vec_len items.old + 2 ≤ vec_capacity items.old }
     requires visible { 1 ≤ cell.style.width }
     requires narrow { cell.style.width ≤ 8 }
@@ -164,7 +164,7 @@ fn cut_item(cut: Cut) -> Item
     }
 }
 
-// The alignment after ESC a, which is ignored where the line has text.
+// The alignment after ESC a, which is ignored if the line has text.
 fn alignment_after(is_line_empty: bool, alignment: Alignment, align: Align) -> Alignment
     ensures { result ≡ alignment_after is_line_empty alignment (kind.Align align) }
 {
@@ -177,7 +177,7 @@ fn alignment_after(is_line_empty: bool, alignment: Alignment, align: Align) -> A
 
 // Prints the line as a row, if it has a cell.
 #[inline(never)]
-fn print_line(items: &mut Vec<Item>, line: &mut Line, alignment: Alignment)
+fn print_line(items: &mut Vec<Item>, line: &mut PrintBuffer, alignment: Alignment)
     requires { vec_len items.old + 1 ≤ vec_capacity items.old }
     ensures printed { items.new.items ≡ items.old.items ++ row_of alignment line.old }
     ensures left { line.new ≡ [] }
@@ -192,9 +192,9 @@ fn print_line(items: &mut Vec<Item>, line: &mut Line, alignment: Alignment)
     }
 }
 
-// The same, and where it has a cell feeds one line.
+// The same; if the line has a cell, also feeds one line.
 #[inline(never)]
-fn end_line(items: &mut Vec<Item>, line: &mut Line, alignment: Alignment)
+fn end_line(items: &mut Vec<Item>, line: &mut PrintBuffer, alignment: Alignment)
     requires { vec_len items.old + 2 ≤ vec_capacity items.old }
     ensures printed { items.new.items ≡ items.old.items ++ row_and_feed alignment line.old }
     ensures left { line.new ≡ [] }

@@ -47,7 +47,7 @@ impl Style {
         Cell { byte, style: self }
     }
 
-    /// Whether the two styles are one.
+    /// Whether the two styles are the same.
     #[inline]
     pub fn is_same(&self, other: &Style) -> bool
         ensures value { result ≡ same_style self.now other.now }

@@ -9,14 +9,17 @@ ghost use Rattle.escpos_io.specs.Giving.{IsGiven};
 ghost use Rattle.escpos_io.specs.Putting.{passage};
 ghost use Rattle.escpos_paper.specs.Styles.{power_on};
 ghost use Rattle.escpos_paper.specs.ItemsText.{byte_text, style_text, face_name, bold_text, cell_text, cells_text, align_name, symbology_name, place_name, scale_name, settings_text, content_text, cut_name, item_text};
-ghost use Rattle.escpos_paper.specs.Parts.{front, dots_of};
+ghost use Rattle.escpos_paper.specs.ItemParts.{front, dots_of};
 
 use crate::cell::{Cell, Cells};
 use crate::content::{Content, DOT_BYTES};
 use crate::item::Item;
 use crate::style::{BarStyle, Style};
 use escpos_command::{Alignment, FontFace, HriPosition, LF, Scale, Symbology};
-use escpos_io::{ByteOut, Device, GATHERED_BYTES, Gather, Piece, laws, put_digits};
+use escpos_io::{
+    ByteOut, Device, GATHERED_BYTES, Gather, Piece, append_digits_after, append_small_number,
+    put_digits,
+};
 use itoa::Buffer;
 
 /// The most bytes of a line that are appended to a gather at once: all but the dots of a raster. (A row has at most 56
@@ -31,11 +34,6 @@ impl Piece for Item {
 
     #[inline]
     fn put<W: ByteOut>(&self, gather: &mut Gather, writer: &mut W) -> Result<(), Device> {
-        laws::given_in_turn();
-        laws::given_in_place();
-        laws::piece_put();
-        laws::piece_stopped();
-        laws::digits_in_turn();
         gather.room(LINE_BYTES, writer)?;
         append_front(gather, self);
         put_digits(gather, dots_of(self), writer)?;
@@ -43,7 +41,7 @@ impl Piece for Item {
     }
 }
 
-// The dots of a raster; of any other item none.
+// The dots of a raster; nothing for any other item.
 #[inline]
 fn dots_of(item: &Item) -> &[u8]
     ensures dots { result.now ≡ dots_of item.now }
@@ -55,11 +53,11 @@ fn dots_of(item: &Item) -> &[u8]
     }
 }
 
-// The line of an item but for its end, and of a raster what comes before its dots.
+// Appends the line of an item without its end, and of a raster only what comes before its dots.
 fn append_front(gather: &mut Gather, item: &Item)
     requires { length gather.old.kept + LINE_BYTES ≤ GATHERED_BYTES }
     ensures kept { gather.new.kept ≡ gather.old.kept ++ front item.now }
-    ensures same_count { gather.new.taken ≡ gather.old.taken }
+    ensures same_count { gather.new.written ≡ gather.old.written }
     ensures short { length (front item.now) < LINE_BYTES }
 {
     match item {
@@ -70,11 +68,11 @@ fn append_front(gather: &mut Gather, item: &Item)
         }
         Item::Feed(lines) => {
             gather.extend(b"feed ");
-            append_number(gather, *lines);
+            append_small_number(gather, *lines);
         }
         Item::FeedUnits(units) => {
             gather.extend(b"units ");
-            append_number(gather, *units);
+            append_small_number(gather, *units);
         }
         Item::Bars {
             align,
@@ -116,66 +114,66 @@ fn append_front(gather: &mut Gather, item: &Item)
             gather.extend(cut_name(*partial));
             if let Some(feed) = feed {
                 gather.push(b' ');
-                append_number(gather, *feed);
+                append_small_number(gather, *feed);
             }
         }
     }
 }
 
-// A word and a space.
+// Appends a word and a space.
 fn append_word(gather: &mut Gather, word: &[u8])
     requires { length gather.old.kept + length word.now < GATHERED_BYTES }
     ensures kept { gather.new.kept ≡ gather.old.kept ++ word.now ++ codes " " }
-    ensures same_count { gather.new.taken ≡ gather.old.taken }
+    ensures same_count { gather.new.written ≡ gather.old.written }
 {
     gather.extend(word);
     gather.push(b' ');
 }
 
-// A number of up to five digits, in decimal, and a space.
+// Appends a number of up to five digits, in decimal, and a space.
 fn append_size(gather: &mut Gather, number: u16)
     requires { length gather.old.kept + 6 ≤ GATHERED_BYTES }
     ensures kept { gather.new.kept ≡ gather.old.kept ++ decimal number ++ codes " " }
-    ensures same_count { gather.new.taken ≡ gather.old.taken }
+    ensures same_count { gather.new.written ≡ gather.old.written }
     ensures short { length (decimal number) ≤ 5 }
 {
     let mut buffer = Buffer::new();
     append_word(gather, buffer.format(number).as_bytes());
 }
 
-// The settings of a barcode and a space.
+// Appends the settings of a barcode and a space.
 fn append_settings(gather: &mut Gather, style: BarStyle)
     requires { length gather.old.kept + 16 ≤ GATHERED_BYTES }
     ensures kept { gather.new.kept ≡ gather.old.kept ++ settings_text style.height style.module_width style.place style.hri_font ++ codes " " }
-    ensures same_count { gather.new.taken ≡ gather.old.taken }
+    ensures same_count { gather.new.written ≡ gather.old.written }
     ensures short { length (settings_text style.height style.module_width style.place style.hri_font ++ codes " ") ≤ 16 }
 {
-    append_number(gather, style.height);
+    append_small_number(gather, style.height);
     gather.push(b' ');
-    append_number(gather, style.module_width);
+    append_small_number(gather, style.module_width);
     gather.push(b' ');
     append_word(gather, place_name(style.place));
     append_word(gather, face_name(style.hri_font));
 }
 
-// The content of a barcode and the check digit that is added.
+// Appends the content of a barcode and the check digit that is added.
 fn append_content(gather: &mut Gather, content: &Content, added: Option<u8>)
     requires { length gather.old.kept + 768 ≤ GATHERED_BYTES }
     ensures kept { gather.new.kept ≡ gather.old.kept ++ content_text content.now added }
-    ensures same_count { gather.new.taken ≡ gather.old.taken }
+    ensures same_count { gather.new.written ≡ gather.old.written }
     ensures short { length (content_text content.now added) ≤ 768 }
 {
     append_bytes(gather, content.as_slice());
     if let Some(digit) = added {
-        append_number(gather, digit);
+        append_small_number(gather, digit);
     }
 }
 
-// The characters of a barcode's content.
+// Appends the characters of a barcode's content.
 fn append_bytes(gather: &mut Gather, bytes: &[u8])
     requires { length gather.old.kept + 3 * length bytes.now ≤ GATHERED_BYTES }
     ensures kept { gather.new.kept ≡ gather.old.kept ++ flat_map byte_text bytes.now }
-    ensures same_count { gather.new.taken ≡ gather.old.taken }
+    ensures same_count { gather.new.written ≡ gather.old.written }
     ensures short { length gather.new.kept ≤ length gather.old.kept + 3 * length bytes.now }
 {
     for byte in bytes {
@@ -240,11 +238,11 @@ fn cut_name(partial: bool) -> &'static [u8]
     if partial { b"partial" } else { b"full" }
 }
 
-// The cells of a row.
+// Appends the cells of a row.
 fn append_cells(gather: &mut Gather, cells: &Cells)
     requires { length gather.old.kept + 1344 ≤ GATHERED_BYTES }
     ensures kept { gather.new.kept ≡ gather.old.kept ++ cells_text power_on cells.now }
-    ensures same_count { gather.new.taken ≡ gather.old.taken }
+    ensures same_count { gather.new.written ≡ gather.old.written }
     ensures short { length (cells_text power_on cells.now) ≤ 1344 }
 {
     let row = cells.as_slice();
@@ -255,12 +253,12 @@ fn append_cells(gather: &mut Gather, cells: &Cells)
     }
 }
 
-// A cell after one of the style `before`.
+// Appends a cell that follows one of the style `before`.
 #[inline]
 fn append_cell(gather: &mut Gather, before: &Style, cell: &Cell)
     requires { length gather.old.kept + 24 ≤ GATHERED_BYTES }
     ensures kept { gather.new.kept ≡ gather.old.kept ++ cell_text before.now cell.now }
-    ensures same_count { gather.new.taken ≡ gather.old.taken }
+    ensures same_count { gather.new.written ≡ gather.old.written }
     ensures short { length (cell_text before.now cell.now) ≤ 24 }
 {
     if !before.is_same(&cell.style) {
@@ -273,7 +271,7 @@ fn append_cell(gather: &mut Gather, before: &Style, cell: &Cell)
 fn append_style(gather: &mut Gather, style: &Style)
     requires { length gather.old.kept + 21 ≤ GATHERED_BYTES }
     ensures kept { gather.new.kept ≡ gather.old.kept ++ style_text style.now }
-    ensures same_count { gather.new.taken ≡ gather.old.taken }
+    ensures same_count { gather.new.written ≡ gather.old.written }
     ensures short { length (style_text style.now) ≤ 21 }
 {
     gather.push(b'[');
@@ -304,41 +302,28 @@ fn bold_text(bold: bool) -> &'static [u8]
     if bold { b"1" } else { b"0" }
 }
 
-// A number after a comma.
+// Appends a comma and a number.
 fn append_attribute(gather: &mut Gather, number: u8)
     requires { length gather.old.kept + 4 ≤ GATHERED_BYTES }
     ensures kept { gather.new.kept ≡ gather.old.kept ++ codes "," ++ decimal number }
-    ensures same_count { gather.new.taken ≡ gather.old.taken }
+    ensures same_count { gather.new.written ≡ gather.old.written }
     ensures short { length (codes "," ++ decimal number) ≤ 4 }
 {
     gather.push(b',');
-    append_number(gather, number);
+    append_small_number(gather, number);
 }
 
-// A character: itself, or \ and two hexadecimal digits.
+// Appends a character: itself, or \ and two hexadecimal digits.
 #[inline]
 fn append_byte(gather: &mut Gather, byte: u8)
     requires { length gather.old.kept + 3 ≤ GATHERED_BYTES }
     ensures kept { gather.new.kept ≡ gather.old.kept ++ byte_text byte }
-    ensures same_count { gather.new.taken ≡ gather.old.taken }
+    ensures same_count { gather.new.written ≡ gather.old.written }
     ensures short { length (byte_text byte) ≤ 3 }
 {
     if matches!(byte, 0x20..=0x7E) && byte != b'[' && byte != b'\\' {
         gather.push(byte);
     } else {
-        let mut escaped = [b'\\'; 3];
-        hex::encode_to_slice([byte], &mut escaped[1..]).unwrap();
-        gather.extend(&escaped);
+        append_digits_after(gather, b'\\', byte);
     }
-}
-
-// A number, in decimal.
-fn append_number(gather: &mut Gather, number: u8)
-    requires { length gather.old.kept + 3 ≤ GATHERED_BYTES }
-    ensures kept { gather.new.kept ≡ gather.old.kept ++ decimal number }
-    ensures same_count { gather.new.taken ≡ gather.old.taken }
-    ensures short { length (decimal number) ≤ 3 }
-{
-    let mut buffer = Buffer::new();
-    gather.extend(buffer.format(number).as_bytes());
 }

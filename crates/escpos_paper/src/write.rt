@@ -1,4 +1,4 @@
-//! The paper as text, sent off to a writer.
+//! The paper as text, written to a sink.
 
 ghost use Rattle.escpos_io.specs.Putting.{IsPut, passage};
 ghost use Rattle.escpos_paper.specs.ItemsText.{items_text};
@@ -6,7 +6,7 @@ ghost use Rattle.escpos_paper.specs.ItemsText.{items_text};
 use crate::item::Item;
 use escpos_io::{ByteOut, Device, put_pieces};
 
-/// Writes a line for each item. Takes no memory.
+/// Writes a line for each item. Allocates nothing.
 ///
 /// A row is `row ALIGN CELLS`, a feed `feed N` or `units N`, a cut `cut full` or `cut partial`, and then its feed, if it
 /// has one. A barcode is `bars ALIGN SYMBOLOGY HEIGHT MODULE PLACE FONT CONTENT`, with the check digit that is added at
@@ -16,8 +16,8 @@ use escpos_io::{ByteOut, Device, put_pieces};
 /// it, or for the first cell not the power-on style, has `[F,W,H,B,U,T]` before it: font, width, height,
 /// emphasis, underline and table.
 ///
-/// On `Ok` the writer has not failed, unless it had before. On `Err` it has failed, and exactly the first
-/// `written` bytes of that text are out, fewer than there are.
+/// On `Ok` the writer has not failed, unless it had before. On `Err` it has failed, and took exactly the first `written`
+/// bytes of that text, fewer than there are.
 pub fn write_items<W: ByteOut>(items: &[Item], writer: &mut W) -> Result<(), Device>
     ensures { IsPut result (passage (W.written writer.old) (W.written writer.new) (W.failed writer.old) (W.failed writer.new)) (items_text items.now) }
 {

@@ -1,6 +1,6 @@
 pub mod Taking
-pub mod Answering
+pub mod AnswerBytes
 pub mod Fitting
 pub mod Spelled
 pub mod Serving
-pub mod Parts
+pub mod LinksInParts

@@ -20,9 +20,10 @@ use Rattle.escpos_printer.specs.declared.serve.LinkEnd.TheVariants.{Ended, TooLo
 use Rattle.escpos_printer.specs.declared.serve.Carried.{Carried}
 use Rattle.escpos_printer.specs.Replies.{reply, replies}
 use Rattle.escpos_printer.specs.Feeds.{PrinterView, Ran, Took, Feeds, HasCause, IsLeft, left_half}
-use Rattle.escpos_printer.specs.Serves.{Sent, sent, AllOut, CutOff, AnswersGo, EndsBy, IsLeftBy, Carries, Serves, IsWithinPiece, link, end_of}
+use Rattle.escpos_printer.specs.Serves.{Sent, sent, AllOut, CutOff, AnswersGo, EndsBy, IsLeftBy, IsCarried, Serves, link}
+use Rattle.escpos_printer.specs.ServeSteps.{IsWithinPiece, end_of}
 use Rattle.escpos_printer.proofs.Taking.{JoinLaw, ran_on, ran_none}
-use Rattle.escpos_printer.proofs.Answering.{all_on, cut_on}
+use Rattle.escpos_printer.proofs.AnswerBytes.{all_on, cut_on}
 
 -- The same printer with these answers waiting.
 abbrev pub waits : PrinterView → List Answer → PrinterView
@@ -93,7 +94,7 @@ pub record FedAt (m : PrinterView) (piece : List ℕ) (c k : ℕ) (why : FeedSto
   pub within : c + k ≤ length piece
   pub took : Took m (take k (drop c piece)) commands taken
   pub cause : ((why ≡ stop.All) × (c + k ≡ length piece)) ⊎ ((c + k < length piece) × HasCause why taken (slice_index piece (c + k)))
-  pub left : IsLeft why taken q
+  pub leaves : IsLeft why taken q
 
 pub fed_at : (m q : PrinterView) (piece : List ℕ) (c k : ℕ) (why : FeedStop) → c ≤ length piece → Feeds m (take (length piece - c) (drop c piece)) k why q → FedAt m piece c k why q
 fed_at m q piece c k why h f =
@@ -115,7 +116,7 @@ fed_at m q piece c k why h f =
               subst (λ v. HasCause why f.taken v) (get_or-take (length piece - c) (drop c piece) k 0 inside ∙ get_or-drop c piece k 0) byte.1,
             )
       ];
-      left = f.left;
+      leaves = f.leaves;
     }
 
 -- Where no answer waited, answers that are too many come only after some bytes.
@@ -123,7 +124,7 @@ pub some_taken : (m q : PrinterView) (piece : List ℕ) (c k : ℕ)
     → ((bs : List ℕ) (cs ds : List Command) (x y : List ℕ) → Reads bs cs x → Reads bs ds y → (cs ≡ ds) × (x ≡ y))
     → (m.half ≡ []) ⊎ Half m.half → m.waiting ≡ [] → FedAt m piece c k stop.AnswersFull q → 0 < k
 some_taken m q piece c zero one left none f =
-    let same = (one (m.half ++ []) f.commands [] f.taken.half m.half f.took.ran.reads (record { commands = tt; whole = append-nil m.half; left = left })).0 in
+    let same = (one (m.half ++ []) f.commands [] f.taken.half m.half f.took.ran.reads (record { commands = tt; whole = append-nil m.half; rest_is = left })).0 in
     let nothing : f.taken.waiting ≡ [] = f.took.answers ∙ ap (λ v. m.waiting ++ replies m.condition v) same ∙ append-nil m.waiting ∙ none in
     elim f.cause [
       | inl all ↦ let e = all.0 in absurd cc
@@ -162,10 +163,10 @@ whole_front piece c k = sym (take-add c k piece)
 pub go_on : JoinLaw → (p m q r : PrinterView) (piece : List ℕ) (a b e : Option (List ℕ)) (c k n count : ℕ) → Passed p (take c piece) a b n m
     → FedAt m piece c k stop.AnswersFull q → AllOut (sent b e) q.waiting count r.waiting → Answered q r → Passed p (take (c + k) piece) a e (n + count) r
 go_on join p m q r piece a b e c k n count o f out same =
-    let w = ap (λ (v : PrinterView). v.waiting) f.left in
+    let w = ap (λ (v : PrinterView). v.waiting) f.leaves in
     let on = passed_on join p m f.taken (take c piece) (take k (drop c piece)) a b e n count r.waiting f.commands o f.took (subst (λ v. AllOut (sent b e) v count r.waiting) w out) in
     subst (λ v. Passed p v a e (n + count) r) (whole_front piece c k)
-    (subst (λ v. Passed p (take c piece ++ take k (drop c piece)) a e (n + count) v) (sym (after_stop f.taken q r stop.AnswersFull f.left same)) on)
+    (subst (λ v. Passed p (take c piece ++ take k (drop c piece)) a e (n + count) v) (sym (after_stop f.taken q r stop.AnswersFull f.leaves same)) on)
 
 ends_by : (t : PrinterView) (piece : List ℕ) (at : ℕ) (why : FeedStop) (w : List Answer) → why ≢ stop.AnswersFull → w ≡ []
     → ((why ≡ stop.All) × (at ≡ length piece)) ⊎ ((at < length piece) × HasCause why t (slice_index piece at)) → EndsBy (end_of why) (waits t w) piece at
@@ -197,9 +198,9 @@ left_by t r piece at stop.Memory e = e
 
 pub carried : JoinLaw → (p m q r : PrinterView) (piece : List ℕ) (a b e : Option (List ℕ)) (c k n count : ℕ) (why : FeedStop) → why ≢ stop.AnswersFull → Passed p (take c piece) a b n m
     → FedAt m piece c k why q → AllOut (sent b e) q.waiting count r.waiting → Answered q r
-    → Carries p piece (sent a e) (record { consumed = c + k; written = n + count; end = end_of why }) r
+    → IsCarried p piece (sent a e) (record { consumed = c + k; written = n + count; end = end_of why }) r
 carried join p m q r piece a b e c k n count why ne o f out same =
-    let w = ap (λ (v : PrinterView). v.waiting) f.left in
+    let w = ap (λ (v : PrinterView). v.waiting) f.leaves in
     let on = passed_on join p m f.taken (take c piece) (take k (drop c piece)) a b e n count r.waiting f.commands o f.took (subst (λ v. AllOut (sent b e) v count r.waiting) w out) in
     record {
       commands = on.commands;
@@ -208,10 +209,10 @@ carried join p m q r piece a b e c k n count why ne o f out same =
       ran = subst (λ v. Ran p v on.commands (waits f.taken r.waiting)) (whole_front piece c k) on.ran;
       answers = answers_go why (sent a e) (p.waiting ++ replies p.condition on.commands) (n + count) r.waiting on.out;
       cause = ends_by f.taken piece (c + k) why r.waiting ne out.none f.cause;
-      left = left_by f.taken r piece (c + k) why (after_stop f.taken q r why f.left same);
+      leaves = left_by f.taken r piece (c + k) why (after_stop f.taken q r why f.leaves same);
     }
 
--- A byte that is a fault is one that no command goes on with.
+-- No command continues with a byte that is a fault.
 refused : (half : List ℕ) (b : ℕ) (why : FaultReason) → FaultAt (half ++ b ∷ []) [] half (length half) why → Viable (half ++ b ∷ []) → ⊥
 refused half b why f v = f.refused (subst (λ x. Viable (half ++ x ∷ [])) (sym (get_or-append_seam half b [] 0)) v)
 
@@ -227,9 +228,9 @@ left_broken t r piece at stop.Memory cause e = inl e
 
 pub broken : JoinLaw → (p m q r : PrinterView) (piece : List ℕ) (a b e : Option (List ℕ)) (c k n count : ℕ) (why : FeedStop) → Passed p (take c piece) a b n m
     → FedAt m piece c k why q → CutOff (sent b e) q.waiting count r.waiting → Answered q r
-    → Carries p piece (sent a e) (record { consumed = c + k; written = n + count; end = Some WriteFault }) r
+    → IsCarried p piece (sent a e) (record { consumed = c + k; written = n + count; end = Some WriteFault }) r
 broken join p m q r piece a b e c k n count why o f out same =
-    let w = ap (λ (v : PrinterView). v.waiting) f.left in
+    let w = ap (λ (v : PrinterView). v.waiting) f.leaves in
     let on = broke_on join p m f.taken (take c piece) (take k (drop c piece)) a b e n count r.waiting f.commands o f.took (subst (λ v. CutOff (sent b e) v count r.waiting) w out) in
     record {
       commands = on.commands;
@@ -238,7 +239,7 @@ broken join p m q r piece a b e c k n count why o f out same =
       ran = subst (λ v. Ran p v on.commands (waits f.taken r.waiting)) (whole_front piece c k) on.ran;
       answers = on.out;
       cause = tt;
-      left = left_broken f.taken r piece (c + k) why f.cause (after_stop f.taken q r why f.left same);
+      leaves = left_broken f.taken r piece (c + k) why f.cause (after_stop f.taken q r why f.leaves same);
     }
 
 -- Feeding by itself never ends in the writer's failure.
@@ -304,8 +305,8 @@ left_on (Some (Fault why)) t r x y k h = h
 left_on (Some Offline) t r x y k h = h
 left_on (Some Memory) t r x y k h = h
 
-pub carries_on : JoinLaw → (p m q : PrinterView) (x y : List ℕ) (a b c : Option (List ℕ)) (n : ℕ) (more : Carried) → Passed p x a b n m → Carries m y (sent b c) more q
-    → Carries p (x ++ y) (sent a c) (record { consumed = length x + more.consumed; written = n + more.written; end = more.end }) q
+pub carries_on : JoinLaw → (p m q : PrinterView) (x y : List ℕ) (a b c : Option (List ℕ)) (n : ℕ) (more : Carried) → Passed p x a b n m → IsCarried m y (sent b c) more q
+    → IsCarried p (x ++ y) (sent a c) (record { consumed = length x + more.consumed; written = n + more.written; end = more.end }) q
 carries_on join p m q x y a b c n more o h = record {
   commands = o.commands ++ h.commands;
   taken = h.taken;
@@ -314,33 +315,33 @@ carries_on join p m q x y a b c n more o h = record {
       (ran_on join p m h.taken x (take more.consumed y) o.commands h.commands o.ran h.ran);
   answers = answers_on p m o.commands h.commands more.end a b c n more.written h.taken.waiting o.out o.ran.condition h.answers;
   cause = cause_on more.end h.taken x y more.consumed h.cause;
-  left = left_on more.end h.taken q x y more.consumed h.left;
+  leaves = left_on more.end h.taken q x y more.consumed h.leaves;
 }
 
-pub passed_of : (p q : PrinterView) (bytes : List ℕ) (a b : Option (List ℕ)) (c n : ℕ) → Carries p bytes (sent a b) (record { consumed = c; written = n; end = None }) q → Passed p bytes a b n q
+pub passed_of : (p q : PrinterView) (bytes : List ℕ) (a b : Option (List ℕ)) (c n : ℕ) → IsCarried p bytes (sent a b) (record { consumed = c; written = n; end = None }) q → Passed p bytes a b n q
 passed_of p q bytes a b c n h = record {
   commands = h.commands;
-  ran = subst (λ v. Ran p bytes h.commands v) (sym h.left) (subst (λ v. Ran p v h.commands h.taken) (ap (λ k. take k bytes) h.cause ∙ take-length bytes) h.ran);
-  out = subst (λ (v : PrinterView). AllOut (sent a b) (p.waiting ++ replies p.condition h.commands) n v.waiting) (sym h.left) h.answers;
+  ran = subst (λ v. Ran p bytes h.commands v) (sym h.leaves) (subst (λ v. Ran p v h.commands h.taken) (ap (λ k. take k bytes) h.cause ∙ take-length bytes) h.ran);
+  out = subst (λ (v : PrinterView). AllOut (sent a b) (p.waiting ++ replies p.condition h.commands) n v.waiting) (sym h.leaves) h.answers;
 }
 
 -- The bytes have ended, or no more are read.
 pub record IsClean (end : LinkEnd) : Type 0 where
   pub answers : (s : Sent) (answers : List Answer) (written : ℕ) (w : List Answer) → AllOut s answers written w → AnswersGo (Some end) s answers written w
   pub cause : (t : PrinterView) (bytes : List ℕ) (k : ℕ) → k ≡ length bytes → EndsBy (Some end) t bytes k
-  pub left : (t : PrinterView) (bytes : List ℕ) (k : ℕ) → IsLeftBy (Some end) t bytes k t
+  pub leaves : (t : PrinterView) (bytes : List ℕ) (k : ℕ) → IsLeftBy (Some end) t bytes k t
 
 pub clean_ended : IsClean Ended
-clean_ended = record { answers = λ s xs n w h. h; cause = λ t bytes k h. h; left = λ t bytes k. refl }
+clean_ended = record { answers = λ s xs n w h. h; cause = λ t bytes k h. h; leaves = λ t bytes k. refl }
 
 pub clean_too_long : IsClean TooLong
-clean_too_long = record { answers = λ s xs n w h. h; cause = λ t bytes k h. h; left = λ t bytes k. refl }
+clean_too_long = record { answers = λ s xs n w h. h; cause = λ t bytes k h. h; leaves = λ t bytes k. refl }
 
 pub clean_read_fault : IsClean ReadFault
-clean_read_fault = record { answers = λ s xs n w h. h; cause = λ t bytes k h. h; left = λ t bytes k. refl }
+clean_read_fault = record { answers = λ s xs n w h. h; cause = λ t bytes k h. h; leaves = λ t bytes k. refl }
 
 pub carries_end : (p q : PrinterView) (bytes : List ℕ) (a b : Option (List ℕ)) (c n : ℕ) (end : LinkEnd) → IsClean end → Passed p bytes a b n q → c ≡ length bytes
-    → Carries p bytes (sent a b) (record { consumed = c; written = n; end = Some end }) q
+    → IsCarried p bytes (sent a b) (record { consumed = c; written = n; end = Some end }) q
 carries_end p q bytes a b c n end clean o e = record {
   commands = o.commands;
   taken = q;
@@ -348,7 +349,7 @@ carries_end p q bytes a b c n end clean o e = record {
   ran = subst (λ v. Ran p v o.commands q) (sym (ap (λ k. take k bytes) e ∙ take-length bytes)) o.ran;
   answers = clean.answers (sent a b) (p.waiting ++ replies p.condition o.commands) n q.waiting o.out;
   cause = clean.cause q bytes c e;
-  left = clean.left q bytes c;
+  leaves = clean.leaves q bytes c;
 }
 
 -- ## A link
@@ -375,20 +376,20 @@ reading_none p q r a b n left out same = record {
 
 -- A piece was read and carried, and reading goes on.
 pub reading_on : JoinLaw → (p m q : PrinterView) (y : List ℕ) (r0 r r1 a b c : Option (List ℕ)) (read n k : ℕ) (more : Carried) → Reading p r0 r a b read n m → Consumes r r1 y
-    → k ≡ length y → Carries m y (sent b c) more q → more.end ≡ None → Reading p r0 r1 a c (read + k) (n + more.written) q
+    → k ≡ length y → IsCarried m y (sent b c) more q → more.end ≡ None → Reading p r0 r1 a c (read + k) (n + more.written) q
 reading_on join p m q y r0 r r1 a b c read n k more h came e carries none = record {
   bytes = h.bytes ++ y;
   came = Consumes-trans r0 r r1 h.bytes y h.came came;
   count = let f = h.count in let g = length-append h.bytes y in omega (arith, e, f, g);
   passed =
       passed_of p q (h.bytes ++ y) a c (length h.bytes + more.consumed) (n + more.written)
-      (subst (λ v. Carries p (h.bytes ++ y) (sent a c) (record { consumed = length h.bytes + more.consumed; written = n + more.written; end = v }) q) none
+      (subst (λ v. IsCarried p (h.bytes ++ y) (sent a c) (record { consumed = length h.bytes + more.consumed; written = n + more.written; end = v }) q) none
       (carries_on join p m q h.bytes y a b c n more h.passed carries));
 }
 
 -- A piece was read, and the link ended in it.
 pub serves_piece : JoinLaw → (p m q : PrinterView) (y : List ℕ) (r0 r r1 a b c : Option (List ℕ)) (most read n k : ℕ) (more : Carried) (end : LinkEnd) → Reading p r0 r a b read n m → Consumes r r1 y
-    → k ≡ length y → read + k ≤ most → Carries m y (sent b c) more q → more.end ≡ Some end → end ≢ TooLong → end ≢ Ended → end ≢ ReadFault
+    → k ≡ length y → read + k ≤ most → IsCarried m y (sent b c) more q → more.end ≡ Some end → end ≢ TooLong → end ≢ Ended → end ≢ ReadFault
     → Serves p (link r0 r1 a c) most (record { read = read + k; consumed = read + more.consumed; written = n + more.written; end = end }) q
 serves_piece join p m q y r0 r r1 a b c most read n k more end h came e few carries is ne not_ended not_failed = record {
   bytes = h.bytes ++ y;
@@ -396,8 +397,8 @@ serves_piece join p m q y r0 r r1 a b c most read n k more end h came e few carr
   read = let f = h.count in let g = length-append h.bytes y in omega (arith, e, f, g);
   within = few;
   carries =
-      subst (λ v. Carries p (h.bytes ++ y) (sent a c) (record { consumed = v + more.consumed; written = n + more.written; end = Some end }) q) (sym h.count)
-      (subst (λ v. Carries p (h.bytes ++ y) (sent a c) (record { consumed = length h.bytes + more.consumed; written = n + more.written; end = v }) q) is
+      subst (λ v. IsCarried p (h.bytes ++ y) (sent a c) (record { consumed = v + more.consumed; written = n + more.written; end = Some end }) q) (sym h.count)
+      (subst (λ v. IsCarried p (h.bytes ++ y) (sent a c) (record { consumed = length h.bytes + more.consumed; written = n + more.written; end = v }) q) is
       (carries_on join p m q h.bytes y a b c n more h.passed carries));
   too_long = λ t. absurd (ne t);
   early = λ t. elim t [ inl f ↦ absurd (not_ended f) | inr f ↦ absurd (not_failed f) ];
@@ -431,7 +432,7 @@ serves_cut p q r a b most n left out same = record {
     ran = subst (λ v. Ran p [] [] v) (sym (same_view q p.sheet p.half p.condition same.sheet same.half same.condition)) (ran_waits p p [] [] q.waiting (ran_none p left));
     answers = subst (λ v. CutOff (sent a b) v n q.waiting) (sym (append-nil p.waiting)) out;
     cause = tt;
-    left = inl refl;
+    leaves = inl refl;
   };
   too_long = λ e. absurd cc;
   early = λ e. elim e [ inl f ↦ absurd cc | inr f ↦ absurd cc ];
@@ -444,7 +445,7 @@ within_piece (stop.Fault place why) = tt
 within_piece stop.Offline = tt
 within_piece stop.Memory = tt
 
--- So it ends in none of these ways.
+-- So the link ends in none of these ways.
 pub record NotBetween (end : LinkEnd) : Type 0 where
   pub ended : end ≢ Ended
   pub too_long : end ≢ TooLong
@@ -459,7 +460,7 @@ not_between e end h is =
       read_fault = λ f. subst (λ v. IsWithinPiece (Some v)) f k;
     }
 
--- The bytes at the front of a buffer into which they were pulled.
+-- The bytes at the start of a buffer into which they were pulled.
 pub pulled_front : (count : ℕ) (new rest : List ℕ) → count ≤ length new → take count (new ++ rest) ≡ take count new
 pulled_front count new rest h = take-append-le count new rest h
 

@@ -12,7 +12,8 @@ use Rattle.escpos_command.specs.Grammar.{FaultAt, Reads}
 use Rattle.escpos_command.specs.Laws.{IsRead, IsRefused}
 use Rattle.escpos_printer.specs.declared.printer.FeedStop.{FeedStop}
 use Rattle.escpos_printer.specs.declared.printer.FeedStop.TheVariants as stop
-use Rattle.escpos_printer.specs.Feeds.{Feeds, HasCause, IsAnswered, IsLeft, IsReadyFor, PassesOffline, PrinterView, Took, is_status, most_waiting}
+use Rattle.escpos_printer.specs.Feeds.{Feeds, HasCause, IsAnswered, IsLeft, PassesOffline, PrinterView, Took, is_status, most_waiting}
+use Rattle.escpos_printer.specs.ReadyFor.{IsReadyFor}
 use Rattle.escpos_printer.specs.Replies.{is_offline, replies, reply}
 
 -- What the grammar's laws say.
@@ -24,10 +25,10 @@ pub record Grammar : Type 0 where
   pub not_both : (bs : List ℕ) → IsRead bs → IsRefused bs → ⊥
 
 read_whole : (cs : List Command) → AreCommands cs → Reads (spell cs) cs []
-read_whole cs h = record { commands = h; whole = sym (append-nil (spell cs)); left = inl refl }
+read_whole cs h = record { commands = h; whole = sym (append-nil (spell cs)); rest_is = inl refl }
 
 one_read : (bs : List ℕ) (c : Command) → Spells c bs → Reads bs (c ∷ []) []
-one_read bs c s = record { commands = (s.in_range, tt); whole = s.in_table ∙ sym (append-nil (spell (c ∷ [])) ∙ append-nil _); left = inl refl }
+one_read bs c s = record { commands = (s.in_range, tt); whole = s.in_table ∙ sym (append-nil (spell (c ∷ [])) ∙ append-nil _); rest_is = inl refl }
 
 later_all : {X : Type 0} (P : X → Type 0) (some others : List X) → AllByRecursion P (some ++ others) → AllByRecursion P others
 later_all P [] others h = h
@@ -42,7 +43,7 @@ all_taken : Grammar → (p q : PrinterView) (cs : List Command) (k : ℕ) (why :
     → Took p (spell cs) cs q × (q.half ≡ [])
 all_taken g p q cs k why ready all whole f =
     let bytes : take k (spell cs) ≡ spell cs = take_all k (spell cs) (omega (arith, whole)) in
-    let took : Took p (spell cs) f.commands q = subst (λ v. Took p (spell cs) f.commands v) (sym (taken_is why f.taken q all f.left)) (subst (λ bs. Took p bs f.commands f.taken) bytes f.took) in
+    let took : Took p (spell cs) f.commands q = subst (λ v. Took p (spell cs) f.commands v) (sym (taken_is why f.taken q all f.leaves)) (subst (λ bs. Took p bs f.commands f.taken) bytes f.took) in
     let read : Reads (spell cs) f.commands q.half = subst (λ h. Reads (h ++ spell cs) f.commands q.half) ready.none took.ran.reads in
     let one = g.one_reading (spell cs) f.commands cs q.half [] read (read_whole cs ready.commands) in
     (subst (λ ds. Took p (spell cs) ds q) one.0 took, one.1)

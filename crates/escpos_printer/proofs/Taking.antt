@@ -21,9 +21,10 @@ use Rattle.escpos_printer.specs.declared.condition.Condition.{Condition}
 use Rattle.escpos_printer.specs.Replies.{is_offline, reply, replies}
 use Rattle.escpos_printer.specs.declared.printer.FeedStop.{FeedStop}
 use Rattle.escpos_printer.specs.declared.printer.FeedStop.TheVariants.{AnswersFull, Offline, Memory}
-use Rattle.escpos_printer.specs.Feeds.{PrinterView, Ran, Took, HasCause, IsPlace, IsLeft, PassesOffline, IsAnswered, is_status, most_waiting, is_command, obstacle}
+use Rattle.escpos_printer.specs.Feeds.{PrinterView, Ran, Took, HasCause, IsPlace, IsLeft, PassesOffline, IsAnswered, is_status, most_waiting}
+use Rattle.escpos_printer.specs.FeedSteps.{is_command, obstacle}
 
--- The law of joined readings, as the crate of the grammar offers it.
+-- The law of joined readings, as escpos_command states it.
 abbrev pub JoinLaw : Type 0
 JoinLaw = (a b : List ℕ) (cs ds : List Command) (r s : List ℕ) → Reads a cs r → Reads (r ++ b) ds s → Reads (a ++ b) (cs ++ ds) s
 
@@ -54,7 +55,7 @@ took_on join p m q x y cs ds t u = record {
 -- Before any byte nothing was taken.
 pub ran_none : (p : PrinterView) → (p.half ≡ []) ⊎ Half p.half → Ran p [] [] p
 ran_none p left = record {
-  reads = record { commands = tt; whole = append-nil p.half; left = left };
+  reads = record { commands = tt; whole = append-nil p.half; rest_is = left };
   page = λ kept before h. subst (λ v. SheetIs p.sheet kept v) (sym (append-nil before)) h;
   condition = refl;
   passes = tt;
@@ -63,7 +64,7 @@ ran_none p left = record {
 pub took_none : (p : PrinterView) → (p.half ≡ []) ⊎ Half p.half → length p.waiting ≤ most_waiting → Took p [] [] p
 took_none p left room = record { ran = ran_none p left; answers = sym (append-nil p.waiting); room = room }
 
--- ## What is told of a command ahead
+-- ## What a command ahead is
 
 pub data Told (condition : Condition) (c : Command) : Ahead → Type 0 where
   status : is_status c ≡ true → length (replies condition (c ∷ [])) ≡ 1 → Told condition c ahead.Status
@@ -122,7 +123,7 @@ blocked p b at ahead.Other false f stop eo ef h e = absurd cc
 abbrev pub OneCommand : Type 0
 OneCommand = (c d : Command) (a : List ℕ) → Spells c a → Spells d a → c ≡ d
 
--- What may be said of a command where nothing stands in its way.
+-- What holds for a command that nothing hinders.
 pub clear_way : (p : PrinterView) (c : Command) (a : Ahead) (o f : Bool) → is_offline p.condition ≡ o → (length p.waiting == most_waiting) ≡ f → length p.waiting ≤ most_waiting
     → Told p.condition c a → obstacle a o f ≡ None → PassesOffline p.condition c × (IsAnswered p.condition c → length p.waiting < most_waiting)
 clear_way p c ahead.Nothing o f eo ef room t e = elim t [ ]
@@ -134,7 +135,7 @@ clear_way p c ahead.Mark false false eo ef room (mark is one) e = (λ off. absur
 clear_way p c ahead.Other true f eo ef room (other is none) e = absurd cc
 clear_way p c ahead.Other false f eo ef room (other is none) e = (λ off. absurd (online p.condition eo off), λ h. absurd (let k = ap length none in omega (arith, h, k)))
 
--- What the byte would complete, where it would complete something.
+-- What the byte would complete, if anything.
 pub record Ahead_of (p : PrinterView) (b : ℕ) (a : Ahead) : Type 0 where
   pub command : Command
   pub spelled : Spells command (p.half ++ b ∷ [])
@@ -146,7 +147,7 @@ ahead_command p b ahead.Status is h = record { command = h.0; spelled = h.1; tol
 ahead_command p b ahead.Mark is h = record { command = h.0; spelled = h.1; told = told_at p.condition h.0 ahead.Mark h.2 }
 ahead_command p b ahead.Other is h = record { command = h.0; spelled = h.1; told = told_at p.condition h.0 ahead.Other h.2 }
 
--- For want of memory a byte that has no other cause isn't taken.
+-- After a failed allocation a byte that has no other cause isn't taken.
 pub unready : OneCommand → (p : PrinterView) (b : ℕ) (a : Ahead) (o f : Bool) → is_offline p.condition ≡ o → (length p.waiting == most_waiting) ≡ f → length p.waiting ≤ most_waiting
     → is_command a ≡ true → AheadIs a p.half b → obstacle a o f ≡ None → HasCause Memory p b
 unready one p b a o f eo ef room is h e =
@@ -173,7 +174,7 @@ pub more_taken : (p : PrinterView) (b : ℕ) (sheet : Sheet) (half : List ℕ) �
     → Took p (b ∷ []) [] (record { sheet = sheet; half = half; waiting = p.waiting; condition = p.condition })
 more_taken p b sheet half h e f room = record {
   ran = record {
-    reads = record { commands = tt; whole = sym f; left = inr (subst (λ v. Half v) (sym f) h) };
+    reads = record { commands = tt; whole = sym f; rest_is = inr (subst (λ v. Half v) (sym f) h) };
     page = λ kept before is. subst (λ v. SheetIs sheet kept v) (sym (append-nil before)) (e ∙ is);
     condition = refl;
     passes = tt;
@@ -182,7 +183,7 @@ more_taken p b sheet half h e f room = record {
   room = room;
 }
 
--- The command that a byte completes is the one that was told of.
+-- The command that a byte completes is the one that was ahead.
 pub told_of : OneCommand → (p : PrinterView) (b : ℕ) (a : Ahead) (c : Command) → Spells c (p.half ++ b ∷ []) → AheadIs a p.half b → Told p.condition c a
 told_of one p b ahead.Nothing c s h = absurd (h c s)
 told_of one p b ahead.Status c s h = told_at p.condition c ahead.Status (ap ahead_of (one c h.0 (p.half ++ b ∷ []) s h.1) ∙ h.2)
@@ -210,7 +211,7 @@ done_taken p q b c s page none waits same passes room = record {
     reads = record {
       commands = (s.in_range, tt);
       whole = s.in_table ∙ sym (append-nil (row c)) ∙ sym (append-nil (row c ++ [])) ∙ ap (λ v. (row c ++ []) ++ v) (sym none);
-      left = inl none;
+      rest_is = inl none;
     };
     page = page;
     condition = same;
@@ -220,7 +221,7 @@ done_taken p q b c s page none waits same passes room = record {
   room = room;
 }
 
--- What is told of a command ahead lets it pass, and leaves room for its answer.
+-- The command ahead may be completed, and there is room for its answer.
 pub record Passes (p : PrinterView) (c : Command) : Type 0 where
   pub offline : PassesOffline p.condition c
   pub fits : length p.waiting + length (reply p.condition c) ≤ most_waiting
@@ -249,7 +250,7 @@ pub run_taken : (p : PrinterView) (run half : List ℕ) → (p.half ≡ []) ⊎ 
     → Took p run [] (record { sheet = p.sheet; half = half; waiting = p.waiting; condition = p.condition })
 run_taken p run half left room on = record {
   ran = record {
-    reads = on p.half [] (record { commands = tt; whole = refl; left = left });
+    reads = on p.half [] (record { commands = tt; whole = refl; rest_is = left });
     page = λ kept before is. subst (λ v. SheetIs p.sheet kept v) (sym (append-nil before)) is;
     condition = refl;
     passes = tt;

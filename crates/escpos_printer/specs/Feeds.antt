@@ -1,14 +1,12 @@
--- What feeding a piece of a stream to a printer comes to. It speaks of the whole piece; the code takes it byte by byte.
-use Rattle.std.specs.Prelude.{ℕ, ◌≡◌, ◌<◌, ◌≤◌, ◌⊎◌, Bool, true, false, IsTrue, List, [], ◌∷◌, ◌++◌, length, take, slice_index, Option, Some, None, if◌then◌else◌}
+-- What feeding a piece of a stream to a printer does. It speaks of the whole piece; the code takes it byte by byte.
+use Rattle.std.specs.Prelude.{ℕ, ◌≡◌, ◌<◌, ◌≤◌, ◌⊎◌, Bool, true, false, IsTrue, List, [], ◌∷◌, ◌++◌, length, take, slice_index}
 use Rattle.std.specs.List.{AllByRecursion}
 use Rattle.escpos_command.specs.declared.answer.Answer.{Answer}
 use Rattle.escpos_command.specs.declared.command.Command.{Command}
 use Rattle.escpos_command.specs.declared.command.Command.TheVariants as kind
-use Rattle.escpos_command.specs.CommandTable.{AreCommands, Spells}
+use Rattle.escpos_command.specs.CommandTable.{Spells}
 use Rattle.escpos_command.specs.Grammar.{Viable, Reads, FaultAt}
-use Rattle.escpos_decode.specs.Place.{begins_content}
-use Rattle.escpos_decode.specs.declared.decoder.Ahead.{Ahead}
-use Rattle.escpos_decode.specs.declared.decoder.Ahead.TheVariants as ahead
+use Rattle.escpos_decode.specs.Push.{begins_content}
 use Rattle.escpos_paper.specs.declared.item.Item.{Item}
 use Rattle.escpos_paper.specs.Page.{Sheet, SheetIs}
 use Rattle.escpos_printer.specs.declared.condition.Condition.{Condition}
@@ -16,15 +14,15 @@ use Rattle.escpos_printer.specs.declared.printer.FeedStop.{FeedStop}
 use Rattle.escpos_printer.specs.declared.printer.FeedStop.TheVariants.{All, AnswersFull, Offline, Fault, Memory}
 use Rattle.escpos_printer.specs.Replies.{is_offline, replies}
 
--- How a printer is seen: what is on its paper and what commands have left there, the half command, the answers that
--- wait, and what its sensors say.
+-- The model of a printer: what is on its paper and what commands have left there, the half command, the answers that wait,
+-- and what its sensors say.
 pub record PrinterView : Type 0 where
   pub sheet : Sheet
   pub half : List ℕ
   pub waiting : List Answer
   pub condition : Condition
 
--- How many answers wait at most.
+-- The most answers that wait.
 abbrev pub most_waiting : ℕ
 most_waiting = 16
 
@@ -47,14 +45,14 @@ pub record Ran (before : PrinterView) (bytes : List ℕ) (commands : List Comman
   pub condition : after.condition ≡ before.condition
   pub passes : AllByRecursion (PassesOffline before.condition) commands
 
--- These bytes were taken: beside that their answers wait, and no more wait than may.
+-- These bytes were taken: they ran, their answers wait, and no more answers wait than may.
 pub record Took (before : PrinterView) (bytes : List ℕ) (commands : List Command) (after : PrinterView) : Type 0 where
   pub ran : Ran before bytes commands after
   pub answers : after.waiting ≡ before.waiting ++ replies before.condition commands
   pub room : length after.waiting ≤ most_waiting
 
--- Why the byte after the half command of this printer isn't taken. Of several causes at one byte the first of these
--- counts: a fault, a printer that is offline, answers that would be too many, want of memory.
+-- Why the byte after the half command of this printer isn't taken. Of several causes at one byte the first of these counts:
+-- a fault, a printer that is offline, answers that would be too many, a failed allocation.
 abbrev pub HasCause : FeedStop → PrinterView → ℕ → Type 0
 HasCause All printer b = ⊥
 HasCause (Fault at why) printer b = FaultAt (printer.half ++ b ∷ []) [] printer.half (length printer.half) why
@@ -84,8 +82,8 @@ abbrev pub IsLeft : FeedStop → PrinterView → PrinterView → Type 0
 IsLeft stop taken after =
     after ≡ record { sheet = taken.sheet; half = left_half stop taken.half; waiting = taken.waiting; condition = taken.condition }
 
--- The first k bytes of the piece were taken, and then the piece has ended, or the byte after them isn't taken for this
--- cause. No byte before it has a cause: these bytes are read, and the commands that they complete are taken.
+-- The first k bytes of the piece were taken; then the piece has ended, or the byte after them isn't taken for this cause.
+-- No byte before it has a cause: these bytes are read, and the commands that they complete are taken.
 pub record Feeds (before : PrinterView) (piece : List ℕ) (k : ℕ) (stop : FeedStop) (after : PrinterView) : Type 0 where
   pub commands : List Command
   pub taken : PrinterView
@@ -93,24 +91,4 @@ pub record Feeds (before : PrinterView) (piece : List ℕ) (k : ℕ) (stop : Fee
   pub took : Took before (take k piece) commands taken
   pub cause : ((stop ≡ All) × (k ≡ length piece)) ⊎ ((k < length piece) × HasCause stop taken (slice_index piece k))
   pub place : IsPlace stop k
-  pub left : IsLeft stop taken after
-
--- The printer can take these commands now: it has no half command, it is online unless all of them are status requests, and
--- there is room for the answers to them.
-pub record IsReadyFor (p : PrinterView) (cs : List Command) : Type 0 where
-  pub none : p.half ≡ []
-  pub commands : AreCommands cs
-  pub passes : AllByRecursion (PassesOffline p.condition) cs
-  pub room : length (p.waiting ++ replies p.condition cs) ≤ most_waiting
-
--- What stands in the way of a command of which this is told. Offline only status requests are completed; where 16 answers
--- wait, none that is answered.
-abbrev pub obstacle : Ahead → Bool → Bool → Option FeedStop
-obstacle ahead.Nothing offline full = None
-obstacle ahead.Status offline full = if full then Some AnswersFull else None
-obstacle ahead.Mark offline full = if offline then Some Offline else if full then Some AnswersFull else None
-obstacle ahead.Other offline full = if offline then Some Offline else None
-
-abbrev pub is_command : Ahead → Bool
-is_command ahead.Nothing = false
-is_command _ = true
+  pub leaves : IsLeft stop taken after

@@ -2,4 +2,7 @@ pub mod Replies
 pub mod Feeds
 pub mod Serves
 pub mod LinkEnds
-pub mod Parts
+pub mod LinkInParts
+pub mod FeedSteps
+pub mod ReadyFor
+pub mod ServeSteps

@@ -11,7 +11,7 @@ use Rattle.escpos_printer.specs.declared.condition.Condition.{Condition}
 abbrev pub is_offline : Condition → Bool
 is_offline condition = condition.cover_open || condition.paper_end
 
--- These bits, where they are set.
+-- These bits if they are set, otherwise 0.
 abbrev pub where_set : Bool → ℕ → ℕ
 where_set set bits = if set then bits else 0
 
@@ -23,7 +23,7 @@ status kind condition =
     else if kind == 4 then 0x12 + where_set condition.near_end 0x0C + where_set condition.paper_end 0x60
     else 0x12
 
--- The answer to one command, as a list of one; none but status requests and marks have any.
+-- The answer to one command, as a list of one; only status requests and marks have any.
 abbrev pub reply : Condition → Command → List Answer
 reply condition (kind.Status n) = answer.Status (status n condition) ∷ []
 reply condition (kind.Mark id) = answer.Mark id ∷ []

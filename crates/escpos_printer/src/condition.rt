@@ -1,4 +1,4 @@
-//! What the sensors of a printer say, and what it answers by them.
+//! What the sensors of a printer say, and how it answers accordingly.
 
 ghost use Rattle.std.specs.Prelude.{◌≡◌, option_to_list, IsTrue};
 ghost use Rattle.escpos_command.specs.Answers.{is_status_byte};
@@ -38,7 +38,7 @@ impl Condition {
         }
     }
 
-    /// The answer to a command: a status byte to a status request, and its id to a mark; none to all others.
+    /// The answer to a command: a status byte to a status request, its id to a mark, and none to all others.
     pub fn reply(self, command: &Command) -> Option<Answer>
         ensures { option_to_list result ≡ reply self command.now }
     {
@@ -50,7 +50,7 @@ impl Condition {
     }
 }
 
-// These bits, where they are set.
+// These bits if they are set, otherwise 0.
 fn where_set(set: bool, bits: u8) -> u8
     ensures { result ≡ where_set set bits }
 {

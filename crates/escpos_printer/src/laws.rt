@@ -1,5 +1,6 @@
-//! The laws of the printer. Each is a function that does nothing and whose contract is the law, so that the law is proved with
-//! the crate and another crate can cite it by calling the function. (`whole_commands` cites laws of the grammar.)
+//! Proof only: the laws of the printer. The contract of each function is the law; when run, it does nothing. A law is
+//! proved with this crate, and another crate cites it by calling the function. The calls in the bodies cite laws of the
+//! crates below.
 
 ghost use Rattle.std.specs.Prelude.{ℕ, ◌≡◌, ◌+◌, ◌⊎◌, List, [], IsTrue, Option, length};
 ghost use Rattle.std.specs.List.{AllByRecursion};
@@ -8,8 +9,9 @@ ghost use Rattle.escpos_command.specs.CommandTable.{AreCommands, spell};
 ghost use Rattle.escpos_command.specs.declared.command.Command.{Command};
 ghost use Rattle.escpos_paper.specs.Page.{SheetIs};
 ghost use Rattle.escpos_paper.specs.declared.item.Item.{Item};
-ghost use Rattle.escpos_printer.specs.Feeds.{Feeds, IsReadyFor, PrinterView, Took};
-ghost use Rattle.escpos_printer.specs.Parts.{in_all, under};
+ghost use Rattle.escpos_printer.specs.Feeds.{Feeds, PrinterView, Took};
+ghost use Rattle.escpos_printer.specs.ReadyFor.{IsReadyFor};
+ghost use Rattle.escpos_printer.specs.LinkInParts.{in_all, under};
 ghost use Rattle.escpos_printer.specs.Serves.{LinkView, Serves, link};
 ghost use Rattle.escpos_printer.specs.Replies.{replies};
 ghost use Rattle.escpos_printer.specs.declared.condition.Condition.{Condition};
@@ -20,13 +22,13 @@ ghost use Rattle.escpos_printer.specs.declared.serve.Served.{Served};
 
 use escpos_command::laws;
 
-/// Replies: what a printer answers to commands, whatever its sensors say, are answers that a host knows: a status byte has the
+/// Replies: a printer answers commands, whatever its sensors say, with answers that a host knows: a status byte has the
 /// bits of one, and a mark the id that it was sent with.
 pub fn replies()
     ensures { (condition : Condition) (cs : List Command) → AreCommands cs → AllByRecursion (λ a. IsTrue (is_answer a)) (replies condition cs) }
 {}
 
-/// Whole commands: a printer that is fed commands that it can take now takes all of them, unless memory is wanting.
+/// Whole commands: a printer that is fed commands that it can take now takes all of them, unless an allocation fails.
 pub fn whole_commands()
     ensures { (p q : PrinterView) (cs : List Command) (k : ℕ) (why : FeedStop) → IsReadyFor p cs → Feeds p (spell cs) k why q
         → (why ≡ stop.Memory) ⊎ ((why ≡ stop.All) × (k ≡ length (spell cs)) × Took p (spell cs) cs q × (q.half ≡ [])) }
@@ -35,8 +37,7 @@ pub fn whole_commands()
     laws::one_reading();
 }
 
-/// Parts of a link: one that was served as far as it might be, and then further, was served as if it might have had the
-/// bytes of both parts at once.
+/// Parts of a link: a link that was served up to its limit, and then further, was served as one whose limit is the sum.
 pub fn parts()
     ensures { (p q t : PrinterView) (came left rest before between after : Option (List ℕ)) (most further : ℕ) (first more : Served) →
         Serves p (link came left before between) most first q → first.end ≡ TooLong → Serves q (link left rest between after) further more t →
@@ -45,8 +46,8 @@ pub fn parts()
     laws::joined_readings();
 }
 
-/// Paper above: a link is served in the same way whatever stands on the paper above, where the printer's own sheet is one
-/// that commands leave.
+/// Paper above: a link is served in the same way whatever stands on the paper above, if the printer's own sheet is one that
+/// commands leave.
 pub fn paper_above()
     ensures { (gone : List Item) (p q : PrinterView) (l : LinkView) (most : ℕ) (served : Served) (kept : List Item) (cs : List Command) →
         SheetIs p.sheet kept cs → Serves p l most served q → Serves (under gone p) l most served (under gone q) }

@@ -1,8 +1,8 @@
 //! A receipt printer: it takes a stream of bytes in pieces, prints, and answers status requests and marks.
 //!
-//! `printer` has the core, which neither reads nor writes: it is fed pieces, and its answers are taken. `condition` has what
-//! its sensors say, and `serve` serves a link over any source and sink. `specs/Feeds.antt` says what feeding a piece comes
-//! to, and `specs/Serves.antt` what serving a link does; `laws` offers what follows from them.
+//! `printer` has the core, which neither reads nor writes: a caller feeds it pieces and takes its answers. `condition` has
+//! what its sensors say, and `serve` serves a link over any source and sink. `specs/Feeds.antt` defines what feeding a
+//! piece does, and `specs/Serves.antt` what serving a link does; `laws` has what follows from them.
 #![tactic(auto)]
 
 mod condition;

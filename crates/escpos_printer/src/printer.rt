@@ -1,7 +1,8 @@
 //! The printer's core: it is fed pieces of a stream, prints, and keeps its answers until they are taken.
 //!
-//! Everything that changes a printer stands here. A byte is looked at before it is taken: what it would complete decides
-//! whether it may be taken now, and room on the page is made for that command; so a byte that isn't taken changes nothing.
+//! Everything that changes a printer is in this module. A byte is examined before it is taken: what it would complete
+//! decides whether it may be taken now, and room on the page is made for that command. So a byte that isn't taken changes
+//! nothing, except that a fault drops the half command.
 
 ghost use Rattle.std.specs.Prelude.{◌≡◌, ◌≤◌, ◌<◌, ◌+◌, ℕ, List, [], ◌∷◌, ◌++◌, length, take, drop, slice_get, not, true, false, IfOk, OnOk, OnErr, IfErr, IsOk};
 ghost use Rattle.escpos_command.specs.declared.command.Command.{Command};
@@ -11,11 +12,12 @@ ghost use Rattle.escpos_paper.specs.declared.item.Item.{Item};
 ghost use Rattle.escpos_paper.specs.Page.{SheetIs};
 ghost use Rattle.escpos_paper.specs.Torn.{bare};
 ghost use Rattle.escpos_printer.specs.Replies.{is_offline, reply};
-ghost use Rattle.escpos_printer.specs.Feeds.{Feeds, Took, HasCause, IsPlace, IsLeft, most_waiting, is_command, obstacle};
+ghost use Rattle.escpos_printer.specs.Feeds.{Feeds, Took, HasCause, IsPlace, IsLeft, most_waiting};
+ghost use Rattle.escpos_printer.specs.FeedSteps.{is_command, obstacle};
 
 use crate::condition::Condition;
 use circular_buffer::HeapCircularBuffer;
-use escpos_command::{Answer, Command, FaultReason, laws};
+use escpos_command::{Answer, Command, FaultReason};
 use escpos_decode::{Ahead, DecodeFault, Decoder, Step};
 use escpos_paper::{Item, MOST_ITEMS, Page};
 use std::alloc::{AllocError, Global};
@@ -49,11 +51,11 @@ impl Model for Printer {
       condition = p.condition;
     } };
 
-    // It holds nothing or a half command, and no more answers than may wait.
+    // A printer holds nothing or a half command, and at most 16 answers wait.
     ghost invariant = { λ p. IsRest p.decoder × (p.waiting.capacity ≡ most_waiting) × (length p.waiting.items ≤ most_waiting) };
 }
 
-/// Why feeding a piece ended, and where.
+/// Why feeding a piece ended.
 #[derive(Clone, Copy, Debug, PartialEq, Eq)]
 pub enum FeedStop {
     /// The piece has ended: all its bytes were taken.
@@ -62,10 +64,10 @@ pub enum FeedStop {
     AnswersFull,
     /// The next byte would complete a command other than a status request, and the printer is offline.
     Offline,
-    /// No command goes on with the next byte, the one at this place of the piece. The half command is dropped. The byte itself
-    /// isn't taken: whoever goes on after it skips it, or it is refused again where no command begins with it.
+    /// No command continues with the next byte, the one at this place of the piece. The half command is dropped. The byte
+    /// is not consumed. Skip it to continue; fed again, it is read as the start of a command.
     Fault { at: usize, why: FaultReason },
-    /// There is no memory for the next byte.
+    /// Out of memory for the next byte, which isn't consumed.
     Memory,
 }
 
@@ -74,13 +76,13 @@ pub enum FeedStop {
 pub struct Fed {
     /// The number of bytes that were taken.
     pub consumed: usize,
-    /// Why no more were.
+    /// Why the printer took no more.
     pub stop: FeedStop,
 }
 
 impl Printer {
-    /// A printer with nothing on its paper, switched on in this condition. Takes room for 16 answers and no other memory; the
-    /// error is want of it.
+    /// A printer with nothing on its paper, switched on in this condition. Allocates room for 16 answers and nothing else;
+    /// fails only if that does.
     pub fn new(alloc: Global, condition: Condition) -> Result<Self, AllocError>
         ensures sheet { IfOk result (λ printer. SheetIs printer.sheet [] []) }
         ensures half { IfOk result (λ printer. printer.half ≡ []) }
@@ -98,12 +100,12 @@ impl Printer {
 
     /// Takes the bytes of a piece, up to the first that can't be taken now.
     ///
-    /// A byte that isn't taken changes nothing, but for a fault, which drops the half command. Of several causes at one
-    /// byte the first of these is given: Fault, Offline, AnswersFull, Memory.
+    /// A byte that isn't taken changes nothing, except that a fault drops the half command. Of several causes at one byte
+    /// the result is the first of these: Fault, Offline, AnswersFull, Memory.
     pub fn feed(&mut self, piece: &[u8]) -> Fed
         ensures { Feeds self.old piece.now result.consumed result.stop self.new }
     {
-        laws::joined_readings();
+        // Proof only: the half command is nothing or the start of a spelling, and at most 16 answers wait.
         self.is_sound();
         let mut consumed = 0;
         while consumed < piece.len() {
@@ -124,7 +126,6 @@ impl Printer {
         ensures taken { OnOk result ((commands : List Command) × Took self.old (byte ∷ []) commands self.new) }
         ensures stopped { IfErr result (λ stop. HasCause stop self.old byte × IsPlace stop at × IsLeft stop self.old self.new) }
     {
-        laws::unique_spellings();
         let ahead = self.decoder.would_complete(byte);
         if let Some(stop) = obstacle(ahead, self.condition.is_offline(), self.waiting.is_full()) {
             return Err(stop);
@@ -144,7 +145,8 @@ impl Printer {
         }
     }
 
-    // Takes the dots of a raster at the front of `bytes`, all but its last, and answers how many they are.
+    // Takes the dots of a raster at the start of `bytes`, all but the raster's last byte, and returns how many bytes it
+    // took.
     fn feed_dots(&mut self, bytes: &[u8]) -> usize
         ensures count { result ≤ length bytes.now }
         ensures taken { Took self.old (take result bytes.now) [] self.new }
@@ -152,16 +154,17 @@ impl Printer {
         self.decoder.push_dots(bytes)
     }
 
-    // It holds nothing or a half command, and no more answers than may wait.
+    // Proof only: gives the caller these facts: the printer holds nothing or a half command, and at most 16 answers wait.
     pub(crate) fn is_sound(&self)
         ensures rest { IsRest self.now.half }
         ensures room { length self.now.waiting ≤ most_waiting }
     {
+        // Proof only: the contracts of these calls, and the printer's invariant.
         let _ = self.decoder.pending_len();
         let _ = self.waiting.len();
     }
 
-    /// Hands out the answer that has waited longest. Takes no memory.
+    /// Returns the answer that has waited longest. Allocates nothing.
     pub fn take_answer(&mut self) -> Option<Answer>
         ensures answer { result ≡ slice_get self.old.waiting 0 }
         ensures left { self.new ≡ record { sheet = self.old.sheet; half = self.old.half; waiting = drop 1 self.old.waiting; condition = self.old.condition } }
@@ -169,7 +172,7 @@ impl Printer {
         self.waiting.pop_front()
     }
 
-    /// The number of answers that wait, at most 16. Takes no memory.
+    /// The number of answers that wait, at most 16. Allocates nothing.
     pub fn waiting(&self) -> usize
         ensures value { result ≡ length self.now.waiting }
         ensures most { result ≤ most_waiting }
@@ -177,29 +180,29 @@ impl Printer {
         self.waiting.len()
     }
 
-    /// Sets what the sensors say. Takes no memory.
+    /// Sets what the sensors say. Allocates nothing.
     pub fn set_condition(&mut self, condition: Condition)
         ensures { self.new ≡ record { sheet = self.old.sheet; half = self.old.half; waiting = self.old.waiting; condition = condition } }
     {
         self.condition = condition;
     }
 
-    /// What the sensors say. Takes no memory.
+    /// What the sensors say. Allocates nothing.
     pub fn condition(&self) -> Condition
         ensures { result ≡ self.now.condition }
     {
         self.condition
     }
 
-    /// Whether the printer is online: its cover is closed, and its paper hasn't ended. Takes no memory.
+    /// Whether the printer is online: its cover is closed, and its paper hasn't ended. Allocates nothing.
     pub fn is_online(&self) -> bool
         ensures { result ≡ not (is_offline self.now.condition) }
     {
         !self.condition.is_offline()
     }
 
-    /// Switches the printer off and on: the half command and the answers that wait are dropped, and so is the line; the
-    /// styles are those of power-on. What is printed stays, and the condition. Takes no memory.
+    /// Switches the printer off and on: the half command, the answers that wait and the line are dropped, and the styles
+    /// are those of power-on. What is printed stays, and so does the condition. Allocates nothing.
     pub fn restart(&mut self)
         ensures sheet { SheetIs self.new.sheet self.old.sheet.items [] }
         ensures half { self.new.half ≡ [] }
@@ -211,14 +214,14 @@ impl Printer {
         self.waiting.clear();
     }
 
-    /// Drops what is printed on the paper, and leaves all else as it is. Takes no memory.
+    /// Drops what is printed on the paper, and leaves everything else as it is. Allocates nothing.
     pub fn tear_off(&mut self)
         ensures { self.new ≡ record { sheet = bare self.old.sheet; half = self.old.half; waiting = self.old.waiting; condition = self.old.condition } }
     {
         self.page.tear_off();
     }
 
-    /// What is printed on the paper and wasn't torn off, from top to bottom. Takes no memory.
+    /// What is printed on the paper and wasn't torn off, from top to bottom. Allocates nothing.
     pub fn items(&self) -> &[Item]
         ensures items { result.now ≡ self.now.sheet.items }
         // Every sheet is one that commands leave, on paper that held some items.
@@ -227,7 +230,7 @@ impl Printer {
         self.page.items()
     }
 
-    /// The number of bytes of the half command, at most 524,167. Takes no memory.
+    /// The number of bytes of the half command, at most 524,167. Allocates nothing.
     pub fn pending_len(&self) -> usize
         ensures value { result ≡ length self.now.half }
         ensures rest { IsRest self.now.half }
@@ -237,7 +240,7 @@ impl Printer {
     }
 }
 
-// Makes room on the page, where a command is told of.
+// Makes room on the page if a command is about to be completed.
 fn make_room(page: &mut Page, ahead: Ahead) -> Result<(), AllocError>
     ensures same { page.new.sheet ≡ page.old.sheet }
     ensures room { OnOk result (is_command ahead ≡ true → MOST_ITEMS ≤ page.new.room) }
@@ -262,7 +265,7 @@ fn put_reply(waiting: &mut HeapCircularBuffer<Answer>, condition: Condition, com
     }
 }
 
-// Why a command that is told so may not be completed now; for want of memory it isn't asked.
+// Why this command may not be completed now. Out of memory isn't among the reasons.
 fn obstacle(ahead: Ahead, offline: bool, full: bool) -> Option<FeedStop>
     ensures { result ≡ obstacle ahead offline full }
 {

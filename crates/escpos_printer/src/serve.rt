@@ -1,15 +1,16 @@
 //! Serving a link: bytes come from the host, and answers go back to it.
 //!
-//! What the bytes mean is the printer's. Here is decided when bytes are read and when answers are written: all answers that
-//! wait are written before each read, and before the link ends.
+//! What the bytes mean is left to the printer. This module decides when bytes are read and when answers are written: all
+//! answers that wait are written before each read, and before the link ends.
 
 ghost use Rattle.std.specs.Prelude.{◌≡◌, ◌≢◌, ◌≤◌, ◌*◌, ◌+◌, [], length, Some, IsTrue, IfOk, IfErr, OnOk, OnErr};
 ghost use Rattle.escpos_printer.specs.Feeds.{most_waiting};
-ghost use Rattle.escpos_printer.specs.Serves.{Serves, AllOut, CutOff, Carries, IsWithinPiece, link, sent, end_of};
+ghost use Rattle.escpos_printer.specs.Serves.{Serves, AllOut, CutOff, IsCarried, link, sent};
+ghost use Rattle.escpos_printer.specs.ServeSteps.{IsWithinPiece, end_of};
 ghost use Rattle.escpos_printer.specs.declared.serve.LinkEnd.{LinkEnd};
 
 use crate::printer::{FeedStop, Printer};
-use escpos_command::{FaultReason, laws};
+use escpos_command::FaultReason;
 use escpos_io::{ByteIn, ByteOut, Failed, put_all};
 
 /// How serving a link ended.
@@ -17,7 +18,7 @@ use escpos_io::{ByteIn, ByteOut, Failed, put_all};
 pub enum LinkEnd {
     /// The host's bytes have ended.
     Ended,
-    /// As many bytes were read and taken as the link may have.
+    /// The link's limit was reached: as many bytes as it may have were read and taken.
     TooLong,
     /// A byte was refused.
     Fault { why: FaultReason },
@@ -25,9 +26,9 @@ pub enum LinkEnd {
     Offline,
     /// The reader failed.
     ReadFault,
-    /// The writer failed. The answer that was being written is lost, and later ones wait.
+    /// The writer failed. The answer that was being written is lost, and the later ones still wait.
     WriteFault,
-    /// There was no memory for a byte.
+    /// Out of memory for a byte.
     Memory,
 }
 
@@ -60,11 +61,25 @@ pub struct Served {
     pub consumed: usize,
     /// The number of bytes of answers that were written.
     pub written: usize,
-    /// Why no more bytes were taken.
+    /// Why the printer took no more bytes.
     pub end: LinkEnd,
 }
 
-/// How far bytes were carried to the printer, and its answers to the host.
+impl Served {
+    // For a link from which the printer took all bytes that were read.
+    fn all_taken(read: usize, written: usize, end: LinkEnd) -> Self
+        ensures { result ≡ record { read = read; consumed = read; written = written; end = end } }
+    {
+        Served {
+            read,
+            consumed: read,
+            written,
+            end,
+        }
+    }
+}
+
+/// How many bytes of a piece the printer took, and how many bytes of its answers went to the host.
 #[derive(Clone, Copy, Debug, PartialEq, Eq)]
 struct Carried {
     /// How many bytes the printer took.
@@ -75,17 +90,17 @@ struct Carried {
     end: Option<LinkEnd>,
 }
 
-// How many bytes one call of `pull` asks for at most.
+// The most bytes that one call of `pull` asks for.
 const PIECE_BYTES: usize = 512;
 
 const _: () = prove!(PIECE_BYTES == 512);
 
 /// Serves a link until it ends: reads the host's bytes in pieces of at most 512, feeds them to the printer, and writes its
-/// answers, all of them before each read and before any end. Takes no memory but what the page and the decoder need.
+/// answers, all of them before each read and before any end. Only the page and the decoder allocate.
 ///
-/// It reads at most `max_bytes` bytes, and calls `pull` at most `max_bytes` + 1 times. Bytes that were read and not taken are
-/// lost. Where the writer fails, that is the end, whatever else has come: the answer that was being written is lost, and
-/// later ones wait.
+/// It reads at most `max_bytes` bytes, and calls `pull` at most `max_bytes` + 1 times. Bytes that were read and not taken
+/// are lost. If the writer fails, the end is `WriteFault`, whatever else has happened: the answer that was being written is
+/// lost, and the later ones still wait.
 pub fn serve_link<R: ByteIn, W: ByteOut>(
     printer: &mut Printer,
     reader: &mut R,
@@ -100,45 +115,26 @@ pub fn serve_link<R: ByteIn, W: ByteOut>(
     ensures reader_well { ¬ IsTrue (R.failed reader.old) → result.end ≢ LinkEnd.ReadFault → ¬ IsTrue (R.failed reader.new) }
     ensures writer_well { ¬ IsTrue (W.failed writer.old) → result.end ≢ LinkEnd.WriteFault → ¬ IsTrue (W.failed writer.new) }
     ensures pulls { R.pull_count reader.new ≤ R.pull_count reader.old + max_bytes + 1 }
-    // Each byte completes at most one command, and 16 answers may have waited.
+    // Each byte completes at most one command, and up to 16 answers may have waited before the first.
     ensures few { result.written ≤ 112 + 224 * result.read }
 {
-    laws::joined_readings();
+    // Proof only: at most 16 answers wait.
     printer.is_sound();
     let most = max_bytes as usize;
     let mut piece = [0; PIECE_BYTES];
     let mut read = 0;
     let mut written = match put_answers(printer, writer) {
         Ok(count) => count,
-        Err(written) => {
-            return Served {
-                read,
-                consumed: 0,
-                written,
-                end: LinkEnd::WriteFault,
-            };
-        }
+        Err(written) => return Served::all_taken(0, written, LinkEnd::WriteFault),
     };
     while read < most {
         let asked = PIECE_BYTES.min(most - read);
         let count = match reader.pull(&mut piece[..asked]) {
             Ok(count) => count,
-            Err(Failed) => {
-                return Served {
-                    read,
-                    consumed: read,
-                    written,
-                    end: LinkEnd::ReadFault,
-                };
-            }
+            Err(Failed) => return Served::all_taken(read, written, LinkEnd::ReadFault),
         };
         if count == 0 {
-            return Served {
-                read,
-                consumed: read,
-                written,
-                end: LinkEnd::Ended,
-            };
+            return Served::all_taken(read, written, LinkEnd::Ended);
         }
         let carried = serve_piece(printer, writer, &piece[..count]);
         written += carried.written;
@@ -152,15 +148,11 @@ pub fn serve_link<R: ByteIn, W: ByteOut>(
         }
         read += count;
     }
-    Served {
-        read,
-        consumed: read,
-        written,
-        end: LinkEnd::TooLong,
-    }
+    Served::all_taken(read, written, LinkEnd::TooLong)
 }
 
-// Writes all answers that wait, and says how many bytes that were; `Err` where the writer failed.
+// Writes all answers that wait, and returns how many bytes that were. `Err` is the number of bytes that were written before
+// the writer failed.
 fn put_answers<W: ByteOut>(printer: &mut Printer, writer: &mut W) -> Result<usize, usize>
     ensures all { IfOk result (λ n. AllOut (sent (W.written writer.old) (W.written writer.new)) printer.old.waiting n printer.new.waiting) }
     ensures some { IfErr result (λ n. CutOff (sent (W.written writer.old) (W.written writer.new)) printer.old.waiting n printer.new.waiting) }
@@ -170,6 +162,7 @@ fn put_answers<W: ByteOut>(printer: &mut Printer, writer: &mut W) -> Result<usiz
     ensures failed { OnErr result (IsTrue (W.failed writer.new)) }
     ensures not_failed { OnOk result (¬ IsTrue (W.failed writer.old) → ¬ IsTrue (W.failed writer.new)) }
 {
+    // Proof only: at most 16 answers wait.
     printer.is_sound();
     let mut written = 0;
     while let Some(answer) = printer.take_answer() {
@@ -182,18 +175,17 @@ fn put_answers<W: ByteOut>(printer: &mut Printer, writer: &mut W) -> Result<usiz
     Ok(written)
 }
 
-// Feeds a piece to a printer in which no answer waits, and writes all answers to it.
+// Feeds a piece to a printer in which no answer waits, and writes its answers.
 fn serve_piece<W: ByteOut>(printer: &mut Printer, writer: &mut W, piece: &[u8]) -> Carried
     requires none { printer.old.waiting ≡ [] }
     requires short { length piece.now ≤ 512 }
-    ensures carried { Carries printer.old piece.now (sent (W.written writer.old) (W.written writer.new)) result printer.new }
+    ensures carried { IsCarried printer.old piece.now (sent (W.written writer.old) (W.written writer.new)) result printer.new }
     ensures few { result.written ≤ 112 * (result.consumed + 1) }
     ensures end { IsWithinPiece result.end }
     ensures failed { result.end ≡ Some LinkEnd.WriteFault → IsTrue (W.failed writer.new) }
     ensures not_failed { ¬ IsTrue (W.failed writer.old) → result.end ≢ Some LinkEnd.WriteFault → ¬ IsTrue (W.failed writer.new) }
 {
-    laws::joined_readings();
-    laws::one_reading();
+    // Proof only: the half command is nothing or the start of a spelling.
     printer.is_sound();
     let mut consumed = 0;
     let mut written = 0;
@@ -221,7 +213,7 @@ fn serve_piece<W: ByteOut>(printer: &mut Printer, writer: &mut W, piece: &[u8]) 
     }
 }
 
-// How a link ends where feeding stops so; not at all where answers have to be written first.
+// How a link ends when feeding stops for this reason; `None` if the link goes on, perhaps after answers are written.
 fn end_of(stop: FeedStop) -> Option<LinkEnd>
     ensures { result ≡ end_of stop }
 {

@@ -5,7 +5,7 @@
 //! is proved a second time for them. A test that looks into a value stands in the crate of that value.
 //!
 //! `devices` and `pieces` are of escpos_io, `commands` of escpos_command, `decoder` of escpos_decode, `paper` of escpos_paper,
-//! and `printer` of escpos_printer.
+//! and `printer` of escpos_printer. What they share is in `support`.
 #![tactic(auto)]
 
 #[cfg(test)]
@@ -20,3 +20,5 @@ mod paper;
 mod pieces;
 #[cfg(test)]
 mod printer;
+#[cfg(test)]
+mod support;

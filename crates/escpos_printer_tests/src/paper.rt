@@ -1,11 +1,10 @@
-//! Pages (escpos_paper): each call on its happy path, and what no clause says. The worked rows of paper stand in `content_tests`
-//! and `job_tests`, where they are read from bytes.
+//! Pages (escpos_paper): each call on its happy path, and what no clause says. The worked rows of paper stand in escpos_tests, in
+//! `program/render`, where they are read from bytes.
 
 use escpos_command::{Align, Bars, Character, Command, Cut, FeedLines, Form, Raster, Symbology};
-use escpos_io::{Device, MemoryOut, Outgoing};
+use escpos_io::{ByteOut, Device, MemoryOut, Outgoing};
 use escpos_paper::*;
 use std::process::Abort;
-use std::test::Fail;
 
 // Carries out a command, for which there is memory.
 fn apply(rt: &impl Abort, page: &mut Page, command: Command) {
@@ -24,6 +23,11 @@ fn cut(rt: &impl Abort, page: &mut Page, mode: u8) {
     apply(rt, page, Command::Cut(cut));
 }
 
+// Items are written to a sink, with nothing of what the contract says of that.
+fn write_items_to<W: ByteOut>(items: &[Item], sink: &mut W) -> Result<(), Device> {
+    write_items(items, sink)
+}
+
 // The text of a page is written to a sink with this room: it ends so, and this went out.
 fn writes(
     rt: &impl Abort,
@@ -32,8 +36,8 @@ fn writes(
     (wanted, text): (Result<(), Device>, &[u8]),
 ) {
     let mut sink = MemoryOut::new(room);
-    assert_eq!(rt; write_items(page.items(), &mut sink), wanted);
-    assert_eq!(rt; sink.written(), text);
+    assert!(rt; write_items_to(page.items(), &mut sink) == wanted);
+    assert!(rt; sink.written() == text);
 }
 
 fn expect_text(rt: &impl Abort, page: &Page, text: &[u8]) {
@@ -54,8 +58,8 @@ fn short_writer(rt: HostRuntime) {
 }
 
 #[test]
-fn restart_drops_the_line_and_keeps_the_paper(rt: HostRuntime) -> Result<(), Fail> {
-    let centre = Align::new(1).ok_or("align")?;
+fn restart_drops_the_line_and_keeps_the_paper(rt: HostRuntime) {
+    let centre = Align::new(1).expect(&rt, "align");
     let mut page = Page::new(rt.alloc());
     apply(&rt, &mut page, Command::LineFeed);
     apply(&rt, &mut page, Command::Align(centre));
@@ -64,7 +68,6 @@ fn restart_drops_the_line_and_keeps_the_paper(rt: HostRuntime) -> Result<(), Fai
     print(&rt, &mut page, b'C');
     apply(&rt, &mut page, Command::LineFeed);
     expect_text(&rt, &page, b"feed 1\nrow left C\nfeed 1\n");
-    Ok(())
 }
 
 // A new page has no room, and one made ready has room for all that a command can print.
@@ -90,17 +93,16 @@ fn are_feeds(rt: &impl Abort, text: &[u8]) {
 
 // More text than is put together at once.
 #[test]
-fn long_paper(rt: HostRuntime) -> Result<(), Fail> {
-    let feed = FeedLines::new(255).ok_or("feed")?;
+fn long_paper(rt: HostRuntime) {
+    let feed = FeedLines::new(255).expect(&rt, "feed");
     let mut page = Page::new(rt.alloc());
     for _ in 0..100_000 {
         apply(&rt, &mut page, Command::FeedLines(feed));
     }
     assert!(rt; page.items().len() == 100_000);
     let mut sink = Outgoing::new(Vec::new(rt.alloc()));
-    assert!(rt; write_items(page.items(), &mut sink) == Ok(()));
+    assert!(rt; write_items_to(page.items(), &mut sink) == Ok(()));
     are_feeds(&rt, &sink.into_inner());
-    Ok(())
 }
 
 #[test]
@@ -146,16 +148,15 @@ fn check_digits(rt: HostRuntime) {
 
 // The writer fails in the midst of the dots of the largest raster.
 #[test]
-fn a_raster_cut_short(rt: HostRuntime) -> Result<(), Fail> {
-    let mut dots = vec![in rt.alloc(); 0u8; 524_160]?;
+fn a_raster_cut_short(rt: HostRuntime) {
+    let mut dots = vec![in rt.alloc(); 0u8; 524_160].expect(&rt, "memory");
     dots[0] = 0xF0;
-    let raster = Raster::new(0, 128, 4095, dots)?;
+    let raster = Raster::new(0, 128, 4095, dots).expect(&rt, "memory");
     let mut page = Page::new(rt.alloc());
     apply(&rt, &mut page, Command::Raster(raster));
     let text = b"raster left normal 128 4095 f0".as_slice();
     let short = (Err(Device { written: 30 }), text);
     writes(&rt, &page, &mut [0; 30], short);
-    Ok(())
 }
 
 fn has_content_and_dots(items: &[Item]) -> bool {
@@ -175,12 +176,22 @@ fn has_content_and_dots(items: &[Item]) -> bool {
 
 // The bytes of a content and the dots that lie on paper can be read there.
 #[test]
-fn content_and_dots_on_paper(rt: HostRuntime) -> Result<(), Fail> {
-    let ean8 = Bars::new(Form::B, Symbology::Ean8, b"5512345".to_vec(rt.alloc())?)?;
-    let picture = Raster::new(0, 1, 2, [0xF0, 0x0F].to_vec(rt.alloc())?)?;
+fn content_and_dots_on_paper(rt: HostRuntime) {
+    let ean8 = Bars::new(
+        Form::B,
+        Symbology::Ean8,
+        b"5512345".to_vec(rt.alloc()).expect(&rt, "memory"),
+    )
+    .expect(&rt, "memory");
+    let picture = Raster::new(
+        0,
+        1,
+        2,
+        [0xF0, 0x0F].to_vec(rt.alloc()).expect(&rt, "memory"),
+    )
+    .expect(&rt, "memory");
     let mut page = Page::new(rt.alloc());
     apply(&rt, &mut page, Command::Bars(ean8));
     apply(&rt, &mut page, Command::Raster(picture));
-    assert!(rt; has_content_and_dots(page.items()), "{:?}", page.items());
-    Ok(())
+    assert!(rt; has_content_and_dots(page.items()));
 }

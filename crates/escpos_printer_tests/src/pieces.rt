@@ -3,21 +3,20 @@
 ghost use Rattle.std.specs.Prelude.{[], ◌∷◌, ◌++◌, ◌≤◌, length};
 
 use escpos_io::*;
-use std::alloc::{AllocError, Global};
-use std::test::Fail;
+use std::alloc::Global;
+use std::process::Abort;
 
 #[test]
-fn a_large_piece_goes_out_in_order(rt: HostRuntime) -> Result<(), Fail> {
+fn a_large_piece_goes_out_in_order(rt: HostRuntime) {
     let mut sink = Outgoing::new(Vec::new(rt.alloc()));
     let mut gather = Gather::new();
-    gather.put(&[9], &mut sink)?;
-    gather.put(&[7; 20000], &mut sink)?;
-    gather.flush(&mut sink)?;
+    gather.put(&[9], &mut sink).expect(&rt, "memory");
+    gather.put(&[7; 20000], &mut sink).expect(&rt, "memory");
+    gather.flush(&mut sink).expect(&rt, "memory");
     let out = sink.into_inner();
     assert!(rt; out.len() == 20001);
     assert!(rt; out[0] == 9);
     assert!(rt; out[20000] == 7);
-    Ok(())
 }
 
 // A byte that is put twice.
@@ -36,22 +35,27 @@ impl Piece for Doubled {
     }
 }
 
+// Pieces are put to a sink, with nothing of what the contract says of that.
+fn put_to<P: Piece, W: ByteOut>(pieces: &[P], sink: &mut W) -> Result<(), Device> {
+    put_pieces(pieces, sink)
+}
+
 #[test]
 fn pieces_go_out_in_order(rt: HostRuntime) {
     let pieces = [Doubled(1), Doubled(2), Doubled(3)];
     let mut sink = Outgoing::new(Vec::new(rt.alloc()));
-    assert!(rt; put_pieces(&pieces, &mut sink) == Ok(()));
+    assert!(rt; put_to(&pieces, &mut sink) == Ok(()));
     assert!(rt; sink.into_inner().as_slice() == [1, 1, 2, 2, 3, 3].as_slice());
     let mut room = [0u8; 6];
     let mut sink = MemoryOut::taking(&mut room, 1);
-    assert!(rt; put_pieces(&pieces, &mut sink) == Ok(()));
+    assert!(rt; put_to(&pieces, &mut sink) == Ok(()));
     assert!(rt; sink.written() == [1, 1, 2, 2, 3, 3].as_slice());
     let none: [Doubled; 0] = [];
-    assert!(rt; put_pieces(&none, &mut sink) == Ok(()));
+    assert!(rt; put_to(&none, &mut sink) == Ok(()));
     assert!(rt; !sink.has_failed());
 }
 
-// Wherever the sink is full, it has the front of the bytes, and the error says how long that is.
+// Wherever the sink is full, it has the first of the bytes, and the error says how long that is.
 #[test]
 fn pieces_stop_where_the_sink_is_full(rt: HostRuntime) {
     let pieces = [Doubled(1), Doubled(2), Doubled(3)];
@@ -60,7 +64,7 @@ fn pieces_stop_where_the_sink_is_full(rt: HostRuntime) {
         let mut room = [0u8; 6];
         let mut sink = MemoryOut::new(&mut room[..len]);
         assert!(rt;
-            put_pieces(&pieces, &mut sink)
+            put_to(&pieces, &mut sink)
                 == Err(Device {
                     written: len as u128
                 }),
@@ -77,13 +81,13 @@ fn pieces_stop_where_the_sink_is_full(rt: HostRuntime) {
 fn many_pieces_go_out_in_large_ones(rt: HostRuntime) {
     let pieces = [Doubled(7); 10000];
     let mut sink = Outgoing::new(Vec::new(rt.alloc()));
-    assert!(rt; put_pieces(&pieces, &mut sink) == Ok(()));
+    assert!(rt; put_to(&pieces, &mut sink) == Ok(()));
     assert!(rt; sink.into_inner().as_slice() == [7; 20000].as_slice());
     for len in [0, 1, 16383, 16384, 16385, 19999] {
         let mut room = [0u8; 20000];
         let mut sink = MemoryOut::new(&mut room[..len]);
         assert!(rt;
-            put_pieces(&pieces, &mut sink)
+            put_to(&pieces, &mut sink)
                 == Err(Device {
                     written: len as u128
                 }),
@@ -93,14 +97,14 @@ fn many_pieces_go_out_in_large_ones(rt: HostRuntime) {
     }
     let mut room = [0u8; 20000];
     let mut sink = MemoryOut::failing(&mut room, 2);
-    assert!(rt; put_pieces(&pieces, &mut sink) == Err(Device { written: 16384 }));
+    assert!(rt; put_to(&pieces, &mut sink) == Err(Device { written: 16384 }));
     assert!(rt; sink.written().len() == 16384);
 }
 
 // Five bytes, a slice that may be longer than what is kept back at most, and a closing byte.
 #[derive(Clone, Copy)]
 struct Framed<'a> {
-    front: [u8; 5],
+    head: [u8; 5],
     content: &'a [u8],
     ghost few: { length content.now ≤ 1048500 },
 }
@@ -110,21 +114,21 @@ impl<'a> Framed<'a> {
         requires { length content.now ≤ 1048500 }
     {
         Framed {
-            front: *b"front",
+            head: *b"front",
             content,
         }
     }
 }
 
 impl Piece for Framed<'_> {
-    ghost bytes = { λ framed. framed.front ++ framed.content.now ++ 0 ∷ [] };
+    ghost bytes = { λ framed. framed.head ++ framed.content.now ++ 0 ∷ [] };
 
     fn put<W: ByteOut>(&self, gather: &mut Gather, writer: &mut W) -> Result<(), Device> {
         laws::given_in_turn();
         laws::piece_put();
         laws::piece_stopped();
         gather.room(5, writer)?;
-        gather.extend(&self.front);
+        gather.extend(&self.head);
         gather.put(self.content, writer)?;
         gather.put(&[0], writer)
     }
@@ -132,30 +136,29 @@ impl Piece for Framed<'_> {
 
 // What is larger than what is kept back at most goes out in order, between what was kept back before and after it.
 #[test]
-fn large_pieces_go_out_in_order(rt: HostRuntime) -> Result<(), Fail> {
-    let content = vec![in rt.alloc(); 7u8; 50_000]?;
+fn large_pieces_go_out_in_order(rt: HostRuntime) {
+    let content = vec![in rt.alloc(); 7u8; 50_000].expect(&rt, "memory");
     let pieces = [Framed::new(&content); 3];
-    let all = framed_bytes(rt.alloc(), 3)?;
-    let mut room = vec![in rt.alloc(); 0u8; 150_018]?;
+    let all = framed_bytes(&rt, rt.alloc(), 3);
+    let mut room = vec![in rt.alloc(); 0u8; 150_018].expect(&rt, "memory");
     let mut sink = MemoryOut::taking(&mut room, 999);
-    assert!(rt; put_pieces(&pieces, &mut sink) == Ok(()));
+    assert!(rt; put_to(&pieces, &mut sink) == Ok(()));
     assert!(rt; sink.written() == all.as_slice());
-    Ok(())
 }
 
-// The sink is full before the second piece, within it (in its front, in its content, at its closing byte) or after it.
+// The sink is full before the second piece, within it (in its head, in its content, at its closing byte) or after it.
 #[test]
-fn large_pieces_stop_where_the_sink_is_full(rt: HostRuntime) -> Result<(), Fail> {
-    let content = vec![in rt.alloc(); 7u8; 50_000]?;
+fn large_pieces_stop_where_the_sink_is_full(rt: HostRuntime) {
+    let content = vec![in rt.alloc(); 7u8; 50_000].expect(&rt, "memory");
     let pieces = [Framed::new(&content); 3];
-    let all = framed_bytes(rt.alloc(), 3)?;
+    let all = framed_bytes(&rt, rt.alloc(), 3);
     for len in [
         50_005, 50_006, 50_009, 50_011, 75_000, 100_010, 100_011, 100_012,
     ] {
-        let mut room = vec![in rt.alloc(); 0u8; len]?;
+        let mut room = vec![in rt.alloc(); 0u8; len].expect(&rt, "memory");
         let mut sink = MemoryOut::taking(&mut room, 999);
         assert!(rt;
-            put_pieces(&pieces, &mut sink)
+            put_to(&pieces, &mut sink)
                 == Err(Device {
                     written: len as u128
                 }),
@@ -165,34 +168,34 @@ fn large_pieces_stop_where_the_sink_is_full(rt: HostRuntime) -> Result<(), Fail>
         assert!(rt; all.starts_with(sink.written()), "with room for {len}");
         assert!(rt; sink.has_failed());
     }
-    Ok(())
 }
 
 // The bytes of some pieces with a content of 50,000 sevens.
-fn framed_bytes(alloc: Global, count: usize) -> Result<Vec<u8>, AllocError> {
+fn framed_bytes(rt: &impl Abort, alloc: Global, count: usize) -> Vec<u8> {
     let mut all = Vec::new(alloc);
     for _ in 0..count {
-        all.extend_from_slice(b"front")?;
-        for _ in 0..50_000 {
-            all.push(7)?;
-        }
-        all.push(0)?;
+        all.extend_from_slice(b"front").expect(rt, "memory");
+        all.extend_from_slice(&[7; 50_000]).expect(rt, "memory");
+        all.push(0).expect(rt, "memory");
     }
-    Ok(all)
+    all
 }
 
 // Room is made by putting what is kept back, and only where there is none.
 #[test]
-fn room_puts_what_is_kept_back(rt: HostRuntime) -> Result<(), Fail> {
+fn room_puts_what_is_kept_back(rt: HostRuntime) {
     let mut room = [0u8; 3];
     let mut sink = MemoryOut::new(&mut room);
     let mut gather = Gather::new();
-    gather.put(b"abc", &mut sink)?;
-    gather.room(GATHERED_BYTES - 3, &mut sink)?;
+    gather.put(b"abc", &mut sink).expect(&rt, "memory");
+    gather
+        .room(GATHERED_BYTES - 3, &mut sink)
+        .expect(&rt, "memory");
     assert!(rt; sink.written().len() == 0);
-    gather.room(GATHERED_BYTES - 2, &mut sink)?;
+    gather
+        .room(GATHERED_BYTES - 2, &mut sink)
+        .expect(&rt, "memory");
     assert!(rt; sink.written() == b"abc".as_slice());
     gather.push(b'd');
     assert!(rt; gather.flush(&mut sink) == Err(Device { written: 3 }));
-    Ok(())
 }

@@ -114,7 +114,7 @@ impl Model for BarHeight {
 }
 
 impl BarHeight {
-    /// The height of so many dots; `None` for 0.
+    /// The height of this many dots; `None` for 0.
     pub fn new(byte: u8) -> Option<Self>
         ensures { SomeIff result (IsTrue (is_bar_height byte)) byte }
     {
@@ -151,7 +151,7 @@ impl Model for BarWidth {
 }
 
 impl BarWidth {
-    /// The module width of so many dots; `None` for all but 2 to 6.
+    /// The module width of this many dots; `None` for all but 2 to 6.
     pub fn new(byte: u8) -> Option<Self>
         ensures { SomeIff result (IsTrue (is_bar_width byte)) byte }
     {

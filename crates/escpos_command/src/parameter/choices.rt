@@ -1,4 +1,4 @@
-//! What the bytes of parameters mean, apart from the parameters themselves.
+//! What the bytes of parameters mean, as types that don't depend on the parameters.
 
 ghost use Rattle.std.specs.Prelude.{◌≡◌, ◌<◌};
 ghost use Rattle.escpos_command.specs.Meanings.{has_bit, choice, face_of, alignment_of, hri_position_of, scale_of};
@@ -52,7 +52,7 @@ pub fn has_bit(byte: u8, place: u32) -> bool
     (byte >> place) % 2 == 1
 }
 
-/// Which choice a byte makes: 0 and 48 the first, and so on.
+/// Which choice a byte makes: 0 for the bytes 0 and 48, 1 for 1 and 49, and so on.
 pub fn choice(byte: u8) -> u8
     ensures { result ≡ choice byte }
 {

@@ -69,7 +69,7 @@ impl Model for FeedLines {
 }
 
 impl FeedLines {
-    /// The feed of so many lines. Every byte is one.
+    /// The feed of this many lines. Every byte is one.
     pub fn new(byte: u8) -> Option<Self>
         ensures { SomeIff result (IsTrue (is_byte byte)) byte }
     {
@@ -102,7 +102,7 @@ impl Model for FeedUnits {
 }
 
 impl FeedUnits {
-    /// The feed of so many motion units. Every byte is one.
+    /// The feed of this many motion units. Every byte is one.
     pub fn new(byte: u8) -> Option<Self>
         ensures { SomeIff result (IsTrue (is_byte byte)) byte }
     {
@@ -118,8 +118,8 @@ impl FeedUnits {
     }
 }
 
-/// A pulse to the connector of the cash drawer: its pin, 0 and 48 pin 2, 1 and 49 pin 5, and how long it is on and off, in
-/// units of 2 milliseconds. (Reference: ESC p.)
+/// A pulse to the connector of the cash drawer: its pin (0 and 48 pin 2, 1 and 49 pin 5), and how long it is on and then
+/// off, in units of 2 milliseconds. (Reference: ESC p.)
 #[derive(Clone, Copy, Debug, PartialEq, Eq)]
 pub struct Pulse {
     pin: u8,
@@ -141,7 +141,7 @@ impl Model for Pulse {
 }
 
 impl Pulse {
-    /// The pulse of these bytes m, t1 and t2; `None` for all pins but 0, 1, 48 and 49.
+    /// The pulse of the bytes m, t1 and t2; `None` for all pins but 0, 1, 48 and 49.
     pub fn new(pin: u8, on: u8, off: u8) -> Option<Self>
         ensures { SomeIff result (IsTrue (is_pulse (pin, on, off))) (pin, on, off) }
     {
@@ -166,7 +166,7 @@ impl Pulse {
         self.on
     }
 
-    /// How long it is off, in units of 2 milliseconds, 0 to 255.
+    /// How long the pulse is off, in units of 2 milliseconds, 0 to 255.
     pub fn off(self) -> u8
         ensures { result ≡ self.2 }
     {
@@ -176,9 +176,8 @@ impl Pulse {
 
 /// How the paper is cut. (Reference: GS V.)
 ///
-/// Function A cuts at once: mode 0 or 48 through, 1 or 49 with one point left uncut. Function B feeds the
-/// paper to the cutting position and so many motion units beyond it first: mode 65 through, 66 with one
-/// point left uncut.
+/// Function A cuts at once: mode 0 or 48 through, 1 or 49 with one point left uncut. Function B first feeds the paper to
+/// the cutting position and some motion units beyond it: mode 65 through, 66 with one point left uncut.
 #[derive(Clone, Copy, Debug, PartialEq, Eq)]
 pub struct Cut {
     mode: u8,
@@ -222,7 +221,7 @@ impl Cut {
         }
     }
 
-    /// The mode as sent: 0, 1, 48 or 49 for a cut at once, 65 or 66 after a feed.
+    /// The mode as sent: 0, 1, 48 or 49 for a cut at once, 65 or 66 for one after a feed.
     pub fn mode(self) -> u8
         ensures kept { result ≡ self.0 }
         ensures range { IsTrue (is_cut self.0 self.1) }
@@ -230,7 +229,8 @@ impl Cut {
         self.mode
     }
 
-    /// The motion units that the paper is fed beyond the cutting position first, 0 to 255.
+    /// How many motion units beyond the cutting position the paper is fed before the cut, 0 to 255; `None` for a cut at
+    /// once.
     pub fn feed(self) -> Option<u8>
         ensures { result ≡ self.1 }
     {

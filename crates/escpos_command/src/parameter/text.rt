@@ -96,21 +96,21 @@ impl Mode {
         has_bit(self.byte, 3)
     }
 
-    /// The height factor: 2 where bit 4 is set, else 1.
+    /// The height factor: 2 where bit 4 is set, otherwise 1.
     pub fn height(self) -> u8
         ensures { result ≡ magnified (has_bit self 4) }
     {
         if has_bit(self.byte, 4) { 2 } else { 1 }
     }
 
-    /// The width factor: 2 where bit 5 is set, else 1.
+    /// The width factor: 2 where bit 5 is set, otherwise 1.
     pub fn width(self) -> u8
         ensures { result ≡ magnified (has_bit self 5) }
     {
         if has_bit(self.byte, 5) { 2 } else { 1 }
     }
 
-    /// The underline in dots: 1 where bit 7 is set, else 0.
+    /// The underline in dots: 1 where bit 7 is set, otherwise 0.
     pub fn underline(self) -> u8
         ensures { result ≡ underline_of_mode self }
     {
@@ -194,7 +194,7 @@ impl Emphasis {
         self.byte
     }
 
-    /// Whether characters are emphasised from here on: bit 0.
+    /// Whether the characters that follow are emphasised: bit 0.
     pub fn is_on(self) -> bool
         ensures { result ≡ has_bit self 0 }
     {
@@ -246,8 +246,7 @@ impl Font {
     }
 }
 
-/// The number of a character code table, which is kept with each character and never translated.
-/// (Reference: ESC t.)
+/// The number of a character code table. It is kept with each character and never translated. (Reference: ESC t.)
 #[derive(Clone, Copy, Debug, PartialEq, Eq)]
 pub struct Table {
     byte: u8,
@@ -280,8 +279,8 @@ impl Table {
     }
 }
 
-/// How many times wider and higher characters are: bits 4 to 6 the width and bits 0 to 2 the height, each
-/// less one. (Reference: GS !.)
+/// How many times wider and higher characters are: bits 4 to 6 are the width less one, bits 0 to 2 the height less one.
+/// (Reference: GS !.)
 #[derive(Clone, Copy, Debug, PartialEq, Eq)]
 pub struct Size {
     byte: u8,

@@ -1,4 +1,4 @@
-//! Bytes keep their list on the way from a command to the paper.
+//! The bytes of a command stay in their list on the way to the paper.
 
 use super::*;
 use escpos_command::{Form, Symbology};

@@ -3,7 +3,7 @@
 use super::*;
 use std::test::Fail;
 
-// It takes items in any number, and never more than twice the room that they need.
+// A page takes any number of items, and never has more than twice the room that they need.
 #[test]
 fn room_is_modest(rt: HostRuntime) -> Result<(), Fail> {
     let mut page = Page::new(rt.alloc());

@@ -1,12 +1,20 @@
 //! Links that are served from memory to memory.
 
-use super::*;
+use crate::support::printers::{
+    ONLINE, OPEN, RECEIPT, feed_all, mark, marks, new_printer, printer_at_last, push_bytes,
+    push_mark,
+};
+use crate::support::values::differ;
+use escpos_command::FaultReason;
 use escpos_io::{ByteIn, MemoryIn, MemoryOut};
+use escpos_printer::{Condition, LinkEnd, Printer, Served, serve_link};
+use std::alloc::Global;
+use std::process::Abort;
 
 // The answer to mark 0.
 const ANSWER: &[u8] = b"\x37\x220000\x00";
 
-fn served(read: usize, consumed: usize, written: usize, end: LinkEnd) -> Served {
+fn how_served(read: usize, consumed: usize, written: usize, end: LinkEnd) -> Served {
     Served {
         read,
         consumed,
@@ -23,7 +31,7 @@ fn ends(
     writer: &mut MemoryOut,
     (max_bytes, wanted): (u32, Served),
 ) {
-    assert_eq!(rt; serve_link(printer, reader, writer, max_bytes), wanted);
+    assert!(rt; serve(printer, reader, writer, max_bytes) == wanted);
 }
 
 // The same, with what went out to a writer with this room.
@@ -40,73 +48,96 @@ fn serves(
     assert!(rt; writer.written() == out, "other bytes went out");
 }
 
-// Serves a link of at most 1,000 bytes. It says nothing of how that ends, so that its callers carry none of the contract.
-fn serve(printer: &mut Printer, reader: &mut MemoryIn, writer: &mut MemoryOut) -> Served {
-    serve_link(printer, reader, writer, 1000)
+// Serves a link. It says nothing of how that ends, so that its callers carry none of the contract.
+fn serve(
+    printer: &mut Printer,
+    reader: &mut MemoryIn,
+    writer: &mut MemoryOut,
+    max_bytes: u32,
+) -> Served {
+    serve_link(printer, reader, writer, max_bytes)
 }
 
 // A mark and a character.
 const MARK_AND_A: &[u8] = b"\x1D(H\x06\x00000000A";
 
 #[test]
-fn serve_links(rt: HostRuntime) -> Result<(), Fail> {
+fn serve_links(rt: HostRuntime) {
     let why = FaultReason::UnknownCommand;
     let rows: [(Condition, (&[u8], u32, usize), (Served, &[u8])); 6] = [
         (
             ONLINE,
             (MARK_AND_A, 100, 100),
-            (served(12, 12, 7, LinkEnd::Ended), ANSWER),
+            (how_served(12, 12, 7, LinkEnd::Ended), ANSWER),
         ),
         (
             ONLINE,
             (MARK_AND_A, 12, 100),
-            (served(12, 12, 7, LinkEnd::TooLong), ANSWER),
+            (how_served(12, 12, 7, LinkEnd::TooLong), ANSWER),
         ),
         (
             ONLINE,
             (MARK_AND_A, 100, 3),
-            (served(12, 12, 3, LinkEnd::WriteFault), b"\x37\x220"),
+            (how_served(12, 12, 3, LinkEnd::WriteFault), b"\x37\x220"),
         ),
         (
             OPEN,
             (b"\x10\x04\x01AB", 100, 100),
-            (served(5, 3, 1, LinkEnd::Offline), b"\x1A"),
+            (how_served(5, 3, 1, LinkEnd::Offline), b"\x1A"),
         ),
         (
             ONLINE,
             (b"\x1B@\x1B$", 100, 100),
-            (served(4, 3, 0, LinkEnd::Fault { why }), b""),
+            (how_served(4, 3, 0, LinkEnd::Fault { why }), b""),
         ),
         (
             ONLINE,
             (MARK_AND_A, 0, 100),
-            (served(0, 0, 0, LinkEnd::TooLong), b""),
+            (how_served(0, 0, 0, LinkEnd::TooLong), b""),
         ),
     ];
     for (condition, (input, max_bytes, size), wanted) in rows {
-        let mut printer = Printer::new(rt.alloc(), condition)?;
+        let mut printer = new_printer(&rt, rt.alloc(), condition);
         let mut reader = MemoryIn::new(input, 1000);
         let mut room = [0u8; 100];
         let room = &mut room[..size.min(100)];
         serves(&rt, &mut printer, &mut reader, room, max_bytes, wanted);
     }
-    Ok(())
+}
+
+// A link that is too long is followed by another, which the same printer serves: the half command between them is completed.
+fn serves_after_too_long(rt: &impl Abort, printer: &mut Printer) {
+    let mut reader = MemoryIn::new(b"Hi\n\x1BE\x01A\n", 3);
+    let wanted = (how_served(5, 5, 0, LinkEnd::TooLong), b"".as_slice());
+    serves(rt, printer, &mut reader, &mut [0; 8], 5, wanted);
+    let mut reader = MemoryIn::new(b"\x00A\n\x1D(H\x06\x00000000", 3);
+    let wanted = (how_served(14, 14, 7, LinkEnd::Ended), ANSWER);
+    serves(rt, printer, &mut reader, &mut [0; 8], 100, wanted);
+    assert!(rt; printer.items().len() == 4);
 }
 
 #[test]
-fn two_hundred_marks(rt: HostRuntime) -> Result<(), Fail> {
+fn a_link_after_one_that_is_too_long(rt: HostRuntime) {
+    let mut printer = new_printer(&rt, rt.alloc(), ONLINE);
+    serves_after_too_long(&rt, &mut printer);
+}
+
+#[test]
+fn two_hundred_marks(rt: HostRuntime) {
     let mut bytes = Vec::new(rt.alloc());
     let mut answers = Vec::new(rt.alloc());
     for number in 0..200 {
         push_mark(&rt, &mut bytes, number);
         push_bytes(&rt, &mut answers, mark(&rt, number).bytes().as_slice());
     }
-    let mut printer = Printer::new(rt.alloc(), ONLINE)?;
+    let mut printer = new_printer(&rt, rt.alloc(), ONLINE);
     let mut reader = MemoryIn::new(&bytes, 1000);
     let mut room = [0u8; 2000];
-    let wanted = (served(2200, 2200, 1400, LinkEnd::Ended), answers.as_slice());
+    let wanted = (
+        how_served(2200, 2200, 1400, LinkEnd::Ended),
+        answers.as_slice(),
+    );
     serves(&rt, &mut printer, &mut reader, &mut room, 100_000, wanted);
-    Ok(())
 }
 
 // What a link sends that fails nowhere: a line, 18 marks and a status request.
@@ -125,21 +156,21 @@ fn fails_at_a_read(rt: &impl Abort, printer: &mut Printer, bytes: &[u8], call: u
     let mut room = [0u8; 200];
     let mut reader = MemoryIn::failing(bytes, 40, call);
     let mut writer = MemoryOut::new(&mut room);
-    let ended = serve(printer, &mut reader, &mut writer);
-    let wanted = served(count, count, writer.written().len(), LinkEnd::ReadFault);
-    assert!(rt; ended == wanted, "at call {call}: {ended:?}");
+    let ended = serve(printer, &mut reader, &mut writer, 1000);
+    let wanted = how_served(count, count, writer.written().len(), LinkEnd::ReadFault);
+    assert!(rt; ended == wanted, "at call {call}");
     assert!(rt; printer.waiting() == 0, "at call {call}");
 }
 
 // A read fails, at each place in turn: what was read before it is taken and answered.
 #[test]
-fn reader_faults(rt: HostRuntime) -> Result<(), Fail> {
+fn reader_faults(rt: HostRuntime) {
     let bytes = long_link(&rt, rt.alloc());
     for (call, (wanted, out)) in [
-        (1, (served(0, 0, 0, LinkEnd::ReadFault), b"".as_slice())),
-        (2, (served(12, 12, 7, LinkEnd::ReadFault), ANSWER)),
+        (1, (how_served(0, 0, 0, LinkEnd::ReadFault), b"".as_slice())),
+        (2, (how_served(12, 12, 7, LinkEnd::ReadFault), ANSWER)),
     ] {
-        let mut printer = Printer::new(rt.alloc(), ONLINE)?;
+        let mut printer = new_printer(&rt, rt.alloc(), ONLINE);
         let mut reader = MemoryIn::failing(MARK_AND_A, 1000, call);
         let mut room = [0u8; 100];
         let wanted = (wanted, out);
@@ -155,10 +186,9 @@ fn reader_faults(rt: HostRuntime) -> Result<(), Fail> {
         (7, 204),
     ];
     for (call, count) in rows {
-        let mut printer = Printer::new(rt.alloc(), ONLINE)?;
+        let mut printer = new_printer(&rt, rt.alloc(), ONLINE);
         fails_at_a_read(&rt, &mut printer, &bytes, call, count);
     }
-    Ok(())
 }
 
 // The writer has so much room, and fails at the next byte.
@@ -166,12 +196,9 @@ fn fails_at_a_write(rt: &impl Abort, printer: &mut Printer, bytes: &[u8], room: 
     let size = room.len();
     let mut reader = MemoryIn::new(bytes, 1000);
     let mut writer = MemoryOut::new(room);
-    let served = serve(printer, &mut reader, &mut writer);
-    assert!(rt; served.written == size, "in a room of {size}: {served:?}");
-    assert!(rt;
-        served.end == LinkEnd::WriteFault,
-        "in a room of {size}: {served:?}"
-    );
+    let served = serve(printer, &mut reader, &mut writer, 1000);
+    assert!(rt; served.written == size, "in a room of {size}");
+    assert!(rt; served.end == LinkEnd::WriteFault, "in a room of {size}");
     let answered = if size < 112 { 16 } else { 19 };
     assert!(rt;
         printer.waiting() + size / 7 + 1 == answered,
@@ -181,36 +208,34 @@ fn fails_at_a_write(rt: &impl Abort, printer: &mut Printer, bytes: &[u8], room: 
 
 // A write fails, at each place in turn: the answer that was being written is lost, and later ones wait.
 #[test]
-fn writer_faults(rt: HostRuntime) -> Result<(), Fail> {
+fn writer_faults(rt: HostRuntime) {
     let bytes = long_link(&rt, rt.alloc());
     let mut room = [0u8; 127];
     for size in 0..room.len() {
-        let mut printer = Printer::new(rt.alloc(), ONLINE)?;
+        let mut printer = new_printer(&rt, rt.alloc(), ONLINE);
         fails_at_a_write(&rt, &mut printer, &bytes, &mut room[..size]);
     }
-    let mut printer = Printer::new(rt.alloc(), ONLINE)?;
+    let mut printer = new_printer(&rt, rt.alloc(), ONLINE);
     let mut reader = MemoryIn::new(&bytes, 1000);
     let mut writer = MemoryOut::new(&mut room);
-    let wanted = served(204, 204, 127, LinkEnd::Ended);
+    let wanted = how_served(204, 204, 127, LinkEnd::Ended);
     ends(&rt, &mut printer, &mut reader, &mut writer, (1000, wanted));
-    Ok(())
 }
 
 // Answers that wait from an earlier link go out first.
 #[test]
-fn answers_that_waited(rt: HostRuntime) -> Result<(), Fail> {
+fn answers_that_waited(rt: HostRuntime) {
     let first = marks(&rt, rt.alloc(), &[0]);
-    let mut printer = Printer::new(rt.alloc(), ONLINE)?;
+    let mut printer = new_printer(&rt, rt.alloc(), ONLINE);
     feed_all(&rt, &mut printer, &first);
     feed_all(&rt, &mut printer, b"\x10");
     let mut room = [0u8; 100];
     let mut reader = MemoryIn::new(b"\x04\x01", 1);
     let wanted = (
-        served(2, 2, 8, LinkEnd::Ended),
+        how_served(2, 2, 8, LinkEnd::Ended),
         b"\x37\x220000\x00\x12".as_slice(),
     );
     serves(&rt, &mut printer, &mut reader, &mut room, 100, wanted);
-    Ok(())
 }
 
 const ENDS: [LinkEnd; 8] = [
@@ -228,37 +253,34 @@ const ENDS: [LinkEnd; 8] = [
     },
 ];
 
+// Links that ended so, of which each differs in one count.
+fn differ_in_counts(rt: &impl Abort, [read, consumed, written]: [usize; 3], end: LinkEnd) {
+    let links = [
+        how_served(read, consumed, written, end),
+        how_served(0, consumed, written, end),
+        how_served(read, 0, written, end),
+        how_served(read, consumed, 0, end),
+    ];
+    differ(rt, &links);
+}
+
 #[test]
 fn unequal_ends(rt: HostRuntime) {
     differ(&rt, &ENDS);
-    for end in ENDS {
-        differ(
-            &rt,
-            &[
-                served(1, 2, 3, end),
-                served(0, 2, 3, end),
-                served(1, 0, 3, end),
-                served(1, 2, 0, end),
-            ],
-        );
+    let mut links = [how_served(1, 2, 3, LinkEnd::Ended); 8];
+    for (link, end) in links.iter_mut().zip(&ENDS) {
+        link.end = *end;
+        differ_in_counts(&rt, [1, 2, 3], *end);
     }
-    for (place, end) in ENDS.iter().enumerate() {
-        for (other_place, other) in ENDS.iter().enumerate() {
-            let same = served(1, 2, 3, *end) == served(1, 2, 3, *other);
-            assert!(rt;
-                same == (place == other_place),
-                "at {place} and {other_place}"
-            );
-        }
-    }
+    differ(&rt, &links);
 }
 
 // Serves the receipt. Where memory is refused, the bytes that weren't taken are served again.
 fn serves_the_receipt(rt: &impl Abort, printer: &mut Printer, writer: &mut MemoryOut) {
     let mut reader = MemoryIn::new(RECEIPT, 10);
-    let ended = serve(printer, &mut reader, writer);
+    let ended = serve(printer, &mut reader, writer, 1000);
     if ended.end != LinkEnd::Ended {
-        assert!(rt; ended.end == LinkEnd::Memory, "{ended:?}");
+        assert!(rt; ended.end == LinkEnd::Memory);
         assert!(rt; printer.waiting() == 0);
         let rest = RECEIPT.get(ended.consumed..).expect(rt, "the rest");
         serves_the_rest(rt, printer, writer, rest);
@@ -267,21 +289,20 @@ fn serves_the_receipt(rt: &impl Abort, printer: &mut Printer, writer: &mut Memor
 
 fn serves_the_rest(rt: &impl Abort, printer: &mut Printer, writer: &mut MemoryOut, rest: &[u8]) {
     let mut reader = MemoryIn::new(rest, 10);
-    let ended = serve(printer, &mut reader, writer);
-    assert!(rt; ended.end == LinkEnd::Ended, "{ended:?}");
-    assert!(rt; ended.consumed == rest.len(), "{ended:?}");
+    let ended = serve(printer, &mut reader, writer, 1000);
+    assert!(rt; ended.end == LinkEnd::Ended);
+    assert!(rt; ended.consumed == rest.len());
 }
 
-// Here each growth succeeds, as in the test of `feed` above.
+// Here each allocation succeeds, as in the test of `feed`.
 #[test]
-fn link_growths_refused(rt: HostRuntime) -> Result<(), Fail> {
-    let mut printer = printer_at_last(rt.alloc())?;
+fn allocations_fail_on_a_link(rt: HostRuntime) {
+    let mut printer = printer_at_last(&rt, rt.alloc());
     let mut room = [0u8; 100];
     let mut writer = MemoryOut::new(&mut room);
     serves_the_receipt(&rt, &mut printer, &mut writer);
     assert!(rt; printer.items().len() == 7);
     assert!(rt; writer.written() == b"\x12\x37\x220000\x00".as_slice());
-    Ok(())
 }
 
 // A link over 2,000 bytes ends so, after so many reads.
@@ -293,14 +314,14 @@ fn reads_in_pieces(
     let mut reader = MemoryIn::new(&[0x0A; 2000], 10_000);
     let mut writer = MemoryOut::new(&mut []);
     let read = (max_bytes as usize).min(2000);
-    let wanted = served(read, read, 0, end);
+    let wanted = how_served(read, read, 0, end);
     ends(rt, printer, &mut reader, &mut writer, (max_bytes, wanted));
     assert!(rt; reader.pulls() == pulls, "up to {max_bytes}");
 }
 
 // A read asks for 512 bytes, or for what is left of the limit; none is tried once that is reached.
 #[test]
-fn pieces(rt: HostRuntime) -> Result<(), Fail> {
+fn pieces(rt: HostRuntime) {
     let rows: [(u32, u64, LinkEnd); 5] = [
         (0, 0, LinkEnd::TooLong),
         (1536, 3, LinkEnd::TooLong),
@@ -309,10 +330,9 @@ fn pieces(rt: HostRuntime) -> Result<(), Fail> {
         (3000, 5, LinkEnd::Ended),
     ];
     for row in rows {
-        let mut printer = Printer::new(rt.alloc(), ONLINE)?;
+        let mut printer = new_printer(&rt, rt.alloc(), ONLINE);
         reads_in_pieces(&rt, &mut printer, row);
     }
-    Ok(())
 }
 
 // The writer has so much room, and fails at the next byte: the marks after the one that is being answered aren't read.
@@ -321,17 +341,17 @@ fn reads_no_further(rt: &impl Abort, printer: &mut Printer, bytes: &[u8], room: 
     let mut reader = MemoryIn::new(bytes, 11);
     let mut writer = MemoryOut::new(room);
     let marks = size / 7 + 1;
-    let wanted = served(marks * 11, marks * 11, size, LinkEnd::WriteFault);
+    let wanted = how_served(marks * 11, marks * 11, size, LinkEnd::WriteFault);
     ends(rt, printer, &mut reader, &mut writer, (1000, wanted));
     assert!(rt; reader.pulls() == marks as u64, "in a room of {size}");
 }
 
 // The answers of an earlier feed don't fit: nothing is read.
-fn reads_nothing(rt: &impl Abort, printer: &mut Printer) {
+fn reads_no_more(rt: &impl Abort, printer: &mut Printer) {
     let mut room = [0u8; 9];
     let mut reader = MemoryIn::new(b"A", 1);
     let mut writer = MemoryOut::new(&mut room);
-    let wanted = served(0, 0, 9, LinkEnd::WriteFault);
+    let wanted = how_served(0, 0, 9, LinkEnd::WriteFault);
     ends(rt, printer, &mut reader, &mut writer, (100, wanted));
     assert!(rt; reader.pulls() == 0);
     assert!(rt; printer.waiting() == 4);
@@ -339,43 +359,41 @@ fn reads_nothing(rt: &impl Abort, printer: &mut Printer) {
 
 // Answers go out before the next read: where a write fails, nothing was read after the bytes that it answers.
 #[test]
-fn no_read_before_answers(rt: HostRuntime) -> Result<(), Fail> {
+fn no_read_before_answers(rt: HostRuntime) {
     let bytes = marks(&rt, rt.alloc(), &[0, 1, 2, 3, 4, 5]);
     let mut room = [0u8; 42];
     for size in 0..room.len() {
-        let mut printer = Printer::new(rt.alloc(), ONLINE)?;
+        let mut printer = new_printer(&rt, rt.alloc(), ONLINE);
         reads_no_further(&rt, &mut printer, &bytes, &mut room[..size]);
     }
-    let mut printer = Printer::new(rt.alloc(), ONLINE)?;
+    let mut printer = new_printer(&rt, rt.alloc(), ONLINE);
     feed_all(&rt, &mut printer, &bytes);
-    reads_nothing(&rt, &mut printer);
-    Ok(())
+    reads_no_more(&rt, &mut printer);
 }
 
 // Answers that are too many end no link, however many come in one piece, or in all.
 #[test]
-fn many_requests(rt: HostRuntime) -> Result<(), Fail> {
+fn many_requests(rt: HostRuntime) {
     let mut bytes = Vec::new(rt.alloc());
     for _ in 0..20_000 {
         push_bytes(&rt, &mut bytes, b"\x10\x04\x01");
     }
-    let mut room = vec![in rt.alloc(); 0u8; 20_000]?;
-    let mut printer = Printer::new(rt.alloc(), ONLINE)?;
+    let mut room = vec![in rt.alloc(); 0u8; 20_000].expect(&rt, "memory");
+    let mut printer = new_printer(&rt, rt.alloc(), ONLINE);
     let mut reader = MemoryIn::new(&bytes, 1000);
     let wanted = (
-        served(60_000, 60_000, 20_000, LinkEnd::Ended),
+        how_served(60_000, 60_000, 20_000, LinkEnd::Ended),
         [0x12; 20_000].as_slice(),
     );
     serves(&rt, &mut printer, &mut reader, &mut room, 100_000, wanted);
-    Ok(())
 }
 
 // A link that takes a byte, and two over a source that has stopped so.
 fn serves_no_byte(rt: &impl Abort, printer: &mut Printer, reader: &mut MemoryIn, end: LinkEnd) {
     for (max_bytes, wanted) in [
-        (100, served(1, 1, 0, end)),
-        (100, served(0, 0, 0, end)),
-        (0, served(0, 0, 0, LinkEnd::TooLong)),
+        (100, how_served(1, 1, 0, end)),
+        (100, how_served(0, 0, 0, end)),
+        (0, how_served(0, 0, 0, LinkEnd::TooLong)),
     ] {
         serves(rt, printer, reader, &mut [0], max_bytes, (wanted, b""));
     }
@@ -383,39 +401,29 @@ fn serves_no_byte(rt: &impl Abort, printer: &mut Printer, reader: &mut MemoryIn,
 
 // A link that may have no byte is too long, also where its source has ended or failed before.
 #[test]
-fn no_byte_at_all(rt: HostRuntime) -> Result<(), Fail> {
+fn no_byte_at_all(rt: HostRuntime) {
     for (mut reader, end) in [
         (MemoryIn::new(b"A", 1), LinkEnd::Ended),
         (MemoryIn::failing(b"A", 1, 2), LinkEnd::ReadFault),
     ] {
-        let mut printer = Printer::new(rt.alloc(), ONLINE)?;
+        let mut printer = new_printer(&rt, rt.alloc(), ONLINE);
         serves_no_byte(&rt, &mut printer, &mut reader, end);
     }
-    Ok(())
 }
 
-// A clone is equal, and large counts that differ are unequal.
+// A clone is equal, and large counts that differ by one are unequal.
 #[test]
-fn same_clones(rt: HostRuntime) -> Result<(), Fail> {
-    for end in [
-        LinkEnd::TooLong,
-        LinkEnd::Offline,
-        LinkEnd::Fault {
-            why: FaultReason::BadSize,
-        },
-    ] {
-        assert!(rt; end.clone()? == end);
-        let large = served(1_000_000, 999_999, 700_000, end);
-        assert!(rt; large.clone()? == large);
-        differ(
-            &rt,
-            &[
-                large,
-                served(1_000_001, 999_999, 700_000, end),
-                served(1_000_000, 999_998, 700_000, end),
-                served(1_000_000, 999_999, 700_001, end),
-            ],
-        );
+fn same_clones(rt: HostRuntime) {
+    for end in &ENDS {
+        assert!(rt; end.clone().expect(&rt, "memory") == *end);
+        let large = how_served(1_000_000, 999_999, 700_000, *end);
+        assert!(rt; large.clone().expect(&rt, "memory") == large);
+        let links = [
+            large,
+            how_served(1_000_001, 999_999, 700_000, *end),
+            how_served(1_000_000, 999_998, 700_000, *end),
+            how_served(1_000_000, 999_999, 700_001, *end),
+        ];
+        differ(&rt, &links);
     }
-    Ok(())
 }

@@ -1,4 +1,4 @@
-use Rattle.escpos_command.proofs.Hearing.{one_answer, no_prefix, one_hearing, joined, cut}
+use Rattle.escpos_command.proofs.AnswerReadings.{one_answer, no_prefix, one_hearing, joined, cut}
 use Rattle.escpos_command.proofs.laws.answers.Goals as goal
 
 pub returns-clause-one_answer : goal.returns-clause-one_answer

@@ -1,5 +1,5 @@
 use Rattle.std.proofs.Common.{inl, inr}
-use Rattle.escpos_command.proofs.Readings.{outcome, read, refused, one_reading, one_fault, not_both}
+use Rattle.escpos_command.proofs.Readings.{outcome, read, refused, one_reading, one_fault, never_both}
 use Rattle.escpos_command.proofs.laws.one_reading.Goals as goal
 
 pub returns-clause-read_or_refused : goal.returns-clause-read_or_refused
@@ -16,4 +16,4 @@ pub returns-clause-one_fault : goal.returns-clause-one_fault
 returns-clause-one_fault c = one_fault
 
 pub returns-clause-not_both : goal.returns-clause-not_both
-returns-clause-not_both c = λ bs r f. not_both bs r.0 f.0 r.1 f.1 f.2 f.3 r.2 f.4
+returns-clause-not_both c = never_both

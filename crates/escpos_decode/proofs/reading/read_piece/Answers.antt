@@ -61,6 +61,6 @@ loop-at-preserved g c =
     record {
       turn =
           turn_done _ _ c.args.decoder.now c.args.piece.now c.loop-at.decoder c.match-character.decoder c.loop-at.at c.loop-at.start _ c.match-character.command c.loop-at-test.true c.loop-at.invariant.turn
-          (λ cs taken placed. c.in_default-take.ensures.taken _ cs placed taken) on rest (ap (λ n. n + (c.loop-at.at + 1)) c.pending_len-before.ensures.value ∙ sym (add_assoc _ c.loop-at.at 1));
+          (λ cs taken placed. c.in_default-take.ensures.accepted _ cs placed taken) on rest (ap (λ n. n + (c.loop-at.at + 1)) c.pending_len-before.ensures.value ∙ sym (add_assoc _ c.loop-at.at 1));
       inside = omega (arith, c.loop-at-test.true);
     }

@@ -1,4 +1,4 @@
-use Rattle.escpos_host.proofs.InTurn.{one_step}
+use Rattle.escpos_host.proofs.EventsInTurn.{one_step}
 use Rattle.escpos_host.proofs.laws.one_event.Goals as goal
 
 pub returns : goal.returns

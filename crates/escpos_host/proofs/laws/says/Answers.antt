@@ -4,7 +4,7 @@ use Rattle.escpos_command.specs.CommandTable.{row}
 use Rattle.escpos_command.specs.Digits.{mark_of}
 use Rattle.escpos_command.specs.declared.command.Command.TheVariants as kind
 use Rattle.escpos_host.specs.Machine.{next_mark}
-use Rattle.escpos_host.proofs.Saying.{more_said, one_more_said, says_asked, says_heard, says_linked, says_nudged, says_submitted}
+use Rattle.escpos_host.proofs.Said.{more_said, one_more_said, says_asked, says_heard, says_linked, says_nudged, says_submitted}
 use Rattle.escpos_host.proofs.laws.says.Goals as goal
 
 pub returns-clause-linked : goal.returns-clause-linked

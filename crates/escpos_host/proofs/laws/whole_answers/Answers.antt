@@ -1,4 +1,4 @@
-use Rattle.escpos_host.proofs.InTurn.{whole_answers}
+use Rattle.escpos_host.proofs.EventsInTurn.{whole_answers}
 use Rattle.escpos_host.proofs.laws.whole_answers.Goals as goal
 
 pub returns : goal.returns

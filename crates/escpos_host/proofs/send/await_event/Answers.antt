@@ -1,6 +1,7 @@
 -- Piece after piece is heard.
 use Rattle.std.proofs.Common.{◌≤◌, ◌++◌, arith, take, drop, length, length-take, length-drop, length-append}
 use Rattle.escpos_host.proofs.Waiting.{brought_on, pulled_front, pulled_length, waited_on}
+use Rattle.escpos_command.proofs.AnswerReadings.{joined}
 use Rattle.escpos_host.proofs.send.await_event.Goals as goal
 
 pub returns-in_default-clause-brought : goal.returns-in_default-clause-brought
@@ -14,7 +15,7 @@ returns-in_default-clause-brought g c =
     let whole = length-append c.pull.new.piece (drop c.min-asked.result c.loop-read.piece) in
     let most : c.in-Ok.count ≤ length (c.pull.new.piece ++ drop c.min-asked.result c.loop-read.piece) = omega (arith, within, whole) in
     let few : c.in-Ok.count ≤ 64 = omega (arith, fits, asked, room, short) in
-    brought_on c.answers.ensures.joined c.args.host.now c.loop-read.host c.hear-heard.new.host _ _ _ (take c.in-Ok.count c.pull.new.piece)
+    brought_on joined c.args.host.now c.loop-read.host c.hear-heard.new.host _ _ _ (take c.in-Ok.count c.pull.new.piece)
     (c.pull.new.piece ++ drop c.min-asked.result c.loop-read.piece) c.loop-read.read c.in-Ok.count c.hear-heard.result.consumed c.hear-heard.result.event
     c.loop-read.invariant.waited c.in-Ok.ensures.bytes (pulled_length c.in-Ok.count c.pull.new.piece within) c.in_default.not-None
     (rw (pulled_front c.in-Ok.count c.pull.new.piece (drop c.min-asked.result c.loop-read.piece) within) at c.hear-heard.ensures)
@@ -31,7 +32,7 @@ loop-read-preserved g c =
     record {
       up = c.loop-read.invariant.up;
       waited =
-          waited_on c.answers.ensures.joined c.args.host.now c.loop-read.host c.hear-heard.new.host _ _ _ (take c.in-Ok.count c.pull.new.piece)
+          waited_on joined c.args.host.now c.loop-read.host c.hear-heard.new.host _ _ _ (take c.in-Ok.count c.pull.new.piece)
           c.loop-read.read c.in-Ok.count c.hear-heard.result.consumed c.hear-heard.result.event c.loop-read.invariant.waited c.in-Ok.ensures.bytes
           (pulled_length c.in-Ok.count c.pull.new.piece within) c.in-None.is
           (rw (pulled_front c.in-Ok.count c.pull.new.piece (drop c.min-asked.result c.loop-read.piece) within) at c.hear-heard.ensures);

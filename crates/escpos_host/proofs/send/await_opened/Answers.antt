@@ -6,6 +6,7 @@ use Rattle.escpos_host.specs.Machine.{HostView, gone_down}
 use Rattle.escpos_host.specs.Sends.{IsCut}
 use Rattle.escpos_host.proofs.Sending.{bad_behind, bad_first, cut_first, gone_behind, gone_first, if_err, lost_up, opens_all, silent_first}
 use Rattle.escpos_host.proofs.Dialling.{on_err}
+use Rattle.escpos_command.proofs.AnswerReadings.{joined}
 use Rattle.escpos_host.proofs.send.await_opened.Goals as goal
 
 pub returns-in_err-put_out-clause-stops : goal.returns-in_err-put_out-clause-stops
@@ -61,7 +62,7 @@ returns-in-None-clause-opens g c = λ call is.
     let brought =
     subst (λ h. Brought h (g.R.ByteIn.to_come c.args.reader.now) (g.R.ByteIn.to_come c.await_event.new.reader) c.await_event.new.piece c.in_ok-awaited.awaited c.await_event.new.host)
     (c.in_ok-put_out.ensures.taken ∙ ap (λ v. with_out v []) is) c.in_ok-awaited.ensures.brought in
-    opens_all c.answers.ensures.joined call _ _ _ _ c.await_event.new.piece c.hear.result.consumed c.in_ok-awaited.awaited c.hear.result.event c.await_event.new.host c.hear.new.host put c.in-Opened.is brought
+    opens_all joined call _ _ _ _ c.await_event.new.piece c.hear.result.consumed c.in_ok-awaited.awaited c.hear.result.event c.await_event.new.host c.hear.new.host put c.in-Opened.is brought
     c.in-None.is c.hear.ensures
 
 pub returns-in-None-clause-reader_well : goal.returns-in-None-clause-reader_well
@@ -73,7 +74,7 @@ returns-in_default-event-clause-stops g c = λ call is marks all.
     let brought =
     subst (λ h. Brought h (g.R.ByteIn.to_come c.args.reader.now) (g.R.ByteIn.to_come c.await_event.new.reader) c.await_event.new.piece c.in_ok-awaited.awaited c.await_event.new.host)
     (c.in_ok-put_out.ensures.taken ∙ ap (λ v. with_out v []) is) c.in_ok-awaited.ensures.brought in
-    (bad_behind c.answers.ensures.joined call _ _ _ _ c.await_event.new.piece c.args.most c.hear.result.consumed c.in_ok-awaited.awaited c.hear.result.event c.await_event.new.host c.hear.new.host put
+    (bad_behind joined call _ _ _ _ c.await_event.new.piece c.args.most c.hear.result.consumed c.in_ok-awaited.awaited c.hear.result.event c.await_event.new.host c.hear.new.host put
     c.in_ok-awaited.ensures.within c.in-Opened.is marks brought c.in_default-event.not-None c.hear.ensures).0
 
 pub returns-in_default-event-clause-lost : goal.returns-in_default-event-clause-lost
@@ -81,7 +82,7 @@ returns-in_default-event-clause-lost g c = λ call is.
     let brought =
     subst (λ h. Brought h (g.R.ByteIn.to_come c.args.reader.now) (g.R.ByteIn.to_come c.await_event.new.reader) c.await_event.new.piece c.in_ok-awaited.awaited c.await_event.new.host)
     (c.in_ok-put_out.ensures.taken ∙ ap (λ v. with_out v []) is) c.in_ok-awaited.ensures.brought in
-    inl (gone_behind c.answers.ensures.joined call _ _ c.await_event.new.piece _ c.hear.result.consumed c.in_ok-awaited.awaited c.hear.result.event c.await_event.new.host c.hear.new.host c.in-Opened.is brought
+    inl (gone_behind joined call _ _ c.await_event.new.piece _ c.hear.result.consumed c.in_ok-awaited.awaited c.hear.result.event c.await_event.new.host c.hear.new.host c.in-Opened.is brought
     c.in_default-event.not-None c.hear.ensures ∙ ap gone_down (sym is))
 
 pub returns-in_default-event-clause-reader_well : goal.returns-in_default-event-clause-reader_well

@@ -6,6 +6,7 @@ use Rattle.escpos_host.specs.Machine.{HostView, gone_down}
 use Rattle.escpos_host.specs.Sends.{IsCut, opening_bytes}
 use Rattle.escpos_host.proofs.Sending.{bad_second, closes_all, cut_second, gone_second, if_err, lost_up, silent_second}
 use Rattle.escpos_host.proofs.Dialling.{on_err}
+use Rattle.escpos_command.proofs.AnswerReadings.{joined}
 use Rattle.escpos_host.proofs.send.await_recorded.Goals as goal
 
 pub returns-in_err-put_out-clause-stops : goal.returns-in_err-put_out-clause-stops
@@ -48,7 +49,7 @@ returns-in-Recorded-clause-closes g c = λ call early half is opened.
     let brought =
     subst (λ h. Brought h (g.R.ByteIn.to_come c.args.reader.now) (g.R.ByteIn.to_come c.await_event.new.reader) c.await_event.new.piece c.in_ok-awaited.awaited c.await_event.new.host)
     (c.in_ok-put_out.ensures.taken ∙ ap (λ v. with_out v []) is) c.in_ok-awaited.ensures.brought in
-    closes_all c.answers.ensures.joined call early half _ _ _ _ c.await_event.new.piece c.args.most c.in-Recorded.number c.in_ok-awaited.awaited c.await_event.new.host opened put
+    closes_all joined call early half _ _ _ _ c.await_event.new.piece c.args.most c.in-Recorded.number c.in_ok-awaited.awaited c.await_event.new.host opened put
     c.in_ok-awaited.ensures.within c.in-Recorded.is brought
 
 pub returns-in_default-clause-stops : goal.returns-in_default-clause-stops

@@ -4,6 +4,7 @@ use Rattle.escpos_host.specs.Awaits.{Overlooked}
 use Rattle.escpos_host.specs.Heard.{IsHeard, with_half}
 use Rattle.escpos_host.specs.Machine.{HostView}
 use Rattle.escpos_host.proofs.Waiting.{hears_out, overlooked_none, told_on}
+use Rattle.escpos_command.proofs.AnswerReadings.{joined}
 use Rattle.escpos_host.proofs.send.hear.Goals as goal
 
 pub loop-init : goal.loop-init
@@ -14,7 +15,7 @@ next : (c : goal.In-Status)
     × Overlooked c.args.host.now (take (c.loop.taken + c.heard-heard.result.consumed) c.args.bytes.now) c.heard-heard.new.self.half
     × (c.heard-heard.new.self ≡ with_half c.args.host.now c.heard-heard.new.self.half) × (0 < c.heard-heard.result.consumed)
 next c =
-    told_on c.answers.ensures.joined c.args.host.now c.loop.host c.heard-heard.new.self c.args.bytes.now c.loop.taken c.heard-heard.result.consumed c.in-Status.field-0
+    told_on joined c.args.host.now c.loop.host c.heard-heard.new.self c.args.bytes.now c.loop.taken c.heard-heard.result.consumed c.in-Status.field-0
     c.loop.invariant.inside c.loop.invariant.overlooked c.loop.invariant.same
     (subst (λ e. IsHeard c.loop.host (take (length c.args.bytes.now - c.loop.taken) (drop c.loop.taken c.args.bytes.now)) c.heard-heard.result.consumed e c.heard-heard.new.self) c.in-Status.is
     (c.heard-heard.ensures.up (λ e. c.loop.invariant.up (sym (ap (λ (v : HostView). v.phase) c.loop.invariant.same) ∙ e))))
@@ -27,6 +28,6 @@ loop-smaller c = let on = next c in let within = on.0 in let some = on.3 in omeg
 
 pub returns-in-loop : goal.returns-in-loop
 returns-in-loop c =
-    hears_out c.answers.ensures.joined c.args.host.now c.loop.host c.heard-heard.new.self c.args.bytes.now c.loop.taken c.heard-heard.result.consumed c.heard-heard.result.event
+    hears_out joined c.args.host.now c.loop.host c.heard-heard.new.self c.args.bytes.now c.loop.taken c.heard-heard.result.consumed c.heard-heard.result.event
     c.loop.invariant.inside c.loop.invariant.overlooked c.loop.invariant.same c.in_default.not-Status
     (c.heard-heard.ensures.up (λ e. c.loop.invariant.up (sym (ap (λ (v : HostView). v.phase) c.loop.invariant.same) ∙ e)))

@@ -4,7 +4,7 @@ use Rattle.escpos_host.specs.Awaits.{dialled}
 use Rattle.escpos_host.specs.Machine.{Down}
 use Rattle.escpos_host.proofs.send.open.Given as goal
 
--- so many opening marks are put out
+-- this many opening marks are put out
 abbrev pub invariant-loop : goal.invariant-loop
 invariant-loop l = record {
   down : l.fn.host.phase ≡ Down;

@@ -2,7 +2,7 @@
 use Rattle.std.proofs.Common.{◌≡◌, ◌≤◌, ◌++◌, length, length-take, [], ◌<◌, take, arith, refl, sym, ◌∙◌, ap, subst, append-nil}
 use Rattle.std.specs.Io.KnownBytes.{Appends}
 use Rattle.escpos_host.specs.Awaits.{with_out}
-use Rattle.escpos_host.specs.Machine.{HostView, taken}
+use Rattle.escpos_host.specs.Machine.{HostView, taken_out}
 use Rattle.escpos_host.proofs.Dialling.{copied_front, is_none, is_some, on_err, put_cut, put_more}
 use Rattle.escpos_host.proofs.send.put_out.Given as given
 use Rattle.escpos_host.proofs.send.put_out.Goals as goal
@@ -26,7 +26,7 @@ loop-piece-preserved g c =
     record {
       room = c.take_out-count.auto.out ∙ c.loop-piece.invariant.room;
       so_far = (more.0, more.1, more.2 ∙ ap (λ v. more.0 ++ v) (sym left));
-      same = same ∙ ap (λ v. taken v c.take_out-count.result) c.loop-piece.invariant.same ∙ ap (with_out c.args.host.now) (sym left);
+      same = same ∙ ap (λ v. taken_out v c.take_out-count.result) c.loop-piece.invariant.same ∙ ap (with_out c.args.host.now) (sym left);
       not_failed = λ well. c.in_ok-put_all.ensures.not_failed some;
     }
 
@@ -45,7 +45,7 @@ pub returns-in_err-put_all-clause-some_taken : goal.returns-in_err-put_all-claus
 returns-in_err-put_all-clause-some_taken g c =
     let same = c.take_out-count.ensures.taken in
     let left = ap (λ (v : HostView). v.out) same in
-    on_err c.from_residual.result (same ∙ ap (λ v. taken v c.take_out-count.result) c.loop-piece.invariant.same ∙ ap (with_out c.args.host.now) (sym left))
+    on_err c.from_residual.result (same ∙ ap (λ v. taken_out v c.take_out-count.result) c.loop-piece.invariant.same ∙ ap (with_out c.args.host.now) (sym left))
 
 -- nothing is left
 nothing : (g : given.Over) (c : goal.After-loop-piece g) → c.loop-piece.host.out ≡ []

@@ -5,7 +5,7 @@ use Rattle.std.proofs.KnownBytes.{Appends-trans}
 use lib.Seq.{take-add}
 use Rattle.escpos_io.proofs.putting.put_all.Goals as goal
 
--- the bytes from i on are as many as the code's range
+-- the bytes from i on are as many as in the code's range
 length-range : (xs : List ℕ) (i : ℕ) → length (take (length xs - i) (drop i xs)) ≡ length xs - i
 length-range xs i = simp (length-take, length-drop) (omega arith)
 

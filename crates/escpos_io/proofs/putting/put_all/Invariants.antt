@@ -1,4 +1,4 @@
--- What was put so far is the front of the bytes, and a call of `put` that failed would have ended the loop.
+-- What was put so far is a prefix of the bytes; a failed call of `put` would have ended the loop.
 use Rattle.std.proofs.Common.{length, ◌-◌, ◌≡◌, ◌<◌, ◌≤◌, take, IsTrue}
 use Rattle.std.specs.Io.KnownBytes.{Appends}
 use Rattle.escpos_io.proofs.putting.put_all.Given as goal

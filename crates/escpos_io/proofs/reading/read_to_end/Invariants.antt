@@ -1,5 +1,4 @@
--- What was pulled so far is what was kept, it is within the limit, and each pull gave a byte and
--- didn't fail.
+-- What was pulled so far is what was kept, it is within the limit, and each pull gave a byte and didn't fail.
 use Rattle.std.proofs.Common.{◌+◌, ◌-◌, ◌<◌, ◌≤◌, IsTrue, vec_len}
 use Rattle.std.specs.Io.KnownBytes.{Consumes}
 use Rattle.escpos_io.proofs.reading.read_to_end.Given as goal

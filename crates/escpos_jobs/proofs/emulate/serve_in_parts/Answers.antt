@@ -1,5 +1,5 @@
 use Rattle.std.proofs.Common.{◌+◌, ◌*◌, arith, []}
-use Rattle.escpos_jobs.proofs.Parts.{first_part, next_part}
+use Rattle.escpos_jobs.proofs.TornParts.{first_part, next_part}
 use Rattle.escpos_jobs.proofs.emulate.serve_in_parts.Goals as goal
 
 pub loop-init : goal.loop-init

@@ -1,9 +1,9 @@
 use Rattle.std.proofs.Common.{◌≤◌, ◌*◌}
 use Rattle.escpos_printer.specs.Serves.{link}
-use Rattle.escpos_jobs.proofs.Parts.{ServedSoFar}
+use Rattle.escpos_jobs.proofs.TornParts.{ServedSoFar}
 use Rattle.escpos_jobs.proofs.emulate.serve_in_parts.Given as goal
 
--- so many parts were served, and what they printed was torn off
+-- this many parts were served, and what they printed was torn off
 abbrev pub invariant-loop : goal.invariant-loop
 invariant-loop g l = record {
   some : 1 ≤ l.counter;

@@ -1,5 +1,5 @@
 use Rattle.escpos_printer.specs.Serves.{link}
-use Rattle.escpos_jobs.proofs.Parts.{torn_part}
+use Rattle.escpos_jobs.proofs.TornParts.{torn_part}
 use Rattle.escpos_jobs.proofs.emulate.serve_part.Goals as goal
 
 pub returns-clause-served : goal.returns-clause-served

@@ -1,4 +1,4 @@
--- What is put goes by what was read.
+-- What is printed follows from what was read.
 use Rattle.escpos_jobs.proofs.Encodings.{encodes_by}
 use Rattle.escpos_jobs.proofs.encode.encode_text.Goals as goal
 

@@ -1,70 +1,72 @@
--- The digits of the parts are given one after another; where a part failed, they are the front of all.
+-- The digits of the parts are given one after another; if a part failed, they are a prefix of all.
 use Rattle.std.proofs.Common.{◌≡◌, ◌∙◌, ◌++◌, Ok, Err, refl, ap}
 use Rattle.hex.specs.Hex.{encode_lower}
 use Rattle.escpos_command.specs.CommandTable.{row, entry_of}
 use Rattle.escpos_jobs.proofs.Spellings.{row_of_parts}
+use Rattle.escpos_io.proofs.Digits.{digits_append}
+use Rattle.escpos_io.proofs.Giving.{given_in_the_front, given_in_turn}
 use Rattle.escpos_jobs.proofs.encode.put_command.Goals as goal
 
 pub returns-in_err-put_digits : goal.returns-in_err-put_digits
 returns-in_err-put_digits g c =
-    let f = c.parts-parts.result.front.now in
+    let f = c.parts-parts.result.prefix.now in
     let p = (entry_of c.args.command.now).parameters in
     let d = (entry_of c.args.command.now).content in
-    let l = (entry_of c.args.command.now).closing in
+    let l = (entry_of c.args.command.now).suffix in
     let device = c.in_err-put_digits.field-0.0 in
-    let joined = c.digits_in_turn.ensures.joined in
-    let two = c.given_in_the_front.ensures (Err device) device _ _ _ (encode_lower f) (encode_lower p) (encode_lower (f ++ p)) refl c.in_err-put_digits.ensures
+    let joined = digits_append in
+    let two = given_in_the_front (Err device) device _ _ _ (encode_lower f) (encode_lower p) (encode_lower (f ++ p)) refl c.in_err-put_digits.ensures
     (joined f p) in
-    let three = c.given_in_the_front.ensures (Err device) device _ _ _ (encode_lower (f ++ p)) (encode_lower d) (encode_lower (f ++ p ++ d)) refl two (joined (f ++ p) d) in
-    let whole : row c.args.command.now ≡ f ++ p ++ d ++ l = row_of_parts c.args.command.now f p d l _ _ _ _ refl c.parts-parts.ensures.front refl refl refl in
-    c.given_in_the_front.ensures c.from_residual.result device _ _ _ (encode_lower (f ++ p ++ d)) (encode_lower l) _ c.from_residual.ensures.1 three
+    let three = given_in_the_front (Err device) device _ _ _ (encode_lower (f ++ p)) (encode_lower d) (encode_lower (f ++ p ++ d)) refl two (joined (f ++ p) d) in
+    let whole : row c.args.command.now ≡ f ++ p ++ d ++ l = row_of_parts c.args.command.now f p d l _ _ _ _ refl c.parts-parts.ensures.prefix refl refl refl in
+    given_in_the_front c.from_residual.result device _ _ _ (encode_lower (f ++ p ++ d)) (encode_lower l) _ c.from_residual.ensures.1 three
     (ap encode_lower whole ∙ joined (f ++ p ++ d) l)
 
 pub returns-in_err-put_digits-2 : goal.returns-in_err-put_digits-2
 returns-in_err-put_digits-2 g c =
-    let f = c.parts-parts.result.front.now in
+    let f = c.parts-parts.result.prefix.now in
     let p = c.as_slice.result.now in
     let d = (entry_of c.args.command.now).content in
-    let l = (entry_of c.args.command.now).closing in
+    let l = (entry_of c.args.command.now).suffix in
     let device = c.in_err-put_digits-2.field-0.0 in
-    let joined = c.digits_in_turn.ensures.joined in
-    let two = c.given_in_turn.ensures (Err device) _ _ _ _ _ _ _ _ _ (encode_lower f) (encode_lower p) (encode_lower (f ++ p)) c.in_ok-put_digits.ensures
+    let joined = digits_append in
+    let two = given_in_turn (Err device) _ _ _ _ _ _ _ _ _ (encode_lower f) (encode_lower p) (encode_lower (f ++ p)) c.in_ok-put_digits.ensures
     c.in_err-put_digits-2.ensures (joined f p) in
-    let three = c.given_in_the_front.ensures (Err device) device _ _ _ (encode_lower (f ++ p)) (encode_lower d) (encode_lower (f ++ p ++ d)) refl two (joined (f ++ p) d) in
-    let whole : row c.args.command.now ≡ f ++ p ++ d ++ l = row_of_parts c.args.command.now f p d l _ _ _ _ refl c.parts-parts.ensures.front
+    let three = given_in_the_front (Err device) device _ _ _ (encode_lower (f ++ p)) (encode_lower d) (encode_lower (f ++ p ++ d)) refl two (joined (f ++ p) d) in
+    let whole : row c.args.command.now ≡ f ++ p ++ d ++ l = row_of_parts c.args.command.now f p d l _ _ _ _ refl c.parts-parts.ensures.prefix
     (c.as_slice.ensures.value ∙ c.parts-parts.ensures.parameters) refl refl in
-    c.given_in_the_front.ensures c.from_residual-in_err-put_digits-2.result device _ _ _ (encode_lower (f ++ p ++ d)) (encode_lower l) _
+    given_in_the_front c.from_residual-in_err-put_digits-2.result device _ _ _ (encode_lower (f ++ p ++ d)) (encode_lower l) _
     c.from_residual-in_err-put_digits-2.ensures.1 three (ap encode_lower whole ∙ joined (f ++ p ++ d) l)
 
 pub returns-in_err-put_digits-3 : goal.returns-in_err-put_digits-3
 returns-in_err-put_digits-3 g c =
-    let f = c.parts-parts.result.front.now in
+    let f = c.parts-parts.result.prefix.now in
     let p = c.as_slice.result.now in
     let d = c.parts-parts.result.content.now in
-    let l = (entry_of c.args.command.now).closing in
+    let l = (entry_of c.args.command.now).suffix in
     let device = c.in_err-put_digits-3.field-0.0 in
-    let joined = c.digits_in_turn.ensures.joined in
-    let two = c.given_in_turn.ensures (Ok tt) _ _ _ _ _ _ _ _ _ (encode_lower f) (encode_lower p) (encode_lower (f ++ p)) c.in_ok-put_digits.ensures
+    let joined = digits_append in
+    let two = given_in_turn (Ok tt) _ _ _ _ _ _ _ _ _ (encode_lower f) (encode_lower p) (encode_lower (f ++ p)) c.in_ok-put_digits.ensures
     c.in_ok-put_digits-2.ensures (joined f p) in
-    let three = c.given_in_turn.ensures (Err device) _ _ _ _ _ _ _ _ _ (encode_lower (f ++ p)) (encode_lower d) (encode_lower (f ++ p ++ d)) two
+    let three = given_in_turn (Err device) _ _ _ _ _ _ _ _ _ (encode_lower (f ++ p)) (encode_lower d) (encode_lower (f ++ p ++ d)) two
     c.in_err-put_digits-3.ensures (joined (f ++ p) d) in
-    let whole : row c.args.command.now ≡ f ++ p ++ d ++ l = row_of_parts c.args.command.now f p d l _ _ _ _ refl c.parts-parts.ensures.front
+    let whole : row c.args.command.now ≡ f ++ p ++ d ++ l = row_of_parts c.args.command.now f p d l _ _ _ _ refl c.parts-parts.ensures.prefix
     (c.as_slice.ensures.value ∙ c.parts-parts.ensures.parameters) c.parts-parts.ensures.content refl in
-    c.given_in_the_front.ensures c.from_residual-in_err-put_digits-3.result device _ _ _ (encode_lower (f ++ p ++ d)) (encode_lower l) _
+    given_in_the_front c.from_residual-in_err-put_digits-3.result device _ _ _ (encode_lower (f ++ p ++ d)) (encode_lower l) _
     c.from_residual-in_err-put_digits-3.ensures.1 three (ap encode_lower whole ∙ joined (f ++ p ++ d) l)
 
 pub returns : goal.returns
 returns g c =
-    let f = c.parts-parts.result.front.now in
+    let f = c.parts-parts.result.prefix.now in
     let p = c.as_slice.result.now in
     let d = c.parts-parts.result.content.now in
-    let l = c.parts-parts.result.closing.now in
-    let joined = c.digits_in_turn.ensures.joined in
-    let two = c.given_in_turn.ensures (Ok tt) _ _ _ _ _ _ _ _ _ (encode_lower f) (encode_lower p) (encode_lower (f ++ p)) c.in_ok-put_digits.ensures
+    let l = c.parts-parts.result.suffix.now in
+    let joined = digits_append in
+    let two = given_in_turn (Ok tt) _ _ _ _ _ _ _ _ _ (encode_lower f) (encode_lower p) (encode_lower (f ++ p)) c.in_ok-put_digits.ensures
     c.in_ok-put_digits-2.ensures (joined f p) in
-    let three = c.given_in_turn.ensures (Ok tt) _ _ _ _ _ _ _ _ _ (encode_lower (f ++ p)) (encode_lower d) (encode_lower (f ++ p ++ d)) two
+    let three = given_in_turn (Ok tt) _ _ _ _ _ _ _ _ _ (encode_lower (f ++ p)) (encode_lower d) (encode_lower (f ++ p ++ d)) two
     c.in_ok-put_digits-3.ensures (joined (f ++ p) d) in
-    let whole : row c.args.command.now ≡ f ++ p ++ d ++ l = row_of_parts c.args.command.now f p d l _ _ _ _ refl c.parts-parts.ensures.front
-    (c.as_slice.ensures.value ∙ c.parts-parts.ensures.parameters) c.parts-parts.ensures.content c.parts-parts.ensures.closing in
-    c.given_in_turn.ensures c.put_digits-4.result _ _ _ _ _ _ _ _ _ (encode_lower (f ++ p ++ d)) (encode_lower l) _ three c.put_digits-4.ensures
+    let whole : row c.args.command.now ≡ f ++ p ++ d ++ l = row_of_parts c.args.command.now f p d l _ _ _ _ refl c.parts-parts.ensures.prefix
+    (c.as_slice.ensures.value ∙ c.parts-parts.ensures.parameters) c.parts-parts.ensures.content c.parts-parts.ensures.suffix in
+    given_in_turn c.put_digits-4.result _ _ _ _ _ _ _ _ _ (encode_lower (f ++ p ++ d)) (encode_lower l) _ three c.put_digits-4.ensures
     (ap encode_lower whole ∙ joined (f ++ p ++ d) l)

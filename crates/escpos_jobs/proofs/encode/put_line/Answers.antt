@@ -1,4 +1,4 @@
--- The digits and the end of the line are kept back, and go out at the end.
+-- The digits and the end of the line are kept back, and are printed at the end.
 use Rattle.std.proofs.Common.{inl, refl, []}
 use Rattle.escpos_jobs.proofs.Reports.{succeeded}
 use Rattle.escpos_jobs.proofs.encode.put_line.Goals as goal

@@ -1,4 +1,4 @@
--- What is kept of the text is its digits, so that what `decode` says of it is said of the digits.
+-- What is kept of the text is its digits, so what holds of `decode` on the one holds on the other.
 use Rattle.std.proofs.Common.{rules, length, ◌%◌, ◌≡◌, ◌∙◌, ap, sym, refl, inl, inr}
 use Rattle.std.proofs.lemmas.Fn.{filter_same}
 use Rattle.std.proofs.lemmas.Result.{IfOk-weaker, IfErr-at_err}

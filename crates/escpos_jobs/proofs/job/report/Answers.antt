@@ -1,7 +1,8 @@
 use Rattle.std.proofs.Common.{◌∙◌, ap, sym, subst, length, zero-add}
 use Rattle.escpos_jobs.specs.Lines.{fault_line}
-use Rattle.escpos_jobs.specs.Outcome.{StatusFits}
+use Rattle.escpos_jobs.specs.Ending.{StatusFits}
 use Rattle.escpos_jobs.proofs.Reports.{reports_read, reports_refused, reports_cut_short, front_without, device_failed, never_usage, memory_is_no_device, memory_is_no_usage}
+use Rattle.escpos_command.proofs.Readings.{never_both, one_reading}
 use Rattle.escpos_jobs.proofs.job.report.Goals as goal
 
 pub returns-in-Ok-clause-reports : goal.returns-in-Ok-clause-reports
@@ -9,18 +10,18 @@ returns-in-Ok-clause-reports g c =
     let (cs, read, taken) = rw c.new-decoder.ensures at c.in-Ok.ensures.read in
     let says = c.finish.ensures.says _ cs c.new-job.ensures taken in
     let half = c.pending_len-half.ensures.value in
-    reports_read c.one_reading.ensures.one_reading g.J.Job.shape _ c.args.bytes.now _ _ cs _ read
+    reports_read one_reading g.J.Job.shape _ c.args.bytes.now _ _ cs _ read
     (c.last.ensures ∙ ap (λ n. g.J.Job.shape.last (length c.args.bytes.now) n) half) (subst (λ n. StatusFits c.status_of.result n) half c.status_of.ensures) says
 
 pub returns-in-Err-Fault-clause-reports : goal.returns-in-Err-Fault-clause-reports
 returns-in-Err-Fault-clause-reports g c =
     let (cs, rest, fault, taken, none) = rw c.new-decoder.ensures at (rw c.in-Err-Fault.field-0-is at c.in-Err-Fault.ensures.stopped) in
     let says = c.finish-in-Err-Fault.ensures.says _ cs c.new-job.ensures taken in
-    reports_refused c.one_reading.ensures.not_both g.J.Job.shape _ c.args.bytes.now rest _ cs _ _ fault (ap (λ n. fault_line n c.in-Err-Fault.why) (sym (zero-add c.in-Err-Fault.at))) says
+    reports_refused never_both g.J.Job.shape _ c.args.bytes.now rest _ cs _ _ fault (ap (λ n. fault_line n c.in-Err-Fault.why) (sym (zero-add c.in-Err-Fault.at))) says
 
 pub returns-in-Err-Memory-clause-reports : goal.returns-in-Err-Memory-clause-reports
 returns-in-Err-Memory-clause-reports g c =
-    let (k, inside, (cs, read, taken), next) = rw c.new-decoder.ensures at (rw c.in-Err-Memory.field-0-is at c.in-Err-Memory.ensures.stopped) in
+    let (k, inside, (cs, read, taken), next, begins) = rw c.new-decoder.ensures at (rw c.in-Err-Memory.field-0-is at c.in-Err-Memory.ensures.stopped) in
     reports_cut_short g.J.Job.shape _ c.args.bytes.now _ k cs read (c.finish-in-Err-Memory.ensures.says _ cs c.new-job.ensures taken)
 
 -- A command wasn't taken: what was taken before it stands.

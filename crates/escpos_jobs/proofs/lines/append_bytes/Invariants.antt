@@ -8,5 +8,5 @@ abbrev pub invariant-loop-byte : goal.invariant-loop-byte
 invariant-loop-byte l = record {
   whole : l.initial.gather.kept ++ flat_map byte_value l.bytes ≡ l.gather.kept ++ flat_map byte_value (drop l.byte-index l.bytes);
   short : length l.gather.kept ≡ length l.initial.gather.kept + 3 * l.byte-index;
-  same_count : l.gather.taken ≡ l.initial.gather.taken;
+  same_count : l.gather.written ≡ l.initial.gather.written;
 }

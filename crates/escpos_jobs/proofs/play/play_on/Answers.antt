@@ -1,4 +1,4 @@
--- What the lines came to, and what was shown after them.
+-- The effects of the lines, and what was printed after them.
 use Rattle.std.proofs.Common.{Ok, Err, ◌∙◌, ap}
 use Rattle.escpos_jobs.specs.declared.play.ScriptEnd.TheVariants as end
 use Rattle.escpos_jobs.proofs.Plays.{cut_off, played, told_of, unreadable}
@@ -6,18 +6,18 @@ use Rattle.escpos_jobs.proofs.play.play_on.Goals as goal
 
 pub returns-in-Ok-clause-plays : goal.returns-in-Ok-clause-plays
 returns-in-Ok-clause-plays g c = λ new.
-    let told = told_of c.play_lines.result (Ok tt) c.args.sim.now c.play_lines.new.sim _ _ c.in-Ok.is (λ e. cc) c.play_lines.ensures.told in
-    played _ (g.W.ByteOut.written c.play_lines.new.output) c.args.sim.now c.play_lines.new.sim told.0 new told.1 told.2 c.close.ensures.stand c.close.ensures.says
+    let told = told_of c.play_lines.result (Ok tt) c.args.script.now c.args.sim.now c.play_lines.new.sim _ _ c.in-Ok.is (λ e. cc) c.play_lines.ensures.told in
+    played _ c.args.script.now (g.W.ByteOut.written c.play_lines.new.output) c.args.sim.now c.play_lines.new.sim told.0 new told.1 told.2 c.close.ensures.stand c.close.ensures.says
 
 pub returns-in-Err-Unreadable-clause-plays : goal.returns-in-Err-Unreadable-clause-plays
 returns-in-Err-Unreadable-clause-plays g c = λ new.
-    let told = told_of c.play_lines.result (Err end.Unreadable) c.args.sim.now c.play_lines.new.sim _ _ (c.in-Err-Unreadable.is ∙ ap (λ w. Err w) c.in-Err-Unreadable.field-0-is)
+    let told = told_of c.play_lines.result (Err end.Unreadable) c.args.script.now c.args.sim.now c.play_lines.new.sim _ _ (c.in-Err-Unreadable.is ∙ ap (λ w. Err w) c.in-Err-Unreadable.field-0-is)
     (λ e. cc) c.play_lines.ensures.told in
-    unreadable _ (g.W.ByteOut.written c.play_lines.new.output) c.args.sim.now c.play_lines.new.sim told.0 new told.1 told.2 c.close-in-Err-Unreadable.ensures.stand
+    unreadable _ c.args.script.now (g.W.ByteOut.written c.play_lines.new.output) c.args.sim.now c.play_lines.new.sim told.0 new told.1 told.2 c.close-in-Err-Unreadable.ensures.stand
     c.close-in-Err-Unreadable.ensures.says
 
 pub returns-in-Err-Memory-clause-plays : goal.returns-in-Err-Memory-clause-plays
 returns-in-Err-Memory-clause-plays g c = λ new.
-    let told = told_of c.play_lines.result (Err end.Memory) c.args.sim.now c.play_lines.new.sim _ _ (c.in-Err-Memory.is ∙ ap (λ w. Err w) c.in-Err-Memory.field-0-is)
+    let told = told_of c.play_lines.result (Err end.Memory) c.args.script.now c.args.sim.now c.play_lines.new.sim _ _ (c.in-Err-Memory.is ∙ ap (λ w. Err w) c.in-Err-Memory.field-0-is)
     (λ e. cc) c.play_lines.ensures.told in
-    cut_off _ (g.W.ByteOut.written c.play_lines.new.output) c.args.sim.now c.play_lines.new.sim told.0 new told.1 told.2 c.say.ensures.says
+    cut_off _ c.args.script.now (g.W.ByteOut.written c.play_lines.new.output) c.args.sim.now c.play_lines.new.sim told.0 new told.1 told.2 c.say.ensures.says

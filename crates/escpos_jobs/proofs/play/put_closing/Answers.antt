@@ -1,10 +1,11 @@
--- The paper goes out after its heading, and then the line that counts the records.
+-- The paper is printed after its heading, and then the line that counts the records.
 use Rattle.std.proofs.Common.{false, [], length, subst, codes}
 use Rattle.std.proofs.KnownBytes.{Appends-trans}
 use Rattle.std.specs.Io.KnownBytes.{Appends}
 use Rattle.escpos_paper.specs.ItemsText.{items_text}
-use Rattle.escpos_jobs.specs.Told.{records_line}
+use Rattle.escpos_jobs.specs.ScriptOutput.{records_line}
 use Rattle.escpos_jobs.proofs.Plays.{on_ok}
+use Rattle.escpos_io.proofs.Giving.{given_appended}
 use Rattle.escpos_jobs.proofs.play.put_closing.Goals as goal
 
 pub returns-clause-put : goal.returns-clause-put
@@ -14,7 +15,7 @@ returns-clause-put g c =
     let papered = g.W.ByteOut.written c.write_items.new.writer in
     let all = g.W.ByteOut.written c.flush.new.writer in
     let counted = records_line (length c.records.result.now) in
-    let given = c.given_in_place.ensures papered false c.new-gather.result c.append_records.new.gather counted c.append_records.ensures.kept c.append_records.ensures.same_count in
+    let given = given_appended papered false c.new-gather.result c.append_records.new.gather counted c.append_records.ensures.kept c.append_records.ensures.same_count in
     let carried = given.ok papered [] (c.new-gather.ensures.carries papered) in
     let items = subst (λ v. Appends headed papered (items_text v)) c.paper-paper.ensures.items c.in_ok-write_items.ensures.ok in
     on_ok c.flush.result (λ flushed.

@@ -1,6 +1,6 @@
 use Rattle.std.proofs.Common.{subst, drop}
 use Rattle.escpos_host.specs.Heard.{IsHeard}
-use Rattle.escpos_link.proofs.InTurn.{all_heard, ended, next, on_goes, rest_is}
+use Rattle.escpos_link.proofs.HeardInTurn.{all_heard, ended, next, on_goes, rest_is}
 use Rattle.escpos_link.proofs.line.hear_all.Goals as goal
 
 pub returns-in-None-clause-heard : goal.returns-in-None-clause-heard

@@ -1,6 +1,6 @@
--- What was heard so far are events that ended nothing, and whatever is heard from here on was heard after them.
+-- What was heard so far are events that ended nothing, and whatever is heard from now on was heard after them.
 use Rattle.std.proofs.Common.{◌-◌, length}
-use Rattle.escpos_link.proofs.InTurn.{SoFar}
+use Rattle.escpos_link.proofs.HeardInTurn.{SoFar}
 use Rattle.escpos_link.proofs.line.hear_all.Given as goal
 
 abbrev pub invariant-loop-event : goal.invariant-loop-event

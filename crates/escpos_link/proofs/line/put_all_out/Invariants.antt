@@ -1,6 +1,6 @@
--- So many bytes have moved.
+-- This many bytes have moved.
 use Rattle.std.proofs.Common.{◌≤◌, ◌-◌, length}
-use Rattle.escpos_link.specs.EventTable.{HasMoved}
+use Rattle.escpos_link.specs.MoveSteps.{HasMoved}
 use Rattle.escpos_link.proofs.line.put_all_out.Given as goal
 
 abbrev pub invariant-loop-moved : goal.invariant-loop-moved

@@ -1,4 +1,4 @@
-use Rattle.escpos_printer.proofs.Parts.{serves_under}
+use Rattle.escpos_printer.proofs.LinksInParts.{serves_under}
 use Rattle.escpos_printer.proofs.laws.paper_above.Goals as goal
 
 pub returns : goal.returns

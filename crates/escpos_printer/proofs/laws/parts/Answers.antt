@@ -1,4 +1,4 @@
-use Rattle.escpos_printer.proofs.Parts.{in_parts}
+use Rattle.escpos_printer.proofs.LinksInParts.{in_parts}
 use Rattle.escpos_printer.proofs.laws.parts.Goals as goal
 
 pub returns : goal.returns

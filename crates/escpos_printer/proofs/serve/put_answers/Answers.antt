@@ -1,7 +1,7 @@
 use Rattle.std.proofs.Common.{◌+◌, length, arith, sym, ◌∙◌, ap, subst}
 use Rattle.escpos_printer.specs.Feeds.{PrinterView}
 use Rattle.escpos_printer.specs.Serves.{CutOff, sent}
-use Rattle.escpos_printer.proofs.Answering.{Out, some_first, out_more, out_cut, answer_begins}
+use Rattle.escpos_printer.proofs.AnswerBytes.{Out, some_first, out_more, out_cut, answer_begins}
 use Rattle.escpos_printer.proofs.serve.put_answers.Goals as goal
 
 pub returns-in-Err-clause-some : goal.returns-in-Err-clause-some

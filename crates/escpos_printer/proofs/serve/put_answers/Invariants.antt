@@ -1,5 +1,5 @@
 use Rattle.std.proofs.Common.{◌≡◌, ◌≤◌, ◌+◌, ◌*◌, length, IsTrue}
-use Rattle.escpos_printer.proofs.Answering.{Out}
+use Rattle.escpos_printer.proofs.AnswerBytes.{Out}
 use Rattle.escpos_printer.proofs.serve.put_answers.Given as goal
 
 -- the answers that were taken went out

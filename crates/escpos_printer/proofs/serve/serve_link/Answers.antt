@@ -1,11 +1,13 @@
 use Rattle.std.proofs.Common.{◌≤◌, arith, refl, take, drop, length, length-take, length-drop, length-append}
+use Rattle.escpos_command.proofs.Readings.{joined}
 use Rattle.escpos_printer.proofs.Serving.{serves_cut, reading_none, reading_on, serves_piece, not_between, pulled_front, pulled_length}
 use Rattle.escpos_printer.proofs.serve.serve_link.Goals as goal
 
 pub returns-in-Err-clause-served : goal.returns-in-Err-clause-served
 returns-in-Err-clause-served g c =
+    rw c.all_taken.ensures (
     serves_cut c.args.printer.now c.put_answers.new.printer _ _ _ c.args.max_bytes c.in-Err.written c.is_sound.ensures.rest c.in-Err.ensures.some
-    (record { sheet = c.in-Err.ensures.same.0; half = c.in-Err.ensures.same.1; condition = c.in-Err.ensures.same.2 })
+    (record { sheet = c.in-Err.ensures.same.0; half = c.in-Err.ensures.same.1; condition = c.in-Err.ensures.same.2 }))
 
 pub loop-read-init : goal.loop-read-init
 loop-read-init g c = record {
@@ -27,7 +29,7 @@ returns-in-Some-clause-served g c =
     let kept = c.pull.auto.piece in
     let asked = c.min-asked.ensures in
     let within : c.in-Ok-pull.count ≤ length c.pull.new.piece = omega (arith, fits, kept) in
-    serves_piece c.joined_readings.ensures.reading c.args.printer.now c.loop-read.printer c.serve_piece-carried.new.printer (take c.in-Ok-pull.count c.pull.new.piece) _ _ _ _ _ _
+    serves_piece joined c.args.printer.now c.loop-read.printer c.serve_piece-carried.new.printer (take c.in-Ok-pull.count c.pull.new.piece) _ _ _ _ _ _
     c.args.max_bytes c.loop-read.read c.loop-read.written c.in-Ok-pull.count c.serve_piece-carried.result c.in-Some.end c.loop-read.invariant.reading c.in-Ok-pull.ensures.bytes
     (pulled_length c.in-Ok-pull.count c.pull.new.piece within)
     (let few = c.loop-read.invariant.within in let short = length-take c.min-asked.result c.loop-read.piece in omega (arith, fits, asked, few, short))
@@ -57,7 +59,7 @@ loop-read-preserved g c =
     let count = pulled_length c.in-Ok-pull.count c.pull.new.piece within in
     record {
       reading =
-          reading_on c.joined_readings.ensures.reading c.args.printer.now c.loop-read.printer c.serve_piece-carried.new.printer (take c.in-Ok-pull.count c.pull.new.piece) _ _ _ _ _ _
+          reading_on joined c.args.printer.now c.loop-read.printer c.serve_piece-carried.new.printer (take c.in-Ok-pull.count c.pull.new.piece) _ _ _ _ _ _
           c.loop-read.read c.loop-read.written c.in-Ok-pull.count c.serve_piece-carried.result c.loop-read.invariant.reading c.in-Ok-pull.ensures.bytes count carried c.in_default.is;
       most = refl;
       within = let before = c.loop-read.invariant.within in omega (arith, fits, asked, before, short);

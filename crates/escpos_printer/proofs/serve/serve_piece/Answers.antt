@@ -1,6 +1,8 @@
 use Rattle.std.proofs.Common.{arith, ◌<◌, ◌+◌, sym, ◌∙◌, subst}
+use Rattle.escpos_command.proofs.Readings.{joined, one_reading}
 use Rattle.escpos_printer.specs.declared.printer.FeedStop.TheVariants as stop
-use Rattle.escpos_printer.specs.Serves.{Carries, IsWithinPiece, sent}
+use Rattle.escpos_printer.specs.Serves.{IsCarried, sent}
+use Rattle.escpos_printer.specs.ServeSteps.{IsWithinPiece}
 use Rattle.escpos_printer.proofs.Serving.{FedAt, passed_none, fed_at, broken, carried, go_on, some_taken, no_write_fault, within_piece}
 use Rattle.escpos_printer.proofs.serve.serve_piece.Given as given
 use Rattle.escpos_printer.proofs.serve.serve_piece.Goals as goal
@@ -15,7 +17,7 @@ loop-count-init g c = record {
 
 pub returns-in-Err-clause-carried : goal.returns-in-Err-clause-carried
 returns-in-Err-clause-carried g c =
-    broken c.joined_readings.ensures.reading c.args.printer.now c.loop-count.printer c.feed-fed.new.self c.put_answers.new.printer c.args.piece.now _ _ _
+    broken joined c.args.printer.now c.loop-count.printer c.feed-fed.new.self c.put_answers.new.printer c.args.piece.now _ _ _
     c.loop-count.consumed c.feed-fed.result.consumed c.loop-count.written c.in-Err.count c.feed-fed.result.stop c.loop-count.invariant.passed
     (fed_at c.loop-count.printer c.feed-fed.new.self c.args.piece.now c.loop-count.consumed c.feed-fed.result.consumed c.feed-fed.result.stop c.loop-count.invariant.inside c.feed-fed.ensures)
     c.in-Err.ensures.some
@@ -29,8 +31,8 @@ full g c =
 
 some : (g : given.Over) (c : goal.In-AnswersFull g) → 0 < c.feed-fed.result.consumed
 some g c =
-    some_taken c.loop-count.printer c.feed-fed.new.self c.args.piece.now c.loop-count.consumed c.feed-fed.result.consumed c.one_reading.ensures.one_reading
-    c.loop-count.invariant.passed.ran.reads.left c.loop-count.invariant.passed.out.none (full g c)
+    some_taken c.loop-count.printer c.feed-fed.new.self c.args.piece.now c.loop-count.consumed c.feed-fed.result.consumed one_reading
+    c.loop-count.invariant.passed.ran.reads.rest_is c.loop-count.invariant.passed.out.none (full g c)
 
 pub loop-count-smaller : goal.loop-count-smaller
 loop-count-smaller g c = let within = (full g c).within in let more = some g c in omega (arith, within, more)
@@ -44,7 +46,7 @@ loop-count-preserved g c =
     record {
       inside = fed.within;
       passed =
-          go_on c.joined_readings.ensures.reading c.args.printer.now c.loop-count.printer c.feed-fed.new.self c.put_answers.new.printer c.args.piece.now _ _ _
+          go_on joined c.args.printer.now c.loop-count.printer c.feed-fed.new.self c.put_answers.new.printer c.args.piece.now _ _ _
           c.loop-count.consumed c.feed-fed.result.consumed c.loop-count.written c.in-Ok.count c.loop-count.invariant.passed fed c.in-Ok.ensures.all
           (record { sheet = c.in-Ok.ensures.same.0; half = c.in-Ok.ensures.same.1; condition = c.in-Ok.ensures.same.2 });
       few = omega (arith, more, before, count);
@@ -57,10 +59,10 @@ returns-in-loop-count g c =
     let count = c.in-Ok.ensures.few in
     record {
       carried =
-          subst (λ v. Carries c.args.printer.now c.args.piece.now (sent (g.W.ByteOut.written c.args.writer.now) (g.W.ByteOut.written c.put_answers.new.writer))
+          subst (λ v. IsCarried c.args.printer.now c.args.piece.now (sent (g.W.ByteOut.written c.args.writer.now) (g.W.ByteOut.written c.put_answers.new.writer))
           (record { consumed = c.loop-count.consumed + c.feed-fed.result.consumed; written = c.loop-count.written + c.in-Ok.count; end = v }) c.put_answers.new.printer)
           (sym c.end_of.ensures)
-          (carried c.joined_readings.ensures.reading c.args.printer.now c.loop-count.printer c.feed-fed.new.self c.put_answers.new.printer c.args.piece.now _ _ _
+          (carried joined c.args.printer.now c.loop-count.printer c.feed-fed.new.self c.put_answers.new.printer c.args.piece.now _ _ _
           c.loop-count.consumed c.feed-fed.result.consumed c.loop-count.written c.in-Ok.count c.feed-fed.result.stop c.in_default.not-AnswersFull c.loop-count.invariant.passed
           (fed_at c.loop-count.printer c.feed-fed.new.self c.args.piece.now c.loop-count.consumed c.feed-fed.result.consumed c.feed-fed.result.stop c.loop-count.invariant.inside c.feed-fed.ensures)
           c.in-Ok.ensures.all

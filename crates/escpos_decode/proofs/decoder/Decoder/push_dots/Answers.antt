@@ -1,8 +1,8 @@
 use Rattle.std.proofs.Common.{◌≡◌, ◌+◌, ◌-◌, ◌∙◌, ◌++◌, take, length, length-take, ap, sym, subst, append_assoc, arith}
 use Rattle.std.specs.Prelude.{vec_len, if◌then◌else◌, is_ok}
-use Rattle.escpos_decode.specs.Place.{IsAt, front_of, wanted_at}
-use Rattle.escpos_decode.specs.declared.place.Place.TheVariants.{Dots}
-use Rattle.escpos_decode.proofs.Places.{rest_at}
+use Rattle.escpos_decode.specs.State.{IsAt, prefix_of, wanted_at}
+use Rattle.escpos_decode.specs.declared.state.State.TheVariants.{Dots}
+use Rattle.escpos_decode.proofs.States.{tree_law, rest_at}
 use Rattle.escpos_decode.proofs.DotRuns.{bytes_pass, at_run, run_read, some_wanted}
 use Rattle.escpos_decode.proofs.decoder.Decoder.push_dots.Goals as goal
 
@@ -15,7 +15,7 @@ invariant_of-self c =
     let at = subst (λ p. IsAt p content.items) c.in-Dots.is c.self.invariant.0 in
     let some = some_wanted c.in-Dots.wanted at.held in
     let long : length run ≡ c.min-count.result = omega (arith, length-take c.min-count.result c.args.bytes.now, c.min-count.ensures) in
-    let wanted : wanted_at c.self.inside.place ≡ c.in-Dots.wanted = ap wanted_at c.in-Dots.is in (
+    let wanted : wanted_at c.self.inside.state ≡ c.in-Dots.wanted = ap wanted_at c.in-Dots.is in (
       subst (λ n. IsAt (Dots c.in-Dots.scale c.in-Dots.width c.in-Dots.height (c.in-Dots.wanted - n)) c.extend_from_slice.new.self.items) long
           (at_run c.in-Dots.scale c.in-Dots.width c.in-Dots.height c.in-Dots.wanted content.items run c.extend_from_slice.new.self.items at
           (omega (arith, c.min-count.ensures, some, long)) (bytes_pass c.args.bytes.now c.min-count.result c.type_inv.bytes) items),
@@ -32,8 +32,8 @@ returns-clause-stream c = λ a cs r.
     let long : length run ≡ c.min-count.result = omega (arith, length-take c.min-count.result c.args.bytes.now, c.min-count.ensures) in
     let there = at_run c.in-Dots.scale c.in-Dots.width c.in-Dots.height c.in-Dots.wanted content.items run c.extend_from_slice.new.self.items at
     (omega (arith, c.min-count.ensures, some, long)) (bytes_pass c.args.bytes.now c.min-count.result c.type_inv.bytes) items in
-    let view = ap (λ p. front_of p ++ content.items) (sym c.in-Dots.is) ∙ c.self.view_is in
+    let view = ap (λ p. prefix_of p ++ content.items) (sym c.in-Dots.is) ∙ c.self.view_is in
     run_read a c.args.self.now run _ cs r
-    (ap (λ v. front_of (Dots c.in-Dots.scale c.in-Dots.width c.in-Dots.height c.in-Dots.wanted) ++ v) items
-    ∙ sym (append_assoc (front_of (Dots c.in-Dots.scale c.in-Dots.width c.in-Dots.height c.in-Dots.wanted)) content.items run) ∙ ap (λ v. v ++ run) view)
-    (rest_at (record { spelling = c.tree.ensures.spelling; half = c.tree.ensures.half; refused = c.tree.ensures.refused }) _ _ there)
+    (ap (λ v. prefix_of (Dots c.in-Dots.scale c.in-Dots.width c.in-Dots.height c.in-Dots.wanted) ++ v) items
+    ∙ sym (append_assoc (prefix_of (Dots c.in-Dots.scale c.in-Dots.width c.in-Dots.height c.in-Dots.wanted)) content.items run) ∙ ap (λ v. v ++ run) view)
+    (rest_at tree_law _ _ there)

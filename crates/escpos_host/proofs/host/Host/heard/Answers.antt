@@ -7,6 +7,7 @@ use Rattle.escpos_host.specs.Heard.{HearsByte, Passed}
 use Rattle.escpos_host.specs.Machine.{HostView}
 use Rattle.escpos_host.proofs.Passing.{none_passed, one_more_passed}
 use Rattle.escpos_host.proofs.Views.{is_up}
+use Rattle.escpos_command.proofs.AnswerReadings.{joined}
 use Rattle.escpos_host.proofs.host.Host.heard.Goals as goal
 
 pub loop-at-init : goal.loop-at-init
@@ -36,7 +37,7 @@ loop-at-preserved c =
     let byte = get_or bytes at 0 in
     let half = c.loop-at.self.half in
     let heard = subst (λ h. HearsByte h byte at event.None c.hear_byte.new.self) c.loop-at.invariant.same c.in-None.ensures in
-    let on = one_more_passed c.answers.ensures.joined c.args.self.now c.hear_byte.new.self (take at bytes) half byte at c.loop-at.invariant.passed heard in
+    let on = one_more_passed joined c.args.self.now c.hear_byte.new.self (take at bytes) half byte at c.loop-at.invariant.passed heard in
     let longer = take_more bytes at 0 c.loop-at-test.true in
     record {
       up = c.loop-at.invariant.up;

@@ -9,7 +9,7 @@ pub invariant_of-self : goal.invariant_of-self
 invariant_of-self c =
     let h = c.self.inside in (
       c.clear.ensures,
-      λ rs. (c.clear-2.ensures.within rs, c.clear-2.ensures.left rs),
+      λ rs. (c.clear-2.ensures.within rs, c.clear-2.ensures.unsent rs),
       c.clear-3.ensures,
       few_recorded h.stage h.receipts.items h.recorded h.closing.items h.out h.reader c.self.invariant,
     )
@@ -20,6 +20,6 @@ returns c =
     let up : h.stage ≢ stage.Down = c.in_default.not-Down in
     record {
       up = λ _. goes_down h.stage h.receipts.items h.recorded h.closing.items c.clear.new.self.items h.out c.clear-2.new.self h.reader c.clear-3.new.self h.next c.self.invariant up
-          (c.clear-2.ensures.left h.receipts.items) c.clear-3.ensures ∙ ap gone_down c.self.view_is;
+          (c.clear-2.ensures.unsent h.receipts.items) c.clear-3.ensures ∙ ap gone_down c.self.view_is;
       down = λ e. absurd (is_up h.stage h.receipts.items h.recorded h.closing.items h.out h.reader h.next up (ap (λ (v : HostView). v.phase) c.self.view_is ∙ e));
     }

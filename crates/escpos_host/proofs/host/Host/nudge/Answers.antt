@@ -15,5 +15,5 @@ returns-clause-nudged c =
       subst HasMark c.self.view_is c.in-Some.ensures.0,
       ap (λ s. view_of s h.receipts.items h.recorded h.closing.items c.push.new.self h.reader (h.next + 1)) c.in-Opening.is
           ∙ is_nudged h.receipts.items h.recorded h.closing.items first h.out c.push.new.self h.reader h.next c.in-Some.mark c.in-Some.ensures.1
-          (succeeded c.push.result c.if-is_err.ensures.value c.push.ensures.left h.receipts.items within) ∙ ap nudged before,
+          (succeeded c.push.result c.if-is_err.ensures.value c.push.ensures.unsent h.receipts.items within) ∙ ap nudged before,
     )

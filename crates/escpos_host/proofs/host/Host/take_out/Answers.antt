@@ -1,17 +1,17 @@
--- With no link there is nothing to take out; else the parts are those of the host's receipts.
+-- With no link there is nothing to take out; otherwise the parts are those of the host's receipts.
 use Rattle.std.proofs.Common.{◌≡◌, ◌∙◌, [], ◌++◌, length, take, drop, min, sym, ap, subst, arith}
 use Rattle.escpos_host.specs.declared.host.Stage.TheVariants as stage
-use Rattle.escpos_host.specs.Kept.{Fits}
-use Rattle.escpos_host.specs.Machine.{HostView, taken}
-use Rattle.escpos_host.specs.Out.{Within, left}
+use Rattle.escpos_host.specs.Kept.{IsConsistent}
+use Rattle.escpos_host.specs.Machine.{HostView, taken_out}
+use Rattle.escpos_host.specs.Out.{Within, unsent}
 use Rattle.escpos_host.proofs.Views.{fits_taken, is_taken, well_placed}
 use Rattle.escpos_host.proofs.host.Host.take_out.Goals as goal
 
 pub returns-in-Down-clause-count : goal.returns-in-Down-clause-count
 returns-in-Down-clause-count c =
     let h = c.self.inside in
-    let fits : Fits stage.Down h.receipts.items h.recorded h.closing.items h.out h.reader =
-    subst (λ s. Fits s h.receipts.items h.recorded h.closing.items h.out h.reader) c.in-Down.is c.self.invariant in
+    let fits : IsConsistent stage.Down h.receipts.items h.recorded h.closing.items h.out h.reader =
+    subst (λ s. IsConsistent s h.receipts.items h.recorded h.closing.items h.out h.reader) c.in-Down.is c.self.invariant in
     let nothing : c.args.self.now.out ≡ [] = sym (ap (λ (v : HostView). v.out) c.self.view_is) ∙ (fits.1 h.receipts.items).1 in
     omega (arith, ap length nothing)
 
@@ -29,12 +29,12 @@ invariant_of-self c =
 pub returns : goal.returns
 returns c =
     let h = c.self.inside in
-    let shown : left c.deref.result.now h.out ≡ c.args.self.now.out = ap (λ rs. left rs h.out) c.deref.ensures.value ∙ ap (λ (v : HostView). v.out) c.self.view_is in
+    let shown : unsent c.deref.result.now h.out ≡ c.args.self.now.out = ap (λ rs. unsent rs h.out) c.deref.ensures.value ∙ ap (λ (v : HostView). v.out) c.self.view_is in
     let count = c.take_out.result in
-    let rest : left h.receipts.items c.take_out.new.self ≡ drop count (left h.receipts.items h.out) =
-    ap (λ rs. left rs c.take_out.new.self) (sym c.deref.ensures.value) ∙ c.take_out.ensures.left ∙ ap (λ rs. drop count (left rs h.out)) c.deref.ensures.value in
+    let rest : unsent h.receipts.items c.take_out.new.self ≡ drop count (unsent h.receipts.items h.out) =
+    ap (λ rs. unsent rs c.take_out.new.self) (sym c.deref.ensures.value) ∙ c.take_out.ensures.unsent ∙ ap (λ rs. drop count (unsent rs h.out)) c.deref.ensures.value in
     record {
       count = c.take_out.ensures.count ∙ ap (λ bs. min (length c.args.out.now) (length bs)) shown;
       copied = c.take_out.ensures.copied ∙ ap (λ bs. take count bs ++ drop count c.args.out.now) shown;
-      taken = is_taken h.stage h.receipts.items h.recorded h.closing.items h.out c.take_out.new.self h.reader h.next count rest ∙ ap (λ v. taken v count) c.self.view_is;
+      taken = is_taken h.stage h.receipts.items h.recorded h.closing.items h.out c.take_out.new.self h.reader h.next count rest ∙ ap (λ v. taken_out v count) c.self.view_is;
     }

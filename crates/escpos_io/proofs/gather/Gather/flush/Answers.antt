@@ -7,7 +7,7 @@ pub returns-in-Err-clause-given : goal.returns-in-Err-clause-given
 returns-in-Err-clause-given g c =
     let count = c.in-Err.device.written in
     let kept : c.as_slice.result.now ≡ c.args.self.now.kept = c.as_slice.ensures.value ∙ ap (λ v. v.kept) c.self.view_is in
-    let counted = c.saturating_add.ensures ∙ ap (λ v. min (v.taken + count) (2 ^ 128 - 1)) c.self.view_is in
+    let counted = c.saturating_add.ensures ∙ ap (λ v. min (v.written + count) (2 ^ 128 - 1)) c.self.view_is in
     record {
       ok = tt;
       err = λ first total more w short. rw append-nil (stops_in_kept first _ _ c.args.self.now total more count _ (rw (← kept) c.in-Err.ensures.fewer)
@@ -20,7 +20,7 @@ pub returns-in-Ok-clause-given : goal.returns-in-Ok-clause-given
 returns-in-Ok-clause-given g c =
     let kept : c.as_slice.result.now ≡ c.args.self.now.kept = c.as_slice.ensures.value ∙ ap (λ v. v.kept) c.self.view_is in
     let counted = c.saturating_add-self-inside.ensures ∙ ap (λ n. min (c.self.inside.written + n) (2 ^ 128 - 1)) c.len.ensures.value
-    ∙ ap (λ v. min (v.taken + length v.kept) (2 ^ 128 - 1)) c.self.view_is in
+    ∙ ap (λ v. min (v.written + length v.kept) (2 ^ 128 - 1)) c.self.view_is in
     record {
       ok = λ first total w. rw append-nil (carries_flushed first _ _ c.args.self.now _ total (rw (← kept) c.in-Ok.ensures.all) c.clear.ensures counted w);
       err = tt;

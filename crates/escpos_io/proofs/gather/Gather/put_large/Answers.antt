@@ -7,7 +7,7 @@ pub returns-in-Ok-clause-given : goal.returns-in-Ok-clause-given
 returns-in-Ok-clause-given g c =
     let bytes = c.args.bytes.now in
     let kept = ap (λ v. v.kept) c.self.view_is ∙ c.requires in
-    let counted = c.saturating_add-self-inside.ensures ∙ ap (λ v. min (v.taken + length bytes) (2 ^ 128 - 1)) c.self.view_is in
+    let counted = c.saturating_add-self-inside.ensures ∙ ap (λ v. min (v.written + length bytes) (2 ^ 128 - 1)) c.self.view_is in
     record {
       ok = λ first total w. carries_past first _ _ c.args.self.now _ total bytes c.requires kept counted c.in-Ok.ensures.all w;
       err = tt;
@@ -18,7 +18,7 @@ returns-in-Ok-clause-given g c =
 pub returns-in-Err-clause-given : goal.returns-in-Err-clause-given
 returns-in-Err-clause-given g c =
     let count = c.in-Err.device.written in
-    let counted = c.saturating_add.ensures ∙ ap (λ v. min (v.taken + count) (2 ^ 128 - 1)) c.self.view_is in
+    let counted = c.saturating_add.ensures ∙ ap (λ v. min (v.written + count) (2 ^ 128 - 1)) c.self.view_is in
     record {
       ok = tt;
       err = λ first total more w short. stops_past first _ _ c.args.self.now total c.args.bytes.now more count _ c.requires c.in-Err.ensures.fewer

@@ -1,4 +1,4 @@
--- The copy writes nothing after the bytes that it takes.
+-- The copy changes nothing after the bytes that it puts.
 use Rattle.std.proofs.Common.{ℕ, ◌+◌, ◌-◌, arith, sym, ◌∙◌, length-take, length-drop}
 use Rattle.std.proofs.lemmas.Slice.{drop-put_mid}
 use Rattle.std.proofs.lemmas.List.{drop-drop}

@@ -1,15 +1,15 @@
--- What a command prints is torn off, and its text given behind that of the commands before it.
+-- What a command prints is torn off, and its text given after that of the commands before it.
 use Rattle.std.proofs.Common.{subst, append_assoc, [], ◌∷◌, ◌++◌}
 use Rattle.escpos_io.specs.Gather.{Carries}
 use Rattle.escpos_paper.specs.Printed.{printed}
 use Rattle.escpos_paper.specs.ItemsText.{items_text}
-use Rattle.escpos_jobs.specs.Render.{IsRendered}
+use Rattle.escpos_jobs.specs.RenderSteps.{IsRendered}
 use Rattle.escpos_jobs.proofs.Reports.{succeeded}
 use Rattle.escpos_jobs.proofs.Renderings.{rendered_on}
 use Rattle.escpos_jobs.proofs.render.RenderingConsumer.take.Goals as goal
 
-pub returns-in-Ok-clause-taken : goal.returns-in-Ok-clause-taken
-returns-in-Ok-clause-taken g c = λ start cs placed taken. (
+pub returns-in-Ok-clause-accepted : goal.returns-in-Ok-clause-accepted
+returns-in-Ok-clause-accepted g c = λ start cs placed taken. (
   λ first before is.
       let command = c.args.command in
       let now = taken.0 first before is in

@@ -16,7 +16,7 @@ pub returns-then-is_err-2-clause-stopped : goal.returns-then-is_err-2-clause-sto
 returns-then-is_err-2-clause-stopped c =
     let one = of_ok c.step.result (sym c.is_err.ensures.value ∙ c.if-is_err.false) c.step.ensures.happened in
     let r = of_err c.step-2.result (sym c.is_err-2.ensures.value ∙ c.if-is_err-2.true) c.step-2.ensures.refused in
-    stops_at c.args.self.now c.step.new.self c.step-2.new.self (event.Move all_bytes ∷ []) _ (event.Deliver all_bytes) r.0 (one.0, c.step.new.self, one.1, refl) (λ why is. is) r.1
+    stops_at c.args.self.now c.step.new.self c.step-2.new.self (event.Move all_bytes ∷ []) _ (event.Deliver all_bytes) r.0 (one.0, c.step.new.self, one.1, refl) (λ why is. is.0) r.1
 
 pub returns-then-is_err-3-clause-stopped : goal.returns-then-is_err-3-clause-stopped
 returns-then-is_err-3-clause-stopped c =

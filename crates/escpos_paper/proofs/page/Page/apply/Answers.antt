@@ -33,7 +33,7 @@ returns-clause-taken c = λ kept cs is.
     c.carry_out.ensures.alignment c.carry_out.ensures.line)
     (ap (λ (page : PageView). page.sheet) c.self.view_is ∙ c.ready.ensures.same ∙ is)
 
--- The same below what was torn off.
+-- The same, below what was torn off.
 pub returns-clause-torn : goal.returns-clause-torn
 returns-clause-torn c = λ gone cs is.
     let step = sheet_made _ _ _ _ _ _ _ _ _ _ c.args.command c.carry_out.ensures.items c.carry_out.ensures.style c.carry_out.ensures.bar_style

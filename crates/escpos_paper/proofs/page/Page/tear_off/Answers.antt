@@ -1,4 +1,4 @@
--- What is left is a sheet that other commands leave, too.
+-- What is left is a sheet that some other commands leave, too.
 use Rattle.std.proofs.Common.{List, [], ◌∙◌, ap}
 use Rattle.escpos_command.specs.declared.parameter.choices.Alignment.{Alignment}
 use Rattle.escpos_paper.specs.declared.cell.Cell.{Cell}

@@ -1,4 +1,5 @@
 use Rattle.std.proofs.Common.{[], length, arith, ◌-◌, ◌+◌}
+use Rattle.escpos_command.proofs.Readings.{joined}
 use Rattle.escpos_printer.proofs.Taking.{took_none, one_and_run, run_within}
 use Rattle.escpos_printer.proofs.printer.Printer.feed.Goals as goal
 
@@ -13,6 +14,6 @@ loop-consumed-preserved c =
     record {
       inside = omega (arith, few, c.loop-consumed-test.true);
       took =
-          one_and_run c.joined_readings.ensures.reading c.args.self.now c.loop-consumed.self c.feed_byte.new.self c.feed_dots-consumed.new.self c.args.piece.now at c.feed_dots-consumed.result
+          one_and_run joined c.args.self.now c.loop-consumed.self c.feed_byte.new.self c.feed_dots-consumed.new.self c.args.piece.now at c.feed_dots-consumed.result
           (length c.args.piece.now - (at + 1)) c.loop-consumed-test.true few c.loop-consumed.invariant.took taken ([], c.feed_dots-consumed.ensures.taken);
     }

@@ -1,4 +1,5 @@
 use Rattle.std.proofs.Common.{[], ◌∷◌, length, refl, sym, ◌∙◌, ap, subst, ◌==◌}
+use Rattle.escpos_command.proofs.Readings.{one_command}
 use Rattle.escpos_printer.specs.declared.printer.FeedStop.TheVariants.{Memory}
 use Rattle.escpos_printer.specs.Feeds.{PrinterView, Took, HasCause, IsPlace, IsLeft}
 use Rattle.escpos_printer.proofs.Taking.{blocked, where_err, unready_left, more_taken, done_by, Passes, passes, room_after}
@@ -17,7 +18,7 @@ returns-then-is_err-clause-stopped c =
     (λ (v : PrinterView). HasCause Memory v c.args.byte × IsPlace Memory c.args.at
     × IsLeft Memory v (record { sheet = c.make_room.new.page.sheet; half = c.self.inside.decoder; waiting = c.self.inside.waiting.items; condition = c.self.inside.condition }))
     c.self.view_is
-    (unready_left c.unique_spellings.ensures.one_command _ c.args.byte c.args.at _ _ _ c.make_room.new.page.sheet (sym c.is_offline.ensures)
+    (unready_left one_command _ c.args.byte c.args.at _ _ _ c.make_room.new.page.sheet (sym c.is_offline.ensures)
     (ap (λ n. length c.self.inside.waiting.items == n) (sym c.self.invariant.1) ∙ sym c.is_full.ensures)
     c.self.invariant.2 (where_err c.make_room.result _ (sym c.is_err.ensures.value ∙ c.if-is_err.true) c.make_room.ensures.command)
     c.would_complete-ahead.ensures (sym c.obstacle.ensures ∙ c.in_default.is) c.make_room.ensures.same)
@@ -39,7 +40,7 @@ passes_at : (c : goal.After-unwrap)
     c.in-Ok-Done.command
 passes_at c =
     let step = rw c.in-Ok-Done.field-0-is at c.in-Ok-Done.ensures.step in
-    passes c.unique_spellings.ensures.one_command _ c.args.byte _ _ _ c.in-Ok-Done.command (sym c.is_offline.ensures)
+    passes one_command _ c.args.byte _ _ _ c.in-Ok-Done.command (sym c.is_offline.ensures)
     (ap (λ n. length c.self.inside.waiting.items == n) (sym c.self.invariant.1) ∙ sym c.is_full.ensures)
     c.self.invariant.2 step.0 c.would_complete-ahead.ensures (sym c.obstacle.ensures ∙ c.in_default.is)
 

@@ -5,7 +5,7 @@ use Rattle.escpos_printer.proofs.printer.Printer.feed_dots.Goals as goal
 
 pub invariant_of-self : goal.invariant_of-self
 invariant_of-self c = (
-  (c.push_dots.ensures.stream c.self.inside.decoder [] (record { commands = tt; whole = refl; left = c.self.invariant.0 })).left,
+  (c.push_dots.ensures.stream c.self.inside.decoder [] (record { commands = tt; whole = refl; rest_is = c.self.invariant.0 })).rest_is,
   c.self.invariant.1,
   c.self.invariant.2,
 )

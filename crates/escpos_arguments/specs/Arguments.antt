@@ -1,0 +1,126 @@
+-- The arguments of the command line, and what they ask for.
+use Rattle.std.specs.Prelude.{◌≡◌, ◌<◌, ◌≤◌, ◌^◌, ℕ, ⊤, List, [], ◌∷◌, Option, Some, None, IsSomeAnd, codes, Bool, true, false}
+use Rattle.std.specs.Str.Parse.{IsNumeral, digits_value, without_leading_plus}
+use Rattle.std.specs.declared.net.socket_addr.SocketAddrV4.{SocketAddrV4}
+use Rattle.std.specs.Net.Grammar.{IsSocketV4Text}
+use Rattle.std.specs.Net.Text.{socket_v4_text}
+use Rattle.clap.specs.Words.{App, Row, Rule, Shape, Text, first_of, new_app, new_rule, one_of, with_rule, with_subcommand}
+use Rattle.clap.specs.Simple.{new_shape, on_top}
+use Rattle.clap.specs.declared.builder.action.ArgAction.TheVariants.{Set}
+use Rattle.clap.specs.declared.error.kind.ErrorKind.{ErrorKind}
+use Rattle.clap.specs.declared.error.kind.ErrorKind.TheVariants.{DisplayHelp, OutOfMemory}
+use Rattle.escpos_command.specs.Digits.{mark_count}
+use Rattle.escpos_arguments.specs.declared.arguments.TheConstants.{LINKS, MOST_LINKS, OPENINGS, MOST_OPENINGS}
+use Rattle.escpos_jobs.specs.declared.task.NoTask.{NoTask}
+use Rattle.escpos_jobs.specs.declared.task.NoTask.TheVariants.{Usage, Help, Memory}
+use Rattle.escpos_jobs.specs.declared.task.Task.{Task}
+use Rattle.escpos_jobs.specs.declared.task.Task.TheVariants.{Check, Render, Encode, Play, Emulate, Send, Loop}
+
+-- ---- what a text says
+
+-- the text is the one that is printed for the address: `A.B.C.D:P` in decimal, without leading zeros
+abbrev pub IsAddress : Text → SocketAddrV4 → Type 0
+IsAddress text address = IsSocketV4Text text address × (text ≡ socket_v4_text address)
+
+-- the text is a number of 32 bits in decimal digits, which may follow a plus sign and begin with zeros
+abbrev pub IsNumber : Text → ℕ → Type 0
+IsNumber text n = IsNumeral 10 (without_leading_plus text) × (digits_value 10 (without_leading_plus text) < 2 ^ 32)
+    × (n ≡ digits_value 10 (without_leading_plus text))
+
+-- the number that a text says, if there is a text, otherwise the fallback
+abbrev pub IsNumberOr : ℕ → Option Text → ℕ → Type 0
+IsNumberOr fallback None n = n ≡ fallback
+IsNumberOr fallback (Some text) n = IsNumber text n
+
+-- ---- what the arguments ask for
+
+-- the first argument of those that ask for a task
+abbrev pub name_of : Task → Text
+name_of Check = codes "check"
+name_of Render = codes "render"
+name_of Encode = codes "encode"
+name_of Play = codes "play"
+name_of (Emulate address links) = codes "emulate"
+name_of (Send address first openings) = codes "send"
+name_of Loop = codes "loop"
+
+-- the task has no values, so that its name is all that asks for it
+abbrev pub IsPlain : Task → Type 0
+IsPlain (Emulate address links) = ⊥
+IsPlain (Send address first openings) = ⊥
+IsPlain _ = ⊤
+
+-- the arguments that ask for a task without values: its name, and nothing more
+abbrev pub words_of : Task → List Text
+words_of task = name_of task ∷ []
+
+-- this name, with the values that were given after it, asks for the task
+abbrev pub AsksBy : Text → List Row → Task → Type 0
+AsksBy name rows Check = name ≡ codes "check"
+AsksBy name rows Render = name ≡ codes "render"
+AsksBy name rows Encode = name ≡ codes "encode"
+AsksBy name rows Play = name ≡ codes "play"
+AsksBy name rows (Emulate address links) = (name ≡ codes "emulate")
+    × IsSomeAnd (first_of (codes "address") rows) (λ text. IsAddress text address)
+    × IsNumberOr LINKS (one_of (codes "links") rows) links
+AsksBy name rows (Send address first openings) = (name ≡ codes "send")
+    × IsSomeAnd (first_of (codes "address") rows) (λ text. IsAddress text address)
+    × IsSomeAnd (one_of (codes "first") rows) (λ text. IsNumber text first)
+    × IsNumberOr OPENINGS (one_of (codes "openings") rows) openings
+AsksBy name rows Loop = name ≡ codes "loop"
+
+-- what `clap` finds in the arguments, a name and the values after it, asks for the task
+abbrev pub Asks : Option (Text × List Row) → Task → Type 0
+Asks found task = IsSomeAnd found (λ p. AsksBy p.0 p.1 task)
+
+-- the numbers of the task are in range
+abbrev pub InRange : Task → Type 0
+InRange (Emulate address links) = (1 ≤ links) × (links ≤ MOST_LINKS)
+InRange (Send address first openings) = (first < mark_count) × (1 ≤ openings) × (openings ≤ MOST_OPENINGS)
+InRange _ = ⊤
+
+-- argument lists that ask for help (there are others)
+abbrev pub help_words : List (List Text)
+help_words = (codes "help" ∷ []) ∷ (codes "--help" ∷ []) ∷ (codes "-h" ∷ [])
+    ∷ (codes "check" ∷ codes "--help" ∷ []) ∷ (codes "check" ∷ codes "-h" ∷ [])
+    ∷ (codes "render" ∷ codes "--help" ∷ []) ∷ (codes "render" ∷ codes "-h" ∷ [])
+    ∷ (codes "encode" ∷ codes "--help" ∷ []) ∷ (codes "encode" ∷ codes "-h" ∷ [])
+    ∷ (codes "play" ∷ codes "--help" ∷ []) ∷ (codes "play" ∷ codes "-h" ∷ [])
+    ∷ (codes "emulate" ∷ codes "--help" ∷ []) ∷ (codes "emulate" ∷ codes "-h" ∷ [])
+    ∷ (codes "send" ∷ codes "--help" ∷ []) ∷ (codes "send" ∷ codes "-h" ∷ [])
+    ∷ (codes "loop" ∷ codes "--help" ∷ []) ∷ (codes "loop" ∷ codes "-h" ∷ []) ∷ []
+
+-- ---- the program's arguments, as `clap` reads them
+
+-- a required value without a name before it
+abbrev pub address_rule : Rule
+address_rule = record (new_rule (codes "address")) { required = true; action = Some Set }
+
+-- a value that follows two dashes and this name
+abbrev pub option_rule : Text → Bool → Rule
+option_rule name required = record (new_rule name) { long = Some name; required = required; action = Some Set }
+
+-- what may follow `emulate`
+abbrev pub emulate_words : Shape
+emulate_words = (with_rule (with_rule (new_app (codes "emulate")) address_rule) (option_rule (codes "links") false)).top
+
+-- what may follow `send`
+abbrev pub send_words : Shape
+send_words = (with_rule (with_rule (with_rule (new_app (codes "send")) address_rule) (option_rule (codes "first") true))
+    (option_rule (codes "openings") false)).top
+
+-- the names of the tasks that need no network, and nothing more
+abbrev pub stream_words : App
+stream_words =
+    let top = on_top (λ s. record s {
+      no_binary_name = true;
+      disable_help_subcommand = true;
+      subcommand_required = true;
+    }) (new_app (codes "escpos_cli")) in
+    with_subcommand (with_subcommand (with_subcommand (with_subcommand top
+    (new_shape (codes "check"))) (new_shape (codes "render"))) (new_shape (codes "encode"))) (new_shape (codes "play"))
+
+-- the name of a task with its values, or `help`, and nothing more
+abbrev pub command_words : App
+command_words = with_subcommand (with_subcommand (with_subcommand (with_subcommand stream_words
+    emulate_words) send_words) (new_shape (codes "loop"))) (new_shape (codes "help"))

@@ -1,0 +1,296 @@
+//! The arguments of the command line: which task they name, and which refusal they get where they name none.
+
+ghost use Rattle.std.specs.Prelude.{◌≡◌, ◌≢◌, ◌⊎◌, ◌≤◌, ◌<◌, ℕ, Option, [], ◌∷◌, false, IfErr, IfOk, IsSomeAnd, Contains, codes, drop, map};
+ghost use Rattle.std.specs.declared.net.socket_addr.SocketAddrV4.{SocketAddrV4};
+ghost use Rattle.clap.specs.Words.{HasKind, IsAmong, app_of, fault_of, first_of, found_of, kind_of, one_of, rows_of, rule_of, subcommand_of, subcommand_rows_of};
+ghost use Rattle.escpos_command.specs.Digits.{mark_count};
+ghost use Rattle.escpos_jobs.specs.declared.task.Task.{Task};
+ghost use Rattle.escpos_arguments.specs.Arguments.{Asks, AsksBy, InRange, IsAddress, IsNumber, IsNumberOr, IsPlain, address_rule, command_words, emulate_words, help_words, name_of, option_rule, send_words, stream_words, words_of};
+ghost use Rattle.escpos_arguments.specs.ClapAnswers.{IsNumberIn, no_task_of};
+
+use clap::error::ErrorKind;
+use clap::{Arg, ArgAction, ArgMatches, Command};
+use escpos_command::MarkId;
+use std::alloc::{AllocError, Global};
+use std::convert::AsStr;
+use escpos_jobs::task::{NoTask, Task};
+use std::net::SocketAddrV4;
+
+/// How many links `emulate` serves without `--links`.
+pub const LINKS: u32 = 1;
+
+/// The most links that `emulate` serves.
+pub const MOST_LINKS: u32 = 1_000;
+
+/// How many opening marks `send` sends without `--openings`.
+pub const OPENINGS: u32 = 3;
+
+/// The most opening marks that `send` sends.
+pub const MOST_OPENINGS: u32 = 99;
+
+const _: () = prove!(LINKS == 1);
+
+const _: () = prove!(MOST_LINKS == 1_000);
+
+const _: () = prove!(OPENINGS == 3);
+
+const _: () = prove!(MOST_OPENINGS == 99);
+
+/// The arguments after the first, which is the program's name. Where there are no arguments, nothing.
+pub fn without_name<S>(words: &[S]) -> &[S]
+    ensures { result.now ≡ drop 1 words.now }
+{
+    match words {
+        [_, given @ ..] => given,
+        [] => words,
+    }
+}
+
+/// The task that the arguments ask for. The program's own name isn't among them.
+///
+/// `Help` comes where they ask for help, `Memory` where an allocation failed, and `Usage` for all other arguments that name
+/// no task.
+pub fn task_of<S: AsStr>(alloc: Global, words: &[S]) -> Result<Task, NoTask>
+    ensures asks { IfOk result (Asks (subcommand_of command_words (map S.text words.now))) }
+    ensures ranges { IfOk result InRange }
+    ensures passed { IfOk result (λ task. fault_of command_words (map S.text words.now) ≡ []) }
+    ensures words { IfOk result (λ task. IsPlain task → map S.text words.now ≡ words_of task) }
+    ensures named { (task : Task) → IsPlain task → map S.text words.now ≡ words_of task
+        → (result ≡ Ok task) ⊎ (result ≡ Err NoTask.Memory) }
+    ensures taken { (task : Task) → ¬ IsPlain task → fault_of command_words (map S.text words.now) ≡ []
+        → Asks (subcommand_of command_words (map S.text words.now)) task → InRange task
+        → (result ≡ Ok task) ⊎ (result ≡ Err NoTask.Memory) }
+    ensures help { Contains help_words (map S.text words.now) → (result ≡ Err NoTask.Help) ⊎ (result ≡ Err NoTask.Memory) }
+    ensures help_only { result ≡ Err NoTask.Help → (map S.text words.now ≡ codes "help" ∷ [])
+        ⊎ IsAmong ErrorKind.DisplayHelp (fault_of command_words (map S.text words.now)) }
+{
+    let matches = match matches_of(alloc, words) {
+        Ok(matches) => matches,
+        Err(refusal) => return Err(no_task(&refusal)),
+    };
+    match matches.subcommand() {
+        Some((name, given)) => task_asked(alloc, name, given, words.len()),
+        None => Err(NoTask::Usage),
+    }
+}
+
+// The refusal of the program for this refusal of `clap`.
+fn no_task(refusal: &clap::Error) -> NoTask
+    ensures { result ≡ no_task_of (kind_of refusal.now) }
+{
+    match refusal.kind() {
+        ErrorKind::DisplayHelp => NoTask::Help,
+        ErrorKind::OutOfMemory => NoTask::Memory,
+        _ => NoTask::Usage,
+    }
+}
+
+// The task of this subcommand with the arguments that follow its name; `count` is the number of all arguments.
+fn task_asked(alloc: Global, name: &str, given: &ArgMatches, count: usize) -> Result<Task, NoTask>
+    ensures asks { IfOk result (AsksBy name.now (rows_of (found_of given.now))) }
+    ensures ranges { IfOk result InRange }
+    ensures alone { IfOk result (λ task. IsPlain task → count ≡ 1) }
+    ensures named { (task : Task) → IsPlain task → name.now ≡ name_of task → count ≡ 1 → result ≡ Ok task }
+    ensures taken { (task : Task) → ¬ IsPlain task → AsksBy name.now (rows_of (found_of given.now)) task → InRange task
+        → (result ≡ Ok task) ⊎ (result ≡ Err NoTask.Memory) }
+    ensures help { name.now ≡ codes "help" → count ≡ 1 → result ≡ Err NoTask.Help }
+    ensures help_only { result ≡ Err NoTask.Help → (name.now ≡ codes "help") × (count ≡ 1) }
+{
+    match name {
+        "check" if count == 1 => Ok(Task::Check),
+        "render" if count == 1 => Ok(Task::Render),
+        "encode" if count == 1 => Ok(Task::Encode),
+        "play" if count == 1 => Ok(Task::Play),
+        "emulate" => emulate_asked(alloc, given),
+        "send" => send_asked(alloc, given),
+        "loop" if count == 1 => Ok(Task::Loop),
+        "help" if count == 1 => Err(NoTask::Help),
+        _ => Err(NoTask::Usage),
+    }
+}
+
+// The task of `emulate` with the arguments that follow it.
+fn emulate_asked(alloc: Global, given: &ArgMatches) -> Result<Task, NoTask>
+    ensures asks { IfOk result (AsksBy (codes "emulate") (rows_of (found_of given.now))) }
+    ensures ranges { IfOk result InRange }
+    ensures values { IfOk result (λ task. ¬ IsPlain task) }
+    ensures taken { (task : Task) → AsksBy (codes "emulate") (rows_of (found_of given.now)) task → InRange task
+        → (result ≡ Ok task) ⊎ (result ≡ Err NoTask.Memory) }
+    ensures no_help { result ≢ Err NoTask.Help }
+{
+    let address = address_of(alloc, given)?;
+    let links = count_of(given, "links", LINKS, MOST_LINKS)?;
+    Ok(Task::Emulate { address, links })
+}
+
+// The task of `send` with the arguments that follow it.
+fn send_asked(alloc: Global, given: &ArgMatches) -> Result<Task, NoTask>
+    ensures asks { IfOk result (AsksBy (codes "send") (rows_of (found_of given.now))) }
+    ensures ranges { IfOk result InRange }
+    ensures values { IfOk result (λ task. ¬ IsPlain task) }
+    ensures taken { (task : Task) → AsksBy (codes "send") (rows_of (found_of given.now)) task → InRange task
+        → (result ≡ Ok task) ⊎ (result ≡ Err NoTask.Memory) }
+    ensures no_help { result ≢ Err NoTask.Help }
+{
+    let address = address_of(alloc, given)?;
+    let first = first_mark_of(given)?;
+    let openings = count_of(given, "openings", OPENINGS, MOST_OPENINGS)?;
+    Ok(Task::Send {
+        address,
+        first,
+        openings,
+    })
+}
+
+// The address that was given.
+fn address_of(alloc: Global, given: &ArgMatches) -> Result<SocketAddrV4, NoTask>
+    ensures read { IfOk result (λ address. IsSomeAnd (first_of (codes "address") (rows_of (found_of given.now))) (λ text. IsAddress text address)) }
+    ensures taken { (address : SocketAddrV4) → IsSomeAnd (first_of (codes "address") (rows_of (found_of given.now))) (λ text. IsAddress text address)
+        → (result ≡ Ok address) ⊎ (result ≡ Err NoTask.Memory) }
+    ensures no_help { result ≢ Err NoTask.Help }
+{
+    match given.get_str("address") {
+        Some(text) => address_in(alloc, text),
+        None => Err(NoTask::Usage),
+    }
+}
+
+// The address whose printed form is this text.
+fn address_in(alloc: Global, text: &str) -> Result<SocketAddrV4, NoTask>
+    ensures read { IfOk result (IsAddress text.now) }
+    ensures taken { (address : SocketAddrV4) → IsAddress text.now address → (result ≡ Ok address) ⊎ (result ≡ Err NoTask.Memory) }
+    ensures no_help { result ≢ Err NoTask.Help }
+{
+    match text.parse::<SocketAddrV4>() {
+        Ok(address) => match format!(in alloc; "{address}") {
+            Ok(printed) if printed.as_str() == text => Ok(address),
+            Ok(_) => Err(NoTask::Usage),
+            Err(_) => Err(NoTask::Memory),
+        },
+        Err(_) => Err(NoTask::Usage),
+    }
+}
+
+// The number of the first mark that was given, if a mark may have this number.
+fn first_mark_of(given: &ArgMatches) -> Result<u32, NoTask>
+    ensures read { IfOk result (λ n. IsSomeAnd (one_of (codes "first") (rows_of (found_of given.now))) (λ text. IsNumber text n) × (n < mark_count)) }
+    ensures taken { (n : ℕ) → IsSomeAnd (one_of (codes "first") (rows_of (found_of given.now))) (λ text. IsNumber text n) → n < mark_count
+        → result ≡ Ok n }
+    ensures usage { IfErr result (λ why. why ≡ NoTask.Usage) }
+{
+    let first = number_given(given, "first")?.ok_or(NoTask::Usage)?;
+    match MarkId::of_number(first) {
+        Some(_) => Ok(first),
+        None => Err(NoTask::Usage),
+    }
+}
+
+// The number that was given for this option, or the fallback where it wasn't given; from 1 to `most`.
+fn count_of(given: &ArgMatches, option: &str, fallback: u32, most: u32) -> Result<u32, NoTask>
+    ensures read { IfOk result (λ n. IsNumberOr fallback (one_of option.now (rows_of (found_of given.now))) n × (1 ≤ n) × (n ≤ most)) }
+    ensures taken { (n : ℕ) → IsNumberOr fallback (one_of option.now (rows_of (found_of given.now))) n → 1 ≤ n → n ≤ most
+        → result ≡ Ok n }
+    ensures usage { IfErr result (λ why. why ≡ NoTask.Usage) }
+{
+    let count = number_given(given, option)?.unwrap_or(fallback);
+    if 1 <= count && count <= most {
+        Ok(count)
+    } else {
+        Err(NoTask::Usage)
+    }
+}
+
+// The number that was given for this option, if any.
+fn number_given(given: &ArgMatches, option: &str) -> Result<Option<u32>, NoTask>
+    ensures read { IfOk result (IsNumberIn (one_of option.now (rows_of (found_of given.now)))) }
+    ensures taken { (number : Option ℕ) → IsNumberIn (one_of option.now (rows_of (found_of given.now))) number → result ≡ Ok number }
+    ensures usage { IfErr result (λ why. why ≡ NoTask.Usage) }
+{
+    match given.try_get_one::<u32>(option) {
+        Ok(number) => Ok(number),
+        Err(_) => Err(NoTask::Usage),
+    }
+}
+
+// What `clap` reads in the arguments.
+fn matches_of<'a, S: AsStr>(alloc: Global, words: &'a [S]) -> Result<ArgMatches<'a>, clap::Error>
+    ensures parsed { IfOk result (λ matches. fault_of command_words (map S.text words.entry.now) ≡ []) }
+    ensures found { IfOk result (λ matches. subcommand_rows_of matches ≡ subcommand_of command_words (map S.text words.entry.now)) }
+    ensures refused { IfErr result (HasKind (fault_of command_words (map S.text words.entry.now))) }
+{
+    let command = command_of_all(alloc)?;
+    command.try_get_matches_from(words)
+}
+
+// The `clap` command of the program. It is built in small functions, because proof time grows faster than the number of
+// builder calls.
+fn command_of_all<'a>(alloc: Global) -> Result<Command<'a>, AllocError>
+    ensures shape { IfOk result (λ command. app_of command ≡ command_words) }
+{
+    let streams = command_of_streams(alloc)?;
+    let emulate = emulate_command(alloc)?;
+    let links = streams.subcommand(emulate)?;
+    let send = send_command(alloc)?;
+    let command = links
+        .subcommand(send)?
+        .subcommand(Command::new(alloc, "loop"))?
+        .subcommand(Command::new(alloc, "help"))?;
+    Ok(command)
+}
+
+// The `clap` command with the subcommands that need no network.
+fn command_of_streams<'a>(alloc: Global) -> Result<Command<'a>, AllocError>
+    ensures shape { IfOk result (λ command. app_of command ≡ stream_words) }
+{
+    let command = Command::new(alloc, "escpos_cli")
+        .no_binary_name(true)
+        .disable_help_subcommand(true)
+        .subcommand_required(true)
+        .subcommand(Command::new(alloc, "check"))?
+        .subcommand(Command::new(alloc, "render"))?
+        .subcommand(Command::new(alloc, "encode"))?
+        .subcommand(Command::new(alloc, "play"))?;
+    Ok(command)
+}
+
+// The subcommand `emulate` with its arguments.
+fn emulate_command<'a>(alloc: Global) -> Result<Command<'a>, AllocError>
+    ensures shape { IfOk result (λ command. (app_of command).top ≡ emulate_words) }
+{
+    let command = Command::new(alloc, "emulate")
+        .arg(address(alloc))?
+        .arg(option(alloc, "links", false))?;
+    Ok(command)
+}
+
+// The subcommand `send` with its arguments.
+fn send_command<'a>(alloc: Global) -> Result<Command<'a>, AllocError>
+    ensures shape { IfOk result (λ command. (app_of command).top ≡ send_words) }
+{
+    let command = Command::new(alloc, "send")
+        .arg(address(alloc))?
+        .arg(option(alloc, "first", true))?
+        .arg(option(alloc, "openings", false))?;
+    Ok(command)
+}
+
+// A required argument without a name of its own before it.
+fn address<'a>(alloc: Global) -> Arg<'a>
+    ensures rule { rule_of result ≡ address_rule }
+    ensures local { result.global ≡ false }
+{
+    Arg::new(alloc, "address")
+        .required(true)
+        .action(ArgAction::Set)
+}
+
+// An option: two dashes and this name, followed by a value.
+fn option<'a>(alloc: Global, name: &'a str, required: bool) -> Arg<'a>
+    ensures rule { rule_of result ≡ option_rule name.entry.now required }
+    ensures local { result.global ≡ false }
+{
+    Arg::new(alloc, name)
+        .long(name)
+        .required(required)
+        .action(ArgAction::Set)
+}

@@ -1,0 +1,53 @@
+//! The letters after ESC, GS and DLE whose commands have one parameter byte: a row for each letter.
+
+ghost use Rattle.std.specs.Prelude.{IsTrue};
+ghost use Rattle.std.specs.Option.{SomeIff};
+ghost use Rattle.escpos_decode.specs.OneParameter.{parameter_allows, parameter_command};
+
+use escpos_command::{
+    Align, BarHeight, BarWidth, Command, Emphasis, FeedLines, FeedUnits, Font, HriFont, HriPlace,
+    Mode, Size, StatusKind, Table, Underline,
+};
+
+/// A letter with one parameter byte, named after its command. (EOT after DLE is one too.)
+#[derive(Clone, Copy, Debug, PartialEq, Eq)]
+pub enum OneParameter {
+    Mode,
+    Underline,
+    Emphasis,
+    FeedUnits,
+    Font,
+    Align,
+    FeedLines,
+    Table,
+    Size,
+    HriPlace,
+    HriFont,
+    BarHeight,
+    BarWidth,
+    Status,
+}
+
+impl OneParameter {
+    /// The command with this parameter; `None` where the command table doesn't allow it.
+    pub fn command(self, byte: u8) -> Option<Command>
+        ensures { SomeIff result (IsTrue (parameter_allows self byte)) (parameter_command self byte) }
+    {
+        match self {
+            OneParameter::Mode => Mode::new(byte).map(Command::Mode),
+            OneParameter::Underline => Underline::new(byte).map(Command::Underline),
+            OneParameter::Emphasis => Emphasis::new(byte).map(Command::Emphasis),
+            OneParameter::FeedUnits => FeedUnits::new(byte).map(Command::FeedUnits),
+            OneParameter::Font => Font::new(byte).map(Command::Font),
+            OneParameter::Align => Align::new(byte).map(Command::Align),
+            OneParameter::FeedLines => FeedLines::new(byte).map(Command::FeedLines),
+            OneParameter::Table => Table::new(byte).map(Command::Table),
+            OneParameter::Size => Size::new(byte).map(Command::Size),
+            OneParameter::HriPlace => HriPlace::new(byte).map(Command::HriPlace),
+            OneParameter::HriFont => HriFont::new(byte).map(Command::HriFont),
+            OneParameter::BarHeight => BarHeight::new(byte).map(Command::BarHeight),
+            OneParameter::BarWidth => BarWidth::new(byte).map(Command::BarWidth),
+            OneParameter::Status => StatusKind::new(byte).map(Command::Status),
+        }
+    }
+}

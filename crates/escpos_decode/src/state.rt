@@ -1,0 +1,456 @@
+//! Where in the command table a decoder stands between two bytes, and where the next byte leads from there.
+//!
+//! The states are those of the machine that the Reference's table describes. Each is named after the byte that comes next
+//! there or the command that it belongs to. A state holds the parameters read so far; the content and the dots are the
+//! decoder's. `specs/State.antt` defines which bytes lead to a state, and which part of the tree of the command table is
+//! below it.
+
+ghost use Rattle.std.specs.Prelude.{◌≡◌, ◌∷◌, ◌++◌, ◌&&◌, [], ℕ, List, length, false, IsTrue, Some, None};
+ghost use Rattle.escpos_command.specs.declared.command.Command.{Command};
+ghost use Rattle.escpos_command.specs.Parameters.{is_mark_byte};
+ghost use Rattle.escpos_command.specs.Places.{reason_after};
+ghost use Rattle.escpos_command.specs.Tree.{these};
+ghost use Rattle.escpos_decode.specs.State.{prefix_of, tree_of, holds, has_content, wanted_at, NextIs};
+ghost use Rattle.escpos_decode.specs.declared.state.State.{State};
+ghost use Rattle.escpos_decode.specs.declared.state.State.TheVariants as state;
+ghost use Rattle.escpos_decode.specs.declared.state.Next.TheVariants as next;
+
+use crate::content;
+use crate::one_parameter::OneParameter;
+use escpos_command::{
+    CR, Character, Command, Cut, DLE, EOT, ESC, FaultReason, Form, GS, LF, MarkId, Pulse,
+    Symbology, is_mark_byte,
+};
+
+/// A state in the command table between two bytes.
+#[derive(Clone, Copy, Debug, PartialEq, Eq)]
+pub enum State {
+    /// Between commands.
+    Start,
+    /// After DLE.
+    Dle,
+    /// After ESC.
+    Esc,
+    /// After GS.
+    Gs,
+    /// After a letter with one parameter.
+    Parameter(OneParameter),
+    /// After ESC p: the pin.
+    PulsePin,
+    /// After ESC p and the pin: how long the pulse is on.
+    PulseOn {
+        pin: u8,
+    },
+    /// After ESC p, the pin and the time on: how long the pulse is off.
+    PulseOff {
+        pin: u8,
+        on: u8,
+    },
+    /// After GS V: the mode.
+    CutMode,
+    /// After GS V and a mode with a feed: the feed.
+    CutFeed {
+        mode: u8,
+    },
+    /// After GS (: the letter H.
+    MarkLetter,
+    /// After GS ( H: the low byte of the length, 6.
+    MarkLengthLow,
+    /// The high byte of the length, 0.
+    MarkLengthHigh,
+    /// The function, 48.
+    MarkFunction,
+    /// The byte m, 48.
+    MarkMode,
+    /// The first byte of the id.
+    MarkFirst,
+    /// Its second byte.
+    MarkSecond {
+        first: u8,
+    },
+    /// Its third byte.
+    MarkThird {
+        first: u8,
+        second: u8,
+    },
+    /// Its fourth byte.
+    MarkFourth {
+        first: u8,
+        second: u8,
+        third: u8,
+    },
+    /// After GS k: the mode.
+    BarsMode,
+    /// In a content of form A that allows the same bytes at all places. At most `most` more of them follow.
+    PlainContent {
+        symbology: Symbology,
+        most: u8,
+    },
+    /// The first byte of a content of CODABAR in form A.
+    CodabarFirst,
+    /// In the rest of that content. At most `most` bytes come before its last.
+    CodabarContent {
+        most: u8,
+    },
+    /// After the last byte of that content: 00.
+    CodabarEnd,
+    /// After GS k and a mode of form B: the length of the content.
+    ContentLength {
+        symbology: Symbology,
+    },
+    /// In a content of this length, of which `wanted` bytes are still to come.
+    Content {
+        symbology: Symbology,
+        length: u8,
+        wanted: u8,
+    },
+    /// After GS v: 0.
+    RasterFunction,
+    /// After GS v 0: the scale.
+    RasterScale,
+    /// The low byte of the width.
+    RasterWidth {
+        scale: u8,
+    },
+    /// The high byte of the width, 0.
+    RasterWidthHigh {
+        scale: u8,
+        width: u8,
+    },
+    /// The low byte of the height.
+    RasterHeight {
+        scale: u8,
+        width: u8,
+    },
+    /// The high byte of the height.
+    RasterHeightHigh {
+        scale: u8,
+        width: u8,
+        low: u8,
+    },
+    /// In the dots, of which `wanted` bytes are still to come.
+    Dots {
+        scale: u8,
+        width: u8,
+        height: u16,
+        wanted: u32,
+    },
+}
+
+/// What a content, or dots, make when they end.
+#[derive(Clone, Copy, Debug, PartialEq, Eq)]
+pub enum Ending {
+    Bars(Form, Symbology),
+    Raster { scale: u8, width: u8, height: u16 },
+}
+
+/// Where a byte leads from a state.
+#[derive(Debug, Drop)]
+pub enum Next {
+    /// Nowhere: no command continues with the byte.
+    Refused,
+    /// To this state.
+    To(State),
+    /// To this state, from which this many bytes of content, or of dots, follow; room for them must be made.
+    Room(State, usize),
+    /// The byte is part of a content whose length isn't known, and leads to this state.
+    Grow(State),
+    /// The byte is part of the content, for which there is room, and leads to this state.
+    Keep(State),
+    /// The byte ends this command.
+    Done(Command),
+    /// The byte is the last one of the content, for which there is room.
+    Last(Ending),
+    /// The byte ends the content without being part of it.
+    Closes(Ending),
+}
+
+impl State {
+    /// Where the byte leads from here, where `content` is the content, or the dots, read so far.
+    #[inline(never)]
+    pub fn next(self, content: &[u8], byte: u8) -> Next
+        requires held { IsTrue (holds self) }
+        requires empty { has_content self ≡ false → content.now ≡ [] }
+        ensures { NextIs result self content.now byte }
+    {
+        match self {
+            State::Start => start(byte),
+            State::Dle => after_dle(byte),
+            State::Esc => after_esc(byte),
+            State::Gs => after_gs(byte),
+            State::Parameter(letter) => done(letter.command(byte)),
+            State::PulsePin => pulse_pin(byte),
+            State::PulseOn { pin } => Next::To(State::PulseOff { pin, on: byte }),
+            State::PulseOff { pin, on } => done(Pulse::new(pin, on, byte).map(Command::Pulse)),
+            State::CutMode => cut_mode(byte),
+            State::CutFeed { mode } => done(Cut::with_feed(mode, byte).map(Command::Cut)),
+            State::MarkLetter => fixed(byte, b'H', State::MarkLengthLow),
+            State::MarkLengthLow => fixed(byte, 6, State::MarkLengthHigh),
+            State::MarkLengthHigh => fixed(byte, 0, State::MarkFunction),
+            State::MarkFunction => fixed(byte, b'0', State::MarkMode),
+            State::MarkMode => fixed(byte, b'0', State::MarkFirst),
+            State::MarkFirst => mark_first(byte),
+            State::MarkSecond { first } => mark_second(first, byte),
+            State::MarkThird { first, second } => mark_third(first, second, byte),
+            State::MarkFourth {
+                first,
+                second,
+                third,
+            } => mark_fourth(first, second, third, byte),
+            State::BarsMode => content::bars_mode(byte),
+            State::PlainContent { symbology, most } => content::plain(
+                symbology, most, content, byte,
+            ),
+            State::CodabarFirst => content::codabar_first(byte),
+            State::CodabarContent { most } => content::codabar(most, byte),
+            State::CodabarEnd => content::codabar_end(byte),
+            State::ContentLength { symbology } => content::length(symbology, byte),
+            State::Content {
+                symbology,
+                length,
+                wanted,
+            } => content::counted(symbology, length, wanted, content, byte),
+            State::RasterFunction => fixed(byte, b'0', State::RasterScale),
+            State::RasterScale => content::raster_scale(byte),
+            State::RasterWidth { scale } => content::raster_width(scale, byte),
+            State::RasterWidthHigh { scale, width } => {
+                fixed(byte, 0, State::RasterHeight { scale, width })
+            }
+            State::RasterHeight { scale, width } => Next::To(State::RasterHeightHigh {
+                scale,
+                width,
+                low: byte,
+            }),
+            State::RasterHeightHigh { scale, width, low } => {
+                content::raster_height(scale, width, low, byte)
+            }
+            State::Dots {
+                scale,
+                width,
+                height,
+                wanted,
+            } => content::dots(scale, width, height, wanted, byte),
+        }
+    }
+
+    /// The number of bytes that lead to this state, without content and dots.
+    pub fn prefix_len(self) -> usize
+        ensures { result ≡ length (prefix_of self) }
+    {
+        match self {
+            State::Start => 0,
+            State::Dle | State::Esc | State::Gs => 1,
+            State::Parameter(_)
+            | State::PulsePin
+            | State::CutMode
+            | State::MarkLetter
+            | State::BarsMode
+            | State::RasterFunction => 2,
+            State::PulseOn { .. }
+            | State::CutFeed { .. }
+            | State::MarkLengthLow
+            | State::PlainContent { .. }
+            | State::CodabarFirst
+            | State::CodabarContent { .. }
+            | State::CodabarEnd
+            | State::ContentLength { .. }
+            | State::RasterScale => 3,
+            State::PulseOff { .. }
+            | State::MarkLengthHigh
+            | State::Content { .. }
+            | State::RasterWidth { .. } => 4,
+            State::MarkFunction | State::RasterWidthHigh { .. } => 5,
+            State::MarkMode | State::RasterHeight { .. } => 6,
+            State::MarkFirst | State::RasterHeightHigh { .. } => 7,
+            State::MarkSecond { .. } | State::Dots { .. } => 8,
+            State::MarkThird { .. } => 9,
+            State::MarkFourth { .. } => 10,
+        }
+    }
+
+    /// Why a byte is refused here, where `content` is the content, or the dots, read so far.
+    pub fn reason(self, content: &[u8]) -> FaultReason
+        requires { has_content self ≡ false → content.now ≡ [] }
+        ensures { result ≡ reason_after (prefix_of self ++ content.now) }
+    {
+        match self {
+            State::Start => FaultReason::UnknownByte,
+            State::Dle | State::Esc | State::Gs | State::MarkLetter | State::RasterFunction => {
+                FaultReason::UnknownCommand
+            }
+            State::PlainContent { .. }
+            | State::CodabarFirst
+            | State::CodabarContent { .. }
+            | State::CodabarEnd
+            | State::ContentLength { .. }
+            | State::Content { .. } => FaultReason::BadBarcode,
+            State::RasterWidth { .. }
+            | State::RasterWidthHigh { .. }
+            | State::RasterHeight { .. }
+            | State::RasterHeightHigh { .. }
+            | State::Dots { .. } => FaultReason::BadSize,
+            _ => FaultReason::BadParameter,
+        }
+    }
+}
+
+// The command ends, or the byte is refused.
+fn done(command: Option<Command>) -> Next
+    ensures some { (c : Command) → command ≡ Some c → result ≡ next.Done c }
+    ensures none { command ≡ None → result ≡ next.Refused }
+{
+    match command {
+        Some(command) => Next::Done(command),
+        None => Next::Refused,
+    }
+}
+
+// Leads to `then` if the byte is the one wanted.
+fn fixed(byte: u8, wanted: u8, then: State) -> Next
+    requires held { IsTrue (holds then) }
+    requires wanted { wanted_at then ≡ 0 }
+    ensures { (p : State) (read : List ℕ) → tree_of p read ≡ these (wanted ∷ []) (tree_of then []) → prefix_of then ≡ prefix_of p ++ wanted ∷ []
+        → has_content p ≡ false → NextIs result p read byte }
+{
+    if byte == wanted {
+        Next::To(then)
+    } else {
+        Next::Refused
+    }
+}
+
+fn start(byte: u8) -> Next
+    ensures { (read : List ℕ) → NextIs result state.Start read byte }
+{
+    match byte {
+        LF => Next::Done(Command::LineFeed),
+        CR => Next::Done(Command::Return),
+        DLE => Next::To(State::Dle),
+        ESC => Next::To(State::Esc),
+        GS => Next::To(State::Gs),
+        _ => done(Character::new(byte).map(Command::Char)),
+    }
+}
+
+fn after_dle(byte: u8) -> Next
+    ensures { (read : List ℕ) → NextIs result state.Dle read byte }
+{
+    match byte {
+        EOT => Next::To(State::Parameter(OneParameter::Status)),
+        _ => Next::Refused,
+    }
+}
+
+fn after_esc(byte: u8) -> Next
+    ensures { (read : List ℕ) → NextIs result state.Esc read byte }
+{
+    match byte {
+        b'!' => Next::To(State::Parameter(OneParameter::Mode)),
+        b'-' => Next::To(State::Parameter(OneParameter::Underline)),
+        b'@' => Next::Done(Command::Init),
+        b'E' => Next::To(State::Parameter(OneParameter::Emphasis)),
+        b'J' => Next::To(State::Parameter(OneParameter::FeedUnits)),
+        b'M' => Next::To(State::Parameter(OneParameter::Font)),
+        b'a' => Next::To(State::Parameter(OneParameter::Align)),
+        b'd' => Next::To(State::Parameter(OneParameter::FeedLines)),
+        b'p' => Next::To(State::PulsePin),
+        b't' => Next::To(State::Parameter(OneParameter::Table)),
+        _ => Next::Refused,
+    }
+}
+
+fn after_gs(byte: u8) -> Next
+    ensures { (read : List ℕ) → NextIs result state.Gs read byte }
+{
+    match byte {
+        b'!' => Next::To(State::Parameter(OneParameter::Size)),
+        b'(' => Next::To(State::MarkLetter),
+        b'H' => Next::To(State::Parameter(OneParameter::HriPlace)),
+        b'V' => Next::To(State::CutMode),
+        b'f' => Next::To(State::Parameter(OneParameter::HriFont)),
+        b'h' => Next::To(State::Parameter(OneParameter::BarHeight)),
+        b'k' => Next::To(State::BarsMode),
+        b'v' => Next::To(State::RasterFunction),
+        b'w' => Next::To(State::Parameter(OneParameter::BarWidth)),
+        _ => Next::Refused,
+    }
+}
+
+// The pin of a pulse.
+fn pulse_pin(byte: u8) -> Next
+    ensures { (read : List ℕ) → NextIs result state.PulsePin read byte }
+{
+    match byte {
+        0 | 1 | 48 | 49 => Next::To(State::PulseOn { pin: byte }),
+        _ => Next::Refused,
+    }
+}
+
+// The mode of a cut, after which a feed may follow.
+fn cut_mode(byte: u8) -> Next
+    ensures { (read : List ℕ) → NextIs result state.CutMode read byte }
+{
+    if let Some(cut) = Cut::new(byte) {
+        return Next::Done(Command::Cut(cut));
+    }
+    match byte {
+        65 | 66 => Next::To(State::CutFeed { mode: byte }),
+        _ => Next::Refused,
+    }
+}
+
+// The first byte of an id.
+fn mark_first(byte: u8) -> Next
+    ensures { (read : List ℕ) → NextIs result state.MarkFirst read byte }
+{
+    if is_mark_byte(byte) {
+        Next::To(State::MarkSecond { first: byte })
+    } else {
+        Next::Refused
+    }
+}
+
+// Its second byte.
+fn mark_second(first: u8, byte: u8) -> Next
+    requires { IsTrue (is_mark_byte first) }
+    ensures { (read : List ℕ) → NextIs result (state.MarkSecond first) read byte }
+{
+    if is_mark_byte(byte) {
+        Next::To(State::MarkThird {
+            first,
+            second: byte,
+        })
+    } else {
+        Next::Refused
+    }
+}
+
+// Its third byte.
+fn mark_third(first: u8, second: u8, byte: u8) -> Next
+    requires { IsTrue (is_mark_byte first && is_mark_byte second) }
+    ensures { (read : List ℕ) → NextIs result (state.MarkThird first second) read byte }
+{
+    if is_mark_byte(byte) {
+        Next::To(State::MarkFourth {
+            first,
+            second,
+            third: byte,
+        })
+    } else {
+        Next::Refused
+    }
+}
+
+// Its fourth byte, which ends the mark.
+fn mark_fourth(first: u8, second: u8, third: u8, byte: u8) -> Next
+    requires { IsTrue (is_mark_byte first && is_mark_byte second && is_mark_byte third) }
+    ensures { (read : List ℕ) → NextIs result (state.MarkFourth first second third) read byte }
+{
+    if !is_mark_byte(byte) {
+        return Next::Refused;
+    }
+    match MarkId::new([first, second, third, byte]) {
+        Some(id) => Next::Done(Command::Mark(id)),
+        None => unreachable!(),
+    }
+}

@@ -1,0 +1,140 @@
+-- What a host has said keeps its form.
+use Rattle.std.proofs.Common.{◌≡◌, inl, inr, ℕ, ◌+◌, zero, suc, List, [], ◌∷◌, ◌++◌, refl, sym, ◌∙◌, ap, subst, append-nil, append_assoc, arith}
+use Rattle.std.specs.Prelude.{slice_index, IsTrue, ◌≢◌, ◌<◌}
+use Rattle.std.specs.List.{flat_map}
+use Rattle.std.proofs.lemmas.Grind.{flat_map-append}
+use Rattle.escpos_command.specs.declared.command.Command.{Command}
+use Rattle.escpos_command.specs.declared.command.Command.TheVariants as kind
+use Rattle.escpos_command.specs.CommandTable.{row, spell}
+use Rattle.escpos_command.specs.Digits.{mark_count, mark_of}
+use Rattle.escpos_command.specs.Parameters.{is_status_kind}
+use Rattle.escpos_command.specs.declared.answer.Answer.{Answer}
+use Rattle.escpos_host.specs.declared.host.HostEvent.{HostEvent}
+use Rattle.escpos_host.specs.declared.host.HostEvent.TheVariants as event
+use Rattle.escpos_host.specs.Heard.{HearsByte, IsHeard, Turns, with_half}
+use Rattle.escpos_host.specs.Machine.{HostView, InFlight, IsOpening, Phase, Down, Opening, Open}
+use Rattle.escpos_receipt.proofs.Prefixes.{all_joined}
+use Rattle.escpos_host.specs.Says.{Asked, IsPart, IsSent, SaysIn, Sent, Talks, marks_from, said_by, framed}
+
+-- One more mark.
+pub marks-snoc : (count first : ℕ) → marks_from (suc count) first ≡ marks_from count first ++ kind.Mark (mark_of (first + count)) ∷ []
+marks-snoc zero first = let same : first ≡ first + 0 = omega arith in ap (λ n. kind.Mark (mark_of n) ∷ []) same
+marks-snoc (suc count) first =
+    let same : (first + 1) + count ≡ first + suc count = omega arith in
+    ap (λ cs. kind.Mark (mark_of first) ∷ cs) (marks-snoc count (first + 1) ∙ ap (λ n. marks_from count (first + 1) ++ kind.Mark (mark_of n) ∷ []) same)
+
+pub says_linked : (next : ℕ) → next < mark_count → SaysIn (Opening next) (next + 1) (kind.Mark (mark_of next) ∷ [])
+says_linked next marks = (0, omega arith, omega (arith, marks), refl)
+
+pub says_nudged : (phase : Phase) (next : ℕ) (said : List Command) → IsOpening phase → next < mark_count → SaysIn phase next said → SaysIn phase (next + 1) (said ++ kind.Mark (mark_of next) ∷ [])
+says_nudged Down next said opening marks says = absurd says
+says_nudged (Open flight) next said opening marks says = absurd opening
+says_nudged (Opening first) next said opening marks (count, is_next, few, is_said) =
+    let later : next + 1 ≡ first + suc (suc count) = omega (arith, is_next) in (
+      suc count,
+      later,
+      omega (arith, marks),
+      ap (λ cs. cs ++ kind.Mark (mark_of next) ∷ []) is_said ∙ ap (λ n. marks_from (suc count) first ++ kind.Mark (mark_of n) ∷ []) is_next ∙ sym (marks-snoc (suc count) first),
+    )
+
+pub says_opened : (phase : Phase) (next : ℕ) (said : List Command) → IsOpening phase → SaysIn phase next said → SaysIn (Open []) next said
+says_opened Down next said opening says = absurd says
+says_opened (Open flight) next said opening says = absurd opening
+says_opened (Opening first) next said opening (count, is_next, few, is_said) =
+    (first, count, [], omega (arith, is_next, few), tt, tt, is_said ∙ sym (append-nil (marks_from (suc count) first ++ []) ∙ append-nil (marks_from (suc count) first)))
+
+asked_one : (next n : ℕ) (said : List Command) → IsTrue (is_status_kind n) → SaysIn (Open []) next said → SaysIn (Open []) next (said ++ kind.Status n ∷ [])
+asked_one next n said known (first, count, parts, few, each, none, is_said) =
+    let marks = marks_from (suc count) first in
+    let before = flat_map said_by parts in (
+      first,
+      count,
+      parts ++ Asked n ∷ [],
+      few,
+      all_joined IsPart parts (Asked n ∷ []) each (known, tt),
+      tt,
+      ap (λ cs. cs ++ kind.Status n ∷ []) (is_said ∙ append-nil (marks ++ before)) ∙ append_assoc marks before (kind.Status n ∷ [])
+          ∙ ap (λ cs. marks ++ cs) (ap (λ cs. before ++ cs) (sym (append-nil (kind.Status n ∷ []))) ∙ sym (flat_map-append said_by parts (Asked n ∷ [])))
+          ∙ sym (append-nil (marks ++ flat_map said_by (parts ++ Asked n ∷ []))),
+    )
+
+pub says_asked : (phase : Phase) (next n : ℕ) (said : List Command) → phase ≡ Open [] → IsTrue (is_status_kind n) → SaysIn phase next said → SaysIn phase next (said ++ kind.Status n ∷ [])
+says_asked phase next n said ready known says =
+    let now : SaysIn (Open []) next said = subst (λ p. SaysIn p next said) ready says in
+    subst (λ p. SaysIn p next (said ++ kind.Status n ∷ [])) (sym ready) (asked_one next n said known now)
+
+submitted_one : (next later : ℕ) (said : List Command) (flight : List InFlight) (p : InFlight) → IsSent p → SaysIn (Open flight) next said
+    → SaysIn (Open (flight ++ p ∷ [])) later (said ++ framed p)
+submitted_one next later said flight p whole (first, count, parts, few, each, sent_each, is_said) =
+    let before = marks_from (suc count) first ++ flat_map said_by parts in (
+      first,
+      count,
+      parts,
+      few,
+      each,
+      all_joined IsSent flight (p ∷ []) sent_each (whole, tt),
+      ap (λ cs. cs ++ framed p) is_said ∙ append_assoc before (flat_map framed flight) (framed p)
+          ∙ ap (λ cs. before ++ cs) (ap (λ cs. flat_map framed flight ++ cs) (sym (append-nil (framed p))) ∙ sym (flat_map-append framed flight (p ∷ []))),
+    )
+
+pub says_submitted : (phase : Phase) (next later : ℕ) (said : List Command) (flight : List InFlight) (p : InFlight) → phase ≡ Open flight → IsSent p → SaysIn phase next said
+    → SaysIn (Open (flight ++ p ∷ [])) later (said ++ framed p)
+says_submitted phase next later said flight p open_phase whole says = submitted_one next later said flight p whole (subst (λ f. SaysIn f next said) open_phase says)
+
+recorded_one : (next : ℕ) (said : List Command) (p : InFlight) (ps : List InFlight) → SaysIn (Open (p ∷ ps)) next said → SaysIn (Open ps) next said
+recorded_one next said p ps (first, count, parts, few, each, sent_each, is_said) =
+    let marks = marks_from (suc count) first in
+    let before = flat_map said_by parts in
+    let rest = flat_map framed ps in (
+      first,
+      count,
+      parts ++ Sent p ∷ [],
+      few,
+      all_joined IsPart parts (Sent p ∷ []) each (sent_each.0, tt),
+      sent_each.1,
+      is_said ∙ sym (append_assoc (marks ++ before) (framed p) rest)
+          ∙ ap (λ cs. cs ++ rest) (append_assoc marks before (framed p) ∙ ap (λ cs. marks ++ cs) (ap (λ cs. before ++ cs) (sym (append-nil (framed p))) ∙ sym (flat_map-append said_by parts (Sent p ∷ [])))),
+    )
+
+pub says_recorded : (phase : Phase) (next : ℕ) (said : List Command) (p : InFlight) (ps : List InFlight) → phase ≡ Open (p ∷ ps) → SaysIn phase next said → SaysIn (Open ps) next said
+says_recorded phase next said p ps open_phase says = recorded_one next said p ps (subst (λ f. SaysIn f next said) open_phase says)
+
+-- One more byte is heard.
+says_turned : (h after : HostView) (a : Answer) (at : ℕ) (e : HostEvent) (out : List ℕ) (said : List Command) → after.phase ≢ Down → Talks h out said → Turns h a at e after → Talks after out said
+says_turned h after a at event.None out said up talks turns = subst (λ v. Talks v out said) (sym turns.1) talks
+says_turned h after a at event.Opened out said up talks (first, id, is_first, is_mark, is_opening, same) =
+    subst (λ v. Talks v out said) (sym same)
+    (record { says = says_opened h.phase h.next said (subst IsOpening (sym is_first) tt) talks.says; whole = talks.whole })
+says_turned h after a at (event.Recorded number) out said up talks (p, ps, is_open, is_mark, is_number, same) =
+    subst (λ v. Talks v out said) (sym same) (record { says = says_recorded h.phase h.next said p ps is_open talks.says; whole = talks.whole })
+says_turned h after a at (event.Status byte) out said up talks turns = subst (λ v. Talks v out said) (sym turns.1) talks
+says_turned h after a at (event.BadAnswer place) out said up talks (p, ps, id, is_open, is_mark, other, later, is_place, same) =
+    absurd (up (ap (λ (v : HostView). v.phase) same))
+
+says_byte : (h after : HostView) (byte at : ℕ) (e : HostEvent) (out : List ℕ) (said : List Command) → after.phase ≢ Down → Talks h out said → HearsByte h byte at e after → Talks after out said
+says_byte h after byte at event.None out said up talks (inl grows) = subst (λ v. Talks v out said) (sym grows.0) (record { says = talks.says; whole = talks.whole })
+says_byte h after byte at event.Opened out said up talks (inl grows) = absurd grows
+says_byte h after byte at (event.Recorded number) out said up talks (inl grows) = absurd grows
+says_byte h after byte at (event.Status b) out said up talks (inl grows) = absurd grows
+says_byte h after byte at (event.BadAnswer place) out said up talks (inl grows) = absurd grows
+says_byte h after byte at event.None out said up talks (inr (inl misfit)) = absurd misfit
+says_byte h after byte at event.Opened out said up talks (inr (inl misfit)) = absurd misfit
+says_byte h after byte at (event.Recorded number) out said up talks (inr (inl misfit)) = absurd misfit
+says_byte h after byte at (event.Status b) out said up talks (inr (inl misfit)) = absurd misfit
+says_byte h after byte at (event.BadAnswer place) out said up talks (inr (inl misfit)) = absurd (up (ap (λ (v : HostView). v.phase) misfit.2))
+says_byte h after byte at e out said up talks (inr (inr (a, spelled, turns))) =
+    says_turned (with_half h []) after a at e out said up (record { says = talks.says; whole = talks.whole }) turns
+
+-- A piece is heard.
+pub says_heard : (h after : HostView) (bytes : List ℕ) (consumed : ℕ) (e : HostEvent) (out : List ℕ) (said : List Command) → after.phase ≢ Down → Talks h out said
+    → IsHeard h bytes consumed e after → Talks after out said
+says_heard h after bytes consumed e out said up talks (inl (none, count, passed, same)) = subst (λ v. Talks v out said) (sym same) (record { says = talks.says; whole = talks.whole })
+says_heard h after bytes consumed e out said up talks (inr (at, half, within, some, count, passed, heard)) =
+    says_byte (with_half h half) after (slice_index bytes at) at e out said up (record { says = talks.says; whole = talks.whole }) heard
+
+-- The bytes of what is said, with more commands.
+pub more_said : (out left : List ℕ) (said more : List Command) → spell said ≡ out ++ left → spell (said ++ more) ≡ out ++ (left ++ spell more)
+more_said out left said more whole = flat_map-append row said more ∙ ap (λ v. v ++ spell more) whole ∙ append_assoc out left (spell more)
+
+pub one_more_said : (out left : List ℕ) (said : List Command) (c : Command) → spell said ≡ out ++ left → spell (said ++ c ∷ []) ≡ out ++ (left ++ row c)
+one_more_said out left said c whole = more_said out left said (c ∷ []) whole ∙ ap (λ v. out ++ (left ++ v)) (append-nil (row c))

@@ -1,0 +1,80 @@
+//! What the program does for its arguments, over any source and sink: a job, a link, or a text.
+
+ghost use Rattle.std.specs.Prelude.{◌≡◌, ◌≢◌, ◌⊎◌, ◌+◌, ◌≤◌, IfSome, IsTrue};
+ghost use Rattle.escpos_jobs.specs.declared.input.TheConstants.{INPUT_LIMIT};
+ghost use Rattle.escpos_jobs.specs.Check.{Checks};
+ghost use Rattle.escpos_jobs.specs.Encode.{Encodes};
+ghost use Rattle.escpos_jobs.specs.Render.{RendersInput};
+ghost use Rattle.escpos_jobs.specs.Ending.{PrintsText, memory_line, job_end};
+ghost use Rattle.escpos_jobs.specs.Play.{Plays};
+ghost use Rattle.escpos_jobs.specs.declared.usage.TheConstants.{HELP, USAGE};
+ghost use Rattle.escpos_jobs.specs.Perform.{ReadsInput, UsesLinks};
+
+use crate::task::{NoTask, Task};
+use crate::usage::{HELP, USAGE};
+use escpos_io::{ByteIn, ByteOut};
+use crate::loop_link::loop_receipt;
+use crate::check::check;
+use crate::emulate::emulate;
+use crate::encode::encode;
+use crate::ending::{MEMORY, say};
+use crate::play::play;
+use crate::render::render;
+use crate::send::send_to;
+use crate::status::Status;
+use std::alloc::Global;
+use std::net::{Net, TcpListener, TcpStream};
+
+/// Does what was asked for, and returns how it went.
+///
+/// A task is its job, or its link over `net`. If there is no task, `output` gets the help and the status is `Good`, or the
+/// usage and the status is `Usage`, or the line `memory` and the status is `Memory`; `input` isn't read. `Device` comes
+/// only where `input`, `output` or a link has failed.
+pub fn perform<N: Net<Stream = TcpStream, Listener = TcpListener>, R: ByteIn, W: ByteOut>(
+    net: &N,
+    alloc: Global,
+    asked: Result<Task, NoTask>,
+    input: &mut R,
+    output: &mut W,
+) -> Status
+    ensures check { asked ≡ Ok Task.Check →
+        IfSome (R.to_come input.old) (λ text. Checks (job_end (W.written output.old) (W.written output.new) (W.failed output.new) result) text) }
+    ensures render { asked ≡ Ok Task.Render →
+        IfSome (R.to_come input.old) (λ text. RendersInput (job_end (W.written output.old) (W.written output.new) (W.failed output.new) result) text) }
+    ensures encode { asked ≡ Ok Task.Encode →
+        IfSome (R.to_come input.old) (λ text. Encodes (job_end (W.written output.old) (W.written output.new) (W.failed output.new) result) text) }
+    ensures play { asked ≡ Ok Task.Play →
+        IfSome (R.to_come input.old) (λ text. Plays (job_end (W.written output.old) (W.written output.new) (W.failed output.new) result) text) }
+    ensures help { asked ≡ Err NoTask.Help →
+        PrintsText (job_end (W.written output.old) (W.written output.new) (W.failed output.new) result) HELP.now Status.Good }
+    ensures usage { asked ≡ Err NoTask.Usage →
+        PrintsText (job_end (W.written output.old) (W.written output.new) (W.failed output.new) result) USAGE.now Status.Usage }
+    ensures memory { asked ≡ Err NoTask.Memory →
+        PrintsText (job_end (W.written output.old) (W.written output.new) (W.failed output.new) result) memory_line Status.Memory }
+    ensures device { (UsesLinks asked → ⊥) → result ≡ Status.Device → IsTrue (R.failed input.new) ⊎ IsTrue (W.failed output.new) }
+    ensures not_hidden { result ≢ Status.Device → ¬ IsTrue (W.failed output.old) → ¬ IsTrue (W.failed output.new) }
+    ensures usage_only { result ≡ Status.Usage → asked ≡ Err NoTask.Usage }
+    ensures unread { (ReadsInput asked → ⊥) → input.new ≡ input.old }
+    ensures all_read { ReadsInput asked → result ≢ Status.Device → ¬ IsTrue (R.failed input.new) }
+    ensures nothing_put { ReadsInput asked → IsTrue (R.failed input.new) → output.new ≡ output.old }
+    ensures pulls { R.pull_count input.new ≤ R.pull_count input.old + INPUT_LIMIT + 1 }
+{
+    match asked {
+        Ok(Task::Check) => check(alloc, input, output),
+        Ok(Task::Render) => render(alloc, input, output),
+        Ok(Task::Encode) => encode(alloc, input, output),
+        Ok(Task::Play) => play(alloc, input, output),
+        Ok(Task::Emulate { address, links }) => emulate(net, alloc, address, links, output),
+        Ok(
+            Task::Send {
+                address,
+                first,
+                openings,
+            },
+        ) => send_to(net, alloc, address, first, openings, input, output),
+        Ok(Task::Loop) => loop_receipt(net, alloc, input, output),
+        Err(NoTask::Help) => say(HELP.as_bytes(), output, Status::Good),
+        Err(NoTask::Usage) => say(USAGE.as_bytes(), output, Status::Usage),
+        Err(NoTask::Memory) => say(MEMORY, output, Status::Memory),
+    }
+}

@@ -1,0 +1,44 @@
+//! What the program may be asked to do, and why arguments name no task. `perform` does it.
+
+use std::net::SocketAddrV4;
+use thiserror::Error;
+
+/// What the program is asked to do.
+#[derive(Clone, Copy, Debug, PartialEq, Eq)]
+pub enum Task {
+    /// List the commands of a byte stream.
+    Check,
+    /// Write the paper that a byte stream prints.
+    Render,
+    /// Write the bytes of a receipt's commands.
+    Encode,
+    /// Play a script of what happens on a line.
+    Play,
+    /// Be a printer at this address for `links` links, and write its paper.
+    Emulate {
+        address: SocketAddrV4,
+        links: u32,
+    },
+    /// Send a receipt to the printer at this address, with `openings` opening marks from the number `first` on.
+    Send {
+        address: SocketAddrV4,
+        first: u32,
+        openings: u32,
+    },
+    /// Send a receipt over a link of which the program is both ends.
+    Loop,
+}
+
+/// Why the arguments name no task.
+#[derive(Clone, Copy, Debug, Drop, PartialEq, Eq, Error)]
+pub enum NoTask {
+    /// The first argument is no task, there is no argument, or there is one too many.
+    #[error("the words name no task")]
+    Usage,
+    /// The arguments ask what the program is for.
+    #[error("help was asked for")]
+    Help,
+    /// Out of memory while the arguments were read.
+    #[error("there wasn't enough memory")]
+    Memory,
+}

@@ -1,0 +1,230 @@
+//! The texts of usage and help.
+
+/// The text for arguments that name no task.
+pub const USAGE: &str = "\
+usage: escpos_cli check  < HEXADECIMAL
+       escpos_cli render < HEXADECIMAL
+       escpos_cli encode < RECEIPT
+       escpos_cli play < SCRIPT
+       escpos_cli emulate ADDRESS [--links N]
+       escpos_cli send ADDRESS --first F [--openings N] < RECEIPT
+       escpos_cli loop < RECEIPT
+       escpos_cli help
+";
+
+/// The text for arguments that ask for help.
+pub const HELP: &str = "\
+escpos_cli shows what an ESC/POS byte stream says to a receipt printer, or the
+exact byte at which the stream is refused, and writes the stream of a receipt.
+Over TCP it is a printer, or sends a receipt to one and learns that it is
+printed.
+
+`check` and `render` read the stream from standard input, as hexadecimal digits
+of either case; spaces, tabs and line ends between them are ignored. Input of
+more than 16777216 bytes gives the one line `refused input`, any other that
+isn't hexadecimal `refused hex`. A last line `memory` says that the program ran
+out of memory.
+
+  escpos_cli check
+      Lists the commands. Each gives one line: the number of bytes before it,
+      its name, and what it carries. The last line is `end N pending P`, where N
+      bytes were read and the last P of them are a command that isn't complete,
+      or `fault K NUMBER NAME`, where the byte at place K is refused. A barcode
+      with a wrong check digit is followed by a line `note`.
+
+          $ echo '1B 40 48 69 0A 1D 56 00' | escpos_cli check
+          0 init
+          2 char 48
+          3 char 69
+          4 lf
+          5 cut 00
+          end 8 pending 0
+
+  escpos_cli render
+      Writes the paper that the commands print, an item a line: rows of
+      characters with their alignment and styles, barcodes, rasters, feeds of
+      lines (`feed`) and of motion units (`units`), and cuts. After a
+      refused byte or a command that isn't complete the last line of `check`
+      follows.
+
+          $ echo '1B 40 48 69 0A 1D 56 00' | escpos_cli render
+          row left Hi
+          feed 1
+          cut full
+
+      A style is [F,W,H,B,U,T]: font A or B, width, height, emphasis 1 or 0,
+      underline 0 to 2, code table. It stands before a character whose style
+      differs from that of the one before it, or, for the first of a row, from
+      the style at power-on, [A,1,1,0,0,0].
+
+      A barcode is `bars ALIGN SYMBOLOGY HEIGHT MODULE PLACE FONT CONTENT`: its
+      height and module width in dots, where its text stands and in which font,
+      and its content with the check digit, if that had to be added. A raster is
+      `raster ALIGN SCALE X Y DOTS`: X bytes in each of Y rows, in hexadecimal.
+
+          $ echo '1D 6B 44 07 35 35 31 32 33 34 35' | escpos_cli render
+          bars left ean8 162 3 none A 55123457
+
+  escpos_cli encode
+      Reads a receipt in JSON from standard input, and writes the bytes of its
+      commands in hexadecimal, in one line.
+
+          $ echo '[{\"line\":\"Hi\"},{\"cut\":\"full\"}]' | escpos_cli encode
+          48690a1d5600
+
+      A receipt is an array of objects with one member each. A number is an
+      integer without sign, fraction or exponent.
+
+          {\"text\":\"Total\"}           characters 20 to 7F, hexadecimal
+          {\"line\":\"Total\"}           the same, and a line feed
+          {\"feed\":3}                 a feed of 0 to 255 lines
+          {\"units\":40}               a feed of 0 to 255 motion units
+          {\"pulse\":{\"pin\":0,\"on\":25,\"off\":250}}
+                                     a pulse at pin 0 or 1, 0 to 255 units of
+                                     2 ms on and off
+          {\"mode\":8}                 font, emphasis, height, width and underline
+                                     at once, 0 to 255 (ESC !)
+          {\"bold\":true}              emphasis, true or false
+          {\"underline\":1}            underline of 0 to 2 dots
+          {\"font\":\"B\"}               font, \"A\" or \"B\"
+          {\"table\":16}               code table, 0 to 255
+          {\"align\":\"center\"}         \"left\", \"center\" or \"right\"
+          {\"size\":[2,1]}             width and height of characters, 1 to 8 each
+          {\"bar_height\":80}          height of barcodes, 1 to 255 dots
+          {\"bar_width\":2}            module width of barcodes, 2 to 6 dots
+          {\"hri\":\"below\"}            text of barcodes: \"none\", \"above\", \"below\"
+                                     or \"both\"
+          {\"hri_font\":\"B\"}           its font, \"A\" or \"B\"
+          {\"bars\":{\"kind\":\"ean13\",\"content\":\"400638133393\"}}
+                                     a barcode: \"upca\", \"ean13\", \"ean8\",
+                                     \"code39\", \"itf\", \"codabar\" or \"code128\"
+          {\"raster\":{\"scale\":\"normal\",\"x\":1,\"y\":2,\"dots\":\"f00f\"}}
+                                     an image of x bytes, 1 to 128, in each of y
+                                     rows, 1 to 4095; \"normal\", \"wide\", \"tall\"
+                                     or \"both\"
+          {\"cut\":\"full\"}             a cut, \"full\" or \"partial\"
+          {\"feed_cut\":{\"kind\":\"partial\",\"feed\":3}}
+                                     the same after a feed of 0 to 255 units
+
+      At the end no text may be left in the line, and none may stand in it at a
+      barcode, an image or a cut. Input that isn't a receipt gives one line,
+      `refused N NAME` or `refused N NAME PLACE`: 1 Empty, 3 TextLeft, 4 MidLine
+      (where PLACE is the command's), 5 NotJson, 6 BadShape, 7 ControlByte,
+      8 NotAscii (where PLACE is the entry's). Places are counted from 0.
+
+  escpos_cli play
+      Reads a script of what happens on a line between a host, as a till is, and
+      a printer. Each of its lines is an event, and gives one line:
+
+          linkup            `ok`: the host opens a link, with an opening mark
+          nudge             `ok`: it puts one more opening mark out
+          submit RECEIPT    `ok`: it puts a receipt out, in JSON as for `encode`
+          ask N             `ok`: it asks for the status N, 1 to 4
+          move K            `moved N`: up to K bytes leave the host for its link
+          deliver K         `fed C` and `all`, `full`, `offline` or `fault`, its
+                            number and name: up to K bytes of the oldest link
+                            reach the printer
+          handover          `handed on`, `handed lost` or `handed none`: the
+                            oldest answer leaves the printer
+          answer K          `heard C` and `opened`, `recorded N`, `status HH`,
+                            `bad` or `none`: up to K bytes of answers reach the
+                            host
+          leave             `ok`: the printer leaves the oldest link
+          printer-restart   `ok`: it is switched off and on
+          drop              `ok`: the host gives its link up
+          host-restart F    `ok`: it goes on with its records, F its next mark
+          condition CNP     `ok`: cover open, paper near its end, paper ended; a
+                            digit 0 or 1 each
+
+      An event that can't happen gives `refused NUMBER NAME`, and text that
+      isn't a receipt gives `receipt` and the line of `encode`; then the script
+      goes on. A line that is none of these gives `line N unreadable` and ends
+      it. At the end come `paper`, the paper as `render` writes it, and `records
+      N`, the receipts that the host has recorded as printed. The printer is
+      online at first, and the first mark is 0.
+
+      Here the answer to a receipt's mark is on its way when the link breaks.
+      The host can't know that the receipt is printed, so it is sent again; it
+      stands on the paper twice, and is recorded once, when the second mark is
+      answered.
+
+          linkup                      ok
+          move 11                     moved 11
+          deliver 11                  fed 11 all
+          handover                    handed on
+          answer 7                    heard 7 opened
+          submit [{\"line\":\"Hi\"}]      ok
+          move 16                     moved 16
+          deliver 16                  fed 16 all
+          drop                        ok
+          linkup                      ok
+          leave                       ok
+          handover                    handed on
+          answer 7                    heard 7 none
+          move 11                     moved 11
+          deliver 11                  fed 11 all
+          handover                    handed on
+          answer 7                    heard 7 opened
+          submit [{\"line\":\"Hi\"}]      ok
+          move 16                     moved 16
+          deliver 16                  fed 16 all
+          handover                    handed on
+          answer 7                    heard 7 recorded 0
+                                      paper
+                                      row left Hi
+                                      feed 1
+                                      row left Hi
+                                      feed 1
+                                      records 1
+
+  escpos_cli emulate ADDRESS [--links N]
+      Is a printer that listens at ADDRESS, an IPv4 address and a port as in
+      127.0.0.1:9100. It serves N links one after another, 1 to 1000; one
+      without --links. When a link has ended it prints `link I read R consumed C
+      written W END`: the number of the link, from 1, the bytes that came from
+      it, how many of them the printer took, the bytes of its answers, and why
+      the link ended: Ended, TooLong (after 16777216 bytes), Fault (a refused
+      byte), Offline, ReadFault, WriteFault or Memory. At the end it writes the
+      paper as `render` does. If it can't listen or accept a link, only exit
+      status 3 says so.
+
+          $ escpos_cli emulate 127.0.0.1:9100
+          link 1 read 49 consumed 49 written 28 Ended
+          row left Hi
+          feed 1
+
+  escpos_cli send ADDRESS --first F [--openings N]
+      Reads a receipt in JSON as `encode` does, connects to the printer at
+      ADDRESS, sends the receipt, and waits for the answer to the mark after it.
+      Then the receipt is on paper, and the first line is `recorded 0`;
+      otherwise it is `not recorded WHY`: Ended, ReadFault or WriteFault (the
+      link), TooLong (65536 bytes were read), BadAnswer or MarksUsedUp; or it is
+      `memory`. A receipt that isn't recorded may be on paper or not. A wait
+      lasts as long as the link. Without a connection the one line is `no link`.
+      Input that isn't a receipt is refused as by `encode`, and nothing is
+      connected.
+
+      Each mark has a number of its own, 0 to 1679615. F is the first one that
+      this till hasn't used with this printer, and the last line is `next M`
+      with the one that comes after; keep M for the next run. A receipt takes
+      one number and N more to open the link, 1 to 99; three without --openings.
+
+          $ echo '[{\"line\":\"Hi\"}]' | escpos_cli send 127.0.0.1:9100 --first 0
+          recorded 0
+          next 4
+
+  escpos_cli loop
+      Reads a receipt, is both ends of a link over 127.0.0.1, and prints the
+      paper and then `recorded 0`. If something goes wrong, the last line is
+      that of `send`, or `not recorded` and the end of the printer's link.
+
+          $ echo '[{\"line\":\"Hi\"}]' | escpos_cli loop
+          row left Hi
+          feed 1
+          recorded 0
+
+  escpos_cli help
+      Prints this text; so do --help and -h.
+
+Exit status: 0 good, 1 refused content, 2 usage, 3 device, 4 memory.
+";

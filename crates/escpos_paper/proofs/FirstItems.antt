@@ -1,0 +1,70 @@
+-- Commands of the first profile print items of the first profile.
+use Rattle.std.proofs.Common.{◌≡◌, ◌≤◌, ℕ, List, [], ◌∷◌, ◌++◌, length, Bool, true, false, cond, arith, IsTrue}
+use Rattle.std.specs.Prelude.{nat_le, nat_lt}
+use Rattle.std.specs.List.{AllByRecursion}
+use Rattle.std.proofs.lemmas.Bool.Decides.{nat_tests}
+use Rattle.escpos_command.specs.declared.command.Command.{Command}
+use Rattle.escpos_command.specs.declared.command.Command.TheVariants as kind
+use Rattle.escpos_command.specs.declared.parameter.choices.Alignment.{Alignment}
+use Rattle.escpos_command.specs.FirstProfile.{in_first_profile}
+use Rattle.escpos_paper.specs.declared.cell.Cell.{Cell}
+use Rattle.escpos_paper.specs.declared.item.Item.{Item}
+use Rattle.escpos_paper.specs.FirstPaper.{IsFirstItem}
+use Rattle.escpos_paper.specs.OverPlaces.{over_places}
+use Rattle.escpos_paper.specs.Printed.{printed, prints, row_and_feed, row_of}
+use Rattle.escpos_paper.specs.Rows.{line, rows}
+use Rattle.escpos_paper.specs.Styles.{alignment}
+
+abbrev AreFirst : List Item → Type 0
+AreFirst items = AllByRecursion IsFirstItem items
+
+both : (some others : List Item) → AreFirst some → AreFirst others → AreFirst (some ++ others)
+both [] others h k = k
+both (x ∷ some) others h k = (h.0, both some others h.1 k)
+
+row_is : (align : Alignment) (xs : List Cell) → AreFirst (row_of align xs)
+row_is align [] = tt
+row_is align (x ∷ xs) = (tt, tt)
+
+row_with_feed : (align : Alignment) (xs : List Cell) → AreFirst (row_and_feed align xs)
+row_with_feed align [] = tt
+row_with_feed align (x ∷ xs) = (tt, (tt, tt))
+
+chosen : (b : Bool) (items : List Item) → AreFirst items → AreFirst (cond b items [])
+chosen true items h = h
+chosen false items h = tt
+
+few_rows : (n : ℕ) → nat_le n 2047 ≡ true → n ≤ 2047
+few_rows n h = grind (arith, nat_tests)
+
+prints_first : (before : List Command) (c : Command) → IsTrue (in_first_profile c) → AreFirst (prints before c)
+prints_first before (kind.Char b) h = chosen (nat_lt (length (rows before)) (length (rows (before ++ kind.Char b ∷ [])))) (row_and_feed (alignment before) (line before)) (row_with_feed (alignment before) (line before))
+prints_first before kind.LineFeed h = both (row_of (alignment before) (line before)) _ (row_is (alignment before) (line before)) (tt, tt)
+prints_first before (kind.FeedLines n) h = both (row_of (alignment before) (line before)) _ (row_is (alignment before) (line before)) (tt, tt)
+prints_first before (kind.FeedUnits n) h = absurd cc
+prints_first before (kind.Bars bars) h = both (row_and_feed (alignment before) (line before)) _ (row_with_feed (alignment before) (line before)) (tt, tt)
+prints_first before (kind.Raster raster) h = both (row_and_feed (alignment before) (line before)) _ (row_with_feed (alignment before) (line before)) (few_rows raster.height h, tt)
+prints_first before (kind.Cut cut) h = both (row_and_feed (alignment before) (line before)) _ (row_with_feed (alignment before) (line before)) (tt, tt)
+prints_first before kind.Return h = tt
+prints_first before kind.Init h = tt
+prints_first before (kind.Mode n) h = tt
+prints_first before (kind.Emphasis n) h = tt
+prints_first before (kind.Underline n) h = tt
+prints_first before (kind.Font n) h = tt
+prints_first before (kind.Table n) h = tt
+prints_first before (kind.Align n) h = tt
+prints_first before (kind.Size n) h = tt
+prints_first before (kind.BarHeight n) h = tt
+prints_first before (kind.BarWidth n) h = tt
+prints_first before (kind.HriPlace n) h = tt
+prints_first before (kind.HriFont n) h = tt
+prints_first before (kind.Pulse pulse) h = absurd cc
+prints_first before (kind.Status n) h = tt
+prints_first before (kind.Mark id) h = tt
+
+after : (before cs : List Command) → AllByRecursion (λ c. IsTrue (in_first_profile c)) cs → AreFirst (over_places (λ b c following. prints b c) before cs)
+after before [] h = tt
+after before (c ∷ cs) h = both (prints before c) _ (prints_first before c h.0) (after (before ++ c ∷ []) cs h.1)
+
+pub first_items : (cs : List Command) → AllByRecursion (λ c. IsTrue (in_first_profile c)) cs → AllByRecursion IsFirstItem (printed cs)
+first_items cs h = after [] cs h

@@ -1,0 +1,78 @@
+//! The line that isn't printed yet.
+//!
+//! It keeps its width in dots beside its cells, so that one addition decides whether one more cell fits.
+
+ghost use Rattle.std.specs.Prelude.{◌≡◌, ◌+◌, ◌*◌, ◌≤◌, IsTrue, [], ◌∷◌, ◌++◌, length};
+ghost use Rattle.escpos_paper.specs.Cells.{dots};
+ghost use Rattle.escpos_paper.specs.Rows.{fits};
+ghost use Rattle.escpos_paper.specs.Styles.{is_empty};
+
+use crate::cell::{Cell, Cells, LINE_DOTS};
+use std::marker::Model;
+use std::mem;
+
+/// Cells that together aren't wider than a line. The model of a line is the list of its cells.
+#[derive(Drop)]
+pub struct PrintBuffer {
+    cells: Cells,
+    used: usize,
+}
+
+impl Model for PrintBuffer {
+    ghost use Rattle.std.specs.Prelude.{List, length, ◌*◌, ◌≤◌, ◌≡◌};
+    ghost use Rattle.escpos_paper.specs.declared.cell.Cell.{Cell};
+    ghost use Rattle.escpos_paper.specs.declared.cell.TheConstants.{LINE_DOTS};
+    ghost use Rattle.escpos_paper.specs.Cells.{dots};
+
+    ghost Value = { List Cell };
+
+    ghost view = { λ l. l.cells };
+
+    ghost invariant = { λ l. (l.used ≡ dots l.cells) × (l.used ≤ LINE_DOTS) × (9 * length l.cells ≤ l.used) };
+}
+
+impl PrintBuffer {
+    pub fn new() -> Self
+        ensures { result ≡ [] }
+    {
+        PrintBuffer {
+            cells: Cells::new(),
+            used: 0,
+        }
+    }
+
+    /// Whether the line has no cell.
+    pub fn is_empty(&self) -> bool
+        ensures { result ≡ is_empty self.now }
+    {
+        self.cells.as_slice().is_empty()
+    }
+
+    /// Whether the cell fits after the others.
+    pub fn has_room_for(&self, cell: &Cell) -> bool
+        ensures { result ≡ fits (self.now ++ cell.now ∷ []) }
+    {
+        cell.dots() <= LINE_DOTS - self.used
+    }
+
+    /// Puts a cell after the others, where it must fit.
+    pub fn push(&mut self, cell: Cell)
+        requires room { IsTrue (fits (self.old ++ cell ∷ [])) }
+        requires visible { 1 ≤ cell.style.width }
+        ensures { self.new ≡ self.old ++ cell ∷ [] }
+    {
+        self.used += cell.dots();
+        self.cells.push(cell);
+    }
+
+    /// Takes the cells out, and leaves the line empty.
+    pub fn take(&mut self) -> Cells
+        ensures taken { result ≡ self.old }
+        ensures left { self.new ≡ [] }
+    {
+        let mut cells = Cells::new();
+        mem::swap(&mut cells, &mut self.cells);
+        self.used = 0;
+        cells
+    }
+}

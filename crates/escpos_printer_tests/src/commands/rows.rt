@@ -1,0 +1,301 @@
+//! The worked rows of the grammar, and each call on its happy path.
+
+use crate::support::commands::{
+    FIVE, MARK_35, characters, five_commands_of, spell_from, spell_to, spelled_len, write_to,
+};
+use crate::support::decoders::bytes_of;
+use escpos_command::{
+    BarFault, Bars, Character, CharsFault, Command, FaultReason, FeedLines, Form, LONGEST_SPELLING,
+    MarkId, Raster, RasterFault, Scale, Symbology,
+};
+use escpos_io::{Device, MemoryOut, Outgoing};
+use std::alloc::Global;
+use std::process::Abort;
+
+// The commands spell these bytes.
+fn spell(rt: &impl Abort, alloc: Global, commands: &[Command], bytes: &[u8]) {
+    let mut out = Vec::new(alloc);
+    for command in commands {
+        spell_to(command, &mut out).expect(rt, "memory");
+    }
+    assert!(rt; out.as_slice() == bytes, "other bytes were spelled");
+}
+
+// The commands are written to a sink with this room: it ends so, and these bytes went out.
+fn write(
+    rt: &impl Abort,
+    commands: &[Command],
+    room: &mut [u8],
+    (wanted, bytes): (Result<(), Device>, &[u8]),
+) {
+    let mut sink = MemoryOut::new(room);
+    assert!(rt; write_to(commands, &mut sink) == wanted);
+    assert!(rt; sink.written() == bytes);
+}
+
+// The commands are written to a list of bytes, which is this one then.
+fn write_all(rt: &impl Abort, alloc: Global, commands: &[Command], bytes: &[u8]) {
+    let mut sink = Outgoing::new(Vec::new(alloc));
+    assert!(rt; write_to(commands, &mut sink) == Ok(()));
+    assert!(rt;
+        sink.into_inner().as_slice() == bytes,
+        "other bytes went out"
+    );
+}
+
+#[test]
+fn five_commands(rt: HostRuntime) {
+    let commands = five_commands_of(&rt, rt.alloc());
+    spell(&rt, rt.alloc(), &commands, FIVE);
+}
+
+#[test]
+fn mark_numbers(rt: HostRuntime) {
+    for (number, id) in [
+        (0, *b"0000"),
+        (35, *b"000Z"),
+        (36, *b"0010"),
+        (1_679_615, *b"ZZZZ"),
+    ] {
+        let mark = MarkId::of_number(number).expect(&rt, "number");
+        assert!(rt; mark.bytes() == id, "{number}");
+        assert!(rt; MarkId::new(id) == Some(mark), "{number}");
+        assert!(rt; mark.number() == Some(number), "{number}");
+    }
+    assert!(rt; MarkId::of_number(1_679_616) == None);
+    for id in [*b"000a", *b"0 00"] {
+        assert!(rt; MarkId::new(id).expect(&rt, "id").number() == None);
+    }
+}
+
+#[test]
+fn mark_35(rt: HostRuntime) {
+    let mark = Command::Mark(MarkId::of_number(35).expect(&rt, "number"));
+    let parts = mark.parts();
+    assert!(rt; parts.prefix == &MARK_35[..7]);
+    assert!(rt; parts.parameters.as_slice() == &MARK_35[7..]);
+    spell(&rt, rt.alloc(), &[mark], &MARK_35);
+}
+
+#[test]
+fn unequal_reasons(rt: HostRuntime) {
+    assert!(rt; FaultReason::UnknownByte != FaultReason::UnknownCommand);
+    assert!(rt; FaultReason::UnknownCommand != FaultReason::BadParameter);
+    assert!(rt; FaultReason::BadParameter != FaultReason::UnknownByte);
+}
+
+// A text with a control byte at this place.
+fn refuse_chars(rt: &impl Abort, alloc: Global, text: &[u8], place: usize) {
+    let refused = characters(alloc, text);
+    assert!(rt; matches!(refused, Err(CharsFault::ControlByte { at }) if at == place));
+}
+
+// Whether this command is this character in the line.
+fn is_character(command: &Command, byte: u8) -> bool {
+    match command {
+        Command::Char(character) => character.byte() == byte,
+        _ => false,
+    }
+}
+
+// The characters of a text, for which there is memory.
+fn gives_chars(rt: &impl Abort, alloc: Global, text: &[u8]) {
+    let commands = characters(alloc, text).expect(rt, "memory");
+    assert!(rt; commands.len() == text.len());
+    for (command, byte) in commands.iter().zip(text) {
+        assert!(rt; is_character(command, *byte));
+    }
+}
+
+#[test]
+fn chars_of_text(rt: HostRuntime) {
+    refuse_chars(&rt, rt.alloc(), &[0x41, 0x1B], 1);
+    gives_chars(&rt, rt.alloc(), &[0x41, 0x42]);
+}
+
+#[test]
+fn chars_of_a_long_text(rt: HostRuntime) {
+    let mut text = bytes_of(&rt, rt.alloc(), (b"", b'A', 5000, b""));
+    gives_chars(&rt, rt.alloc(), &text);
+    text.push(0x1B).expect(&rt, "memory");
+    refuse_chars(&rt, rt.alloc(), &text, 5000);
+}
+
+#[test]
+fn short_writer(rt: HostRuntime) {
+    let commands = five_commands_of(&rt, rt.alloc());
+    let short = (Err(Device { written: 5 }), b"\x1B@Hi\x0A".as_slice());
+    write(&rt, &commands, &mut [0; 5], short);
+    write(&rt, &commands, &mut [0; 9], (Ok(()), FIVE));
+}
+
+// Many small pieces go out in order.
+#[test]
+fn small_pieces_go_out_in_order(rt: HostRuntime) {
+    let mut commands = Vec::new(rt.alloc());
+    let mut want = Vec::new(rt.alloc());
+    for number in 0..=255u8 {
+        let feed = FeedLines::new(number).expect(&rt, "feed");
+        for _ in 0..9 {
+            commands
+                .push(Command::FeedLines(feed))
+                .expect(&rt, "memory");
+            want.extend_from_slice(&[0x1B, 0x64, number])
+                .expect(&rt, "memory");
+        }
+    }
+    write_all(&rt, rt.alloc(), &commands, &want);
+}
+
+// These bytes are no content, for this reason, and come back.
+fn refuse_bars(
+    rt: &impl Abort,
+    alloc: Global,
+    form: Form,
+    symbology: Symbology,
+    content: &[u8],
+    why: BarFault,
+) {
+    let refused = Bars::new(form, symbology, content.to_vec(alloc).expect(rt, "memory"));
+    let Err((fault, back)) = refused else {
+        panic!(rt; "a barcode");
+    };
+    assert!(rt; fault == why);
+    assert!(rt; back.as_slice() == content);
+}
+
+// Contents that no barcode has, and why.
+const NO_BARCODES: [(Form, Symbology, &[u8], BarFault); 19] = [
+    (Form::A, Symbology::Code128, b"{A0", BarFault::Form),
+    (Form::A, Symbology::Code128, b"", BarFault::Form),
+    (Form::A, Symbology::UpcA, b"0360002914", BarFault::Length),
+    (Form::B, Symbology::UpcA, b"0360002914521", BarFault::Length),
+    (Form::B, Symbology::Ean13, b"40063813339", BarFault::Length),
+    (Form::A, Symbology::Ean8, b"551234", BarFault::Length),
+    (Form::A, Symbology::Code39, b"", BarFault::Length),
+    (Form::B, Symbology::Itf, b"123", BarFault::Length),
+    (Form::B, Symbology::Itf, b"x", BarFault::Length),
+    (Form::B, Symbology::Codabar, b"A", BarFault::Length),
+    (Form::B, Symbology::Code128, b"{", BarFault::Length),
+    (
+        Form::A,
+        Symbology::UpcA,
+        b"0360002914x",
+        BarFault::Byte { at: 10 },
+    ),
+    (Form::A, Symbology::Code39, b"AbC", BarFault::Byte { at: 1 }),
+    (Form::B, Symbology::Codabar, b"0B", BarFault::Byte { at: 0 }),
+    (
+        Form::B,
+        Symbology::Codabar,
+        b"AAB",
+        BarFault::Byte { at: 1 },
+    ),
+    (
+        Form::B,
+        Symbology::Codabar,
+        b"A00",
+        BarFault::Byte { at: 2 },
+    ),
+    (Form::B, Symbology::Code128, b"}A", BarFault::Byte { at: 0 }),
+    (Form::B, Symbology::Code128, b"{D", BarFault::Byte { at: 1 }),
+    (
+        Form::B,
+        Symbology::Code128,
+        b"{A\x80",
+        BarFault::Byte { at: 2 },
+    ),
+];
+
+#[test]
+fn barcodes_are_refused(rt: HostRuntime) {
+    for (form, symbology, content, why) in &NO_BARCODES {
+        refuse_bars(&rt, rt.alloc(), *form, *symbology, content, *why);
+    }
+    let long = [b'0'; 256].as_slice();
+    let (code39, itf) = (Symbology::Code39, Symbology::Itf);
+    refuse_bars(&rt, rt.alloc(), Form::A, code39, long, BarFault::Length);
+    refuse_bars(&rt, rt.alloc(), Form::B, itf, long, BarFault::Length);
+}
+
+// These bytes are no raster, for this reason, and come back.
+fn refuse_raster(
+    rt: &impl Abort,
+    alloc: Global,
+    mode: u8,
+    size: [u16; 2],
+    dots: &[u8],
+    why: RasterFault,
+) {
+    let [width, height] = size;
+    let refused = Raster::new(mode, width, height, dots.to_vec(alloc).expect(rt, "memory"));
+    let Err((fault, back)) = refused else {
+        panic!(rt; "a raster");
+    };
+    assert!(rt; fault == why);
+    assert!(rt; back.as_slice() == dots);
+}
+
+#[test]
+fn raster_refusals(rt: HostRuntime) {
+    let alloc = rt.alloc();
+    refuse_raster(&rt, alloc, 0, [1, 2], &[7], RasterFault::Length);
+    refuse_raster(&rt, alloc, 4, [0, 2], &[7], RasterFault::Scale);
+    refuse_raster(&rt, alloc, 52, [1, 1], &[7], RasterFault::Scale);
+    refuse_raster(&rt, alloc, 3, [0, 0], &[], RasterFault::Width);
+    refuse_raster(&rt, alloc, 3, [129, 1], &[7; 129], RasterFault::Width);
+    refuse_raster(&rt, alloc, 48, [1, 0], &[], RasterFault::Height);
+    refuse_raster(&rt, alloc, 51, [1, 4096], &[7; 4096], RasterFault::Height);
+    refuse_raster(&rt, alloc, 51, [2, 3], &[7; 7], RasterFault::Length)
+}
+
+// The largest raster, of which each dot is set so.
+fn reads_at_places(rt: &impl Abort, raster: &Command) {
+    assert!(rt; spelled_len(raster) == LONGEST_SPELLING);
+    let mut tail = [0u8; 4];
+    assert!(rt; spell_from(raster, 524_166, &mut tail) == 2);
+    assert!(rt; spell_from(raster, 6, &mut tail) == 4);
+    assert!(rt; tail == [0xFF, 0x0F, 0xA5, 0xA5]);
+}
+
+// The raster is spelled so, and so is a copy of it.
+fn is_spelled_whole(rt: &impl Abort, alloc: Global, raster: &Command, bytes: &[u8]) {
+    reads_at_places(rt, raster);
+    let copy = [raster.clone().expect(rt, "memory")];
+    assert!(rt; copy[0] == *raster);
+    spell(rt, alloc, &copy, bytes);
+    write_all(rt, alloc, &copy, bytes);
+}
+
+#[test]
+fn largest_raster(rt: HostRuntime) {
+    let bytes = bytes_of(
+        &rt,
+        rt.alloc(),
+        (b"\x1Dv02\x80\x00\xFF\x0F", 0xA5, 524_160, b""),
+    );
+    let dots = bytes_of(&rt, rt.alloc(), (b"", 0xA5, 524_160, b""));
+    let raster = Raster::new(50, 128, 4095, dots).expect(&rt, "a raster");
+    is_spelled_whole(&rt, rt.alloc(), &Command::Raster(raster), &bytes);
+}
+
+// Of the spelling from this place on so many bytes are written: these, and what stood after them.
+fn spells_at(rt: &impl Abort, command: &Command, place: usize, count: usize, bytes: &[u8]) {
+    let mut room = [9u8; 4];
+    let out = &mut room[..bytes.len().min(4)];
+    assert!(rt; spell_from(command, place, out) == count, "at {place}");
+    assert!(rt; *out == *bytes, "at {place}");
+}
+
+#[test]
+fn spell_at(rt: HostRuntime) {
+    let mark = Command::Mark(MarkId::of_number(0).expect(&rt, "a mark"));
+    spells_at(&rt, &mark, 6, 3, b"000");
+    spells_at(&rt, &mark, 11, 0, &[9; 3]);
+    spells_at(&rt, &mark, usize::MAX, 0, &[9; 3]);
+    let content = bytes_of(&rt, rt.alloc(), (b"12", 0, 0, b""));
+    let bars = Bars::new(Form::A, Symbology::Itf, content).expect(&rt, "a barcode");
+    let bars = Command::Bars(bars);
+    spells_at(&rt, &bars, 2, 4, b"\x0512\x00");
+    spells_at(&rt, &bars, 4, 2, b"2\x00\x09\x09");
+}

@@ -1,0 +1,156 @@
+//! The worked rows of the decoder, and each call on its happy path.
+//!
+//! A test makes a decoder and lends it to checks, which own little: what a function owns is proved dropped at each way out
+//! of it.
+
+use crate::support::commands::{FIVE, MARK_35, append, five_commands_of};
+use crate::support::comparison::agrees;
+use crate::support::decoders::{BAD, decodes, holds, push_half, reads, refuses_last, steps_to};
+use escpos_command::{Align, Character, Command, Cut, FaultReason, FeedUnits, MarkId, Pulse, Size};
+use escpos_decode::{DecodeFault, Decoder, End, Step};
+use std::alloc::Global;
+use std::process::Abort;
+
+// Pushes bytes to a decoder, and keeps the commands that it gives.
+fn push_all(rt: &impl Abort, decoder: &mut Decoder, bytes: &[u8], commands: &mut Vec<Command>) {
+    for byte in bytes {
+        if let Step::Done(command) = decoder.push(*byte).expect(rt, "a step") {
+            append(rt, commands, command);
+        }
+    }
+}
+
+// The five commands, from one piece and from two. Of seven bytes the last two are a half command.
+fn reads_five(rt: &impl Abort, alloc: Global, commands: &[Command]) {
+    let end = End::Read { half: 0 };
+    decodes(rt, alloc, &[FIVE], commands, end);
+    for place in 1..8 {
+        decodes(rt, alloc, &[&FIVE[..place], &FIVE[place..]], commands, end);
+    }
+    let (_, four) = commands.split_last().expect(rt, "five commands");
+    decodes(rt, alloc, &[&FIVE[..7]], four, End::Read { half: 2 });
+    agrees(rt, alloc, FIVE);
+}
+
+#[test]
+fn five_commands(rt: HostRuntime) {
+    let commands = five_commands_of(&rt, rt.alloc());
+    reads_five(&rt, rt.alloc(), &commands);
+    let mut decoder = Decoder::new(rt.alloc());
+    let mut one_by_one = Vec::new(rt.alloc());
+    push_all(&rt, &mut decoder, FIVE, &mut one_by_one);
+    assert!(rt; one_by_one == commands);
+    holds(&rt, &decoder, 0);
+}
+
+// Each printable ASCII byte at each place of a mark's id.
+#[test]
+fn bytes_of_a_mark(rt: HostRuntime) {
+    for byte in 0x20..0x7F {
+        for place in 0..4 {
+            let mut id = *b"0000";
+            id[place] = byte;
+            let mark = MarkId::new(id).expect(&rt, "id");
+            let mut bytes = MARK_35;
+            bytes[7..].copy_from_slice(&id);
+            reads(&rt, rt.alloc(), &bytes, &Command::Mark(mark));
+        }
+    }
+}
+
+#[test]
+fn align_range(rt: HostRuntime) {
+    refuses_last(&rt, rt.alloc(), &[0x1B, 0x61, 0x03], BAD);
+    let align = Align::new(0x32).expect(&rt, "align");
+    reads(&rt, rt.alloc(), &[0x1B, 0x61, 0x32], &Command::Align(align));
+}
+
+// The place of a fault counts from the byte after the last command.
+fn refuses_after_init(rt: &impl Abort, decoder: &mut Decoder, fault: DecodeFault) {
+    steps_to(rt, decoder, 0x1B, Ok(Step::More));
+    steps_to(rt, decoder, 0x40, Ok(Step::Done(Command::Init)));
+    steps_to(rt, decoder, 0x1B, Ok(Step::More));
+    steps_to(rt, decoder, 0x24, Err(fault));
+}
+
+#[test]
+fn unknown_bytes(rt: HostRuntime) {
+    let why = FaultReason::UnknownCommand;
+    refuses_last(&rt, rt.alloc(), &[0x1B, 0x24], why);
+    refuses_last(&rt, rt.alloc(), &[0x06], FaultReason::UnknownByte);
+    let fault = DecodeFault::Fault { at: 1, why };
+    assert!(rt; [fault.number(), DecodeFault::Memory.number()] == [2, 6]);
+    let mut decoder = Decoder::new(rt.alloc());
+    refuses_after_init(&rt, &mut decoder, fault);
+    let pieces: [&[u8]; 3] = [&[0x1B], &[0x40, 0x1B], &[0x24, 0x41]];
+    let end = End::Fault { at: 3, why };
+    decodes(&rt, rt.alloc(), &pieces, &[Command::Init], end);
+    agrees(&rt, rt.alloc(), &[0x1B, 0x40, 0x1B, 0x24]);
+}
+
+#[test]
+fn size_bits(rt: HostRuntime) {
+    refuses_last(&rt, rt.alloc(), &[0x1D, 0x21, 0x08], BAD);
+    refuses_last(&rt, rt.alloc(), &[0x1D, 0x21, 0x80], BAD);
+    let size = Size::new(0x77).expect(&rt, "size");
+    reads(&rt, rt.alloc(), &[0x1D, 0x21, 0x77], &Command::Size(size));
+}
+
+#[test]
+fn mark_prefix(rt: HostRuntime) {
+    let alloc = rt.alloc();
+    let unknown = FaultReason::UnknownCommand;
+    refuses_last(&rt, alloc, &[0x1D, 0x28, 0x49], unknown);
+    refuses_last(&rt, alloc, &[0x1D, 0x28, 0x48, 0x07], BAD);
+    let bytes = [0x1D, 0x28, 0x48, 0x06, 0x00, 0x30, 0x30, 0x1F];
+    refuses_last(&rt, alloc, &bytes, BAD);
+}
+
+#[test]
+fn mark_35(rt: HostRuntime) {
+    let mark = MarkId::of_number(35).expect(&rt, "number");
+    reads(&rt, rt.alloc(), &MARK_35, &Command::Mark(mark));
+    let end = End::Read { half: 10 };
+    decodes(&rt, rt.alloc(), &[&MARK_35[..10]], &[], end);
+}
+
+#[test]
+fn cut_feed(rt: HostRuntime) {
+    let cut = Cut::with_feed(0x41, 0x05).expect(&rt, "cut");
+    reads(
+        &rt,
+        rt.alloc(),
+        &[0x1D, 0x56, 0x41, 0x05],
+        &Command::Cut(cut),
+    );
+}
+
+#[test]
+fn units_and_pulse(rt: HostRuntime) {
+    let bytes = [0x41, 0x1B, 0x4A, 0x05, 0x1B, 0x70, 0x00, 0x19, 0xFA];
+    let a = Character::new(0x41).expect(&rt, "A");
+    let units = FeedUnits::new(5).expect(&rt, "units");
+    let pulse = Pulse::new(0, 0x19, 0xFA).expect(&rt, "pulse");
+    let commands = [
+        Command::Char(a),
+        Command::FeedUnits(units),
+        Command::Pulse(pulse),
+    ];
+    let end = End::Read { half: 0 };
+    decodes(&rt, rt.alloc(), &[&bytes], &commands, end);
+    agrees(&rt, rt.alloc(), &bytes);
+}
+
+fn clears_half(rt: &impl Abort, decoder: &mut Decoder) {
+    push_half(rt, decoder, &[0x1D, 0x56]);
+    holds(rt, decoder, 2);
+    decoder.clear();
+    holds(rt, decoder, 0);
+    steps_to(rt, decoder, 0x0A, Ok(Step::Done(Command::LineFeed)));
+}
+
+#[test]
+fn clear_drops_the_half_command(rt: HostRuntime) {
+    let mut decoder = Decoder::new(rt.alloc());
+    clears_half(&rt, &mut decoder);
+}

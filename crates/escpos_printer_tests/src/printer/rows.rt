@@ -1,0 +1,327 @@
+//! The worked rows of the printer.
+//!
+//! A test makes the printer and lends it to checks, which own nothing: what a function owns is proved dropped at each way
+//! out of it.
+
+use crate::support::printers::{
+    NEAR_END, ONLINE, OPEN, RECEIPT, REQUESTS, answers, answers_no_more, feed, feed_all, mark,
+    marks, new_printer, printer_at_last, push_bytes, push_mark,
+};
+use crate::support::values::differ;
+use escpos_command::{Answer, FaultReason};
+use escpos_paper::{Cell, Item};
+use escpos_printer::{Condition, Fed, FeedStop, Printer};
+use std::alloc::Global;
+use std::process::Abort;
+
+fn answers_requests(rt: &impl Abort, printer: &mut Printer, bytes: [u8; 4]) {
+    feed_all(rt, printer, &REQUESTS);
+    for byte in bytes {
+        answers(rt, printer, Answer::Status(byte));
+    }
+    answers_no_more(rt, printer);
+}
+
+// Cover open, near end and paper ended, in each combination, and the answers to the four requests.
+const STATUSES: [([bool; 3], [u8; 4]); 8] = [
+    ([false, false, false], [0x12, 0x12, 0x12, 0x12]),
+    ([true, false, false], [0x1A, 0x16, 0x12, 0x12]),
+    ([false, true, false], [0x12, 0x12, 0x12, 0x1E]),
+    ([true, true, false], [0x1A, 0x16, 0x12, 0x1E]),
+    ([false, false, true], [0x1A, 0x32, 0x12, 0x72]),
+    ([true, false, true], [0x1A, 0x36, 0x12, 0x72]),
+    ([false, true, true], [0x1A, 0x32, 0x12, 0x7E]),
+    ([true, true, true], [0x1A, 0x36, 0x12, 0x7E]),
+];
+
+#[test]
+fn status_answers(rt: HostRuntime) {
+    for ([cover_open, near_end, paper_end], bytes) in STATUSES {
+        let condition = Condition {
+            cover_open,
+            near_end,
+            paper_end,
+        };
+        let mut printer = new_printer(&rt, rt.alloc(), condition);
+        assert!(&rt; printer.condition() == condition);
+        answers_requests(&rt, &mut printer, bytes);
+    }
+}
+
+fn is_offline_while_open(rt: &impl Abort, printer: &mut Printer) {
+    assert!(rt; !printer.is_online());
+    feed(rt, printer, b"A\x10\x04\x01", 0, FeedStop::Offline);
+    feed(rt, printer, b"\x1BE\x01", 2, FeedStop::Offline);
+    assert!(rt; printer.pending_len() == 2);
+    printer.set_condition(ONLINE);
+    assert!(rt; printer.is_online());
+    feed_all(rt, printer, b"\x01");
+    assert!(rt; printer.pending_len() == 0);
+}
+
+#[test]
+fn offline(rt: HostRuntime) {
+    let mut printer = new_printer(&rt, rt.alloc(), OPEN);
+    is_offline_while_open(&rt, &mut printer);
+}
+
+// The bytes before the dots of a raster of one byte by 30 rows.
+const RASTER: &[u8] = b"\x1Dv0\x00\x01\x00\x1E\x00";
+
+// Feeds these dots of a raster and three marks, the first bytes of which are taken for dots; what is left of them lies on paper as text.
+fn takes_marks_for_dots(
+    rt: &impl Abort,
+    printer: &mut Printer,
+    dots: &[u8],
+    marks: &[u8],
+    left: &[u8],
+) {
+    feed_all(rt, printer, RASTER);
+    feed_all(rt, printer, dots);
+    feed_all(rt, printer, marks);
+    answers(rt, printer, mark(rt, 2));
+    answers_no_more(rt, printer);
+    assert!(rt; printer.items().len() == 1);
+    feed_all(rt, printer, b"\n");
+    assert!(rt; is_raster_and_text(printer.items(), left));
+}
+
+fn is_raster_and_text(items: &[Item], text: &[u8]) -> bool {
+    match items {
+        [Item::Raster { .. }, Item::Feed(1)] => text.is_empty(),
+        [Item::Raster { .. }, Item::Row { cells, .. }, Item::Feed(1)] => {
+            has_bytes(cells.as_slice(), text)
+        }
+        _ => false,
+    }
+}
+
+fn has_bytes(cells: &[Cell], bytes: &[u8]) -> bool {
+    match cells {
+        [first, second] => [first.byte, second.byte].as_slice() == bytes,
+        _ => false,
+    }
+}
+
+// The dots that lack end within the second of three marks: its next byte is refused. The fourth, fed alone, is answered.
+fn answers_after_a_fault(rt: &impl Abort, printer: &mut Printer, marks: &[u8], fourth: &[u8]) {
+    feed_all(rt, printer, RASTER);
+    feed_all(rt, printer, &[0x55; 16]);
+    let (at, why) = (14, FaultReason::UnknownByte);
+    feed(rt, printer, marks, 14, FeedStop::Fault { at, why });
+    feed_all(rt, printer, fourth);
+    answers(rt, printer, mark(rt, 3));
+    answers_no_more(rt, printer);
+}
+
+#[test]
+fn lost_raster_bytes(rt: HostRuntime) {
+    let three = marks(&rt, rt.alloc(), &[0, 1, 2]);
+    let fourth = marks(&rt, rt.alloc(), &[3]);
+    let rows: [(&[u8], &[u8]); 2] = [(&[0x55; 8], b""), (&[0x55; 10], b"01")];
+    for (dots, left) in rows {
+        let mut printer = new_printer(&rt, rt.alloc(), ONLINE);
+        takes_marks_for_dots(&rt, &mut printer, dots, &three, left);
+    }
+    let mut printer = new_printer(&rt, rt.alloc(), ONLINE);
+    answers_after_a_fault(&rt, &mut printer, &three, &fourth);
+}
+
+// The last byte of the seventeenth mark waits for an answer to be taken, online.
+fn seventeenth_waits(rt: &impl Abort, printer: &mut Printer, bytes: &[u8], last: &[u8]) {
+    feed(rt, printer, bytes, 186, FeedStop::AnswersFull);
+    assert!(rt; printer.waiting() == 16);
+    printer.set_condition(OPEN);
+    feed(rt, printer, last, 0, FeedStop::Offline);
+    printer.set_condition(ONLINE);
+    feed(rt, printer, last, 0, FeedStop::AnswersFull);
+    answers(rt, printer, mark(rt, 0));
+    feed_all(rt, printer, last);
+    for number in 1..17 {
+        answers(rt, printer, mark(rt, number));
+    }
+    assert!(rt; printer.waiting() == 0);
+}
+
+#[test]
+fn sixteen_waiting(rt: HostRuntime) {
+    let numbers = [0, 1, 2, 3, 4, 5, 6, 7, 8, 9, 10, 11, 12, 13, 14, 15, 16];
+    let bytes = marks(&rt, rt.alloc(), &numbers);
+    let last = bytes.get(186..).expect(&rt, "last");
+    let mut printer = new_printer(&rt, rt.alloc(), ONLINE);
+    seventeenth_waits(&rt, &mut printer, &bytes, last);
+}
+
+fn keeps_a_half_command(rt: &impl Abort, printer: &mut Printer) {
+    feed_all(rt, printer, b"\x1B!");
+    assert!(rt; printer.pending_len() == 2);
+    feed_all(rt, printer, b"\x08");
+    assert!(rt; printer.pending_len() == 0);
+}
+
+#[test]
+fn half_between_feeds(rt: HostRuntime) {
+    let mut printer = new_printer(&rt, rt.alloc(), ONLINE);
+    keeps_a_half_command(&rt, &mut printer);
+}
+
+fn drops_at_restart(rt: &impl Abort, printer: &mut Printer, mark: &[u8]) {
+    feed_all(rt, printer, mark);
+    feed_all(rt, printer, b"A");
+    assert!(rt; printer.waiting() == 1);
+    printer.restart();
+    assert!(rt; printer.waiting() == 0);
+    feed_all(rt, printer, b"\n");
+    assert!(rt; matches!(printer.items(), [Item::Feed(1)]));
+}
+
+#[test]
+fn restart_drops(rt: HostRuntime) {
+    let mark = marks(&rt, rt.alloc(), &[0]);
+    let mut printer = new_printer(&rt, rt.alloc(), ONLINE);
+    drops_at_restart(&rt, &mut printer, &mark);
+}
+
+// A pulse that is cut off by a mark: the next mark is answered.
+fn answers_after_a_pulse(rt: &impl Abort, printer: &mut Printer, pulse: &[u8], next: &[u8]) {
+    let (at, why) = (6, FaultReason::UnknownByte);
+    feed(rt, printer, pulse, 6, FeedStop::Fault { at, why });
+    feed_all(rt, printer, next);
+    answers(rt, printer, mark(rt, 1));
+}
+
+#[test]
+fn pulse_cut_off(rt: HostRuntime) {
+    let mut pulse = b"\x1Bp\x00".to_vec(rt.alloc()).expect(&rt, "memory");
+    push_mark(&rt, &mut pulse, 0);
+    let next = marks(&rt, rt.alloc(), &[1]);
+    let mut printer = new_printer(&rt, rt.alloc(), ONLINE);
+    answers_after_a_pulse(&rt, &mut printer, &pulse, &next);
+}
+
+// Two printers of which nothing differs that can be seen.
+fn are_alike(rt: &impl Abort, printer: &Printer, other: &Printer) {
+    assert!(rt; printer.pending_len() == other.pending_len());
+    assert!(rt; printer.waiting() == other.waiting());
+    assert!(rt; printer.items().len() == other.items().len());
+}
+
+fn answers_the_receipt(rt: &impl Abort, printer: &mut Printer) {
+    assert!(rt; printer.items().len() == 7);
+    answers(rt, printer, Answer::Status(0x12));
+    answers(rt, printer, mark(rt, 0));
+    assert!(rt; printer.waiting() == 0);
+}
+
+// Where memory is refused, the printer is that of the bytes before, and takes the rest when it is fed again. Here each
+// allocation succeeds: `rt try --test --fail-alloc N -- allocations_fail_in_feed` lets the Nth fail.
+#[test]
+fn allocations_fail_in_feed(rt: HostRuntime) {
+    let mut printer = printer_at_last(&rt, rt.alloc());
+    let Fed { consumed, stop } = printer.feed(RECEIPT);
+    if stop != FeedStop::All {
+        assert!(rt; stop == FeedStop::Memory);
+        let (taken, left) = RECEIPT.split_at(consumed);
+        let mut other = new_printer(&rt, rt.alloc(), ONLINE);
+        feed_all(&rt, &mut other, taken);
+        are_alike(&rt, &printer, &other);
+        feed_all(&rt, &mut printer, left);
+    }
+    answers_the_receipt(&rt, &mut printer);
+}
+
+fn keeps_sixteen_answers(rt: &impl Abort, printer: &mut Printer, condition: Condition) {
+    for _ in 0..4 {
+        feed_all(rt, printer, &REQUESTS);
+    }
+    assert!(rt; printer.waiting() == 16);
+    assert!(rt; printer.condition() == condition);
+}
+
+// 100,000 line feeds, a raster of 262,144 dots and a mark.
+fn long_piece(rt: &impl Abort, alloc: Global) -> Vec<u8> {
+    let mut piece = Vec::new(alloc);
+    push_bytes(rt, &mut piece, &[0x0A; 100_000]);
+    push_bytes(rt, &mut piece, b"\x1Dv0\x00\x80\x00\x00\x08");
+    push_bytes(rt, &mut piece, &[0x55; 262_144]);
+    push_mark(rt, &mut piece, 0);
+    piece
+}
+
+// Takes the long piece at once, and then a byte at a time.
+fn takes_long_pieces(rt: &impl Abort, printer: &mut Printer, piece: &[u8]) {
+    feed_all(rt, printer, piece);
+    assert!(rt; printer.items().len() == 100_001);
+    for byte in piece {
+        feed_all(rt, printer, &[*byte]);
+    }
+    assert!(rt; printer.items().len() == 200_002);
+    feed_all(rt, printer, &REQUESTS);
+    assert!(rt; printer.waiting() == 6);
+}
+
+// Memory that is there isn't said to be refused: not far into a piece, not after many items, not at a long command, and
+// not in any condition.
+#[test]
+fn memory_that_is_there(rt: HostRuntime) {
+    for number in 0..8 {
+        let condition = Condition {
+            cover_open: number % 2 == 1,
+            near_end: number / 2 % 2 == 1,
+            paper_end: number / 4 == 1,
+        };
+        let mut printer = new_printer(&rt, rt.alloc(), condition);
+        keeps_sixteen_answers(&rt, &mut printer, condition);
+    }
+    let piece = long_piece(&rt, rt.alloc());
+    let mut printer = new_printer(&rt, rt.alloc(), NEAR_END);
+    takes_long_pieces(&rt, &mut printer, &piece);
+}
+
+const STOPS: [FeedStop; 7] = [
+    FeedStop::All,
+    FeedStop::AnswersFull,
+    FeedStop::Offline,
+    FeedStop::Memory,
+    FeedStop::Fault {
+        at: 14,
+        why: FaultReason::UnknownByte,
+    },
+    FeedStop::Fault {
+        at: 15,
+        why: FaultReason::UnknownByte,
+    },
+    FeedStop::Fault {
+        at: 14,
+        why: FaultReason::BadSize,
+    },
+];
+
+// Values that differ aren't equal, and a clone is.
+#[test]
+fn unequal_values(rt: HostRuntime) {
+    differ(&rt, &STOPS);
+    let mut feds = Vec::new(rt.alloc());
+    for consumed in [1, 2] {
+        for stop in STOPS {
+            feds.push(Fed { consumed, stop }).expect(&rt, "memory");
+        }
+    }
+    differ(&rt, &feds);
+    let ended = Condition {
+        paper_end: true,
+        ..ONLINE
+    };
+    let conditions = [ONLINE, OPEN, NEAR_END, ended];
+    differ(&rt, &conditions);
+    for condition in conditions {
+        assert!(rt; condition.clone().expect(&rt, "memory") == condition);
+    }
+    let answers = [
+        Answer::Status(0x12),
+        Answer::Status(0x1A),
+        mark(&rt, 0),
+        mark(&rt, 1),
+    ];
+    differ(&rt, &answers);
+}

@@ -1,0 +1,305 @@
+//! The command table, read plainly: what a whole byte list is, a row of the table a line.
+//!
+//! It keeps nothing between two bytes and looks at all of them each time, so it shares neither places nor counts with the
+//! decoder. The tests compare the two.
+
+use escpos_command::{
+    Align, BarHeight, BarWidth, Bars, CR, Character, Command, Cut, DLE, EOT, ESC, Emphasis,
+    FaultReason, FeedLines, FeedUnits, Font, Form, GS, HriFont, HriPlace, LF, MarkId, Mode, Pulse,
+    Raster, Size, StatusKind, Symbology, Table, Underline,
+};
+use std::alloc::Global;
+use std::process::Abort;
+
+/// What a byte list is of whose bytes all but the last are nothing or a half command.
+#[derive(Drop)]
+pub enum Reading {
+    /// The spelling of this command.
+    Spelling(Command),
+    /// A half command: it begins a spelling and isn't one.
+    Half,
+    /// It begins no spelling: its last byte is refused for this reason.
+    Refused(FaultReason),
+}
+
+/// What these bytes are, of which there is one at least.
+pub fn read(rt: &impl Abort, alloc: Global, bytes: &[u8]) -> Reading {
+    let (_, before) = bytes.split_last().expect(rt, "a byte");
+    match command_spelled(rt, alloc, bytes) {
+        Some(command) => Reading::Spelling(command),
+        None if begins_spelling(bytes) => Reading::Half,
+        None => Reading::Refused(reason_after(before)),
+    }
+}
+
+// The command that the bytes spell. A parameter is as the table says, and that there is no such value ends the test.
+fn command_spelled(rt: &impl Abort, alloc: Global, bytes: &[u8]) -> Option<Command> {
+    Some(match bytes {
+        [b @ 32..=255] => Command::Char(Character::new(*b).expect(rt, "a parameter")),
+        [LF] => Command::LineFeed,
+        [CR] => Command::Return,
+        [DLE, EOT, n @ 1..=4] => Command::Status(StatusKind::new(*n).expect(rt, "a parameter")),
+        [ESC, rest @ ..] => return spelled_by_escape(rt, rest),
+        [GS, b'k', rest @ ..] => return bars_spelled(rt, alloc, rest),
+        [GS, b'v', b'0', m @ (0..=3 | 48..=51), rest @ ..] => return raster_spelled(
+            rt, alloc, *m, rest,
+        ),
+        [GS, rest @ ..] => return spelled_by_group(rt, rest),
+        _ => return None,
+    })
+}
+
+// The command that these bytes spell after ESC.
+fn spelled_by_escape(rt: &impl Abort, rest: &[u8]) -> Option<Command> {
+    Some(match rest {
+        b"@" => Command::Init,
+        [b'!', n] => Command::Mode(Mode::new(*n).expect(rt, "a parameter")),
+        [b'-', n @ (0..=2 | 48..=50)] => Command::Underline(Underline::new(*n).expect(
+            rt,
+            "a parameter",
+        )),
+        [b'E', n] => Command::Emphasis(Emphasis::new(*n).expect(rt, "a parameter")),
+        [b'M', n @ (0 | 1 | 48 | 49)] => Command::Font(Font::new(*n).expect(rt, "a parameter")),
+        [b'a', n @ (0..=2 | 48..=50)] => Command::Align(Align::new(*n).expect(rt, "a parameter")),
+        [b'J', n] => Command::FeedUnits(FeedUnits::new(*n).expect(rt, "a parameter")),
+        [b'd', n] => Command::FeedLines(FeedLines::new(*n).expect(rt, "a parameter")),
+        [b'p', m @ (0 | 1 | 48 | 49), on, off] => Command::Pulse(Pulse::new(*m, *on, *off).expect(
+            rt,
+            "a parameter",
+        )),
+        [b't', n] => Command::Table(Table::new(*n).expect(rt, "a parameter")),
+        _ => return None,
+    })
+}
+
+// The command without content that these bytes spell after GS.
+fn spelled_by_group(rt: &impl Abort, rest: &[u8]) -> Option<Command> {
+    Some(match rest {
+        [b'!', n] if *n & 0b1000_1000 == 0 => Command::Size(Size::new(*n).expect(
+            rt,
+            "a parameter",
+        )),
+        [b'(', rest @ ..] => return mark_spelled(rt, rest),
+        [b'H', n @ (0..=3 | 48..=51)] => Command::HriPlace(HriPlace::new(*n).expect(
+            rt,
+            "a parameter",
+        )),
+        [b'V', m @ (0 | 1 | 48 | 49)] => Command::Cut(Cut::new(*m).expect(rt, "a parameter")),
+        [b'V', m @ (65 | 66), n] => Command::Cut(Cut::with_feed(*m, *n).expect(rt, "a parameter")),
+        [b'f', n @ (0 | 1 | 48 | 49)] => Command::HriFont(HriFont::new(*n).expect(
+            rt,
+            "a parameter",
+        )),
+        [b'h', n @ 1..=255] => Command::BarHeight(BarHeight::new(*n).expect(rt, "a parameter")),
+        [b'w', n @ 2..=6] => Command::BarWidth(BarWidth::new(*n).expect(rt, "a parameter")),
+        _ => return None,
+    })
+}
+
+// The mark that these bytes spell after GS (.
+fn mark_spelled(rt: &impl Abort, rest: &[u8]) -> Option<Command> {
+    let [b'H', 6, 0, b'0', b'0', a, b, c, d] = rest else {
+        return None;
+    };
+    let id = [*a, *b, *c, *d];
+    if !is_id(&id) {
+        return None;
+    }
+    Some(Command::Mark(MarkId::new(id).expect(rt, "a parameter")))
+}
+
+// Whether the bytes begin a spelling and aren't one.
+fn begins_spelling(bytes: &[u8]) -> bool {
+    match bytes {
+        [DLE] | [DLE, EOT] => true,
+        [ESC, rest @ ..] => begins_after_escape(rest),
+        [GS, b'k', m @ 0..=6, content @ ..] => begins_form_a(*m, content),
+        [GS, b'k', m @ 65..=73, rest @ ..] => begins_form_b(*m, rest),
+        [GS, b'v', b'0'] => true,
+        [GS, b'v', b'0', 0..=3 | 48..=51, rest @ ..] => begins_raster(rest),
+        [GS, rest @ ..] => begins_after_group(rest),
+        _ => false,
+    }
+}
+
+// Whether these bytes begin a spelling after ESC, and aren't one.
+fn begins_after_escape(rest: &[u8]) -> bool {
+    match rest {
+        [] => true,
+        [b'!' | b'-' | b'E' | b'M' | b'a' | b'J' | b'd' | b'p' | b't'] => true,
+        [b'p', 0 | 1 | 48 | 49] => true,
+        [b'p', 0 | 1 | 48 | 49, _] => true,
+        _ => false,
+    }
+}
+
+// Whether these bytes begin a spelling without content after GS, and aren't one.
+fn begins_after_group(rest: &[u8]) -> bool {
+    match rest {
+        [] => true,
+        [b'!' | b'(' | b'H' | b'V' | b'f' | b'h' | b'k' | b'v' | b'w'] => true,
+        [b'(', b'H'] => true,
+        [b'(', b'H', 6] => true,
+        [b'(', b'H', 6, 0] => true,
+        [b'(', b'H', 6, 0, b'0'] => true,
+        [b'(', b'H', 6, 0, b'0', b'0', id @ ..] => id.len() < 4 && is_id(id),
+        [b'V', 65 | 66] => true,
+        _ => false,
+    }
+}
+
+// Why a byte after these is refused.
+fn reason_after(before: &[u8]) -> FaultReason {
+    match before {
+        [] => FaultReason::UnknownByte,
+        [_] | [GS, b'(' | b'v'] => FaultReason::UnknownCommand,
+        [GS, b'k', _, ..] => FaultReason::BadBarcode,
+        [GS, b'v', _, _, ..] => FaultReason::BadSize,
+        _ => FaultReason::BadParameter,
+    }
+}
+
+// Whether each byte may stand in the id of a mark.
+fn is_id(id: &[u8]) -> bool {
+    for byte in id {
+        if *byte < 32 || 126 < *byte {
+            return false;
+        }
+    }
+    true
+}
+
+// The barcode that these bytes spell after GS k.
+fn bars_spelled(rt: &impl Abort, alloc: Global, rest: &[u8]) -> Option<Command> {
+    let (form, mode, content) = match rest {
+        [m @ 0..=6, content @ .., 0] => (Form::A, *m, content),
+        [m @ 65..=73, n, content @ ..] if content.len() == *n as usize => (Form::B, *m, content),
+        _ => return None,
+    };
+    let symbology = symbology_of(form, mode).expect(rt, "memory");
+    if !begins_content(symbology, content.len(), content) {
+        return None;
+    }
+    let content = content.to_vec(alloc).expect(rt, "memory");
+    let bars = Bars::new(form, symbology, content).ok();
+    Some(Command::Bars(bars.expect(rt, "a content of the table")))
+}
+
+// Whether a content that begins so goes on, at some length.
+fn begins_form_a(mode: u8, content: &[u8]) -> bool {
+    let Some(symbology) = symbology_of(Form::A, mode) else {
+        return false;
+    };
+    for length in content.len()..=255 {
+        if begins_content(symbology, length, content) {
+            return true;
+        }
+    }
+    false
+}
+
+// Whether a length and a content that begin so go on.
+fn begins_form_b(mode: u8, rest: &[u8]) -> bool {
+    match (symbology_of(Form::B, mode), rest) {
+        (None, _) => false,
+        (Some(_), []) => true,
+        (Some(symbology), [length, content @ ..]) => {
+            let length = *length as usize;
+            content.len() < length && begins_content(symbology, length, content)
+        }
+    }
+}
+
+// The symbology with this mode.
+fn symbology_of(form: Form, mode: u8) -> Option<Symbology> {
+    match (form, mode) {
+        (Form::A, 0) | (Form::B, 65) => Some(Symbology::UpcA),
+        (Form::A, 2) | (Form::B, 67) => Some(Symbology::Ean13),
+        (Form::A, 3) | (Form::B, 68) => Some(Symbology::Ean8),
+        (Form::A, 4) | (Form::B, 69) => Some(Symbology::Code39),
+        (Form::A, 5) | (Form::B, 70) => Some(Symbology::Itf),
+        (Form::A, 6) | (Form::B, 71) => Some(Symbology::Codabar),
+        (Form::B, 73) => Some(Symbology::Code128),
+        _ => None,
+    }
+}
+
+// Whether there are contents of this length, and one of them begins with these bytes.
+fn begins_content(symbology: Symbology, length: usize, bytes: &[u8]) -> bool {
+    if !has_length(symbology, length) {
+        return false;
+    }
+    for (place, byte) in bytes.iter().enumerate() {
+        if !allows(symbology, length, place, *byte) {
+            return false;
+        }
+    }
+    true
+}
+
+// Whether there are contents of this length.
+fn has_length(symbology: Symbology, length: usize) -> bool {
+    match symbology {
+        Symbology::UpcA => [11, 12].contains(&length),
+        Symbology::Ean13 => [12, 13].contains(&length),
+        Symbology::Ean8 => [7, 8].contains(&length),
+        Symbology::Code39 => 1 <= length && length <= 255,
+        Symbology::Itf => 2 <= length && length <= 254 && length % 2 == 0,
+        Symbology::Codabar | Symbology::Code128 => 2 <= length && length <= 255,
+    }
+}
+
+// Whether a content of this length may have this byte at this place, counted from 0.
+fn allows(symbology: Symbology, length: usize, place: usize, byte: u8) -> bool {
+    let allowed: &[u8] = match (symbology, place) {
+        (Symbology::Code39, _) => b"0123456789ABCDEFGHIJKLMNOPQRSTUVWXYZ $%*+-./",
+        (Symbology::Codabar, 0) => b"ABCDabcd",
+        (Symbology::Codabar, _) if place.checked_add(1) == Some(length) => b"ABCDabcd",
+        (Symbology::Codabar, _) => b"0123456789$+-./:",
+        (Symbology::Code128, 0) => b"{",
+        (Symbology::Code128, 1) => b"ABC",
+        (Symbology::Code128, _) => return byte <= 127,
+        _ => b"0123456789",
+    };
+    allowed.contains(&byte)
+}
+
+// The raster with this size and these dots.
+fn raster_spelled(rt: &impl Abort, alloc: Global, mode: u8, rest: &[u8]) -> Option<Command> {
+    let [x_low, x_high, y_low, y_high, dots @ ..] = rest else {
+        return None;
+    };
+    let x = u16::from_le_bytes([*x_low, *x_high]);
+    let y = u16::from_le_bytes([*y_low, *y_high]);
+    if !begins_size(&rest[..4]) || dots.len() != x as usize * y as usize {
+        return None;
+    }
+    let dots = dots.to_vec(alloc).expect(rt, "memory");
+    let raster = Raster::new(mode, x, y, dots).ok();
+    Some(Command::Raster(raster.expect(rt, "a size of the table")))
+}
+
+// Whether a size and dots that begin so go on.
+fn begins_raster(rest: &[u8]) -> bool {
+    match rest {
+        [x_low, x_high, y_low, y_high, dots @ ..] => {
+            let x = u16::from_le_bytes([*x_low, *x_high]);
+            let y = u16::from_le_bytes([*y_low, *y_high]);
+            begins_size(&rest[..4]) && dots.len() < x as usize * y as usize
+        }
+        _ => begins_size(rest),
+    }
+}
+
+// Whether some raster's size begins with these bytes: xL, xH, yL and yH.
+fn begins_size(bytes: &[u8]) -> bool {
+    match bytes {
+        [] => true,
+        [1..=128] | [1..=128, 0] | [1..=128, 0, _] => true,
+        [1..=128, 0, low, high] => {
+            let height = u16::from_le_bytes([*low, *high]);
+            1 <= height && height <= 4095
+        }
+        _ => false,
+    }
+}

@@ -1,0 +1,103 @@
+-- What one more command does: whether there is text in the line then, and whether each command may follow those before it.
+use Rattle.std.proofs.Common.{◌≡◌, ◌+◌, ◌<◌, ℕ, List, [], ◌∷◌, ◌++◌, ◌⊎◌, inl, inr, refl, sym, ◌∙◌, ap, subst, append_assoc, append-nil, arith, take, drop, get_or, Bool, true, false, cond, IsTrue}
+use Rattle.std.specs.Prelude.{◌||◌, ◌&&◌, ◌==◌, not, length}
+use Rattle.std.specs.List.{list_any}
+use Rattle.std.proofs.lemmas.List.{length-take-le}
+use Rattle.std.proofs.lemmas.List.Folds.{list_any-append}
+use Rattle.escpos_command.specs.declared.command.Command.{Command}
+use Rattle.escpos_command.specs.Text.{text, ends_text, characters}
+use Rattle.escpos_receipt.specs.declared.receipt.ReceiptFault.TheVariants as fault
+use Rattle.escpos_receipt.specs.Whole.{EachMayFollow, IsReceiptFault, MayFollow, StandsFirst, has_text, is_forbidden, is_nonempty, needs_empty_line}
+use Rattle.escpos_receipt.proofs.Prefixes.{split_at}
+
+-- ## Text
+
+or_true : (a : Bool) → (a || true) ≡ true
+or_true true = refl
+or_true false = refl
+
+or_false : (a : Bool) → (a || false) ≡ a
+or_false true = refl
+or_false false = refl
+
+text_by : (cs : List Command) (c : Command) (b : Bool) → ends_text c ≡ b → text (cs ++ c ∷ []) ≡ cond b [] (text cs) ++ characters c
+text_by [] c true h = append-nil (characters c)
+text_by [] c false h = append-nil (characters c)
+text_by (d ∷ cs) c true h =
+    ap (λ b. cond b [] (characters d) ++ text (cs ++ c ∷ []))
+    (list_any-append ends_text cs (c ∷ []) ∙ ap (λ b. list_any ends_text cs || (b || false)) h ∙ or_true (list_any ends_text cs))
+    ∙ text_by cs c true h
+text_by (d ∷ cs) c false h =
+    ap (λ b. cond b [] (characters d) ++ text (cs ++ c ∷ []))
+    (list_any-append ends_text cs (c ∷ []) ∙ ap (λ b. list_any ends_text cs || (b || false)) h ∙ or_false (list_any ends_text cs))
+    ∙ ap (λ t. cond (list_any ends_text cs) [] (characters d) ++ t) (text_by cs c false h)
+    ∙ sym (append_assoc (cond (list_any ends_text cs) [] (characters d)) (text cs) (characters c))
+
+flag_of : (e : Bool) (t more : List ℕ) → is_nonempty (cond e [] t ++ more) ≡ (is_nonempty more || is_nonempty t && not e)
+flag_of true [] [] = refl
+flag_of true [] (y ∷ more) = refl
+flag_of true (x ∷ t) [] = refl
+flag_of true (x ∷ t) (y ∷ more) = refl
+flag_of false [] [] = refl
+flag_of false [] (y ∷ more) = refl
+flag_of false (x ∷ t) [] = refl
+flag_of false (x ∷ t) (y ∷ more) = refl
+
+pub has_text-snoc : (cs : List Command) (c : Command) → has_text (cs ++ c ∷ []) ≡ (is_nonempty (characters c) || has_text cs && not (ends_text c))
+has_text-snoc cs c = ap is_nonempty (text_by cs c (ends_text c) refl) ∙ flag_of (ends_text c) (text cs) (characters c)
+
+pub after_a_character : (cs : List Command) (c : Command) → is_nonempty (characters c) ≡ true → true ≡ has_text (cs ++ c ∷ [])
+after_a_character cs c h = sym (has_text-snoc cs c ∙ ap (λ b. b || has_text cs && not (ends_text c)) h)
+
+pub after_text : (cs : List Command) (c : Command) → is_nonempty (characters c) ≡ false → has_text cs ≡ true → not (ends_text c) ≡ has_text (cs ++ c ∷ [])
+after_text cs c h t = sym (has_text-snoc cs c ∙ ap (λ b. b || has_text cs && not (ends_text c)) h ∙ ap (λ b. b && not (ends_text c)) t)
+
+pub after_none : (cs : List Command) (c : Command) → is_nonempty (characters c) ≡ false → has_text cs ≡ false → false ≡ has_text (cs ++ c ∷ [])
+after_none cs c h t = sym (has_text-snoc cs c ∙ ap (λ b. b || has_text cs && not (ends_text c)) h ∙ ap (λ b. b && not (ends_text c)) t)
+
+-- ## Places
+
+-- A place in a list with one more element is the last, or one of the list.
+split_snoc : {X : Type 0} (xs before : List X) (x y : X) (following : List X) → xs ++ x ∷ [] ≡ before ++ y ∷ following
+    → ((before ≡ xs) × (y ≡ x)) ⊎ ((more : List X) × (xs ≡ before ++ y ∷ more))
+split_snoc [] [] x y following e = inl (refl, cc)
+split_snoc (z ∷ xs) [] x y following e =
+    let same : z ≡ y = cc in
+    inr (xs, ap (λ w. w ∷ xs) same)
+split_snoc [] (b ∷ []) x y following e = let bad : [] ≡ y ∷ following = cc in cc
+split_snoc [] (b ∷ c ∷ before) x y following e = let bad : [] ≡ c ∷ (before ++ y ∷ following) = cc in cc
+split_snoc (z ∷ xs) (b ∷ before) x y following e =
+    let head : z ≡ b = cc in
+    let tail : xs ++ x ∷ [] ≡ before ++ y ∷ following = cc in
+    elim (split_snoc xs before x y following tail) [
+      | inl last ↦ inl (cc (ap (λ w. b ∷ w) last.0, head), last.1)
+      | inr within ↦ inr (within.0, cc (head, within.1))
+    ]
+
+pub some_command : (cs : List Command) → (length cs == 0) ≡ false → cs ≡ [] → ⊥
+some_command [] h e = cc
+some_command (c ∷ cs) h e = cc
+
+pub none_follows : EachMayFollow []
+none_follows [] c following e = let bad : [] ≡ c ∷ following = e in cc
+none_follows (b ∷ before) c following e = let bad : [] ≡ b ∷ (before ++ c ∷ following) = e in cc
+
+pub one_more_follows : (cs : List Command) (c : Command) → EachMayFollow cs → MayFollow cs c → EachMayFollow (cs ++ c ∷ [])
+one_more_follows cs c each last before d following e = elim (split_snoc cs before c d following e) [
+  | inl same ↦ subst (λ b. MayFollow b d) (sym same.0) (subst (λ k. MayFollow cs k) (sym same.1) last)
+  | inr within ↦ each before d within.0 within.1
+]
+
+-- A command in a list, where each command before it may follow those before it.
+pub stands_at : (cs : List Command) (i : ℕ) (c : Command) → i < length cs → c ≡ get_or cs i c → EachMayFollow (take i cs) → StandsFirst cs i (take i cs) c
+stands_at cs i c inside is each =
+    record { following = drop (i + 1) cs; split = split_at cs i c inside is; place = length-take-le i cs (omega (arith, inside)); in_place = each }
+
+-- Such a command may be one that no receipt has, or one that needs an empty line where there is text.
+pub forbidden_at : (cs : List Command) (i : ℕ) (c : Command) → i < length cs → c ≡ get_or cs i c → EachMayFollow (take i cs) → IsTrue (is_forbidden c)
+    → IsReceiptFault (fault.Forbidden i) cs
+forbidden_at cs i c inside is each forbidden = (take i cs, c, stands_at cs i c inside is each, forbidden)
+
+pub mid_line_at : (cs : List Command) (i : ℕ) (c : Command) → i < length cs → c ≡ get_or cs i c → EachMayFollow (take i cs) → IsTrue (needs_empty_line c)
+    → IsTrue (has_text (take i cs)) → IsReceiptFault (fault.MidLine i) cs
+mid_line_at cs i c inside is each needs text = (take i cs, c, stands_at cs i c inside is each, needs, text)

@@ -1,0 +1,22 @@
+-- Each entry's commands come after those of the entries before it; the first that gives none is why there are none.
+use Rattle.std.proofs.Common.{◌≡◌, ◌+◌, map, take, sym, ◌∙◌, subst}
+use Rattle.serde_json.specs.View.{view}
+use Rattle.escpos_receipt.specs.declared.json.JsonError.TheVariants.{Refused}
+use Rattle.escpos_receipt.specs.Describes.{Give}
+use Rattle.escpos_receipt.proofs.MoreEntries.{one_more_value, refused_at}
+use Rattle.escpos_receipt.proofs.json.read_entries.Goals as goal
+
+pub returns-in-Err-clause-refused : goal.returns-in-Err-clause-refused
+returns-in-Err-clause-refused c = λ because e.
+    let same : c.at.result ≡ Refused because = cc in
+    refused_at c.args.entries.now c.loop-at.at c.index-entries-at.result c.loop-at.commands.items c.in-Err.fault because c.loop-at-test.true c.index-entries-at.is
+    c.loop-at.invariant.so_far c.in-Err.ensures.refused (sym c.at.ensures ∙ same)
+
+pub loop-at-preserved : goal.loop-at-preserved
+loop-at-preserved c =
+    let vs = c.args.entries.now in
+    record {
+      so_far = subst (λ cs. Give (map view (take (c.loop-at.at + 1) vs)) cs) (sym c.in_ok-append.ensures.items)
+          (one_more_value vs c.loop-at.at c.index-entries-at.result c.loop-at.commands.items c.in-Ok.part.items c.loop-at-test.true c.index-entries-at.is c.loop-at.invariant.so_far
+          c.in-Ok.ensures.commands);
+    }

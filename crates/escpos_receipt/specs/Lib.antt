@@ -1,0 +1,5 @@
+pub mod Describes
+pub mod Entries
+pub mod Refusals
+pub mod Whole
+pub mod EntryErrors

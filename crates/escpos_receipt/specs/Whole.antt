@@ -1,0 +1,98 @@
+-- What a receipt is: commands that print the same wherever they stand, and leave nothing in the line. (Profile.)
+use Rattle.std.specs.Prelude.{ℕ, ◌≡◌, ◌≢◌, Bool, true, false, IsTrue, List, [], ◌∷◌, ◌++◌, length}
+use Rattle.escpos_command.specs.declared.command.Command.{Command}
+use Rattle.escpos_command.specs.declared.command.Command.TheVariants as kind
+use Rattle.escpos_command.specs.Text.{text}
+use Rattle.escpos_receipt.specs.declared.receipt.ReceiptFault.{ReceiptFault}
+use Rattle.escpos_receipt.specs.declared.receipt.ReceiptFault.TheVariants as fault
+
+-- A receipt may not have this command: the host itself puts Init before a receipt, and the answers to status requests and
+-- marks show the host how far the printer is.
+abbrev pub is_forbidden : Command → Bool
+is_forbidden (kind.Char b) = false
+is_forbidden kind.LineFeed = false
+is_forbidden kind.Return = false
+is_forbidden kind.Init = true
+is_forbidden (kind.Mode n) = false
+is_forbidden (kind.Emphasis n) = false
+is_forbidden (kind.Underline n) = false
+is_forbidden (kind.Font n) = false
+is_forbidden (kind.Table n) = false
+is_forbidden (kind.Align n) = false
+is_forbidden (kind.FeedLines n) = false
+is_forbidden (kind.FeedUnits n) = false
+is_forbidden (kind.Pulse pulse) = false
+is_forbidden (kind.Size n) = false
+is_forbidden (kind.BarHeight n) = false
+is_forbidden (kind.BarWidth n) = false
+is_forbidden (kind.HriPlace n) = false
+is_forbidden (kind.HriFont n) = false
+is_forbidden (kind.Bars bars) = false
+is_forbidden (kind.Raster raster) = false
+is_forbidden (kind.Cut cut) = false
+is_forbidden (kind.Status n) = true
+is_forbidden (kind.Mark id) = true
+
+-- A barcode, a raster or a cut would first print the text that is in the line.
+abbrev pub needs_empty_line : Command → Bool
+needs_empty_line (kind.Char b) = false
+needs_empty_line kind.LineFeed = false
+needs_empty_line kind.Return = false
+needs_empty_line kind.Init = false
+needs_empty_line (kind.Mode n) = false
+needs_empty_line (kind.Emphasis n) = false
+needs_empty_line (kind.Underline n) = false
+needs_empty_line (kind.Font n) = false
+needs_empty_line (kind.Table n) = false
+needs_empty_line (kind.Align n) = false
+needs_empty_line (kind.FeedLines n) = false
+needs_empty_line (kind.FeedUnits n) = false
+needs_empty_line (kind.Pulse pulse) = false
+needs_empty_line (kind.Size n) = false
+needs_empty_line (kind.BarHeight n) = false
+needs_empty_line (kind.BarWidth n) = false
+needs_empty_line (kind.HriPlace n) = false
+needs_empty_line (kind.HriFont n) = false
+needs_empty_line (kind.Bars bars) = true
+needs_empty_line (kind.Raster raster) = true
+needs_empty_line (kind.Cut cut) = true
+needs_empty_line (kind.Status n) = false
+needs_empty_line (kind.Mark id) = false
+
+abbrev pub is_nonempty : {X : Type 0} → List X → Bool
+is_nonempty [] = false
+is_nonempty (x ∷ xs) = true
+
+-- After these commands there is text in the line.
+abbrev pub has_text : List Command → Bool
+has_text cs = is_nonempty (text cs)
+
+-- In a receipt the command may come after these.
+pub record MayFollow (before : List Command) (c : Command) : Type 0 where
+  pub allowed : is_forbidden c ≡ false
+  pub at_line_start : IsTrue (needs_empty_line c) → has_text before ≡ false
+
+-- Each of the commands may come after those before it.
+abbrev pub EachMayFollow : List Command → Type 0
+EachMayFollow cs = (before : List Command) (c : Command) (following : List Command) → cs ≡ before ++ c ∷ following → MayFollow before c
+
+-- The commands are a receipt.
+pub record Whole (cs : List Command) : Type 0 where
+  pub nonempty : cs ≢ []
+  pub in_place : EachMayFollow cs
+  pub no_text_left : has_text cs ≡ false
+
+-- The command at this place, counted from 0, is this one, and those before it may each stand where they do.
+pub record StandsFirst (cs : List Command) (at : ℕ) (before : List Command) (c : Command) : Type 0 where
+  pub following : List Command
+  pub split : cs ≡ before ++ c ∷ following
+  pub place : length before ≡ at
+  pub in_place : EachMayFollow before
+
+-- The first reason for which the commands aren't a receipt.
+abbrev pub IsReceiptFault : ReceiptFault → List Command → Type 0
+IsReceiptFault fault.Empty cs = cs ≡ []
+IsReceiptFault (fault.Forbidden at) cs = (before : List Command) × (c : Command) × StandsFirst cs at before c × IsTrue (is_forbidden c)
+IsReceiptFault (fault.MidLine at) cs =
+    (before : List Command) × (c : Command) × StandsFirst cs at before c × IsTrue (needs_empty_line c) × IsTrue (has_text before)
+IsReceiptFault fault.TextLeft cs = (cs ≢ []) × EachMayFollow cs × IsTrue (has_text cs)

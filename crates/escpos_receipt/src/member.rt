@@ -1,0 +1,73 @@
+//! The members that an entry of a receipt's text in JSON may have, by name.
+//!
+//! A new member is a variant here with a row in `MEMBERS`, a line in `short_command_of` of `entry`, and the same two lines
+//! in `specs/Entries.antt`.
+
+/// A member that an entry may have.
+#[derive(Clone, Copy, Debug, PartialEq, Eq)]
+pub enum Member {
+    /// `text`: characters.
+    Text,
+    /// `line`: characters, and the line feed that prints them.
+    Line,
+    /// `feed`: a feed of 0 to 255 lines.
+    Feed,
+    /// `units`: a feed of 0 to 255 motion units.
+    Units,
+    /// `pulse`: a pulse to the cash drawer, with its pin and how long it is on and off.
+    Pulse,
+    /// `mode`: the byte of ESC !, 0 to 255.
+    Mode,
+    /// `bold`: emphasis, true or false.
+    Bold,
+    /// `underline`: 0 to 2 dots.
+    Underline,
+    /// `font`: `"A"` or `"B"`.
+    Font,
+    /// `table`: the character code table, 0 to 255.
+    Table,
+    /// `align`: `"left"`, `"center"` or `"right"`.
+    Align,
+    /// `size`: width and height of characters, each 1 to 8.
+    Size,
+    /// `bar_height`: the height of barcodes in dots, 1 to 255.
+    BarHeight,
+    /// `bar_width`: the module width of barcodes in dots, 2 to 6.
+    BarWidth,
+    /// `hri`: where the human readable interpretation of barcodes stands: `"none"`, `"above"`, `"below"` or `"both"`.
+    Hri,
+    /// `hri_font`: the font of that interpretation, `"A"` or `"B"`.
+    HriFont,
+    /// `bars`: a barcode, with its symbology and its content.
+    Bars,
+    /// `raster`: a raster, with its scale, its width in bytes, its height in rows, and its dots in hexadecimal.
+    Raster,
+    /// `cut`: `"full"` or `"partial"`.
+    Cut,
+    /// `feed_cut`: a cut after a feed of 0 to 255 motion units.
+    FeedCut,
+}
+
+/// The members' names.
+pub const MEMBERS: [(&str, Member); 20] = [
+    ("text", Member::Text),
+    ("line", Member::Line),
+    ("feed", Member::Feed),
+    ("units", Member::Units),
+    ("pulse", Member::Pulse),
+    ("mode", Member::Mode),
+    ("bold", Member::Bold),
+    ("underline", Member::Underline),
+    ("font", Member::Font),
+    ("table", Member::Table),
+    ("align", Member::Align),
+    ("size", Member::Size),
+    ("bar_height", Member::BarHeight),
+    ("bar_width", Member::BarWidth),
+    ("hri", Member::Hri),
+    ("hri_font", Member::HriFont),
+    ("bars", Member::Bars),
+    ("raster", Member::Raster),
+    ("cut", Member::Cut),
+    ("feed_cut", Member::FeedCut),
+];

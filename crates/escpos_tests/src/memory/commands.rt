@@ -1,0 +1,93 @@
+//! Spelling and copying commands.
+
+use crate::support::refusals::{BARCODE, BOTH, PICTURE, barcode, is_spelled, picture};
+use escpos_command::{CharsFault, Command, chars_of, laws};
+use std::alloc::Global;
+use std::process::Abort;
+
+// Spells a command after these bytes. Where memory is refused nothing is appended, and it is spelled again.
+fn spells(rt: &impl Abort, command: &Command, out: &mut Vec<u8>, (before, after): (&[u8], &[u8])) {
+    if command.spell(out).is_err() {
+        assert!(rt; out.as_slice() == before);
+        assert!(rt; command.spell(out).is_ok());
+    }
+    assert!(rt; out.as_slice() == after);
+}
+
+#[test]
+fn spell_refused(rt: HostRuntime) {
+    let mut out = Vec::new(rt.alloc());
+    let command = Command::Bars(barcode(&rt, rt.alloc()));
+    spells(&rt, &command, &mut out, (b"", BARCODE));
+    let command = Command::Raster(picture(&rt, rt.alloc()));
+    spells(&rt, &command, &mut out, (BARCODE, BOTH));
+}
+
+// The characters of a text. Where memory is refused, they are asked for again.
+fn chars_at_last(rt: &impl Abort, alloc: Global, text: &[u8]) -> Vec<Command> {
+    match chars_of(alloc, text) {
+        Ok(commands) => commands,
+        Err(fault) => {
+            assert!(rt; fault == CharsFault::Memory);
+            chars_of(alloc, text).expect(rt, "characters")
+        }
+    }
+}
+
+// Commands are the characters of a text.
+fn are_chars(rt: &impl Abort, commands: &[Command], text: &[u8]) {
+    assert!(rt; commands.len() == text.len());
+    for (command, byte) in commands.iter().zip(text) {
+        is_spelled(rt, command, &[*byte]);
+    }
+}
+
+#[test]
+fn chars_of_refused(rt: HostRuntime) {
+    let commands = chars_at_last(&rt, rt.alloc(), b"Hi");
+    are_chars(&rt, &commands, b"Hi");
+}
+
+// A copy. Where memory is refused, it is made again.
+fn copy_at_last<T: Clone>(rt: &impl Abort, value: &T) -> T {
+    match value.clone() {
+        Ok(copy) => copy,
+        Err(_) => value.clone().expect(rt, "a copy"),
+    }
+}
+
+#[test]
+fn clone_refused(rt: HostRuntime) {
+    let command = Command::Bars(barcode(&rt, rt.alloc()));
+    is_spelled(&rt, &copy_at_last(&rt, &command), BARCODE);
+    let command = Command::Raster(picture(&rt, rt.alloc()));
+    is_spelled(&rt, &copy_at_last(&rt, &command), PICTURE);
+    is_spelled(&rt, &command, PICTURE);
+}
+
+// The same by the law.
+fn same_at_last(rt: &impl Abort, command: &Command) -> Command {
+    match laws::same_clone(command) {
+        Ok(same) => same,
+        Err(_) => laws::same_clone(command).expect(rt, "a copy"),
+    }
+}
+
+#[test]
+fn same_clone_refused(rt: HostRuntime) {
+    let command = Command::Bars(barcode(&rt, rt.alloc()));
+    is_spelled(&rt, &same_at_last(&rt, &command), BARCODE);
+    is_spelled(&rt, &command, BARCODE);
+}
+
+#[test]
+fn contents_clone_refused(rt: HostRuntime) {
+    let bars = barcode(&rt, rt.alloc());
+    let copy = copy_at_last(&rt, &bars);
+    is_spelled(&rt, &Command::Bars(copy), BARCODE);
+    let raster = picture(&rt, rt.alloc());
+    let copy = copy_at_last(&rt, &raster);
+    is_spelled(&rt, &Command::Raster(copy), PICTURE);
+    let copy = copy_at_last(&rt, &raster.into_dots());
+    assert!(&rt; copy.as_slice() == b"\xF0\x0F".as_slice());
+}

@@ -1,0 +1,238 @@
+//! The jobs of the program over memory, and each call that reads for one.
+//!
+//! A job that is refused memory has put the first lines of what it puts with ample memory, and then the line `memory`. It is done
+//! again over the same input.
+
+use crate::support::hosts::{S, are_line};
+use crate::support::jobs::{NoNetwork, printer_address, run_job};
+use crate::support::refusals::{BARCODE, STREAM, bytes_at_last, is_told};
+use escpos_host::{JsonError, Receipt};
+use escpos_io::{ByteIn, MemoryIn, MemoryOut};
+use escpos_jobs::hexadecimal::{HexFault, bytes_of};
+use escpos_jobs::input::{InputFault, hexadecimal_input};
+use escpos_jobs::receipt_input::{NoReceipt, read_receipt};
+use escpos_jobs::script::{NoEvent, event_of};
+use escpos_jobs::status::Status;
+use escpos_link::Event;
+use escpos_arguments::task_of;
+use escpos_jobs::task::{NoTask, Task};
+use std::alloc::Global;
+use std::process::Abort;
+
+// A line, a barcode, a raster and a half command, in hexadecimal; what is listed of them, and what they print.
+const STREAM_TEXT: &[u8] =
+    b"48690A 1d6b0335353132333435 00 1D763000010002 00f00f 48690a48690a48690a1B";
+
+const LISTED_STREAM: (&[u8], Status) = (
+    b"0 char 48\n1 char 69\n2 lf\n3 bars 03 35353132333435\n14 raster 00 1 2\n\
+      24 char 48\n25 char 69\n26 lf\n27 char 48\n28 char 69\n29 lf\n30 char 48\n31 char 69\n32 lf\nend 34 pending 1\n",
+    Status::Refused,
+);
+
+const RENDERED_STREAM: (&[u8], Status) = (
+    b"row left Hi\nfeed 1\nbars left ean8 162 3 none A 55123457\nraster left normal 1 2 f00f\n\
+      row left Hi\nfeed 1\nrow left Hi\nfeed 1\nrow left Hi\nfeed 1\nend 34 pending 1\n",
+    Status::Refused,
+);
+
+// A receipt in JSON, and the bytes of its commands in hexadecimal.
+const RECEIPT_TEXT: &[u8] =
+    b"[{\"line\":\"Hi\"},{\"bars\":{\"kind\":\"ean8\",\"content\":\"5512345\"}},\
+    {\"raster\":{\"scale\":\"normal\",\"x\":1,\"y\":2,\"dots\":\"f00f\"}},{\"size\":[2,2]},{\"cut\":\"full\"}]";
+
+const ENCODED_LINE: (&[u8], Status) = (
+    b"48690a1d6b4407353531323334351d76300001000200f00f1d21111d5600\n",
+    Status::Good,
+);
+
+// A script, and what is put of it.
+const SCRIPT: &[u8] =
+    b"linkup\nnudge\nmove 99\ndeliver 99\nhandover\nhandover\nanswer 14\nask 1\nsubmit [{\"line\":\"Hi\"}]\n\
+      submit []\nmove 99\ndeliver 99\nhandover\nhandover\nanswer 8\nsubmit [{\"line\":\"Yo\"}]\nmove 99\ndeliver 99\ndrop\nlinkup\n";
+
+const PLAYED: (&[u8], Status) = (
+    b"ok\nok\nmoved 22\nfed 22 all\nhanded on\nhanded on\nheard 14 opened\nok\nok\n\
+      receipt refused 1 Empty\nmoved 19\nfed 19 all\nhanded on\nhanded on\nheard 8 recorded 0\nok\nmoved 16\nfed 16 all\nok\nok\n\
+      paper\nrow left Hi\nfeed 1\nrow left Yo\nfeed 1\nrecords 1\n",
+    Status::Good,
+);
+
+// A job by its own call, or what is asked for by `perform`, without a network.
+#[derive(Clone, Copy)]
+enum Job {
+    Check,
+    Render,
+    Encode,
+    Play,
+    Perform(Task),
+}
+
+fn do_job(alloc: Global, job: Job, source: &mut MemoryIn, sink: &mut MemoryOut) -> Status {
+    match job {
+        Job::Check => escpos_jobs::check::check(alloc, source, sink),
+        Job::Render => escpos_jobs::render::render(alloc, source, sink),
+        Job::Encode => escpos_jobs::encode::encode(alloc, source, sink),
+        Job::Play => escpos_jobs::play::play(alloc, source, sink),
+        Job::Perform(task) => run_job(&NoNetwork, alloc, Ok(task), source, sink),
+    }
+}
+
+// A job over this text puts this. Answers no where memory is refused.
+fn puts(rt: &impl Abort, alloc: Global, job: Job, text: &[u8], wanted: (&[u8], Status)) -> bool {
+    let mut room = [0; 512];
+    let mut source = MemoryIn::new(text, 16);
+    let mut sink = MemoryOut::new(&mut room);
+    let status = do_job(alloc, job, &mut source, &mut sink);
+    is_told(rt, (sink.written(), status), wanted)
+}
+
+// The same. Where memory is refused, it is done again.
+fn puts_at_last(rt: &impl Abort, alloc: Global, job: Job, text: &[u8], wanted: (&[u8], Status)) {
+    if !puts(rt, alloc, job, text, wanted) {
+        assert!(rt; puts(rt, alloc, job, text, wanted));
+    }
+}
+
+#[test]
+fn check_refused(rt: HostRuntime) {
+    puts_at_last(&rt, rt.alloc(), Job::Check, STREAM_TEXT, LISTED_STREAM);
+}
+
+#[test]
+fn render_refused(rt: HostRuntime) {
+    puts_at_last(&rt, rt.alloc(), Job::Render, STREAM_TEXT, RENDERED_STREAM);
+}
+
+#[test]
+fn encode_refused(rt: HostRuntime) {
+    puts_at_last(&rt, rt.alloc(), Job::Encode, RECEIPT_TEXT, ENCODED_LINE);
+}
+
+#[test]
+fn play_refused(rt: HostRuntime) {
+    puts_at_last(&rt, rt.alloc(), Job::Play, SCRIPT, PLAYED);
+}
+
+#[test]
+fn perform_refused(rt: HostRuntime) {
+    for (task, text, wanted) in [
+        (Task::Check, STREAM_TEXT, LISTED_STREAM),
+        (Task::Render, STREAM_TEXT, RENDERED_STREAM),
+        (Task::Encode, RECEIPT_TEXT, ENCODED_LINE),
+        (Task::Play, SCRIPT, PLAYED),
+    ] {
+        puts_at_last(&rt, rt.alloc(), Job::Perform(task), text, wanted);
+    }
+}
+
+// Words ask for this. Where memory is refused that is said, whatever they ask for, and they are read again.
+fn asks_at_last(rt: &impl Abort, alloc: Global, arguments: &[&str], wanted: Result<Task, NoTask>) {
+    let asked = task_of(alloc, arguments);
+    if asked == Err(NoTask::Memory) {
+        assert!(rt; task_of(alloc, arguments) == wanted);
+    } else {
+        assert!(rt; asked == wanted);
+    }
+}
+
+#[test]
+fn task_of_refused(rt: HostRuntime) {
+    asks_at_last(&rt, rt.alloc(), &["check"], Ok(Task::Check));
+    asks_at_last(&rt, rt.alloc(), &["encode", "--help"], Err(NoTask::Help));
+    asks_at_last(&rt, rt.alloc(), &["chec"], Err(NoTask::Usage));
+    let wanted = Task::Emulate {
+        address: printer_address(),
+        links: 3,
+    };
+    let arguments = ["emulate", "127.0.0.1:9100", "--links", "3"];
+    asks_at_last(&rt, rt.alloc(), &arguments, Ok(wanted));
+    let wanted = Task::Send {
+        address: printer_address(),
+        first: 7,
+        openings: 3,
+    };
+    let arguments = ["send", "127.0.0.1:9100", "--first", "7"];
+    asks_at_last(&rt, rt.alloc(), &arguments, Ok(wanted));
+}
+
+// The bytes that a text writes. Where memory is refused, the text is gone, and is made again.
+fn digits_at_last(rt: &impl Abort, alloc: Global, text: &[u8]) -> Vec<u8> {
+    match bytes_of(alloc, bytes_at_last(rt, alloc, text)) {
+        Ok(bytes) => bytes,
+        Err(fault) => {
+            assert!(rt; fault == HexFault::Memory);
+            bytes_of(alloc, bytes_at_last(rt, alloc, text)).expect(rt, "bytes")
+        }
+    }
+}
+
+#[test]
+fn bytes_of_refused(rt: HostRuntime) {
+    let bytes = digits_at_last(&rt, rt.alloc(), b"1d6b 03353531\n32333435 00");
+    assert!(&rt; bytes.as_slice() == BARCODE);
+}
+
+// The bytes that an input writes. Where memory is refused the source hasn't failed, and a new one is read.
+fn input_at_last(rt: &impl Abort, alloc: Global, text: &[u8]) -> Vec<u8> {
+    let mut source = MemoryIn::new(text, 7);
+    match hexadecimal_input(alloc, &mut source) {
+        Ok(bytes) => bytes,
+        Err(fault) => {
+            assert!(rt; fault == InputFault::Memory);
+            assert!(rt; !source.has_failed());
+            let mut source = MemoryIn::new(text, 7);
+            hexadecimal_input(alloc, &mut source).expect(rt, "bytes")
+        }
+    }
+}
+
+#[test]
+fn hexadecimal_input_refused(rt: HostRuntime) {
+    let text = b"48690A 1d6b0335353132333435 00 1D763000010002 00f00f";
+    let bytes = input_at_last(&rt, rt.alloc(), text);
+    assert!(&rt; bytes.as_slice() == STREAM);
+}
+
+// The receipt that an input describes. Where memory is refused the source hasn't failed, and a new one is read.
+fn described_at_last(rt: &impl Abort, alloc: Global) -> Receipt {
+    let mut source = MemoryIn::new(S.0, 7);
+    match read_receipt(alloc, &mut source) {
+        Ok(receipt) => receipt,
+        Err(fault) => {
+            assert!(rt;
+                matches!(
+                    fault,
+                    NoReceipt::Input(InputFault::Memory) | NoReceipt::Text(JsonError::Memory)
+                )
+            );
+            assert!(rt; !source.has_failed());
+            let mut source = MemoryIn::new(S.0, 7);
+            read_receipt(alloc, &mut source).expect(rt, "a receipt")
+        }
+    }
+}
+
+#[test]
+fn read_receipt_refused(rt: HostRuntime) {
+    let receipt = described_at_last(&rt, rt.alloc());
+    assert!(&rt; are_line(receipt.commands(), S.1));
+}
+
+// The event of a line of a script. Where memory is refused, the line is read again.
+fn event_at_last(rt: &impl Abort, alloc: Global, line: &[u8]) -> Event {
+    match event_of(alloc, line) {
+        Ok(event) => event,
+        Err(why) => {
+            assert!(rt; why == NoEvent::Memory);
+            event_of(alloc, line).expect(rt, "an event")
+        }
+    }
+}
+
+#[test]
+fn event_of_refused(rt: HostRuntime) {
+    match event_at_last(&rt, rt.alloc(), b"submit [{\"line\":\"Hi\"}]") {
+        Event::Submit(receipt) => assert!(&rt; are_line(receipt.commands(), S.1)),
+        _ => panic!(&rt; "another event"),
+    }
+}

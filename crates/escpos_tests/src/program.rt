@@ -1,0 +1,11 @@
+//! The program: what its arguments ask for, and its jobs over memory. `tcp` has those over sockets.
+
+mod arguments;
+mod check;
+mod encode;
+mod encode_sizes;
+mod examples;
+mod help;
+mod input;
+mod play;
+mod render;

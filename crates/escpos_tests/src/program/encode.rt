@@ -1,0 +1,299 @@
+//! The worked rows of receipts through `encode`, and hostile texts.
+
+use crate::support::hosts::receipt_of;
+use crate::support::jobs::{EVERY_LINE, EVERY_MEMBER, Row, performs, performs_rows, prints};
+use crate::support::texts::filled;
+use escpos_decode::{Decoded, End, decode};
+use escpos_host::Receipt;
+use escpos_io::MemoryIn;
+use escpos_jobs::status::Status;
+use escpos_jobs::task::Task;
+use std::alloc::Global;
+use std::process::Abort;
+
+// Texts of receipts, and their line.
+const ENCODED: [Row; 7] = [
+    // encode
+    (
+        b"[{\"line\":\"Hi\"},{\"cut\":\"full\"}]",
+        b"48690a1d5600\n",
+        Status::Good,
+    ),
+    (
+        b"[{\"size\":[8,1]},{\"line\":\"A\"}]",
+        b"1d2170410a\n",
+        Status::Good,
+    ),
+    // align_in_receipt
+    (
+        b"[{\"text\":\"A\"},{\"align\":\"center\"},{\"feed\":2}]",
+        b"411b61011b6402\n",
+        Status::Good,
+    ),
+    // bars_in_receipt
+    (
+        b"[{\"bars\":{\"kind\":\"ean8\",\"content\":\"5512345\"}}]",
+        b"1d6b440735353132333435\n",
+        Status::Good,
+    ),
+    // units_in_receipt
+    (
+        b"[{\"line\":\"A\"},{\"units\":5},{\"pulse\":{\"pin\":0,\"on\":25,\"off\":250}}]",
+        b"410a1b4a051b700019fa\n",
+        Status::Good,
+    ),
+    // a member that comes twice has its last value, and a key may have escapes
+    (
+        b"[{\"f\\u0065ed\":256,\"feed\":1}]",
+        b"1b6401\n",
+        Status::Good,
+    ),
+    (EVERY_MEMBER, EVERY_LINE, Status::Good),
+];
+
+// Texts that give no receipt, and why.
+const REFUSED_TEXTS: [Row; 42] = [
+    // receipt_refusals
+    (b"[]", b"refused 1 Empty\n", Status::Refused),
+    (
+        b"[{\"text\":\"Hi\"}]",
+        b"refused 3 TextLeft\n",
+        Status::Refused,
+    ),
+    (
+        b"[{\"text\":\"Hi\"},{\"cut\":\"full\"}]",
+        b"refused 4 MidLine 2\n",
+        Status::Refused,
+    ),
+    (b"[", b"refused 5 NotJson\n", Status::Refused),
+    (b"{}", b"refused 6 BadShape 0\n", Status::Refused),
+    (
+        b"[{\"line\":\"a\\u001b\"}]",
+        b"refused 7 ControlByte 0\n",
+        Status::Refused,
+    ),
+    (
+        b"[{\"line\":\"\xc3\xa9\"}]",
+        b"refused 8 NotAscii 0\n",
+        Status::Refused,
+    ),
+    // bars_in_receipt
+    (
+        b"[{\"bars\":{\"kind\":\"ean8\",\"content\":\"551234\"}}]",
+        b"refused 6 BadShape 0\n",
+        Status::Refused,
+    ),
+    // no text at all, and bytes after the array
+    (b"", b"refused 5 NotJson\n", Status::Refused),
+    (b"[{\"feed\":1}]]", b"refused 5 NotJson\n", Status::Refused),
+    (b"[{\"feed\":1}] x", b"refused 5 NotJson\n", Status::Refused),
+    (b"[{\"feed\":1},]", b"refused 5 NotJson\n", Status::Refused),
+    // no array
+    (b"1", b"refused 6 BadShape 0\n", Status::Refused),
+    (b"null", b"refused 6 BadShape 0\n", Status::Refused),
+    (b"\"line\"", b"refused 6 BadShape 0\n", Status::Refused),
+    // numbers
+    (
+        b"[{\"feed\":1},{\"feed\":-0}]",
+        b"refused 6 BadShape 1\n",
+        Status::Refused,
+    ),
+    (
+        b"[{\"feed\":1},{\"feed\":-1}]",
+        b"refused 6 BadShape 1\n",
+        Status::Refused,
+    ),
+    (
+        b"[{\"feed\":1},{\"feed\":1.0}]",
+        b"refused 6 BadShape 1\n",
+        Status::Refused,
+    ),
+    (
+        b"[{\"feed\":1},{\"feed\":1e2}]",
+        b"refused 6 BadShape 1\n",
+        Status::Refused,
+    ),
+    (
+        b"[{\"feed\":1},{\"feed\":256}]",
+        b"refused 6 BadShape 1\n",
+        Status::Refused,
+    ),
+    (
+        b"[{\"feed\":1},{\"feed\":18446744073709551616}]",
+        b"refused 6 BadShape 1\n",
+        Status::Refused,
+    ),
+    (b"[{\"feed\":01}]", b"refused 5 NotJson\n", Status::Refused),
+    (b"[{\"feed\":+1}]", b"refused 5 NotJson\n", Status::Refused),
+    (
+        b"[{\"feed\":\"1\"}]",
+        b"refused 6 BadShape 0\n",
+        Status::Refused,
+    ),
+    // members
+    (b"[{}]", b"refused 6 BadShape 0\n", Status::Refused),
+    (b"[[]]", b"refused 6 BadShape 0\n", Status::Refused),
+    (
+        b"[{\"feed\":1,\"units\":1}]",
+        b"refused 6 BadShape 0\n",
+        Status::Refused,
+    ),
+    (
+        b"[{\"Feed\":1}]",
+        b"refused 6 BadShape 0\n",
+        Status::Refused,
+    ),
+    (
+        b"[{\"init\":1}]",
+        b"refused 6 BadShape 0\n",
+        Status::Refused,
+    ),
+    (
+        b"[{\"bold\":1}]",
+        b"refused 6 BadShape 0\n",
+        Status::Refused,
+    ),
+    (
+        b"[{\"size\":[1,2,3]}]",
+        b"refused 6 BadShape 0\n",
+        Status::Refused,
+    ),
+    (
+        b"[{\"size\":[0,1]}]",
+        b"refused 6 BadShape 0\n",
+        Status::Refused,
+    ),
+    (
+        b"[{\"size\":[1,9]}]",
+        b"refused 6 BadShape 0\n",
+        Status::Refused,
+    ),
+    (
+        b"[{\"feed_cut\":{\"kind\":\"full\",\"feed\":3,\"x\":0}}]",
+        b"refused 6 BadShape 0\n",
+        Status::Refused,
+    ),
+    (
+        b"[{\"raster\":{\"scale\":\"normal\",\"x\":1,\"y\":2,\"dots\":\"f0\"}}]",
+        b"refused 6 BadShape 0\n",
+        Status::Refused,
+    ),
+    (
+        b"[{\"raster\":{\"scale\":\"normal\",\"x\":1,\"y\":1,\"dots\":\"f\"}}]",
+        b"refused 6 BadShape 0\n",
+        Status::Refused,
+    ),
+    (
+        b"[{\"raster\":{\"scale\":\"normal\",\"x\":0,\"y\":1,\"dots\":\"\"}}]",
+        b"refused 6 BadShape 0\n",
+        Status::Refused,
+    ),
+    // strings
+    (
+        b"[{\"line\":\"\\ud800\"}]",
+        b"refused 5 NotJson\n",
+        Status::Refused,
+    ),
+    (
+        b"[{\"line\":\"\\udc00\\ud800\"}]",
+        b"refused 5 NotJson\n",
+        Status::Refused,
+    ),
+    (
+        b"[{\"line\":\"\\u0000\"}]",
+        b"refused 7 ControlByte 0\n",
+        Status::Refused,
+    ),
+    (
+        b"[{\"line\":\"a\tb\"}]",
+        b"refused 5 NotJson\n",
+        Status::Refused,
+    ),
+    // the first entry that is bad decides, whatever comes with it
+    (
+        b"[{\"text\":\"Hi\"},{\"line\":\"\\u001b\"},{\"line\":\"\xc3\xa9\"},{}]",
+        b"refused 7 ControlByte 1\n",
+        Status::Refused,
+    ),
+];
+
+#[test]
+fn rows_of_encode(rt: HostRuntime) {
+    performs_rows(&rt, rt.alloc(), Task::Encode, &ENCODED, &[1, 4096]);
+}
+
+#[test]
+fn receipt_refusals(rt: HostRuntime) {
+    performs_rows(&rt, rt.alloc(), Task::Encode, &REFUSED_TEXTS, &[7]);
+}
+
+// Refuses a text with this line.
+fn refuses(rt: &impl Abort, alloc: Global, text: &[u8], line: &[u8]) {
+    prints(rt, alloc, Task::Encode, text, (line, Status::Refused));
+}
+
+#[test]
+fn texts_that_are_not_utf_8(rt: HostRuntime) {
+    let not_json = b"refused 5 NotJson\n";
+    refuses(&rt, rt.alloc(), b"[{\"line\":\"\xff\"}]", not_json);
+    refuses(&rt, rt.alloc(), b"\xef\xbb\xbf[{\"feed\":1}]", not_json);
+}
+
+// So many brackets that open, and as many that close.
+fn brackets(rt: &impl Abort, alloc: Global, depth: usize) -> Vec<u8> {
+    let mut text = filled(rt, alloc, b"", b'[', depth);
+    text.resize(depth.saturating_mul(2), b']')
+        .expect(rt, "memory");
+    text
+}
+
+#[test]
+fn deep_json(rt: HostRuntime) {
+    let rows: [(usize, &[u8]); 3] = [
+        (127, b"refused 6 BadShape 0\n"),
+        (128, b"refused 5 NotJson\n"),
+        (100_000, b"refused 5 NotJson\n"),
+    ];
+    for (depth, line) in rows {
+        let text = brackets(&rt, rt.alloc(), depth);
+        refuses(&rt, rt.alloc(), &text, line);
+    }
+}
+
+// The commands of a receipt are those that a decoder reads in its line, with nothing left.
+fn is_read_back(rt: &impl Abort, receipt: &Receipt, decoded: &Decoded) {
+    assert!(rt; decoded.end == End::Read { half: 0 });
+    assert!(rt; decoded.commands.as_slice() == receipt.commands());
+}
+
+// The receipt of this text is read back from the bytes of its line.
+fn reads_back(rt: &impl Abort, alloc: Global, text: &[u8], line: &[u8]) {
+    let bytes = hex::decode(alloc, line.trim_ascii_end()).expect(rt, "digits");
+    let decoded = decode(alloc, &[&bytes]).expect(rt, "memory");
+    is_read_back(rt, &receipt_of(rt, alloc, text), &decoded);
+}
+
+#[test]
+fn receipts_are_read_back(rt: HostRuntime) {
+    for (text, line, _) in &ENCODED {
+        reads_back(&rt, rt.alloc(), text, line);
+    }
+}
+
+// Where a device fails, what went out is the beginning of the line.
+#[test]
+fn devices_of_encode_fail(rt: HostRuntime) {
+    let mut room = [0; 512];
+    for count in 0..EVERY_LINE.len() {
+        let mut source = MemoryIn::new(EVERY_MEMBER, 100);
+        let wanted = (&EVERY_LINE[..count], Status::Device);
+        let room = &mut room[..count];
+        performs(&rt, rt.alloc(), Ok(Task::Encode), &mut source, room, wanted);
+    }
+    let wanted = (b"".as_slice(), Status::Device);
+    for from_call in [1, 2, 9] {
+        let mut source = MemoryIn::failing(EVERY_MEMBER, 64, from_call);
+        let asked = Ok(Task::Encode);
+        performs(&rt, rt.alloc(), asked, &mut source, &mut room, wanted);
+    }
+}

@@ -1,0 +1,142 @@
+//! What no job prints: the help, the usage, and the statuses. What the help shows is what the jobs do.
+
+use crate::support::hosts::read_receipt;
+use crate::support::jobs::{performs, prints};
+use crate::support::reasons::faults;
+use crate::support::texts::joined;
+use escpos_host::{JsonError, JsonFault, ReceiptFault};
+use escpos_io::{ByteIn, MemoryIn};
+use escpos_jobs::status::Status;
+use escpos_jobs::task::{NoTask, Task};
+use escpos_jobs::usage::{HELP, USAGE};
+use std::alloc::Global;
+use std::process::Abort;
+
+#[test]
+fn each_thing_asked_for(rt: HostRuntime) {
+    let rows: [(Result<Task, NoTask>, &[u8], Status); 6] = [
+        (
+            Ok(Task::Check),
+            b"0 char 41\n1 lf\nend 2 pending 0\n",
+            Status::Good,
+        ),
+        (Ok(Task::Render), b"row left A\nfeed 1\n", Status::Good),
+        (Ok(Task::Encode), b"refused 5 NotJson\n", Status::Refused),
+        (Err(NoTask::Help), HELP.as_bytes(), Status::Good),
+        (Err(NoTask::Usage), USAGE.as_bytes(), Status::Usage),
+        (Err(NoTask::Memory), b"memory\n", Status::Memory),
+    ];
+    let mut room = [0; 16384];
+    for (asked, output, status) in rows {
+        let mut source = MemoryIn::new(b"41 0A", 100);
+        let wanted = (output, status);
+        performs(&rt, rt.alloc(), asked, &mut source, &mut room, wanted);
+        assert!(rt; (source.pulls() > 0) == asked.is_ok());
+        let mut source = MemoryIn::new(b"41 0A", 100);
+        let wanted = (&output[..output.len().min(3)], Status::Device);
+        performs(&rt, rt.alloc(), asked, &mut source, &mut [0; 3], wanted);
+    }
+}
+
+#[test]
+fn usage_and_help(rt: HostRuntime) {
+    for name in [
+        "check", "render", "encode", "emulate", "send", "loop", "help",
+    ] {
+        assert!(rt; USAGE.contains(name));
+        assert!(rt; HELP.contains(name));
+    }
+    assert!(rt; HELP.contains("0 good, 1 refused content, 2 usage, 3 device, 4 memory"));
+    assert!(rt; HELP.contains("than 16777216 bytes"));
+    assert!(rt; HELP.contains("[F,W,H,B,U,T]"));
+}
+
+// A job that reads this input, as the help shows it: what the job writes stands below the command, each line indented.
+fn is_shown(rt: &impl Abort, alloc: Global, (name, input, task): (&str, &str, Task), line: &str) {
+    let written = line.as_bytes();
+    prints(rt, alloc, task, input.as_bytes(), (written, Status::Good));
+    let mut shown = format!(in alloc; "$ echo '{input}' | escpos_cli {name}\n").expect(
+        rt, "memory",
+    );
+    for line in line.lines() {
+        shown.push_str("          ").expect(rt, "memory");
+        shown.push_str(line).expect(rt, "memory");
+        shown.push_str("\n").expect(rt, "memory");
+    }
+    assert!(rt; HELP.contains(shown.as_str()));
+}
+
+// What the help shows of each job is what the job writes.
+#[test]
+fn help_shows_what_the_jobs_write(rt: HostRuntime) {
+    let stream = "1B 40 48 69 0A 1D 56 00";
+    let listing = "0 init\n2 char 48\n3 char 69\n4 lf\n5 cut 00\nend 8 pending 0\n";
+    is_shown(&rt, rt.alloc(), ("check", stream, Task::Check), listing);
+    let paper = "row left Hi\nfeed 1\ncut full\n";
+    is_shown(&rt, rt.alloc(), ("render", stream, Task::Render), paper);
+    let receipt = "[{\"line\":\"Hi\"},{\"cut\":\"full\"}]";
+    let job = ("encode", receipt, Task::Encode);
+    is_shown(&rt, rt.alloc(), job, "48690a1d5600\n");
+}
+
+#[test]
+fn statuses_have_codes(rt: HostRuntime) {
+    let rows = [
+        (Status::Good, 0),
+        (Status::Refused, 1),
+        (Status::Usage, 2),
+        (Status::Device, 3),
+        (Status::Memory, 4),
+    ];
+    for (status, code) in rows {
+        assert!(rt; status.code() == code, "{code}");
+    }
+}
+
+// The help has the number and the name of a reason.
+fn is_in_help(rt: &impl Abort, alloc: Global, fault: JsonFault) {
+    let number = fault.number();
+    let name = fault.name();
+    let said = format!(in alloc; "{number} {name}").expect(rt, "memory");
+    assert!(rt; HELP.contains(said.as_str()), "{name}");
+}
+
+// No text gives a command that no receipt has.
+#[test]
+fn help_has_each_reason(rt: HostRuntime) {
+    for fault in faults() {
+        if fault.number() != 2 {
+            is_in_help(&rt, rt.alloc(), *fault);
+        }
+    }
+}
+
+// The example of a member in this line of the help, if it has one.
+fn example_in(line: &str) -> Option<&str> {
+    let start = line.find("{\"")?;
+    let end = line.rfind("}")?;
+    line.get(start..end + 1)
+}
+
+// The text describes a receipt, or would but for a line feed at its end.
+fn describes(rt: &impl Abort, alloc: Global, entry: &str) {
+    let text = joined(rt, alloc, ["[", entry, "]"], 1);
+    let text_left = JsonError::Refused(JsonFault::NotWhole(ReceiptFault::TextLeft));
+    if let Err(error) = read_receipt(alloc, &text) {
+        assert!(rt; error == text_left, "{entry}");
+    }
+}
+
+#[test]
+fn help_has_an_example_of_each_member(rt: HostRuntime) {
+    let mut count = 0u32;
+    for line in HELP.lines() {
+        if let Some(entry) = example_in(line) {
+            if !line.contains("echo") {
+                describes(&rt, rt.alloc(), entry);
+                count = count.saturating_add(1);
+            }
+        }
+    }
+    assert!(rt; count == 22);
+}

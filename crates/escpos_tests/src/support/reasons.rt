@@ -1,0 +1,24 @@
+//! The reasons for which a text is no receipt, in a table of those that differ.
+
+use escpos_host::{JsonFault, ReceiptFault};
+
+// Reasons that differ: in their kind, in the place alone, or in the reason inside.
+const FAULTS: [JsonFault; 13] = [
+    JsonFault::NotWhole(ReceiptFault::Empty),
+    JsonFault::NotWhole(ReceiptFault::TextLeft),
+    JsonFault::NotWhole(ReceiptFault::MidLine { at: 1 }),
+    JsonFault::NotWhole(ReceiptFault::MidLine { at: 2 }),
+    JsonFault::NotWhole(ReceiptFault::Forbidden { at: 1 }),
+    JsonFault::NotWhole(ReceiptFault::Forbidden { at: 2 }),
+    JsonFault::NotJson,
+    JsonFault::BadShape { at: 1 },
+    JsonFault::BadShape { at: 2 },
+    JsonFault::ControlByte { at: 1 },
+    JsonFault::ControlByte { at: 2 },
+    JsonFault::NotAscii { at: 1 },
+    JsonFault::NotAscii { at: 2 },
+];
+
+pub fn faults() -> &'static [JsonFault] {
+    &FAULTS
+}

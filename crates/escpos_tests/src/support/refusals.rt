@@ -1,0 +1,101 @@
+//! Values whose memory may be refused once, and what a job has written where it was.
+
+use crate::support::hosts::{S, read_receipt, receipt_of};
+use escpos_command::{Bars, Command, Form, Raster, Symbology};
+use escpos_host::Receipt;
+use escpos_io::MemoryOut;
+use escpos_jobs::emulate::ONLINE;
+use escpos_jobs::ending::MEMORY;
+use escpos_jobs::status::Status;
+use escpos_paper::{Item, write_items};
+use escpos_printer::Printer;
+use std::alloc::{AllocError, Global};
+use std::process::Abort;
+
+// The spelling of a barcode, EAN-8 in form A, and that of a raster with two rows of a byte.
+pub const BARCODE: &[u8] = b"\x1Dk\x035512345\x00";
+
+pub const PICTURE: &[u8] = b"\x1Dv0\x00\x01\x00\x02\x00\xF0\x0F";
+
+// Both, one after the other.
+pub const BOTH: &[u8] = b"\x1Dk\x035512345\x00\x1Dv0\x00\x01\x00\x02\x00\xF0\x0F";
+
+// A line and both.
+pub const STREAM: &[u8] = b"Hi\n\x1Dk\x035512345\x00\x1Dv0\x00\x01\x00\x02\x00\xF0\x0F";
+
+// These bytes, in memory of their own. Where it is refused, it is asked for again.
+pub fn bytes_at_last(rt: &impl Abort, alloc: Global, bytes: &[u8]) -> Vec<u8> {
+    match bytes.to_vec(alloc) {
+        Ok(copy) => copy,
+        Err(_) => bytes.to_vec(alloc).expect(rt, "bytes"),
+    }
+}
+
+// A paper's text.
+pub fn prints_items(rt: &impl Abort, items: &[Item], text: &[u8]) {
+    let mut room = [0; 512];
+    let mut sink = MemoryOut::new(&mut room);
+    assert!(rt; write_items(items, &mut sink).is_ok());
+    assert!(rt; sink.written() == text);
+}
+
+// A printer that is online. Where its memory is refused, it is asked for again.
+pub fn printer_at_last(rt: &impl Abort, alloc: Global) -> Printer {
+    match Printer::new(alloc, ONLINE) {
+        Ok(printer) => printer,
+        Err(AllocError) => Printer::new(alloc, ONLINE).expect(rt, "a printer"),
+    }
+}
+
+// The receipt S. Where its memory is refused, it is read again.
+pub fn receipt_at_last(rt: &impl Abort, alloc: Global) -> Receipt {
+    let (text, _) = S;
+    match read_receipt(alloc, text) {
+        Ok(receipt) => receipt,
+        Err(_) => receipt_of(rt, alloc, text),
+    }
+}
+
+// A job that is refused memory has put the first lines of the whole, and the line that says so.
+fn is_cut_short(rt: &impl Abort, put: &[u8], whole: &[u8]) {
+    let count = put.len().saturating_sub(MEMORY.len());
+    let (before, last) = put.split_at_checked(count).expect(rt, "the line");
+    assert!(rt; last == MEMORY);
+    assert!(rt; whole.starts_with(before));
+    assert!(rt; before.is_empty() || before.ends_with(b"\n"));
+}
+
+// What a job has put, and its status, are those with ample memory. Answers no where memory is refused: then the first lines of
+// that are out, and the line that says so.
+pub fn is_told(
+    rt: &impl Abort,
+    (put, status): (&[u8], Status),
+    (whole, wanted): (&[u8], Status),
+) -> bool {
+    if status != Status::Memory {
+        assert!(rt; put == whole);
+        assert!(rt; status == wanted);
+        return true;
+    }
+    is_cut_short(rt, put, whole);
+    false
+}
+
+// The barcode that `BARCODE` spells.
+pub fn barcode(rt: &impl Abort, alloc: Global) -> Bars {
+    let content = bytes_at_last(rt, alloc, b"5512345");
+    Bars::new(Form::A, Symbology::Ean8, content).expect(rt, "a barcode")
+}
+
+// The raster that `PICTURE` spells.
+pub fn picture(rt: &impl Abort, alloc: Global) -> Raster {
+    let dots = bytes_at_last(rt, alloc, b"\xF0\x0F");
+    Raster::new(0, 1, 2, dots).expect(rt, "a raster")
+}
+
+// A command is spelled so.
+pub fn is_spelled(rt: &impl Abort, command: &Command, spelling: &[u8]) {
+    let mut room = [0; 32];
+    let count = command.spell_at(0, &mut room);
+    assert!(rt; room.get(..count) == Some(spelling));
+}
