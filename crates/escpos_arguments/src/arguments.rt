@@ -11,9 +11,9 @@ ghost use Rattle.escpos_arguments.specs.ClapAnswers.{IsNumberIn, no_task_of};
 use clap::error::ErrorKind;
 use clap::{Arg, ArgAction, ArgMatches, Command};
 use escpos_command::MarkId;
+use escpos_jobs::task::{NoTask, Task};
 use std::alloc::{AllocError, Global};
 use std::convert::AsStr;
-use escpos_jobs::task::{NoTask, Task};
 use std::net::SocketAddrV4;
 
 /// How many links `emulate` serves without `--links`.

@@ -8,7 +8,9 @@ pub use escpos_arguments::{task_of, without_name};
 use escpos_io::{Incoming, Outgoing};
 use escpos_jobs::perform::perform;
 use escpos_jobs::task::{NoTask, Task};
-pub use escpos_jobs::{check, emulate, encode, loop_link, perform, play, render, send, status, task};
+pub use escpos_jobs::{
+    check, emulate, encode, loop_link, perform, play, render, send, status, task,
+};
 use std::process::ExitCode;
 use std::{env, io};
 

@@ -12,12 +12,14 @@ ghost use Rattle.escpos_printer.specs.LinkInParts.{under};
 ghost use Rattle.escpos_printer.specs.Serves.{Serves, link};
 ghost use Rattle.escpos_jobs.specs.Links.{link_line};
 
-use crate::lines::SPACE;
 use crate::ending::{MEMORY, say};
+use crate::lines::SPACE;
 use crate::paper_text::PaperText;
 use crate::status::Status;
 use escpos_command::LF;
-use escpos_io::{ByteIn, ByteOut, Device, GATHERED_BYTES, Gather, Incoming, Outgoing, append_number, laws};
+use escpos_io::{
+    ByteIn, ByteOut, Device, GATHERED_BYTES, Gather, Incoming, Outgoing, append_number, laws,
+};
 use escpos_printer::{Condition, LinkEnd, Printer, Served, serve_link};
 use std::alloc::Global;
 use std::net::{Net, SocketAddrV4, TcpListener, TcpStream};

@@ -10,8 +10,8 @@ ghost use Rattle.escpos_receipt.specs.declared.json.JsonFault.{JsonFault};
 ghost use Rattle.escpos_jobs.specs.Ending.{IsFair, PrintsText, memory_line, job_end};
 ghost use Rattle.escpos_jobs.specs.Refusal.{refusal_line};
 
-use crate::input::{INPUT_LIMIT, InputFault};
 use crate::ending::refuse;
+use crate::input::{INPUT_LIMIT, InputFault};
 use crate::receipt_input::refuse_text;
 use crate::status::Status;
 use escpos_command::{Command, LF};

@@ -10,9 +10,9 @@ ghost use Rattle.escpos_io.specs.Gather.{Carries, Gathered};
 ghost use Rattle.escpos_jobs.specs.Ending.{IsFair, PrintsText, job_end};
 ghost use Rattle.escpos_jobs.specs.Report.{Shape, Reports, Runs};
 
+use crate::ending::{refuse, status_of};
 use crate::input::hexadecimal_input;
 use crate::lines::Last;
-use crate::ending::{refuse, status_of};
 use crate::status::Status;
 use escpos_decode::{Consumer, Decoder, Stop, read_piece};
 use escpos_io::{ByteIn, ByteOut, Gather, Piece};

@@ -8,11 +8,12 @@ ghost use Rattle.escpos_jobs.specs.Notes.{note_line};
 ghost use Rattle.escpos_command.specs.declared.command.Command.TheVariants as kind;
 ghost use Rattle.hex.specs.Hex.{encode_lower};
 
-use crate::notes::{WrongDigit, wrong_digit};
 use crate::ending::MEMORY;
+use crate::notes::{WrongDigit, wrong_digit};
 use escpos_command::{Bars, Command, FaultReason, LF, Raster};
 use escpos_io::{
-    ByteOut, Device, GATHERED_BYTES, Gather, Piece, append_digits_after, append_number, append_small_number,
+    ByteOut, Device, GATHERED_BYTES, Gather, Piece, append_digits_after, append_number,
+    append_small_number,
 };
 
 /// The byte between the parts of a line.

@@ -10,18 +10,18 @@ ghost use Rattle.escpos_jobs.specs.Play.{Plays};
 ghost use Rattle.escpos_jobs.specs.declared.usage.TheConstants.{HELP, USAGE};
 ghost use Rattle.escpos_jobs.specs.Perform.{ReadsInput, UsesLinks};
 
-use crate::task::{NoTask, Task};
-use crate::usage::{HELP, USAGE};
-use escpos_io::{ByteIn, ByteOut};
-use crate::loop_link::loop_receipt;
 use crate::check::check;
 use crate::emulate::emulate;
 use crate::encode::encode;
 use crate::ending::{MEMORY, say};
+use crate::loop_link::loop_receipt;
 use crate::play::play;
 use crate::render::render;
 use crate::send::send_to;
 use crate::status::Status;
+use crate::task::{NoTask, Task};
+use crate::usage::{HELP, USAGE};
+use escpos_io::{ByteIn, ByteOut};
 use std::alloc::Global;
 use std::net::{Net, TcpListener, TcpStream};
 

@@ -11,12 +11,14 @@ ghost use Rattle.escpos_jobs.specs.Play.{IsNew, Plays, PlaysScript, closing_text
 ghost use Rattle.escpos_jobs.specs.ScriptSteps.{LineGoes, LinesGo};
 
 use crate::emulate::ONLINE;
-use crate::input::{INPUT_LIMIT, InputFault};
 use crate::ending::{MEMORY, refuse, say};
+use crate::input::{INPUT_LIMIT, InputFault};
 use crate::refusal::append_refusal;
 use crate::script::{NoEvent, event_of, first_line};
+use crate::script_output::{
+    EVENT_BYTES, append_note, append_records, append_refused, append_unreadable,
+};
 use crate::status::Status;
-use crate::script_output::{EVENT_BYTES, append_note, append_records, append_refused, append_unreadable};
 use escpos_io::{ByteIn, ByteOut, Device, GATHERED_BYTES, Gather, put_all, read_to_end};
 use escpos_link::{Refusal, Sim};
 use escpos_paper::write_items;

@@ -10,8 +10,8 @@ ghost use Rattle.escpos_jobs.specs.Input.{fault_of_reading};
 ghost use Rattle.escpos_jobs.specs.Ending.{PrintsText, memory_line, job_end};
 ghost use Rattle.escpos_jobs.specs.Refusal.{refusal_line};
 
-use crate::input::{INPUT_LIMIT, InputFault};
 use crate::ending::{MEMORY, refuse, say};
+use crate::input::{INPUT_LIMIT, InputFault};
 use crate::refusal::refuse_receipt;
 use crate::status::Status;
 use escpos_host::{JsonError, Receipt};

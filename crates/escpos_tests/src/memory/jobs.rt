@@ -6,6 +6,7 @@
 use crate::support::hosts::{S, are_line};
 use crate::support::jobs::{NoNetwork, printer_address, run_job};
 use crate::support::refusals::{BARCODE, STREAM, bytes_at_last, is_told};
+use escpos_arguments::task_of;
 use escpos_host::{JsonError, Receipt};
 use escpos_io::{ByteIn, MemoryIn, MemoryOut};
 use escpos_jobs::hexadecimal::{HexFault, bytes_of};
@@ -13,9 +14,8 @@ use escpos_jobs::input::{InputFault, hexadecimal_input};
 use escpos_jobs::receipt_input::{NoReceipt, read_receipt};
 use escpos_jobs::script::{NoEvent, event_of};
 use escpos_jobs::status::Status;
-use escpos_link::Event;
-use escpos_arguments::task_of;
 use escpos_jobs::task::{NoTask, Task};
+use escpos_link::Event;
 use std::alloc::Global;
 use std::process::Abort;
 

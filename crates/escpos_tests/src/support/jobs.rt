@@ -1,8 +1,8 @@
 //! A job of the program over memory: what it reads, what it writes, and the status that it ends with.
 
 use escpos_io::{ByteOut, MemoryIn, MemoryOut, Outgoing};
-use escpos_jobs::status::Status;
 use escpos_jobs::perform::perform;
+use escpos_jobs::status::Status;
 use escpos_jobs::task::{NoTask, Task};
 use std::alloc::Global;
 use std::io;

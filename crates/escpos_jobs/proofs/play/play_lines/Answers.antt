@@ -24,7 +24,7 @@ loop-end-preserved g c =
     let roomed = subst (λ v. Carries first sink c.room.new.self v) (append-nil before.0) (c.in_ok-room.ensures.given.ok first before.0 before.3) in
     let given = given_appended sink false c.room.new.self c.play_line-end.new.gather more.0 more.2 c.play_line-end.ensures.same_count in
     let some : c.loop-end.rest.now ≢ [] = λ none.
-      let bad : true ≡ false = ap (λ s. length s == 0) (sym none) ∙ sym c.is_empty.ensures ∙ c.loop-end-test.true in cc
+    let bad : true ≡ false = ap (λ s. length s == 0) (sym none) ∙ sym c.is_empty.ensures ∙ c.loop-end-test.true in cc
     in
     let next = next_line c.loop-end.end c.play_line-end.result c.args.script.now c.loop-end.rest.now _ _ c.loop-end.number _ c.args.sim.now c.loop-end.sim c.play_line-end.new.sim before.0 more.0
     c.if-is_ok.ensures.value before.1 before.2 refl some c.first_line.ensures.first more.1 in
@@ -39,7 +39,7 @@ pub returns-clause-told : goal.returns-clause-told
 returns-clause-told g c = λ well.
     let told = c.loop-end.invariant.told in
     let none_left : is_ok c.loop-end.end ≡ true → c.loop-end.rest.now ≡ [] = λ good. elim c.loop-end-test.branch [
-      then-loop-end-test+else-is_ok w ↦ let bad : true ≡ false = sym good ∙ sym w.is_ok.ensures.value ∙ w.if-is_ok.false in cc
+      | then-loop-end-test+else-is_ok w ↦ let bad : true ≡ false = sym good ∙ sym w.is_ok.ensures.value ∙ w.if-is_ok.false in cc
       | else-loop-end-test w ↦ empty_rest c.loop-end.rest.now (sym c.is_empty.ensures ∙ w.loop-end-test.false)
     ] in (
       told.0,
