@@ -1,3 +1,4 @@
+pub mod DigitPairs
 pub mod CheckDigits
 pub mod Mapped
 pub mod Listings

@@ -1,8 +1,6 @@
 -- Why an input gives no bytes, by the errors of the layers below.
 use Rattle.escpos_io.specs.declared.reading.ReadError.{ReadError}
 use Rattle.escpos_io.specs.declared.reading.ReadError.TheVariants as reading
-use Rattle.escpos_jobs.specs.declared.hexadecimal.HexFault.{HexFault}
-use Rattle.escpos_jobs.specs.declared.hexadecimal.HexFault.TheVariants as hexadecimal
 use Rattle.escpos_jobs.specs.declared.input.InputFault.{InputFault}
 use Rattle.escpos_jobs.specs.declared.input.InputFault.TheVariants as input
 
@@ -10,7 +8,3 @@ abbrev pub fault_of_reading : ReadError → InputFault
 fault_of_reading reading.TooLong = input.TooLong
 fault_of_reading reading.Failed = input.Device
 fault_of_reading reading.Memory = input.Memory
-
-abbrev pub fault_of_hexadecimal : HexFault → InputFault
-fault_of_hexadecimal hexadecimal.Refused = input.NotHexadecimal
-fault_of_hexadecimal hexadecimal.Memory = input.Memory

@@ -1,6 +1,7 @@
 pub mod Status
 pub mod Ending
 pub mod Hexadecimal
+pub mod DigitValues
 pub mod Input
 pub mod Notes
 pub mod Lines

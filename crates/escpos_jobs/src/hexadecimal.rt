@@ -1,48 +1,83 @@
 //! Bytes from hexadecimal text as a person writes it: digits of either case, with blanks anywhere.
 
-ghost use Rattle.std.specs.Prelude.{◌≡◌, ◌≢◌, ◌%◌, length, IfOk, IsErr};
+ghost use Rattle.std.specs.Prelude.{◌≡◌, ◌≢◌, ◌+◌, ◌-◌, ◌<◌, ◌≤◌, [], ◌∷◌, length, drop, slice_index, None, IfOk, IfSome, IsErr};
 ghost use Rattle.hex.specs.Hex.{decode_of};
-ghost use Rattle.escpos_jobs.specs.Hexadecimal.{IsHexadecimal, digits_of, is_blank};
+ghost use Rattle.escpos_jobs.specs.Hexadecimal.{IsHexadecimal, digits_of};
+ghost use Rattle.escpos_jobs.specs.DigitValues.{value_of};
 
-use hex::FromHexError;
-use std::alloc::Global;
 use thiserror::Error;
 
-/// Why a text gave no bytes.
+/// A text that isn't hexadecimal: a byte is neither a digit nor a blank, or the number of digits is odd.
 #[derive(Clone, Copy, Debug, Drop, PartialEq, Eq, Error)]
-pub enum HexFault {
-    /// It isn't hexadecimal: a byte is neither a digit nor a blank, or the number of digits is odd.
-    #[error("the text isn't hexadecimal")]
-    Refused,
-    /// Out of memory.
-    #[error("there wasn't enough memory")]
-    Memory,
-}
+#[error("the text isn't hexadecimal")]
+pub struct NotHexadecimal;
 
-/// The bytes that the text writes; spaces, tabs, CR and LF are left out.
-pub fn bytes_of(alloc: Global, mut text: Vec<u8>) -> Result<Vec<u8>, HexFault>
+// The value of a blank in the table below, and that of a byte that is no digit either.
+const BLANK: u8 = 16;
+const NONE: u8 = 17;
+
+const _: () = prove!(BLANK == 16);
+const _: () = prove!(NONE == 17);
+
+// The value of each byte as a digit.
+static VALUES: [u8; 256] = [
+    17, 17, 17, 17, 17, 17, 17, 17, 17, 16, 16, 17, 17, 16, 17, 17, 17, 17, 17, 17, 17, 17, 17, 17, 17, 17, 17, 17, 17, 17, 17, 17,
+    16, 17, 17, 17, 17, 17, 17, 17, 17, 17, 17, 17, 17, 17, 17, 17, 0, 1, 2, 3, 4, 5, 6, 7, 8, 9, 17, 17, 17, 17, 17, 17,
+    17, 10, 11, 12, 13, 14, 15, 17, 17, 17, 17, 17, 17, 17, 17, 17, 17, 17, 17, 17, 17, 17, 17, 17, 17, 17, 17, 17, 17, 17, 17, 17,
+    17, 10, 11, 12, 13, 14, 15, 17, 17, 17, 17, 17, 17, 17, 17, 17, 17, 17, 17, 17, 17, 17, 17, 17, 17, 17, 17, 17, 17, 17, 17, 17,
+    17, 17, 17, 17, 17, 17, 17, 17, 17, 17, 17, 17, 17, 17, 17, 17, 17, 17, 17, 17, 17, 17, 17, 17, 17, 17, 17, 17, 17, 17, 17, 17,
+    17, 17, 17, 17, 17, 17, 17, 17, 17, 17, 17, 17, 17, 17, 17, 17, 17, 17, 17, 17, 17, 17, 17, 17, 17, 17, 17, 17, 17, 17, 17, 17,
+    17, 17, 17, 17, 17, 17, 17, 17, 17, 17, 17, 17, 17, 17, 17, 17, 17, 17, 17, 17, 17, 17, 17, 17, 17, 17, 17, 17, 17, 17, 17, 17,
+    17, 17, 17, 17, 17, 17, 17, 17, 17, 17, 17, 17, 17, 17, 17, 17, 17, 17, 17, 17, 17, 17, 17, 17, 17, 17, 17, 17, 17, 17, 17, 17,
+];
+
+/// The bytes that the text writes; spaces, tabs, CR and LF are left out. They are written over the text: nothing is
+/// allocated.
+pub fn bytes_of(mut text: Vec<u8>) -> Result<Vec<u8>, NotHexadecimal>
     ensures bytes { IfOk result (λ v. IsHexadecimal text.items v.items) }
-    ensures memory { result ≡ Err HexFault.Memory → length (digits_of text.items) % 2 ≢ 1 }
-    ensures refused { result ≡ Err HexFault.Refused → IsErr (decode_of (digits_of text.items)) }
+    ensures refused { IsErr result → IsErr (decode_of (digits_of text.items)) }
 {
-    text.retain(|byte| !is_blank_byte(*byte));
-    hex::decode(alloc, text.as_slice()).map_err(fault_by)
-}
-
-// The fault for a refusal of the digits.
-fn fault_by(refusal: FromHexError) -> HexFault
-    ensures refused { result ≡ HexFault.Refused → refusal ≢ FromHexError.OutOfMemory }
-    ensures memory { result ≡ HexFault.Memory → refusal ≡ FromHexError.OutOfMemory }
-{
-    match refusal {
-        FromHexError::OutOfMemory => HexFault::Memory,
-        _ => HexFault::Refused,
+    let mut read = 0;
+    let mut written = 0;
+    while let Some((high, after_high)) = next_digit(&text, read) {
+        let Some((low, after_low)) = next_digit(&text, after_high) else {
+            return Err(NotHexadecimal);
+        };
+        if high > 15 || low > 15 {
+            return Err(NotHexadecimal);
+        }
+        text[written] = high * 16 + low;
+        written += 1;
+        read = after_low;
     }
+    text.truncate(written);
+    Ok(text)
 }
 
-// Whether the byte is left out before the digits are read.
-fn is_blank_byte(byte: u8) -> bool
-    ensures { result ≡ is_blank byte }
+// The value of the next digit and the place after it, from the place `from` on.
+#[inline]
+fn next_digit(text: &[u8], from: usize) -> Option<(u8, usize)>
+    requires { from ≤ length text.now }
+    ensures place { IfSome result (λ found. (from < found.1) × (found.1 ≤ length text.now)) }
+    ensures value { IfSome result (λ found. (found.0 ≡ value_of (slice_index text.now (found.1 - 1))) × (found.0 ≢ BLANK)) }
+    ensures digits { IfSome result (λ found. digits_of (drop from text.now) ≡ slice_index text.now (found.1 - 1) ∷ digits_of (drop found.1 text.now)) }
+    ensures none { result ≡ None → digits_of (drop from text.now) ≡ [] }
 {
-    matches!(byte, b' ' | b'\t' | b'\r' | b'\n')
+    let mut at = from;
+    while at < text.len() {
+        let value = value_of(text[at]);
+        at += 1;
+        if value != BLANK {
+            return Some((value, at));
+        }
+    }
+    None
+}
+
+// The value of a byte as a digit.
+#[inline]
+fn value_of(byte: u8) -> u8
+    ensures { result ≡ value_of byte }
+{
+    VALUES[byte as usize]
 }

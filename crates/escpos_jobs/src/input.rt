@@ -3,9 +3,9 @@
 ghost use Rattle.std.specs.Prelude.{◌≡◌, ◌+◌, ◌<◌, ◌≤◌, length, IfOk, OnOk, IfSome, IsErr, IsErrOf, IsTrue};
 ghost use Rattle.hex.specs.Hex.{decode_of};
 ghost use Rattle.escpos_jobs.specs.Hexadecimal.{IsHexadecimal, digits_of};
-ghost use Rattle.escpos_jobs.specs.Input.{fault_of_hexadecimal, fault_of_reading};
+ghost use Rattle.escpos_jobs.specs.Input.{fault_of_reading};
 
-use crate::hexadecimal::{HexFault, bytes_of};
+use crate::hexadecimal::{NotHexadecimal, bytes_of};
 use escpos_io::{ByteIn, ReadError, read_to_end};
 use std::alloc::Global;
 use thiserror::Error;
@@ -44,14 +44,11 @@ impl From<ReadError> for InputFault {
     }
 }
 
-impl From<HexFault> for InputFault {
-    ghost from_gives = { λ error fault. fault ≡ fault_of_hexadecimal error };
+impl From<NotHexadecimal> for InputFault {
+    ghost from_gives = { λ _ fault. fault ≡ InputFault.NotHexadecimal };
 
-    fn from(fault: HexFault) -> Self {
-        match fault {
-            HexFault::Refused => InputFault::NotHexadecimal,
-            HexFault::Memory => InputFault::Memory,
-        }
+    fn from(_fault: NotHexadecimal) -> Self {
+        InputFault::NotHexadecimal
     }
 }
 
@@ -68,5 +65,5 @@ pub fn hexadecimal_input<R: ByteIn>(alloc: Global, input: &mut R) -> Result<Vec<
     ensures pulls { R.pull_count input.new ≤ R.pull_count input.old + INPUT_LIMIT + 1 }
 {
     let text = read_to_end(alloc, input, INPUT_LIMIT)?;
-    Ok(bytes_of(alloc, text)?)
+    Ok(bytes_of(text)?)
 }

@@ -2,6 +2,8 @@ pub mod OneMore
 pub mod Filled
 pub mod Cuts
 pub mod Widths
+pub mod TextRuns
+pub mod TextSteps
 pub mod OneCut
 pub mod AllCuts
 pub mod Sheets

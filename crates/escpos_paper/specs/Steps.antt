@@ -13,6 +13,7 @@ use Rattle.escpos_command.specs.Text.{ends_text}
 use Rattle.escpos_paper.specs.declared.cell.Cell.{Cell}
 use Rattle.escpos_paper.specs.declared.style.BarStyle.{BarStyle}
 use Rattle.escpos_paper.specs.declared.style.Style.{Style}
+use Rattle.escpos_paper.specs.declared.paper.Paper.{Paper}
 use Rattle.escpos_paper.specs.declared.item.Item.{Item}
 use Rattle.escpos_paper.specs.declared.item.Item.TheVariants.{Feed, FeedUnits, Cut}
 use Rattle.escpos_paper.specs.Styles.{is_init, is_align, is_empty, sets_table, sets_font, sets_width, sets_height, sets_bold, sets_underline, sets_alignment, sets_bar_height, sets_module_width, sets_hri_place, sets_hri_font}
@@ -67,6 +68,16 @@ step_prints s bars align row (kind.Raster raster) = row_and_feed align row ++ ra
 step_prints s bars align row (kind.Cut cut) = row_and_feed align row ++ Cut (leaves_a_point cut.0) cut.1 ∷ []
 step_prints s bars align row _ = []
 
+-- What a paper has, as a sheet.
+abbrev pub sheet_on : Paper → Sheet
+sheet_on paper = record {
+  items = paper.items.items;
+  style = paper.style;
+  bar_style = paper.bar_style;
+  alignment = paper.alignment;
+  line = paper.line;
+}
+
 -- The sheet after a command.
 abbrev pub sheet_after : Sheet → Command → Sheet
 sheet_after sheet c = record {
@@ -76,3 +87,8 @@ sheet_after sheet c = record {
   alignment = alignment_after (is_empty sheet.line) sheet.alignment c;
   line = line_after sheet.style sheet.line c;
 }
+
+-- The sheet after these commands, one after another.
+unfoldable pub sheet_after_all : Sheet → List Command → Sheet
+sheet_after_all sheet [] = sheet
+sheet_after_all sheet (c ∷ cs) = sheet_after_all (sheet_after sheet c) cs

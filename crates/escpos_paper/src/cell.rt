@@ -1,6 +1,6 @@
 //! The cells of a line: characters with the styles that they are printed in.
 
-ghost use Rattle.std.specs.Prelude.{◌≡◌, ◌+◌, ◌<◌, ◌≤◌, [], ◌∷◌, ◌++◌, length};
+ghost use Rattle.std.specs.Prelude.{◌≡◌, ◌+◌, ◌<◌, ◌≤◌, [], ◌∷◌, ◌++◌, length, map};
 ghost use Rattle.escpos_paper.specs.Cells.{face_dots, cell_dots, cell};
 ghost use Rattle.escpos_paper.specs.Styles.{power_on};
 
@@ -33,12 +33,12 @@ impl Cell {
     pub fn dots(&self) -> usize
         ensures { result ≡ cell_dots self.now }
     {
-        face_dots(self.style.font) * self.style.width as usize
+        self.style.dots()
     }
 }
 
-// How wide a character of the font is at width 1.
-fn face_dots(face: FontFace) -> usize
+/// How wide a character of the font is at width 1, in dots.
+pub fn face_dots(face: FontFace) -> usize
     ensures dots { result ≡ face_dots face }
     ensures small { result ≤ 12 }
 {
@@ -88,6 +88,16 @@ impl Cells {
         ensures { self.new ≡ self.old ++ cell ∷ [] }
     {
         self.cells.push(cell);
+    }
+
+    /// Puts characters of one style after the others. There must be room.
+    pub fn extend(&mut self, style: Style, text: &[u8])
+        requires { length self.old + length text.now ≤ LINE_CELLS }
+        ensures { self.new ≡ self.old ++ map (cell style) text.now }
+    {
+        for byte in text {
+            self.cells.push(style.cell(*byte));
+        }
     }
 
     /// The cells as a slice.

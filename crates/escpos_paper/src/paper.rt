@@ -3,7 +3,7 @@
 //! `Paper::carry_out` has an arm for every kind of command, and is the only function of this crate that has. `page` makes
 //! room for the items first, so nothing here can fail.
 
-ghost use Rattle.std.specs.Prelude.{◌≡◌, ◌+◌, ◌≤◌, [], ◌∷◌, ◌++◌, if◌then◌else◌, vec_len, vec_capacity};
+ghost use Rattle.std.specs.Prelude.{◌≡◌, ◌+◌, ◌≤◌, ℕ, IsTrue, [], ◌∷◌, ◌++◌, length, map, take, if◌then◌else◌, vec_len, vec_capacity};
 ghost use Rattle.escpos_command.specs.declared.command.Command.TheVariants as kind;
 ghost use Rattle.escpos_command.specs.Meanings.{leaves_a_point};
 ghost use Rattle.escpos_command.specs.declared.parameter.choices.Alignment.TheVariants.{Left};
@@ -11,7 +11,8 @@ ghost use Rattle.escpos_paper.specs.Printed.{row_of, row_and_feed};
 ghost use Rattle.escpos_paper.specs.declared.item.Item.TheVariants as item;
 ghost use Rattle.escpos_paper.specs.Rows.{fits};
 ghost use Rattle.escpos_paper.specs.Styles.{power_on, power_on_bars, is_empty};
-ghost use Rattle.escpos_paper.specs.Steps.{step_prints, style_after, bar_style_after, alignment_after, line_after, with_cell};
+ghost use Rattle.escpos_paper.specs.Cells.{cell};
+ghost use Rattle.escpos_paper.specs.Steps.{sheet_on, sheet_after_all, step_prints, style_after, bar_style_after, alignment_after, line_after, with_cell};
 
 use crate::barcode::{bars_item, raster_item};
 use crate::cell::Cell;
@@ -110,6 +111,22 @@ impl Paper {
         }
     }
 
+    /// Puts characters into the line, as many from the start of `text` as fit and at least one, and returns how many. If not
+    /// even the first fits, ends the line before it.
+    pub fn put_text(&mut self, text: &[u8]) -> usize
+        requires some { 1 ≤ length text.now }
+        requires room { vec_len self.old.items + 2 ≤ vec_capacity self.old.items }
+        requires visible { 1 ≤ self.old.style.width }
+        requires narrow { self.old.style.width ≤ 8 }
+        ensures count { (1 ≤ result) × (result ≤ length text.now) }
+        ensures sheet { sheet_on self.new ≡ sheet_after_all (sheet_on self.old) (map kind.Char (take result text.now)) }
+    {
+        make_room(&mut self.items, &mut self.line, self.alignment, &self.style);
+        let count = text.len().min(self.line.room_for(&self.style));
+        self.line.extend(self.style, &text[..count]);
+        count
+    }
+
     // Prints the line and then a feed.
     fn feed(&mut self, feed: Item)
         requires { vec_len self.old.items + 2 ≤ vec_capacity self.old.items }
@@ -136,6 +153,21 @@ impl Paper {
     {
         end_line(&mut self.items, &mut self.line, self.alignment);
         self.items.push_reserved(item);
+    }
+}
+
+// Ends the line if no further character of the style fits.
+fn make_room(items: &mut Vec<Item>, line: &mut PrintBuffer, alignment: Alignment, style: &Style)
+    requires room { vec_len items.old + 2 ≤ vec_capacity items.old }
+    requires visible { 1 ≤ style.now.width }
+    requires narrow { style.now.width ≤ 8 }
+    ensures printed { (byte : ℕ) → items.new.items ≡ items.old.items
+        ++ (if fits (line.old ++ cell style.now byte ∷ []) then [] else row_and_feed alignment line.old) }
+    ensures left { (byte : ℕ) → line.new ≡ (if fits (line.old ++ cell style.now byte ∷ []) then line.old else []) }
+    ensures fits { (byte : ℕ) → IsTrue (fits (line.new ++ cell style.now byte ∷ [])) }
+{
+    if line.room_for(style) == 0 {
+        end_line(items, line, alignment);
     }
 }
 

@@ -2,12 +2,13 @@
 //!
 //! It keeps its width in dots beside its cells, so that one addition decides whether one more cell fits.
 
-ghost use Rattle.std.specs.Prelude.{◌≡◌, ◌+◌, ◌*◌, ◌≤◌, IsTrue, [], ◌∷◌, ◌++◌, length};
-ghost use Rattle.escpos_paper.specs.Cells.{dots};
+ghost use Rattle.std.specs.Prelude.{◌≡◌, ◌+◌, ◌*◌, ◌≤◌, IsTrue, IsFalse, ℕ, List, [], ◌∷◌, ◌++◌, length, map};
+ghost use Rattle.escpos_paper.specs.Cells.{cell, dots};
 ghost use Rattle.escpos_paper.specs.Rows.{fits};
 ghost use Rattle.escpos_paper.specs.Styles.{is_empty};
 
 use crate::cell::{Cell, Cells, LINE_DOTS};
+use crate::style::Style;
 use std::marker::Model;
 use std::mem;
 
@@ -53,6 +54,25 @@ impl PrintBuffer {
         ensures { result ≡ fits (self.now ++ cell.now ∷ []) }
     {
         cell.dots() <= LINE_DOTS - self.used
+    }
+
+    /// How many characters of the style fit after the others.
+    pub fn room_for(&self, style: &Style) -> usize
+        requires visible { 1 ≤ style.now.width }
+        ensures fit { (text : List ℕ) → length text ≤ result → IsTrue (fits (self.now ++ map (cell style.now) text)) }
+        ensures none { result ≡ 0 → (byte : ℕ) → IsFalse (fits (self.now ++ cell style.now byte ∷ [])) }
+    {
+        (LINE_DOTS - self.used) / style.dots()
+    }
+
+    /// Puts characters of one style after the others, where they must fit.
+    pub fn extend(&mut self, style: Style, text: &[u8])
+        requires room { IsTrue (fits (self.old ++ map (cell style) text.now)) }
+        requires visible { 1 ≤ style.width }
+        ensures { self.new ≡ self.old ++ map (cell style) text.now }
+    {
+        self.used += style.dots() * text.len();
+        self.cells.extend(style, text);
     }
 
     /// Puts a cell after the others, where it must fit.

@@ -1,13 +1,13 @@
 //! How characters and barcodes are printed. What each command does to the styles is left to `paper`, but for the two
 //! commands that set more than one attribute.
 
-ghost use Rattle.std.specs.Prelude.{◌≡◌, ◌↔◌, IsTrue};
+ghost use Rattle.std.specs.Prelude.{◌≡◌, ◌↔◌, ◌*◌, IsTrue};
 ghost use Rattle.escpos_command.specs.declared.command.Command.TheVariants as kind;
 ghost use Rattle.escpos_paper.specs.Styles.{power_on, power_on_bars, same_style};
-ghost use Rattle.escpos_paper.specs.Cells.{cell};
+ghost use Rattle.escpos_paper.specs.Cells.{cell, face_dots};
 ghost use Rattle.escpos_paper.specs.Steps.{style_after};
 
-use crate::cell::Cell;
+use crate::cell::{Cell, face_dots};
 use escpos_command::{FontFace, HriPosition, Mode, Size};
 
 /// How a character is printed.
@@ -38,6 +38,13 @@ impl Style {
             bold: false,
             underline: 0,
         }
+    }
+
+    /// How wide a character in this style is, in dots.
+    pub fn dots(&self) -> usize
+        ensures { result ≡ face_dots self.now.font * self.now.width }
+    {
+        face_dots(self.font) * self.width as usize
     }
 
     /// A character in this style.

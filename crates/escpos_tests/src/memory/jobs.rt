@@ -9,7 +9,6 @@ use crate::support::refusals::{BARCODE, STREAM, bytes_at_last, is_told};
 use escpos_arguments::task_of;
 use escpos_host::{JsonError, Receipt};
 use escpos_io::{ByteIn, MemoryIn, MemoryOut};
-use escpos_jobs::hexadecimal::{HexFault, bytes_of};
 use escpos_jobs::input::{InputFault, hexadecimal_input};
 use escpos_jobs::receipt_input::{NoReceipt, read_receipt};
 use escpos_jobs::script::{NoEvent, event_of};
@@ -153,23 +152,6 @@ fn task_of_refused(rt: HostRuntime) {
     };
     let arguments = ["send", "127.0.0.1:9100", "--first", "7"];
     asks_at_last(&rt, rt.alloc(), &arguments, Ok(wanted));
-}
-
-// The bytes that a text writes. Where memory is refused, the text is gone, and is made again.
-fn digits_at_last(rt: &impl Abort, alloc: Global, text: &[u8]) -> Vec<u8> {
-    match bytes_of(alloc, bytes_at_last(rt, alloc, text)) {
-        Ok(bytes) => bytes,
-        Err(fault) => {
-            assert!(rt; fault == HexFault::Memory);
-            bytes_of(alloc, bytes_at_last(rt, alloc, text)).expect(rt, "bytes")
-        }
-    }
-}
-
-#[test]
-fn bytes_of_refused(rt: HostRuntime) {
-    let bytes = digits_at_last(&rt, rt.alloc(), b"1d6b 03353531\n32333435 00");
-    assert!(&rt; bytes.as_slice() == BARCODE);
 }
 
 // The bytes that an input writes. Where memory is refused the source hasn't failed, and a new one is read.

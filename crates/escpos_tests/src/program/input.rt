@@ -3,7 +3,7 @@
 use crate::support::jobs::{Row, performs, performs_rows, prints};
 use crate::support::texts::{append_text, filled, joined};
 use escpos_io::MemoryIn;
-use escpos_jobs::hexadecimal::{HexFault, bytes_of};
+use escpos_jobs::hexadecimal::{NotHexadecimal, bytes_of};
 use escpos_jobs::status::Status;
 use escpos_jobs::task::Task;
 use std::alloc::Global;
@@ -100,9 +100,9 @@ fn a_sink_fails_at_each_place(rt: HostRuntime) {
     }
 }
 
-fn gives_bytes(rt: &impl Abort, alloc: Global, text: &[u8], wanted: Result<&[u8], HexFault>) {
+fn gives_bytes(rt: &impl Abort, alloc: Global, text: &[u8], wanted: Result<&[u8], NotHexadecimal>) {
     let text = text.to_vec(alloc).expect(rt, "memory");
-    match (bytes_of(alloc, text), wanted) {
+    match (bytes_of(text), wanted) {
         (Ok(bytes), Ok(wanted)) => assert!(rt; bytes.as_slice() == wanted),
         (Err(fault), Err(wanted)) => assert!(rt; fault == wanted),
         _ => panic!(rt; "the other outcome"),
@@ -111,7 +111,7 @@ fn gives_bytes(rt: &impl Abort, alloc: Global, text: &[u8], wanted: Result<&[u8]
 
 #[test]
 fn digits_give_bytes(rt: HostRuntime) {
-    let rows: [(&[u8], Result<&[u8], HexFault>); 8] = [
+    let rows: [(&[u8], Result<&[u8], NotHexadecimal>); 8] = [
         (
             b"1B 40 aF\tFa\r\n0a",
             Ok(b"\x1b\x40\xaf\xfa\x0a".as_slice()),
@@ -119,10 +119,10 @@ fn digits_give_bytes(rt: HostRuntime) {
         (b"1 b 4\n0", Ok(b"\x1b\x40")),
         (b" \t\r\n", Ok(b"")),
         (b"", Ok(b"")),
-        (b"1B4", Err(HexFault::Refused)),
-        (b"g0 00", Err(HexFault::Refused)),
-        (b"00 0x", Err(HexFault::Refused)),
-        (b"00\x0b00", Err(HexFault::Refused)),
+        (b"1B4", Err(NotHexadecimal)),
+        (b"g0 00", Err(NotHexadecimal)),
+        (b"00 0x", Err(NotHexadecimal)),
+        (b"00\x0b00", Err(NotHexadecimal)),
     ];
     for (text, wanted) in rows {
         gives_bytes(&rt, rt.alloc(), text, wanted);

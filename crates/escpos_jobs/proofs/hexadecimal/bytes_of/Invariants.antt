@@ -1,0 +1,18 @@
+use Rattle.std.proofs.Common.{◌≡◌, ◌-◌, ◌+◌, ◌≤◌, ℕ, List, ◌++◌, length, drop, take, Ok, IsErr}
+use Rattle.hex.specs.Hex.{decode_of}
+use Rattle.escpos_jobs.specs.Hexadecimal.{digits_of}
+use Rattle.escpos_jobs.proofs.hexadecimal.bytes_of.Given as goal
+
+-- the bytes so far are written, and the text after them is as it was
+abbrev pub invariant-loop-high : goal.invariant-loop-high
+invariant-loop-high l = record {
+  kept : drop l.read l.text.items ≡ drop l.read l.fn.text.items;
+  whole : length l.text.items ≡ length l.fn.text.items;
+  room : l.written ≤ l.read;
+  inside : l.read ≤ length l.text.items;
+  bytes : (out : List ℕ) → decode_of (digits_of (drop l.read l.fn.text.items)) ≡ Ok out → decode_of (digits_of l.fn.text.items) ≡ Ok (take l.written l.text.items ++ out);
+  refused : IsErr (decode_of (digits_of (drop l.read l.fn.text.items))) → IsErr (decode_of (digits_of l.fn.text.items));
+}
+
+abbrev pub decreases-loop-high : goal.decreases-loop-high
+decreases-loop-high l = length l.text.items - l.read

@@ -1,0 +1,36 @@
+use Rattle.std.proofs.Common.{◌≡◌, ◌+◌, ◌*◌, ◌≤◌, ◌++◌, length, map, ap, sym, ◌∙◌, arith, length-append}
+use Rattle.std.proofs.lemmas.List.{length-map}
+use Rattle.std.proofs.Math.Nat.{mul_comm}
+use Rattle.escpos_paper.specs.Cells.{cell, dots, face_dots}
+use Rattle.escpos_paper.proofs.TextRuns.{text_inside, dots_with_text, wide_text}
+use Rattle.escpos_paper.proofs.print_buffer.PrintBuffer.extend.Goals as goal
+
+pub overflow_mul-self : goal.overflow_mul-self
+overflow_mul-self c =
+    let inside = text_inside c.args.style c.args.self.now c.args.text.now c.requires.room in
+    rw c.dots.ensures (omega (arith, inside))
+
+pub overflow_add-self : goal.overflow_add-self
+overflow_add-self c =
+    let inside = text_inside c.args.style c.args.self.now c.args.text.now c.requires.room in
+    rw (c.dots.ensures, c.self.invariant.0, c.self.view_is) (omega (arith, inside))
+
+pub extend-requires : goal.extend-requires
+extend-requires c =
+    let inside = text_inside c.args.style c.args.self.now c.args.text.now c.requires.room in
+    let each = wide_text c.args.style (length c.args.text.now) c.requires.visible in
+    omega (arith, inside, each, c.self.invariant.0, c.self.invariant.2, ap dots c.self.view_is)
+
+pub invariant_of-self : goal.invariant_of-self
+invariant_of-self c =
+    let inside = text_inside c.args.style c.args.self.now c.args.text.now c.requires.room in
+    let each = wide_text c.args.style (length c.args.text.now) c.requires.visible in
+    let width = face_dots c.args.style.font * c.args.style.width in
+    let product : c.dots.result * length c.args.text.now ≡ width * length c.args.text.now = ap (λ d. d * length c.args.text.now) c.dots.ensures in
+    let wider = ap dots c.extend.ensures ∙ dots_with_text c.args.style c.self.inside.cells c.args.text.now in
+    let longer = ap length c.extend.ensures ∙ length-append c.self.inside.cells (map (cell c.args.style) c.args.text.now) in
+    let many = length-map c.args.text.now (cell c.args.style) in (
+      omega (arith, product, wider, c.self.invariant.0, mul_comm width (length c.args.text.now)),
+      omega (arith, product, inside, c.self.invariant.0, ap dots c.self.view_is),
+      omega (arith, product, longer, many, each, c.self.invariant.2),
+    )
