@@ -1,17 +1,22 @@
 -- What carrying out a command leaves, in the pieces that a page has it in.
-use Rattle.std.proofs.Common.{◌≡◌, List, [], ◌∷◌, ◌++◌, ap, sym, ◌∙◌, subst, append_assoc}
+use Rattle.std.proofs.Common.{◌≡◌, ℕ, List, [], ◌∷◌, ◌++◌, map, refl, ap, sym, ◌∙◌, subst, append_assoc, append-nil}
+use Rattle.std.specs.Prelude.{IsTrue}
+use Rattle.std.specs.List.{AllPass}
+use Rattle.std.proofs.lemmas.List.Elements.{All-head, All-tail}
 use Rattle.escpos_paper.specs.declared.item.Item.{Item}
 use Rattle.escpos_paper.specs.declared.cell.Cell.{Cell}
 use Rattle.escpos_paper.specs.declared.style.BarStyle.{BarStyle}
 use Rattle.escpos_paper.specs.declared.style.Style.{Style}
 use Rattle.escpos_command.specs.declared.command.Command.{Command}
+use Rattle.escpos_command.specs.declared.command.Command.TheVariants.{Char}
+use Rattle.escpos_command.specs.Parameters.{is_character}
 use Rattle.escpos_command.specs.CommandTable.{IsCommand, AreCommands}
 use Rattle.escpos_command.specs.declared.parameter.choices.Alignment.{Alignment}
 use Rattle.escpos_paper.specs.Styles.{is_empty}
 use Rattle.escpos_paper.specs.Page.{Sheet}
 use Rattle.escpos_paper.specs.Torn.{below}
-use Rattle.escpos_paper.specs.Steps.{style_after, bar_style_after, alignment_after, line_after, step_prints, sheet_after}
-use Rattle.escpos_paper.proofs.Sheets.{sheet_of}
+use Rattle.escpos_paper.specs.Steps.{style_after, bar_style_after, alignment_after, line_after, step_prints, sheet_after, sheet_after_all}
+use Rattle.escpos_paper.proofs.Sheets.{sheet_of, sheet_step}
 use Rattle.escpos_paper.proofs.Widths.{IsWidth, width_in_range}
 
 -- The style of any sheet that commands leave has a width that can be printed.
@@ -37,3 +42,27 @@ pub step_below : (gone : List Item) (sheet : Sheet) (c : Command) → below gone
 step_below gone sheet c =
     let above = append_assoc gone sheet.items (step_prints sheet.style sheet.bar_style sheet.alignment sheet.line c) in
     cc above
+
+-- ## Several commands, one after another
+
+pub all_more : (cs ds : List Command) → AreCommands cs → AreCommands ds → AreCommands (cs ++ ds)
+all_more [] ds h k = k
+all_more (c ∷ cs) ds h k = (h.0, all_more cs ds h.1 k)
+
+pub characters_in_range : (bs : List ℕ) → AllPass is_character bs → AreCommands (map Char bs)
+characters_in_range [] h = tt
+characters_in_range (b ∷ bs) h = (All-head (λ x. IsTrue (is_character x)) b bs h, characters_in_range bs (All-tail (λ x. IsTrue (is_character x)) b bs h))
+
+-- So steps from the sheet of some commands lead to the sheet of all.
+pub sheet_steps : (old new : Sheet) (kept : List Item) (cs ds : List Command)
+    → new ≡ sheet_after_all old ds → old ≡ sheet_of kept cs → new ≡ sheet_of kept (cs ++ ds)
+unfolding sheet_after_all
+sheet_steps old new kept cs [] e is = e ∙ is ∙ ap (sheet_of kept) (sym (append-nil cs))
+sheet_steps old new kept cs (d ∷ ds) e is =
+    sheet_steps (sheet_after old d) new kept (cs ++ d ∷ []) ds e (sheet_step old (sheet_after old d) kept cs d refl is)
+    ∙ ap (sheet_of kept) (append_assoc cs (d ∷ []) ds)
+
+pub steps_below : (gone : List Item) (sheet : Sheet) (ds : List Command) → below gone (sheet_after_all sheet ds) ≡ sheet_after_all (below gone sheet) ds
+unfolding sheet_after_all
+steps_below gone sheet [] = refl
+steps_below gone sheet (d ∷ ds) = steps_below gone (sheet_after sheet d) ds ∙ ap (λ s. sheet_after_all s ds) (step_below gone sheet d)

@@ -5,8 +5,11 @@
 //! one line. The invariant of its type says that these are what the definitions find by looking back in the whole list of
 //! commands. What each command does to them is left to `paper`; a page makes room for it.
 
-ghost use Rattle.std.specs.Prelude.{◌≡◌, ◌+◌, ◌≤◌, nat_le, IsOk, IfErr, OnOk, OnErr, List, [], ◌∷◌, ◌++◌, length};
+ghost use Rattle.std.specs.Prelude.{◌≡◌, ◌+◌, ◌≤◌, nat_le, IsOk, IfOk, IfErr, OnOk, OnErr, List, [], ◌∷◌, ◌++◌, length, map, take};
+ghost use Rattle.std.specs.List.{AllPass};
 ghost use Rattle.escpos_command.specs.declared.command.Command.{Command};
+ghost use Rattle.escpos_command.specs.declared.command.Command.TheVariants.{Char};
+ghost use Rattle.escpos_command.specs.Parameters.{is_character};
 ghost use Rattle.escpos_paper.specs.declared.item.Item.{Item};
 ghost use Rattle.escpos_paper.specs.Page.{PageIs, IsReached};
 ghost use Rattle.escpos_paper.specs.Torn.{TornIs, bare};
@@ -101,6 +104,23 @@ impl Page {
         }
         self.paper.carry_out(command);
         Ok(())
+    }
+
+    /// Carries out characters: as many from the start of `text` as one line takes, and at least one. Returns how many. `Err`
+    /// where an allocation failed; it leaves items, styles and line as they were. Allocates nothing where the page has room.
+    pub fn apply_text(&mut self, text: &[u8]) -> Result<usize, AllocError>
+        requires some { 1 ≤ length text.now }
+        requires characters { AllPass is_character text.now }
+        ensures count { IfOk result (λ count. (1 ≤ count) × (count ≤ length text.now)) }
+        ensures taken { IfOk result (λ count. (kept : List Item) (cs : List Command) →
+            PageIs self.old kept cs → PageIs self.new kept (cs ++ map Char (take count text.now))) }
+        ensures torn { IfOk result (λ count. (gone : List Item) (cs : List Command) →
+            TornIs self.old gone cs → TornIs self.new gone (cs ++ map Char (take count text.now))) }
+        ensures same { OnErr result (self.new.sheet ≡ self.old.sheet) }
+        ensures no_memory { MOST_ITEMS ≤ self.old.room → IsOk result }
+    {
+        self.ready()?;
+        Ok(self.paper.put_text(text))
     }
 
     /// What is printed on the paper and wasn't torn off, from top to bottom. Allocates nothing.
