@@ -11,3 +11,4 @@ pub mod Copied
 pub mod Resynchronisation
 pub mod AnswerReadings
 pub mod FirstReading
+pub mod Texts

@@ -239,7 +239,7 @@ never_both bs r f = not_both bs r.0 f.0 r.1 f.1 f.2 f.3 r.2 f.4
 
 -- ## Each byte list is read or refused
 
-all_append : (cs ds : List Command) → AllByRecursion IsCommand cs → AllByRecursion IsCommand ds → AllByRecursion IsCommand (cs ++ ds)
+pub all_append : (cs ds : List Command) → AllByRecursion IsCommand cs → AllByRecursion IsCommand ds → AllByRecursion IsCommand (cs ++ ds)
 all_append [] ds h k = k
 all_append (c ∷ cs) ds h k = (h.0, all_append cs ds h.1 k)
 
@@ -331,7 +331,7 @@ fault_of_front a more cs rest k why f =
       reason = f.reason;
     }
 
-reads_spelled : (cs : List Command) → AllByRecursion IsCommand cs → Reads (spell cs) cs []
+pub reads_spelled : (cs : List Command) → AllByRecursion IsCommand cs → Reads (spell cs) cs []
 reads_spelled cs h = record { commands = h; whole = sym (append-nil (spell cs)); rest_is = inl refl }
 
 -- A fault goes on where a reading stopped.

@@ -5,6 +5,8 @@
 //! from these; it isn't kept.
 
 ghost use Rattle.std.specs.Prelude.{ℕ, List, ◌≡◌, ◌<◌, ◌≤◌, [], ◌∷◌, ◌++◌, length, take, IsTrue, IfSome, Ok, Err};
+ghost use Rattle.std.specs.List.{AllPass};
+ghost use Rattle.escpos_command.specs.Parameters.{is_character};
 ghost use Rattle.escpos_command.specs.declared.command.Command.{Command};
 ghost use Rattle.escpos_command.specs.declared.command.Command.TheVariants.{Char};
 ghost use Rattle.escpos_command.specs.Grammar.{Reads};
@@ -154,6 +156,23 @@ impl Decoder {
         }
     }
 
+    /// How many characters stand at the start of `bytes`, if the decoder is between commands; otherwise 0. They need not be
+    /// pushed: they leave the decoder as it is. Most bytes of a receipt are characters, for which the table isn't needed.
+    #[inline]
+    pub(crate) fn characters(&self, bytes: &[u8]) -> usize
+        ensures count { result ≤ length bytes.now }
+        ensures characters { AllPass is_character (take result bytes.now) }
+        ensures between { 1 ≤ result → self.now ≡ [] }
+    {
+        match self.state {
+            State::Start => match bytes.iter().position(|byte| !is_character(*byte)) {
+                Some(count) => count,
+                None => bytes.len(),
+            },
+            _ => 0,
+        }
+    }
+
     /// Takes the dots of a raster at the start of `bytes`, all but the raster's last byte, and returns how many bytes it
     /// took: 0 where the half command has no dots to come, or only one byte of them. No such byte is refused or ends a
     /// command. Allocates nothing.
@@ -273,6 +292,14 @@ impl Decoder {
         self.state = State::Start;
         self.content = Vec::new(self.alloc);
     }
+}
+
+// Whether the byte is that of a character.
+#[inline]
+fn is_character(byte: u8) -> bool
+    ensures { result ≡ is_character byte }
+{
+    byte >= 0x20
 }
 
 // What a step completes.

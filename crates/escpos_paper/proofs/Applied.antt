@@ -1,15 +1,10 @@
 -- What carrying out a command leaves, in the pieces that a page has it in.
-use Rattle.std.proofs.Common.{◌≡◌, ℕ, List, [], ◌∷◌, ◌++◌, map, refl, ap, sym, ◌∙◌, subst, append_assoc, append-nil}
-use Rattle.std.specs.Prelude.{IsTrue}
-use Rattle.std.specs.List.{AllPass}
-use Rattle.std.proofs.lemmas.List.Elements.{All-head, All-tail}
+use Rattle.std.proofs.Common.{◌≡◌, List, [], ◌∷◌, ◌++◌, refl, ap, sym, ◌∙◌, subst, append_assoc, append-nil}
 use Rattle.escpos_paper.specs.declared.item.Item.{Item}
 use Rattle.escpos_paper.specs.declared.cell.Cell.{Cell}
 use Rattle.escpos_paper.specs.declared.style.BarStyle.{BarStyle}
 use Rattle.escpos_paper.specs.declared.style.Style.{Style}
 use Rattle.escpos_command.specs.declared.command.Command.{Command}
-use Rattle.escpos_command.specs.declared.command.Command.TheVariants.{Char}
-use Rattle.escpos_command.specs.Parameters.{is_character}
 use Rattle.escpos_command.specs.CommandTable.{IsCommand, AreCommands}
 use Rattle.escpos_command.specs.declared.parameter.choices.Alignment.{Alignment}
 use Rattle.escpos_paper.specs.Styles.{is_empty}
@@ -44,14 +39,6 @@ step_below gone sheet c =
     cc above
 
 -- ## Several commands, one after another
-
-pub all_more : (cs ds : List Command) → AreCommands cs → AreCommands ds → AreCommands (cs ++ ds)
-all_more [] ds h k = k
-all_more (c ∷ cs) ds h k = (h.0, all_more cs ds h.1 k)
-
-pub characters_in_range : (bs : List ℕ) → AllPass is_character bs → AreCommands (map Char bs)
-characters_in_range [] h = tt
-characters_in_range (b ∷ bs) h = (All-head (λ x. IsTrue (is_character x)) b bs h, characters_in_range bs (All-tail (λ x. IsTrue (is_character x)) b bs h))
 
 -- So steps from the sheet of some commands lead to the sheet of all.
 pub sheet_steps : (old new : Sheet) (kept : List Item) (cs ds : List Command)

@@ -4,9 +4,11 @@ use Rattle.std.specs.Prelude.{IsTrue}
 use Rattle.std.proofs.lemmas.List.Elements.{All-take}
 use Rattle.escpos_command.specs.declared.command.Command.TheVariants.{Char}
 use Rattle.escpos_command.specs.Parameters.{is_character}
+use Rattle.escpos_command.proofs.Readings.{all_append}
+use Rattle.escpos_command.proofs.Texts.{characters_in_range}
 use Rattle.escpos_paper.specs.Page.{PageView}
 use Rattle.escpos_paper.specs.Torn.{below}
-use Rattle.escpos_paper.proofs.Applied.{width_of, all_more, characters_in_range, sheet_steps, steps_below}
+use Rattle.escpos_paper.proofs.Applied.{width_of, sheet_steps, steps_below}
 use Rattle.escpos_paper.proofs.page.Page.apply_text.Goals as goal
 
 pub put_text-requires-clause-visible : goal.put_text-requires-clause-visible
@@ -24,7 +26,7 @@ invariant_of-self c =
       kept = c.self.invariant.kept;
       commands = c.self.invariant.commands ++ map Char text;
       in_range =
-          all_more c.self.invariant.commands (map Char text) c.self.invariant.in_range
+          all_append c.self.invariant.commands (map Char text) c.self.invariant.in_range
           (characters_in_range text (All-take (λ x. IsTrue (is_character x)) c.put_text.result c.args.text.now c.requires.characters));
       page_is = sheet_steps _ _ c.self.invariant.kept c.self.invariant.commands (map Char text) c.put_text.ensures.sheet c.self.invariant.page_is;
     }
