@@ -14,7 +14,7 @@ pub characters_in_range : (bs : List ℕ) → AllPass is_character bs → AreCom
 characters_in_range [] h = tt
 characters_in_range (b ∷ bs) h = (All-head (λ x. IsTrue (is_character x)) b bs h, characters_in_range bs (All-tail (λ x. IsTrue (is_character x)) b bs h))
 
-spelled : (bs : List ℕ) → spell (map Char bs) ≡ bs
+pub spelled : (bs : List ℕ) → spell (map Char bs) ≡ bs
 spelled [] = refl
 spelled (b ∷ bs) = ap (λ t. b ∷ t) (spelled bs)
 

@@ -4,13 +4,16 @@
 //! called, so that no failed allocation hides a fault. A consumer that must know what a byte would complete before it is
 //! taken must be asked at the start of the loop body.
 
-ghost use Rattle.std.specs.Prelude.{◌≡◌, ℕ, List, [], ◌∷◌, ◌++◌, length, take, OnOk, IfErr};
+ghost use Rattle.std.specs.Prelude.{◌≡◌, ◌≤◌, ◌<◌, ◌+◌, ◌^◌, ℕ, List, [], ◌∷◌, ◌++◌, length, map, take, OnOk, IfOk, IfErr};
+ghost use Rattle.std.specs.List.{AllPass};
 ghost use Rattle.escpos_command.specs.declared.command.Command.{Command};
+ghost use Rattle.escpos_command.specs.declared.command.Command.TheVariants.{Char};
+ghost use Rattle.escpos_command.specs.Parameters.{is_character};
 ghost use Rattle.escpos_command.specs.CommandTable.{spell};
 ghost use Rattle.escpos_decode.specs.Reading.{given, IsAccepted, StopsAt, EndsWith, IfRefused};
 
 use crate::decoder::{DecodeFault, Decoder, Step};
-use escpos_command::{Command, FaultReason};
+use escpos_command::{Character, Command, FaultReason};
 
 /// Takes the commands of a stream, one after another, and may pass something on to an output `W`.
 pub trait Consumer<W> {
@@ -28,6 +31,30 @@ pub trait Consumer<W> {
         ensures accepted { OnOk result ((start : Self × W) (cs : List Command) → place ≡ length (spell cs) →
             accepted start (self.old, output.old) cs → accepted start (self.new, output.new) (cs ++ command ∷ [])) }
         ensures refused { IfErr result (refused (self.old, output.old) (self.new, output.new)) };
+
+    /// Takes at least one of the characters at the start of `text`, the first of which has `place` bytes before it, and
+    /// returns how many. On `Err` it has taken none.
+    fn take_text(
+        &mut self,
+        text: &[u8],
+        place: usize,
+        output: &mut W,
+    ) -> Result<usize, Self::Refusal>
+        requires some { 1 ≤ length text.now }
+        requires characters { AllPass is_character text.now }
+        ensures count { IfOk result (λ count. (1 ≤ count) × (count ≤ length text.now)) }
+        ensures accepted { IfOk result (λ count. (start : Self × W) (cs : List Command) → place ≡ length (spell cs) →
+            accepted start (self.old, output.old) cs → accepted start (self.new, output.new) (cs ++ map Char (take count text.now))) }
+        ensures refused { IfErr result (refused (self.old, output.old) (self.new, output.new)) }
+    {
+        let Some(character) = Character::new(text[0]) else {
+            unreachable!()
+        };
+        match self.take(Command::Char(character), place, output) {
+            Ok(()) => Ok(1),
+            Err(refusal) => Err(refusal),
+        }
+    }
 
     // At the start no command was taken.
     ghost nothing: { (start : Self × W) → accepted start start [] };
@@ -64,25 +91,56 @@ pub fn read_piece<W, C: Consumer<W>>(
     let mut start = 0;
     let mut at = 0;
     while at < piece.len() {
-        let command = if let Some(character) = decoder.character(piece[at]) {
-            Command::Char(character)
-        } else {
-            match decoder.push(piece[at]) {
-                Ok(Step::Done(command)) => command,
-                Ok(Step::More) => {
-                    at += 1;
-                    at += decoder.push_dots(&piece[at..]);
-                    continue;
-                }
-                Err(DecodeFault::Fault { why, .. }) => return Err(Stop::Fault { at, why }),
-                Err(DecodeFault::Memory) => return Err(Stop::Memory),
+        let count = decoder.characters(&piece[at..]);
+        if count > 0 {
+            if let Err(refusal) = give_text(&piece[at..at + count], start, consumer, output) {
+                return Err(Stop::Refused(refusal));
             }
+            at += count;
+            start = before + at;
+            continue;
+        }
+        let command = match decoder.push(piece[at]) {
+            Ok(Step::Done(command)) => command,
+            Ok(Step::More) => {
+                at += 1;
+                at += decoder.push_dots(&piece[at..]);
+                continue;
+            }
+            Err(DecodeFault::Fault { why, .. }) => return Err(Stop::Fault { at, why }),
+            Err(DecodeFault::Memory) => return Err(Stop::Memory),
         };
         at += 1;
         if let Err(refusal) = consumer.take(command, start, output) {
             return Err(Stop::Refused(refusal));
         }
         start = before + at;
+    }
+    Ok(())
+}
+
+// Gives characters to the consumer, the first of which has `place` bytes before it.
+fn give_text<W, C: Consumer<W>>(
+    text: &[u8],
+    place: usize,
+    consumer: &mut C,
+    output: &mut W,
+) -> Result<(), C::Refusal>
+    requires characters { AllPass is_character text.now }
+    requires counted { place + length text.now < 2 ^ 64 }
+    ensures accepted { OnOk result ((start : C × W) (cs : List Command) → place ≡ length (spell cs) →
+        C.accepted start (consumer.old, output.old) cs → C.accepted start (consumer.new, output.new) (cs ++ map Char text.now)) }
+    ensures refused { IfErr result (λ refusal. (last : C × W) × (k : ℕ) × (k < length text.now)
+        × ((start : C × W) (cs : List Command) → place ≡ length (spell cs) →
+            C.accepted start (consumer.old, output.old) cs → C.accepted start last (cs ++ map Char (take k text.now)))
+        × C.refused last (consumer.new, output.new) refusal) }
+{
+    let mut at = 0;
+    while at < text.len() {
+        match consumer.take_text(&text[at..], place + at, output) {
+            Ok(count) => at += count,
+            Err(refusal) => return Err(refusal),
+        }
     }
     Ok(())
 }
