@@ -22,15 +22,15 @@ one_more items i x h e =
 pub all_items : (items : List Item) (i : ℕ) → length items ≤ i → items_text (take i items) ≡ items_text items
 all_items items i h = ap items_text (take_all i items h)
 
--- What a command left after the paper that was torn off is torn off too, and its text given.
-pub rendered_on : (first sink : Option (List ℕ)) (gather : Gathered) (left torn : Sheet) (cs : List Command) (c : Command)
-    → SheetIs (below (printed cs) left) [] (cs ++ c ∷ []) → torn ≡ bare left
-    → Carries first sink gather (items_text (printed cs) ++ items_text left.items) → IsRendered first sink gather torn (cs ++ c ∷ [])
-rendered_on first sink gather left torn cs c is off carried =
-    let all : printed cs ++ left.items ≡ printed (cs ++ c ∷ []) = ap (λ (s : Sheet). s.items) is in
+-- What commands left after the paper that was torn off is torn off too, and its text given.
+pub rendered_on : (first sink : Option (List ℕ)) (gather : Gathered) (left torn : Sheet) (cs ds : List Command)
+    → SheetIs (below (printed cs) left) [] (cs ++ ds) → torn ≡ bare left
+    → Carries first sink gather (items_text (printed cs) ++ items_text left.items) → IsRendered first sink gather torn (cs ++ ds)
+rendered_on first sink gather left torn cs ds is off carried =
+    let all : printed cs ++ left.items ≡ printed (cs ++ ds) = ap (λ (s : Sheet). s.items) is in
     let stays : below (printed cs ++ left.items) (bare left) ≡ below (printed cs) left = let e = append-nil (printed cs ++ left.items) in cc e in
     record {
       torn = ap (λ (s : Sheet). s.items) off;
-      sheet_is = subst (λ v. SheetIs (below v torn) [] (cs ++ c ∷ [])) all (ap (below (printed cs ++ left.items)) off ∙ stays ∙ is);
+      sheet_is = subst (λ v. SheetIs (below v torn) [] (cs ++ ds)) all (ap (below (printed cs ++ left.items)) off ∙ stays ∙ is);
       carried = subst (Carries first sink gather) (sym (flat_map-append item_text (printed cs) left.items) ∙ ap items_text all) carried;
     }

@@ -45,6 +45,8 @@ impl From<ReadError> for InputFault {
 }
 
 impl From<NotHexadecimal> for InputFault {
+    ghost use Rattle.escpos_jobs.specs.declared.input.InputFault.{InputFault};
+
     ghost from_gives = { λ _ fault. fault ≡ InputFault.NotHexadecimal };
 
     fn from(_fault: NotHexadecimal) -> Self {

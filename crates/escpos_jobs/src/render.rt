@@ -69,6 +69,24 @@ impl<W: ByteOut> Consumer<W> for Rendering {
         }
     }
 
+    fn take_text(
+        &mut self,
+        text: &[u8],
+        _place: usize,
+        output: &mut W,
+    ) -> Result<usize, Obstacle> {
+        let Ok(count) = self.page.apply_text(text) else {
+            return Err(Obstacle::Memory);
+        };
+        match give_items(self.page.items(), &mut self.gather, output) {
+            Ok(()) => {
+                self.page.tear_off();
+                Ok(count)
+            }
+            Err(why) => Err(why),
+        }
+    }
+
     ghost nothing = { λ start. (
       λ first before is. subst (IsRendered first (W.written start.1) start.0.gather start.0.page.sheet) (sym (append-nil before)) is,
       λ well. well,

@@ -18,6 +18,6 @@ returns-in-Ok-clause-accepted g c = λ start cs placed taken. (
       let carried = subst (λ v. Carries first (g.W.ByteOut.written c.give_items.new.output) c.give_items.new.gather (items_text (printed all) ++ items_text v)) c.items.ensures.items given in
       let applied = succeeded c.apply.result c.if-is_err.ensures.value c.apply.ensures.torn (printed all) all now.sheet_is in
       subst (IsRendered first (g.W.ByteOut.written c.give_items.new.output) c.give_items.new.gather c.tear_off.new.self.sheet) (append_assoc before cs (command ∷ []))
-      (rendered_on first _ _ c.apply.new.self.sheet c.tear_off.new.self.sheet all command applied c.tear_off.ensures.torn carried),
+      (rendered_on first _ _ c.apply.new.self.sheet c.tear_off.new.self.sheet all (command ∷ []) applied c.tear_off.ensures.torn carried),
   λ well. c.in-Ok.ensures.not_failed (taken.1 well),
 )
