@@ -6,7 +6,7 @@ ghost use Rattle.std.proofs.Common.{ap, inl, inr, subst, sym, append-nil};
 ghost use Rattle.escpos_command.specs.declared.command.Command.{Command};
 ghost use Rattle.escpos_io.specs.Gather.{Carries};
 ghost use Rattle.escpos_paper.specs.ItemsText.{items_text};
-ghost use Rattle.escpos_paper.specs.Torn.{TornIs};
+ghost use Rattle.escpos_paper.specs.Torn.{TornIs, bare};
 ghost use Rattle.escpos_paper.specs.declared.paper.TheConstants.{MOST_ITEMS};
 ghost use Rattle.escpos_jobs.specs.declared.job.Obstacle.TheVariants as obstacle;
 ghost use Rattle.escpos_jobs.specs.Ending.{IsFair, job_end};
@@ -60,13 +60,7 @@ impl<W: ByteOut> Consumer<W> for Rendering {
         if self.page.apply(command).is_err() {
             return Err(Obstacle::Memory);
         }
-        match give_items(self.page.items(), &mut self.gather, output) {
-            Ok(()) => {
-                self.page.tear_off();
-                Ok(())
-            }
-            Err(why) => Err(why),
-        }
+        self.print(output)
     }
 
     fn take_text(
@@ -78,11 +72,8 @@ impl<W: ByteOut> Consumer<W> for Rendering {
         let Ok(count) = self.page.apply_text(text) else {
             return Err(Obstacle::Memory);
         };
-        match give_items(self.page.items(), &mut self.gather, output) {
-            Ok(()) => {
-                self.page.tear_off();
-                Ok(count)
-            }
+        match self.print(output) {
+            Ok(()) => Ok(count),
             Err(why) => Err(why),
         }
     }
@@ -135,6 +126,25 @@ impl<W: ByteOut> Job<W> for Rendering {
     ] };
 
     ghost no_device = { λ last now left. elim left [ inl same ↦ absurd (device_is_no_memory same.0) | inr failed ↦ failed.1 ] };
+}
+
+impl Rendering {
+    // Gives the text of what is printed on the page to the gather, and tears it off.
+    fn print<W: ByteOut>(&mut self, output: &mut W) -> Result<(), Obstacle>
+        ensures given { OnOk result ((first : Option (List ℕ)) (total : List ℕ) → Carries first (W.written output.old) self.old.gather total
+            → Carries first (W.written output.new) self.new.gather (total ++ items_text self.old.page.sheet.items)) }
+        ensures torn { OnOk result (self.new.page.sheet ≡ bare self.old.page.sheet) }
+        ensures failed { IfErr result (λ why. (why ≡ obstacle.Device) × IsTrue (W.failed output.new)) }
+        ensures not_failed { OnOk result (¬ IsTrue (W.failed output.old) → ¬ IsTrue (W.failed output.new)) }
+    {
+        match give_items(self.page.items(), &mut self.gather, output) {
+            Ok(()) => {
+                self.page.tear_off();
+                Ok(())
+            }
+            Err(why) => Err(why),
+        }
+    }
 }
 
 // Gives the text of items to the gather.
