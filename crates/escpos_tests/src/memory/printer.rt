@@ -192,6 +192,33 @@ fn apply_refused(rt: HostRuntime) {
     assert!(&rt; page.items().is_empty());
 }
 
+// A page takes a line of 42 characters of 50. Where memory is refused the paper is as it was.
+fn applies_text(rt: &impl Abort, page: &mut Page) {
+    let text = [b'x'; 50];
+    let count = page.items().len();
+    let taken = match page.apply_text(&text) {
+        Ok(taken) => taken,
+        Err(AllocError) => {
+            assert!(rt; page.items().len() == count);
+            page.apply_text(&text).expect(rt, "memory")
+        }
+    };
+    assert!(rt; taken == 42);
+}
+
+// Two lines of 42 characters, each of which the line after it has ended.
+const TWO_LINES: &[u8] = b"row left xxxxxxxxxxxxxxxxxxxxxxxxxxxxxxxxxxxxxxxxxx\nfeed 1\n\
+    row left xxxxxxxxxxxxxxxxxxxxxxxxxxxxxxxxxxxxxxxxxx\nfeed 1\n";
+
+#[test]
+fn apply_text_refused(rt: HostRuntime) {
+    let mut page = Page::new(rt.alloc());
+    for _ in 0..3 {
+        applies_text(&rt, &mut page);
+    }
+    prints_items(&rt, page.items(), TWO_LINES);
+}
+
 #[test]
 fn new_printer_refused(rt: HostRuntime) {
     let printer = printer_at_last(&rt, rt.alloc());
