@@ -1,5 +1,5 @@
 -- Characters of a piece, side by side.
-use Rattle.std.proofs.Common.{◌≡◌, ℕ, ◌+◌, ◌<◌, ◌≤◌, subst, List, [], ◌∷◌, ◌++◌, length, map, take, drop, refl, sym, ◌∙◌, ap, append_assoc, append-nil, arith, length-append, length-take}
+use Rattle.std.proofs.Common.{◌≡◌, ℕ, ◌+◌, ◌<◌, ◌≤◌, subst, List, [], ◌∷◌, ◌++◌, length, map, take, drop, sym, ◌∙◌, ap, append_assoc, append-nil, arith, length-append, length-take}
 use Rattle.std.specs.Prelude.{IsTrue, slice_index}
 use Rattle.std.specs.List.{AllPass}
 use Rattle.std.proofs.lemmas.Grind.{flat_map-append}

@@ -132,7 +132,7 @@ fn give_text<W, C: Consumer<W>>(
         C.accepted start (consumer.old, output.old) cs → C.accepted start (consumer.new, output.new) (cs ++ map Char text.now)) }
     ensures refused { IfErr result (λ refusal. (last : C × W) × (k : ℕ) × (k < length text.now)
         × ((start : C × W) (cs : List Command) → place ≡ length (spell cs) →
-            C.accepted start (consumer.old, output.old) cs → C.accepted start last (cs ++ map Char (take k text.now)))
+        C.accepted start (consumer.old, output.old) cs → C.accepted start last (cs ++ map Char (take k text.now)))
         × C.refused last (consumer.new, output.new) refusal) }
 {
     let mut at = 0;

@@ -1,5 +1,5 @@
 -- Digits decoded pair by pair, from the front of a text.
-use Rattle.std.proofs.Common.{Bool, true, false, ◌≡◌, ◌⊎◌, ◌==◌, rules, ◌≢◌, ℕ, ◌+◌, ◌-◌, ◌*◌, drop, ◌<◌, ◌≤◌, ◌%◌, List, [], ◌∷◌, ◌++◌, length, Option, Some, None, Result, Ok, Err, IsErr, if◌then◌else◌, refl, ap, sym, ◌∙◌, append_assoc, append-nil, arith, inl, inr, subst}
+use Rattle.std.proofs.Common.{Bool, true, false, ◌≡◌, ◌⊎◌, ◌==◌, rules, ◌≢◌, ℕ, ◌+◌, ◌-◌, ◌*◌, drop, ◌<◌, ◌≤◌, ◌%◌, List, [], ◌∷◌, length, Option, Some, None, Result, Ok, Err, IsErr, if◌then◌else◌, refl, ap, sym, ◌∙◌, arith, inl, inr}
 use Rattle.std.specs.Option.{unwrap_or}
 use Rattle.std.proofs.lemmas.Grind.{common_steps}
 use Rattle.std.proofs.lemmas.List.{drop-drop}
@@ -7,7 +7,7 @@ use Rattle.hex.specs.declared.error.FromHexError.{FromHexError}
 use Rattle.hex.specs.declared.error.FromHexError.TheVariants.{OddLength}
 use Rattle.hex.specs.Hex.{◌>>=◌, decode_of, decode_pairs, digit_or_error, hex_digit_value}
 use Rattle.escpos_jobs.specs.Hexadecimal.{digits_of, is_blank}
-use Rattle.escpos_jobs.specs.DigitValues.{value_of}
+use Rattle.escpos_jobs.specs.DigitValues.{IsPair, value_of}
 
 -- The byte of two digits with these values, the first of them at index i.
 pair_at : ℕ → ℕ → ℕ → Option ℕ → Option ℕ → Result ℕ FromHexError
@@ -111,7 +111,7 @@ unfolding decode_pairs joined pair_at
 pair_err high low ds e =
     let even : length (high ∷ low ∷ ds) % 2 ≡ length ds % 2 = omega arith in
     rw even (odd_or_err (length ds % 2 == 1) (decode_pairs 0 ds) (decode_pairs 0 (high ∷ low ∷ ds))
-        (λ bad. first_err (pair_at high low 0 (hex_digit_value high) (hex_digit_value low)) (decode_pairs 2 ds) (elsewhere_err 0 2 ds bad)) e)
+    (λ bad. first_err (pair_at high low 0 (hex_digit_value high) (hex_digit_value low)) (decode_pairs 2 ds) (elsewhere_err 0 2 ds bad)) e)
 
 none_err : (high low : ℕ) (a b : Option ℕ) (r : Result (List ℕ) FromHexError) → (a ≡ None) ⊎ (b ≡ None) → IsErr (joined (pair_at high low 0 a b) r)
 unfolding joined pair_at
@@ -140,12 +140,15 @@ rest_same text first read at same after =
     ap (λ n. drop n text) (sym there) ∙ sym (drop-drop (at - read) read text) ∙ ap (drop (at - read)) same ∙ drop-drop (at - read) read first ∙ ap (λ n. drop n first) there
 
 -- The next two digits of the text as it was, where they are found in what isn't written over yet.
-pub two_found : (first text seen then_seen : List ℕ) (read after_high after_low high low : ℕ) → drop read text ≡ drop read first → seen ≡ text → then_seen ≡ text
-    → read ≤ after_high → digits_of (drop read seen) ≡ high ∷ digits_of (drop after_high seen)
-    → after_high ≤ after_low → digits_of (drop after_high then_seen) ≡ low ∷ digits_of (drop after_low then_seen)
-    → digits_of (drop read first) ≡ high ∷ low ∷ digits_of (drop after_low first)
-two_found first text seen then_seen read after_high after_low high low same is then_is one found two then_found =
-    ap digits_of (sym same) ∙ ap (λ t. digits_of (drop read t)) (sym is) ∙ found
-    ∙ ap (λ t. high ∷ digits_of (drop after_high t)) (is ∙ sym then_is) ∙ ap (λ ds. high ∷ ds) then_found
-    ∙ ap (λ t. high ∷ low ∷ digits_of (drop after_low t)) then_is
-    ∙ ap (λ ds. high ∷ low ∷ digits_of ds) (rest_same text first read after_low same (omega arith))
+pub pair_found : (first text seen : List ℕ) (read after byte : ℕ) → drop read text ≡ drop read first → seen ≡ text → read ≤ after
+    → IsPair byte (digits_of (drop read seen)) (digits_of (drop after seen)) → IsPair byte (digits_of (drop read first)) (digits_of (drop after first))
+pair_found first text seen read after byte same is later pair = record {
+  high = pair.high;
+  low = pair.low;
+  first =
+      ap digits_of (sym same) ∙ ap (λ t. digits_of (drop read t)) (sym is) ∙ pair.first
+      ∙ ap (λ ds. pair.high ∷ pair.low ∷ ds) (ap (λ t. digits_of (drop after t)) is ∙ ap digits_of (rest_same text first read after same later));
+  high_is = pair.high_is;
+  low_is = pair.low_is;
+  value = pair.value;
+}

@@ -1,6 +1,8 @@
 -- Lines of commands as they come.
-use Rattle.std.proofs.Common.{◌≡◌, ℕ, ◌+◌, List, [], ◌∷◌, ◌++◌, length, sym, ◌∙◌, ap, append_assoc, append-nil, arith, length-append}
+use Rattle.std.proofs.Common.{◌≡◌, ℕ, ◌+◌, ◌≤◌, map, take, refl, List, [], ◌∷◌, ◌++◌, length, sym, ◌∙◌, ap, append_assoc, append-nil, arith, length-append}
+use Rattle.std.specs.Prelude.{slice_index}
 use Rattle.escpos_command.specs.declared.command.Command.{Command}
+use Rattle.escpos_command.specs.declared.command.Command.TheVariants.{Char}
 use Rattle.escpos_command.specs.CommandTable.{row, spell}
 use Rattle.escpos_jobs.specs.Lines.{command_line, command_lines}
 
@@ -19,3 +21,7 @@ lines_after total cs c place e =
     append_assoc total (command_lines 0 cs) (command_line place c)
     ∙ ap (λ v. total ++ v) (ap (λ n. command_lines 0 cs ++ command_line n c) (e ∙ (let z : length (spell cs) ≡ 0 + length (spell cs) = omega arith in z))
     ∙ sym (lines_more 0 cs c))
+
+pub first_character : (text : List ℕ) → 1 ≤ length text → Char (slice_index text 0) ∷ [] ≡ map Char (take 1 text)
+first_character [] some = absurd (omega arith)
+first_character (b ∷ bs) some = refl

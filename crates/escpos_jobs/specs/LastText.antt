@@ -1,16 +1,5 @@
 -- The text of the last line, by its value in the code. Only private clauses, invariants and proofs use this definition.
-use Rattle.std.specs.Prelude.{ℕ, ◌+◌, List, [], ◌∷◌, ◌++◌, length, codes, decimal}
-use Rattle.escpos_command.specs.Barcodes.{barcode_mode}
-use Rattle.escpos_jobs.specs.Notes.{note_of}
-use Rattle.std.specs.List.{flat_map}
-use Rattle.hex.specs.Hex.{encode_lower}
-use Rattle.escpos_command.specs.declared.bytes.TheConstants.{LF}
-use Rattle.escpos_command.specs.declared.command.Command.{Command}
-use Rattle.escpos_command.specs.declared.command.Command.TheVariants as kind
-use Rattle.escpos_command.specs.declared.fault.FaultReason.{FaultReason}
-use Rattle.escpos_command.specs.Places.{reason_number, reason_name}
-use Rattle.escpos_command.specs.CommandTable.{row, entry_of}
-use Rattle.escpos_jobs.specs.declared.lines.TheConstants.{SPACE}
+use Rattle.std.specs.Prelude.{ℕ, List, []}
 use Rattle.escpos_jobs.specs.declared.lines.Last.{Last}
 use Rattle.escpos_jobs.specs.declared.lines.Last.TheVariants.{Nothing, End, Fault, Memory}
 use Rattle.escpos_jobs.specs.Ending.{memory_line}

@@ -12,9 +12,6 @@ use Rattle.escpos_command.specs.declared.fault.FaultReason.{FaultReason}
 use Rattle.escpos_command.specs.Places.{reason_number, reason_name}
 use Rattle.escpos_command.specs.CommandTable.{row, entry_of}
 use Rattle.escpos_jobs.specs.declared.lines.TheConstants.{SPACE}
-use Rattle.escpos_jobs.specs.declared.lines.Last.{Last}
-use Rattle.escpos_jobs.specs.declared.lines.Last.TheVariants.{Nothing, End, Fault, Memory}
-use Rattle.escpos_jobs.specs.Ending.{memory_line}
 
 -- The name of a command.
 abbrev pub word_of : Command → List ℕ

@@ -2,7 +2,7 @@
 --
 -- There are two kinds of lines: those of the script, which are text, and the line between a host and a printer, which is what
 -- things happen to. Here the former are told of by texts, and the latter is a `LineView`.
-use Rattle.std.specs.Prelude.{ℕ, ◌≡◌, ◌≢◌, ◌+◌, ◌<◌, ◌≤◌, ◌⊎◌, List, [], ◌∷◌, ◌++◌, length, Result, Ok, Err, None, false, ⊤, codes}
+use Rattle.std.specs.Prelude.{ℕ, ◌≡◌, ◌≢◌, ◌+◌, ◌<◌, ◌≤◌, ◌⊎◌, List, [], ◌∷◌, ◌++◌, length, None, false, codes}
 use Rattle.std.specs.List.{flat_map}
 use Rattle.escpos_host.specs.Machine.{Down}
 use Rattle.escpos_receipt.specs.declared.json.JsonFault.{JsonFault}
@@ -17,8 +17,6 @@ use Rattle.escpos_link.specs.declared.event.Refusal.TheVariants as refusal
 use Rattle.escpos_paper.specs.ItemsText.{items_text}
 use Rattle.escpos_paper.specs.Page.{SheetIs}
 use Rattle.escpos_jobs.specs.declared.input.TheConstants.{INPUT_LIMIT}
-use Rattle.escpos_jobs.specs.declared.play.ScriptEnd.{ScriptEnd}
-use Rattle.escpos_jobs.specs.declared.play.ScriptEnd.TheVariants as end
 use Rattle.escpos_jobs.specs.declared.status.Status.TheVariants as status
 use Rattle.escpos_jobs.specs.Ending.{JobEnd, Puts, RefusesInput, memory_line}
 use Rattle.escpos_jobs.specs.Refusal.{refusal_line}

@@ -1,9 +1,5 @@
 -- What `render` prints: the paper as text, and a last line only where not all bytes are read.
-use Rattle.std.specs.Prelude.{ℕ, ◌≡◌, ◌==◌, List, [], Option, if◌then◌else◌, refl}
-use Rattle.escpos_command.specs.declared.command.Command.{Command}
-use Rattle.escpos_io.specs.Gather.{Carries, Gathered}
-use Rattle.escpos_paper.specs.Page.{Sheet, SheetIs}
-use Rattle.escpos_paper.specs.Torn.{below}
+use Rattle.std.specs.Prelude.{ℕ, ◌==◌, List, [], if◌then◌else◌, refl}
 use Rattle.escpos_paper.specs.Printed.{printed}
 use Rattle.escpos_paper.specs.ItemsText.{items_text}
 use Rattle.escpos_jobs.specs.Lines.{end_line}

@@ -1,14 +1,11 @@
 -- What `render` keeps between two commands. Only private clauses, invariants and proofs use this definition.
-use Rattle.std.specs.Prelude.{ℕ, ◌≡◌, ◌==◌, List, [], Option, if◌then◌else◌, refl}
+use Rattle.std.specs.Prelude.{ℕ, ◌≡◌, List, [], Option}
 use Rattle.escpos_command.specs.declared.command.Command.{Command}
 use Rattle.escpos_io.specs.Gather.{Carries, Gathered}
 use Rattle.escpos_paper.specs.Page.{Sheet, SheetIs}
 use Rattle.escpos_paper.specs.Torn.{below}
 use Rattle.escpos_paper.specs.Printed.{printed}
 use Rattle.escpos_paper.specs.ItemsText.{items_text}
-use Rattle.escpos_jobs.specs.Lines.{end_line}
-use Rattle.escpos_jobs.specs.Ending.{JobEnd}
-use Rattle.escpos_jobs.specs.Report.{Shape, Runs}
 
 -- All that these commands print was torn off the sheet, and its text is printed or kept back.
 pub record IsRendered (first sink : Option (List ℕ)) (gather : Gathered) (sheet : Sheet) (cs : List Command) : Type 0 where

@@ -1,6 +1,6 @@
 -- How the lines of a script go, one after another.
 -- For private clauses, invariants and proofs alone: no public clause names these.
-use Rattle.std.specs.Prelude.{ℕ, ◌≡◌, ◌≢◌, ◌+◌, List, [], ◌∷◌, ◌++◌, length, Result, Ok, Err, ⊤}
+use Rattle.std.specs.Prelude.{ℕ, ◌≡◌, ◌≢◌, ◌+◌, List, [], ◌++◌, length, Result, Ok, Err, ⊤}
 use Rattle.escpos_link.specs.Line.{LineView}
 use Rattle.escpos_jobs.specs.declared.play.ScriptEnd.{ScriptEnd}
 use Rattle.escpos_jobs.specs.declared.play.ScriptEnd.TheVariants as end

@@ -10,7 +10,7 @@ ghost use Rattle.escpos_jobs.specs.Obstacle.{memory_is_no_device};
 ghost use Rattle.escpos_jobs.specs.Check.{Checks, listing_shape};
 
 use crate::job::{Job, Obstacle, run};
-use crate::lines::{LINE_BYTES, Last, append_line};
+use crate::lines::{LINE_BYTES, Last, append_character, append_line};
 use crate::status::Status;
 use escpos_command::Command;
 use escpos_decode::Consumer;
@@ -51,6 +51,14 @@ impl<W: ByteOut> Consumer<W> for Listing {
         }
         append_line(&mut self.gather, place, &command);
         Ok(())
+    }
+
+    fn take_text(&mut self, text: &[u8], place: usize, output: &mut W) -> Result<usize, Obstacle> {
+        if let Err(_) = self.gather.room(LINE_BYTES, output) {
+            return Err(Obstacle::Device);
+        }
+        append_character(&mut self.gather, place, text[0]);
+        Ok(1)
     }
 
     ghost nothing = { λ start. (

@@ -75,6 +75,18 @@ pub fn append_line(gather: &mut Gather, place: usize, command: &Command)
     }
 }
 
+/// Appends the line of a character that has `place` bytes before it.
+pub fn append_character(gather: &mut Gather, place: usize, byte: u8)
+    requires { length gather.old.kept + LINE_BYTES ≤ GATHERED_BYTES }
+    ensures kept { gather.new.kept ≡ gather.old.kept ++ command_line place (kind.Char byte) }
+    ensures same_count { gather.new.written ≡ gather.old.written }
+{
+    append_number(gather, place);
+    gather.extend(b" char");
+    append_byte(gather, byte);
+    gather.push(LF);
+}
+
 // Appends the note on a barcode with a wrong check digit.
 fn append_note(gather: &mut Gather, place: usize, wrong: Option<WrongDigit>)
     requires { length gather.old.kept + 64 ≤ GATHERED_BYTES }

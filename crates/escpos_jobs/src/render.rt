@@ -63,12 +63,7 @@ impl<W: ByteOut> Consumer<W> for Rendering {
         self.print(output)
     }
 
-    fn take_text(
-        &mut self,
-        text: &[u8],
-        _place: usize,
-        output: &mut W,
-    ) -> Result<usize, Obstacle> {
+    fn take_text(&mut self, text: &[u8], _place: usize, output: &mut W) -> Result<usize, Obstacle> {
         let Ok(count) = self.page.apply_text(text) else {
             return Err(Obstacle::Memory);
         };

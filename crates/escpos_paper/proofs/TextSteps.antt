@@ -1,20 +1,17 @@
 -- Characters of one style that fit in the line, carried out one after another.
-use Rattle.std.proofs.Common.{◌≡◌, ℕ, ◌+◌, ◌≤◌, List, [], ◌∷◌, ◌++◌, length, map, refl, sym, ◌∙◌, ap, subst, append_assoc, append-nil, arith, Bool, true, false, if◌then◌else◌}
+use Rattle.std.proofs.Common.{◌≡◌, ℕ, ◌≤◌, List, [], ◌∷◌, ◌++◌, length, map, refl, sym, ◌∙◌, ap, subst, append_assoc, append-nil, arith, Bool, true, false, if◌then◌else◌}
 use Rattle.std.specs.Prelude.{IsTrue}
 use Rattle.std.proofs.lemmas.Bool.{leb-true, le-leb}
 use Rattle.std.proofs.lemmas.List.Sums.{sum_by-append, sum_by-cons}
-use Rattle.escpos_command.specs.declared.command.Command.{Command}
 use Rattle.escpos_command.specs.declared.command.Command.TheVariants.{Char}
 use Rattle.escpos_command.specs.declared.parameter.choices.Alignment.{Alignment}
 use Rattle.escpos_paper.specs.declared.cell.Cell.{Cell}
 use Rattle.escpos_paper.specs.declared.item.Item.{Item}
-use Rattle.escpos_paper.specs.declared.style.BarStyle.{BarStyle}
-use Rattle.escpos_paper.specs.declared.style.Style.{Style}
-use Rattle.escpos_paper.specs.Cells.{cell, cell_dots, dots}
+use Rattle.escpos_paper.specs.Cells.{cell, cell_dots}
 use Rattle.escpos_paper.specs.Page.{Sheet}
 use Rattle.escpos_paper.specs.Printed.{row_and_feed}
 use Rattle.escpos_paper.specs.Rows.{fits}
-use Rattle.escpos_paper.specs.Steps.{alignment_after, bar_style_after, style_after, sheet_after, sheet_after_all}
+use Rattle.escpos_paper.specs.Steps.{alignment_after, sheet_after, sheet_after_all}
 
 -- The sheet with these items and this line.
 abbrev pub with_text : Sheet → List Item → List Cell → Sheet
@@ -64,5 +61,5 @@ text_steps sheet items row (b ∷ bs) some printed left fit =
     let first : sheet_after sheet (Char b) ≡ with_text sheet items (row ++ x ∷ [])
     = rw (printed b, left b) (char_step sheet b (fits (sheet.line ++ x ∷ [])) refl) in
     sym (ap (λ s. sheet_after_all s (map Char bs)) first
-        ∙ in_line (with_text sheet items (row ++ x ∷ [])) bs (subst (λ r. IsTrue (fits r)) (sym joined) fit)
-        ∙ ap (λ r. with_text sheet items r) joined)
+    ∙ in_line (with_text sheet items (row ++ x ∷ [])) bs (subst (λ r. IsTrue (fits r)) (sym joined) fit)
+    ∙ ap (λ r. with_text sheet items r) joined)

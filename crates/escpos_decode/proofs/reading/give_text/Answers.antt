@@ -1,4 +1,4 @@
-use Rattle.std.proofs.Common.{◌≡◌, ◌+◌, ◌-◌, ◌≤◌, ◌++◌, length, map, take, drop, subst, arith}
+use Rattle.std.proofs.Common.{◌-◌, ◌++◌, length, map, take, subst, arith}
 use Rattle.escpos_command.specs.declared.command.Command.TheVariants.{Char}
 use Rattle.escpos_decode.proofs.Streams.{length-rest}
 use Rattle.escpos_decode.proofs.TextRuns.{text_more, text_place}

@@ -1,4 +1,4 @@
-use Rattle.std.proofs.Common.{◌≡◌, ◌+◌, ◌-◌, ◌++◌, ◌∷◌, [], length, length-take, map, take, drop, refl, arith, ◌∙◌, ap, sym, add_assoc}
+use Rattle.std.proofs.Common.{◌+◌, ◌-◌, ◌++◌, length, length-take, map, take, drop, refl, arith, ◌∙◌, ap, sym, add_assoc}
 use Rattle.escpos_decode.proofs.Streams.{turn_more, turn_run, turn_done, turn_fault, turn_refused, length-rest}
 use Rattle.std.specs.Prelude.{slice_index}
 use Rattle.escpos_command.specs.declared.command.Command.TheVariants.{Char}

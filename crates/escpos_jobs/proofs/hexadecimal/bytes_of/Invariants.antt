@@ -1,11 +1,11 @@
-use Rattle.std.proofs.Common.{◌≡◌, ◌-◌, ◌+◌, ◌≤◌, ℕ, List, ◌++◌, length, drop, take, Ok, IsErr}
+use Rattle.std.proofs.Common.{◌≡◌, ◌-◌, ◌≤◌, ℕ, List, ◌++◌, length, drop, take, Ok, IsErr}
 use Rattle.hex.specs.Hex.{decode_of}
 use Rattle.escpos_jobs.specs.Hexadecimal.{digits_of}
 use Rattle.escpos_jobs.proofs.hexadecimal.bytes_of.Given as goal
 
 -- the bytes so far are written, and the text after them is as it was
-abbrev pub invariant-loop-high : goal.invariant-loop-high
-invariant-loop-high l = record {
+abbrev pub invariant-loop-byte : goal.invariant-loop-byte
+invariant-loop-byte l = record {
   kept : drop l.read l.text.items ≡ drop l.read l.fn.text.items;
   whole : length l.text.items ≡ length l.fn.text.items;
   room : l.written ≤ l.read;
@@ -14,5 +14,5 @@ invariant-loop-high l = record {
   refused : IsErr (decode_of (digits_of (drop l.read l.fn.text.items))) → IsErr (decode_of (digits_of l.fn.text.items));
 }
 
-abbrev pub decreases-loop-high : goal.decreases-loop-high
-decreases-loop-high l = length l.text.items - l.read
+abbrev pub decreases-loop-byte : goal.decreases-loop-byte
+decreases-loop-byte l = length l.text.items - l.read

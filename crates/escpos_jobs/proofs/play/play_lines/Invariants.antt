@@ -1,5 +1,5 @@
 -- The texts of the script's lines so far are out or kept back, and no failure of the sink is hidden.
-use Rattle.std.proofs.Common.{ℕ, ◌≡◌, ◌≢◌, ◌+◌, ◌≤◌, Ok, Err, List, length, IsTrue}
+use Rattle.std.proofs.Common.{ℕ, ◌≢◌, ◌+◌, ◌≤◌, Err, List, length, IsTrue}
 use Rattle.escpos_io.specs.Gather.{Carries}
 use Rattle.escpos_jobs.specs.ScriptSteps.{LinesGo}
 use Rattle.escpos_jobs.specs.declared.play.ScriptEnd.TheVariants as ScriptEnd

@@ -1,4 +1,4 @@
-use Rattle.std.proofs.Common.{◌≡◌, ◌≤◌, [], ◌∷◌, ◌++◌, length, refl, sym, append-nil, arith}
+use Rattle.std.proofs.Common.{[], ◌∷◌, refl, sym, append-nil, arith}
 use Rattle.escpos_paper.proofs.paper.make_room.Goals as goal
 
 pub returns-else-room_for-eq0-clause-printed : goal.returns-else-room_for-eq0-clause-printed

@@ -1,4 +1,4 @@
-use Rattle.std.proofs.Common.{◌≡◌, ◌+◌, ◌<◌, ◌≤◌, ℕ, List, [], ◌∷◌, ◌++◌, length, map, take, min, inl, inr, arith, sym, ◌∙◌, ap, subst, length-take, Bool, true, false}
+use Rattle.std.proofs.Common.{◌≡◌, ◌≤◌, length, take, inl, inr, arith, sym, ◌∙◌, ap, length-take, true, false}
 use Rattle.std.proofs.lemmas.Bool.{cases_lt}
 use Rattle.escpos_paper.proofs.TextSteps.{text_steps, with_text}
 use Rattle.escpos_paper.specs.Steps.{sheet_on}
