@@ -92,7 +92,7 @@ STREAMS = [
     ("line feeds", times(b"\n"), 0),
     ("feeds of 255", times(b"\x1bd\xff"), 0),
     ("changes of style after each character", times(b"A\x1b!\xb9B\x1b!\x00"), 0),
-    ("barcodes behind text", times(b"A\x1dkE\x01A"), 0),
+    ("barcodes after text", times(b"A\x1dkE\x01A"), 0),
     ("initialisations that drop a line", times(b"A" * 41 + b"\x1b@"), 0),
     ("a half raster at the end", times(b"A", after=RASTER[:-1]), 1),
 ]
