@@ -1,10 +1,12 @@
 -- What one more command does: whether there is text in the line then, and whether each command may follow those before it.
-use Rattle.std.proofs.Common.{◌≡◌, ◌+◌, ◌<◌, ℕ, List, [], ◌∷◌, ◌++◌, ◌⊎◌, inl, inr, refl, sym, ◌∙◌, ap, subst, append_assoc, append-nil, arith, take, drop, get_or, Bool, true, false, cond, IsTrue}
+use Rattle.std.proofs.Common.{◌≡◌, ◌+◌, ◌<◌, ℕ, List, [], ◌∷◌, ◌++◌, ◌⊎◌, inl, inr, refl, sym, ◌∙◌, ap, subst, append_assoc, append-nil, arith, map, take, drop, get_or, Bool, true, false, cond, IsTrue}
 use Rattle.std.specs.Prelude.{◌||◌, ◌&&◌, ◌==◌, not, length}
 use Rattle.std.specs.List.{list_any}
+use Rattle.std.proofs.lemmas.Bool.Decides.{nat_tests}
 use Rattle.std.proofs.lemmas.List.{length-take-le}
 use Rattle.std.proofs.lemmas.List.Folds.{list_any-append}
 use Rattle.escpos_command.specs.declared.command.Command.{Command}
+use Rattle.escpos_command.specs.declared.command.Command.TheVariants.{Char, LineFeed}
 use Rattle.escpos_command.specs.Text.{text, ends_text, characters}
 use Rattle.escpos_receipt.specs.declared.receipt.ReceiptFault.TheVariants as fault
 use Rattle.escpos_receipt.specs.Whole.{EachMayFollow, IsReceiptFault, MayFollow, StandsFirst, has_text, is_forbidden, is_nonempty, needs_empty_line}
@@ -87,6 +89,32 @@ one_more_follows cs c each last before d following e = elim (split_snoc cs befor
   | inl same ↦ subst (λ b. MayFollow b d) (sym same.0) (subst (λ k. MayFollow cs k) (sym same.1) last)
   | inr within ↦ each before d within.0 within.1
 ]
+
+-- Characters may follow any commands, and are text in the line.
+pub text_follows : (cs : List Command) (bs : List ℕ) → EachMayFollow cs → EachMayFollow (cs ++ map Char bs)
+text_follows cs [] each = subst EachMayFollow (sym (append-nil cs)) each
+text_follows cs (b ∷ bs) each =
+    subst EachMayFollow (append_assoc cs (Char b ∷ []) (map Char bs))
+    (text_follows (cs ++ Char b ∷ []) bs (one_more_follows cs (Char b) each (record { allowed = refl; at_line_start = λ e. cc })))
+
+pub text_flag : (cs : List Command) (bs : List ℕ) → has_text (cs ++ map Char bs) ≡ (has_text cs || is_nonempty bs)
+text_flag cs [] = ap has_text (append-nil cs) ∙ sym (or_false (has_text cs))
+text_flag cs (b ∷ bs) =
+    ap has_text (sym (append_assoc cs (Char b ∷ []) (map Char bs))) ∙ text_flag (cs ++ Char b ∷ []) bs
+    ∙ ap (λ t. t || is_nonempty bs) (sym (after_a_character cs (Char b) refl)) ∙ sym (or_true (has_text cs))
+
+and_false : (a : Bool) → (a && false) ≡ false
+and_false true = refl
+and_false false = refl
+
+pub line_flag : (cs : List Command) → has_text (cs ++ LineFeed ∷ []) ≡ false
+line_flag cs = has_text-snoc cs LineFeed ∙ and_false (has_text cs)
+
+pub some_text : (bs : List ℕ) → not (length bs == 0) ≡ is_nonempty bs
+some_text [] = refl
+some_text (b ∷ bs) =
+    let long : (length (b ∷ bs) == 0) ≡ false = grind (arith, nat_tests) in
+    ap not long
 
 -- A command in a list, where each command before it may follow those before it.
 pub stands_at : (cs : List Command) (i : ℕ) (c : Command) → i < length cs → c ≡ get_or cs i c → EachMayFollow (take i cs) → StandsFirst cs i (take i cs) c

@@ -7,12 +7,14 @@ use Rattle.serde_json.specs.Data.{Data, array}
 use Rattle.escpos_command.specs.declared.command.Command.{Command}
 use Rattle.serde_json.specs.View.{view, items_view}
 use Rattle.serde_json.specs.declared.value.Value.{Value}
+use Rattle.escpos_receipt.specs.declared.entry.Entry.{Entry}
 use Rattle.escpos_receipt.specs.declared.entry.EntryFault.{EntryFault}
 use Rattle.escpos_receipt.specs.declared.entry.EntryFault.TheVariants.{BadShape, ControlByte, NotAscii, Memory}
 use Rattle.escpos_receipt.specs.declared.json.JsonError.TheVariants.{Refused}
 use Rattle.escpos_receipt.specs.declared.json.JsonFault.{JsonFault}
 use Rattle.escpos_receipt.specs.declared.json.JsonFault.TheVariants as fault
 use Rattle.escpos_receipt.specs.Describes.{Give, IsJson, IsJsonFault, IsRefusedEntry, RefusesEntry}
+use Rattle.escpos_receipt.specs.EntryCommands.{commands_in}
 use Rattle.escpos_receipt.specs.EntryErrors.{error_at}
 use Rattle.escpos_receipt.proofs.Prefixes.{one_longer, split_at}
 use Rattle.escpos_receipt.specs.Entries.{meaning}
@@ -31,6 +33,10 @@ one_more_gives entries cs d part give is = record {
       ap (λ t. t ++ part) give.joined ∙ ap (λ t. flat_map (λ p. p) give.parts ++ t) (sym (append-nil part))
       ∙ sym (flat_map-append (λ p. p) give.parts (part ∷ []));
 }
+
+-- The commands of entries, and of one more.
+pub one_more_entry : (given : List Entry) (entry : Entry) → flat_map commands_in (given ++ entry ∷ []) ≡ flat_map commands_in given ++ commands_in entry
+one_more_entry given entry = flat_map-append commands_in given (entry ∷ []) ∙ ap (λ t. flat_map commands_in given ++ t) (append-nil (commands_in entry))
 
 -- The same for the values that stand for the entries.
 pub one_more_value : (vs : List Value) (i : ℕ) (v : Value) (cs part : List Command) → i < length vs → v ≡ get_or vs i v → Give (map view (take i vs)) cs

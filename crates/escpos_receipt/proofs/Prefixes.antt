@@ -1,5 +1,5 @@
 -- A list, its prefix before some place, and the element there; and what holds of each element of two lists.
-use Rattle.std.proofs.Common.{◌≡◌, ℕ, ◌+◌, ◌<◌, ◌≤◌, List, [], ◌∷◌, ◌++◌, length, take, drop, get_or, sym, ◌∙◌, ap, append_assoc, add-one}
+use Rattle.std.proofs.Common.{◌≡◌, ◌≢◌, ℕ, ◌+◌, ◌<◌, ◌≤◌, List, [], ◌∷◌, ◌++◌, length, take, drop, get_or, refl, sym, ◌∙◌, ap, append_assoc, add-one}
 use Rattle.std.proofs.lemmas.List.{take-append-drop, take_all}
 use Rattle.std.proofs.Math.Seq.{take-suc}
 use Rattle.std.specs.List.{AllByRecursion}
@@ -21,3 +21,12 @@ all_of xs i h = take_all i xs h
 pub all_joined : {X : Type 0} (P : X → Type 0) (some others : List X) → AllByRecursion P some → AllByRecursion P others → AllByRecursion P (some ++ others)
 all_joined P [] others all more = more
 all_joined P (x ∷ some) others all more = (all.0, all_joined P some others all.1 more)
+
+-- Lists whose joined list is empty are empty.
+pub both_empty : {X : Type 0} (some others : List X) → some ++ others ≡ [] → (some ≡ []) × (others ≡ [])
+both_empty [] others e = (refl, e)
+both_empty (x ∷ some) others e = absurd (let no : x ∷ (some ++ others) ≡ [] = e in cc)
+
+pub empty_by : {X : Type 0} (xs : List X) → ((xs ≢ []) → ⊥) → xs ≡ []
+empty_by [] h = refl
+empty_by (x ∷ xs) h = absurd (h (λ e. cc))

@@ -3,3 +3,4 @@ pub mod Entries
 pub mod Refusals
 pub mod Whole
 pub mod EntryErrors
+pub mod EntryCommands

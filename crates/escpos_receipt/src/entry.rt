@@ -3,22 +3,24 @@
 //! The definition is the table in `specs/Entries.antt`. `member` has the names of the members; `json_value` reads their
 //! values, and `json_object` those with several parts.
 
-ghost use Rattle.std.specs.Prelude.{◌≡◌, ◌≢◌, ◌<◌, [], ◌∷◌, ◌++◌, length, Ok, Err, Some, None, IfOk, IfErr, IfSome, option_map};
+ghost use Rattle.std.specs.Prelude.{◌≡◌, ◌≢◌, ◌<◌, [], ◌∷◌, ◌++◌, length, Ok, Err, Some, None, IfOk, IfErr, IfSome, map, option_map};
 ghost use Rattle.escpos_command.specs.declared.command.Command.TheVariants as kind;
 ghost use Rattle.serde_json.specs.Find.{as_str};
 ghost use Rattle.serde_json.specs.View.{view};
-ghost use Rattle.escpos_receipt.specs.Entries.{command_of, first_not_plain, is_plain, meaning, only_member, text_in};
+ghost use Rattle.escpos_receipt.specs.EntryCommands.{commands_in};
+ghost use Rattle.escpos_receipt.specs.Entries.{command_of, meaning, only_member, text_in};
 
 use crate::json_names::{ALIGNMENTS, CUTS, FONTS, HRI_POSITIONS};
 use crate::json_object::{bars_in, feed_cut_in, pulse_in, raster_in, size_in};
 use crate::json_value::{byte_in, choice_in, named};
 use crate::member::{MEMBERS, Member};
+use crate::plain_text::PlainText;
 use escpos_command::{
-    Align, BarHeight, BarWidth, CharsFault, Command, Cut, Emphasis, FeedLines, FeedUnits, Font,
-    HriFont, HriPlace, Mode, Size, Table, Underline, chars_of,
+    Align, BarHeight, BarWidth, Command, Cut, Emphasis, FeedLines, FeedUnits, Font, HriFont,
+    HriPlace, Mode, Size, Table, Underline,
 };
 use serde_json::Value;
-use std::alloc::{AllocError, AllocFailed, Global};
+use std::alloc::{AllocError, Global};
 
 /// Why an entry gives no commands.
 #[derive(Clone, Copy, Debug, PartialEq, Eq)]
@@ -44,20 +46,20 @@ impl From<AllocError> for EntryFault {
     }
 }
 
-impl From<AllocFailed<Command>> for EntryFault {
-    ghost use Rattle.std.specs.Prelude.{◌≡◌};
-    ghost use Rattle.escpos_receipt.specs.declared.entry.EntryFault.TheVariants.{Memory};
-
-    ghost from_gives = { λ _ fault. fault ≡ Memory };
-
-    fn from(_refused: AllocFailed<Command>) -> Self {
-        EntryFault::Memory
-    }
+/// What an entry gives: characters as they stand in its text, or one other command.
+#[derive(Drop)]
+pub enum Entry<'a> {
+    /// Characters.
+    Text(PlainText<'a>),
+    /// Characters, and then the line feed that prints them.
+    Line(PlainText<'a>),
+    /// One command.
+    Command(Command),
 }
 
-/// The commands of an entry.
-pub fn read_entry(alloc: Global, entry: &Value) -> Result<Vec<Command>, EntryFault>
-    ensures commands { IfOk result (λ commands. meaning (view entry.now) ≡ Ok commands.items) }
+/// Reads an entry. Only the content of a barcode and the dots of a raster are allocated.
+pub fn read_entry(alloc: Global, entry: &Value) -> Result<Entry<'_>, EntryFault>
+    ensures commands { IfOk result (λ given. meaning (view entry.now) ≡ Ok (commands_in given)) }
     ensures refused { IfErr result (λ fault. fault ≢ EntryFault.Memory → meaning (view entry.now) ≡ Err fault) }
 {
     let Some((name, value)) = only_member(entry) else {
@@ -67,35 +69,19 @@ pub fn read_entry(alloc: Global, entry: &Value) -> Result<Vec<Command>, EntryFau
         return Err(EntryFault::BadShape);
     };
     match member {
-        Member::Text => text_in(alloc, value),
-        Member::Line => match text_in(alloc, value) {
-            Ok(commands) => ended(commands),
+        Member::Text => match text_in(value) {
+            Ok(text) => Ok(Entry::Text(text)),
+            Err(fault) => Err(fault),
+        },
+        Member::Line => match text_in(value) {
+            Ok(text) => Ok(Entry::Line(text)),
             Err(fault) => Err(fault),
         },
         _ => match command_of(alloc, member, value) {
-            Ok(command) => alone(alloc, command),
+            Ok(command) => Ok(Entry::Command(command)),
             Err(fault) => Err(fault),
         },
     }
-}
-
-// The characters, then the line feed that prints them.
-fn ended(mut commands: Vec<Command>) -> Result<Vec<Command>, EntryFault>
-    ensures commands { IfOk result (λ all. all.items ≡ commands.items ++ kind.LineFeed ∷ []) }
-    ensures memory { IfErr result (λ fault. fault ≡ EntryFault.Memory) }
-{
-    commands.push(Command::LineFeed)?;
-    Ok(commands)
-}
-
-// A list of one command.
-fn alone(alloc: Global, command: Command) -> Result<Vec<Command>, EntryFault>
-    ensures commands { IfOk result (λ commands. commands.items ≡ command ∷ []) }
-    ensures memory { IfErr result (λ fault. fault ≡ EntryFault.Memory) }
-{
-    let mut commands = Vec::new(alloc);
-    commands.push(command)?;
-    Ok(commands)
 }
 
 // The name and the value of an object's only member.
@@ -111,35 +97,16 @@ fn only_member(entry: &Value) -> Option<(&str, &Value)>
 }
 
 // The characters of a text. The first that isn't plain decides why the text is refused.
-fn text_in(alloc: Global, value: &Value) -> Result<Vec<Command>, EntryFault>
-    ensures commands { IfOk result (λ commands. text_in (as_str (view value.now)) ≡ Ok commands.items) }
-    ensures refused { IfErr result (λ fault. fault ≢ EntryFault.Memory → text_in (as_str (view value.now)) ≡ Err fault) }
+fn text_in(value: &Value) -> Result<PlainText<'_>, EntryFault>
+    ensures text { IfOk result (λ text. text_in (as_str (view value.now)) ≡ Ok (map kind.Char text)) }
+    ensures refused { IfErr result (λ fault. text_in (as_str (view value.now)) ≡ Err fault) }
 {
     let text = value.as_str().ok_or(EntryFault::BadShape)?.as_bytes();
-    match first_not_plain(text) {
-        Some(at) if text[at] < 0x20 => Err(EntryFault::ControlByte),
-        Some(_) => Err(EntryFault::NotAscii),
-        None => match chars_of(alloc, text) {
-            Ok(commands) => Ok(commands),
-            Err(CharsFault::ControlByte { .. }) => Err(EntryFault::ControlByte),
-            Err(CharsFault::Memory) => Err(EntryFault::Memory),
-        },
+    match PlainText::new(text) {
+        Ok(text) => Ok(text),
+        Err(at) if text[at] < 0x20 => Err(EntryFault::ControlByte),
+        Err(_) => Err(EntryFault::NotAscii),
     }
-}
-
-// The place of the first byte of a text that isn't plain.
-fn first_not_plain(text: &[u8]) -> Option<usize>
-    ensures place { result ≡ first_not_plain text.now }
-    ensures within { IfSome result (λ at. at < length text.now) }
-{
-    text.iter().position(|byte| !is_plain(*byte))
-}
-
-// Whether a receipt's text may have the character.
-fn is_plain(byte: u8) -> bool
-    ensures { result ≡ is_plain byte }
-{
-    matches!(byte, 0x20..=0x7F)
 }
 
 // The command of a member with this value.

@@ -1,17 +1,22 @@
 //! Receipts read from text in JSON: an array whose entries give the commands, one after another.
 
-ghost use Rattle.std.specs.Prelude.{◌≡◌, ◌≤◌, ◌⊎◌, length, IfOk, IsErrOf, map};
+ghost use Rattle.std.specs.Prelude.{◌≡◌, ℕ, List, ◌≤◌, ◌+◌, ◌++◌, ◌⊎◌, length, IfOk, OnOk, IsErrOf, map, flat_map, vec_len, vec_capacity};
+ghost use Rattle.std.specs.List.{AllPass};
+ghost use Rattle.escpos_command.specs.declared.command.Command.TheVariants.{Char};
+ghost use Rattle.escpos_command.specs.Parameters.{is_character};
+ghost use Rattle.escpos_receipt.specs.EntryCommands.{commands_in};
 ghost use Rattle.serde_json.specs.View.{view};
 ghost use Rattle.serde_json.specs.Errors.{IsMemory};
 ghost use Rattle.escpos_receipt.specs.Describes.{Describes, Give, IsJsonFault, IsRefusedEntry};
 ghost use Rattle.escpos_receipt.specs.EntryErrors.{error_at};
 ghost use Rattle.escpos_receipt.specs.Whole.{Whole};
 
-use crate::entry::{EntryFault, read_entry};
+use crate::entry::{Entry, EntryFault, read_entry};
 use crate::receipt::{Receipt, ReceiptFault};
-use escpos_command::Command;
+use escpos_command::{Character, Command};
 use serde_json::{Category, Value};
 use std::alloc::{AllocError, Global};
+use std::marker::Model;
 
 /// Why a text gives no receipt: the first reason that applies. 5 comes first; then, at the first entry that is refused, 6,
 /// 7 or 8, with its place, counted from 0; then why its commands aren't a receipt, 1 to 4.
@@ -109,22 +114,74 @@ impl EntryFault {
     }
 }
 
+/// A text that is JSON. Its model is the list of its bytes.
+#[derive(Drop)]
+pub struct ReceiptText<'a> {
+    text: &'a [u8],
+    value: Value,
+}
+
+impl<'a> Model for ReceiptText<'a> {
+    ghost use Rattle.std.specs.Prelude.{ℕ, List};
+    ghost use Rattle.escpos_receipt.specs.EntryCommands.{IsValueOf};
+
+    ghost Value = { List ℕ };
+
+    ghost view = { λ t. t.text.now };
+
+    ghost invariant = { λ t. IsValueOf t.text.now t.value };
+}
+
+impl<'a> ReceiptText<'a> {
+    /// Reads a text as JSON.
+    pub fn new(alloc: Global, text: &'a [u8]) -> Result<Self, JsonError>
+        ensures same { IfOk result (λ json. json ≡ text.now) }
+        ensures refused { (fault : JsonFault) → IsErrOf result (JsonError.Refused fault) → IsJsonFault fault text.now }
+    {
+        match Value::from_slice(alloc, text) {
+            Ok(value) => Ok(ReceiptText { text, value }),
+            Err(error) => Err(error_of(&error)),
+        }
+    }
+
+    /// What its entries give, one after another. Characters stay where they are.
+    pub fn entries(&self, alloc: Global) -> Result<Vec<Entry<'_>>, JsonError>
+        ensures commands { IfOk result (λ given. Describes self.now (flat_map commands_in given.items)) }
+        ensures refused { (fault : JsonFault) → IsErrOf result (JsonError.Refused fault) → IsJsonFault fault self.now }
+    {
+        match self.value.as_array() {
+            Some(entries) => read_entries(alloc, entries.as_slice()),
+            None => Err(JsonError::Refused(JsonFault::BadShape { at: 0 })),
+        }
+    }
+}
+
 impl Receipt {
     /// The receipt that a text in JSON describes: an array of objects with one member each, as docs/PROFILE.md has them.
     pub fn from_json(alloc: Global, text: &[u8]) -> Result<Self, JsonError>
         ensures receipt { IfOk result (λ receipt. Describes text.now receipt × Whole receipt) }
         ensures refused { (fault : JsonFault) → IsErrOf result (JsonError.Refused fault) → IsJsonFault fault text.now }
     {
-        let value = match Value::from_slice(alloc, text) {
-            Ok(value) => value,
-            Err(error) => return Err(error_of(&error)),
-        };
-        let Some(entries) = value.as_array() else {
-            return Err(JsonError::Refused(JsonFault::BadShape { at: 0 }));
-        };
-        let commands = match read_entries(alloc, entries.as_slice()) {
-            Ok(commands) => commands,
+        let json = match ReceiptText::new(alloc, text) {
+            Ok(json) => json,
             Err(error) => return Err(error),
+        };
+        let entries = match json.entries(alloc) {
+            Ok(entries) => entries,
+            Err(error) => return Err(error),
+        };
+        Receipt::of_entries(alloc, entries)
+    }
+
+    /// The receipt of the commands that these entries give.
+    pub fn of_entries(alloc: Global, entries: Vec<Entry<'_>>) -> Result<Self, JsonError>
+        ensures receipt { IfOk result (λ receipt. (receipt ≡ flat_map commands_in entries.entry.items) × Whole receipt) }
+        ensures refused { (fault : JsonFault) → IsErrOf result (JsonError.Refused fault) → (text : List ℕ) →
+            Describes text (flat_map commands_in entries.entry.items) → IsJsonFault fault text }
+    {
+        let commands = match commands_of(alloc, entries) {
+            Ok(commands) => commands,
+            Err(AllocError) => return Err(JsonError::Memory),
         };
         match Receipt::new(commands) {
             Ok(receipt) => Ok(receipt),
@@ -144,18 +201,68 @@ fn error_of(error: &serde_json::Error) -> JsonError
     }
 }
 
-// The commands of all entries, one after another.
-fn read_entries(alloc: Global, entries: &[Value]) -> Result<Vec<Command>, JsonError>
-    ensures commands { IfOk result (λ commands. Give (map view entries.now) commands.items) }
+// The entries, one after another.
+fn read_entries(alloc: Global, entries: &[Value]) -> Result<Vec<Entry<'_>>, JsonError>
+    ensures commands { IfOk result (λ given. Give (map view entries.now) (flat_map commands_in given.items)) }
     ensures refused { (fault : JsonFault) → IsErrOf result (JsonError.Refused fault) → IsRefusedEntry fault (map view entries.now) }
 {
-    let mut commands = Vec::new(alloc);
+    let mut given = Vec::new(alloc);
     for (at, entry) in entries.iter().enumerate() {
-        let mut part = match read_entry(alloc, entry) {
-            Ok(part) => part,
+        let entry = match read_entry(alloc, entry) {
+            Ok(entry) => entry,
             Err(fault) => return Err(fault.at(at)),
         };
-        commands.append(&mut part)?;
+        match given.push(entry) {
+            Ok(()) => {}
+            Err(_) => return Err(JsonError::Memory),
+        }
+    }
+    Ok(given)
+}
+
+// The commands of entries, one after another.
+fn commands_of(alloc: Global, entries: Vec<Entry<'_>>) -> Result<Vec<Command>, AllocError>
+    ensures { IfOk result (λ commands. commands.items ≡ flat_map commands_in entries.entry.items) }
+{
+    let mut commands = Vec::new(alloc);
+    for entry in entries {
+        add_commands(&mut commands, entry)?;
     }
     Ok(commands)
+}
+
+// Adds the commands of an entry.
+fn add_commands(commands: &mut Vec<Command>, entry: Entry<'_>) -> Result<(), AllocError>
+    ensures { OnOk result (commands.new.items ≡ commands.old.items ++ commands_in entry.entry) }
+{
+    match entry {
+        Entry::Text(text) => add_characters(commands, text.bytes(), 0),
+        Entry::Line(text) => {
+            add_characters(commands, text.bytes(), 1)?;
+            commands.push_reserved(Command::LineFeed);
+            Ok(())
+        }
+        Entry::Command(command) => {
+            commands.reserve(1)?;
+            commands.push_reserved(command);
+            Ok(())
+        }
+    }
+}
+
+// Adds characters, and makes room for `more` commands after them.
+fn add_characters(commands: &mut Vec<Command>, text: &[u8], more: usize) -> Result<(), AllocError>
+    requires characters { AllPass is_character text.now }
+    requires few { more ≤ 1 }
+    ensures added { OnOk result (commands.new.items ≡ commands.old.items ++ map Char text.now) }
+    ensures room { OnOk result (vec_len commands.new + more ≤ vec_capacity commands.new) }
+{
+    commands.reserve(text.len() + more)?;
+    for byte in text {
+        match Character::new(*byte) {
+            Some(character) => commands.push_reserved(Command::Char(character)),
+            None => unreachable!(),
+        }
+    }
+    Ok(())
 }

@@ -7,13 +7,18 @@
 //! text describes, and why it is refused). How a receipt is printed is left to escpos_host.
 #![tactic(auto)]
 
+mod entries;
 mod entry;
 mod json;
 mod json_names;
 mod json_object;
 mod json_value;
 mod member;
+mod plain_text;
 mod receipt;
 
-pub use json::{JsonError, JsonFault};
+pub use entries::are_whole;
+pub use entry::Entry;
+pub use json::{JsonError, JsonFault, ReceiptText};
+pub use plain_text::PlainText;
 pub use receipt::{Receipt, ReceiptFault};

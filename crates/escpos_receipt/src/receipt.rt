@@ -135,15 +135,15 @@ fn fault_of(commands: &[Command]) -> Option<ReceiptFault>
     None
 }
 
-// Whether there is text in the line after one more command; `had_text` says whether there was some before it.
-fn has_text_after(had_text: bool, command: &Command) -> bool
+/// Whether there is text in the line after one more command; `had_text` says whether there was some before it.
+pub fn has_text_after(had_text: bool, command: &Command) -> bool
     ensures { (before : List Command) → had_text ≡ has_text before → result ≡ has_text (before ++ command.now ∷ []) }
 {
     is_printing(command) || had_text && !ends_text(command)
 }
 
-// Whether a receipt may not have the command: it sets the printer up or asks it for an answer.
-fn is_forbidden(command: &Command) -> bool
+/// Whether a receipt may not have the command: it sets the printer up or asks it for an answer.
+pub fn is_forbidden(command: &Command) -> bool
     ensures { result ≡ is_forbidden command.now }
 {
     matches!(
@@ -152,8 +152,8 @@ fn is_forbidden(command: &Command) -> bool
     )
 }
 
-// Whether the command would first print the text that is in the line.
-fn needs_empty_line(command: &Command) -> bool
+/// Whether the command would first print the text that is in the line.
+pub fn needs_empty_line(command: &Command) -> bool
     ensures { result ≡ needs_empty_line command.now }
 {
     matches!(

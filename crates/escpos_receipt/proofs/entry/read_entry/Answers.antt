@@ -1,26 +1,18 @@
 -- What the only member gives is what the entry means.
-use Rattle.std.proofs.Common.{Ok, Err, sym, ◌∙◌, ap}
-use Rattle.std.proofs.lemmas.Result.{IfOk-weaker, IfErr-weaker}
+use Rattle.std.proofs.Common.{Err, sym, ◌∙◌, ap}
 use Rattle.serde_json.specs.View.{view}
-use Rattle.escpos_receipt.specs.Entries.{commands_of, one}
+use Rattle.escpos_receipt.specs.Entries.{one}
 use Rattle.escpos_receipt.proofs.Meanings.{means, single}
 use Rattle.escpos_receipt.proofs.entry.read_entry.Goals as goal
-
-pub returns-in-Text-clause-refused : goal.returns-in-Text-clause-refused
-returns-in-Text-clause-refused c =
-    let v = view c.in-Some.value.now in
-    let is = means (view c.args.entry.now) v c.in-Some.name.now c.in-Some-named.member c.in-Some.ensures c.in-Some-named.ensures in
-    IfErr-weaker c.text_in.result _ _ (λ fault h no. is ∙ ap (λ m. commands_of m v) c.in-Text.is ∙ h no) c.text_in.ensures.refused
 
 pub returns-in-Ok-command_of : goal.returns-in-Ok-command_of
 returns-in-Ok-command_of c =
     let v = view c.in-Some.value.now in
     let m = c.in-Some-named.member in
     let is = means (view c.args.entry.now) v c.in-Some.name.now m c.in-Some.ensures c.in-Some-named.ensures in
-    let one_is = is ∙ single m v c.in_default-member.not-Text c.in_default-member.not-Line ∙ ap one c.in-Ok-command_of.ensures.command in
     record {
-      commands = IfOk-weaker c.alone.result _ _ (λ commands h. one_is ∙ ap Ok (sym h)) c.alone.ensures.commands;
-      refused = IfErr-weaker c.alone.result _ _ (λ fault h no. absurd (no h)) c.alone.ensures.memory;
+      commands = is ∙ single m v c.in_default-member.not-Text c.in_default-member.not-Line ∙ ap one c.in-Ok-command_of.ensures.command;
+      refused = tt;
     }
 
 pub returns-in-Err-command_of : goal.returns-in-Err-command_of
