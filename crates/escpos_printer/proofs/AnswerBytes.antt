@@ -1,5 +1,5 @@
 -- The bytes of answers that go out one after another.
-use Rattle.std.proofs.Common.{◌≡◌, ◌<◌, ◌≤◌, ◌+◌, ◌-◌, ℕ, List, [], ◌∷◌, ◌++◌, Bool, true, false, length, take, drop, refl, sym, ◌∙◌, ap, subst, append_assoc, append-nil, length-append, arith, Option, Some, None, cond}
+use Rattle.std.proofs.Common.{◌≡◌, ◌<◌, ◌≤◌, ◌+◌, ◌-◌, ℕ, List, [], ◌∷◌, ◌++◌, Bool, true, false, length, take, drop, refl, sym, ◌∙◌, ap, subst, append_assoc, append-nil, length-append, arith, Option, Some, None, cond, zero, suc}
 use Rattle.std.specs.Prelude.{slice_get, nat_lt}
 use Rattle.std.specs.Io.KnownBytes.{Appends}
 use Rattle.std.proofs.KnownBytes.{Appends-nil, Appends-trans}
@@ -54,6 +54,16 @@ out_all w0 w all now n o e =
 pub answer_begins : (a : Answer) → 0 < length (answer_bytes a)
 answer_begins (answer.Status b) = omega arith
 answer_begins (answer.Mark id) = omega arith
+
+-- The bytes of the answers before a place, and of the one there.
+pub one_more_answer : (answers : List Answer) (i : ℕ) (a : Answer) → slice_get answers i ≡ Some a
+    → spell_answers (take (i + 1) answers) ≡ spell_answers (take i answers) ++ answer_bytes a
+one_more_answer [] i a e = absurd cc
+one_more_answer (x ∷ answers) zero a e = let same : x ≡ a = cc in ap (λ v. answer_bytes v ++ []) same ∙ append-nil (answer_bytes a)
+one_more_answer (x ∷ answers) (suc i) a e =
+    let count : suc i + 1 ≡ suc (i + 1) = omega arith in
+    ap (λ n. spell_answers (take n (x ∷ answers))) count ∙ ap (λ v. answer_bytes x ++ v) (one_more_answer answers i a e)
+    ∙ sym (append_assoc (answer_bytes x) (spell_answers (take i answers)) (answer_bytes a))
 
 -- ## The answer in hand
 
@@ -116,6 +126,12 @@ behind_over (x ∷ xs) ys k =
     let m = length (spell_answers xs) in
     let count : length (spell_answers (x ∷ xs)) + k ≡ n + (m + k) = omega (arith, length-append (answer_bytes x) (spell_answers xs)) in
     ap (λ v. after_byte (x ∷ (xs ++ ys)) v) count ∙ behind_later x (xs ++ ys) (m + k) ∙ behind_over xs ys k
+
+-- No answer holds a byte after the last one, so none is left.
+pub all_dropped : (answers : List Answer) → after_byte answers (length (spell_answers answers)) ≡ []
+all_dropped answers =
+    let same : length (spell_answers answers) + 0 ≡ length (spell_answers answers) = omega arith in
+    sym (ap (after_byte answers) same) ∙ ap (λ xs. after_byte xs (length (spell_answers answers) + 0)) (sym (append-nil answers)) ∙ behind_over answers [] 0
 
 pub all_on : (a b c : Option (List ℕ)) (xs ys v w : List Answer) (n k : ℕ) → AllOut (sent a b) xs n v → AllOut (sent b c) ys k w → AllOut (sent a c) (xs ++ ys) (n + k) w
 all_on a b c xs ys v w n k o p = record {

@@ -6,6 +6,7 @@
 
 ghost use Rattle.std.specs.Prelude.{◌≡◌, ◌≤◌, ◌<◌, ◌+◌, ℕ, List, [], ◌∷◌, ◌++◌, length, take, drop, slice_get, not, true, false, IfOk, OnOk, OnErr, IfErr, IsOk};
 ghost use Rattle.escpos_command.specs.declared.command.Command.{Command};
+ghost use Rattle.escpos_command.specs.Answers.{spell_answers};
 ghost use Rattle.escpos_command.specs.Laws.{longest_spelling};
 ghost use Rattle.escpos_decode.specs.Push.{IsRest};
 ghost use Rattle.escpos_paper.specs.declared.item.Item.{Item};
@@ -16,6 +17,7 @@ ghost use Rattle.escpos_printer.specs.Feeds.{Feeds, Took, HasCause, IsPlace, IsL
 ghost use Rattle.escpos_printer.specs.FeedSteps.{is_command, obstacle};
 
 use crate::condition::Condition;
+use arrayvec::ArrayVec;
 use circular_buffer::HeapCircularBuffer;
 use escpos_command::{Answer, Command, FaultReason};
 use escpos_decode::{Ahead, DecodeFault, Decoder, Step};
@@ -27,6 +29,11 @@ use std::marker::Model;
 pub const MOST_WAITING: usize = 16;
 
 const _: () = prove!(MOST_WAITING == 16);
+
+// The most bytes of the answers that wait: an answer has at most 7.
+const MOST_ANSWER_BYTES: usize = 112;
+
+const _: () = prove!(MOST_ANSWER_BYTES == 112);
 
 /// A printer: its page, the half command, the answers that wait, and what its sensors say.
 #[derive(Drop)]
@@ -170,6 +177,26 @@ impl Printer {
         ensures left { self.new ≡ record { sheet = self.old.sheet; half = self.old.half; waiting = drop 1 self.old.waiting; condition = self.old.condition } }
     {
         self.waiting.pop_front()
+    }
+
+    // The bytes of the answers that wait, one answer after another.
+    pub(crate) fn answer_bytes(&self) -> ArrayVec<u8, MOST_ANSWER_BYTES>
+        ensures { result.items ≡ spell_answers self.now.waiting }
+    {
+        let mut bytes = ArrayVec::new();
+        for at in 0..self.waiting.len() {
+            let answer = self.waiting_at(at).bytes();
+            bytes.try_extend_from_slice(answer.as_slice()).unwrap();
+        }
+        bytes
+    }
+
+    // The answer at this place of those that wait.
+    fn waiting_at(&self, at: usize) -> Answer
+        requires { at < length self.now.waiting }
+        ensures { slice_get self.now.waiting at ≡ Some result }
+    {
+        *self.waiting.get(at).unwrap()
     }
 
     /// The number of answers that wait, at most 16. Allocates nothing.

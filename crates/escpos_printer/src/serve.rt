@@ -5,7 +5,7 @@
 
 ghost use Rattle.std.specs.Prelude.{◌≡◌, ◌≢◌, ◌≤◌, ◌*◌, ◌+◌, [], length, Some, IsTrue, IfOk, IfErr, OnOk, OnErr};
 ghost use Rattle.escpos_printer.specs.Feeds.{most_waiting};
-ghost use Rattle.escpos_printer.specs.Serves.{Serves, AllOut, CutOff, IsCarried, link, sent};
+ghost use Rattle.escpos_printer.specs.Serves.{Serves, AllOut, CutOff, IsCarried, after_byte, link, sent};
 ghost use Rattle.escpos_printer.specs.ServeSteps.{IsWithinPiece, end_of};
 ghost use Rattle.escpos_printer.specs.declared.serve.LinkEnd.{LinkEnd};
 
@@ -151,8 +151,8 @@ pub fn serve_link<R: ByteIn, W: ByteOut>(
     Served::all_taken(read, written, LinkEnd::TooLong)
 }
 
-// Writes all answers that wait, and returns how many bytes that were. `Err` is the number of bytes that were written before
-// the writer failed.
+// Writes all answers that wait, at once, and returns how many bytes that were. `Err` is the number of bytes that were written
+// before the writer failed.
 fn put_answers<W: ByteOut>(printer: &mut Printer, writer: &mut W) -> Result<usize, usize>
     ensures all { IfOk result (λ n. AllOut (sent (W.written writer.old) (W.written writer.new)) printer.old.waiting n printer.new.waiting) }
     ensures some { IfErr result (λ n. CutOff (sent (W.written writer.old) (W.written writer.new)) printer.old.waiting n printer.new.waiting) }
@@ -162,17 +162,33 @@ fn put_answers<W: ByteOut>(printer: &mut Printer, writer: &mut W) -> Result<usiz
     ensures failed { OnErr result (IsTrue (W.failed writer.new)) }
     ensures not_failed { OnOk result (¬ IsTrue (W.failed writer.old) → ¬ IsTrue (W.failed writer.new)) }
 {
-    // Proof only: at most 16 answers wait.
-    printer.is_sound();
-    let mut written = 0;
-    while let Some(answer) = printer.take_answer() {
-        let bytes = answer.bytes();
-        if let Err(device) = put_all(bytes.as_slice(), writer) {
-            return Err(written + device.written as usize);
+    let bytes = printer.answer_bytes();
+    match put_all(bytes.as_slice(), writer) {
+        Ok(()) => {
+            drop_through(printer, bytes.len());
+            Ok(bytes.len())
         }
-        written += bytes.len();
+        Err(device) => {
+            let written = device.written as usize;
+            drop_through(printer, written);
+            Err(written)
+        }
     }
-    Ok(written)
+}
+
+// Drops the answers up to the one that holds byte `at` of the bytes of all that wait, counted from 0.
+fn drop_through(printer: &mut Printer, at: usize)
+    ensures later { printer.new.waiting ≡ after_byte printer.old.waiting at }
+    ensures same { (printer.new.sheet ≡ printer.old.sheet) × (printer.new.half ≡ printer.old.half) × (printer.new.condition ≡ printer.old.condition) }
+{
+    let mut at = at;
+    while let Some(answer) = printer.take_answer() {
+        let count = answer.bytes().len();
+        if at < count {
+            return;
+        }
+        at -= count;
+    }
 }
 
 // Feeds a piece to a printer in which no answer waits, and writes its answers.
