@@ -1,6 +1,5 @@
--- A text is encoded if what was read of it is printed.
-use Rattle.std.proofs.Common.{◌≡◌, ℕ, List, Result, Ok, Err, IfOk, refl, sym, ◌∙◌, inl, inr}
-use Rattle.std.specs.Prelude.{IsErrOf}
+-- A text is encoded if what it describes is printed, or why it describes nothing.
+use Rattle.std.proofs.Common.{◌≡◌, ℕ, List, refl, sym, ◌∙◌, inl, inr}
 use Rattle.escpos_command.specs.declared.command.Command.{Command}
 use Rattle.escpos_receipt.specs.declared.json.JsonError.{JsonError}
 use Rattle.escpos_receipt.specs.declared.json.JsonError.TheVariants as error
@@ -27,20 +26,23 @@ good_is_well e = cc
 refused_is_well : Refused ≡ Device → ⊥
 refused_is_well e = cc
 
-pub encodes_by : (o : JobEnd) (text : List ℕ) (read : Result (List Command) JsonError) → IfOk read (λ cs. Describes text cs × Whole cs)
-    → ((why : JsonFault) → IsErrOf read (error.Refused why) → IsJsonFault why text) → IfOk read (λ cs. PrintsText o (digits_line cs) Good)
-    → ((why : JsonFault) → read ≡ Err (error.Refused why) → PrintsText o (refusal_line why) Refused) → (read ≡ Err error.Memory → PrintsText o memory_line Memory) → EncodesText o text
-encodes_by o text (Ok cs) described due says refuses wants = record {
-  good = λ e. (cs, described.0, described.1, put_by o (digits_line cs) Good says e good_is_well);
+-- The line of the commands that the text describes.
+pub encodes_good : (o : JobEnd) (text : List ℕ) (cs : List Command) → Describes text cs → Whole cs → PrintsText o (digits_line cs) Good → EncodesText o text
+encodes_good o text cs describes whole says = record {
+  good = λ e. (cs, describes, whole, put_by o (digits_line cs) Good says e good_is_well);
   refused = λ e. absurd (not_said o (digits_line cs) Good Refused says e (λ c. cc c) (λ c. cc c));
   memory = λ e. absurd (not_said o (digits_line cs) Good Memory says e (λ c. cc c) (λ c. cc c));
 }
-encodes_by o text (Err (error.Refused why)) described due says refuses wants = record {
+
+-- The line that says why there are none.
+pub encodes_fault : (o : JobEnd) (text : List ℕ) (fault : JsonError) → ((why : JsonFault) → fault ≡ error.Refused why → IsJsonFault why text)
+    → ((why : JsonFault) → fault ≡ error.Refused why → PrintsText o (refusal_line why) Refused) → (fault ≡ error.Memory → PrintsText o memory_line Memory) → EncodesText o text
+encodes_fault o text (error.Refused why) due refuses wants = record {
   good = λ e. absurd (not_said o (refusal_line why) Refused Good (refuses why refl) e (λ c. cc c) (λ c. cc c));
   refused = λ e. (why, due why refl, put_by o (refusal_line why) Refused (refuses why refl) e refused_is_well);
   memory = λ e. absurd (not_said o (refusal_line why) Refused Memory (refuses why refl) e (λ c. cc c) (λ c. cc c));
 }
-encodes_by o text (Err error.Memory) described due says refuses wants = record {
+encodes_fault o text error.Memory due refuses wants = record {
   good = λ e. absurd (not_said o memory_line Memory Good (wants refl) e (λ c. cc c) (λ c. cc c));
   refused = λ e. absurd (not_said o memory_line Memory Refused (wants refl) e (λ c. cc c) (λ c. cc c));
   memory = λ e. put_by o memory_line Memory (wants refl) e (λ c. cc c);

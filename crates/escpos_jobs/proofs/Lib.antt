@@ -6,6 +6,7 @@ pub mod Renderings
 pub mod Reports
 pub mod Spellings
 pub mod Encodings
+pub mod EntrySpellings
 pub mod Quiet
 pub mod TornParts
 pub mod Plays

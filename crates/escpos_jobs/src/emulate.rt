@@ -22,6 +22,7 @@ use escpos_io::{
 };
 use escpos_printer::{Condition, LinkEnd, Printer, Served, serve_link};
 use std::alloc::Global;
+use std::io::BufReader;
 use std::net::{Net, SocketAddrV4, TcpListener, TcpStream};
 
 /// The most bytes of a link that are read.
@@ -37,6 +38,9 @@ const PARTS: u32 = 1_024;
 const _: () = prove!(PART_BYTES == 16_384);
 
 const _: () = prove!(PARTS == 1_024);
+
+/// How many bytes of a link are read from its stream at once.
+const BUFFER_BYTES: usize = 65_536;
 
 /// More bytes than the line of a link has.
 const LINE_BYTES: usize = 256;
@@ -86,7 +90,7 @@ pub fn emulate_on<W: ByteOut>(
         return say(MEMORY, output, Status::Memory);
     };
     let mut paper = PaperText::new(alloc);
-    let status = serve_links(&mut printer, &mut paper, listener, links, output);
+    let status = serve_links(alloc, &mut printer, &mut paper, listener, links, output);
     if paper.put_above(printer.items(), output).is_err() {
         return Status::Device;
     }
@@ -98,6 +102,7 @@ pub fn emulate_on<W: ByteOut>(
 
 // Serves `links` links, up to the first that can't be accepted, or that ends because memory ran out.
 fn serve_links<W: ByteOut>(
+    alloc: Global,
     printer: &mut Printer,
     paper: &mut PaperText,
     listener: &TcpListener,
@@ -111,7 +116,7 @@ fn serve_links<W: ByteOut>(
         let Ok((stream, _)) = listener.accept() else {
             return Status::Device;
         };
-        match serve_stream(printer, paper, number, &stream, output) {
+        match serve_stream(alloc, printer, paper, number, &stream, output) {
             Ok(LinkEnd::Memory) => return Status::Memory,
             Ok(_) => {}
             Err(_) => return Status::Device,
@@ -123,6 +128,7 @@ fn serve_links<W: ByteOut>(
 // Serves the link of a stream. An answer has a few bytes and the host waits for it, so it is sent at once; a stream that
 // can't do so is served as it is.
 fn serve_stream<W: ByteOut>(
+    alloc: Global,
     printer: &mut Printer,
     paper: &mut PaperText,
     number: u32,
@@ -133,10 +139,19 @@ fn serve_stream<W: ByteOut>(
     ensures not_failed { OnOk result (¬ IsTrue (W.failed output.old) → ¬ IsTrue (W.failed output.new)) }
 {
     let _ = stream.set_nodelay(true);
-    let mut reader = Incoming::new(stream);
+    let mut reader = Incoming::new(buffered(alloc, stream));
     let mut writer = Outgoing::new(stream);
     let served = serve_and_tell(printer, paper, number, &mut reader, &mut writer, output)?;
     Ok(served.end)
+}
+
+// A stream that is read in large pieces, since the printer asks for small ones. If there is no memory for that, it is read
+// as it is asked for.
+fn buffered(alloc: Global, stream: &TcpStream) -> BufReader<&TcpStream> {
+    match BufReader::with_capacity(alloc, BUFFER_BYTES, stream) {
+        Ok(reader) => reader,
+        Err(_) => BufReader::with_capacity(alloc, 0, stream).unwrap(),
+    }
 }
 
 /// Serves a link, tears its paper off and prints its line. `Err` comes only if `output` has failed.

@@ -1,21 +1,20 @@
 //! The job `encode`: a receipt in JSON as the bytes of its commands, in hexadecimal.
 
-ghost use Rattle.std.specs.Prelude.{◌≡◌, ◌≢◌, Err, IfOk, IfSome, IsTrue};
+ghost use Rattle.std.specs.Prelude.{◌≡◌, ◌≢◌, IfSome, IsTrue, flat_map};
 ghost use Rattle.hex.specs.Hex.{encode_lower};
 ghost use Rattle.escpos_command.specs.CommandTable.{row, spell};
 ghost use Rattle.escpos_io.specs.Giving.{IsGiven};
 ghost use Rattle.escpos_io.specs.Putting.{passage};
 ghost use Rattle.escpos_jobs.specs.Encode.{Encodes, EncodesText, digits_line};
-ghost use Rattle.escpos_receipt.specs.declared.json.JsonFault.{JsonFault};
-ghost use Rattle.escpos_jobs.specs.Ending.{IsFair, PrintsText, memory_line, job_end};
-ghost use Rattle.escpos_jobs.specs.Refusal.{refusal_line};
+ghost use Rattle.escpos_receipt.specs.EntryCommands.{commands_in};
+ghost use Rattle.escpos_jobs.specs.Ending.{IsFair, PrintsText, job_end};
 
 use crate::ending::refuse;
 use crate::input::{INPUT_LIMIT, InputFault};
 use crate::receipt_input::refuse_text;
 use crate::status::Status;
 use escpos_command::{Command, LF};
-use escpos_host::{JsonError, Receipt};
+use escpos_receipt::{Entry, Receipt, ReceiptText, are_whole};
 use escpos_io::{ByteIn, ByteOut, Device, Gather, laws, put_digits, read_to_end};
 use std::alloc::Global;
 
@@ -44,34 +43,40 @@ fn encode_text<W: ByteOut>(alloc: Global, text: &[u8], output: &mut W) -> Status
     ensures not_hidden { result ≢ Status.Device → ¬ IsTrue (W.failed output.old) → ¬ IsTrue (W.failed output.new) }
     ensures never_usage { result ≢ Status.Usage }
 {
-    answer(Receipt::from_json(alloc, text), output)
-}
-
-// Prints the line of a receipt, or the line that says why there is none.
-fn answer<W: ByteOut>(read: Result<Receipt, JsonError>, output: &mut W) -> Status
-    ensures receipt { IfOk read (λ receipt.
-        PrintsText (job_end (W.written output.old) (W.written output.new) (W.failed output.new) result) (digits_line receipt) Status.Good) }
-    ensures refused { (fault : JsonFault) → read ≡ Err (JsonError.Refused fault) →
-        PrintsText (job_end (W.written output.old) (W.written output.new) (W.failed output.new) result) (refusal_line fault) Status.Refused }
-    ensures memory { read ≡ Err JsonError.Memory →
-        PrintsText (job_end (W.written output.old) (W.written output.new) (W.failed output.new) result) memory_line Status.Memory }
-    ensures device { result ≡ Status.Device → IsTrue (W.failed output.new) }
-    ensures never_usage { result ≢ Status.Usage }
-    ensures not_hidden { result ≢ Status.Device → ¬ IsTrue (W.failed output.old) → ¬ IsTrue (W.failed output.new) }
-{
-    match read {
-        Ok(receipt) => put_line(receipt.commands(), output),
+    match ReceiptText::new(alloc, text) {
+        Ok(text) => encode_receipt(alloc, &text, output),
         Err(fault) => refuse_text(fault, output),
     }
 }
 
-// Prints the bytes of the commands in hexadecimal, and the end of the line.
-fn put_line<W: ByteOut>(commands: &[Command], output: &mut W) -> Status
-    ensures says { PrintsText (job_end (W.written output.old) (W.written output.new) (W.failed output.new) result) (digits_line commands.now) Status.Good }
+// Prints the line for a text that is JSON. The commands of a receipt aren't listed: its text goes out from where it stands.
+fn encode_receipt<W: ByteOut>(alloc: Global, text: &ReceiptText<'_>, output: &mut W) -> Status
+    ensures encodes { EncodesText (job_end (W.written output.old) (W.written output.new) (W.failed output.new) result) text.now }
+    ensures device { result ≡ Status.Device → IsTrue (W.failed output.new) }
+    ensures not_hidden { result ≢ Status.Device → ¬ IsTrue (W.failed output.old) → ¬ IsTrue (W.failed output.new) }
+    ensures never_usage { result ≢ Status.Usage }
+{
+    let entries = match text.entries(alloc) {
+        Ok(entries) => entries,
+        Err(fault) => return refuse_text(fault, output),
+    };
+    if are_whole(&entries) {
+        return put_line(&entries, output);
+    }
+    match Receipt::of_entries(alloc, entries) {
+        Ok(_) => unreachable!(),
+        Err(fault) => refuse_text(fault, output),
+    }
+}
+
+// Prints the bytes of the entries in hexadecimal, and the end of the line.
+fn put_line<W: ByteOut>(entries: &[Entry<'_>], output: &mut W) -> Status
+    ensures says { PrintsText (job_end (W.written output.old) (W.written output.new) (W.failed output.new) result)
+        (digits_line (flat_map commands_in entries.now)) Status.Good }
     ensures not_hidden { result ≢ Status.Device → ¬ IsTrue (W.failed output.old) → ¬ IsTrue (W.failed output.new) }
 {
     let mut gather = Gather::new();
-    if put_commands(&mut gather, commands, output).is_err() {
+    if put_entries(&mut gather, entries, output).is_err() {
         return Status::Device;
     }
     if gather.put(&[LF], output).is_err() {
@@ -83,22 +88,41 @@ fn put_line<W: ByteOut>(commands: &[Command], output: &mut W) -> Status
     }
 }
 
-// Gives the bytes of the commands, one after another.
-fn put_commands<W: ByteOut>(
+// Gives the bytes of the entries, one after another.
+fn put_entries<W: ByteOut>(
     gather: &mut Gather,
-    commands: &[Command],
+    entries: &[Entry<'_>],
     writer: &mut W,
 ) -> Result<(), Device>
     ensures { IsGiven result (passage (W.written writer.old) (W.written writer.new) (W.failed writer.old) (W.failed writer.new))
-        gather.old gather.new (encode_lower (spell commands.now)) }
+        gather.old gather.new (encode_lower (spell (flat_map commands_in entries.now))) }
 {
     // Proof only: of no bytes there are no digits, and appended bytes count as given.
     laws::digits_in_turn();
     laws::given_in_place();
-    for command in commands {
-        put_command(gather, command, writer)?;
+    for entry in entries {
+        put_entry(gather, entry, writer)?;
     }
     Ok(())
+}
+
+// Gives the bytes of an entry.
+fn put_entry<W: ByteOut>(
+    gather: &mut Gather,
+    entry: &Entry<'_>,
+    writer: &mut W,
+) -> Result<(), Device>
+    ensures { IsGiven result (passage (W.written writer.old) (W.written writer.new) (W.failed writer.old) (W.failed writer.new))
+        gather.old gather.new (encode_lower (spell (commands_in entry.now))) }
+{
+    match entry {
+        Entry::Text(text) => put_digits(gather, text.bytes(), writer),
+        Entry::Line(text) => {
+            put_digits(gather, text.bytes(), writer)?;
+            put_digits(gather, &[LF], writer)
+        }
+        Entry::Command(command) => put_command(gather, command, writer),
+    }
 }
 
 // Gives the bytes of a command, part by part: a barcode's content and a raster's dots aren't copied.

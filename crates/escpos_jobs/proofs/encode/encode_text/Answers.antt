@@ -1,7 +1,7 @@
--- What is printed follows from what was read.
-use Rattle.escpos_jobs.proofs.Encodings.{encodes_by}
+-- The text isn't JSON, and that is printed.
+use Rattle.std.proofs.Common.{Err, ap}
+use Rattle.escpos_jobs.proofs.Encodings.{encodes_fault}
 use Rattle.escpos_jobs.proofs.encode.encode_text.Goals as goal
 
-pub returns-clause-encodes : goal.returns-clause-encodes
-returns-clause-encodes g c =
-    encodes_by _ c.args.text.now c.from_json.result c.from_json.ensures.receipt c.from_json.ensures.refused c.answer.ensures.receipt c.answer.ensures.refused c.answer.ensures.memory
+pub returns-in-Err-clause-encodes : goal.returns-in-Err-clause-encodes
+returns-in-Err-clause-encodes g c = encodes_fault _ c.args.text.now c.in-Err.fault (λ why e. c.in-Err.ensures.refused why (ap Err e)) c.refuse_text.ensures.refused c.refuse_text.ensures.memory

@@ -1,31 +1,34 @@
--- The digits of each command are given after those before it; if one failed, they are a prefix of all.
+-- The digits of each entry are given after those before it; if one failed, they are a prefix of all.
 use Rattle.std.proofs.Common.{◌+◌, ◌<◌, ◌∙◌, Ok, Err, length, take, drop, ap, arith}
 use Rattle.hex.specs.Hex.{encode_lower}
-use Rattle.escpos_command.specs.CommandTable.{row, spell}
-use Rattle.escpos_jobs.proofs.Spellings.{front_and_rest, one_more}
+use Rattle.escpos_command.specs.CommandTable.{spell}
+use Rattle.escpos_receipt.specs.EntryCommands.{commands_in}
+use Rattle.escpos_jobs.proofs.EntrySpellings.{entries_and_rest, entries_spelled, one_more_entry}
 use Rattle.escpos_io.proofs.Digits.{digits_append}
 use Rattle.escpos_io.proofs.Giving.{given_in_the_front, given_in_turn}
-use Rattle.escpos_jobs.proofs.encode.put_commands.Goals as goal
+use Rattle.escpos_jobs.proofs.encode.put_entries.Goals as goal
 
-pub returns-in_err-put_command : goal.returns-in_err-put_command
-returns-in_err-put_command g c =
-    let cs = c.args.commands.now in
-    let i = c.loop-command.command-index in
-    let inside : i < length cs = omega arith in
+pub returns-in_err-put_entry : goal.returns-in_err-put_entry
+returns-in_err-put_entry g c =
+    let es = c.args.entries.now in
+    let i = c.loop-entry.entry-index in
+    let entry = c.entry-item.result in
+    let inside : i < length es = omega arith in
     let joined = digits_append in
-    let device = c.in_err-put_command.field-0.0 in
-    let more = ap encode_lower (one_more cs i c.command-item.result inside c.command-item.is) ∙ joined (spell (take i cs)) (row c.command-item.result) in
-    let stopped = given_in_turn (Err device) _ _ _ _ _ _ _ _ _ (encode_lower (spell (take i cs))) (encode_lower (row c.command-item.result))
-    (encode_lower (spell (take (i + 1) cs))) c.loop-command.invariant c.in_err-put_command.ensures more in
-    given_in_the_front c.from_residual.result device _ _ _ (encode_lower (spell (take (i + 1) cs))) (encode_lower (spell (drop (i + 1) cs))) _
-    c.from_residual.ensures.1 stopped (ap encode_lower (front_and_rest cs (i + 1)) ∙ joined (spell (take (i + 1) cs)) (spell (drop (i + 1) cs)))
+    let device = c.in_err-put_entry.field-0.0 in
+    let more = ap encode_lower (one_more_entry es i entry inside c.entry-item.is) ∙ joined (entries_spelled (take i es)) (spell (commands_in entry)) in
+    let stopped = given_in_turn (Err device) _ _ _ _ _ _ _ _ _ (encode_lower (entries_spelled (take i es))) (encode_lower (spell (commands_in entry)))
+    (encode_lower (entries_spelled (take (i + 1) es))) c.loop-entry.invariant c.in_err-put_entry.ensures more in
+    given_in_the_front c.from_residual.result device _ _ _ (encode_lower (entries_spelled (take (i + 1) es))) (encode_lower (entries_spelled (drop (i + 1) es))) _
+    c.from_residual.ensures.1 stopped (ap encode_lower (entries_and_rest es (i + 1)) ∙ joined (entries_spelled (take (i + 1) es)) (entries_spelled (drop (i + 1) es)))
 
-pub loop-command-preserved : goal.loop-command-preserved
-loop-command-preserved g c =
-    let cs = c.args.commands.now in
-    let i = c.loop-command.command-index in
-    let inside : i < length cs = omega arith in
+pub loop-entry-preserved : goal.loop-entry-preserved
+loop-entry-preserved g c =
+    let es = c.args.entries.now in
+    let i = c.loop-entry.entry-index in
+    let entry = c.entry-item.result in
+    let inside : i < length es = omega arith in
     let joined = digits_append in
-    let more = ap encode_lower (one_more cs i c.command-item.result inside c.command-item.is) ∙ joined (spell (take i cs)) (row c.command-item.result) in
-    given_in_turn (Ok tt) _ _ _ _ _ _ _ _ _ (encode_lower (spell (take i cs))) (encode_lower (row c.command-item.result)) _
-    c.loop-command.invariant c.in_ok-put_command.ensures more
+    let more = ap encode_lower (one_more_entry es i entry inside c.entry-item.is) ∙ joined (entries_spelled (take i es)) (spell (commands_in entry)) in
+    given_in_turn (Ok tt) _ _ _ _ _ _ _ _ _ (encode_lower (entries_spelled (take i es))) (encode_lower (spell (commands_in entry))) _
+    c.loop-entry.invariant c.in_ok-put_entry.ensures more
