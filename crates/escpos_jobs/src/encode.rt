@@ -14,8 +14,8 @@ use crate::input::{INPUT_LIMIT, InputFault};
 use crate::receipt_input::refuse_text;
 use crate::status::Status;
 use escpos_command::{Command, LF};
-use escpos_receipt::{Entry, Receipt, ReceiptText, are_whole};
 use escpos_io::{ByteIn, ByteOut, Device, Gather, laws, put_digits, read_to_end};
+use escpos_receipt::{Entry, Receipt, ReceiptText, are_whole};
 use std::alloc::Global;
 
 /// Reads a receipt in JSON from `input`, and prints the bytes of its commands on `output`, in hexadecimal and in one line.

@@ -11,3 +11,4 @@ mod jobs;
 mod line;
 mod links;
 mod printer;
+mod receipts;

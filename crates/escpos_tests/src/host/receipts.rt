@@ -4,6 +4,7 @@ use crate::support::reasons::faults;
 use crate::support::texts::is_shown_as;
 use escpos_command::Command;
 use escpos_host::{JsonError, JsonFault, Receipt, ReceiptFault};
+use escpos_receipt::{ReceiptText, are_whole};
 use std::alloc::Global;
 use std::process::Abort;
 
@@ -21,6 +22,35 @@ fn commands_are_handed_back(rt: HostRuntime) {
     assert!(rt; refusal_of(Vec::new(rt.alloc())) == Some((ReceiptFault::Empty, 0)));
     let line = vec![in rt.alloc(); Command::LineFeed].expect(&rt, "memory");
     assert!(rt; refusal_of(line).is_none());
+}
+
+// Texts, and whether the commands of their entries are a receipt.
+const WHOLE: [(&[u8], bool); 12] = [
+    (b"[]", false),
+    (b"[{\"text\":\"\"}]", false),
+    (b"[{\"text\":\"Hi\"}]", false),
+    (b"[{\"line\":\"\"}]", true),
+    (b"[{\"line\":\"Hi\"}]", true),
+    (b"[{\"text\":\"Hi\"},{\"text\":\"\"}]", false),
+    (b"[{\"text\":\"Hi\"},{\"line\":\"\"}]", true),
+    (b"[{\"text\":\"Hi\"},{\"feed\":1}]", true),
+    (b"[{\"text\":\"Hi\"},{\"bold\":true}]", false),
+    (
+        b"[{\"text\":\"Hi\"},{\"cut\":\"full\"},{\"feed\":1}]",
+        false,
+    ),
+    (b"[{\"text\":\"\"},{\"cut\":\"full\"}]", true),
+    (b"[{\"line\":\"Hi\"},{\"cut\":\"full\"}]", true),
+];
+
+#[test]
+fn entries_are_whole(rt: HostRuntime) {
+    for (text, whole) in &WHOLE {
+        let json = ReceiptText::new(rt.alloc(), *text).expect(&rt, "JSON");
+        let entries = json.entries(rt.alloc()).expect(&rt, "entries");
+        assert!(rt; are_whole(&entries) == *whole, "{}", entries.len());
+        assert!(rt; Receipt::of_entries(rt.alloc(), entries).is_ok() == *whole);
+    }
 }
 
 // A reason equals the one of the table at its place, and no other.

@@ -137,17 +137,21 @@ fn are_answers(rt: &impl Abort, answers: &[u8]) {
     assert!(rt; Some(answers) == all.get(..answers.len()));
 }
 
-// A link of one printer is served over memory, with reads and writes that fail from these calls on, and its line is printed.
+// Room for more answers than a link here has.
+const ROOM: usize = 64;
+
+// A link of one printer is served over memory, with reads that fail from this call on and a sink that has room for this many
+// bytes, and its line is printed.
 fn serves_and_prints(
     rt: &impl Abort,
     (printer, paper): (&mut Printer, &mut PaperText),
-    (bytes, read, write): (&[u8], u64, u64),
+    (bytes, read, size): (&[u8], u64, usize),
     (number, text): (u32, &str),
 ) {
-    let mut room = [0; 64];
+    let mut room = [0; ROOM];
     let mut printed = [0; 80];
     let mut reader = MemoryIn::failing(bytes, 12, read);
-    let mut writer = MemoryOut::failing(&mut room, write);
+    let mut writer = MemoryOut::new(&mut room[..size.min(ROOM)]);
     let mut output = MemoryOut::new(&mut printed);
     let served = serve_and_tell(
         printer,
@@ -168,25 +172,25 @@ fn outcomes_of_a_link(rt: HostRuntime) {
     let mut paper = PaperText::new(rt.alloc());
     let bytes = b"Hi\n\x10\x04\x01\x10\x04\x02\x10\x04\x04".as_slice();
     let rows = [
-        (1, NEVER, "link 1 read 0 consumed 0 written 0 ReadFault\n"),
-        (2, NEVER, "link 1 read 12 consumed 12 written 3 ReadFault\n"),
-        (3, NEVER, "link 1 read 12 consumed 12 written 3 Ended\n"),
+        (1, ROOM, "link 1 read 0 consumed 0 written 0 ReadFault\n"),
+        (2, ROOM, "link 1 read 12 consumed 12 written 3 ReadFault\n"),
+        (3, ROOM, "link 1 read 12 consumed 12 written 3 Ended\n"),
         (
             NEVER,
-            1,
+            0,
             "link 1 read 12 consumed 12 written 0 WriteFault\n",
         ),
-        (NEVER, 2, "link 1 read 0 consumed 0 written 1 WriteFault\n"),
+        (NEVER, 1, "link 1 read 0 consumed 0 written 1 WriteFault\n"),
         (
             NEVER,
-            3,
+            2,
             "link 1 read 12 consumed 12 written 2 WriteFault\n",
         ),
-        (NEVER, 6, "link 1 read 12 consumed 12 written 3 Ended\n"),
+        (NEVER, 5, "link 1 read 12 consumed 12 written 3 Ended\n"),
     ];
-    for (read, write, text) in rows {
+    for (read, size, text) in rows {
         let ends = (&mut printer, &mut paper);
-        serves_and_prints(&rt, ends, (bytes, read, write), (1, text));
+        serves_and_prints(&rt, ends, (bytes, read, size), (1, text));
     }
     let offline = Condition {
         cover_open: true,
@@ -197,7 +201,7 @@ fn outcomes_of_a_link(rt: HostRuntime) {
     serves_and_prints(
         &rt,
         (&mut printer, &mut paper),
-        (b"\x1B!\x08", NEVER, NEVER),
+        (b"\x1B!\x08", NEVER, ROOM),
         (1000, text),
     );
 }
