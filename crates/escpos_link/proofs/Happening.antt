@@ -6,11 +6,12 @@ use Rattle.escpos_link.specs.declared.event.Event.{Event}
 use Rattle.escpos_link.specs.declared.event.Event.TheVariants as event
 use Rattle.escpos_link.specs.declared.event.Handed.{Handed}
 use Rattle.escpos_link.specs.declared.event.Handed.TheVariants as handed
-use Rattle.std.specs.Prelude.{IfOk}
+use Rattle.std.specs.Prelude.{ℕ, ◌≤◌, IfOk, OnOk}
 use Rattle.escpos_link.specs.declared.event.Note.{Note}
 use Rattle.escpos_link.specs.declared.event.Refused.{Refused}
 use Rattle.escpos_link.specs.EventTable.{After, HandsOver, IsRefused, Leaves, conditioned, delivered, restarted, with_host, with_printer}
 use Rattle.escpos_link.specs.Line.{IsLine, LineView}
+use Rattle.escpos_link.specs.Resumed.{RefusesResume, resumed, resumed_host}
 use Rattle.escpos_link.specs.Steps.{Happens}
 use Rattle.escpos_link.specs.Trusted.{IsFitting, Trusted, Trusting}
 use Rattle.escpos_link.specs.LowerLaws.{LeavesAnswers}
@@ -96,3 +97,15 @@ pub happens : Trusting → (e : Event) (l after : LineView) (r : Result Note Ref
     → IfOk r (λ n. Happens e l n after)
 happens law e l after (Ok n) i t happened = (happened, law.in_turn e l after n i t happened)
 happens law e l after (Err why) i t happened = tt
+
+-- ## The host goes on with fewer records
+
+pub resume_kept : (l after : LineView) (f count : ℕ) (r : Result (Unit {0}) Refused) → IsLine l → OnOk r ((l.host.next ≤ f) × (after ≡ resumed l f count))
+    → IfErr r (λ refused. RefusesResume l f refused after) → IsLine after
+resume_kept l after f count (Ok done) i on_ok refused = subst IsLine (sym on_ok.1) (off_link_kept l (resumed_host l.host f count) i refl refl)
+resume_kept l after f count (Err why) i on_ok refused = subst IsLine (sym refused.same) i
+
+pub resume_trusted : Trusting → (l after : LineView) (f count : ℕ) (r : Result (Unit {0}) Refused) → OnOk r ((l.host.next ≤ f) × (after ≡ resumed l f count))
+    → IfErr r (λ refused. RefusesResume l f refused after) → Trusted l → Trusted after
+resume_trusted law l after f count (Ok done) on_ok refused t = subst Trusted (sym on_ok.1) (law.resumes l f count on_ok.0 t)
+resume_trusted law l after f count (Err why) on_ok refused t = subst Trusted (sym refused.same) t

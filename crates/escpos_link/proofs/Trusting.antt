@@ -29,12 +29,14 @@ use Rattle.escpos_link.specs.declared.event.Note.{Note}
 use Rattle.escpos_link.specs.declared.event.Note.TheVariants as note
 use Rattle.escpos_link.specs.EventTable.{After, HandsOver, Leaves, Restarted, answers_left, delivered, ended_fed, first_link, heard_to, hung_up, left_by, live_fed, moved, off_link, on_its_way, linked_up, restarted, told_at, with_host, with_printer, without_first}
 use Rattle.escpos_link.specs.Line.{IsLine, LineView}
+use Rattle.escpos_link.specs.Resumed.{resumed, resumed_host}
 use Rattle.escpos_link.specs.Stands.{Stands}
 use Rattle.escpos_link.specs.Trusted.{IsFitting, IsRest, Known, Off, Trusted, Way, answered, answered_marks, flight_of}
 use Rattle.escpos_link.proofs.Aligning.{OfReadings, marks_append}
 use Rattle.escpos_link.proofs.AfterAnswers.{InWay, turn_way}
 use Rattle.escpos_link.proofs.Claiming.{OfPaper, course_stands, owed_stands}
 use Rattle.escpos_link.proofs.Feeding.{Read, fed_way}
+use Rattle.escpos_link.proofs.Standing.{stands_front}
 use Rattle.escpos_link.proofs.AfterHearing.{dropped, drop-nil, heard_line, heard_line_is}
 use Rattle.escpos_link.proofs.Leaving.{items_are, leaves_way, off_way, opened_way}
 use Rattle.escpos_link.proofs.Numbers.{OfNumbers, known_back, known_front, known_join}
@@ -127,10 +129,10 @@ moved_trusted l n t = record {
   way = moved_way l.host.phase l.host.out l.host.next l.host.records l.printer.sheet l.printer.half l.ended l.live _ n t.way;
 }
 
--- The host is off its link, with its records and a next number that isn't below the one it had.
-off_trusted : Laws → (l : LineView) (host : HostView) → host.phase ≡ Down → host.half ≡ [] → host.records ≡ l.host.records → l.host.next ≤ host.next → Trusted l
-    → Trusted (off_link (with_host l host))
-off_trusted laws l host is_down none same more t =
+-- The host is off its link, with the first of its records and a next number that isn't below the one it had.
+off_trusted : Laws → (l : LineView) (host : HostView) (forgotten : List (List Command)) → host.phase ≡ Down → host.half ≡ []
+    → l.host.records ≡ host.records ++ forgotten → l.host.next ≤ host.next → Trusted l → Trusted (off_link (with_host l host))
+off_trusted laws l host forgotten is_down none split more t =
     let off = off_way laws.paper l.host.phase l.host.out l.host.next host.next l.host.records l.printer.sheet l.printer.half l.ended l.live (answered_marks t.answers)
     (answered_marks l.printer.waiting) more
     (subst (Way l.host.phase l.host.out l.host.next l.host.records l.printer.sheet l.printer.half l.ended l.live) (marks_join t.answers l.printer.waiting) t.way) in
@@ -141,16 +143,21 @@ off_trusted laws l host is_down none same more t =
       reached = t.reached;
       way = inr (record {
         down = is_down;
-        stands = subst (λ v. Stands v l.printer.sheet.items) (sym same) off.stands;
+        stands = stands_front host.records forgotten l.printer.sheet.items (subst (λ v. Stands v l.printer.sheet.items) split off.stands);
         known = off.known;
         given_up = off.given_up;
       });
     }
 
 hung_trusted : Laws → (l : LineView) (phase : Phase) → l.host.phase ≡ phase → IsSound l.host → Trusted l → Trusted (off_link (with_host l (hung_up phase l.host)))
-hung_trusted laws l Down is sound t = off_trusted laws l l.host is (sound.quiet is).1 refl (omega arith) t
-hung_trusted laws l (Opening first) is sound t = off_trusted laws l (gone_down l.host) refl refl refl (omega arith) t
-hung_trusted laws l (Open flight) is sound t = off_trusted laws l (gone_down l.host) refl refl refl (omega arith) t
+hung_trusted laws l Down is sound t = off_trusted laws l l.host [] is (sound.quiet is).1 (sym (append-nil l.host.records)) (omega arith) t
+hung_trusted laws l (Opening first) is sound t = off_trusted laws l (gone_down l.host) [] refl refl (sym (append-nil l.host.records)) (omega arith) t
+hung_trusted laws l (Open flight) is sound t = off_trusted laws l (gone_down l.host) [] refl refl (sym (append-nil l.host.records)) (omega arith) t
+
+-- The host goes on with the first of its records.
+pub resumed_trusted : Laws → (l : LineView) (f count : ℕ) → l.host.next ≤ f → Trusted l → Trusted (resumed l f count)
+resumed_trusted laws l f count least t =
+    off_trusted laws l (resumed_host l.host f count) (drop count l.host.records) refl refl (sym (take-append-drop count l.host.records)) least t
 
 -- ## What the printer does
 
@@ -340,7 +347,7 @@ trusted laws event.PrinterLeaves l after n fits sound i (done, same) t =
 trusted laws event.PrinterRestart l after n fits sound i (printer, done, restart, same) t = subst Trusted (sym same) (restarted_trusted laws l printer restart t)
 trusted laws event.HostDrops l after n fits sound i (done, same) t = subst Trusted (sym same) (hung_trusted laws l l.host.phase refl sound t)
 trusted laws (event.HostRestart f) l after n fits sound i (done, least, same) t =
-    subst Trusted (sym same) (off_trusted laws l (restarted l.host f) refl refl refl least t)
+    subst Trusted (sym same) (off_trusted laws l (restarted l.host f) [] refl refl (sym (append-nil l.host.records)) least t)
 trusted laws (event.SetCondition condition) l after n fits sound i (done, same) t =
     subst Trusted (sym same) (record { answers = t.answers; hears = t.hears; half = t.half; reached = t.reached; way = t.way })
 

@@ -3,6 +3,7 @@ pub mod Line
 pub mod EventTable
 pub mod Steps
 pub mod Straight
+pub mod Resumed
 pub mod Stands
 pub mod Trusted
 pub mod MoveSteps

@@ -36,6 +36,7 @@ use Rattle.escpos_link.specs.declared.event.Event.TheVariants as event
 use Rattle.escpos_link.specs.declared.event.Note.{Note}
 use Rattle.escpos_link.specs.EventTable.{After, Leaves}
 use Rattle.escpos_link.specs.Line.{IsLine, LineView}
+use Rattle.escpos_link.specs.Resumed.{resumed}
 use Rattle.escpos_link.specs.Stands.{Stands}
 use Rattle.escpos_link.specs.Steps.{IsInTurn}
 
@@ -229,9 +230,11 @@ IsFitting (event.Ask n) = IsCommand (kind.Status n)
 IsFitting _ = Unit {0}
 
 -- The law of the line: where records can be trusted, they stand on the paper; they can still be trusted after any event and
--- after any refusal; and the host hears no byte that fits no answer, and no answer out of turn.
+-- after any refusal, and if the host goes on with fewer records; and the host hears no byte that fits no answer, and no answer
+-- out of turn.
 pub record Trusting : Type 0 where
   pub stands : (l : LineView) → Trusted l → Stands l.host.records l.printer.sheet.items
   pub kept : (e : Event) (l after : LineView) (n : Note) → IsFitting e → IsSound l.host → IsLine l → After e l n after → Trusted l → Trusted after
   pub leaves : (e : Event) (l after : LineView) → IsSound l.host → IsLine l → Leaves e l after → Trusted l → Trusted after
   pub in_turn : (e : Event) (l after : LineView) (n : Note) → IsLine l → Trusted l → After e l n after → IsInTurn n
+  pub resumes : (l : LineView) (f count : ℕ) → l.host.next ≤ f → Trusted l → Trusted (resumed l f count)

@@ -14,6 +14,7 @@ ghost use Rattle.escpos_link.specs.Refusals.{of_host};
 ghost use Rattle.escpos_link.specs.Straight.{HasMarks, IsAtRest, IsSilent, Undisturbed, all_bytes};
 ghost use Rattle.escpos_link.specs.EventTable.{After, HandsOver, IsRefused, Restarted, delivered, first_link, heard_to, hung_up, left_by, moved, off_link, linked_up, restarted, told_at, with_host, with_printer, without_first};
 ghost use Rattle.escpos_link.specs.MoveSteps.{HasMoved};
+ghost use Rattle.escpos_link.specs.Resumed.{RefusesResume, resumed};
 
 use crate::event::{Event, Handed, Note, Refusal, Refused};
 use crate::undelivered::Undelivered;
@@ -331,6 +332,18 @@ impl Line {
         ensures happened { IfOk result (λ note. After (Event.HostRestart first_mark) self.old note self.new) }
         ensures refused { IfErr result (λ refused. IsRefused (Event.HostRestart first_mark) self.old refused self.new) }
     {
+        let count = self.host.records().len();
+        match self.resume(first_mark, count) {
+            Ok(()) => Ok(Note::Done),
+            Err(refused) => Err(refused),
+        }
+    }
+
+    /// The host is restarted with the first `count` of its records, and with this number for its next mark.
+    pub fn resume(&mut self, first_mark: u32, count: usize) -> Result<(), Refused>
+        ensures resumed { OnOk result ((self.old.host.next ≤ first_mark) × (self.new ≡ resumed self.old first_mark count)) }
+        ensures refused { IfErr result (λ refused. RefusesResume self.old first_mark refused self.new) }
+    {
         let least = self.host.next_mark();
         if first_mark < least {
             return Err(Refused {
@@ -340,9 +353,11 @@ impl Line {
         }
         let alloc = *self.ended.allocator();
         let host = replace(&mut self.host, Host::new(alloc, first_mark));
-        self.host = Host::resume(alloc, first_mark, host.into_records());
+        let mut records = host.into_records();
+        records.truncate(count);
+        self.host = Host::resume(alloc, first_mark, records);
         self.leave_link();
-        Ok(Note::Done)
+        Ok(())
     }
 }
 

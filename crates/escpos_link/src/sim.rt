@@ -9,6 +9,7 @@ ghost use Rattle.escpos_link.specs.declared.event.Event.TheVariants as event;
 ghost use Rattle.escpos_link.specs.declared.event.Note.{Note};
 ghost use Rattle.escpos_link.specs.EventTable.{After, IsRefused};
 ghost use Rattle.escpos_link.specs.Line.{LineView};
+ghost use Rattle.escpos_link.specs.Resumed.{RefusesResume, resumed};
 ghost use Rattle.escpos_link.specs.Stands.{Stands};
 ghost use Rattle.escpos_link.specs.Steps.{Happened, Happens, IsInTurn, IsStopped, StopsIn};
 ghost use Rattle.escpos_link.specs.Straight.{StoppedStraight, Undisturbed, WentStraight, all_bytes, exchange, opening};
@@ -94,6 +95,20 @@ impl Sim {
         event.fits();
         self.line.is_sound();
         self.line.happen(event)
+    }
+
+    /// Switches the host off and on, as `HostRestart` does, but with the first `count` of its records alone: whoever keeps
+    /// them may have lost the last ones. Allocates nothing.
+    ///
+    /// It is refused if `first_mark` is below the host's next number (`MarkReused`). The line is then as it was.
+    pub fn resume(&mut self, first_mark: u32, count: usize) -> Result<(), Refused>
+        ensures resumed { OnOk result ((self.old.host.next ≤ first_mark) × (self.new ≡ resumed self.old first_mark count)) }
+        ensures refused { IfErr result (λ refused. RefusesResume self.old first_mark refused self.new) }
+        ensures stands { Stands self.new.host.records self.new.printer.sheet.items }
+    {
+        // Proof only: what holds for a line holds if its host goes on with fewer records.
+        laws::trust();
+        self.line.resume(first_mark, count)
     }
 
     /// Lets events happen, in order, up to the first that is refused.

@@ -38,6 +38,8 @@ const ONCE: &[u8] = b"row left Hi\nfeed 1\n";
 
 const TWICE: &[u8] = b"row left Hi\nfeed 1\nrow left Hi\nfeed 1\n";
 
+const THRICE: &[u8] = b"row left Hi\nfeed 1\nrow left Hi\nfeed 1\nrow left Hi\nfeed 1\n";
+
 // A restart of the host that is refused so.
 fn is_refused(rt: &impl Abort, sim: &mut Sim, first_mark: u32, why: Refusal) {
     match happen(sim, Event::HostRestart(first_mark)) {
@@ -75,6 +77,46 @@ fn host_restart(rt: HostRuntime) {
     tells(&rt, &mut sim, Event::HostRestart(2), Note::Done);
     let sight = (HostState::Down, 2, 1, false, 2, 0, 0);
     has(&rt, &sim, sight, &[b"Hi"], ONCE);
+}
+
+// The host goes on with this many of its records, at most, and with this number.
+fn resumes(rt: &impl Abort, sim: &mut Sim, first_mark: u32, count: usize) {
+    assert!(rt; sim.resume(first_mark, count).is_ok());
+}
+
+// It doesn't, since the number may have been used.
+fn resumes_not(rt: &impl Abort, sim: &mut Sim, first_mark: u32, least: u32) {
+    match sim.resume(first_mark, 0) {
+        Ok(()) => panic!(rt; "not refused"),
+        Err(refused) => {
+            assert!(rt; refused.why == Refusal::MarkReused { least });
+            assert!(rt; refused.receipt.is_none());
+        }
+    }
+}
+
+// A record is forgotten, and its receipt is printed and recorded again. Where more are to be kept than there are, all are.
+#[test]
+fn host_resumes(rt: HostRuntime) {
+    let mut sim = new_line(&rt, rt.alloc());
+    goes_straight(&rt, rt.alloc(), &mut sim, 0);
+    goes_straight(&rt, rt.alloc(), &mut sim, 1);
+    resumes_not(&rt, &mut sim, 2, 3);
+    let sight = (HostState::Ready, 3, 2, false, 4, 0, 0);
+    has(&rt, &sim, sight, &[b"Hi", b"Hi"], TWICE);
+    resumes(&rt, &mut sim, 3, 1);
+    let sight = (HostState::Down, 3, 1, false, 4, 0, 0);
+    has(&rt, &sim, sight, &[b"Hi"], TWICE);
+    resumes(&rt, &mut sim, 7, 5);
+    let sight = (HostState::Down, 7, 1, false, 4, 0, 0);
+    has(&rt, &sim, sight, &[b"Hi"], TWICE);
+    tells(&rt, &mut sim, Event::PrinterLeaves, Note::Done);
+    goes_straight(&rt, rt.alloc(), &mut sim, 1);
+    let sight = (HostState::Ready, 9, 2, false, 6, 0, 0);
+    has(&rt, &sim, sight, &[b"Hi", b"Hi"], THRICE);
+    resumes(&rt, &mut sim, 9, 0);
+    let sight = (HostState::Down, 9, 0, false, 6, 0, 0);
+    has(&rt, &sim, sight, &[], THRICE);
 }
 
 // The events of row lost_answer, and what is told of each.

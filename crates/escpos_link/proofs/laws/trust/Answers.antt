@@ -1,4 +1,4 @@
-use Rattle.escpos_link.proofs.Trusting.{Laws, leaves_trusted, none_bad, stands, trusted}
+use Rattle.escpos_link.proofs.Trusting.{Laws, leaves_trusted, none_bad, resumed_trusted, stands, trusted}
 use Rattle.escpos_link.proofs.laws.trust.Goals as goal
 
 pub returns : goal.returns
@@ -22,5 +22,6 @@ returns c =
       stands = stands laws.paper;
       kept = λ e l after n fits sound i happened t. trusted laws e l after n fits sound i happened t;
       leaves = λ e l after sound i leaves t. leaves_trusted laws e l after sound i leaves t;
+      resumes = λ l f count least t. resumed_trusted laws l f count least t;
       in_turn = λ e l after n i t happened consumed at. none_bad laws e l after n consumed at i t happened;
     }

@@ -1,0 +1,10 @@
+-- What holds for a line holds if its host goes on with fewer records.
+use Rattle.escpos_link.proofs.Happening.{resume_kept, resume_trusted}
+use Rattle.escpos_link.proofs.sim.Sim.resume.Goals as goal
+
+pub invariant_of-self : goal.invariant_of-self
+invariant_of-self c =
+    let line = c.self.inside.line in (
+      resume_kept line c.resume.new.self c.args.first_mark c.args.count c.resume.result c.self.invariant.0 c.resume.ensures.resumed c.resume.ensures.refused,
+      resume_trusted c.trust.ensures line c.resume.new.self c.args.first_mark c.args.count c.resume.result c.resume.ensures.resumed c.resume.ensures.refused c.self.invariant.1,
+    )
