@@ -1,1 +1,3 @@
 mod Worked
+pub mod EntryLemmas
+pub mod SummaryLemmas

@@ -2,9 +2,14 @@
 #![tactic(auto)]
 
 mod entry;
+mod memory_store;
 mod number;
 mod state;
+mod store;
+mod summary;
 
 pub use entry::{Content, Entry};
+pub use memory_store::{Failure, MemoryStore};
 pub use number::ReceiptNumber;
 pub use state::ReceiptState;
+pub use store::{Store, StoreFault};

@@ -1,0 +1,122 @@
+//! What a ledger keeps beside its entries, so that no call goes through all of them: where the receipts stand, which of them
+//! is the first that waits, and the next mark number.
+//!
+//! `specs/Summary.antt` says what it is of the entries.
+
+ghost use Rattle.std.specs.Prelude.{◌≡◌, ◌≢◌, ℕ, ◌+◌, ◌-◌, ◌^◌, ◌<◌, ◌≤◌, ◌↔◌, List, [], ◌∷◌, ◌++◌, length, slice_get, Some, None, IsTrue, OnOk, OnErr, IfSome, IfNone};
+ghost use Rattle.escpos_till.specs.declared.entry.Entry.{Entry};
+ghost use Rattle.escpos_till.specs.declared.entry.Entry.TheVariants as entry_kind;
+ghost use Rattle.escpos_till.specs.declared.state.ReceiptState.TheVariants as state_kind;
+ghost use Rattle.escpos_till.specs.Entries.{IsLedger, MayFollow};
+ghost use Rattle.escpos_till.specs.Summary.{HasRoom, IsFirstWaiting, IsRecorded, SumsUp};
+
+use crate::entry::Entry;
+use crate::number::ReceiptNumber;
+use crate::state::ReceiptState;
+use std::alloc::{AllocError, Global};
+
+/// The summary of a list of entries.
+#[derive(Drop)]
+pub(crate) struct Summary {
+    /// Where the entries stand by which the receipts were taken.
+    pub(crate) places: Vec<usize>,
+    /// Where the receipts stand.
+    pub(crate) states: Vec<ReceiptState>,
+    /// The place of the first receipt that waits; past the end if none does.
+    pub(crate) first_waiting: usize,
+    /// How many receipts are recorded.
+    pub(crate) recorded: usize,
+    /// The next mark number.
+    pub(crate) next: u32,
+}
+
+impl Summary {
+    /// The summary of no entries.
+    pub(crate) fn new(alloc: Global) -> Self
+        ensures { SumsUp result [] }
+    {
+        Summary {
+            places: Vec::new(alloc),
+            states: Vec::new(alloc),
+            first_waiting: 0,
+            recorded: 0,
+            next: 0,
+        }
+    }
+
+    /// How often a receipt was tried, if it waits; `None` if it was never taken, or is recorded.
+    pub(crate) fn tried(&self, number: ReceiptNumber) -> Option<usize>
+        ensures waits { (tried : ℕ) → result ≡ Some tried → slice_get self.now.states.items (number - 1) ≡ Some (state_kind.Waiting tried) }
+        ensures not { result ≡ None → (tried : ℕ) → slice_get self.now.states.items (number - 1) ≢ Some (state_kind.Waiting tried) }
+    {
+        match self.states.get(number.get() - 1) {
+            Some(ReceiptState::Waiting { tried }) => Some(*tried),
+            _ => None,
+        }
+    }
+
+    /// Makes room for one more receipt.
+    pub(crate) fn reserve(&mut self) -> Result<(), AllocError>
+        ensures room { OnOk result (HasRoom self.new) }
+        ensures same { (entries : List Entry) → SumsUp self.old entries → SumsUp self.new entries }
+    {
+        self.places.reserve(1)?;
+        self.states.reserve(1)
+    }
+}
+
+// The first of these states that waits, of which those before this place are recorded; past the end if none does.
+fn first_waiting_from(states: &[ReceiptState], from: usize) -> usize
+    requires within { from ≤ length states.now }
+    requires passed { (k : ℕ) (s : _) → k < from → slice_get states.now k ≡ Some s → IsRecorded s }
+    ensures { IsFirstWaiting states.now result }
+{
+    let mut at = from;
+    while let Some(ReceiptState::Recorded { .. }) = states.get(at) {
+        at += 1;
+    }
+    at
+}
+
+impl Summary {
+    /// Takes one more entry into account, which stands at this place.
+    pub(crate) fn note(&mut self, entry: &Entry, at: usize)
+        requires sums { (entries : List Entry) × SumsUp self.old entries × IsLedger entries × MayFollow entries entry.now × (at ≡ length entries) }
+        requires room { HasRoom self.old }
+        requires few { at < 2 ^ 63 }
+        ensures { (entries : List Entry) → SumsUp self.old entries → IsLedger entries → MayFollow entries entry.now → at ≡ length entries
+            → SumsUp self.new (entries ++ entry.now ∷ []) }
+    {
+        match entry {
+            Entry::Queued { .. } => {
+                self.places.push_reserved(at);
+                self.states.push_reserved(ReceiptState::Waiting { tried: 0 });
+            }
+            Entry::Tried { number, next } => {
+                let place = number.get() - 1;
+                self.states[place] = one_try_more(self.states[place]);
+                self.next = *next;
+            }
+            Entry::Recorded { number } => {
+                let place = number.get() - 1;
+                self.states[place] = ReceiptState::Recorded {
+                    place: self.recorded,
+                };
+                self.recorded += 1;
+                self.first_waiting = first_waiting_from(&self.states, self.first_waiting);
+            }
+            Entry::Raised { next } => self.next = *next,
+        }
+    }
+}
+
+// The state of a receipt that waits, when it is tried once more.
+fn one_try_more(state: ReceiptState) -> ReceiptState
+    requires { (tried : ℕ) × (state ≡ state_kind.Waiting tried) × (tried < 2 ^ 63) }
+    ensures { (tried : ℕ) → state ≡ state_kind.Waiting tried → result ≡ state_kind.Waiting (tried + 1) }
+{
+    match state {
+        ReceiptState::Waiting { tried } => ReceiptState::Waiting { tried: tried + 1 },
+        ReceiptState::Recorded { .. } => unreachable!(),
+    }
+}
