@@ -102,6 +102,9 @@ one_if b = cond b 1 0
 times-snoc : (es : List Entry) (e : Entry) (n : ℕ) → times_tried (es ++ e ∷ []) n ≡ times_tried es n + (0 + one_if (is_try_of n e))
 times-snoc es e n = sum_by-append (λ x. cond (is_try_of n x) 1 0) es (e ∷ [])
 
+times-cons : (es : List Entry) (e : Entry) (n : ℕ) → times_tried (e ∷ es) n ≡ (0 + one_if (is_try_of n e)) + times_tried es n
+times-cons es e n = sum_by-append (λ x. cond (is_try_of n x) 1 0) (e ∷ []) es
+
 same_times : (es : List Entry) (e : Entry) (n : ℕ) → is_try_of n e ≡ false → times_tried (es ++ e ∷ []) n ≡ times_tried es n
 same_times es e n h =
     let more : one_if (is_try_of n e) ≡ 0 = ap one_if h in
@@ -191,8 +194,7 @@ unknown_in before (Tried m next ∷ es) n h few =
         (subst (λ front. length (contents front) < n) (sym (append_assoc before (Tried m next ∷ []) es)) few) in
     let other : (m == n) ≡ false = is_other m n (below_count before (Tried m next ∷ es) m n (first_follows before (Tried m next) es h).0 few) in
     let none : one_if (m == n) ≡ 0 = ap one_if other in
-    let whole : times_tried (Tried m next ∷ es) n ≡ times_tried es n + one_if (m == n) = refl in
-    (omega (arith, whole, rest.0, none), rest.1)
+    (omega (arith, times-cons es (Tried m next) n, rest.0, none), rest.1)
 unknown_in before (Recorded m ∷ es) n h few =
     let rest = unknown_in (before ++ Recorded m ∷ []) es n (continues_later before (Recorded m) es h)
         (subst (λ front. length (contents front) < n) (sym (append_assoc before (Recorded m ∷ []) es)) few) in
