@@ -1,7 +1,7 @@
 -- What one more entry does to the summary of a list of entries.
 use Rattle.std.proofs.Common.{ℕ, zero, suc, ◌≡◌, ◌≢◌, ◌+◌, ◌-◌, ◌<◌, ◌≤◌, ◌⊎◌, inl, inr, Option, Some, None, List, [], ◌∷◌, ◌++◌, length, get_or, set, zero-add, refl, sym, ◌∙◌, ap, subst, append-nil, length-append, length-set, add-zero, arith}
-use Rattle.std.specs.Prelude.{slice_get}
-use Rattle.std.proofs.lemmas.Option.{get_or_from_slice_get}
+use Rattle.std.specs.Prelude.{MatchOption, slice_get}
+use Rattle.std.proofs.lemmas.Option.{get_or_from_slice_get, slice_get_read}
 use Rattle.escpos_till.specs.declared.entry.Entry.{Entry}
 use Rattle.escpos_till.specs.declared.entry.Entry.TheVariants.{Queued, Tried, Recorded, Raised}
 use Rattle.escpos_till.specs.declared.state.ReceiptState.{ReceiptState}
@@ -9,8 +9,8 @@ use Rattle.escpos_till.specs.declared.state.ReceiptState.TheVariants as state
 use Rattle.escpos_till.specs.declared.summary.Summary.{Summary}
 use Rattle.escpos_till.specs.Entries.{IsLedger, MayFollow, Waits, next_free, recorded, states, times_tried}
 use Rattle.escpos_till.specs.Entries.{states as states_of}
-use Rattle.escpos_till.specs.Summary.{IsFirstWaiting, IsRecorded, SumsUp, places_from}
-use Rattle.escpos_till.proofs.EntryLemmas.{next_after_queued, next_after_raised, next_after_recorded, next_after_tried, recorded-count, recorded-same, recorded_states, states_after_queued, states_after_raised, tried_states, waiting_state}
+use Rattle.escpos_till.specs.Summary.{IsFirstWaiting, IsRecorded, SumsUp, places_from, tries_in}
+use Rattle.escpos_till.proofs.EntryLemmas.{next_after_queued, next_after_raised, next_after_recorded, next_after_tried, recorded-count, recorded-same, recorded_states, states_after_queued, states_after_raised, tried_states, waiting_state, waits_by_state, within_states}
 
 -- ## Places
 
@@ -155,3 +155,18 @@ sums_after_raised s t es e next sums kind places states first recorded is_next =
   recorded = recorded ∙ sums.recorded ∙ sym (recorded-same es (Raised next) refl);
   next = is_next ∙ sym (next_after_raised es next);
 })
+
+-- How often a receipt was tried is what its state says.
+pub tried_so : (s : Summary) (es : List Entry) (n r : ℕ) (x : ReceiptState) → SumsUp s es → 0 < n → r ≡ n → r - 1 < length s.states.items → x ≡ get_or s.states.items (r - 1) x
+    → MatchOption (tries_in x) (Waits es n → ⊥) (λ tried. Waits es n × (times_tried es n ≡ tried))
+tried_so s es n r (state.Waiting tried) sums from_one same within is =
+    waits_by_state es n tried from_one
+    (ap (λ ss. slice_get ss (n - 1)) (sym sums.states) ∙ ap (λ k. slice_get s.states.items (k - 1)) (sym same) ∙ slice_get_read s.states.items (length s.states.items) (r - 1) (state.Waiting tried) refl within is)
+tried_so s es n r (state.Recorded place) sums from_one same within is =
+    λ waits. let bad : state.Recorded place ≡ state.Waiting (times_tried es n) = state_read s es n r (state.Recorded place) sums waits same is in cc
+
+pub tried_past : (s : Summary) (es : List Entry) (n r : ℕ) → SumsUp s es → r ≡ n → length s.states.items ≤ r - 1 → Waits es n → ⊥
+tried_past s es n r sums same past waits =
+    let within = within_states es n waits in
+    let count : length s.states.items ≡ length (states_of es) = ap length sums.states in
+    omega (arith, within, count, past, same)

@@ -1,2 +1,4 @@
 pub mod Entries
+pub mod Ledger
 pub mod Summary
+pub mod Kept

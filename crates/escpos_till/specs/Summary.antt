@@ -19,6 +19,10 @@ abbrev pub IsRecorded : ReceiptState → Type 0
 IsRecorded (state.Waiting tried) = ⊥
 IsRecorded (state.Recorded place) = Unit {0}
 
+abbrev pub tries_in : ReceiptState → Option ℕ
+tries_in (state.Waiting tried) = Some tried
+tries_in (state.Recorded place) = None
+
 -- Of these states the first that waits is at this place; past the end if none does.
 pub record IsFirstWaiting (states : List ReceiptState) (at : ℕ) : Type 0 where
   pub within : at ≤ length states

@@ -2,6 +2,8 @@
 #![tactic(auto)]
 
 mod entry;
+mod error;
+mod ledger;
 mod memory_store;
 mod number;
 mod state;
@@ -9,6 +11,8 @@ mod store;
 mod summary;
 
 pub use entry::{Content, Entry};
+pub use error::LedgerError;
+pub use ledger::Ledger;
 pub use memory_store::{Failure, MemoryStore};
 pub use number::ReceiptNumber;
 pub use state::ReceiptState;

@@ -3,12 +3,12 @@
 //!
 //! `specs/Summary.antt` says what it is of the entries.
 
-ghost use Rattle.std.specs.Prelude.{◌≡◌, ◌≢◌, ℕ, ◌+◌, ◌-◌, ◌^◌, ◌<◌, ◌≤◌, ◌↔◌, List, [], ◌∷◌, ◌++◌, length, slice_get, Some, None, IsTrue, OnOk, OnErr, IfSome, IfNone};
+ghost use Rattle.std.specs.Prelude.{◌≡◌, ◌≢◌, ℕ, ◌+◌, ◌-◌, ◌^◌, ◌<◌, ◌≤◌, ◌↔◌, List, [], ◌∷◌, ◌++◌, length, slice_get, Some, None, IsTrue, OnOk, MatchOption};
 ghost use Rattle.escpos_till.specs.declared.entry.Entry.{Entry};
 ghost use Rattle.escpos_till.specs.declared.entry.Entry.TheVariants as entry_kind;
 ghost use Rattle.escpos_till.specs.declared.state.ReceiptState.TheVariants as state_kind;
-ghost use Rattle.escpos_till.specs.Entries.{IsLedger, MayFollow};
-ghost use Rattle.escpos_till.specs.Summary.{HasRoom, IsFirstWaiting, IsRecorded, SumsUp};
+ghost use Rattle.escpos_till.specs.Entries.{IsLedger, MayFollow, Waits, times_tried};
+ghost use Rattle.escpos_till.specs.Summary.{HasRoom, IsFirstWaiting, IsRecorded, SumsUp, tries_in};
 
 use crate::entry::Entry;
 use crate::number::ReceiptNumber;
@@ -46,12 +46,26 @@ impl Summary {
 
     /// How often a receipt was tried, if it waits; `None` if it was never taken, or is recorded.
     pub(crate) fn tried(&self, number: ReceiptNumber) -> Option<usize>
-        ensures waits { (tried : ℕ) → result ≡ Some tried → slice_get self.now.states.items (number - 1) ≡ Some (state_kind.Waiting tried) }
-        ensures not { result ≡ None → (tried : ℕ) → slice_get self.now.states.items (number - 1) ≢ Some (state_kind.Waiting tried) }
+        ensures { (entries : List Entry) → SumsUp self.now entries → MatchOption result
+            (¬ Waits entries number) (λ tried. Waits entries number × (times_tried entries number ≡ tried)) }
     {
-        match self.states.get(number.get() - 1) {
-            Some(ReceiptState::Waiting { tried }) => Some(*tried),
-            _ => None,
+        let place = number.get() - 1;
+        if place < self.states.len() {
+            tries_in(self.states[place])
+        } else {
+            None
+        }
+    }
+
+    /// Whether an entry may come after those that this is the summary of.
+    pub(crate) fn may_follow(&self, entry: &Entry) -> bool
+        ensures { (entries : List Entry) → SumsUp self.now entries → IsTrue result ↔ MayFollow entries entry.now }
+    {
+        match entry {
+            Entry::Queued { .. } => true,
+            Entry::Tried { number, next } => self.tried(*number).is_some() && self.next < *next,
+            Entry::Recorded { number } => matches!(self.tried(*number), Some(tried) if 0 < tried),
+            Entry::Raised { next } => self.next <= *next,
         }
     }
 
@@ -118,5 +132,15 @@ fn one_try_more(state: ReceiptState) -> ReceiptState
     match state {
         ReceiptState::Waiting { tried } => ReceiptState::Waiting { tried: tried + 1 },
         ReceiptState::Recorded { .. } => unreachable!(),
+    }
+}
+
+// How often a receipt in this state was tried, if it waits.
+fn tries_in(state: ReceiptState) -> Option<usize>
+    ensures { result ≡ tries_in state }
+{
+    match state {
+        ReceiptState::Waiting { tried } => Some(tried),
+        ReceiptState::Recorded { .. } => None,
     }
 }
