@@ -1,9 +1,11 @@
 -- What one more entry does to what the entries say.
-use Rattle.std.proofs.Common.{ℕ, zero, suc, ◌≡◌, ◌≢◌, ◌+◌, ◌-◌, ◌<◌, ◌≤◌, ◌⊎◌, inl, inr, Bool, true, false, cond, Option, Some, None, List, [], ◌∷◌, ◌++◌, length, map, set, refl, sym, ◌∙◌, ap, subst, append-nil, append_assoc, length-append, add-zero, add-suc, add-one, zero-add, arith}
-use Rattle.std.specs.Prelude.{◌==◌, count_by, slice_get}
+use Rattle.std.proofs.Common.{ℕ, zero, suc, ◌≡◌, ◌≢◌, ◌+◌, ◌-◌, ◌<◌, ◌≤◌, ◌⊎◌, inl, inr, Bool, true, false, cond, Option, Some, None, List, [], ◌∷◌, ◌++◌, length, map, set, get_or, take, drop, refl, sym, ◌∙◌, ap, subst, append-nil, append_assoc, length-append, add-zero, add-suc, add-one, zero-add, arith}
+use Rattle.std.specs.Prelude.{◌==◌, is_none, count_by, filter, slice_get}
 use Rattle.std.specs.List.{filter_map, position_from}
 use Rattle.std.proofs.lemmas.Bool.Decides.{nat_tests}
 use Rattle.std.proofs.lemmas.Grind.{common_steps}
+use Rattle.std.proofs.Math.Seq.{take-suc}
+use Rattle.std.proofs.lemmas.List.{take-append-drop}
 use Rattle.std.proofs.lemmas.List.Elements.{filter_map-append}
 use Rattle.std.proofs.lemmas.List.Sums.{count_by-le-length, sum_by-append}
 use Rattle.std.proofs.lemmas.Option.{same_Some, slice_get_within}
@@ -11,7 +13,8 @@ use Rattle.escpos_till.specs.declared.entry.Entry.{Entry}
 use Rattle.escpos_till.specs.declared.entry.Entry.TheVariants.{Queued, Tried, Recorded, Raised}
 use Rattle.escpos_till.specs.declared.state.ReceiptState.{ReceiptState}
 use Rattle.escpos_till.specs.declared.state.ReceiptState.TheVariants as state
-use Rattle.escpos_till.specs.Entries.{IsLedger, MayFollow, Taken, Waits, content_of, contents, is_try_of, last_or, next_free, next_of, numbered_from, place_of, record_of, recorded, state_by, state_of, states, taken, times_tried}
+use Rattle.escpos_till.specs.Ledger.{FirstWaits}
+use Rattle.escpos_till.specs.Entries.{IsLedger, MayFollow, Taken, Waits, content_of, contents, is_try_of, last_or, next_free, next_of, numbered_from, place_of, record_of, recorded, state_by, state_of, states, taken, times_tried, waiting}
 
 -- ## Tests and places
 
@@ -325,3 +328,79 @@ few_records (Queued content ∷ es) = omega (arith, few_records es)
 few_records (Tried n next ∷ es) = omega (arith, few_records es)
 few_records (Recorded n ∷ es) = omega (arith, few_records es)
 few_records (Raised next ∷ es) = omega (arith, few_records es)
+
+pub count_states : (es : List Entry) → length (states es) ≡ length (taken es)
+count_states es = length-states es ∙ sym (length-taken 1 (contents es))
+
+pub some_state : (es old : List Entry) (content : List ℕ) → es ≡ old ++ Queued content ∷ [] → 0 < length (states es)
+some_state es old content e =
+    let count : length (contents es) ≡ length (contents old) + 1 = ap (λ xs. length (contents xs)) e ∙ ap length (contents-snoc old (Queued content)) ∙ length-append (contents old) (content ∷ []) in
+    omega (arith, count, length-states es)
+
+-- ## A list of entries, entry by entry
+
+pub one_longer : (es : List Entry) (i : ℕ) (e : Entry) → i < length es → e ≡ get_or es i e → take (i + 1) es ≡ take i es ++ e ∷ []
+one_longer es i e inside is = ap (λ n. take n es) (add-one i) ∙ take-suc es i e inside ∙ ap (λ y. take i es ++ y ∷ []) (sym is)
+
+split_at : (es : List Entry) (i : ℕ) (e : Entry) → i < length es → e ≡ get_or es i e → es ≡ take i es ++ e ∷ drop (i + 1) es
+split_at es i e inside is =
+    sym (take-append-drop (i + 1) es) ∙ ap (λ front. front ++ drop (i + 1) es) (one_longer es i e inside is) ∙ append_assoc (take i es) (e ∷ []) (drop (i + 1) es)
+
+pub refused_at : (es : List Entry) (i : ℕ) (e : Entry) → i < length es → e ≡ get_or es i e → (MayFollow (take i es) e → ⊥) → IsLedger es → ⊥
+refused_at es i e inside is refused ledger = refused (ledger (take i es) e (drop (i + 1) es) (split_at es i e inside is))
+
+-- ## The first that waits
+
+abbrev waits_in : List Entry → Taken → Bool
+waits_in es receipt = is_none (place_of es receipt.number)
+
+none_waits : (es : List Entry) (m : ℕ) (cs : List (List ℕ)) → ((k : ℕ) → k < length cs → is_none (place_of es (m + k)) ≡ false) → filter (waits_in es) (numbered_from m cs) ≡ []
+none_waits es m [] h = refl
+none_waits es m (c ∷ cs) h =
+    let here : is_none (place_of es m) ≡ false = ap (λ k. is_none (place_of es k)) (sym (add-zero m)) ∙ h 0 (omega arith) in
+    let later = none_waits es (m + 1) cs (λ k l. let same : m + 1 + k ≡ m + suc k = omega arith in ap (λ n. is_none (place_of es n)) same ∙ h (suc k) (omega arith)) in
+    ap (λ b. cond b (record { number = m; content = c } ∷ filter (waits_in es) (numbered_from (m + 1) cs)) (filter (waits_in es) (numbered_from (m + 1) cs))) here ∙ later
+
+first_waits : (es : List Entry) (m : ℕ) (cs : List (List ℕ)) (at : ℕ) (c : List ℕ) → slice_get cs at ≡ Some c
+    → ((k : ℕ) → k < at → is_none (place_of es (m + k)) ≡ false) → is_none (place_of es (m + at)) ≡ true
+    → slice_get (filter (waits_in es) (numbered_from m cs)) 0 ≡ Some (record { number = m + at; content = c })
+first_waits es m [] at c got h w = absurd (let bad : None ≡ Some c = got in cc)
+first_waits es m (d ∷ cs) zero c got h w =
+    let here : is_none (place_of es m) ≡ true = ap (λ k. is_none (place_of es k)) (sym (add-zero m)) ∙ w in
+    let same : d ≡ c = same_Some d c got in
+    ap (λ b. slice_get (cond b (record { number = m; content = d } ∷ filter (waits_in es) (numbered_from (m + 1) cs)) (filter (waits_in es) (numbered_from (m + 1) cs))) 0) here
+    ∙ ap (λ n. Some (let t : Taken = record { number = n; content = d } in t)) (sym (add-zero m)) ∙ ap (λ x. Some (let t : Taken = record { number = m + 0; content = x } in t)) same
+first_waits es m (d ∷ cs) (suc at) c got h w =
+    let here : is_none (place_of es m) ≡ false = ap (λ k. is_none (place_of es k)) (sym (add-zero m)) ∙ h 0 (omega arith) in
+    let later = first_waits es (m + 1) cs at c got (λ k l. let same : m + 1 + k ≡ m + suc k = omega arith in ap (λ n. is_none (place_of es n)) same ∙ h (suc k) (omega arith))
+        (let same : m + 1 + at ≡ m + suc at = omega arith in ap (λ n. is_none (place_of es n)) same ∙ w) in
+    let same : m + 1 + at ≡ m + suc at = omega arith in
+    ap (λ b. slice_get (cond b (record { number = m; content = d } ∷ filter (waits_in es) (numbered_from (m + 1) cs)) (filter (waits_in es) (numbered_from (m + 1) cs))) 0) here
+    ∙ later ∙ ap (λ n. Some (let t : Taken = record { number = n; content = c } in t)) same
+
+recorded_by : (p : Option ℕ) (t : ℕ) → (state_by p t ≢ state.Waiting t) → is_none p ≡ false
+recorded_by None t other = absurd (other refl)
+recorded_by (Some place) t other = refl
+
+recorded_one : (es : List Entry) (k : ℕ) → k < length (contents es) → ((tried : ℕ) → slice_get (states es) k ≢ Some (state.Waiting tried)) → is_none (place_of es (1 + k)) ≡ false
+recorded_one es k l other = recorded_by (place_of es (1 + k)) (times_tried es (1 + k)) (λ e. other (times_tried es (1 + k)) (states-get es k l ∙ ap Some e))
+
+-- No receipt waits where no state does.
+pub no_more : (es : List Entry) → ((k : ℕ) (tried : ℕ) → k < length (contents es) → slice_get (states es) k ≢ Some (state.Waiting tried)) → waiting es ≡ []
+no_more es h = none_waits es 1 (contents es) (λ k l. recorded_one es k l (λ tried. h k tried l))
+
+-- The first state that waits is that of the first receipt that waits.
+pub first_of_states : (es : List Entry) (at tried : ℕ) (content : List ℕ) → slice_get (contents es) at ≡ Some content → slice_get (states es) at ≡ Some (state.Waiting tried)
+    → ((k : ℕ) (tried : ℕ) → k < at → slice_get (states es) k ≢ Some (state.Waiting tried))
+    → FirstWaits es (at + 1) content tried
+first_of_states es at tried content got is h =
+    let within = slice_get_within (contents es) at content got in
+    let same : at + 1 ≡ 1 + at = omega arith in
+    let so : state_of es (1 + at) ≡ state.Waiting tried = same_Some (state_of es (1 + at)) (state.Waiting tried) (sym (states-get es at within) ∙ is) in
+    let parts = by_place (place_of es (1 + at)) (times_tried es (1 + at)) tried so in
+    let none : is_none (place_of es (1 + at)) ≡ true = ap is_none parts.0 in
+    record {
+      first = first_waits es 1 (contents es) at content got (λ k l. recorded_one es k (omega (arith, within)) (λ t. h k t l)) none
+          ∙ ap (λ n. Some (let t : Taken = record { number = n; content = content } in t)) (sym same);
+      times = ap (times_tried es) same ∙ parts.1;
+    }

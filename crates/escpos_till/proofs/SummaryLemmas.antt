@@ -7,10 +7,11 @@ use Rattle.escpos_till.specs.declared.entry.Entry.TheVariants.{Queued, Tried, Re
 use Rattle.escpos_till.specs.declared.state.ReceiptState.{ReceiptState}
 use Rattle.escpos_till.specs.declared.state.ReceiptState.TheVariants as state
 use Rattle.escpos_till.specs.declared.summary.Summary.{Summary}
-use Rattle.escpos_till.specs.Entries.{IsLedger, MayFollow, Waits, next_free, recorded, states, times_tried}
+use Rattle.escpos_till.specs.Entries.{IsLedger, MayFollow, Waits, next_free, contents, recorded, states, times_tried, waiting}
+use Rattle.escpos_till.specs.Ledger.{FirstWaits}
 use Rattle.escpos_till.specs.Entries.{states as states_of}
 use Rattle.escpos_till.specs.Summary.{IsFirstWaiting, IsRecorded, SumsUp, places_from, tries_in}
-use Rattle.escpos_till.proofs.EntryLemmas.{next_after_queued, next_after_raised, next_after_recorded, next_after_tried, recorded-count, recorded-same, recorded_states, states_after_queued, states_after_raised, tried_states, waiting_state, waits_by_state, within_states}
+use Rattle.escpos_till.proofs.EntryLemmas.{first_of_states, length-states, no_more, next_after_queued, next_after_raised, next_after_recorded, next_after_tried, recorded-count, recorded-same, recorded_states, states_after_queued, states_after_raised, tried_states, waiting_state, waits_by_state, within_states}
 
 -- ## Places
 
@@ -170,3 +171,57 @@ tried_past s es n r sums same past waits =
     let within = within_states es n waits in
     let count : length s.states.items ≡ length (states_of es) = ap length sums.states in
     omega (arith, within, count, past, same)
+
+-- ## The first that waits
+
+place_in : (i : ℕ) (es : List Entry) (k : ℕ) → k < length (contents es)
+    → (d : ℕ) × (content : List ℕ) × (slice_get (places_from i es) k ≡ Some (i + d)) × (slice_get es d ≡ Some (Queued content)) × (slice_get (contents es) k ≡ Some content)
+place_in i [] k l = absurd (omega arith)
+place_in i (Queued content ∷ es) zero l = (0, content, ap Some (sym (add-zero i)), refl, refl)
+place_in i (Queued content ∷ es) (suc k) l =
+    let later = place_in (i + 1) es k (omega arith) in
+    let same : i + 1 + later.0 ≡ i + suc later.0 = omega arith in
+    (suc later.0, later.1, later.2 ∙ ap Some same, later.3, later.4)
+place_in i (Tried n next ∷ es) k l =
+    let later = place_in (i + 1) es k l in
+    let same : i + 1 + later.0 ≡ i + suc later.0 = omega arith in
+    (suc later.0, later.1, later.2 ∙ ap Some same, later.3, later.4)
+place_in i (Recorded n ∷ es) k l =
+    let later = place_in (i + 1) es k l in
+    let same : i + 1 + later.0 ≡ i + suc later.0 = omega arith in
+    (suc later.0, later.1, later.2 ∙ ap Some same, later.3, later.4)
+place_in i (Raised next ∷ es) k l =
+    let later = place_in (i + 1) es k l in
+    let same : i + 1 + later.0 ≡ i + suc later.0 = omega arith in
+    (suc later.0, later.1, later.2 ∙ ap Some same, later.3, later.4)
+
+-- A receipt's place, and what stands there.
+pub record Spot (s : Summary) (es : List Entry) (k : ℕ) : Type 0 where
+  pub place : ℕ
+  pub content : List ℕ
+  pub at : slice_get s.places.items k ≡ Some place
+  pub there : slice_get es place ≡ Some (Queued content)
+  pub is : slice_get (contents es) k ≡ Some content
+
+pub spot : (s : Summary) (es : List Entry) (k : ℕ) → SumsUp s es → k < length s.states.items → Spot s es k
+spot s es k sums l =
+    let count : length s.states.items ≡ length (contents es) = ap length sums.states ∙ length-states es in
+    let found = place_in 0 es k (omega (arith, count)) in
+    record {
+      place = found.0;
+      content = found.1;
+      at = ap (λ ps. slice_get ps k) sums.places ∙ found.2 ∙ ap Some (zero-add found.0);
+      there = found.3;
+      is = found.4;
+    }
+
+pub none_left : (s : Summary) (es : List Entry) → SumsUp s es → length s.states.items ≤ s.first_waiting → waiting es ≡ []
+none_left s es sums past =
+    let count : length s.states.items ≡ length (contents es) = ap length sums.states ∙ length-states es in
+    no_more es (λ k tried l is. sums.first_waiting.passed k (state.Waiting tried) (omega (arith, count, past)) (ap (λ ss. slice_get ss k) sums.states ∙ is))
+
+pub first_left : (s : Summary) (es : List Entry) (at tried : ℕ) (content : List ℕ) → SumsUp s es → at ≡ s.first_waiting → slice_get (contents es) at ≡ Some content
+    → slice_get s.states.items at ≡ Some (state.Waiting tried) → FirstWaits es (at + 1) content tried
+first_left s es at tried content sums same is waits =
+    first_of_states es at tried content is (ap (λ ss. slice_get ss at) (sym sums.states) ∙ waits)
+    (λ k t l h. sums.first_waiting.passed k (state.Waiting t) (omega (arith, same)) (ap (λ ss. slice_get ss k) sums.states ∙ h))

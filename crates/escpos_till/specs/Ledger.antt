@@ -49,6 +49,11 @@ pub record CannotTell {S : Type 0} (old : LedgerView S) (e : Entry) (new : Ledge
   pub entries : new.entries ≡ old.entries
   pub unsure : new.unsure ≡ Some e
 
+-- The first receipt that waits has this number and this content, and was tried this many times.
+pub record FirstWaits (entries : List Entry) (number : ℕ) (content : List ℕ) (tried : ℕ) : Type 0 where
+  pub first : slice_get (waiting entries) 0 ≡ Some (record { number = number; content = content })
+  pub times : times_tried entries number ≡ tried
+
 -- ## Why a call is refused, and what that leaves. The first reason that applies counts; out of memory may come in place of any.
 
 -- Why the entry isn't added.

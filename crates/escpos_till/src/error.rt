@@ -24,3 +24,14 @@ pub enum LedgerError {
     /// The mark number is lower than the next one, which is this.
     MarkReused { next: u32 },
 }
+
+/// Why a store gives no ledger. The store's entries stay.
+#[derive(Clone, Copy, Debug, PartialEq, Eq)]
+pub enum OpenError {
+    /// What the store has is no ledger.
+    Damaged,
+    /// The store failed.
+    Store(StoreFault),
+    /// Out of memory.
+    Memory,
+}

@@ -9,11 +9,13 @@ mod number;
 mod state;
 mod store;
 mod summary;
+mod waiting;
 
 pub use entry::{Content, Entry};
-pub use error::LedgerError;
+pub use error::{LedgerError, OpenError};
 pub use ledger::Ledger;
 pub use memory_store::{Failure, MemoryStore};
 pub use number::ReceiptNumber;
 pub use state::ReceiptState;
 pub use store::{Store, StoreFault};
+pub use waiting::WaitingReceipt;

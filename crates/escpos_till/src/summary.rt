@@ -3,7 +3,7 @@
 //!
 //! `specs/Summary.antt` says what it is of the entries.
 
-ghost use Rattle.std.specs.Prelude.{◌≡◌, ◌≢◌, ℕ, ◌+◌, ◌-◌, ◌^◌, ◌<◌, ◌≤◌, ◌↔◌, List, [], ◌∷◌, ◌++◌, length, slice_get, Some, None, IsTrue, OnOk, MatchOption};
+ghost use Rattle.std.specs.Prelude.{◌≡◌, ◌≢◌, ℕ, ◌+◌, ◌-◌, ◌^◌, ◌<◌, ◌≤◌, ◌↔◌, List, [], ◌∷◌, ◌++◌, length, slice_get, Some, None, IsTrue, OnOk, IfOk, IsErrOf, MatchOption};
 ghost use Rattle.escpos_till.specs.declared.entry.Entry.{Entry};
 ghost use Rattle.escpos_till.specs.declared.entry.Entry.TheVariants as entry_kind;
 ghost use Rattle.escpos_till.specs.declared.state.ReceiptState.TheVariants as state_kind;
@@ -14,6 +14,15 @@ use crate::entry::Entry;
 use crate::number::ReceiptNumber;
 use crate::state::ReceiptState;
 use std::alloc::{AllocError, Global};
+
+/// Why there is no summary of some entries.
+#[derive(Clone, Copy)]
+pub(crate) enum NoSummary {
+    /// They aren't a ledger.
+    Damaged,
+    /// Out of memory.
+    Memory,
+}
 
 /// The summary of a list of entries.
 #[derive(Drop)]
@@ -44,6 +53,25 @@ impl Summary {
         }
     }
 
+    /// The summary of these entries.
+    pub(crate) fn of(alloc: Global, entries: &[Entry]) -> Result<Self, NoSummary>
+        ensures sums { IfOk result (λ summary. SumsUp summary entries.now) }
+        ensures ledger { IfOk result (λ _. IsLedger entries.now) }
+        ensures damaged { IsErrOf result NoSummary.Damaged → ¬ IsLedger entries.now }
+    {
+        let mut summary = Summary::new(alloc);
+        for (at, entry) in entries.iter().enumerate() {
+            if !summary.may_follow(entry) {
+                return Err(NoSummary::Damaged);
+            }
+            if summary.reserve().is_err() {
+                return Err(NoSummary::Memory);
+            }
+            summary.note(entry, at);
+        }
+        Ok(summary)
+    }
+
     /// How often a receipt was tried, if it waits; `None` if it was never taken, or is recorded.
     pub(crate) fn tried(&self, number: ReceiptNumber) -> Option<usize>
         ensures { (entries : List Entry) → SumsUp self.now entries → MatchOption result
@@ -67,6 +95,14 @@ impl Summary {
             Entry::Recorded { number } => matches!(self.tried(*number), Some(tried) if 0 < tried),
             Entry::Raised { next } => self.next <= *next,
         }
+    }
+
+    /// The number of the receipt that was taken last.
+    pub(crate) fn last_number(&self) -> ReceiptNumber
+        requires { 0 < length self.now.states.items }
+        ensures { result ≡ length self.now.states.items }
+    {
+        ReceiptNumber::new(self.states.len()).unwrap()
     }
 
     /// Makes room for one more receipt.
