@@ -32,6 +32,7 @@ pub record IsKept {S : Type 0} (faithful : S → Type 0) (holds leaves : S → L
   pub ledger : IsLedger l.entries
   pub held : IsLive l → faithful l.store → holds l.store l.entries
   pub crash : (left : List Entry) → faithful l.store → leaves l.store left → MayBeLeft l.entries l.unsure left
+  pub opens : (left : List Entry) → MayBeLeft l.entries l.unsure left → IsLedger left
 
 -- ## What a call does
 

@@ -1,6 +1,8 @@
 //! The till's ledger.
 #![tactic(auto)]
 
+mod copy;
+mod deliver;
 mod entry;
 mod error;
 mod ledger;
@@ -11,6 +13,8 @@ mod store;
 mod summary;
 mod waiting;
 
+pub use copy::{COPY_CHARACTERS, CopyText};
+pub use deliver::{Delivered, deliver_one};
 pub use entry::{Content, Entry};
 pub use error::{LedgerError, OpenError};
 pub use ledger::Ledger;
