@@ -1,3 +1,4 @@
 mod Worked
 pub mod EntryLemmas
 pub mod SummaryLemmas
+pub mod CopyLemmas

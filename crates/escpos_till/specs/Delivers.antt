@@ -27,10 +27,9 @@ use Rattle.escpos_till.specs.Ledger.{Adds, FirstWaits, HasFailed, IsLive, Ledger
 
 -- ## The call
 
--- What a call is given, and what the source and the sink say before and after it.
-pub record Delivery : Type 0 where
+-- What a call is given of a link, and what the source and the sink say before and after it.
+pub record Link : Type 0 where
   pub openings : ℕ
-  pub copy : Option (List ℕ)
   pub most : ℕ
   pub came_before : Option (List ℕ)
   pub came_after : Option (List ℕ)
@@ -46,20 +45,12 @@ abbrev pub fresh : ℕ → HostView
 fresh first = record { phase = Down; out = []; half = []; next = first; records = []; left = [] }
 
 -- Nothing is read, nothing is written.
-abbrev pub Quiet : Delivery → Type 0
-Quiet d = Consumes d.came_before d.came_after [] × Appends d.put_before d.put_after []
-
--- These bytes are read and these are written, while a fresh host sends these commands, with its first mark of this number.
-pub record Exchange (d : Delivery) (first : ℕ) (commands : List Command) (bytes out : List ℕ) (sent : Sent) : Type 0 where
-  pub came : Consumes d.came_before d.came_after bytes
-  pub put : Appends d.put_before d.put_after out
-  pub few : length bytes ≤ d.most
-  pub host : HostView
-  pub sends : Sends (record { before = fresh first; receipt = commands; openings = max d.openings 1; most = d.most }) bytes out sent host
+abbrev pub Quiet : Link → Type 0
+Quiet l = Consumes l.came_before l.came_after [] × Appends l.put_before l.put_after []
 
 -- ## Its steps
 
--- The first receipt that waits has this number and this content, and was tried this often; these commands are sent of it.
+-- The first receipt that waits has this number; these commands are sent of it.
 pub record Due (entries : List Entry) (copy : Option (List ℕ)) (number : ℕ) (commands : List Command) : Type 0 where
   pub content : List ℕ
   pub tried : ℕ
@@ -69,58 +60,65 @@ pub record Due (entries : List Entry) (copy : Option (List ℕ)) (number : ℕ) 
   pub whole : Whole receipt
   pub sent : commands ≡ sent_of copy tried receipt
 
--- The ledger reserves the marks of a call; then the receipt is sent.
-pub record Tries {S : Type 0} (d : Delivery) (old mid : LedgerView S) (number : ℕ) (sent : Sent) : Type 0 where
-  pub commands : List Command
-  pub due : Due old.entries d.copy number commands
-  pub reserved : Adds old (entry.Tried number (next_free old.entries + marks_taken d.openings)) mid
-  pub within : next_free old.entries + marks_taken d.openings ≤ mark_count
+-- A fresh host, whose first mark has this number, sends these commands.
+pub record Exchange (l : Link) (first : ℕ) (commands : List Command) (sent : Sent) : Type 0 where
   pub bytes : List ℕ
   pub out : List ℕ
-  pub exchange : Exchange d (next_free old.entries) commands bytes out sent
+  pub came : Consumes l.came_before l.came_after bytes
+  pub put : Appends l.put_before l.put_after out
+  pub few : length bytes ≤ l.most
+  pub host : HostView
+  pub sends : Sends (record { before = fresh first; receipt = commands; openings = max l.openings 1; most = l.most }) bytes out sent host
 
--- Why the text of the first receipt that waits gives none.
+-- The ledger reserves the mark numbers of a link, from the first that was free on; then the receipt is sent with them.
+pub record Tries {S : Type 0} (l : Link) (copy : Option (List ℕ)) (old mid : LedgerView S) (number : ℕ) (sent : Sent) : Type 0 where
+  pub commands : List Command
+  pub due : Due old.entries copy number commands
+  pub reserved : Adds old (entry.Tried number (next_free old.entries + marks_taken l.openings)) mid
+  pub within : next_free old.entries + marks_taken l.openings ≤ mark_count
+  pub exchange : Exchange l (next_free old.entries) commands sent
+
+-- The receipt is recorded in the ledger only where the host recorded it.
+abbrev pub Concludes : {S : Type 0} → LedgerView S → ℕ → Sent → Delivered → LedgerView S → Type 0
+Concludes mid number (became.Recorded place) (delivered.Recorded n) new = (n ≡ number) × Adds mid (entry.Recorded number) new
+Concludes mid number (became.Recorded place) (delivered.NotNoted n why) new = (n ≡ number) × RefusesRecorded why mid number new
+Concludes mid number (became.NotRecorded why receipt) (delivered.NotRecorded n w) new = (n ≡ number) × (w ≡ why) × (new ≡ mid)
+Concludes mid number sent result new = ⊥
+
+-- Why the text of a receipt gives none.
 abbrev pub WhyNone : JsonError → List ℕ → Type 0
 WhyNone (json.Refused fault) content = IsJsonFault fault content
 WhyNone json.Memory content = Unit {0}
 
--- Why no receipt is due.
+-- Why no receipt is due, where one waits.
 abbrev pub RefusesDue : {S : Type 0} → Delivered → LedgerView S → Type 0
 RefusesDue (delivered.NoReceipt number why) l =
     (content : List ℕ) × (tried : ℕ) × IsLive l × FirstWaits l.entries number content tried × WhyNone why content
 RefusesDue (delivered.NotTried why) l = (why ≡ error.Failed) × HasFailed l
-RefusesDue _ l = ⊥
-
--- Why no number is reserved for the first receipt that waits.
-abbrev pub RefusesDelivery : {S : Type 0} → Delivery → LedgerError → LedgerView S → LedgerView S → Type 0
-RefusesDelivery d why old new =
-    ((why ≡ error.Failed) × HasFailed old × (new ≡ old))
-    ⊎ ((number : ℕ) × (commands : List Command) × Due old.entries d.copy number commands × RefusesTried why old number (marks_taken d.openings) new)
+RefusesDue result l = ⊥
 
 -- ## What it does
 
-abbrev pub Delivers : {S : Type 0} → Delivery → LedgerView S → Delivered → LedgerView S → Type 0
-Delivers d old delivered.NothingWaits new = IsLive old × (waiting old.entries ≡ []) × (new ≡ old) × Quiet d
-Delivers d old (delivered.NoReceipt number why) new =
-    RefusesDue (delivered.NoReceipt number why) old × (new ≡ old) × Quiet d
-Delivers d old (delivered.NotTried why) new = RefusesDelivery d why old new × Quiet d
-Delivers d old (delivered.NotRecorded number why) new =
-    (receipt : List Command) × Tries d old new number (became.NotRecorded why receipt)
-Delivers {S} d old (delivered.Recorded number) new =
-    (mid : LedgerView S) × (place : ℕ) × Tries d old mid number (became.Recorded place) × Adds mid (entry.Recorded number) new
-Delivers {S} d old (delivered.NotNoted number why) new =
-    (mid : LedgerView S) × (place : ℕ) × Tries d old mid number (became.Recorded place) × RefusesRecorded why mid number new
+abbrev pub Delivers : {S : Type 0} → Link → Option (List ℕ) → LedgerView S → Delivered → LedgerView S → Type 0
+Delivers l copy old delivered.NothingWaits new = IsLive old × (waiting old.entries ≡ []) × (new ≡ old) × Quiet l
+Delivers l copy old (delivered.NoReceipt number why) new = RefusesDue (delivered.NoReceipt number why) old × (new ≡ old) × Quiet l
+Delivers l copy old (delivered.NotTried why) new =
+    ((RefusesDue (delivered.NotTried why) old × (new ≡ old))
+    ⊎ ((number : ℕ) × (commands : List Command) × Due old.entries copy number commands × RefusesTried why old number (marks_taken l.openings) new))
+    × Quiet l
+Delivers {S} l copy old result new =
+    (number : ℕ) × (sent : Sent) × (mid : LedgerView S) × Tries l copy old mid number sent × Concludes mid number sent result new
 
 -- ## Marks
 
--- Each mark among these commands has a number from the first of these up to the second, which isn't one.
+-- If the command is a mark, it has a number from the first of these up to the second, which isn't one.
 abbrev pub IsNumbered : ℕ → ℕ → Command → Type 0
 IsNumbered first next c = (id : List ℕ) → c ≡ kind.Mark id → (n : ℕ) × (first ≤ n) × (n < next) × (id ≡ mark_of n)
 
 -- What is written is the beginning of commands each of whose marks has a number from the first of these up to the second.
-pub record PutsMarks (d : Delivery) (first next : ℕ) : Type 0 where
+pub record PutsMarks (l : Link) (first next : ℕ) : Type 0 where
   pub out : List ℕ
-  pub put : Appends d.put_before d.put_after out
+  pub put : Appends l.put_before l.put_after out
   pub said : List Command
   pub unsaid : List ℕ
   pub begins : spell said ≡ out ++ unsaid

@@ -6,7 +6,7 @@
 ghost use Rattle.std.specs.Prelude.{◌≡◌, ◌≢◌, ◌+◌, ◌-◌, ◌^◌, ◌<◌, ◌≤◌, min, max, ℕ, List, Option, Some, None, [], ◌++◌, length, IsTrue, option_map, MatchOption, IfOk, IfErr, OnOk};
 ghost use Rattle.std.specs.Io.KnownBytes.{Appends, Consumes};
 ghost use Rattle.escpos_command.specs.declared.command.Command.{Command};
-ghost use Rattle.escpos_till.specs.Delivers.{Delivers, Due, PutsMarks, RefusesDue, WhyNone, marks_taken};
+ghost use Rattle.escpos_till.specs.Delivers.{Concludes, Delivers, Due, Exchange, RefusesDue, WhyNone, marks_taken};
 ghost use Rattle.escpos_till.specs.Copy.{sent_of};
 ghost use Rattle.escpos_receipt.specs.Describes.{Describes};
 ghost use Rattle.escpos_receipt.specs.Whole.{Whole};
@@ -65,31 +65,53 @@ pub fn deliver_one<S: Store, R: ByteIn, W: ByteOut>(
     writer: &mut W,
     max_bytes: u32,
 ) -> Delivered
-    ensures delivers { Delivers (record { openings = openings; copy = option_map (λ t. t.now) copy.entry; most = max_bytes;
+    ensures delivers { Delivers (record { openings = openings; most = max_bytes;
         came_before = R.to_come reader.old; came_after = R.to_come reader.new;
-        put_before = W.written writer.old; put_after = W.written writer.new }) ledger.old result ledger.new }
+        put_before = W.written writer.old; put_after = W.written writer.new })
+        (option_map (λ t. t.now) copy.entry) ledger.old result ledger.new }
+    ensures was_faithful { S.faithful ledger.new.store → S.faithful ledger.old.store }
 {
-    let due = match next_due(ledger, alloc, copy) {
+    let DueReceipt { number, receipt } = match next_due(ledger, alloc, copy) {
         Ok(Some(due)) => due,
         Ok(None) => return Delivered::NothingWaits,
         Err(refusal) => return refusal,
     };
-    let first = match ledger.tried(due.number, marks_taken(openings)) {
+    let first = match ledger.tried(number, marks_taken(openings)) {
         Ok(first) => first,
         Err(why) => return Delivered::NotTried(why),
     };
+    let sent = send_fresh(alloc, first, receipt, openings, reader, writer, max_bytes);
+    conclude(ledger, number, sent)
+}
+
+// Sends a receipt by a host that has sent nothing before, and whose first mark has this number.
+fn send_fresh<R: ByteIn, W: ByteOut>(
+    alloc: Global,
+    first: u32,
+    receipt: Receipt,
+    openings: u32,
+    reader: &mut R,
+    writer: &mut W,
+    max_bytes: u32,
+) -> Sent
+    ensures { Exchange (record { openings = openings; most = max_bytes;
+        came_before = R.to_come reader.old; came_after = R.to_come reader.new;
+        put_before = W.written writer.old; put_after = W.written writer.new }) first receipt result }
+{
     let mut host = Host::new(alloc, first);
-    match send_link(&mut host, due.receipt, openings, reader, writer, max_bytes) {
-        Sent::NotRecorded { why, .. } => Delivered::NotRecorded {
-            number: due.number,
-            why,
-        },
-        Sent::Recorded(_) => match ledger.recorded(due.number) {
-            Ok(()) => Delivered::Recorded(due.number),
-            Err(why) => Delivered::NotNoted {
-                number: due.number,
-                why,
-            },
+    send_link(&mut host, receipt, openings, reader, writer, max_bytes)
+}
+
+// Records the receipt with this number if the host has recorded it.
+fn conclude<S: Store>(ledger: &mut Ledger<S>, number: ReceiptNumber, sent: Sent) -> Delivered
+    ensures concludes { Concludes ledger.old number sent result ledger.new }
+    ensures was_faithful { S.faithful ledger.new.store → S.faithful ledger.old.store }
+{
+    match sent {
+        Sent::NotRecorded { why, .. } => Delivered::NotRecorded { number, why },
+        Sent::Recorded(_) => match ledger.recorded(number) {
+            Ok(()) => Delivered::Recorded(number),
+            Err(why) => Delivered::NotNoted { number, why },
         },
     }
 }
