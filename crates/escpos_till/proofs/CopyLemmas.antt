@@ -41,8 +41,14 @@ free_chars (b ∷ bs) tail all = (record { allowed = refl; anywhere = refl }, fr
 
 free_line : (bs : List ℕ) → AllByRecursion IsFree (copy_line bs)
 free_line bs =
-    (record { allowed = refl; anywhere = refl }, record { allowed = refl; anywhere = refl },
-      free_chars bs (LineFeed ∷ Emphasis 0 ∷ Align 0 ∷ []) (record { allowed = refl; anywhere = refl }, record { allowed = refl; anywhere = refl }, record { allowed = refl; anywhere = refl }, tt))
+    let free : (c : Command) → is_forbidden c ≡ false → needs_empty_line c ≡ false → IsFree c = λ c allowed anywhere. record { allowed = allowed; anywhere = anywhere } in
+    (
+      free (Align 1) refl refl,
+      (
+        free (Emphasis 1) refl refl,
+        free_chars bs (LineFeed ∷ Emphasis 0 ∷ Align 0 ∷ []) (free LineFeed refl refl, (free (Emphasis 0) refl refl, (free (Align 0) refl refl, tt))),
+      ),
+    )
 
 nothing_either : (b : Bool) (t : List ℕ) → (if b then [] else []) ++ t ≡ t
 nothing_either true t = refl
@@ -77,7 +83,7 @@ follows_line : (bs : List ℕ) (rest : List Command) (c : Command) → MayFollow
 follows_line bs rest c f = record { allowed = f.allowed; at_line_start = λ needs. ap is_nonempty (text_after_line bs rest) ∙ f.at_line_start needs }
 
 free_follows : (before : List Command) (c : Command) → IsFree c → MayFollow before c
-free_follows before c f = record { allowed = f.allowed; at_line_start = λ needs. absurd (let no : needs_empty_line c ≡ false = f.anywhere in let yes : needs_empty_line c ≡ true = sym needs in cc) }
+free_follows before c f = record { allowed = f.allowed; at_line_start = λ needs. absurd (let no : needs_empty_line c ≡ false = f.anywhere in let yes : needs_empty_line c ≡ true = needs in cc) }
 
 pub copy_whole : (bs : List ℕ) (cs : List Command) → Whole cs → Whole (copy_line bs ++ cs)
 copy_whole bs cs w = record {

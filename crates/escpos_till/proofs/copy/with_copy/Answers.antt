@@ -8,6 +8,10 @@ use Rattle.escpos_till.proofs.copy.with_copy.Goals as goal
 
 pub unreachable-requires : goal.unreachable-requires
 unreachable-requires c =
-    let items : c.push_all.new.commands.items ≡ copy_line c.args.text.now ++ c.args.receipt.now = ? in
-    let no = c.in-Err.ensures.exact (subst Whole (sym items) (copy_whole c.args.text.now c.args.receipt.now (subst Whole c.commands.ensures.commands c.commands.ensures.whole))) in
+    let line : List Command = copy_line c.args.text.now in
+    let items : c.push_all.new.commands.items ≡ line ++ c.args.receipt.now =
+        c.in_ok-push_all.ensures
+        ∙ ap (λ (front : List Command). front ++ c.commands.result.now) (c.in_ok-push_copy_line.ensures ∙ ap (λ (none : List Command). none ++ line) c.new-commands.ensures.items)
+        ∙ ap (λ (rest : List Command). line ++ rest) c.commands.ensures.commands in
+    let no = c.in-Err.ensures.exact (subst Whole (sym items) (copy_whole c.args.text.now c.args.receipt.now c.commands.ensures.whole)) in
     cc
