@@ -2,3 +2,4 @@ mod Worked
 pub mod EntryLemmas
 pub mod SummaryLemmas
 pub mod CopyLemmas
+pub mod MarkLemmas

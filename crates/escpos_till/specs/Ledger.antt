@@ -73,6 +73,8 @@ abbrev pub RefusesTried : {S : Type 0} → LedgerError → LedgerView S → ℕ 
 RefusesTried error.NotWaiting old number marks new = IsLive old × ¬ Waits old.entries number × (new ≡ old)
 RefusesTried error.MarksUsedUp old number marks new =
     IsLive old × Waits old.entries number × (mark_count < next_free old.entries + marks) × (new ≡ old)
+RefusesTried (error.Store fault) old number marks new =
+    (next_free old.entries + marks ≤ mark_count) × CannotTell old (entry.Tried number (next_free old.entries + marks)) new
 RefusesTried why old number marks new = RefusesEntry why old (entry.Tried number (next_free old.entries + marks)) new
 
 abbrev pub RefusesRecorded : {S : Type 0} → LedgerError → LedgerView S → ℕ → LedgerView S → Type 0

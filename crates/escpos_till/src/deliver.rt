@@ -6,7 +6,7 @@
 ghost use Rattle.std.specs.Prelude.{◌≡◌, ◌≢◌, ◌+◌, ◌-◌, ◌^◌, ◌<◌, ◌≤◌, min, max, ℕ, List, Option, Some, None, [], ◌++◌, length, IsTrue, option_map, MatchOption, IfOk, IfErr, OnOk};
 ghost use Rattle.std.specs.Io.KnownBytes.{Appends, Consumes};
 ghost use Rattle.escpos_command.specs.declared.command.Command.{Command};
-ghost use Rattle.escpos_till.specs.Delivers.{Concludes, Delivers, Due, Exchange, RefusesDue, WhyNone, marks_taken};
+ghost use Rattle.escpos_till.specs.Delivers.{Concludes, Delivers, Due, Exchange, PutsMarks, RefusesDue, WhyNone, marks_taken};
 ghost use Rattle.escpos_till.specs.Copy.{sent_of};
 ghost use Rattle.escpos_receipt.specs.Describes.{Describes};
 ghost use Rattle.escpos_receipt.specs.Whole.{Whole};
@@ -53,10 +53,33 @@ struct DueReceipt {
 /// Delivers the first receipt of a ledger that waits: reserves mark numbers in the ledger, sends the receipt over a link by a
 /// host that has sent nothing before, and records it once its closing mark is answered.
 ///
-/// It takes one mark number for each of `openings` opening marks (0 counts as 1), and one for the closing mark. `copy` is the
-/// text of a line that is put before a receipt that was tried before, and so may be on the paper already. At most `max_bytes`
-/// bytes of answers are read.
+/// It takes one mark number for each of `openings` opening marks (0 counts as 1), and one for the closing mark; the ledger has
+/// reserved them before a byte goes out. `copy` is the text of a line that is put before a receipt that was tried before, and
+/// so may be on the paper already. At most `max_bytes` bytes of answers are read.
 pub fn deliver_one<S: Store, R: ByteIn, W: ByteOut>(
+    ledger: &mut Ledger<S>,
+    alloc: Global,
+    openings: u32,
+    copy: Option<&CopyText<'_>>,
+    reader: &mut R,
+    writer: &mut W,
+    max_bytes: u32,
+) -> Delivered
+    ensures delivers { Delivers (record { openings = openings; most = max_bytes;
+        came_before = R.to_come reader.old; came_after = R.to_come reader.new;
+        put_before = W.written writer.old; put_after = W.written writer.new })
+        (option_map (λ t. t.now) copy.entry) ledger.old result ledger.new }
+    ensures own_marks { PutsMarks (record { openings = openings; most = max_bytes;
+        came_before = R.to_come reader.old; came_after = R.to_come reader.new;
+        put_before = W.written writer.old; put_after = W.written writer.new })
+        (next_free ledger.old.entries) (next_free ledger.new.entries) }
+    ensures was_faithful { S.faithful ledger.new.store → S.faithful ledger.old.store }
+{
+    deliver_first(ledger, alloc, openings, copy, reader, writer, max_bytes)
+}
+
+// The same; its caller says which marks went out.
+fn deliver_first<S: Store, R: ByteIn, W: ByteOut>(
     ledger: &mut Ledger<S>,
     alloc: Global,
     openings: u32,
