@@ -48,17 +48,17 @@ refused_so (error.MarkReused next) old new number m n e r = r
 
 -- ## What a call does
 
-pub sent_delivers : {S : Type 0} (l : Link) (copy : Option (List ℕ)) (old mid new : LedgerView S) (number : ℕ) (sent : Sent) (result : Delivered)
-    → Tries l copy old mid number sent → Concludes mid number sent result new → Delivers l copy old result new
-sent_delivers l copy old mid new number (became.Recorded place) delivered.NothingWaits tries h = absurd h
-sent_delivers l copy old mid new number (became.NotRecorded why receipt) delivered.NothingWaits tries h = absurd h
-sent_delivers l copy old mid new number (became.Recorded place) (delivered.NoReceipt n w) tries h = absurd h
-sent_delivers l copy old mid new number (became.NotRecorded why receipt) (delivered.NoReceipt n w) tries h = absurd h
-sent_delivers l copy old mid new number (became.Recorded place) (delivered.NotTried w) tries h = absurd h
-sent_delivers l copy old mid new number (became.NotRecorded why receipt) (delivered.NotTried w) tries h = absurd h
-sent_delivers l copy old mid new number sent (delivered.NotRecorded n w) tries h = (number, sent, mid, tries, h)
-sent_delivers l copy old mid new number sent (delivered.Recorded n) tries h = (number, sent, mid, tries, h)
-sent_delivers l copy old mid new number sent (delivered.NotNoted n w) tries h = (number, sent, mid, tries, h)
+pub sent_delivers : {S : Type 0} (Held : LedgerView S → Type 0) (l : Link) (copy : Option (List ℕ)) (old mid new : LedgerView S) (number : ℕ) (sent : Sent) (result : Delivered)
+    → Tries Held l copy old mid number sent → Concludes mid number sent result new → Delivers Held l copy old result new
+sent_delivers Held l copy old mid new number (became.Recorded place) delivered.NothingWaits tries h = absurd h
+sent_delivers Held l copy old mid new number (became.NotRecorded why receipt) delivered.NothingWaits tries h = absurd h
+sent_delivers Held l copy old mid new number (became.Recorded place) (delivered.NoReceipt n w) tries h = absurd h
+sent_delivers Held l copy old mid new number (became.NotRecorded why receipt) (delivered.NoReceipt n w) tries h = absurd h
+sent_delivers Held l copy old mid new number (became.Recorded place) (delivered.NotTried w) tries h = absurd h
+sent_delivers Held l copy old mid new number (became.NotRecorded why receipt) (delivered.NotTried w) tries h = absurd h
+sent_delivers Held l copy old mid new number sent (delivered.NotRecorded n w) tries h = (number, sent, mid, tries, h)
+sent_delivers Held l copy old mid new number sent (delivered.Recorded n) tries h = (number, sent, mid, tries, h)
+sent_delivers Held l copy old mid new number sent (delivered.NotNoted n w) tries h = (number, sent, mid, tries, h)
 
 -- ## What is written
 
@@ -199,19 +199,19 @@ next_concluded {S} mid new number (became.NotRecorded why receipt) (delivered.No
 next_concluded {S} mid new number (became.NotRecorded why receipt) (delivered.Recorded n) h = absurd h
 next_concluded {S} mid new number (became.NotRecorded why receipt) (delivered.NotNoted n w) h = absurd h
 
-puts_tried : {S : Type 0} (l : Link) (copy : Option (List ℕ)) (old mid new : LedgerView S) (number : ℕ) (sent : Sent) (result : Delivered)
-    → Tries l copy old mid number sent → Concludes mid number sent result new → PutsMarks l (next_free old.entries) (next_free new.entries)
-puts_tried l copy old mid new number sent result t h =
+puts_tried : {S : Type 0} (Held : LedgerView S → Type 0) (l : Link) (copy : Option (List ℕ)) (old mid new : LedgerView S) (number : ℕ) (sent : Sent) (result : Delivered)
+    → Tries Held l copy old mid number sent → Concludes mid number sent result new → PutsMarks l (next_free old.entries) (next_free new.entries)
+puts_tried Held l copy old mid new number sent result t h =
     let next : next_free new.entries ≡ next_free old.entries + marks_taken l.openings =
         next_concluded mid new number sent result h ∙ ap next_free t.reserved.entries ∙ next_after_tried old.entries number (next_free old.entries + marks_taken l.openings) in
     puts_sent l (next_free old.entries) (next_free new.entries) t.commands sent t.exchange
     (subst Whole (sym t.due.sent) (sent_whole copy t.due.tried t.due.receipt t.due.whole)) (omega (arith, next))
 
-pub puts_marks : {S : Type 0} (l : Link) (copy : Option (List ℕ)) (old new : LedgerView S) (result : Delivered) → Delivers l copy old result new
+pub puts_marks : {S : Type 0} (Held : LedgerView S → Type 0) (l : Link) (copy : Option (List ℕ)) (old new : LedgerView S) (result : Delivered) → Delivers Held l copy old result new
     → PutsMarks l (next_free old.entries) (next_free new.entries)
-puts_marks l copy old new delivered.NothingWaits d = puts_nothing l (next_free old.entries) (next_free new.entries) d.3
-puts_marks l copy old new (delivered.NoReceipt n w) d = puts_nothing l (next_free old.entries) (next_free new.entries) d.2
-puts_marks l copy old new (delivered.NotTried w) d = puts_nothing l (next_free old.entries) (next_free new.entries) d.1
-puts_marks l copy old new (delivered.NotRecorded n w) d = puts_tried l copy old d.2 new d.0 d.1 (delivered.NotRecorded n w) d.3 d.4
-puts_marks l copy old new (delivered.Recorded n) d = puts_tried l copy old d.2 new d.0 d.1 (delivered.Recorded n) d.3 d.4
-puts_marks l copy old new (delivered.NotNoted n w) d = puts_tried l copy old d.2 new d.0 d.1 (delivered.NotNoted n w) d.3 d.4
+puts_marks Held l copy old new delivered.NothingWaits d = puts_nothing l (next_free old.entries) (next_free new.entries) d.3
+puts_marks Held l copy old new (delivered.NoReceipt n w) d = puts_nothing l (next_free old.entries) (next_free new.entries) d.2
+puts_marks Held l copy old new (delivered.NotTried w) d = puts_nothing l (next_free old.entries) (next_free new.entries) d.1
+puts_marks Held l copy old new (delivered.NotRecorded n w) d = puts_tried Held l copy old d.2 new d.0 d.1 (delivered.NotRecorded n w) d.3 d.4
+puts_marks Held l copy old new (delivered.Recorded n) d = puts_tried Held l copy old d.2 new d.0 d.1 (delivered.Recorded n) d.3 d.4
+puts_marks Held l copy old new (delivered.NotNoted n w) d = puts_tried Held l copy old d.2 new d.0 d.1 (delivered.NotNoted n w) d.3 d.4

@@ -70,12 +70,14 @@ pub record Exchange (l : Link) (first : ℕ) (commands : List Command) (sent : S
   pub host : HostView
   pub sends : Sends (record { before = fresh first; receipt = commands; openings = max l.openings 1; most = l.most }) bytes out sent host
 
--- The ledger reserves the mark numbers of a link, from the first that was free on; then the receipt is sent with them.
-pub record Tries {S : Type 0} (l : Link) (copy : Option (List ℕ)) (old mid : LedgerView S) (number : ℕ) (sent : Sent) : Type 0 where
+-- The ledger reserves the mark numbers of a link, from the first that was free on, and its store holds that (`Held`); then the
+-- receipt is sent with them.
+pub record Tries {S : Type 0} (Held : LedgerView S → Type 0) (l : Link) (copy : Option (List ℕ)) (old mid : LedgerView S) (number : ℕ) (sent : Sent) : Type 0 where
   pub commands : List Command
   pub due : Due old.entries copy number commands
   pub reserved : Adds old (entry.Tried number (next_free old.entries + marks_taken l.openings)) mid
   pub within : next_free old.entries + marks_taken l.openings ≤ mark_count
+  pub held : Held mid
   pub exchange : Exchange l (next_free old.entries) commands sent
 
 -- The receipt is recorded in the ledger only where the host recorded it.
@@ -99,15 +101,16 @@ RefusesDue result l = ⊥
 
 -- ## What it does
 
-abbrev pub Delivers : {S : Type 0} → Link → Option (List ℕ) → LedgerView S → Delivered → LedgerView S → Type 0
-Delivers l copy old delivered.NothingWaits new = IsLive old × (waiting old.entries ≡ []) × (new ≡ old) × Quiet l
-Delivers l copy old (delivered.NoReceipt number why) new = RefusesDue (delivered.NoReceipt number why) old × (new ≡ old) × Quiet l
-Delivers l copy old (delivered.NotTried why) new =
+-- `Held` says of a ledger that its store holds it, as `IsKept` does.
+abbrev pub Delivers : {S : Type 0} → (LedgerView S → Type 0) → Link → Option (List ℕ) → LedgerView S → Delivered → LedgerView S → Type 0
+Delivers Held l copy old delivered.NothingWaits new = IsLive old × (waiting old.entries ≡ []) × (new ≡ old) × Quiet l
+Delivers Held l copy old (delivered.NoReceipt number why) new = RefusesDue (delivered.NoReceipt number why) old × (new ≡ old) × Quiet l
+Delivers Held l copy old (delivered.NotTried why) new =
     ((RefusesDue (delivered.NotTried why) old × (new ≡ old))
     ⊎ ((number : ℕ) × (commands : List Command) × Due old.entries copy number commands × RefusesTried why old number (marks_taken l.openings) new))
     × Quiet l
-Delivers {S} l copy old result new =
-    (number : ℕ) × (sent : Sent) × (mid : LedgerView S) × Tries l copy old mid number sent × Concludes mid number sent result new
+Delivers {S} Held l copy old result new =
+    (number : ℕ) × (sent : Sent) × (mid : LedgerView S) × Tries Held l copy old mid number sent × Concludes mid number sent result new
 
 -- ## Marks
 

@@ -11,7 +11,7 @@ ghost use Rattle.escpos_till.specs.Copy.{sent_of};
 ghost use Rattle.escpos_receipt.specs.Describes.{Describes};
 ghost use Rattle.escpos_receipt.specs.Whole.{Whole};
 ghost use Rattle.escpos_till.specs.Entries.{next_free, waiting};
-ghost use Rattle.escpos_till.specs.Ledger.{FirstWaits, HasFailed, IsLive, LedgerView};
+ghost use Rattle.escpos_till.specs.Ledger.{FirstWaits, HasFailed, IsKept, IsLive};
 
 use crate::copy::{CopyText, with_copy};
 use crate::error::LedgerError;
@@ -65,7 +65,7 @@ pub fn deliver_one<S: Store, R: ByteIn, W: ByteOut>(
     writer: &mut W,
     max_bytes: u32,
 ) -> Delivered
-    ensures delivers { Delivers (record { openings = openings; most = max_bytes;
+    ensures delivers { Delivers (IsKept S.faithful S.holds S.leaves) (record { openings = openings; most = max_bytes;
         came_before = R.to_come reader.old; came_after = R.to_come reader.new;
         put_before = W.written writer.old; put_after = W.written writer.new })
         (option_map (λ t. t.now) copy.entry) ledger.old result ledger.new }
@@ -88,7 +88,7 @@ fn deliver_first<S: Store, R: ByteIn, W: ByteOut>(
     writer: &mut W,
     max_bytes: u32,
 ) -> Delivered
-    ensures delivers { Delivers (record { openings = openings; most = max_bytes;
+    ensures delivers { Delivers (IsKept S.faithful S.holds S.leaves) (record { openings = openings; most = max_bytes;
         came_before = R.to_come reader.old; came_after = R.to_come reader.new;
         put_before = W.written writer.old; put_after = W.written writer.new })
         (option_map (λ t. t.now) copy.entry) ledger.old result ledger.new }
@@ -103,6 +103,8 @@ fn deliver_first<S: Store, R: ByteIn, W: ByteOut>(
         Ok(first) => first,
         Err(why) => return Delivered::NotTried(why),
     };
+    // Proof only: the store holds what is reserved.
+    ledger.is_sound();
     let sent = send_fresh(alloc, first, receipt, openings, reader, writer, max_bytes);
     conclude(ledger, number, sent)
 }

@@ -4,7 +4,7 @@ use Rattle.std.proofs.KnownBytes.{Appends-nil, Consumes-nil}
 use Rattle.escpos_till.specs.Delivers.{Exchange, Link, marks_taken}
 use Rattle.escpos_till.specs.Entries.{next_free}
 use Rattle.escpos_command.specs.Digits.{mark_count}
-use Rattle.escpos_till.specs.Ledger.{Adds}
+use Rattle.escpos_till.specs.Ledger.{Adds, IsKept}
 use Rattle.escpos_till.specs.declared.entry.Entry.TheVariants as entry
 use Rattle.escpos_till.proofs.MarkLemmas.{counted, refused_so, sent_delivers}
 use Rattle.escpos_till.proofs.deliver.deliver_first.Goals as goal
@@ -36,12 +36,13 @@ returns-clause-delivers g c =
       put_before = g.W.ByteOut.written c.args.writer.now;
       put_after = g.W.ByteOut.written c.send_fresh-sent.new.writer;
     } in
-    sent_delivers link _ c.args.ledger.now c.tried.new.self c.conclude.new.ledger c.in-Ok-Some.due.number c.send_fresh-sent.result c.conclude.result
+    sent_delivers (IsKept g.S.Store.faithful g.S.Store.holds g.S.Store.leaves) link _ c.args.ledger.now c.tried.new.self c.conclude.new.ledger c.in-Ok-Some.due.number c.send_fresh-sent.result c.conclude.result
     (record {
       commands = c.in-Ok-Some.due.receipt;
       due = due;
       reserved = subst (λ (n : ℕ). Adds c.args.ledger.now (entry.Tried c.in-Ok-Some.due.number n) c.tried.new.self) sum c.in-Ok.ensures.added;
       within = subst (λ (n : ℕ). n ≤ mark_count) sum c.in-Ok.ensures.within;
+      held = c.is_sound.ensures;
       exchange = subst (λ (n : ℕ). Exchange link n c.in-Ok-Some.due.receipt c.send_fresh-sent.result) c.in-Ok.ensures.first c.send_fresh-sent.ensures;
     })
     c.conclude.ensures.concludes

@@ -36,7 +36,7 @@ invariant_of-self-in-Err g c =
     let follows : MayFollow es e = subst (λ (v : LedgerView g.row.S.Denot). MayFollow v.entries e) (sym c.self.view_is) c.requires.follows in
     let live : c.self.inside.unsure ≡ None = ap (λ (v : LedgerView g.row.S.Denot). v.unsure) c.self.view_is ∙ c.requires.live in
     let kept = c.self.invariant.kept in
-    subst (λ (xs : List Entry). IsConsistent g.S.Store.faithful g.S.Store.holds g.S.Store.leaves c.reserve-2.new.self (record { entries = xs; unsure = Some e; store = c.append.new.self })) (sym c.reserve.ensures.items)
+    subst (λ (xs : List Entry). IsConsistent g.S.Store.faithful g.S.Store.holds g.S.Store.leaves c.reserve-2.new.self (record { entries = xs; unsure = Some e; store = c.append.new.self })) (sym {A = List Entry} c.reserve.ensures.items)
     (record {
       sums = c.reserve-2.ensures.same es c.self.invariant.sums;
       kept = record {
