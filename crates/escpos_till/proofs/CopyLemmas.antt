@@ -1,0 +1,104 @@
+-- A receipt with the line of a copy before it is a receipt.
+use Rattle.std.proofs.Common.{ℕ, ◌≡◌, ◌≢◌, ◌⊎◌, inl, inr, Bool, true, false, IsTrue, Option, Some, None, List, [], ◌∷◌, ◌++◌, map, refl, sym, ◌∙◌, ap, subst, append_assoc}
+use Rattle.std.specs.Prelude.{if◌then◌else◌, nat_lt, ◌||◌}
+use Rattle.std.specs.List.{AllByRecursion, list_any}
+use Rattle.escpos_command.specs.declared.command.Command.{Command}
+use Rattle.escpos_command.specs.declared.command.Command.TheVariants.{Align, Char, Emphasis, LineFeed}
+use Rattle.escpos_command.specs.Text.{characters, ends_text, text}
+use Rattle.escpos_receipt.specs.Whole.{EachMayFollow, MayFollow, Whole, has_text, is_forbidden, is_nonempty, needs_empty_line}
+use Rattle.escpos_till.specs.Copy.{copy_line, sent_of}
+
+-- ## Places in two lists
+
+split_append : {X : Type 0} (front xs before : List X) (x : X) (following : List X) → front ++ xs ≡ before ++ x ∷ following
+    → ((more : List X) × (front ≡ before ++ x ∷ more)) ⊎ ((rest : List X) × (before ≡ front ++ rest) × (xs ≡ rest ++ x ∷ following))
+split_append [] xs before x following e = inr (before, refl, e)
+split_append (y ∷ front) xs [] x following e =
+    let same : y ≡ x = cc in
+    inl (front, ap (λ w. w ∷ front) same)
+split_append (y ∷ front) xs (b ∷ before) x following e =
+    let head : y ≡ b = cc in
+    let tail : front ++ xs ≡ before ++ x ∷ following = cc in
+    elim (split_append front xs before x following tail) [
+      | inl within ↦ inl (within.0, cc (head, within.1))
+      | inr later ↦ inr (later.0, cc (head, later.1), later.2)
+    ]
+
+at_place : {X : Type 0} (P : X → Type 0) (before : List X) (x : X) (more : List X) → AllByRecursion P (before ++ x ∷ more) → P x
+at_place P [] x more all = all.0
+at_place P (b ∷ before) x more all = at_place P before x more all.1
+
+-- ## The line
+
+-- A receipt may have the command anywhere.
+pub record IsFree (c : Command) : Type 0 where
+  pub allowed : is_forbidden c ≡ false
+  pub anywhere : needs_empty_line c ≡ false
+
+free_chars : (bs : List ℕ) (tail : List Command) → AllByRecursion IsFree tail → AllByRecursion IsFree (map Char bs ++ tail)
+free_chars [] tail all = all
+free_chars (b ∷ bs) tail all = (record { allowed = refl; anywhere = refl }, free_chars bs tail all)
+
+free_line : (bs : List ℕ) → AllByRecursion IsFree (copy_line bs)
+free_line bs =
+    let free : (c : Command) → is_forbidden c ≡ false → needs_empty_line c ≡ false → IsFree c = λ c allowed anywhere. record { allowed = allowed; anywhere = anywhere } in
+    (
+      free (Align 1) refl refl,
+      (
+        free (Emphasis 1) refl refl,
+        free_chars bs (LineFeed ∷ Emphasis 0 ∷ Align 0 ∷ []) (free LineFeed refl refl, (free (Emphasis 0) refl refl, (free (Align 0) refl refl, tt))),
+      ),
+    )
+
+nothing_either : (b : Bool) (t : List ℕ) → (if b then [] else []) ++ t ≡ t
+nothing_either true t = refl
+nothing_either false t = refl
+
+or_true : (a : Bool) → (a || true) ≡ true
+or_true true = refl
+or_true false = refl
+
+ends_in : (bs : List ℕ) (rest : List Command) → list_any ends_text (map Char bs ++ LineFeed ∷ rest) ≡ true
+ends_in [] rest = refl
+ends_in (b ∷ bs) rest = ends_in bs rest
+
+text_after_chars : (bs : List ℕ) (rest : List Command) → text (map Char bs ++ LineFeed ∷ rest) ≡ text rest
+text_after_chars [] rest = nothing_either (list_any ends_text rest) (text rest)
+text_after_chars (b ∷ bs) rest =
+    ap (λ e. (if e then [] else b ∷ []) ++ text (map Char bs ++ LineFeed ∷ rest)) (ends_in bs rest) ∙ text_after_chars bs rest
+
+text_after_line : (bs : List ℕ) (rest : List Command) → text (copy_line bs ++ rest) ≡ text rest
+text_after_line bs rest =
+    let tail : List Command = LineFeed ∷ Emphasis 0 ∷ Align 0 ∷ [] in
+    let body : List Command = (map Char bs ++ tail) ++ rest in
+    let joined : body ≡ map Char bs ++ (LineFeed ∷ Emphasis 0 ∷ Align 0 ∷ rest) = append_assoc (map Char bs) tail rest in
+    nothing_either (list_any ends_text (Emphasis 1 ∷ body)) (text (Emphasis 1 ∷ body))
+    ∙ nothing_either (list_any ends_text body) (text body)
+    ∙ ap text joined
+    ∙ text_after_chars bs (Emphasis 0 ∷ Align 0 ∷ rest)
+    ∙ nothing_either (list_any ends_text (Align 0 ∷ rest)) (text (Align 0 ∷ rest))
+    ∙ nothing_either (list_any ends_text rest) (text rest)
+
+follows_line : (bs : List ℕ) (rest : List Command) (c : Command) → MayFollow rest c → MayFollow (copy_line bs ++ rest) c
+follows_line bs rest c f = record { allowed = f.allowed; at_line_start = λ needs. ap is_nonempty (text_after_line bs rest) ∙ f.at_line_start needs }
+
+free_follows : (before : List Command) (c : Command) → IsFree c → MayFollow before c
+free_follows before c f = record { allowed = f.allowed; at_line_start = λ needs. absurd (let no : needs_empty_line c ≡ false = f.anywhere in let yes : needs_empty_line c ≡ true = needs in cc) }
+
+pub copy_whole : (bs : List ℕ) (cs : List Command) → Whole cs → Whole (copy_line bs ++ cs)
+copy_whole bs cs w = record {
+  nonempty = λ e. cc;
+  in_place = λ before c following e. elim (split_append (copy_line bs) cs before c following e) [
+    | inl within ↦ free_follows before c (at_place IsFree before c within.0 (subst (AllByRecursion IsFree) within.1 (free_line bs)))
+    | inr later ↦ subst (λ front. MayFollow front c) (sym later.1) (follows_line bs later.0 c (w.in_place later.0 c following later.2))
+  ];
+  no_text_left = ap is_nonempty (text_after_line bs cs) ∙ w.no_text_left;
+}
+
+by_times : (b : Bool) (bs : List ℕ) (cs : List Command) → Whole cs → Whole (if b then copy_line bs ++ cs else cs)
+by_times true bs cs w = copy_whole bs cs w
+by_times false bs cs w = w
+
+pub sent_whole : (copy : Option (List ℕ)) (tried : ℕ) (cs : List Command) → Whole cs → Whole (sent_of copy tried cs)
+sent_whole None tried cs w = w
+sent_whole (Some bs) tried cs w = by_times (nat_lt 0 tried) bs cs w

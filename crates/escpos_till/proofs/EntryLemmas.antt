@@ -1,0 +1,416 @@
+-- What one more entry does to what the entries say.
+use Rattle.std.proofs.Common.{ℕ, zero, suc, ◌≡◌, ◌≢◌, ◌+◌, ◌-◌, ◌<◌, ◌≤◌, ◌⊎◌, inl, inr, Bool, true, false, cond, Option, Some, None, List, [], ◌∷◌, ◌++◌, length, map, set, get_or, take, drop, refl, sym, ◌∙◌, ap, subst, append-nil, append_assoc, length-append, add-zero, add-suc, add-one, zero-add, arith}
+use Rattle.std.specs.Prelude.{◌==◌, is_none, count_by, filter, slice_get}
+use Rattle.std.specs.List.{filter_map, position_from}
+use Rattle.std.proofs.lemmas.Bool.Decides.{nat_tests}
+use Rattle.std.proofs.lemmas.Grind.{common_steps}
+use Rattle.std.proofs.Math.Seq.{take-suc}
+use Rattle.std.proofs.lemmas.List.{take-append-drop}
+use Rattle.std.proofs.lemmas.List.Elements.{filter_map-append}
+use Rattle.std.proofs.lemmas.List.Sums.{count_by-le-length, sum_by-append}
+use Rattle.std.proofs.lemmas.Option.{same_Some, slice_get_within}
+use Rattle.escpos_till.specs.declared.entry.Entry.{Entry}
+use Rattle.escpos_till.specs.declared.entry.Entry.TheVariants.{Queued, Tried, Recorded, Raised}
+use Rattle.escpos_till.specs.declared.state.ReceiptState.{ReceiptState}
+use Rattle.escpos_till.specs.declared.state.ReceiptState.TheVariants as state
+use Rattle.escpos_till.specs.Ledger.{FirstWaits, MayBeLeft}
+use Rattle.escpos_till.specs.Entries.{IsLedger, MayFollow, Taken, Waits, content_of, contents, is_try_of, last_or, next_free, next_of, numbered_from, place_of, record_of, recorded, state_by, state_of, states, taken, times_tried, waiting}
+
+-- ## Tests and places
+
+is_self : (n : ℕ) → (n == n) ≡ true
+is_self n = grind (arith, nat_tests)
+
+is_other : (m n : ℕ) → m ≢ n → (m == n) ≡ false
+is_other m n h = grind (arith, nat_tests)
+
+position-miss : (t : ℕ → Bool) (i : ℕ) (xs : List ℕ) (x : ℕ) → t x ≡ false → position_from t i (xs ++ x ∷ []) ≡ position_from t i xs
+position-miss t i [] x h = ap (λ b. cond b (Some i) None) h
+position-miss t i (y ∷ xs) x h = ap (cond (t y) (Some i)) (position-miss t (i + 1) xs x h)
+
+by_first : (b : Bool) (i : ℕ) (rest more result : Option ℕ) → cond b (Some i) rest ≡ None → (rest ≡ None → more ≡ result) → cond b (Some i) more ≡ result
+by_first true i rest more result h next = absurd cc
+by_first false i rest more result h next = next h
+
+position-hit : (t : ℕ → Bool) (i : ℕ) (xs : List ℕ) (x : ℕ) → position_from t i xs ≡ None → t x ≡ true → position_from t i (xs ++ x ∷ []) ≡ Some (i + length xs)
+position-hit t i [] x h e = ap (λ b. cond b (Some i) None) e ∙ ap Some (sym (add-zero i))
+position-hit t i (y ∷ xs) x h e = by_first (t y) i (position_from t (i + 1) xs) _ _ h (λ none. position-hit t (i + 1) xs x none e ∙ ap Some (omega arith))
+
+-- ## Receipts with numbers
+
+numbered-same : {X : Type 0} (f g : ℕ → X) (m : ℕ) (cs : List (List ℕ)) → ((k : ℕ) → m ≤ k → g k ≡ f k)
+    → map (λ t. g t.number) (numbered_from m cs) ≡ map (λ t. f t.number) (numbered_from m cs)
+numbered-same f g m [] h = refl
+numbered-same f g m (c ∷ cs) h =
+    let here : g m ≡ f m = h m (omega arith) in
+    let later = numbered-same f g (m + 1) cs (λ k le. h k (omega arith)) in
+    cc
+
+numbered-set : {X : Type 0} (f g : ℕ → X) (n m d : ℕ) (cs : List (List ℕ)) → ((k : ℕ) → k ≢ n → g k ≡ f k) → n ≡ m + d → d < length cs
+    → map (λ t. g t.number) (numbered_from m cs) ≡ set (map (λ t. f t.number) (numbered_from m cs)) d (g n)
+numbered-set f g n m d [] h e l = absurd (omega arith)
+numbered-set f g n m zero (c ∷ cs) h e l =
+    let here : g m ≡ g n = ap g (omega arith) in
+    let later = numbered-same f g (m + 1) cs (λ k le. h k (λ q. omega arith)) in
+    cc
+numbered-set f g n m (suc d) (c ∷ cs) h e l =
+    let here : g m ≡ f m = h m (λ q. omega arith) in
+    let later = numbered-set f g n (m + 1) d cs h (omega arith) (omega arith) in
+    cc
+
+numbered-snoc : {X : Type 0} (f : ℕ → X) (m : ℕ) (cs : List (List ℕ)) (c : List ℕ)
+    → map (λ t. f t.number) (numbered_from m (cs ++ c ∷ [])) ≡ map (λ t. f t.number) (numbered_from m cs) ++ f (m + length cs) ∷ []
+numbered-snoc f m [] c = ap (λ k. f k ∷ []) (sym (add-zero m))
+numbered-snoc f m (d ∷ cs) c =
+    let later = numbered-snoc f (m + 1) cs c in
+    let k : m + 1 + length cs ≡ m + suc (length cs) = omega arith in
+    let same = ap f k in
+    ap (λ rest. f m ∷ rest) (later ∙ ap (λ x. map (λ t. f t.number) (numbered_from (m + 1) cs) ++ x ∷ []) same)
+
+pub numbered-get : {X : Type 0} (f : ℕ → X) (m k : ℕ) (cs : List (List ℕ)) → k < length cs
+    → slice_get (map (λ t. f t.number) (numbered_from m cs)) k ≡ Some (f (m + k))
+numbered-get f m k [] l = absurd (omega arith)
+numbered-get f m zero (c ∷ cs) l = ap (λ n. Some (f n)) (sym (add-zero m))
+numbered-get f m (suc k) (c ∷ cs) l =
+    numbered-get f (m + 1) k cs (omega arith) ∙ ap (λ n. Some (f n)) (omega arith)
+
+pub length-numbered : {X : Type 0} (f : Taken → X) (m : ℕ) (cs : List (List ℕ)) → length (map f (numbered_from m cs)) ≡ length cs
+length-numbered f m [] = refl
+length-numbered f m (c ∷ cs) = ap suc (length-numbered f (m + 1) cs)
+
+pub length-taken : (m : ℕ) (cs : List (List ℕ)) → length (numbered_from m cs) ≡ length cs
+length-taken m [] = refl
+length-taken m (c ∷ cs) = ap suc (length-taken (m + 1) cs)
+
+-- ## What one more entry adds
+
+contents-snoc : (es : List Entry) (e : Entry) → contents (es ++ e ∷ []) ≡ contents es ++ contents (e ∷ [])
+contents-snoc es e = filter_map-append content_of es (e ∷ [])
+
+recorded-snoc : (es : List Entry) (e : Entry) → recorded (es ++ e ∷ []) ≡ recorded es ++ recorded (e ∷ [])
+recorded-snoc es e = filter_map-append record_of es (e ∷ [])
+
+same_contents : (es : List Entry) (e : Entry) → contents (e ∷ []) ≡ [] → contents (es ++ e ∷ []) ≡ contents es
+same_contents es e h = contents-snoc es e ∙ ap (λ more. contents es ++ more) h ∙ append-nil (contents es)
+
+same_recorded : (es : List Entry) (e : Entry) → recorded (e ∷ []) ≡ [] → recorded (es ++ e ∷ []) ≡ recorded es
+same_recorded es e h = recorded-snoc es e ∙ ap (λ more. recorded es ++ more) h ∙ append-nil (recorded es)
+
+same_place : (es : List Entry) (e : Entry) (n : ℕ) → recorded (e ∷ []) ≡ [] → place_of (es ++ e ∷ []) n ≡ place_of es n
+same_place es e n h = ap (position_from (λ m. m == n) 0) (same_recorded es e h)
+
+abbrev one_if : Bool → ℕ
+one_if b = cond b 1 0
+
+times-snoc : (es : List Entry) (e : Entry) (n : ℕ) → times_tried (es ++ e ∷ []) n ≡ times_tried es n + (0 + one_if (is_try_of n e))
+times-snoc es e n = sum_by-append (λ x. cond (is_try_of n x) 1 0) es (e ∷ [])
+
+times-cons : (es : List Entry) (e : Entry) (n : ℕ) → times_tried (e ∷ es) n ≡ (0 + one_if (is_try_of n e)) + times_tried es n
+times-cons es e n = sum_by-append (λ x. cond (is_try_of n x) 1 0) (e ∷ []) es
+
+same_times : (es : List Entry) (e : Entry) (n : ℕ) → is_try_of n e ≡ false → times_tried (es ++ e ∷ []) n ≡ times_tried es n
+same_times es e n h =
+    let more : one_if (is_try_of n e) ≡ 0 = ap one_if h in
+    omega (arith, times-snoc es e n, more)
+
+one_more_time : (es : List Entry) (e : Entry) (n : ℕ) → is_try_of n e ≡ true → times_tried (es ++ e ∷ []) n ≡ times_tried es n + 1
+one_more_time es e n h =
+    let more : one_if (is_try_of n e) ≡ 1 = ap one_if h in
+    omega (arith, times-snoc es e n, more)
+
+last-snoc : (d : ℕ) (ns : List ℕ) (n : ℕ) → last_or d (ns ++ n ∷ []) ≡ n
+last-snoc d [] n = refl
+last-snoc d (m ∷ ns) n = last-snoc m ns n
+
+nexts-snoc : (es : List Entry) (e : Entry) → filter_map next_of (es ++ e ∷ []) ≡ filter_map next_of es ++ filter_map next_of (e ∷ [])
+nexts-snoc es e = filter_map-append next_of es (e ∷ [])
+
+pub next_after_tried : (es : List Entry) (n next : ℕ) → next_free (es ++ Tried n next ∷ []) ≡ next
+next_after_tried es n next = ap (last_or 0) (nexts-snoc es (Tried n next)) ∙ last-snoc 0 (filter_map next_of es) next
+
+pub next_after_raised : (es : List Entry) (next : ℕ) → next_free (es ++ Raised next ∷ []) ≡ next
+next_after_raised es next = ap (last_or 0) (nexts-snoc es (Raised next)) ∙ last-snoc 0 (filter_map next_of es) next
+
+pub next_after_queued : (es : List Entry) (content : List ℕ) → next_free (es ++ Queued content ∷ []) ≡ next_free es
+next_after_queued es content = ap (last_or 0) (nexts-snoc es (Queued content) ∙ append-nil (filter_map next_of es))
+
+pub next_after_recorded : (es : List Entry) (n : ℕ) → next_free (es ++ Recorded n ∷ []) ≡ next_free es
+next_after_recorded es n = ap (last_or 0) (nexts-snoc es (Recorded n) ∙ append-nil (filter_map next_of es))
+
+-- ## Ledgers
+
+split_snoc : {X : Type 0} (xs before : List X) (x y : X) (following : List X) → xs ++ x ∷ [] ≡ before ++ y ∷ following
+    → ((before ≡ xs) × (y ≡ x)) ⊎ ((more : List X) × (xs ≡ before ++ y ∷ more))
+split_snoc [] [] x y following e = inl (refl, cc)
+split_snoc (z ∷ xs) [] x y following e =
+    let same : z ≡ y = cc in
+    inr (xs, ap (λ w. w ∷ xs) same)
+split_snoc [] (b ∷ []) x y following e = let bad : [] ≡ y ∷ following = cc in cc
+split_snoc [] (b ∷ c ∷ before) x y following e = let bad : [] ≡ c ∷ (before ++ y ∷ following) = cc in cc
+split_snoc (z ∷ xs) (b ∷ before) x y following e =
+    let head : z ≡ b = cc in
+    let tail : xs ++ x ∷ [] ≡ before ++ y ∷ following = cc in
+    elim (split_snoc xs before x y following tail) [
+      | inl last ↦ inl (cc (ap (λ w. b ∷ w) last.0, head), last.1)
+      | inr within ↦ inr (within.0, cc (head, within.1))
+    ]
+
+pub empty_ledger : IsLedger []
+empty_ledger [] e following same = let bad : [] ≡ e ∷ following = same in cc
+empty_ledger (b ∷ before) e following same = let bad : [] ≡ b ∷ (before ++ e ∷ following) = same in cc
+
+pub ledger-snoc : (es : List Entry) (e : Entry) → IsLedger es → MayFollow es e → IsLedger (es ++ e ∷ [])
+ledger-snoc es e ledger last before other following same = elim (split_snoc es before e other following same) [
+  | inl at_end ↦ subst (λ b. MayFollow b other) (sym at_end.0) (subst (λ k. MayFollow es k) (sym at_end.1) last)
+  | inr within ↦ ledger before other within.0 within.1
+]
+
+-- These entries may come after those before them, one after another.
+abbrev Continues : List Entry → List Entry → Type 0
+Continues before es = (b : List Entry) (e : Entry) (following : List Entry) → es ≡ b ++ e ∷ following → MayFollow (before ++ b) e
+
+continues_later : (before : List Entry) (e : Entry) (es : List Entry) → Continues before (e ∷ es) → Continues (before ++ e ∷ []) es
+continues_later before e es h b other following same =
+    subst (λ front. MayFollow front other) (sym (append_assoc before (e ∷ []) b)) (h (e ∷ b) other following (ap (λ rest. e ∷ rest) same))
+
+first_follows : (before : List Entry) (e : Entry) (es : List Entry) → Continues before (e ∷ es) → MayFollow before e
+first_follows before e es h = subst (λ front. MayFollow front e) (append-nil before) (h [] e es refl)
+
+-- In a ledger no entry is of a receipt that isn't taken.
+abbrev IsUnknown : List Entry → ℕ → Type 0
+IsUnknown es n = (times_tried es n ≡ 0) × ((i : ℕ) → position_from (λ m. m == n) i (recorded es) ≡ None)
+
+below_count : (before es : List Entry) (m n : ℕ) → Waits before m → length (contents (before ++ es)) < n → m ≢ n
+below_count before es m n w few same =
+    let joined : length (contents (before ++ es)) ≡ length (contents before) + length (contents es) = ap length (filter_map-append content_of before es) ∙ length-append (contents before) (contents es) in
+    let within : m ≤ length (contents before) = subst (λ k. m ≤ k) (length-taken 1 (contents before)) w.taken in
+    absurd (omega (arith, joined, within, few, same))
+
+unknown_in : (before es : List Entry) (n : ℕ) → Continues before es → length (contents (before ++ es)) < n → IsUnknown es n
+unknown_in before [] n h few = (refl, λ i. refl)
+unknown_in before (Queued content ∷ es) n h few =
+    let rest = unknown_in (before ++ Queued content ∷ []) es n (continues_later before (Queued content) es h)
+        (subst (λ front. length (contents front) < n) (sym (append_assoc before (Queued content ∷ []) es)) few) in
+    (omega (arith, rest.0), rest.1)
+unknown_in before (Tried m next ∷ es) n h few =
+    let rest = unknown_in (before ++ Tried m next ∷ []) es n (continues_later before (Tried m next) es h)
+        (subst (λ front. length (contents front) < n) (sym (append_assoc before (Tried m next ∷ []) es)) few) in
+    let other : (m == n) ≡ false = is_other m n (below_count before (Tried m next ∷ es) m n (first_follows before (Tried m next) es h).0 few) in
+    let none : one_if (m == n) ≡ 0 = ap one_if other in
+    (omega (arith, times-cons es (Tried m next) n, rest.0, none), rest.1)
+unknown_in before (Recorded m ∷ es) n h few =
+    let rest = unknown_in (before ++ Recorded m ∷ []) es n (continues_later before (Recorded m) es h)
+        (subst (λ front. length (contents front) < n) (sym (append_assoc before (Recorded m ∷ []) es)) few) in
+    let other : (m == n) ≡ false = is_other m n (below_count before (Recorded m ∷ es) m n (first_follows before (Recorded m) es h).0 few) in
+    (omega (arith, rest.0), λ i. ap (λ b. cond b (Some i) (position_from (λ k. k == n) (i + 1) (recorded es))) other ∙ rest.1 (i + 1))
+unknown_in before (Raised next ∷ es) n h few =
+    let rest = unknown_in (before ++ Raised next ∷ []) es n (continues_later before (Raised next) es h)
+        (subst (λ front. length (contents front) < n) (sym (append_assoc before (Raised next ∷ []) es)) few) in
+    (omega (arith, rest.0), rest.1)
+
+unknown : (es : List Entry) (n : ℕ) → IsLedger es → length (contents es) < n → IsUnknown es n
+unknown es n ledger few = unknown_in [] es n ledger few
+
+-- ## States
+
+state_at : (es others : List Entry) (m n : ℕ) → place_of es m ≡ place_of others n → times_tried es m ≡ times_tried others n → state_of es m ≡ state_of others n
+state_at es others m n place times = ap (λ p. state_by p (times_tried es m)) place ∙ ap (state_by (place_of others n)) times
+
+pub states_after_queued : (es : List Entry) (content : List ℕ) → IsLedger es → states (es ++ Queued content ∷ []) ≡ states es ++ state.Waiting 0 ∷ []
+states_after_queued es content ledger =
+    let e : Entry = Queued content in
+    let more : List Entry = es ++ e ∷ [] in
+    let new : ℕ = 1 + length (contents es) in
+    let none = unknown es new ledger (omega arith) in
+    let here : state_of more new ≡ state.Waiting 0 =
+        ap (λ p. state_by p (times_tried more new)) (same_place es e new refl ∙ none.1 0) ∙ ap state.Waiting (same_times es e new refl ∙ none.0) in
+    ap (λ cs. map (λ t. state_of more t.number) (numbered_from 1 cs)) (contents-snoc es e)
+    ∙ numbered-snoc (state_of more) 1 (contents es) content
+    ∙ ap (λ front. front ++ state_of more new ∷ []) (numbered-same (state_of es) (state_of more) 1 (contents es) (λ k le. state_at more es k k (same_place es e k refl) (same_times es e k refl)))
+    ∙ ap (λ s. states es ++ s ∷ []) here
+
+pub states_after_raised : (es : List Entry) (next : ℕ) → states (es ++ Raised next ∷ []) ≡ states es
+states_after_raised es next =
+    let e : Entry = Raised next in
+    let more : List Entry = es ++ e ∷ [] in
+    ap (λ cs. map (λ t. state_of more t.number) (numbered_from 1 cs)) (same_contents es e refl)
+    ∙ numbered-same (state_of es) (state_of more) 1 (contents es) (λ k le. state_at more es k k (same_place es e k refl) (same_times es e k refl))
+
+pub states_after_tried : (es : List Entry) (d next : ℕ) → place_of es (1 + d) ≡ None → d < length (contents es)
+    → states (es ++ Tried (1 + d) next ∷ []) ≡ set (states es) d (state.Waiting (times_tried es (1 + d) + 1))
+states_after_tried es d next waits within =
+    let n : ℕ = 1 + d in
+    let e : Entry = Tried n next in
+    let more : List Entry = es ++ e ∷ [] in
+    let here : state_of more n ≡ state.Waiting (times_tried es n + 1) =
+        ap (λ p. state_by p (times_tried more n)) (same_place es e n refl ∙ waits) ∙ ap state.Waiting (one_more_time es e n (is_self n)) in
+    ap (λ cs. map (λ t. state_of more t.number) (numbered_from 1 cs)) (same_contents es e refl)
+    ∙ numbered-set (state_of es) (state_of more) n 1 d (contents es)
+        (λ k other. state_at more es k k (same_place es e k refl) (same_times es e k (is_other n k (λ q. other (sym q))))) refl within
+    ∙ ap (set (states es) d) here
+
+pub states_after_recorded : (es : List Entry) (d : ℕ) → place_of es (1 + d) ≡ None → d < length (contents es)
+    → states (es ++ Recorded (1 + d) ∷ []) ≡ set (states es) d (state.Recorded (length (recorded es)))
+states_after_recorded es d waits within =
+    let n : ℕ = 1 + d in
+    let e : Entry = Recorded n in
+    let more : List Entry = es ++ e ∷ [] in
+    let place : place_of more n ≡ Some (length (recorded es)) =
+        ap (position_from (λ m. m == n) 0) (recorded-snoc es e) ∙ position-hit (λ m. m == n) 0 (recorded es) n waits (is_self n) ∙ ap Some (zero-add (length (recorded es))) in
+    let here : state_of more n ≡ state.Recorded (length (recorded es)) = ap (λ p. state_by p (times_tried more n)) place in
+    let other_place : (k : ℕ) → k ≢ n → place_of more k ≡ place_of es k = λ k other.
+        ap (position_from (λ m. m == k) 0) (recorded-snoc es e) ∙ position-miss (λ m. m == k) 0 (recorded es) n (is_other n k (λ q. other (sym q))) in
+    ap (λ cs. map (λ t. state_of more t.number) (numbered_from 1 cs)) (same_contents es e refl)
+    ∙ numbered-set (state_of es) (state_of more) n 1 d (contents es) (λ k other. state_at more es k k (other_place k other) (same_times es e k refl)) refl within
+    ∙ ap (set (states es) d) here
+
+pub length-states : (es : List Entry) → length (states es) ≡ length (contents es)
+length-states es = length-numbered (λ t. state_of es t.number) 1 (contents es)
+
+pub states-get : (es : List Entry) (d : ℕ) → d < length (contents es) → slice_get (states es) d ≡ Some (state_of es (1 + d))
+states-get es d within = numbered-get (state_of es) 1 d (contents es) within
+
+-- A receipt that waits stands at the place before its number.
+waits_within : (es : List Entry) (n : ℕ) → Waits es n → n - 1 < length (contents es)
+waits_within es n w =
+    let taken : n ≤ length (contents es) = subst (λ k. n ≤ k) (length-taken 1 (contents es)) w.taken in
+    omega (arith, taken, w.from_one)
+
+one_after : (es : List Entry) (n : ℕ) → Waits es n → 1 + (n - 1) ≡ n
+one_after es n w = omega (arith, w.from_one)
+
+pub tried_states : (es : List Entry) (n next : ℕ) → Waits es n → states (es ++ Tried n next ∷ []) ≡ set (states es) (n - 1) (state.Waiting (times_tried es n + 1))
+tried_states es n next w =
+    let e = one_after es n w in
+    subst (λ k. states (es ++ Tried k next ∷ []) ≡ set (states es) (n - 1) (state.Waiting (times_tried es k + 1))) e
+    (states_after_tried es (n - 1) next (subst (λ k. place_of es k ≡ None) (sym e) w.open_still) (waits_within es n w))
+
+pub recorded_states : (es : List Entry) (n : ℕ) → Waits es n → states (es ++ Recorded n ∷ []) ≡ set (states es) (n - 1) (state.Recorded (length (recorded es)))
+recorded_states es n w =
+    let e = one_after es n w in
+    subst (λ k. states (es ++ Recorded k ∷ []) ≡ set (states es) (n - 1) (state.Recorded (length (recorded es)))) e
+    (states_after_recorded es (n - 1) (subst (λ k. place_of es k ≡ None) (sym e) w.open_still) (waits_within es n w))
+
+pub recorded-count : (es : List Entry) (n : ℕ) → length (recorded (es ++ Recorded n ∷ [])) ≡ length (recorded es) + 1
+recorded-count es n = ap length (recorded-snoc es (Recorded n)) ∙ length-append (recorded es) (n ∷ [])
+
+pub recorded-same : (es : List Entry) (e : Entry) → recorded (e ∷ []) ≡ [] → length (recorded (es ++ e ∷ [])) ≡ length (recorded es)
+recorded-same es e h = ap length (same_recorded es e h)
+
+-- The state of a receipt that waits is how often it was tried.
+pub waiting_state : (es : List Entry) (n : ℕ) → Waits es n → slice_get (states es) (n - 1) ≡ Some (state.Waiting (times_tried es n))
+waiting_state es n w =
+    states-get es (n - 1) (waits_within es n w) ∙ ap (λ k. Some (state_of es k)) (one_after es n w) ∙ ap (λ p. Some (state_by p (times_tried es n))) w.open_still
+
+pub within_states : (es : List Entry) (n : ℕ) → Waits es n → n - 1 < length (states es)
+within_states es n w = subst (λ k. n - 1 < k) (sym (length-states es)) (waits_within es n w)
+
+by_place : (p : Option ℕ) (t tried : ℕ) → state_by p t ≡ state.Waiting tried → (p ≡ None) × (t ≡ tried)
+by_place None t tried h = (refl, cc)
+by_place (Some place) t tried h = absurd cc
+
+-- A receipt waits where its state says so.
+pub waits_by_state : (es : List Entry) (n tried : ℕ) → 0 < n → slice_get (states es) (n - 1) ≡ Some (state.Waiting tried) → Waits es n × (times_tried es n ≡ tried)
+waits_by_state es n tried from_one h =
+    let e : 1 + (n - 1) ≡ n = omega (arith, from_one) in
+    let within : n - 1 < length (contents es) = subst (λ k. n - 1 < k) (length-states es) (slice_get_within (states es) (n - 1) (state.Waiting tried) h) in
+    let got = states-get es (n - 1) within in
+    let is : state_of es (1 + (n - 1)) ≡ state.Waiting tried = same_Some (state_of es (1 + (n - 1))) (state.Waiting tried) (sym got ∙ h) in
+    let parts = by_place (place_of es n) (times_tried es n) tried (ap (state_of es) (sym e) ∙ is) in
+    (record { from_one = from_one; taken = subst (λ k. n ≤ k) (sym (length-taken 1 (contents es))) (omega (arith, within, from_one)); open_still = parts.0 }, parts.1)
+
+pub few_tries : (es : List Entry) (n : ℕ) → times_tried es n ≤ length es
+few_tries es n = count_by-le-length (is_try_of n) es
+
+pub few_records : (es : List Entry) → length (recorded es) ≤ length es
+few_records [] = omega arith
+few_records (Queued content ∷ es) = omega (arith, few_records es)
+few_records (Tried n next ∷ es) = omega (arith, few_records es)
+few_records (Recorded n ∷ es) = omega (arith, few_records es)
+few_records (Raised next ∷ es) = omega (arith, few_records es)
+
+pub count_states : (es : List Entry) → length (states es) ≡ length (taken es)
+count_states es = length-states es ∙ sym (length-taken 1 (contents es))
+
+pub some_state : (es old : List Entry) (content : List ℕ) → es ≡ old ++ Queued content ∷ [] → 0 < length (states es)
+some_state es old content e =
+    let count : length (contents es) ≡ length (contents old) + 1 = ap (λ xs. length (contents xs)) e ∙ ap length (contents-snoc old (Queued content)) ∙ length-append (contents old) (content ∷ []) in
+    omega (arith, count, length-states es)
+
+-- ## A list of entries, entry by entry
+
+pub one_longer : (es : List Entry) (i : ℕ) (e : Entry) → i < length es → e ≡ get_or es i e → take (i + 1) es ≡ take i es ++ e ∷ []
+one_longer es i e inside is = ap (λ n. take n es) (add-one i) ∙ take-suc es i e inside ∙ ap (λ y. take i es ++ y ∷ []) (sym is)
+
+split_at : (es : List Entry) (i : ℕ) (e : Entry) → i < length es → e ≡ get_or es i e → es ≡ take i es ++ e ∷ drop (i + 1) es
+split_at es i e inside is =
+    sym (take-append-drop (i + 1) es) ∙ ap (λ front. front ++ drop (i + 1) es) (one_longer es i e inside is) ∙ append_assoc (take i es) (e ∷ []) (drop (i + 1) es)
+
+pub refused_at : (es : List Entry) (i : ℕ) (e : Entry) → i < length es → e ≡ get_or es i e → (MayFollow (take i es) e → ⊥) → IsLedger es → ⊥
+refused_at es i e inside is refused ledger = refused (ledger (take i es) e (drop (i + 1) es) (split_at es i e inside is))
+
+-- ## The first that waits
+
+abbrev waits_in : List Entry → Taken → Bool
+waits_in es receipt = is_none (place_of es receipt.number)
+
+none_waits : (es : List Entry) (m : ℕ) (cs : List (List ℕ)) → ((k : ℕ) → k < length cs → is_none (place_of es (m + k)) ≡ false) → filter (waits_in es) (numbered_from m cs) ≡ []
+none_waits es m [] h = refl
+none_waits es m (c ∷ cs) h =
+    let here : is_none (place_of es m) ≡ false = ap (λ k. is_none (place_of es k)) (sym (add-zero m)) ∙ h 0 (omega arith) in
+    let later = none_waits es (m + 1) cs (λ k l. let same : m + 1 + k ≡ m + suc k = omega arith in ap (λ n. is_none (place_of es n)) same ∙ h (suc k) (omega arith)) in
+    ap (λ b. cond b (record { number = m; content = c } ∷ filter (waits_in es) (numbered_from (m + 1) cs)) (filter (waits_in es) (numbered_from (m + 1) cs))) here ∙ later
+
+first_waits : (es : List Entry) (m : ℕ) (cs : List (List ℕ)) (at : ℕ) (c : List ℕ) → slice_get cs at ≡ Some c
+    → ((k : ℕ) → k < at → is_none (place_of es (m + k)) ≡ false) → is_none (place_of es (m + at)) ≡ true
+    → slice_get (filter (waits_in es) (numbered_from m cs)) 0 ≡ Some (record { number = m + at; content = c })
+first_waits es m [] at c got h w = absurd (let bad : None ≡ Some c = got in cc)
+first_waits es m (d ∷ cs) zero c got h w =
+    let here : is_none (place_of es m) ≡ true = ap (λ k. is_none (place_of es k)) (sym (add-zero m)) ∙ w in
+    let same : d ≡ c = same_Some d c got in
+    ap (λ b. slice_get (cond b (record { number = m; content = d } ∷ filter (waits_in es) (numbered_from (m + 1) cs)) (filter (waits_in es) (numbered_from (m + 1) cs))) 0) here
+    ∙ ap (λ n. Some (let t : Taken = record { number = n; content = d } in t)) (sym (add-zero m)) ∙ ap (λ x. Some (let t : Taken = record { number = m + 0; content = x } in t)) same
+first_waits es m (d ∷ cs) (suc at) c got h w =
+    let here : is_none (place_of es m) ≡ false = ap (λ k. is_none (place_of es k)) (sym (add-zero m)) ∙ h 0 (omega arith) in
+    let later = first_waits es (m + 1) cs at c got (λ k l. let same : m + 1 + k ≡ m + suc k = omega arith in ap (λ n. is_none (place_of es n)) same ∙ h (suc k) (omega arith))
+        (let same : m + 1 + at ≡ m + suc at = omega arith in ap (λ n. is_none (place_of es n)) same ∙ w) in
+    let same : m + 1 + at ≡ m + suc at = omega arith in
+    ap (λ b. slice_get (cond b (record { number = m; content = d } ∷ filter (waits_in es) (numbered_from (m + 1) cs)) (filter (waits_in es) (numbered_from (m + 1) cs))) 0) here
+    ∙ later ∙ ap (λ n. Some (let t : Taken = record { number = n; content = c } in t)) same
+
+recorded_by : (p : Option ℕ) (t : ℕ) → (state_by p t ≢ state.Waiting t) → is_none p ≡ false
+recorded_by None t other = absurd (other refl)
+recorded_by (Some place) t other = refl
+
+recorded_one : (es : List Entry) (k : ℕ) → k < length (contents es) → ((tried : ℕ) → slice_get (states es) k ≢ Some (state.Waiting tried)) → is_none (place_of es (1 + k)) ≡ false
+recorded_one es k l other = recorded_by (place_of es (1 + k)) (times_tried es (1 + k)) (λ e. other (times_tried es (1 + k)) (states-get es k l ∙ ap Some e))
+
+-- No receipt waits where no state does.
+pub no_more : (es : List Entry) → ((k : ℕ) (tried : ℕ) → k < length (contents es) → slice_get (states es) k ≢ Some (state.Waiting tried)) → waiting es ≡ []
+no_more es h = none_waits es 1 (contents es) (λ k l. recorded_one es k l (λ tried. h k tried l))
+
+-- The first state that waits is that of the first receipt that waits.
+pub first_of_states : (es : List Entry) (at tried : ℕ) (content : List ℕ) → slice_get (contents es) at ≡ Some content → slice_get (states es) at ≡ Some (state.Waiting tried)
+    → ((k : ℕ) (tried : ℕ) → k < at → slice_get (states es) k ≢ Some (state.Waiting tried))
+    → FirstWaits es (at + 1) content tried
+first_of_states es at tried content got is h =
+    let within = slice_get_within (contents es) at content got in
+    let same : at + 1 ≡ 1 + at = omega arith in
+    let so : state_of es (1 + at) ≡ state.Waiting tried = same_Some (state_of es (1 + at)) (state.Waiting tried) (sym (states-get es at within) ∙ is) in
+    let parts = by_place (place_of es (1 + at)) (times_tried es (1 + at)) tried so in
+    let none : is_none (place_of es (1 + at)) ≡ true = ap is_none parts.0 in
+    record {
+      first = first_waits es 1 (contents es) at content got (λ k l. recorded_one es k (omega (arith, within)) (λ t. h k t l)) none
+          ∙ ap (λ n. Some (let t : Taken = record { number = n; content = content } in t)) (sym same);
+      times = ap (times_tried es) same ∙ parts.1;
+    }
+
+-- What a crash may leave is a ledger.
+pub opens_sure : (es : List Entry) (unsure : Option Entry) → unsure ≡ None → IsLedger es → (left : List Entry) → MayBeLeft es unsure left → IsLedger left
+opens_sure es unsure none ledger left may =
+    let same : left ≡ es = subst (λ u. MayBeLeft es u left) none may in
+    subst IsLedger (sym same) ledger
+
+pub opens_unsure : (es : List Entry) (e : Entry) → IsLedger es → MayFollow es e → (left : List Entry) → MayBeLeft es (Some e) left → IsLedger left
+opens_unsure es e ledger follows left (inl same) = subst IsLedger (sym same) ledger
+opens_unsure es e ledger follows left (inr same) = subst IsLedger (sym same) (ledger-snoc es e ledger follows)

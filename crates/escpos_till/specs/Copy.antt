@@ -1,0 +1,18 @@
+-- The line that comes before a receipt which may be on the paper already.
+use Rattle.std.specs.Prelude.{ℕ, ◌≤◌, Bool, ◌&&◌, nat_le, Option, Some, None, nat_lt, if◌then◌else◌, List, [], ◌∷◌, ◌++◌, map}
+use Rattle.escpos_command.specs.declared.command.Command.{Command}
+use Rattle.escpos_command.specs.declared.command.Command.TheVariants as kind
+
+-- A character that such a line may have, 20 to 7E hexadecimal.
+abbrev pub is_copy_character : ℕ → Bool
+is_copy_character b = nat_le 0x20 b && nat_le b 0x7E
+
+-- A line with this text, centred and emphasised; then emphasis is off and lines are at the left, as after Init.
+abbrev pub copy_line : List ℕ → List Command
+copy_line text =
+    kind.Align 1 ∷ kind.Emphasis 1 ∷ (map kind.Char text ++ kind.LineFeed ∷ kind.Emphasis 0 ∷ kind.Align 0 ∷ [])
+
+-- What is sent of a receipt that was tried so often: if it was, and there is such a text, the line comes before it.
+abbrev pub sent_of : Option (List ℕ) → ℕ → List Command → List Command
+sent_of None tried commands = commands
+sent_of (Some text) tried commands = if nat_lt 0 tried then copy_line text ++ commands else commands

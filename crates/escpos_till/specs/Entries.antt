@@ -1,0 +1,110 @@
+-- What a list of entries says, and which lists are ledgers. Each definition looks back at the whole list.
+use Rattle.std.specs.Prelude.{ℕ, ◌≡◌, ◌+◌, ◌<◌, ◌≤◌, Bool, true, false, ◌==◌, is_none, Option, Some, None, List, [], ◌∷◌, ◌++◌, length, map, filter, count_by}
+use Rattle.std.specs.List.{filter_map, position_from}
+use Rattle.escpos_till.specs.declared.entry.Entry.{Entry}
+use Rattle.escpos_till.specs.declared.entry.Entry.TheVariants as entry
+use Rattle.escpos_till.specs.declared.state.ReceiptState.{ReceiptState}
+use Rattle.escpos_till.specs.declared.state.ReceiptState.TheVariants as state
+
+-- ## Mark numbers
+
+-- The mark number that an entry says is the next.
+abbrev pub next_of : Entry → Option ℕ
+next_of (entry.Queued content) = None
+next_of (entry.Tried number next) = Some next
+next_of (entry.Recorded number) = None
+next_of (entry.Raised next) = Some next
+
+-- The last of some numbers; this one if there are none.
+abbrev pub last_or : ℕ → List ℕ → ℕ
+last_or n [] = n
+last_or n (m ∷ ms) = last_or m ms
+
+-- The first mark number that is free: the last one that an entry says, 0 before any.
+abbrev pub next_free : List Entry → ℕ
+next_free entries = last_or 0 (filter_map next_of entries)
+
+-- ## Receipts
+
+abbrev pub content_of : Entry → Option (List ℕ)
+content_of (entry.Queued content) = Some content
+content_of (entry.Tried number next) = None
+content_of (entry.Recorded number) = None
+content_of (entry.Raised next) = None
+
+-- The contents of the receipts that were taken, in the order of taking.
+abbrev pub contents : List Entry → List (List ℕ)
+contents = filter_map content_of
+
+-- A receipt that was taken: its number and its text in JSON.
+pub record Taken : Type 0 where
+  pub number : ℕ
+  pub content : List ℕ
+
+abbrev pub numbered_from : ℕ → List (List ℕ) → List Taken
+numbered_from n [] = []
+numbered_from n (content ∷ more) = record { number = n; content = content } ∷ numbered_from (n + 1) more
+
+-- The receipts that were taken, numbered from 1 in the order of taking.
+abbrev pub taken : List Entry → List Taken
+taken entries = numbered_from 1 (contents entries)
+
+abbrev pub record_of : Entry → Option ℕ
+record_of (entry.Queued content) = None
+record_of (entry.Tried number next) = None
+record_of (entry.Recorded number) = Some number
+record_of (entry.Raised next) = None
+
+-- The numbers of the receipts that are recorded, in the order of recording.
+abbrev pub recorded : List Entry → List ℕ
+recorded = filter_map record_of
+
+-- The place of a receipt among those that are recorded, counted from 0.
+abbrev pub place_of : List Entry → ℕ → Option ℕ
+place_of entries number = position_from (λ n. n == number) 0 (recorded entries)
+
+-- The receipts that wait: those that were taken and aren't recorded, in the order of taking.
+abbrev pub waiting : List Entry → List Taken
+waiting entries = filter (λ receipt. is_none (place_of entries receipt.number)) (taken entries)
+
+abbrev pub is_try_of : ℕ → Entry → Bool
+is_try_of number (entry.Queued content) = false
+is_try_of number (entry.Tried n next) = n == number
+is_try_of number (entry.Recorded n) = false
+is_try_of number (entry.Raised next) = false
+
+-- How often a receipt was sent, or was about to be.
+abbrev pub times_tried : List Entry → ℕ → ℕ
+times_tried entries number = count_by (is_try_of number) entries
+
+abbrev pub state_by : Option ℕ → ℕ → ReceiptState
+state_by (Some place) tried = state.Recorded place
+state_by None tried = state.Waiting tried
+
+-- Where a receipt stands.
+abbrev pub state_of : List Entry → ℕ → ReceiptState
+state_of entries number = state_by (place_of entries number) (times_tried entries number)
+
+-- Where the receipts stand, in the order of taking.
+abbrev pub states : List Entry → List ReceiptState
+states entries = map (λ receipt. state_of entries receipt.number) (taken entries)
+
+-- ## Ledgers
+
+-- The receipt with this number was taken, and isn't recorded.
+pub record Waits (entries : List Entry) (number : ℕ) : Type 0 where
+  pub from_one : 0 < number
+  pub taken : number ≤ length (taken entries)
+  pub open_still : place_of entries number ≡ None
+
+-- In a ledger the entry may come after these. Only a receipt that waits is tried; only one that was tried, and waits, is
+-- recorded. The next mark number never falls, and each try raises it.
+abbrev pub MayFollow : List Entry → Entry → Type 0
+MayFollow before (entry.Queued content) = Unit {0}
+MayFollow before (entry.Tried number next) = Waits before number × (next_free before < next)
+MayFollow before (entry.Recorded number) = Waits before number × (0 < times_tried before number)
+MayFollow before (entry.Raised next) = next_free before ≤ next
+
+-- The entries are a ledger: each of them may come after those before it.
+abbrev pub IsLedger : List Entry → Type 0
+IsLedger entries = (before : List Entry) (e : Entry) (following : List Entry) → entries ≡ before ++ e ∷ following → MayFollow before e

@@ -1,0 +1,6 @@
+pub mod Entries
+pub mod Ledger
+pub mod Summary
+pub mod Kept
+pub mod Copy
+pub mod Delivers

@@ -1,0 +1,25 @@
+//! The till's ledger.
+#![tactic(auto)]
+
+mod copy;
+mod deliver;
+mod entry;
+mod error;
+mod ledger;
+mod memory_store;
+mod number;
+mod state;
+mod store;
+mod summary;
+mod waiting;
+
+pub use copy::{COPY_CHARACTERS, CopyText};
+pub use deliver::{Delivered, deliver_one};
+pub use entry::{Content, Entry};
+pub use error::{LedgerError, OpenError};
+pub use ledger::Ledger;
+pub use memory_store::{Failure, MemoryStore};
+pub use number::ReceiptNumber;
+pub use state::ReceiptState;
+pub use store::{Store, StoreFault};
+pub use waiting::WaitingReceipt;

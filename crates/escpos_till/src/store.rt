@@ -1,0 +1,56 @@
+//! Where a ledger keeps its entries: a list that outlives the program.
+//!
+//! A store says in its ghost members which entries it holds and what a crash may leave of them. All of that is under a premise
+//! of its own, `faithful`, which a disk keeps and no program can. How a store keeps entries, in a file or in memory, is left
+//! to the types that implement it.
+//!
+//! A crash in the middle of a call is seen as a call that isn't answered with `Ok`: what it leaves is what a crash may leave
+//! after `Err`.
+
+ghost use Rattle.std.specs.Prelude.{◌≡◌, ◌⊎◌, List, [], ◌∷◌, ◌++◌, IfOk, OnOk, OnErr};
+ghost use Rattle.escpos_till.specs.declared.entry.Entry.{Entry};
+
+use crate::entry::Entry;
+use std::alloc::Global;
+
+/// Why a store didn't do what it was asked to.
+#[derive(Clone, Copy, Debug, PartialEq, Eq)]
+pub enum StoreFault {
+    /// Out of memory.
+    Memory,
+    /// A write, a sync or a read failed.
+    Failed,
+}
+
+/// A list of entries that outlives the program.
+pub trait Store {
+    // The premise: what the store had at first was a list of entries, and since then it has done what it was asked to.
+    ghost faithful: { Self → Type 0 };
+
+    // The store holds these entries, and so does what a crash leaves.
+    ghost holds: { Self → List Entry → Type 0 };
+
+    // A crash at this moment may leave these entries.
+    ghost leaves: { Self → List Entry → Type 0 };
+
+    /// Adds an entry after those that are there. At `Ok` it would outlive a crash. At `Err` it may have been added or not.
+    fn append(&mut self, entry: &Entry) -> Result<(), StoreFault>
+        ensures was_faithful { faithful self.new → faithful self.old }
+        ensures kept { OnOk result (faithful self.new → (entries : List Entry) → holds self.old entries
+            → holds self.new (entries ++ entry.now ∷ [])) }
+        ensures kept_or_not { OnErr result (faithful self.new → (entries left : List Entry) → holds self.old entries
+            → leaves self.new left → (left ≡ entries) ⊎ (left ≡ entries ++ entry.now ∷ [])) };
+
+    /// The entries that the store holds, in order. They stay, whatever the result.
+    fn entries(&mut self, alloc: Global) -> Result<Vec<Entry>, StoreFault>
+        ensures was_faithful { faithful self.new → faithful self.old }
+        ensures read { IfOk result (λ read. faithful self.new → holds self.old read.items × holds self.new read.items) }
+        ensures unread { OnErr result (faithful self.new → (entries left : List Entry) → holds self.old entries
+            → leaves self.new left → left ≡ entries) };
+
+    // A store holds one list of entries.
+    ghost one_list: { (s : Self) (entries others : List Entry) → faithful s → holds s entries → holds s others → entries ≡ others };
+
+    // What a store holds outlives a crash.
+    ghost outlives: { (s : Self) (entries left : List Entry) → faithful s → holds s entries → leaves s left → left ≡ entries };
+}
