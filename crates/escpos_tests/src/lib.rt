@@ -6,7 +6,8 @@
 //! is proved a second time for them. A test that looks into a value stands in the crate of that value.
 //!
 //! A folder for each subject: `program` is of the jobs and their arguments, over memory; `tcp` of those over sockets; `host` of
-//! receipts and of the host; `line` of the simulated line; `memory` lets each allocation of a call fail in turn. What they share
+//! receipts and of the host; `line` of the simulated line; `till` of the till's ledger;
+//! `memory` lets each allocation of a call fail in turn. What they share
 //! is in `support`.
 #![tactic(auto)]
 
@@ -22,3 +23,5 @@ mod program;
 mod support;
 #[cfg(test)]
 mod tcp;
+#[cfg(test)]
+mod till;

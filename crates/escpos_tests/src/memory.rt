@@ -12,3 +12,4 @@ mod line;
 mod links;
 mod printer;
 mod receipts;
+mod till;

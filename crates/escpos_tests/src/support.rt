@@ -9,3 +9,4 @@ pub mod reasons;
 pub mod refusals;
 pub mod sockets;
 pub mod texts;
+pub mod tills;

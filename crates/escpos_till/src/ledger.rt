@@ -10,7 +10,7 @@ ghost use Rattle.escpos_receipt.specs.Describes.{Describes};
 ghost use Rattle.escpos_receipt.specs.Whole.{Whole};
 ghost use Rattle.escpos_till.specs.declared.entry.Entry.{Entry};
 ghost use Rattle.escpos_till.specs.declared.entry.Entry.TheVariants as entry_kind;
-ghost use Rattle.escpos_till.specs.Entries.{IsLedger, MayFollow, Waits, next_free, states as states_of, taken, times_tried, waiting};
+ghost use Rattle.escpos_till.specs.Entries.{IsLedger, MayFollow, Waits, next_free, recorded, states as states_of, taken, times_tried, waiting};
 ghost use Rattle.escpos_till.specs.Ledger.{Adds, FirstWaits, HasFailed, IsKept, IsLive, MayBeLeft, RefusesEntry, RefusesQueue, RefusesRaise, RefusesRecorded, RefusesTried};
 
 use crate::entry::{Content, Entry};
@@ -187,6 +187,15 @@ impl<S: Store> Ledger<S> {
     {
         self.check_live()?;
         Ok(self.summary.next)
+    }
+
+    /// How many receipts are recorded. The error is `Failed`. Allocates nothing.
+    pub fn record_count(&self) -> Result<usize, LedgerError>
+        ensures count { IfOk result (λ count. IsLive self.now × (count ≡ length (recorded self.now.entries))) }
+        ensures refused { IfErr result (λ why. (why ≡ LedgerError.Failed) × HasFailed self.now) }
+    {
+        self.check_live()?;
+        Ok(self.summary.recorded)
     }
 
     /// Where the receipts stand, in the order of their numbers. The error is `Failed`. Allocates nothing.

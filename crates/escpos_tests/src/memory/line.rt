@@ -93,6 +93,18 @@ fn straight_refused(rt: HostRuntime) {
     begins_with_s(&rt, &sim);
 }
 
+// The host goes on with no record, and the line with S on its paper.
+#[test]
+fn resume_refused(rt: HostRuntime) {
+    let mut sim = line_at_last(&rt, rt.alloc());
+    s_goes_at_last(&rt, rt.alloc(), &mut sim);
+    let next = sim.host().next_mark();
+    assert!(&rt; sim.resume(next, 0).is_ok());
+    assert!(&rt; sim.records().is_empty());
+    assert!(&rt; sim.host().state() == HostState::Down);
+    begins_with_s(&rt, &sim);
+}
+
 // A receipt of 600 line feeds takes memory on the link and on the paper, not only where it is submitted.
 fn feeds_go_at_last(rt: &impl Abort, alloc: Global, sim: &mut Sim) {
     let receipt = feeds_at_last(rt, alloc, 600);
