@@ -1,11 +1,11 @@
 -- A receipt with the line of a copy before it is a receipt.
-use Rattle.std.proofs.Common.{ℕ, ◌≡◌, ◌≢◌, ◌⊎◌, inl, inr, Bool, true, false, IsTrue, Option, Some, None, List, [], ◌∷◌, ◌++◌, map, refl, sym, ◌∙◌, ap, subst, append_assoc}
+use Rattle.std.proofs.Common.{ℕ, ◌≡◌, ◌⊎◌, inl, inr, Bool, true, false, Option, Some, None, List, [], ◌∷◌, ◌++◌, map, refl, sym, ◌∙◌, ap, subst, append_assoc}
 use Rattle.std.specs.Prelude.{if◌then◌else◌, nat_lt, ◌||◌}
 use Rattle.std.specs.List.{AllByRecursion, list_any}
 use Rattle.escpos_command.specs.declared.command.Command.{Command}
 use Rattle.escpos_command.specs.declared.command.Command.TheVariants.{Align, Char, Emphasis, LineFeed}
-use Rattle.escpos_command.specs.Text.{characters, ends_text, text}
-use Rattle.escpos_receipt.specs.Whole.{EachMayFollow, MayFollow, Whole, has_text, is_forbidden, is_nonempty, needs_empty_line}
+use Rattle.escpos_command.specs.Text.{ends_text, text}
+use Rattle.escpos_receipt.specs.Whole.{MayFollow, Whole, is_forbidden, is_nonempty, needs_empty_line}
 use Rattle.escpos_till.specs.Copy.{copy_line, sent_of}
 
 -- ## Places in two lists
@@ -41,8 +41,7 @@ free_chars (b ∷ bs) tail all = (record { allowed = refl; anywhere = refl }, fr
 
 free_line : (bs : List ℕ) → AllByRecursion IsFree (copy_line bs)
 free_line bs =
-    let free : (c : Command) → is_forbidden c ≡ false → needs_empty_line c ≡ false → IsFree c = λ c allowed anywhere. record { allowed = allowed; anywhere = anywhere } in
-    (
+    let free : (c : Command) → is_forbidden c ≡ false → needs_empty_line c ≡ false → IsFree c = λ c allowed anywhere. record { allowed = allowed; anywhere = anywhere } in (
       free (Align 1) refl refl,
       (
         free (Emphasis 1) refl refl,

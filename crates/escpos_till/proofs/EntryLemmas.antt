@@ -1,9 +1,8 @@
 -- What one more entry does to what the entries say.
-use Rattle.std.proofs.Common.{ℕ, zero, suc, ◌≡◌, ◌≢◌, ◌+◌, ◌-◌, ◌<◌, ◌≤◌, ◌⊎◌, inl, inr, Bool, true, false, cond, Option, Some, None, List, [], ◌∷◌, ◌++◌, length, map, set, get_or, take, drop, refl, sym, ◌∙◌, ap, subst, append-nil, append_assoc, length-append, add-zero, add-suc, add-one, zero-add, arith}
-use Rattle.std.specs.Prelude.{◌==◌, is_none, count_by, filter, slice_get}
+use Rattle.std.proofs.Common.{ℕ, zero, suc, ◌≡◌, ◌≢◌, ◌+◌, ◌-◌, ◌<◌, ◌≤◌, ◌⊎◌, inl, inr, Bool, true, false, cond, Option, Some, None, List, [], ◌∷◌, ◌++◌, length, map, set, get_or, take, drop, refl, sym, ◌∙◌, ap, subst, append-nil, append_assoc, length-append, add-zero, add-one, zero-add, arith}
+use Rattle.std.specs.Prelude.{◌==◌, is_none, filter, slice_get}
 use Rattle.std.specs.List.{filter_map, position_from}
 use Rattle.std.proofs.lemmas.Bool.Decides.{nat_tests}
-use Rattle.std.proofs.lemmas.Grind.{common_steps}
 use Rattle.std.proofs.Math.Seq.{take-suc}
 use Rattle.std.proofs.lemmas.List.{take-append-drop}
 use Rattle.std.proofs.lemmas.List.Elements.{filter_map-append}
@@ -11,7 +10,6 @@ use Rattle.std.proofs.lemmas.List.Sums.{count_by-le-length, sum_by-append}
 use Rattle.std.proofs.lemmas.Option.{same_Some, slice_get_within}
 use Rattle.escpos_till.specs.declared.entry.Entry.{Entry}
 use Rattle.escpos_till.specs.declared.entry.Entry.TheVariants.{Queued, Tried, Recorded, Raised}
-use Rattle.escpos_till.specs.declared.state.ReceiptState.{ReceiptState}
 use Rattle.escpos_till.specs.declared.state.ReceiptState.TheVariants as state
 use Rattle.escpos_till.specs.Ledger.{FirstWaits, MayBeLeft}
 use Rattle.escpos_till.specs.Entries.{IsLedger, MayFollow, Taken, Waits, content_of, contents, is_try_of, last_or, next_free, next_of, numbered_from, place_of, record_of, recorded, state_by, state_of, states, taken, times_tried, waiting}
@@ -190,22 +188,22 @@ unknown_in : (before es : List Entry) (n : ℕ) → Continues before es → leng
 unknown_in before [] n h few = (refl, λ i. refl)
 unknown_in before (Queued content ∷ es) n h few =
     let rest = unknown_in (before ++ Queued content ∷ []) es n (continues_later before (Queued content) es h)
-        (subst (λ front. length (contents front) < n) (sym (append_assoc before (Queued content ∷ []) es)) few) in
+    (subst (λ front. length (contents front) < n) (sym (append_assoc before (Queued content ∷ []) es)) few) in
     (omega (arith, rest.0), rest.1)
 unknown_in before (Tried m next ∷ es) n h few =
     let rest = unknown_in (before ++ Tried m next ∷ []) es n (continues_later before (Tried m next) es h)
-        (subst (λ front. length (contents front) < n) (sym (append_assoc before (Tried m next ∷ []) es)) few) in
+    (subst (λ front. length (contents front) < n) (sym (append_assoc before (Tried m next ∷ []) es)) few) in
     let other : (m == n) ≡ false = is_other m n (below_count before (Tried m next ∷ es) m n (first_follows before (Tried m next) es h).0 few) in
     let none : one_if (m == n) ≡ 0 = ap one_if other in
     (omega (arith, times-cons es (Tried m next) n, rest.0, none), rest.1)
 unknown_in before (Recorded m ∷ es) n h few =
     let rest = unknown_in (before ++ Recorded m ∷ []) es n (continues_later before (Recorded m) es h)
-        (subst (λ front. length (contents front) < n) (sym (append_assoc before (Recorded m ∷ []) es)) few) in
+    (subst (λ front. length (contents front) < n) (sym (append_assoc before (Recorded m ∷ []) es)) few) in
     let other : (m == n) ≡ false = is_other m n (below_count before (Recorded m ∷ es) m n (first_follows before (Recorded m) es h).0 few) in
     (omega (arith, rest.0), λ i. ap (λ b. cond b (Some i) (position_from (λ k. k == n) (i + 1) (recorded es))) other ∙ rest.1 (i + 1))
 unknown_in before (Raised next ∷ es) n h few =
     let rest = unknown_in (before ++ Raised next ∷ []) es n (continues_later before (Raised next) es h)
-        (subst (λ front. length (contents front) < n) (sym (append_assoc before (Raised next ∷ []) es)) few) in
+    (subst (λ front. length (contents front) < n) (sym (append_assoc before (Raised next ∷ []) es)) few) in
     (omega (arith, rest.0), rest.1)
 
 unknown : (es : List Entry) (n : ℕ) → IsLedger es → length (contents es) < n → IsUnknown es n
@@ -223,7 +221,7 @@ states_after_queued es content ledger =
     let new : ℕ = 1 + length (contents es) in
     let none = unknown es new ledger (omega arith) in
     let here : state_of more new ≡ state.Waiting 0 =
-        ap (λ p. state_by p (times_tried more new)) (same_place es e new refl ∙ none.1 0) ∙ ap state.Waiting (same_times es e new refl ∙ none.0) in
+    ap (λ p. state_by p (times_tried more new)) (same_place es e new refl ∙ none.1 0) ∙ ap state.Waiting (same_times es e new refl ∙ none.0) in
     ap (λ cs. map (λ t. state_of more t.number) (numbered_from 1 cs)) (contents-snoc es e)
     ∙ numbered-snoc (state_of more) 1 (contents es) content
     ∙ ap (λ front. front ++ state_of more new ∷ []) (numbered-same (state_of es) (state_of more) 1 (contents es) (λ k le. state_at more es k k (same_place es e k refl) (same_times es e k refl)))
@@ -243,10 +241,10 @@ states_after_tried es d next waits within =
     let e : Entry = Tried n next in
     let more : List Entry = es ++ e ∷ [] in
     let here : state_of more n ≡ state.Waiting (times_tried es n + 1) =
-        ap (λ p. state_by p (times_tried more n)) (same_place es e n refl ∙ waits) ∙ ap state.Waiting (one_more_time es e n (is_self n)) in
+    ap (λ p. state_by p (times_tried more n)) (same_place es e n refl ∙ waits) ∙ ap state.Waiting (one_more_time es e n (is_self n)) in
     ap (λ cs. map (λ t. state_of more t.number) (numbered_from 1 cs)) (same_contents es e refl)
     ∙ numbered-set (state_of es) (state_of more) n 1 d (contents es)
-        (λ k other. state_at more es k k (same_place es e k refl) (same_times es e k (is_other n k (λ q. other (sym q))))) refl within
+    (λ k other. state_at more es k k (same_place es e k refl) (same_times es e k (is_other n k (λ q. other (sym q))))) refl within
     ∙ ap (set (states es) d) here
 
 pub states_after_recorded : (es : List Entry) (d : ℕ) → place_of es (1 + d) ≡ None → d < length (contents es)
@@ -256,10 +254,10 @@ states_after_recorded es d waits within =
     let e : Entry = Recorded n in
     let more : List Entry = es ++ e ∷ [] in
     let place : place_of more n ≡ Some (length (recorded es)) =
-        ap (position_from (λ m. m == n) 0) (recorded-snoc es e) ∙ position-hit (λ m. m == n) 0 (recorded es) n waits (is_self n) ∙ ap Some (zero-add (length (recorded es))) in
+    ap (position_from (λ m. m == n) 0) (recorded-snoc es e) ∙ position-hit (λ m. m == n) 0 (recorded es) n waits (is_self n) ∙ ap Some (zero-add (length (recorded es))) in
     let here : state_of more n ≡ state.Recorded (length (recorded es)) = ap (λ p. state_by p (times_tried more n)) place in
     let other_place : (k : ℕ) → k ≢ n → place_of more k ≡ place_of es k = λ k other.
-        ap (position_from (λ m. m == k) 0) (recorded-snoc es e) ∙ position-miss (λ m. m == k) 0 (recorded es) n (is_other n k (λ q. other (sym q))) in
+    ap (position_from (λ m. m == k) 0) (recorded-snoc es e) ∙ position-miss (λ m. m == k) 0 (recorded es) n (is_other n k (λ q. other (sym q))) in
     ap (λ cs. map (λ t. state_of more t.number) (numbered_from 1 cs)) (same_contents es e refl)
     ∙ numbered-set (state_of es) (state_of more) n 1 d (contents es) (λ k other. state_at more es k k (other_place k other) (same_times es e k refl)) refl within
     ∙ ap (set (states es) d) here
@@ -373,7 +371,7 @@ first_waits es m (d ∷ cs) zero c got h w =
 first_waits es m (d ∷ cs) (suc at) c got h w =
     let here : is_none (place_of es m) ≡ false = ap (λ k. is_none (place_of es k)) (sym (add-zero m)) ∙ h 0 (omega arith) in
     let later = first_waits es (m + 1) cs at c got (λ k l. let same : m + 1 + k ≡ m + suc k = omega arith in ap (λ n. is_none (place_of es n)) same ∙ h (suc k) (omega arith))
-        (let same : m + 1 + at ≡ m + suc at = omega arith in ap (λ n. is_none (place_of es n)) same ∙ w) in
+    (let same : m + 1 + at ≡ m + suc at = omega arith in ap (λ n. is_none (place_of es n)) same ∙ w) in
     let same : m + 1 + at ≡ m + suc at = omega arith in
     ap (λ b. slice_get (cond b (record { number = m; content = d } ∷ filter (waits_in es) (numbered_from (m + 1) cs)) (filter (waits_in es) (numbered_from (m + 1) cs))) 0) here
     ∙ later ∙ ap (λ n. Some (let t : Taken = record { number = n; content = c } in t)) same

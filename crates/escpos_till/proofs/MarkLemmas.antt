@@ -1,10 +1,10 @@
 -- Which marks go out in a delivery.
-use Rattle.std.proofs.Common.{ℕ, zero, suc, ◌≡◌, ◌≢◌, ◌+◌, ◌-◌, ◌^◌, ◌<◌, ◌≤◌, ◌⊎◌, inl, inr, false, min, max, Option, List, [], ◌∷◌, ◌++◌, map, refl, sym, ◌∙◌, ap, subst, append-nil, append_assoc, add-zero, arith}
-use Rattle.std.specs.List.{AllByRecursion, flat_map}
+use Rattle.std.proofs.Common.{ℕ, zero, suc, ◌≡◌, ◌+◌, ◌-◌, ◌^◌, ◌<◌, ◌≤◌, inl, inr, false, min, max, Option, List, [], ◌∷◌, ◌++◌, refl, sym, ◌∙◌, ap, subst, append-nil, append_assoc, arith}
+use Rattle.std.specs.List.{AllByRecursion}
 use Rattle.std.proofs.lemmas.Grind.{flat_map-append}
 use Rattle.escpos_command.specs.declared.command.Command.{Command}
 use Rattle.escpos_command.specs.declared.command.Command.TheVariants.{Init, Mark}
-use Rattle.escpos_command.specs.CommandTable.{row, spell}
+use Rattle.escpos_command.specs.CommandTable.{row}
 use Rattle.escpos_command.specs.Digits.{mark_count, mark_of}
 use Rattle.escpos_receipt.specs.Whole.{Whole, is_forbidden}
 use Rattle.escpos_host.specs.declared.host.HostError.{HostError}
@@ -15,16 +15,14 @@ use Rattle.escpos_host.specs.declared.send.Sent.{Sent}
 use Rattle.escpos_host.specs.declared.send.Sent.TheVariants as became
 use Rattle.escpos_host.specs.Machine.{HostView}
 use Rattle.escpos_host.specs.Says.{framed, marks_from}
-use Rattle.escpos_host.specs.Sends.{Call, Fails, RefusesSend, Sends, Waits, closing, opening_bytes, receipt_bytes}
+use Rattle.escpos_host.specs.Sends.{Call, Fails, RefusesSend, Sends, Waits, opening_bytes, receipt_bytes}
 use Rattle.escpos_till.specs.declared.deliver.Delivered.{Delivered}
 use Rattle.escpos_till.specs.declared.deliver.Delivered.TheVariants as delivered
-use Rattle.escpos_till.specs.declared.entry.Entry.{Entry}
-use Rattle.escpos_till.specs.declared.entry.Entry.TheVariants.{Queued, Tried, Recorded}
 use Rattle.escpos_till.specs.declared.error.LedgerError.{LedgerError}
 use Rattle.escpos_till.specs.declared.error.LedgerError.TheVariants as error
 use Rattle.escpos_till.specs.Delivers.{Concludes, Delivers, Exchange, IsNumbered, Link, PutsMarks, Quiet, Tries, fresh, marks_taken}
 use Rattle.escpos_till.specs.Entries.{next_free}
-use Rattle.escpos_till.specs.Ledger.{Adds, LedgerView, RefusesRecorded, RefusesTried}
+use Rattle.escpos_till.specs.Ledger.{LedgerView, RefusesRecorded, RefusesTried}
 use Rattle.escpos_till.proofs.CopyLemmas.{sent_whole}
 use Rattle.escpos_till.proofs.EntryLemmas.{next_after_recorded, next_after_tried}
 
@@ -153,9 +151,11 @@ said_of first openings cs = marks_from openings first ++ framed (record { receip
 numbered_said : (first openings next : ℕ) (cs : List Command) → Whole cs → first + openings + 1 ≤ next → AllByRecursion (IsNumbered first next) (said_of first openings cs)
 numbered_said first openings next cs w within =
     all_joined (IsNumbered first next) (marks_from openings first) (framed (record { receipt = cs; mark = mark_of (first + openings) }))
-    (numbered_openings first next openings first (omega arith) (omega arith))
-    (λ id e. absurd (init_is_none id e), all_joined (IsNumbered first next) cs (Mark (mark_of (first + openings)) ∷ []) (numbered_receipt first next cs w)
-      (numbered_mark first next (first + openings) (omega arith) (omega arith), tt))
+    (numbered_openings first next openings first (omega arith) (omega arith)) (
+      λ id e. absurd (init_is_none id e),
+      all_joined (IsNumbered first next) cs (Mark (mark_of (first + openings)) ∷ []) (numbered_receipt first next cs w)
+          (numbered_mark first next (first + openings) (omega arith) (omega arith), tt),
+    )
 
 puts_sent : (l : Link) (first next : ℕ) (commands : List Command) (sent : Sent) → Exchange l first commands sent → Whole commands → first + marks_taken l.openings ≤ next → PutsMarks l first next
 puts_sent l first next commands sent x w within =
@@ -203,7 +203,7 @@ puts_tried : {S : Type 0} (Held : LedgerView S → Type 0) (l : Link) (copy : Op
     → Tries Held l copy old mid number sent → Concludes mid number sent result new → PutsMarks l (next_free old.entries) (next_free new.entries)
 puts_tried Held l copy old mid new number sent result t h =
     let next : next_free new.entries ≡ next_free old.entries + marks_taken l.openings =
-        next_concluded mid new number sent result h ∙ ap next_free t.reserved.entries ∙ next_after_tried old.entries number (next_free old.entries + marks_taken l.openings) in
+    next_concluded mid new number sent result h ∙ ap next_free t.reserved.entries ∙ next_after_tried old.entries number (next_free old.entries + marks_taken l.openings) in
     puts_sent l (next_free old.entries) (next_free new.entries) t.commands sent t.exchange
     (subst Whole (sym t.due.sent) (sent_whole copy t.due.tried t.due.receipt t.due.whole)) (omega (arith, next))
 

@@ -1,5 +1,5 @@
 -- What one more entry does to the summary of a list of entries.
-use Rattle.std.proofs.Common.{ℕ, zero, suc, ◌≡◌, ◌≢◌, ◌+◌, ◌-◌, ◌<◌, ◌≤◌, ◌⊎◌, inl, inr, Option, Some, None, List, [], ◌∷◌, ◌++◌, length, get_or, set, zero-add, refl, sym, ◌∙◌, ap, subst, append-nil, length-append, length-set, add-zero, arith}
+use Rattle.std.proofs.Common.{ℕ, zero, suc, ◌≡◌, ◌+◌, ◌-◌, ◌<◌, ◌≤◌, ◌⊎◌, inl, inr, Some, None, List, [], ◌∷◌, ◌++◌, length, get_or, set, zero-add, refl, sym, ◌∙◌, ap, subst, append-nil, length-append, length-set, add-zero, arith}
 use Rattle.std.specs.Prelude.{MatchOption, slice_get}
 use Rattle.std.proofs.lemmas.Option.{get_or_from_slice_get, slice_get_read}
 use Rattle.escpos_till.specs.declared.entry.Entry.{Entry}
@@ -7,7 +7,7 @@ use Rattle.escpos_till.specs.declared.entry.Entry.TheVariants.{Queued, Tried, Re
 use Rattle.escpos_till.specs.declared.state.ReceiptState.{ReceiptState}
 use Rattle.escpos_till.specs.declared.state.ReceiptState.TheVariants as state
 use Rattle.escpos_till.specs.declared.summary.Summary.{Summary}
-use Rattle.escpos_till.specs.Entries.{IsLedger, MayFollow, Waits, next_free, contents, recorded, states, times_tried, waiting}
+use Rattle.escpos_till.specs.Entries.{IsLedger, MayFollow, Waits, contents, recorded, states, times_tried, waiting}
 use Rattle.escpos_till.specs.Ledger.{FirstWaits}
 use Rattle.escpos_till.specs.Entries.{states as states_of}
 use Rattle.escpos_till.specs.Summary.{IsFirstWaiting, IsRecorded, SumsUp, places_from, tries_in}
@@ -99,7 +99,7 @@ pub state_read : (s : Summary) (es : List Entry) (n r : ℕ) (x : ReceiptState) 
     → x ≡ state.Waiting (times_tried es n)
 state_read s es n r x sums waits same is =
     let got : slice_get s.states.items (r - 1) ≡ Some (state.Waiting (times_tried es n)) =
-        ap (λ ss. slice_get ss (r - 1)) sums.states ∙ ap (λ k. slice_get (states_of es) (k - 1)) same ∙ waiting_state es n waits in
+    ap (λ ss. slice_get ss (r - 1)) sums.states ∙ ap (λ k. slice_get (states_of es) (k - 1)) same ∙ waiting_state es n waits in
     is ∙ get_or_from_slice_get s.states.items (r - 1) (state.Waiting (times_tried es n)) x got
 
 pub sums_after_queued : (s t : Summary) (es : List Entry) (e : Entry) (content : List ℕ) (at : ℕ) → SumsUp s es → IsLedger es → e ≡ Queued content → at ≡ length es
@@ -122,12 +122,12 @@ sums_after_tried s t es e n next r x y sums follows kind same is more places sta
     let waits : Waits es n = (subst (MayFollow es) kind follows).0 in
     let one_more = more (times_tried es n) (state_read s es n r x sums waits same is) in
     let set_so : t.states.items ≡ set s.states.items (n - 1) (state.Waiting (times_tried es n + 1)) =
-        states ∙ ap (set s.states.items (r - 1)) one_more ∙ ap (λ k. set s.states.items (k - 1) (state.Waiting (times_tried es n + 1))) same in
+    states ∙ ap (set s.states.items (r - 1)) one_more ∙ ap (λ k. set s.states.items (k - 1) (state.Waiting (times_tried es n + 1))) same in
     subst (λ e. SumsUp t (es ++ e ∷ [])) (sym kind) (record {
       places = places ∙ sums.places ∙ sym (same_places es (Tried n next) (λ i. refl));
       states = set_so ∙ ap (λ ss. set ss (n - 1) (state.Waiting (times_tried es n + 1))) sums.states ∙ sym (tried_states es n next waits);
       first_waiting = subst (λ ss. IsFirstWaiting ss t.first_waiting) (sym set_so) (subst (IsFirstWaiting (set s.states.items (n - 1) (state.Waiting (times_tried es n + 1)))) (sym first)
-        (first_after_tried s.states.items s.first_waiting (n - 1) (times_tried es n) (times_tried es n + 1) (ap (λ ss. slice_get ss (n - 1)) sums.states ∙ waiting_state es n waits) sums.first_waiting));
+          (first_after_tried s.states.items s.first_waiting (n - 1) (times_tried es n) (times_tried es n + 1) (ap (λ ss. slice_get ss (n - 1)) sums.states ∙ waiting_state es n waits) sums.first_waiting));
       recorded = recorded ∙ sums.recorded ∙ sym (recorded-same es (Tried n next) refl);
       next = is_next ∙ sym (next_after_tried es n next);
     })

@@ -1,10 +1,9 @@
 -- The definitions of `specs/Entries.antt`, computed on a small ledger.
-use Rattle.std.proofs.Common.{ℕ, ◌≡◌, List, [], ◌∷◌, refl}
+use Rattle.std.proofs.Common.{◌≡◌, List, [], ◌∷◌, refl}
 use Rattle.escpos_till.specs.declared.entry.Entry.{Entry}
 use Rattle.escpos_till.specs.declared.entry.Entry.TheVariants.{Queued, Tried, Recorded, Raised}
 use Rattle.escpos_till.specs.declared.state.ReceiptState.TheVariants as state
-use Rattle.escpos_till.specs.Entries.{next_free, taken, recorded, waiting, times_tried, states, Taken}
-
+use Rattle.escpos_till.specs.Entries.{next_free, taken, recorded, waiting, times_tried, states}
 
 -- Three receipts are taken; the first is tried twice and recorded, the third is tried once.
 abbrev worked : List Entry

@@ -1,5 +1,5 @@
 -- What a list of entries says, and which lists are ledgers. Each definition looks back at the whole list.
-use Rattle.std.specs.Prelude.{ℕ, ◌≡◌, ◌+◌, ◌<◌, ◌≤◌, Bool, true, false, ◌==◌, is_none, Option, Some, None, List, [], ◌∷◌, ◌++◌, length, map, filter, count_by}
+use Rattle.std.specs.Prelude.{ℕ, ◌≡◌, ◌+◌, ◌<◌, ◌≤◌, Bool, false, ◌==◌, is_none, Option, Some, None, List, [], ◌∷◌, ◌++◌, length, map, filter, count_by}
 use Rattle.std.specs.List.{filter_map, position_from}
 use Rattle.escpos_till.specs.declared.entry.Entry.{Entry}
 use Rattle.escpos_till.specs.declared.entry.Entry.TheVariants as entry

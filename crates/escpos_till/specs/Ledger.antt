@@ -1,7 +1,6 @@
 -- The model of a ledger, what its calls do, and why they are refused.
-use Rattle.std.specs.Prelude.{ℕ, ◌≡◌, ◌≢◌, ◌⊎◌, ◌+◌, ◌<◌, ◌≤◌, Option, Some, None, List, [], ◌∷◌, ◌++◌, length, slice_get}
+use Rattle.std.specs.Prelude.{ℕ, ◌≡◌, ◌≢◌, ◌⊎◌, ◌+◌, ◌<◌, ◌≤◌, Option, Some, None, List, [], ◌∷◌, ◌++◌, slice_get}
 use Rattle.escpos_command.specs.Digits.{mark_count}
-use Rattle.escpos_receipt.specs.declared.json.JsonFault.{JsonFault}
 use Rattle.escpos_receipt.specs.Describes.{IsJsonFault}
 use Rattle.escpos_till.specs.declared.entry.Entry.{Entry}
 use Rattle.escpos_till.specs.declared.entry.Entry.TheVariants as entry

@@ -1,11 +1,11 @@
 -- What a ledger keeps beside its entries, so that no call goes through all of them. For private clauses and proofs alone.
-use Rattle.std.specs.Prelude.{ℕ, ◌≡◌, ◌+◌, ◌<◌, ◌≤◌, Option, Some, None, List, [], ◌∷◌, ◌++◌, length, slice_get}
+use Rattle.std.specs.Prelude.{ℕ, ◌≡◌, ◌+◌, ◌<◌, ◌≤◌, Option, Some, None, List, [], ◌∷◌, length, slice_get}
 use Rattle.escpos_till.specs.declared.entry.Entry.{Entry}
 use Rattle.escpos_till.specs.declared.entry.Entry.TheVariants as entry
 use Rattle.escpos_till.specs.declared.state.ReceiptState.{ReceiptState}
 use Rattle.escpos_till.specs.declared.state.ReceiptState.TheVariants as state
 use Rattle.escpos_till.specs.declared.summary.Summary.{Summary}
-use Rattle.escpos_till.specs.Entries.{contents, next_free, recorded, states}
+use Rattle.escpos_till.specs.Entries.{next_free, recorded, states}
 
 -- Where the entries stand by which receipts were taken, if the first entry has this place.
 abbrev pub places_from : ℕ → List Entry → List ℕ

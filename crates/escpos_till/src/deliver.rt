@@ -30,17 +30,26 @@ pub enum Delivered {
     NothingWaits,
     /// The text of the receipt gives none: out of memory, or the ledger was written by another program. Nothing was read or
     /// written, and the ledger is as it was: the receipt waits.
-    NoReceipt { number: ReceiptNumber, why: JsonError },
+    NoReceipt {
+        number: ReceiptNumber,
+        why: JsonError,
+    },
     /// The ledger reserved no mark numbers: `MarksUsedUp`, `Store`, `Failed` or `Memory`. Nothing was read or written, and
     /// the ledger is as the error says: the receipt waits.
     NotTried(LedgerError),
     /// The receipt isn't known to be printed. It waits, tried once more.
-    NotRecorded { number: ReceiptNumber, why: SendFault },
+    NotRecorded {
+        number: ReceiptNumber,
+        why: SendFault,
+    },
     /// The receipt is printed, and recorded.
     Recorded(ReceiptNumber),
     /// The receipt is printed, and the ledger didn't record it: `Store` or `Memory`. It waits, tried once more, unless the
     /// entry is found when the ledger is opened again.
-    NotNoted { number: ReceiptNumber, why: LedgerError },
+    NotNoted {
+        number: ReceiptNumber,
+        why: LedgerError,
+    },
 }
 
 // A receipt that is to be sent.
@@ -65,13 +74,23 @@ pub fn deliver_one<S: Store, R: ByteIn, W: ByteOut>(
     writer: &mut W,
     max_bytes: u32,
 ) -> Delivered
-    ensures delivers { Delivers (IsKept S.faithful S.holds S.leaves) (record { openings = openings; most = max_bytes;
-        came_before = R.to_come reader.old; came_after = R.to_come reader.new;
-        put_before = W.written writer.old; put_after = W.written writer.new })
+    ensures delivers { Delivers (IsKept S.faithful S.holds S.leaves) (record {
+      openings = openings;
+      most = max_bytes;
+      came_before = R.to_come reader.old;
+      came_after = R.to_come reader.new;
+      put_before = W.written writer.old;
+      put_after = W.written writer.new;
+    })
         (option_map (λ t. t.now) copy.entry) ledger.old result ledger.new }
-    ensures own_marks { PutsMarks (record { openings = openings; most = max_bytes;
-        came_before = R.to_come reader.old; came_after = R.to_come reader.new;
-        put_before = W.written writer.old; put_after = W.written writer.new })
+    ensures own_marks { PutsMarks (record {
+      openings = openings;
+      most = max_bytes;
+      came_before = R.to_come reader.old;
+      came_after = R.to_come reader.new;
+      put_before = W.written writer.old;
+      put_after = W.written writer.new;
+    })
         (next_free ledger.old.entries) (next_free ledger.new.entries) }
     ensures was_faithful { S.faithful ledger.new.store → S.faithful ledger.old.store }
 {
@@ -88,9 +107,14 @@ fn deliver_first<S: Store, R: ByteIn, W: ByteOut>(
     writer: &mut W,
     max_bytes: u32,
 ) -> Delivered
-    ensures delivers { Delivers (IsKept S.faithful S.holds S.leaves) (record { openings = openings; most = max_bytes;
-        came_before = R.to_come reader.old; came_after = R.to_come reader.new;
-        put_before = W.written writer.old; put_after = W.written writer.new })
+    ensures delivers { Delivers (IsKept S.faithful S.holds S.leaves) (record {
+      openings = openings;
+      most = max_bytes;
+      came_before = R.to_come reader.old;
+      came_after = R.to_come reader.new;
+      put_before = W.written writer.old;
+      put_after = W.written writer.new;
+    })
         (option_map (λ t. t.now) copy.entry) ledger.old result ledger.new }
     ensures was_faithful { S.faithful ledger.new.store → S.faithful ledger.old.store }
 {
@@ -119,9 +143,14 @@ fn send_fresh<R: ByteIn, W: ByteOut>(
     writer: &mut W,
     max_bytes: u32,
 ) -> Sent
-    ensures { Exchange (record { openings = openings; most = max_bytes;
-        came_before = R.to_come reader.old; came_after = R.to_come reader.new;
-        put_before = W.written writer.old; put_after = W.written writer.new }) first receipt result }
+    ensures { Exchange (record {
+      openings = openings;
+      most = max_bytes;
+      came_before = R.to_come reader.old;
+      came_after = R.to_come reader.new;
+      put_before = W.written writer.old;
+      put_after = W.written writer.new;
+    }) first receipt result }
 {
     let mut host = Host::new(alloc, first);
     send_link(&mut host, receipt, openings, reader, writer, max_bytes)

@@ -140,7 +140,8 @@ impl Summary {
         match entry {
             Entry::Queued { .. } => {
                 self.places.push_reserved(at);
-                self.states.push_reserved(ReceiptState::Waiting { tried: 0 });
+                self.states
+                    .push_reserved(ReceiptState::Waiting { tried: 0 });
             }
             Entry::Tried { number, next } => {
                 let place = number.get() - 1;

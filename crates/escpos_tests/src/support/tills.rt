@@ -18,11 +18,7 @@ pub fn ledger_over(rt: &impl Abort, alloc: Global, store: MemoryStore) -> Ledger
 
 // A ledger with no entries, whose store fails so.
 pub fn new_ledger(rt: &impl Abort, alloc: Global, failure: Failure) -> Ledger<MemoryStore> {
-    ledger_over(
-        rt,
-        alloc,
-        MemoryStore::new(alloc, Vec::new(alloc), failure),
-    )
+    ledger_over(rt, alloc, MemoryStore::new(alloc, Vec::new(alloc), failure))
 }
 
 // A receipt is taken, and has this number.
@@ -40,13 +36,7 @@ pub fn queues(
 }
 
 // So many mark numbers are reserved for a receipt, from this one on.
-pub fn tries(
-    rt: &impl Abort,
-    ledger: &mut Ledger<MemoryStore>,
-    at: usize,
-    marks: u32,
-    first: u32,
-) {
+pub fn tries(rt: &impl Abort, ledger: &mut Ledger<MemoryStore>, at: usize, marks: u32, first: u32) {
     match ledger.tried(number(rt, at), marks) {
         Ok(reserved) => assert!(rt; reserved == first),
         Err(_) => panic!(rt; "not tried"),

@@ -47,7 +47,14 @@ fn delivered(rt: HostRuntime) {
     delivers(&rt, rt.alloc(), &mut ledger, None, b"", nothing);
     queues(&rt, rt.alloc(), &mut ledger, S.0, 1);
     let recorded = (Delivered::Recorded(number(&rt, 1)), SENT);
-    delivers(&rt, rt.alloc(), &mut ledger, Some(b"COPY"), ANSWERS_01, recorded);
+    delivers(
+        &rt,
+        rt.alloc(),
+        &mut ledger,
+        Some(b"COPY"),
+        ANSWERS_01,
+        recorded,
+    );
     delivers(&rt, rt.alloc(), &mut ledger, None, b"", nothing);
     assert!(&rt; ledger.states() == Ok([ReceiptState::Recorded { place: 0 }].as_slice()));
     assert!(&rt; ledger.next_mark() == Ok(2));
@@ -72,7 +79,8 @@ fn answer_lost(rt: HostRuntime) {
         b"\x37\x220000\x00",
         (lost, SENT),
     );
-    let again = b"\x1D(H\x06\x00000002\x1B@\x1Ba\x01\x1BE\x01COPY\n\x1BE\x00\x1Ba\x00Hi\n\x1D(H\x06\x00000003";
+    let again =
+        b"\x1D(H\x06\x00000002\x1B@\x1Ba\x01\x1BE\x01COPY\n\x1BE\x00\x1Ba\x00Hi\n\x1D(H\x06\x00000003";
     delivers(
         &rt,
         rt.alloc(),
@@ -107,7 +115,14 @@ fn store_fails_at_delivery(rt: HostRuntime) {
         number: number(&rt, 1),
         why: failed,
     };
-    delivers(&rt, rt.alloc(), &mut ledger, None, ANSWERS_01, (wanted, SENT));
+    delivers(
+        &rt,
+        rt.alloc(),
+        &mut ledger,
+        None,
+        ANSWERS_01,
+        (wanted, SENT),
+    );
 }
 
 // No mark number is left: nothing goes out, and nothing is written.
@@ -117,7 +132,14 @@ fn numbers_used_up(rt: HostRuntime) {
     queues(&rt, rt.alloc(), &mut ledger, S.0, 1);
     assert!(&rt; ledger.raise(1_679_615) == Ok(()));
     let wanted = Delivered::NotTried(LedgerError::MarksUsedUp);
-    delivers(&rt, rt.alloc(), &mut ledger, None, ANSWERS_01, (wanted, b""));
+    delivers(
+        &rt,
+        rt.alloc(),
+        &mut ledger,
+        None,
+        ANSWERS_01,
+        (wanted, b""),
+    );
     assert!(&rt; ledger.states() == Ok([ReceiptState::Waiting { tried: 0 }].as_slice()));
 }
 

@@ -132,11 +132,7 @@ fn fails_at_the_second(rt: &impl Abort, alloc: Global, ledger: &mut Ledger<Memor
 
 #[test]
 fn store_fails(rt: HostRuntime) {
-    let mut ledger = new_ledger(
-        &rt,
-        rt.alloc(),
-        Failure::BeforeKeeping { calls: 1 },
-    );
+    let mut ledger = new_ledger(&rt, rt.alloc(), Failure::BeforeKeeping { calls: 1 });
     fails_at_the_second(&rt, rt.alloc(), &mut ledger);
     let again = ledger_over(&rt, rt.alloc(), ledger.into_store());
     stands(&rt, &again, &[UNTRIED], (0, 0));

@@ -11,8 +11,7 @@ use Rattle.escpos_till.proofs.deliver.deliver_first.Goals as goal
 
 pub returns-in-Err-tried-clause-delivers : goal.returns-in-Err-tried-clause-delivers
 returns-in-Err-tried-clause-delivers g c =
-    let due = rw c.in-Ok-Some.field-0-is at c.in-Ok-Some.ensures.due in
-    (
+    let due = rw c.in-Ok-Some.field-0-is at c.in-Ok-Some.ensures.due in (
       inr (
         c.in-Ok-Some.due.number,
         c.in-Ok-Some.due.receipt,
@@ -27,7 +26,7 @@ returns-clause-delivers g c =
     let due = rw c.in-Ok-Some.field-0-is at c.in-Ok-Some.ensures.due in
     let marks = counted c.in-Ok.first (marks_taken c.args.openings) c.marks_taken.result c.marks_taken.ensures c.in-Ok.ensures.within in
     let sum : c.in-Ok.first + c.marks_taken.result ≡ next_free c.args.ledger.now.entries + marks_taken c.args.openings =
-        ap (λ (n : ℕ). c.in-Ok.first + n) marks ∙ ap (λ (n : ℕ). n + marks_taken c.args.openings) c.in-Ok.ensures.first in
+    ap (λ (n : ℕ). c.in-Ok.first + n) marks ∙ ap (λ (n : ℕ). n + marks_taken c.args.openings) c.in-Ok.ensures.first in
     let link : Link = record {
       openings = c.args.openings;
       most = c.args.max_bytes;

@@ -1,10 +1,7 @@
 -- The first state that waits is that of the first receipt that waits.
-use Rattle.std.proofs.Common.{rules, ℕ, ◌≡◌, ◌<◌, ◌≤◌, ◌+◌, List, Some, length, get_or, slice_get, refl, sym, ◌∙◌, ap, subst, arith}
+use Rattle.std.proofs.Common.{rules, ℕ, ◌≡◌, ◌<◌, ◌≤◌, ◌+◌, List, Some, length, slice_get, refl, sym, ◌∙◌, ap, subst}
 use Rattle.std.proofs.lemmas.Option.{get_or_from_slice_get, same_Some, slice_get_read, slice_get_within}
-use Rattle.escpos_till.specs.declared.entry.Entry.{Entry}
 use Rattle.escpos_till.specs.declared.entry.Entry.TheVariants.{Queued}
-use Rattle.escpos_till.specs.declared.state.ReceiptState.{ReceiptState}
-use Rattle.escpos_till.specs.declared.state.ReceiptState.TheVariants as state
 use Rattle.escpos_till.specs.Ledger.{FirstWaits}
 use Rattle.escpos_till.specs.Summary.{IsRecorded}
 use Rattle.escpos_till.proofs.SummaryLemmas.{first_left, none_left, spot}
@@ -45,8 +42,8 @@ returns c =
     let same : c.index-2.result.now ≡ s.place = c.index-2.ensures ∙ get_or_from_slice_get c.args.summary.now.places.items c.args.summary.now.first_waiting s.place c.index-2.result.now s.at in
     let read = slice_get_read c.args.summary.now.states.items (length c.args.summary.now.states.items) c.args.summary.now.first_waiting c.index.result.now refl inside c.index.ensures in
     let content : c.content_at.result.now ≡ s.content =
-        same_content c.content_at.result.now s.content (same_Some (Queued c.content_at.result.now) (Queued s.content) (sym c.content_at.ensures ∙ ap (λ (k : ℕ). slice_get c.args.entries.now k) same ∙ s.there)) in
+    same_content c.content_at.result.now s.content (same_Some (Queued c.content_at.result.now) (Queued s.content) (sym c.content_at.ensures ∙ ap (λ (k : ℕ). slice_get c.args.entries.now k) same ∙ s.there)) in
     let number : c.unwrap.result ≡ c.args.summary.now.first_waiting + 1 = search rules in
     subst (λ (n : ℕ). FirstWaits c.args.entries.now n c.content_at.result.now c.in-Waiting.tried) (sym number)
     (subst (λ (bytes : List ℕ). FirstWaits c.args.entries.now (c.args.summary.now.first_waiting + 1) bytes c.in-Waiting.tried) (sym content)
-      (first_left c.args.summary.now c.args.entries.now c.args.summary.now.first_waiting c.in-Waiting.tried s.content c.requires refl s.is (read ∙ ap Some c.in-Waiting.is)))
+    (first_left c.args.summary.now c.args.entries.now c.args.summary.now.first_waiting c.in-Waiting.tried s.content c.requires refl s.is (read ∙ ap Some c.in-Waiting.is)))

@@ -1,10 +1,9 @@
 -- One more entry, by its kind.
-use Rattle.std.proofs.Common.{◌+◌, ◌<◌, ◌^◌, ℕ, refl, subst, arith}
+use Rattle.std.proofs.Common.{refl, subst, arith}
 use Rattle.escpos_till.specs.Entries.{MayFollow, times_tried}
-use Rattle.escpos_till.specs.Summary.{IsFirstWaiting, IsRecorded}
+use Rattle.escpos_till.specs.Summary.{IsFirstWaiting}
 use Rattle.escpos_till.specs.declared.state.ReceiptState.{ReceiptState}
-use Rattle.escpos_till.specs.declared.state.ReceiptState.TheVariants as state
-use Rattle.std.proofs.Common.{set, slice_get, ◌-◌, Some, sym, ◌≡◌, ap, ◌∙◌, List}
+use Rattle.std.proofs.Common.{slice_get, ◌-◌, sym, ap, ◌∙◌, List}
 use Rattle.escpos_till.proofs.EntryLemmas.{few_records, few_tries}
 use Rattle.escpos_till.proofs.SummaryLemmas.{passed_after_recorded, state_read, sums_after_queued, sums_after_raised, sums_after_recorded, sums_after_tried}
 use Rattle.escpos_till.proofs.summary.Summary.note.Goals as goal
@@ -12,8 +11,7 @@ use Rattle.escpos_till.proofs.summary.Summary.note.Goals as goal
 pub one_try_more-requires : goal.one_try_more-requires
 one_try_more-requires c =
     let sums = c.requires.sums in
-    let waits = (subst (MayFollow sums.0) c.in-Tried.is sums.3).0 in
-    (
+    let waits = (subst (MayFollow sums.0) c.in-Tried.is sums.3).0 in (
       times_tried sums.0 c.in-Tried.number,
       state_read c.args.self.now sums.0 c.in-Tried.number c.get-place.result c.index.result.now sums.1 waits c.get-place.ensures.value c.index.ensures,
       omega (arith, few_tries sums.0 c.in-Tried.number, sums.4, c.requires.few),

@@ -1,5 +1,5 @@
 -- A list of entries, entry by entry.
-use Rattle.std.proofs.Common.{◌≡◌, ◌+◌, ◌≤◌, List, length, take, refl, sym, subst, arith}
+use Rattle.std.proofs.Common.{◌≡◌, List, length, take, refl, sym, subst, arith}
 use Rattle.std.proofs.lemmas.List.{length-take-le}
 use Rattle.escpos_till.specs.declared.entry.Entry.{Entry}
 use Rattle.escpos_till.specs.Entries.{IsLedger, MayFollow}

@@ -1,5 +1,5 @@
 -- How often a receipt was tried is what its state says.
-use Rattle.std.proofs.Common.{◌∙◌, sym, ap, subst, length, MatchOption, ◌<◌, ◌≡◌, rules}
+use Rattle.std.proofs.Common.{sym, subst, length, MatchOption, ◌<◌, ◌≡◌, rules}
 use Rattle.escpos_till.specs.Entries.{Waits, times_tried}
 use Rattle.std.proofs.Common.{ℕ, ◌-◌, Option}
 use Rattle.escpos_till.proofs.SummaryLemmas.{tried_so}
