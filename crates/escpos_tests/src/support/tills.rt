@@ -35,9 +35,9 @@ pub fn queues(
     }
 }
 
-// So many mark numbers are reserved for a receipt, from this one on.
+// So many mark numbers, at least one, are reserved for a receipt, from this one on.
 pub fn tries(rt: &impl Abort, ledger: &mut Ledger<MemoryStore>, at: usize, marks: u32, first: u32) {
-    match ledger.tried(number(rt, at), marks) {
+    match ledger.tried(number(rt, at), marks.max(1)) {
         Ok(reserved) => assert!(rt; reserved == first),
         Err(_) => panic!(rt; "not tried"),
     }
