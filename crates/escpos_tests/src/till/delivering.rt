@@ -40,22 +40,21 @@ fn delivers(
     assert!(rt; writer.written() == out);
 }
 
+// No receipt waits, and so nothing goes out.
+fn delivers_nothing(rt: &impl Abort, alloc: Global, ledger: &mut Ledger<MemoryStore>) {
+    let nothing = (Delivered::NothingWaits, b"".as_slice());
+    delivers(rt, alloc, ledger, None, b"", nothing);
+}
+
 #[test]
 fn delivered(rt: HostRuntime) {
     let mut ledger = new_ledger(&rt, rt.alloc(), Failure::Never);
-    let nothing = (Delivered::NothingWaits, b"".as_slice());
-    delivers(&rt, rt.alloc(), &mut ledger, None, b"", nothing);
+    delivers_nothing(&rt, rt.alloc(), &mut ledger);
     queues(&rt, rt.alloc(), &mut ledger, S.0, 1);
     let recorded = (Delivered::Recorded(number(&rt, 1)), SENT);
-    delivers(
-        &rt,
-        rt.alloc(),
-        &mut ledger,
-        Some(b"COPY"),
-        ANSWERS_01,
-        recorded,
-    );
-    delivers(&rt, rt.alloc(), &mut ledger, None, b"", nothing);
+    let copy = Some(b"COPY".as_slice());
+    delivers(&rt, rt.alloc(), &mut ledger, copy, ANSWERS_01, recorded);
+    delivers_nothing(&rt, rt.alloc(), &mut ledger);
     assert!(&rt; ledger.states() == Ok([ReceiptState::Recorded { place: 0 }].as_slice()));
     assert!(&rt; ledger.next_mark() == Ok(2));
 }
