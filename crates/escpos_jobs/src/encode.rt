@@ -1,12 +1,15 @@
 //! The job `encode`: a receipt in JSON as the bytes of its commands, in hexadecimal.
 
-ghost use Rattle.std.specs.Prelude.{◌≡◌, ◌≢◌, IfSome, IsTrue, flat_map};
+ghost use Rattle.std.specs.Prelude.{◌≡◌, ◌≢◌, ℕ, List, IfOk, IfSome, IsErrOf, IsTrue, flat_map};
 ghost use Rattle.hex.specs.Hex.{encode_lower};
 ghost use Rattle.escpos_command.specs.CommandTable.{row, spell};
 ghost use Rattle.escpos_io.specs.Giving.{IsGiven};
 ghost use Rattle.escpos_io.specs.Putting.{passage};
 ghost use Rattle.escpos_jobs.specs.Encode.{Encodes, EncodesText, digits_line};
-ghost use Rattle.escpos_receipt.specs.EntryCommands.{commands_in};
+ghost use Rattle.escpos_receipt.specs.declared.json.JsonError.{JsonError};
+ghost use Rattle.escpos_receipt.specs.declared.json.JsonFault.{JsonFault};
+ghost use Rattle.escpos_receipt.specs.Describes.{IsJsonFault};
+ghost use Rattle.escpos_receipt.specs.EntryCommands.{IsValueOf, commands_in};
 ghost use Rattle.escpos_jobs.specs.Ending.{IsFair, PrintsText, job_end};
 
 use crate::ending::refuse;
@@ -15,7 +18,7 @@ use crate::receipt_input::refuse_text;
 use crate::status::Status;
 use escpos_command::{Command, LF};
 use escpos_io::{ByteIn, ByteOut, Device, Gather, laws, put_digits, read_to_end};
-use escpos_receipt::{Entry, Receipt, ReceiptText, are_whole};
+use escpos_receipt::{Entry, JsonError, ReceiptText};
 use std::alloc::Global;
 
 /// Reads a receipt in JSON from `input`, and prints the bytes of its commands on `output`, in hexadecimal and in one line.
@@ -31,40 +34,43 @@ pub fn encode<R: ByteIn, W: ByteOut>(alloc: Global, input: &mut R, output: &mut 
     ensures nothing_put { IsTrue (R.failed input.new) → output.new ≡ output.old }
 {
     match read_to_end(alloc, input, INPUT_LIMIT) {
-        Ok(text) => encode_text(alloc, &text, output),
+        Ok(text) => encode_text(alloc, text, output),
         Err(error) => refuse(InputFault::from(error), output),
     }
 }
 
 // Prints the line for a text.
-fn encode_text<W: ByteOut>(alloc: Global, text: &[u8], output: &mut W) -> Status
-    ensures encodes { EncodesText (job_end (W.written output.old) (W.written output.new) (W.failed output.new) result) text.now }
+fn encode_text<W: ByteOut>(alloc: Global, text: Vec<u8>, output: &mut W) -> Status
+    ensures encodes { EncodesText (job_end (W.written output.old) (W.written output.new) (W.failed output.new) result) text.items }
     ensures device { result ≡ Status.Device → IsTrue (W.failed output.new) }
     ensures not_hidden { result ≢ Status.Device → ¬ IsTrue (W.failed output.old) → ¬ IsTrue (W.failed output.new) }
     ensures never_usage { result ≢ Status.Usage }
 {
-    match ReceiptText::new(alloc, text) {
-        Ok(text) => encode_receipt(alloc, &text, output),
+    match json_of(alloc, text) {
+        Ok(json) => encode_json(alloc, &json, output),
         Err(fault) => refuse_text(fault, output),
     }
 }
 
-// Prints the line for a text that is JSON. The commands of a receipt aren't listed: its text goes out from where it stands.
-fn encode_receipt<W: ByteOut>(alloc: Global, text: &ReceiptText<'_>, output: &mut W) -> Status
-    ensures encodes { EncodesText (job_end (W.written output.old) (W.written output.new) (W.failed output.new) result) text.now }
+// The value of a text in JSON. The text itself is dropped, before its commands are written.
+fn json_of(alloc: Global, text: Vec<u8>) -> Result<ReceiptText, JsonError>
+    ensures value { IfOk result (λ json. IsValueOf text.items json) }
+    ensures refused { (fault : JsonFault) → IsErrOf result (JsonError.Refused fault) → IsJsonFault fault text.items }
+{
+    ReceiptText::new(alloc, &text)
+}
+
+// Prints the line for a text with this value. The commands of a receipt aren't listed: its characters go out from where they
+// stand.
+fn encode_json<W: ByteOut>(alloc: Global, json: &ReceiptText, output: &mut W) -> Status
+    ensures encodes { (text : List ℕ) → IsValueOf text json.now →
+        EncodesText (job_end (W.written output.old) (W.written output.new) (W.failed output.new) result) text }
     ensures device { result ≡ Status.Device → IsTrue (W.failed output.new) }
     ensures not_hidden { result ≢ Status.Device → ¬ IsTrue (W.failed output.old) → ¬ IsTrue (W.failed output.new) }
     ensures never_usage { result ≢ Status.Usage }
 {
-    let entries = match text.entries(alloc) {
-        Ok(entries) => entries,
-        Err(fault) => return refuse_text(fault, output),
-    };
-    if are_whole(&entries) {
-        return put_line(&entries, output);
-    }
-    match Receipt::of_entries(alloc, entries) {
-        Ok(_) => unreachable!(),
+    match json.entries(alloc) {
+        Ok(entries) => put_line(&entries, output),
         Err(fault) => refuse_text(fault, output),
     }
 }

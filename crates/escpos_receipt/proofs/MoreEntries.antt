@@ -1,5 +1,5 @@
 -- What one more entry gives, after those that give these commands.
-use Rattle.std.proofs.Common.{◌≡◌, ◌≢◌, ℕ, ◌+◌, ◌<◌, List, [], ◌∷◌, ◌++◌, map, take, drop, length, get_or, Ok, Err, inl, refl, sym, ◌∙◌, ap, subst, append-nil, arith}
+use Rattle.std.proofs.Common.{◌≡◌, ◌≢◌, ℕ, ◌+◌, ◌<◌, List, [], ◌∷◌, ◌++◌, map, take, drop, length, get_or, Result, Ok, Err, inl, refl, sym, ◌∙◌, ap, subst, append-nil, arith}
 use Rattle.std.proofs.lemmas.List.{map-append, length-map, length-take-le}
 use Rattle.std.proofs.lemmas.Grind.{flat_map-append}
 use Rattle.std.specs.List.{flat_map}
@@ -13,7 +13,7 @@ use Rattle.escpos_receipt.specs.declared.entry.EntryFault.TheVariants.{BadShape,
 use Rattle.escpos_receipt.specs.declared.json.JsonError.TheVariants.{Refused}
 use Rattle.escpos_receipt.specs.declared.json.JsonFault.{JsonFault}
 use Rattle.escpos_receipt.specs.declared.json.JsonFault.TheVariants as fault
-use Rattle.escpos_receipt.specs.Describes.{Give, IsJson, IsJsonFault, IsRefusedEntry, RefusesEntry}
+use Rattle.escpos_receipt.specs.Describes.{Describes, Give, IsJson, IsJsonFault, IsRefusedArray, IsRefusedEntry, RefusesEntry}
 use Rattle.escpos_receipt.specs.EntryCommands.{commands_in}
 use Rattle.escpos_receipt.specs.EntryErrors.{error_at}
 use Rattle.escpos_receipt.proofs.Prefixes.{one_longer, split_at}
@@ -72,11 +72,43 @@ refused_at vs i v cs NotAscii because h e give cause same =
     subst (λ f. IsRefusedEntry f (map view vs)) is (refuses vs i v cs NotAscii h e give (cause (λ m. cc)))
 refused_at vs i v cs Memory because h e give cause same = absurd cc
 
--- Why entries give no commands is why their text is refused.
-pub of_entries : (because : JsonFault) (bytes : List ℕ) (d : Data) (vs : List Value) → IsJson bytes d → d ≡ array (items_view vs)
-    → IsRefusedEntry because (map view vs) → IsJsonFault because bytes
-of_entries (fault.BadShape at) bytes d vs json is refused = inl (map view vs, subst (IsJson bytes) is json, refused)
-of_entries (fault.ControlByte at) bytes d vs json is refused = (map view vs, subst (IsJson bytes) is json, refused)
-of_entries (fault.NotAscii at) bytes d vs json is refused = (map view vs, subst (IsJson bytes) is json, refused)
-of_entries fault.NotJson bytes d vs json is refused = absurd refused
-of_entries (fault.NotWhole why) bytes d vs json is refused = absurd refused
+-- ## What entries give
+
+abbrev Meant : Type 0
+Meant = Result (List Command) EntryFault
+
+map_ok : (ps qs : List (List Command)) → map {B = Meant} Ok ps ≡ map Ok qs → ps ≡ qs
+map_ok [] [] e = refl
+map_ok [] (q ∷ qs) e = absurd cc
+map_ok (p ∷ ps) [] e = absurd cc
+map_ok (p ∷ ps) (q ∷ qs) e =
+    let first : p ≡ q = cc in
+    let others : map {B = Meant} Ok ps ≡ map Ok qs = cc in
+    let same : ps ≡ qs = map_ok ps qs others in
+    cc
+
+-- They give one list of commands.
+pub gives_once : (entries : List Data) (cs ds : List Command) → Give entries cs → Give entries ds → cs ≡ ds
+gives_once entries cs ds one other =
+    one.joined ∙ ap (flat_map (λ p. p)) (map_ok one.parts other.parts (sym one.each ∙ other.each)) ∙ sym other.joined
+
+pub refused_array : (because : JsonFault) (entries : List Data) → IsRefusedEntry because entries → IsRefusedArray because entries
+refused_array (fault.BadShape at) entries refused = refused
+refused_array (fault.ControlByte at) entries refused = refused
+refused_array (fault.NotAscii at) entries refused = refused
+refused_array fault.NotJson entries refused = refused
+refused_array (fault.NotWhole why) entries refused = absurd refused
+
+-- What they give is what their text describes.
+pub describes : (bytes : List ℕ) (d : Data) (vs : List Value) (cs : List Command) → IsJson bytes d → d ≡ array (items_view vs) → Give (map view vs) cs
+    → Describes bytes cs
+describes bytes d vs cs json is give = record { entries = map view vs; json = subst (IsJson bytes) is json; give = give }
+
+-- Why entries give no receipt is why their text is refused.
+pub of_array : (because : JsonFault) (bytes : List ℕ) (d : Data) (vs : List Value) → IsJson bytes d → d ≡ array (items_view vs)
+    → IsRefusedArray because (map view vs) → IsJsonFault because bytes
+of_array (fault.BadShape at) bytes d vs json is refused = inl (map view vs, subst (IsJson bytes) is json, refused)
+of_array (fault.ControlByte at) bytes d vs json is refused = (map view vs, subst (IsJson bytes) is json, refused)
+of_array (fault.NotAscii at) bytes d vs json is refused = (map view vs, subst (IsJson bytes) is json, refused)
+of_array fault.NotJson bytes d vs json is refused = absurd refused
+of_array (fault.NotWhole why) bytes d vs json is (cs, give, because) = (cs, describes bytes d vs cs json is give, because)

@@ -47,6 +47,11 @@ IsRefusedEntry (fault.ControlByte at) entries = RefusesEntry entries at bad.Cont
 IsRefusedEntry (fault.NotAscii at) entries = RefusesEntry entries at bad.NotAscii
 IsRefusedEntry _ entries = ⊥
 
+-- Why entries give no receipt.
+abbrev pub IsRefusedArray : JsonFault → List Data → Type 0
+IsRefusedArray (fault.NotWhole why) entries = (cs : List Command) × Give entries cs × IsReceiptFault why cs
+IsRefusedArray because entries = IsRefusedEntry because entries
+
 -- The bytes are JSON, but not an array.
 abbrev pub IsNoArray : List ℕ → Type 0
 IsNoArray bytes = (value : Data) × IsJson bytes value × (as_array value ≡ None)

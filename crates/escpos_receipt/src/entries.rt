@@ -8,7 +8,7 @@ ghost use Rattle.escpos_receipt.specs.Whole.{EachMayFollow, Whole, has_text};
 use crate::entry::Entry;
 use crate::receipt::{has_text_after, is_forbidden, needs_empty_line};
 
-/// Whether the commands of these entries are a receipt. `Receipt::new` says why they aren't.
+/// Whether the commands of these entries are a receipt. If they aren't, `Receipt::new` says why.
 pub fn are_whole(entries: &[Entry<'_>]) -> bool
     ensures { IsTrue result ↔ Whole (flat_map commands_in entries.now) }
 {

@@ -1,16 +1,21 @@
 //! Receipts read from text in JSON: an array whose entries give the commands, one after another.
 
-ghost use Rattle.std.specs.Prelude.{◌≡◌, ℕ, List, ◌≤◌, ◌+◌, ◌++◌, ◌⊎◌, length, IfOk, OnOk, IsErrOf, map, flat_map, vec_len, vec_capacity};
+ghost use Rattle.std.specs.Prelude.{◌≡◌, ◌≢◌, ℕ, List, None, Ok, Err, IfErr, ◌≤◌, ◌+◌, ◌++◌, ◌⊎◌, length, IfOk, IfSome, OnOk, IsErrOf, map, flat_map, vec_len, vec_capacity};
+ghost use Rattle.escpos_command.specs.declared.command.Command.{Command};
 ghost use Rattle.std.specs.List.{AllPass};
 ghost use Rattle.escpos_command.specs.declared.command.Command.TheVariants.{Char};
 ghost use Rattle.escpos_command.specs.Parameters.{is_character};
-ghost use Rattle.escpos_receipt.specs.EntryCommands.{commands_in};
-ghost use Rattle.serde_json.specs.View.{view};
+ghost use Rattle.escpos_receipt.specs.EntryCommands.{IsValueOf, commands_in};
+ghost use Rattle.serde_json.specs.Data.{array};
+ghost use Rattle.serde_json.specs.Find.{as_array};
+ghost use Rattle.serde_json.specs.View.{items_view, view};
 ghost use Rattle.serde_json.specs.Errors.{IsMemory};
-ghost use Rattle.escpos_receipt.specs.Describes.{Describes, Give, IsJsonFault, IsRefusedEntry};
+ghost use Rattle.escpos_receipt.specs.Describes.{Describes, Give, IsJsonFault, IsRefusedArray, IsRefusedEntry};
+ghost use Rattle.escpos_receipt.specs.Entries.{meaning};
 ghost use Rattle.escpos_receipt.specs.EntryErrors.{error_at};
 ghost use Rattle.escpos_receipt.specs.Whole.{Whole};
 
+use crate::entries::are_whole;
 use crate::entry::{Entry, EntryFault, read_entry};
 use crate::receipt::{Receipt, ReceiptFault};
 use escpos_command::{Character, Command};
@@ -114,45 +119,54 @@ impl EntryFault {
     }
 }
 
-/// A text that is JSON. Its model is the list of its bytes.
+/// A receipt's text in JSON, once it was read: its value alone, so that the text may be dropped. The model is that value.
 #[derive(Drop)]
-pub struct ReceiptText<'a> {
-    text: &'a [u8],
+pub struct ReceiptText {
     value: Value,
 }
 
-impl<'a> Model for ReceiptText<'a> {
-    ghost use Rattle.std.specs.Prelude.{ℕ, List};
-    ghost use Rattle.escpos_receipt.specs.EntryCommands.{IsValueOf};
+impl Model for ReceiptText {
+    ghost use Rattle.serde_json.specs.declared.value.Value.{Value as json};
+    ghost use Rattle.serde_json.specs.contracts.value.Value as e;
+    ghost use Rattle.std.specs.Coded.{codes};
 
-    ghost Value = { List ℕ };
+    ghost Value = { json };
 
-    ghost view = { λ t. t.text.now };
+    ghost coded = { Prim.hlevel (codes, e.the_row.coded) };
 
-    ghost invariant = { λ t. IsValueOf t.text.now t.value };
+    ghost view = { λ t. t.value };
 }
 
-impl<'a> ReceiptText<'a> {
+impl ReceiptText {
     /// Reads a text as JSON.
-    pub fn new(alloc: Global, text: &'a [u8]) -> Result<Self, JsonError>
-        ensures same { IfOk result (λ json. json ≡ text.now) }
+    pub fn new(alloc: Global, text: &[u8]) -> Result<Self, JsonError>
+        ensures value { IfOk result (λ json. IsValueOf text.now json) }
         ensures refused { (fault : JsonFault) → IsErrOf result (JsonError.Refused fault) → IsJsonFault fault text.now }
     {
         match Value::from_slice(alloc, text) {
-            Ok(value) => Ok(ReceiptText { text, value }),
+            Ok(value) => Ok(ReceiptText { value }),
             Err(error) => Err(error_of(&error)),
         }
     }
 
-    /// What its entries give, one after another. Characters stay where they are.
+    /// What the entries of a receipt give, one after another. Characters stay where they are.
     pub fn entries(&self, alloc: Global) -> Result<Vec<Entry<'_>>, JsonError>
-        ensures commands { IfOk result (λ given. Describes self.now (flat_map commands_in given.items)) }
-        ensures refused { (fault : JsonFault) → IsErrOf result (JsonError.Refused fault) → IsJsonFault fault self.now }
+        ensures commands { IfOk result (λ given. (text : List ℕ) → IsValueOf text self.now → Describes text (flat_map commands_in given.items)) }
+        ensures whole { IfOk result (λ given. Whole (flat_map commands_in given.items)) }
+        ensures refused { (fault : JsonFault) → IsErrOf result (JsonError.Refused fault) → (text : List ℕ) → IsValueOf text self.now
+            → IsJsonFault fault text }
     {
-        match self.value.as_array() {
-            Some(entries) => read_entries(alloc, entries.as_slice()),
-            None => Err(JsonError::Refused(JsonFault::BadShape { at: 0 })),
-        }
+        whole_entries(alloc, values_of(&self.value)?)
+    }
+
+    /// The receipt.
+    pub fn receipt(&self, alloc: Global) -> Result<Receipt, JsonError>
+        ensures receipt { IfOk result (λ receipt. (text : List ℕ) → IsValueOf text self.now → Describes text receipt) }
+        ensures whole { IfOk result (λ receipt. Whole receipt) }
+        ensures refused { (fault : JsonFault) → IsErrOf result (JsonError.Refused fault) → (text : List ℕ) → IsValueOf text self.now
+            → IsJsonFault fault text }
+    {
+        receipt_of(alloc, values_of(&self.value)?)
     }
 }
 
@@ -162,30 +176,9 @@ impl Receipt {
         ensures receipt { IfOk result (λ receipt. Describes text.now receipt × Whole receipt) }
         ensures refused { (fault : JsonFault) → IsErrOf result (JsonError.Refused fault) → IsJsonFault fault text.now }
     {
-        let json = match ReceiptText::new(alloc, text) {
-            Ok(json) => json,
-            Err(error) => return Err(error),
-        };
-        let entries = match json.entries(alloc) {
-            Ok(entries) => entries,
-            Err(error) => return Err(error),
-        };
-        Receipt::of_entries(alloc, entries)
-    }
-
-    /// The receipt of the commands that these entries give.
-    pub fn of_entries(alloc: Global, entries: Vec<Entry<'_>>) -> Result<Self, JsonError>
-        ensures receipt { IfOk result (λ receipt. (receipt ≡ flat_map commands_in entries.entry.items) × Whole receipt) }
-        ensures refused { (fault : JsonFault) → IsErrOf result (JsonError.Refused fault) → (text : List ℕ) →
-            Describes text (flat_map commands_in entries.entry.items) → IsJsonFault fault text }
-    {
-        let commands = match commands_of(alloc, entries) {
-            Ok(commands) => commands,
-            Err(AllocError) => return Err(JsonError::Memory),
-        };
-        match Receipt::new(commands) {
-            Ok(receipt) => Ok(receipt),
-            Err((fault, _)) => Err(JsonError::Refused(JsonFault::NotWhole(fault))),
+        match ReceiptText::new(alloc, text) {
+            Ok(json) => json.receipt(alloc),
+            Err(error) => Err(error),
         }
     }
 }
@@ -201,16 +194,86 @@ fn error_of(error: &serde_json::Error) -> JsonError
     }
 }
 
+// The values of an array.
+fn values_of(value: &Value) -> Result<&[Value], JsonError>
+    ensures values { IfOk result (λ values. view value.now ≡ array (items_view values.now)) }
+    ensures refused { IfErr result (λ why. (why ≡ JsonError.Refused (JsonFault.BadShape 0)) × (as_array (view value.now) ≡ None)) }
+{
+    match value.as_array() {
+        Some(values) => Ok(values.as_slice()),
+        None => Err(JsonError::Refused(JsonFault::BadShape { at: 0 })),
+    }
+}
+
+// What the values give as entries, if that is a receipt.
+fn whole_entries(alloc: Global, values: &[Value]) -> Result<Vec<Entry<'_>>, JsonError>
+    ensures commands { IfOk result (λ given. Give (map view values.now) (flat_map commands_in given.items)) }
+    ensures whole { IfOk result (λ given. Whole (flat_map commands_in given.items)) }
+    ensures refused { (fault : JsonFault) → IsErrOf result (JsonError.Refused fault) → IsRefusedArray fault (map view values.now) }
+{
+    match entries_if_whole(alloc, values) {
+        Ok(Some(entries)) => return Ok(entries),
+        Ok(None) => {}
+        Err(error) => return Err(error),
+    }
+    match receipt_of(alloc, values) {
+        Ok(_) => unreachable!(),
+        Err(error) => Err(error),
+    }
+}
+
+// The same; `None` if it is no receipt. Then the entries are dropped before anyone asks why.
+fn entries_if_whole(alloc: Global, values: &[Value]) -> Result<Option<Vec<Entry<'_>>>, JsonError>
+    ensures commands { IfOk result (λ given. IfSome given (λ given. Give (map view values.now) (flat_map commands_in given.items))) }
+    ensures whole { IfOk result (λ given. IfSome given (λ given. Whole (flat_map commands_in given.items))) }
+    ensures none { IfOk result (λ given. given ≡ None → (commands : List Command) × Give (map view values.now) commands × ¬ Whole commands) }
+    ensures refused { (fault : JsonFault) → IsErrOf result (JsonError.Refused fault) → IsRefusedEntry fault (map view values.now) }
+{
+    let entries = read_entries(alloc, values)?;
+    Ok(if are_whole(&entries) {
+        Some(entries)
+    } else {
+        None
+    })
+}
+
+// The receipt of the commands that the values give.
+fn receipt_of(alloc: Global, values: &[Value]) -> Result<Receipt, JsonError>
+    ensures commands { IfOk result (λ receipt. Give (map view values.now) receipt × Whole receipt) }
+    ensures refused { (fault : JsonFault) → IsErrOf result (JsonError.Refused fault) → IsRefusedArray fault (map view values.now) }
+{
+    let commands = match read_commands(alloc, values) {
+        Ok(commands) => commands,
+        Err(error) => return Err(error),
+    };
+    match Receipt::new(commands) {
+        Ok(receipt) => Ok(receipt),
+        Err((fault, _)) => Err(JsonError::Refused(JsonFault::NotWhole(fault))),
+    }
+}
+
+// What the value at this place gives as an entry.
+fn read_at(alloc: Global, at: usize, value: &Value) -> Result<Entry<'_>, JsonError>
+    ensures commands { IfOk result (λ given. meaning (view value.now) ≡ Ok (commands_in given)) }
+    ensures refused { IfErr result (λ error. (why : EntryFault) × (error ≡ error_at at why)
+        × (why ≢ EntryFault.Memory → meaning (view value.now) ≡ Err why)) }
+{
+    match read_entry(alloc, value) {
+        Ok(entry) => Ok(entry),
+        Err(fault) => Err(fault.at(at)),
+    }
+}
+
 // The entries, one after another.
-fn read_entries(alloc: Global, entries: &[Value]) -> Result<Vec<Entry<'_>>, JsonError>
-    ensures commands { IfOk result (λ given. Give (map view entries.now) (flat_map commands_in given.items)) }
-    ensures refused { (fault : JsonFault) → IsErrOf result (JsonError.Refused fault) → IsRefusedEntry fault (map view entries.now) }
+fn read_entries(alloc: Global, values: &[Value]) -> Result<Vec<Entry<'_>>, JsonError>
+    ensures commands { IfOk result (λ given. Give (map view values.now) (flat_map commands_in given.items)) }
+    ensures refused { (fault : JsonFault) → IsErrOf result (JsonError.Refused fault) → IsRefusedEntry fault (map view values.now) }
 {
     let mut given = Vec::new(alloc);
-    for (at, entry) in entries.iter().enumerate() {
-        let entry = match read_entry(alloc, entry) {
+    for (at, value) in values.iter().enumerate() {
+        let entry = match read_at(alloc, at, value) {
             Ok(entry) => entry,
-            Err(fault) => return Err(fault.at(at)),
+            Err(error) => return Err(error),
         };
         match given.push(entry) {
             Ok(()) => {}
@@ -220,15 +283,23 @@ fn read_entries(alloc: Global, entries: &[Value]) -> Result<Vec<Entry<'_>>, Json
     Ok(given)
 }
 
-// The commands of entries, one after another.
-fn commands_of(alloc: Global, entries: Vec<Entry<'_>>) -> Result<Vec<Command>, AllocError>
-    ensures { IfOk result (λ commands. commands.items ≡ flat_map commands_in entries.entry.items) }
+// The commands of the entries, one after another. The entries aren't listed.
+fn read_commands(alloc: Global, values: &[Value]) -> Result<Vec<Command>, JsonError>
+    ensures commands { IfOk result (λ given. Give (map view values.now) given.items) }
+    ensures refused { (fault : JsonFault) → IsErrOf result (JsonError.Refused fault) → IsRefusedEntry fault (map view values.now) }
 {
-    let mut commands = Vec::new(alloc);
-    for entry in entries {
-        add_commands(&mut commands, entry)?;
+    let mut given = Vec::new(alloc);
+    for (at, value) in values.iter().enumerate() {
+        let entry = match read_at(alloc, at, value) {
+            Ok(entry) => entry,
+            Err(error) => return Err(error),
+        };
+        match add_commands(&mut given, entry) {
+            Ok(()) => {}
+            Err(_) => return Err(JsonError::Memory),
+        }
     }
-    Ok(commands)
+    Ok(given)
 }
 
 // Adds the commands of an entry.

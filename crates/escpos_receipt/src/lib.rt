@@ -19,7 +19,6 @@ mod member;
 mod plain_text;
 mod receipt;
 
-pub use entries::are_whole;
 pub use entry::Entry;
 pub use json::{JsonError, JsonFault, ReceiptText};
 pub use plain_text::PlainText;

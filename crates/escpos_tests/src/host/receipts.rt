@@ -4,7 +4,7 @@ use crate::support::reasons::faults;
 use crate::support::texts::is_shown_as;
 use escpos_command::Command;
 use escpos_host::{JsonError, JsonFault, Receipt, ReceiptFault};
-use escpos_receipt::{ReceiptText, are_whole};
+use escpos_receipt::ReceiptText;
 use std::alloc::Global;
 use std::process::Abort;
 
@@ -47,9 +47,8 @@ const WHOLE: [(&[u8], bool); 12] = [
 fn entries_are_whole(rt: HostRuntime) {
     for (text, whole) in &WHOLE {
         let json = ReceiptText::new(rt.alloc(), *text).expect(&rt, "JSON");
-        let entries = json.entries(rt.alloc()).expect(&rt, "entries");
-        assert!(rt; are_whole(&entries) == *whole, "{}", entries.len());
-        assert!(rt; Receipt::of_entries(rt.alloc(), entries).is_ok() == *whole);
+        assert!(rt; json.entries(rt.alloc()).is_ok() == *whole);
+        assert!(rt; json.receipt(rt.alloc()).is_ok() == *whole);
     }
 }
 

@@ -1,13 +1,13 @@
-//! A receipt that is read in parts, its text, its entries and its commands, where memory is refused.
+//! A receipt that is read in parts, its text and then its entries or its commands, where memory is refused.
 
 use crate::support::jobs::EVERY_MEMBER;
 use escpos_host::{JsonError, Receipt};
-use escpos_receipt::{Entry, ReceiptText, are_whole};
+use escpos_receipt::{Entry, ReceiptText};
 use std::alloc::Global;
 use std::process::Abort;
 
 // The text as JSON. Where memory is refused, it is read again.
-fn text_at_last<'a>(rt: &impl Abort, alloc: Global, text: &'a [u8]) -> ReceiptText<'a> {
+fn text_at_last(rt: &impl Abort, alloc: Global, text: &[u8]) -> ReceiptText {
     match ReceiptText::new(alloc, text) {
         Ok(json) => json,
         Err(error) => {
@@ -18,11 +18,7 @@ fn text_at_last<'a>(rt: &impl Abort, alloc: Global, text: &'a [u8]) -> ReceiptTe
 }
 
 // The entries of a text. Where memory is refused, they are listed again.
-fn entries_at_last<'a>(
-    rt: &impl Abort,
-    alloc: Global,
-    json: &'a ReceiptText<'_>,
-) -> Vec<Entry<'a>> {
+fn entries_at_last<'a>(rt: &impl Abort, alloc: Global, json: &'a ReceiptText) -> Vec<Entry<'a>> {
     match json.entries(alloc) {
         Ok(entries) => entries,
         Err(error) => {
@@ -32,14 +28,13 @@ fn entries_at_last<'a>(
     }
 }
 
-// The receipt of the text's entries. Where memory is refused, they are listed again.
-fn receipt_of_entries(rt: &impl Abort, alloc: Global, json: &ReceiptText<'_>) -> Receipt {
-    match Receipt::of_entries(alloc, entries_at_last(rt, alloc, json)) {
+// The receipt of a text. Where memory is refused, its commands are listed again.
+fn receipt_at_last(rt: &impl Abort, alloc: Global, json: &ReceiptText) -> Receipt {
+    match json.receipt(alloc) {
         Ok(receipt) => receipt,
         Err(error) => {
             assert!(rt; error == JsonError::Memory);
-            let entries = json.entries(alloc).expect(rt, "entries");
-            Receipt::of_entries(alloc, entries).expect(rt, "a receipt")
+            json.receipt(alloc).expect(rt, "a receipt")
         }
     }
 }
@@ -47,6 +42,6 @@ fn receipt_of_entries(rt: &impl Abort, alloc: Global, json: &ReceiptText<'_>) ->
 #[test]
 fn entries_refused(rt: HostRuntime) {
     let json = text_at_last(&rt, rt.alloc(), EVERY_MEMBER);
-    assert!(rt; are_whole(&entries_at_last(&rt, rt.alloc(), &json)));
-    assert!(rt; receipt_of_entries(&rt, rt.alloc(), &json).commands().len() == 35);
+    assert!(rt; entries_at_last(&rt, rt.alloc(), &json).len() == 21);
+    assert!(rt; receipt_at_last(&rt, rt.alloc(), &json).commands().len() == 35);
 }

@@ -5,21 +5,23 @@ use Rattle.serde_json.specs.View.{view}
 use Rattle.escpos_receipt.specs.declared.json.JsonError.TheVariants.{Refused}
 use Rattle.escpos_receipt.specs.Describes.{Give}
 use Rattle.escpos_receipt.specs.EntryCommands.{commands_in}
+use Rattle.escpos_receipt.specs.EntryErrors.{error_at}
 use Rattle.escpos_receipt.proofs.MoreEntries.{one_more_entry, one_more_value, refused_at}
 use Rattle.escpos_receipt.proofs.json.read_entries.Goals as goal
 
 pub returns-in-Err-clause-refused : goal.returns-in-Err-clause-refused
 returns-in-Err-clause-refused c = λ because e.
-    let same : c.at.result ≡ Refused because = cc in
-    refused_at c.args.entries.now c.loop-at.at c.index-entries-at.result (flat_map commands_in c.loop-at.given.items) c.in-Err.fault because c.loop-at-test.true c.index-entries-at.is
-    c.loop-at.invariant.so_far c.in-Err.ensures.refused (sym c.at.ensures ∙ same)
+    let (why, is, cause) = c.in-Err.ensures.refused in
+    let same : error_at c.loop-at.at why ≡ Refused because = sym is ∙ cc in
+    refused_at c.args.values.now c.loop-at.at c.index-values-at.result (flat_map commands_in c.loop-at.given.items) why because c.loop-at-test.true c.index-values-at.is
+    c.loop-at.invariant.so_far cause same
 
 pub loop-at-preserved : goal.loop-at-preserved
 loop-at-preserved c =
-    let vs = c.args.entries.now in
+    let vs = c.args.values.now in
     let given = c.loop-at.given.items in
     record {
       so_far = subst (λ cs. Give (map view (take (c.loop-at.at + 1) vs)) cs) (sym (ap (flat_map commands_in) c.in-Ok-push.ensures.items ∙ one_more_entry given c.in-Ok.entry))
-          (one_more_value vs c.loop-at.at c.index-entries-at.result (flat_map commands_in given) (commands_in c.in-Ok.entry) c.loop-at-test.true c.index-entries-at.is c.loop-at.invariant.so_far
+          (one_more_value vs c.loop-at.at c.index-values-at.result (flat_map commands_in given) (commands_in c.in-Ok.entry) c.loop-at-test.true c.index-values-at.is c.loop-at.invariant.so_far
           c.in-Ok.ensures.commands);
     }

@@ -7,4 +7,4 @@ use Rattle.escpos_receipt.specs.EntryCommands.{commands_in}
 use Rattle.escpos_receipt.proofs.json.read_entries.Given as goal
 
 abbrev pub invariant-loop-at : goal.invariant-loop-at
-invariant-loop-at l = record { so_far : Give (map view (take l.at l.entries)) (flat_map commands_in l.given.items) }
+invariant-loop-at l = record { so_far : Give (map view (take l.at l.values)) (flat_map commands_in l.given.items) }

@@ -1,15 +1,11 @@
--- The text is an array, and why its entries give no commands is why it is refused.
-use Rattle.std.proofs.Common.{Some, ◌∙◌, ap, subst}
-use Rattle.serde_json.specs.View.{view, items_view}
-use Rattle.escpos_receipt.specs.Describes.{IsJsonFault}
-use Rattle.escpos_receipt.proofs.MoreEntries.{of_entries}
-use Rattle.escpos_receipt.proofs.ValueViews.{array_of}
+-- Why the array gives no receipt is why the text is refused.
+use Rattle.std.proofs.Common.{sym, subst}
+use Rattle.serde_json.specs.View.{view}
+use Rattle.escpos_receipt.specs.Describes.{IsJson}
+use Rattle.escpos_receipt.proofs.MoreEntries.{of_array}
 use Rattle.escpos_receipt.proofs.json.ReceiptText.entries.Goals as goal
 
-pub returns-in-Some-clause-refused : goal.returns-in-Some-clause-refused
-returns-in-Some-clause-refused c = λ because e.
-    let vs = c.as_slice.result.now in
-    let value = view c.self.inside.value in
-    subst (IsJsonFault because) c.self.view_is
-    (of_entries because c.self.inside.text.now value vs c.self.invariant
-    (array_of value (items_view vs) (ap (λ xs. Some (items_view xs)) c.as_slice.ensures.value ∙ c.in-Some.ensures)) (c.read_entries.ensures.refused because e))
+pub returns-clause-refused : goal.returns-clause-refused
+returns-clause-refused c = λ because e text json.
+    of_array because text (view c.self.inside.value) c.in_ok-values_of.field-0.now (subst (λ v. IsJson text (view v)) (sym c.self.view_is) json)
+    c.in_ok-values_of.ensures.values (c.whole_entries.ensures.refused because e)
