@@ -21,5 +21,5 @@ pub use ledger::Ledger;
 pub use memory_store::{Failure, MemoryStore};
 pub use number::ReceiptNumber;
 pub use state::ReceiptState;
-pub use store::{Store, StoreFault};
+pub use store::{NoStore, Store, StoreFault};
 pub use waiting::WaitingReceipt;

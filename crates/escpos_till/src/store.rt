@@ -22,6 +22,19 @@ pub enum StoreFault {
     Failed,
 }
 
+/// Why there is no store.
+#[derive(Clone, Copy, Debug, PartialEq, Eq)]
+pub enum NoStore {
+    /// Another process has it open.
+    InUse,
+    /// What is there isn't a ledger's, or it is damaged. It is as it was.
+    NoLedger,
+    /// A write, a sync or a read failed.
+    Failed,
+    /// Out of memory.
+    Memory,
+}
+
 /// A list of entries that outlives the program.
 pub trait Store {
     // The premise: what the store had at first was a list of entries, and since then it has done what it was asked to.

@@ -1,0 +1,151 @@
+//! `ledger`: where each receipt of a ledger stands, and the next mark number.
+
+ghost use Rattle.std.specs.Prelude.{◌≡◌, ◌≢◌, ◌+◌, ◌^◌, ◌<◌, ◌≤◌, ◌++◌, [], ◌∷◌, length, decimal, IsTrue};
+ghost use Rattle.escpos_io.specs.Giving.{IsGiven};
+ghost use Rattle.escpos_io.specs.Putting.{passage};
+ghost use Rattle.escpos_jobs.specs.Ending.{PrintsText, job_end};
+ghost use Rattle.escpos_till_jobs.specs.Lines.{next_line, state_line, state_lines, state_text};
+ghost use Rattle.escpos_till_jobs.specs.Words.{Lists, RaisesAndLists};
+
+use crate::refusal::refuse_call;
+use escpos_command::LF;
+use escpos_io::{ByteOut, Device, GATHERED_BYTES, Gather, append_number, laws};
+use escpos_jobs::status::Status;
+use escpos_till::{Ledger, LedgerError, ReceiptState, Store};
+
+// More bytes than a line has.
+const LINE_BYTES: usize = 64;
+
+const _: () = prove!(LINE_BYTES == 64);
+
+/// Raises the next mark number to `first`, if one is given; then lists where each receipt stands, in the order of their
+/// numbers, and `next M`, the next mark number.
+///
+/// The status is `Good`, or `Refused` with `refused MarkReused M` alone if `first` is lower than the next number, or `Device`
+/// with `ledger failed` if the store fails or has failed, or `Memory`. `Device` also comes where `output` has failed.
+pub fn list<S: Store, W: ByteOut>(
+    ledger: &mut Ledger<S>,
+    first: Option<u32>,
+    output: &mut W,
+) -> Status
+    ensures lists { RaisesAndLists ledger.old first ledger.new (job_end (W.written output.old) (W.written output.new) (W.failed output.new) result) }
+    ensures was_faithful { S.faithful ledger.new.store → S.faithful ledger.old.store }
+    ensures not_hidden { result ≢ Status.Device → ¬ IsTrue (W.failed output.old) → ¬ IsTrue (W.failed output.new) }
+    ensures never_usage { result ≢ Status.Usage }
+{
+    if let Some(first) = first {
+        if let Err(why) = ledger.raise(first) {
+            return refuse_call(why, output);
+        }
+    }
+    list_states(ledger, output)
+}
+
+// Lists where each receipt stands, and the next mark number.
+fn list_states<S: Store, W: ByteOut>(ledger: &Ledger<S>, output: &mut W) -> Status
+    ensures lists { Lists ledger.now (job_end (W.written output.old) (W.written output.new) (W.failed output.new) result) }
+    ensures not_hidden { result ≢ Status.Device → ¬ IsTrue (W.failed output.old) → ¬ IsTrue (W.failed output.new) }
+    ensures never_usage { result ≢ Status.Usage }
+{
+    match (ledger.states(), ledger.next_mark()) {
+        (Ok(states), Ok(next)) => print_states(states, next, output),
+        _ => refuse_call(LedgerError::Failed, output),
+    }
+}
+
+// Prints a line for each receipt, and the next mark number.
+fn print_states<W: ByteOut>(states: &[ReceiptState], next: u32, output: &mut W) -> Status
+    ensures says { PrintsText (job_end (W.written output.old) (W.written output.new) (W.failed output.new) result)
+        (state_lines 1 states.now ++ next_line next) Status.Good }
+    ensures not_hidden { result ≢ Status.Device → ¬ IsTrue (W.failed output.old) → ¬ IsTrue (W.failed output.new) }
+    ensures never_usage { result ≢ Status.Usage }
+{
+    let mut gather = Gather::new();
+    if put_states(&mut gather, states, output).is_err() {
+        return Status::Device;
+    }
+    if put_next(&mut gather, next, output).is_err() {
+        return Status::Device;
+    }
+    match gather.flush(output) {
+        Ok(()) => Status::Good,
+        Err(_) => Status::Device,
+    }
+}
+
+// Gives the line of the next mark number.
+fn put_next<W: ByteOut>(gather: &mut Gather, next: u32, output: &mut W) -> Result<(), Device>
+    ensures { IsGiven result (passage (W.written output.old) (W.written output.new) (W.failed output.old) (W.failed output.new))
+        gather.old gather.new (next_line next) }
+{
+    // Proof only: appended bytes count as given.
+    laws::given_in_place();
+    gather.room(LINE_BYTES, output)?;
+    gather.extend(b"next ");
+    append_number(gather, next as usize);
+    gather.push(LF);
+    Ok(())
+}
+
+// Gives a line for each receipt, in order.
+fn put_states<W: ByteOut>(
+    gather: &mut Gather,
+    states: &[ReceiptState],
+    output: &mut W,
+) -> Result<(), Device>
+    ensures { IsGiven result (passage (W.written output.old) (W.written output.new) (W.failed output.old) (W.failed output.new))
+        gather.old gather.new (state_lines 1 states.now) }
+{
+    // Proof only: appended bytes count as given.
+    laws::given_in_place();
+    let mut place = 0;
+    for state in states {
+        put_state(gather, place, state, output)?;
+        place += 1;
+    }
+    Ok(())
+}
+
+// Gives the line of the receipt at this place, counted from 0.
+fn put_state<W: ByteOut>(
+    gather: &mut Gather,
+    place: usize,
+    state: &ReceiptState,
+    output: &mut W,
+) -> Result<(), Device>
+    requires { place + 1 < 2 ^ 64 }
+    ensures { IsGiven result (passage (W.written output.old) (W.written output.new) (W.failed output.old) (W.failed output.new))
+        gather.old gather.new (state_line (place + 1) state.now) }
+{
+    // Proof only: appended bytes count as given.
+    laws::given_in_place();
+    gather.room(LINE_BYTES, output)?;
+    append_number(gather, place + 1);
+    append_state(gather, *state);
+    Ok(())
+}
+
+// Appends where a receipt stands, and the end of the line.
+fn append_state(gather: &mut Gather, state: ReceiptState)
+    requires { length gather.old.kept + 31 ≤ GATHERED_BYTES }
+    ensures kept { gather.new.kept ≡ gather.old.kept ++ state_text state }
+    ensures same_count { gather.new.written ≡ gather.old.written }
+{
+    match state {
+        ReceiptState::Waiting { tried } if tried == 0 => gather.extend(b" waiting\n"),
+        ReceiptState::Waiting { tried } => append_with_number(gather, b" tried ", tried),
+        ReceiptState::Recorded { place } => append_with_number(gather, b" recorded ", place),
+    }
+}
+
+// Appends a word, a number and the end of the line.
+fn append_with_number(gather: &mut Gather, word: &[u8], number: usize)
+    requires short { length word.now ≤ 10 }
+    requires room { length gather.old.kept + 31 ≤ GATHERED_BYTES }
+    ensures kept { gather.new.kept ≡ gather.old.kept ++ word.now ++ decimal number ++ LF ∷ [] }
+    ensures same_count { gather.new.written ≡ gather.old.written }
+{
+    gather.extend(word);
+    append_number(gather, number);
+    gather.push(LF);
+}

@@ -1,0 +1,47 @@
+//! Opening a ledger, and what is printed if there is none.
+
+ghost use Rattle.std.specs.Prelude.{◌≡◌, ◌≢◌, Err, List, IfErr, IfOk, IsTrue};
+ghost use Rattle.escpos_jobs.specs.Ending.{PrintsText, job_end};
+ghost use Rattle.escpos_till.specs.declared.entry.Entry.{Entry};
+ghost use Rattle.escpos_till.specs.Entries.{IsLedger};
+ghost use Rattle.escpos_till.specs.Ledger.{IsLive};
+ghost use Rattle.escpos_till_jobs.specs.Lines.{no_store_line, no_store_status};
+
+use crate::refusal::LEDGER_FAILED;
+use escpos_io::ByteOut;
+use escpos_jobs::ending::{MEMORY, say};
+use escpos_jobs::status::Status;
+use escpos_till::{Ledger, NoStore, OpenError, Store, StoreFault};
+use std::alloc::Global;
+
+/// The ledger of a store; an empty store has a new ledger.
+///
+/// If there is no store, the error says why; it is `NoLedger` if what the store has is no ledger, `Failed` if the store
+/// failed, and `Memory` if an allocation failed. What the store has stays as it was.
+pub fn open_ledger<S: Store + Drop>(alloc: Global, store: S) -> Result<Ledger<S>, NoStore>
+    ensures live { IfOk result (λ ledger. IsLive ledger) }
+    ensures found { IfOk result (λ ledger. S.faithful ledger.store → S.faithful store × S.holds store ledger.entries) }
+    ensures never_in_use { IfErr result (λ why. why ≢ NoStore.InUse) }
+{
+    match Ledger::open(alloc, store) {
+        Ok(ledger) => Ok(ledger),
+        Err((OpenError::Damaged, _)) => Err(NoStore::NoLedger),
+        Err((OpenError::Store(StoreFault::Failed), _)) => Err(NoStore::Failed),
+        Err((OpenError::Store(StoreFault::Memory) | OpenError::Memory, _)) => Err(NoStore::Memory),
+    }
+}
+
+/// Prints the line that says why there is no ledger: `ledger in use`, `no ledger` or `ledger failed`, with `Device`, or
+/// `memory`, with `Memory`.
+pub fn refuse_store<W: ByteOut>(why: NoStore, output: &mut W) -> Status
+    ensures says { PrintsText (job_end (W.written output.old) (W.written output.new) (W.failed output.new) result) (no_store_line why) (no_store_status why) }
+    ensures not_hidden { result ≢ Status.Device → ¬ IsTrue (W.failed output.old) → ¬ IsTrue (W.failed output.new) }
+    ensures never_usage { result ≢ Status.Usage }
+{
+    match why {
+        NoStore::InUse => say(b"ledger in use\n", output, Status::Device),
+        NoStore::NoLedger => say(b"no ledger\n", output, Status::Device),
+        NoStore::Failed => say(LEDGER_FAILED, output, Status::Device),
+        NoStore::Memory => say(MEMORY, output, Status::Memory),
+    }
+}

@@ -1,0 +1,52 @@
+//! The line for a call that a ledger refused.
+
+ghost use Rattle.std.specs.Prelude.{◌≡◌, ◌≢◌, ◌+◌, ◌≤◌, ◌++◌, length, IsTrue};
+ghost use Rattle.escpos_jobs.specs.Ending.{job_end};
+ghost use Rattle.escpos_jobs.specs.Ending.{PrintsText};
+ghost use Rattle.escpos_till_jobs.specs.Lines.{failed_line};
+ghost use Rattle.escpos_till_jobs.specs.Words.{TellsRefusal};
+
+use escpos_command::LF;
+use escpos_io::{ByteOut, Gather, append_number, laws};
+use escpos_jobs::ending::{MEMORY, say};
+use escpos_jobs::receipt_input::refuse_text;
+use escpos_jobs::status::Status;
+use escpos_receipt::JsonError;
+use escpos_till::{LedgerError, StoreFault};
+
+/// What is printed where the store of a ledger failed.
+pub const LEDGER_FAILED: &[u8] = b"ledger failed\n";
+
+/// Prints the line that says why a ledger refused a call: `ledger failed`, with `Device`; that of a text that gives no
+/// receipt, or `refused MarkReused M`, with `Refused`; or `memory`, with `Memory`.
+pub fn refuse_call<W: ByteOut>(why: LedgerError, output: &mut W) -> Status
+    ensures tells { TellsRefusal (job_end (W.written output.old) (W.written output.new) (W.failed output.new) result) why }
+    ensures not_hidden { result ≢ Status.Device → ¬ IsTrue (W.failed output.old) → ¬ IsTrue (W.failed output.new) }
+    ensures never_usage { result ≢ Status.Usage }
+{
+    match why {
+        LedgerError::NotReceipt(fault) => refuse_text(JsonError::Refused(fault), output),
+        LedgerError::MarkReused { next } => refuse_number(next, output),
+        LedgerError::Memory | LedgerError::Store(StoreFault::Memory) => {
+            say(MEMORY, output, Status::Memory)
+        }
+        _ => say(LEDGER_FAILED, output, Status::Device),
+    }
+}
+
+// Prints that a mark number is lower than the next one, which is this.
+fn refuse_number<W: ByteOut>(next: u32, output: &mut W) -> Status
+    ensures tells { TellsRefusal (job_end (W.written output.old) (W.written output.new) (W.failed output.new) result) (LedgerError.MarkReused next) }
+    ensures not_hidden { result ≢ Status.Device → ¬ IsTrue (W.failed output.old) → ¬ IsTrue (W.failed output.new) }
+{
+    // Proof only: appended bytes count as given.
+    laws::given_in_place();
+    let mut gather = Gather::new();
+    gather.extend(b"refused MarkReused ");
+    append_number(&mut gather, next as usize);
+    gather.push(LF);
+    match gather.flush(output) {
+        Ok(()) => Status::Refused,
+        Err(_) => Status::Device,
+    }
+}
