@@ -1,1 +1,2 @@
 pub mod StateLines
+pub mod Rounds

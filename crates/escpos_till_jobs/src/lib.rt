@@ -5,11 +5,13 @@
 //! does is left to escpos_till, and its file to the program.
 #![tactic(auto)]
 
+mod deliver;
 mod listing;
 mod opening;
 mod queue;
 mod refusal;
 
+pub use deliver::{Delivery, deliver_waiting};
 pub use listing::list;
 pub use opening::{open_ledger, refuse_store};
 pub use queue::{queue_receipt, read_receipt_text};

@@ -3,7 +3,7 @@
 ghost use Rattle.std.specs.Prelude.{◌≡◌, ◌≢◌, ◌+◌, ◌^◌, ◌<◌, ◌≤◌, ◌++◌, [], ◌∷◌, length, decimal, IsTrue};
 ghost use Rattle.escpos_io.specs.Giving.{IsGiven};
 ghost use Rattle.escpos_io.specs.Putting.{passage};
-ghost use Rattle.escpos_jobs.specs.Ending.{PrintsText, job_end};
+ghost use Rattle.escpos_jobs.specs.Ending.{Tells, job_end};
 ghost use Rattle.escpos_till_jobs.specs.Lines.{next_line, state_line, state_lines, state_text};
 ghost use Rattle.escpos_till_jobs.specs.Words.{Lists, RaisesAndLists};
 
@@ -55,7 +55,7 @@ fn list_states<S: Store, W: ByteOut>(ledger: &Ledger<S>, output: &mut W) -> Stat
 
 // Prints a line for each receipt, and the next mark number.
 fn print_states<W: ByteOut>(states: &[ReceiptState], next: u32, output: &mut W) -> Status
-    ensures says { PrintsText (job_end (W.written output.old) (W.written output.new) (W.failed output.new) result)
+    ensures tells { Tells (job_end (W.written output.old) (W.written output.new) (W.failed output.new) result)
         (state_lines 1 states.now ++ next_line next) Status.Good }
     ensures not_hidden { result ≢ Status.Device → ¬ IsTrue (W.failed output.old) → ¬ IsTrue (W.failed output.new) }
     ensures never_usage { result ≢ Status.Usage }

@@ -1,15 +1,15 @@
 //! Opening a ledger, and what is printed if there is none.
 
 ghost use Rattle.std.specs.Prelude.{◌≡◌, ◌≢◌, Err, List, IfErr, IfOk, IsTrue};
-ghost use Rattle.escpos_jobs.specs.Ending.{PrintsText, job_end};
+ghost use Rattle.escpos_jobs.specs.Ending.{Tells, job_end};
 ghost use Rattle.escpos_till.specs.declared.entry.Entry.{Entry};
 ghost use Rattle.escpos_till.specs.Entries.{IsLedger};
 ghost use Rattle.escpos_till.specs.Ledger.{IsLive};
 ghost use Rattle.escpos_till_jobs.specs.Lines.{no_store_line, no_store_status};
 
-use crate::refusal::LEDGER_FAILED;
+use crate::refusal::{LEDGER_FAILED, tell_text};
 use escpos_io::ByteOut;
-use escpos_jobs::ending::{MEMORY, say};
+use escpos_jobs::ending::MEMORY;
 use escpos_jobs::status::Status;
 use escpos_till::{Ledger, NoStore, OpenError, Store, StoreFault};
 use std::alloc::Global;
@@ -34,14 +34,14 @@ pub fn open_ledger<S: Store + Drop>(alloc: Global, store: S) -> Result<Ledger<S>
 /// Prints the line that says why there is no ledger: `ledger in use`, `no ledger` or `ledger failed`, with `Device`, or
 /// `memory`, with `Memory`.
 pub fn refuse_store<W: ByteOut>(why: NoStore, output: &mut W) -> Status
-    ensures says { PrintsText (job_end (W.written output.old) (W.written output.new) (W.failed output.new) result) (no_store_line why) (no_store_status why) }
+    ensures tells { Tells (job_end (W.written output.old) (W.written output.new) (W.failed output.new) result) (no_store_line why) (no_store_status why) }
     ensures not_hidden { result ≢ Status.Device → ¬ IsTrue (W.failed output.old) → ¬ IsTrue (W.failed output.new) }
     ensures never_usage { result ≢ Status.Usage }
 {
     match why {
-        NoStore::InUse => say(b"ledger in use\n", output, Status::Device),
-        NoStore::NoLedger => say(b"no ledger\n", output, Status::Device),
-        NoStore::Failed => say(LEDGER_FAILED, output, Status::Device),
-        NoStore::Memory => say(MEMORY, output, Status::Memory),
+        NoStore::InUse => tell_text(b"ledger in use\n", output, Status::Device),
+        NoStore::NoLedger => tell_text(b"no ledger\n", output, Status::Device),
+        NoStore::Failed => tell_text(LEDGER_FAILED, output, Status::Device),
+        NoStore::Memory => tell_text(MEMORY, output, Status::Memory),
     }
 }

@@ -5,7 +5,7 @@ ghost use Rattle.escpos_command.specs.declared.command.Command.{Command};
 ghost use Rattle.escpos_jobs.specs.declared.input.TheConstants.{INPUT_LIMIT};
 ghost use Rattle.escpos_jobs.specs.declared.input.InputFault.{InputFault};
 ghost use Rattle.escpos_jobs.specs.declared.receipt_input.NoReceipt.{NoReceipt};
-ghost use Rattle.escpos_jobs.specs.Ending.{PrintsText, job_end};
+ghost use Rattle.escpos_jobs.specs.Ending.{Tells, job_end};
 ghost use Rattle.escpos_receipt.specs.declared.json.JsonError.{JsonError};
 ghost use Rattle.escpos_receipt.specs.declared.json.JsonFault.{JsonFault};
 ghost use Rattle.escpos_receipt.specs.Describes.{Describes, IsJsonFault};
@@ -62,7 +62,7 @@ pub fn queue_receipt<S: Store, W: ByteOut>(
 
 // Prints the number of a receipt that was taken.
 fn tell_queued<W: ByteOut>(number: ReceiptNumber, output: &mut W) -> Status
-    ensures says { PrintsText (job_end (W.written output.old) (W.written output.new) (W.failed output.new) result) (queued_line number) Status.Good }
+    ensures tells { Tells (job_end (W.written output.old) (W.written output.new) (W.failed output.new) result) (queued_line number) Status.Good }
     ensures not_hidden { result ≢ Status.Device → ¬ IsTrue (W.failed output.old) → ¬ IsTrue (W.failed output.new) }
     ensures never_usage { result ≢ Status.Usage }
 {

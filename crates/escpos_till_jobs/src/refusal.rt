@@ -1,14 +1,12 @@
 //! The line for a call that a ledger refused.
 
 ghost use Rattle.std.specs.Prelude.{◌≡◌, ◌≢◌, ◌+◌, ◌≤◌, ◌++◌, length, IsTrue};
-ghost use Rattle.escpos_jobs.specs.Ending.{job_end};
-ghost use Rattle.escpos_jobs.specs.Ending.{PrintsText};
-ghost use Rattle.escpos_till_jobs.specs.Lines.{failed_line};
+ghost use Rattle.escpos_jobs.specs.Ending.{Tells, job_end};
 ghost use Rattle.escpos_till_jobs.specs.Words.{TellsRefusal};
 
 use escpos_command::LF;
-use escpos_io::{ByteOut, Gather, append_number, laws};
-use escpos_jobs::ending::{MEMORY, say};
+use escpos_io::{ByteOut, Gather, append_number, laws, put_all};
+use escpos_jobs::ending::MEMORY;
 use escpos_jobs::receipt_input::refuse_text;
 use escpos_jobs::status::Status;
 use escpos_receipt::JsonError;
@@ -16,6 +14,18 @@ use escpos_till::{LedgerError, StoreFault};
 
 /// What is printed where the store of a ledger failed.
 pub const LEDGER_FAILED: &[u8] = b"ledger failed\n";
+
+/// Prints a text. Returns the status that is given, or `Device` if `output` has failed.
+pub fn tell_text<W: ByteOut>(text: &[u8], output: &mut W, status: Status) -> Status
+    ensures tells { Tells (job_end (W.written output.old) (W.written output.new) (W.failed output.new) result) text.now status }
+    ensures not_hidden { result ≢ Status.Device → ¬ IsTrue (W.failed output.old) → ¬ IsTrue (W.failed output.new) }
+    ensures never_usage { status ≢ Status.Usage → result ≢ Status.Usage }
+{
+    match put_all(text, output) {
+        Ok(()) => status,
+        Err(_) => Status::Device,
+    }
+}
 
 /// Prints the line that says why a ledger refused a call: `ledger failed`, with `Device`; that of a text that gives no
 /// receipt, or `refused MarkReused M`, with `Refused`; or `memory`, with `Memory`.
@@ -28,9 +38,9 @@ pub fn refuse_call<W: ByteOut>(why: LedgerError, output: &mut W) -> Status
         LedgerError::NotReceipt(fault) => refuse_text(JsonError::Refused(fault), output),
         LedgerError::MarkReused { next } => refuse_number(next, output),
         LedgerError::Memory | LedgerError::Store(StoreFault::Memory) => {
-            say(MEMORY, output, Status::Memory)
+            tell_text(MEMORY, output, Status::Memory)
         }
-        _ => say(LEDGER_FAILED, output, Status::Device),
+        _ => tell_text(LEDGER_FAILED, output, Status::Device),
     }
 }
 

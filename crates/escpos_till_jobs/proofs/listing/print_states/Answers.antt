@@ -3,9 +3,9 @@ use Rattle.std.proofs.Common.{inl, refl, [], subst, append_assoc}
 use Rattle.escpos_jobs.proofs.Reports.{succeeded}
 use Rattle.escpos_till_jobs.proofs.listing.print_states.Goals as goal
 
-pub returns-in-Ok-clause-says : goal.returns-in-Ok-clause-says
-returns-in-Ok-clause-says g c =
+pub returns-in-Ok-clause-tells : goal.returns-in-Ok-clause-tells
+returns-in-Ok-clause-tells g c =
     let first = g.W.ByteOut.written c.args.output.now in
     let lines = succeeded c.put_states.result c.if-is_err.ensures.value c.put_states.ensures.ok first [] (c.new-gather.ensures.carries first) in
     let all = succeeded c.put_next.result c.if-is_err-2.ensures.value c.put_next.ensures.ok first _ lines in
-    record { ends = inl refl; out = λ well. c.in-Ok.ensures.ok first _ all }
+    inl (refl, c.in-Ok.ensures.ok first _ all)

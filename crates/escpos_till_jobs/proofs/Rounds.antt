@@ -1,0 +1,179 @@
+-- One more receipt is recorded: the entries, and what was printed of them.
+use Rattle.std.proofs.Common.{◌≡◌, ◌≢◌, ℕ, ◌+◌, ◌<◌, ◌≤◌, Bool, true, false, cond, List, [], ◌∷◌, ◌++◌, length, filter, Option, Some, None, Result, Ok, Err, OnOk, inl, inr, refl, sym, ◌∙◌, ap, subst, append-nil, append_assoc, arith}
+use Rattle.std.proofs.lemmas.Bool.Decides.{nat_tests}
+use Rattle.std.proofs.lemmas.Grind.{flat_map-append}
+use Rattle.std.proofs.KnownBytes.{Appends-trans}
+use Rattle.std.proofs.lemmas.List.Elements.{filter_map-append}
+use Rattle.std.specs.Prelude.{◌==◌, IsTrue, MatchOption, flat_map, is_none, slice_get}
+use Rattle.std.specs.List.{filter_map, position_from}
+use Rattle.std.specs.Io.KnownBytes.{Appends}
+use Rattle.escpos_host.specs.declared.send.Sent.{Sent}
+use Rattle.escpos_host.specs.declared.send.Sent.TheVariants as became
+use Rattle.escpos_jobs.specs.declared.status.Status.{Status}
+use Rattle.escpos_jobs.specs.Ending.{JobEnd, Tells, job_end}
+use Rattle.escpos_till.specs.declared.deliver.Delivered.TheVariants as delivered
+use Rattle.escpos_till.specs.declared.entry.Entry.{Entry}
+use Rattle.escpos_till.specs.declared.entry.Entry.TheVariants as entry
+use Rattle.escpos_till.specs.Delivers.{Concludes, Delivers, Link, Tries}
+use Rattle.escpos_till.specs.Entries.{Taken, content_of, contents, numbered_from, record_of, recorded, taken, waiting}
+use Rattle.escpos_till.specs.Ledger.{Adds, FirstWaits, LedgerView}
+use Rattle.escpos_till_jobs.specs.Delivering.{DeliversAndTells, Ends, IsDelivered, IsFirst, RoundEnds}
+use Rattle.escpos_till_jobs.specs.Lines.{recorded_line}
+
+-- ## Fewer receipts wait
+
+-- A test that lets through nothing that another doesn't keeps no more.
+keep_step : (b c : Bool) (x : Taken) (ps qs : List Taken) → (IsTrue c → IsTrue b) → length qs ≤ length ps → length (cond c (x ∷ qs) qs) ≤ length (cond b (x ∷ ps) ps)
+keep_step true true x ps qs only few = omega (arith, few)
+keep_step true false x ps qs only few = omega (arith, few)
+keep_step false true x ps qs only few = let no : false ≡ true = only refl in absurd cc
+keep_step false false x ps qs only few = few
+
+no_more : (p q : Taken → Bool) (xs : List Taken) → ((x : Taken) → IsTrue (q x) → IsTrue (p x)) → length (filter q xs) ≤ length (filter p xs)
+no_more p q [] only = omega arith
+no_more p q (x ∷ xs) only = keep_step (p x) (q x) x (filter p xs) (filter q xs) (only x) (no_more p q xs only)
+
+fewer_step : (b c : Bool) (x first : Taken) (ps qs : List Taken) → (IsTrue c → IsTrue b) → (x ≡ first → c ≡ false) → length qs ≤ length ps
+    → (slice_get ps 0 ≡ Some first → length qs < length ps) → slice_get (cond b (x ∷ ps) ps) 0 ≡ Some first → length (cond c (x ∷ qs) qs) < length (cond b (x ∷ ps) ps)
+fewer_step true true x first ps qs only gone few rest is = let no : true ≡ false = gone cc in absurd cc
+fewer_step true false x first ps qs only gone few rest is = omega (arith, few)
+fewer_step false true x first ps qs only gone few rest is = let no : false ≡ true = only refl in absurd cc
+fewer_step false false x first ps qs only gone few rest is = rest is
+
+-- If it doesn't let through the first that the other keeps, it keeps fewer.
+fewer : (p q : Taken → Bool) (xs : List Taken) (first : Taken) → ((x : Taken) → IsTrue (q x) → IsTrue (p x)) → q first ≡ false
+    → slice_get (filter p xs) 0 ≡ Some first → length (filter q xs) < length (filter p xs)
+fewer p q [] first only gone is = absurd cc
+fewer p q (x ∷ xs) first only gone is =
+    fewer_step (p x) (q x) x first (filter p xs) (filter q xs) (only x) (λ e. ap q e ∙ gone) (no_more p q xs only) (fewer p q xs first only gone) is
+
+still_step : (b : Bool) (i : ℕ) (rest more : Option ℕ) → (IsTrue (is_none more) → IsTrue (is_none rest)) → IsTrue (is_none (cond b (Some i) more)) → IsTrue (is_none (cond b (Some i) rest))
+still_step true i rest more next h = h
+still_step false i rest more next h = next h
+
+still_none : (t : ℕ → Bool) (i : ℕ) (xs : List ℕ) (x : ℕ) → IsTrue (is_none (position_from t i (xs ++ x ∷ []))) → IsTrue (is_none (position_from t i xs))
+still_none t i [] x h = refl
+still_none t i (y ∷ ys) x h = still_step (t y) i (position_from t (i + 1) ys) (position_from t (i + 1) (ys ++ x ∷ [])) (still_none t (i + 1) ys x) h
+
+found_step : (b : Bool) (i : ℕ) (rest : Option ℕ) → is_none rest ≡ false → is_none (cond b (Some i) rest) ≡ false
+found_step true i rest h = refl
+found_step false i rest h = h
+
+found : (t : ℕ → Bool) (i : ℕ) (xs : List ℕ) (x : ℕ) → t x ≡ true → is_none (position_from t i (xs ++ x ∷ [])) ≡ false
+found t i [] x h = ap (λ b. is_none (cond b (Some i) None)) h
+found t i (y ∷ ys) x h = found_step (t y) i (position_from t (i + 1) (ys ++ x ∷ [])) (found t (i + 1) ys x h)
+
+is_self : (n : ℕ) → (n == n) ≡ true
+is_self n = grind (arith, nat_tests)
+
+-- ## The entries of a round
+
+-- The receipts that wait where these are recorded and these were taken.
+abbrev waiting_by : List ℕ → List (List ℕ) → List Taken
+waiting_by records cs = filter (λ receipt. is_none (position_from (λ n. n == receipt.number) 0 records)) (numbered_from 1 cs)
+
+both : (old new : List Entry) (number next : ℕ) → new ≡ (old ++ entry.Tried number next ∷ []) ++ entry.Recorded number ∷ []
+    → (recorded new ≡ recorded old ++ number ∷ []) × (contents new ≡ contents old)
+both old new number next is = (
+  ap recorded is ∙ filter_map-append record_of (old ++ entry.Tried number next ∷ []) (entry.Recorded number ∷ [])
+  ∙ ap (λ r. r ++ number ∷ []) (filter_map-append record_of old (entry.Tried number next ∷ []) ∙ append-nil (recorded old)),
+  ap contents is ∙ filter_map-append content_of (old ++ entry.Tried number next ∷ []) (entry.Recorded number ∷ [])
+  ∙ append-nil (contents (old ++ entry.Tried number next ∷ []))
+  ∙ filter_map-append content_of old (entry.Tried number next ∷ []) ∙ append-nil (contents old),
+)
+
+fewer_wait : (old new : List Entry) (number : ℕ) (content : List ℕ) → recorded new ≡ recorded old ++ number ∷ [] → contents new ≡ contents old
+    → slice_get (waiting old) 0 ≡ Some (record { number = number; content = content }) → length (waiting new) < length (waiting old)
+fewer_wait old new number content records same first =
+    let receipt : Taken = record { number = number; content = content } in
+    let p : Taken → Bool = λ r. is_none (position_from (λ n. n == r.number) 0 (recorded old)) in
+    let q : Taken → Bool = λ r. is_none (position_from (λ n. n == r.number) 0 (recorded old ++ number ∷ [])) in
+    let less : length (filter q (numbered_from 1 (contents old))) < length (filter p (numbered_from 1 (contents old))) =
+        fewer p q (numbered_from 1 (contents old)) receipt (λ r. still_none (λ n. n == r.number) 0 (recorded old) number)
+        (found (λ n. n == number) 0 (recorded old) number (is_self number)) first in
+    subst (λ m. m < length (waiting old)) (sym (ap (λ r. length (waiting_by r (contents new))) records ∙ ap (λ c. length (waiting_by (recorded old ++ number ∷ []) c)) same)) less
+
+-- The receipt that is recorded is the first that waited.
+pub record IsRound (old new : List Entry) (number : ℕ) : Type 0 where
+  pub records : recorded new ≡ recorded old ++ number ∷ []
+  pub fewer : length (waiting new) < length (waiting old)
+
+concluded : {S : Type 0} (mid : LedgerView S) (number m : ℕ) (sent : Sent) (new : LedgerView S) → Concludes mid number sent (delivered.Recorded m) new
+    → Adds mid (entry.Recorded number) new
+concluded mid number m (became.Recorded place) new done = done.1
+concluded mid number m (became.NotRecorded why receipt) new done = absurd done
+
+number_of : Option Taken → ℕ
+number_of None = 0
+number_of (Some receipt) = receipt.number
+
+pub round : {S : Type 0} (Held : LedgerView S → Type 0) (copy : Option (List ℕ)) (old new : LedgerView S) (first m : ℕ) → IsFirst old.entries first
+    → IsDelivered Held copy old (delivered.Recorded m) new → IsRound old.entries new.entries first
+unfolding number_of
+round Held copy old new first m (content, tried, waits) (link, happened) =
+    let (number, sent, mid, tries, done) = happened in
+    let same : number ≡ first = ap number_of (sym tries.due.first.first ∙ waits.first) in
+    let added = concluded mid number m sent new done in
+    let parts = both old.entries new.entries number _ (added.entries ∙ ap (λ es. es ++ entry.Recorded number ∷ []) tries.reserved.entries) in
+    record {
+      records = parts.0 ∙ ap (λ n. recorded old.entries ++ n ∷ []) same;
+      fewer = fewer_wait old.entries new.entries number tries.due.content parts.0 parts.1 tries.due.first.first;
+    }
+
+-- ## What is printed
+
+-- A line after others.
+pub tells_after : (before between after : Option (List ℕ)) (front line : List ℕ) (failed : Bool) (status wanted : Status) → Appends before between front
+    → Tells (job_end between after failed status) line wanted → Tells (job_end before after failed status) (front ++ line) wanted
+tells_after before between after front line failed status wanted so_far (inl (is, puts)) = inl (is, Appends-trans before between after front line so_far puts)
+tells_after before between after front line failed status wanted so_far (inr unheard) = inr unheard
+
+-- The receipts so far are recorded, and told.
+pub record SoFar {S : Type 0} (old now : LedgerView S) (before after : Option (List ℕ)) : Type 0 where
+  pub numbers : List ℕ
+  pub recorded : recorded now.entries ≡ recorded old.entries ++ numbers
+  pub told : Appends before after (flat_map recorded_line numbers)
+
+pub none_so_far : {S : Type 0} (old : LedgerView S) (before : Option (List ℕ)) → Appends before before [] → SoFar old old before before
+none_so_far old before nothing = record { numbers = []; recorded = sym (append-nil (recorded old.entries)); told = nothing }
+
+pub one_more : {S : Type 0} (old now new : LedgerView S) (before between after : Option (List ℕ)) (number : ℕ) → SoFar old now before between
+    → recorded new.entries ≡ recorded now.entries ++ number ∷ [] → Appends between after (recorded_line number) → SoFar old new before after
+one_more old now new before between after number so_far records line = record {
+  numbers = so_far.numbers ++ number ∷ [];
+  recorded = records ∙ ap (λ r. r ++ number ∷ []) so_far.recorded ∙ append_assoc (recorded old.entries) so_far.numbers (number ∷ []);
+  told =
+      subst (Appends before after) (sym (flat_map-append recorded_line so_far.numbers (number ∷ []) ∙ ap (λ t. flat_map recorded_line so_far.numbers ++ t) (append-nil (recorded_line number))))
+      (Appends-trans before between after (flat_map recorded_line so_far.numbers) (recorded_line number) so_far.told line);
+}
+
+-- How it ends, after the receipts so far.
+pub ends_here : {S : Type 0} (Held : LedgerView S → Type 0) (copy : Option (List ℕ)) (old now new : LedgerView S) (before between after : Option (List ℕ)) (failed : Bool)
+    (status wanted : Status) (line : List ℕ) → SoFar old now before between → Ends Held copy now new line wanted → Tells (job_end between after failed status) line wanted
+    → DeliversAndTells Held copy old new (job_end before after failed status)
+ends_here Held copy old now new before between after failed status wanted line so_far ends tells = record {
+  numbers = so_far.numbers;
+  middle = now;
+  recorded = so_far.recorded;
+  ends = inr (line, wanted, ends, tells_after before between after (flat_map recorded_line so_far.numbers) line failed status wanted so_far.told tells);
+}
+
+pub round_ends : {S : Type 0} (Held : LedgerView S → Type 0) (copy : Option (List ℕ)) (old now new : LedgerView S) (before between after : Option (List ℕ)) (failed : Bool)
+    (status : Status) (number : ℕ) → SoFar old now before between → RoundEnds Held copy now number new (job_end between after failed status)
+    → DeliversAndTells Held copy old new (job_end before after failed status)
+round_ends Held copy old now new before between after failed status number so_far (inl (records, unheard)) = record {
+  numbers = so_far.numbers ++ number ∷ [];
+  middle = new;
+  recorded = records ∙ ap (λ r. r ++ number ∷ []) so_far.recorded ∙ append_assoc (recorded old.entries) so_far.numbers (number ∷ []);
+  ends = inl (refl, unheard);
+}
+round_ends Held copy old now new before between after failed status number so_far (inr (line, wanted, ends, tells)) =
+    ends_here Held copy old now new before between after failed status wanted line so_far ends tells
+
+pub if_none : {X : Type 0} {P : Type 0} {Q : X → Type 0} (o : Option X) → MatchOption o P Q → o ≡ None → P
+if_none None p is = p
+if_none (Some x) q is = absurd cc
+
+pub any_ok : {T E : Type 0} {P : Type 0} (r : Result T E) → P → OnOk r P
+any_ok (Ok x) p = p
+any_ok (Err e) p = tt

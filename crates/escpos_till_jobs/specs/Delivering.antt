@@ -1,0 +1,85 @@
+-- What `deliver` does with the receipts that wait, and what it prints of them.
+use Rattle.std.specs.Prelude.{ℕ, ◌≡◌, ◌⊎◌, if◌then◌else◌, Option, List, [], ◌∷◌, ◌++◌, codes, flat_map, IsTrue}
+use Rattle.escpos_host.specs.declared.send.SendFault.{SendFault}
+use Rattle.escpos_host.specs.Refusals.{fault_name}
+use Rattle.escpos_jobs.specs.declared.status.Status.{Status}
+use Rattle.escpos_jobs.specs.declared.status.Status.TheVariants.{Good, Refused, Device, Memory}
+use Rattle.escpos_jobs.specs.Ending.{JobEnd, Tells, memory_line}
+use Rattle.escpos_jobs.specs.Send.{is_memory_fault, status_of_fault}
+use Rattle.escpos_receipt.specs.declared.json.JsonError.TheVariants as json
+use Rattle.escpos_receipt.specs.Refusals.{json_name}
+use Rattle.escpos_till.specs.declared.deliver.Delivered.{Delivered}
+use Rattle.escpos_till.specs.declared.deliver.Delivered.TheVariants as delivered
+use Rattle.escpos_till.specs.declared.entry.Entry.{Entry}
+use Rattle.escpos_till.specs.declared.error.LedgerError.TheVariants as error
+use Rattle.escpos_till.specs.Delivers.{Delivers, Link}
+use Rattle.escpos_till.specs.Entries.{recorded, waiting}
+use Rattle.escpos_till.specs.Ledger.{FirstWaits, HasFailed, IsLive, LedgerView}
+use Rattle.escpos_till_jobs.specs.Lines.{ledger_refusal, ledger_status, recorded_line, waiting_line}
+
+-- ## What is printed of one receipt
+
+abbrev pub not_recorded_line : ℕ → SendFault → List ℕ
+not_recorded_line number why = if is_memory_fault why then memory_line else waiting_line number (fault_name why)
+
+-- What became of the first receipt that waits, which has this number.
+abbrev pub delivered_line : ℕ → Delivered → List ℕ
+delivered_line first delivered.NothingWaits = []
+delivered_line first (delivered.NoReceipt number (json.Refused why)) = waiting_line first (json_name why)
+delivered_line first (delivered.NoReceipt number json.Memory) = memory_line
+delivered_line first (delivered.NotTried error.MarksUsedUp) = waiting_line first (codes "MarksUsedUp")
+delivered_line first (delivered.NotTried why) = ledger_refusal why
+delivered_line first (delivered.NotRecorded number why) = not_recorded_line first why
+delivered_line first (delivered.Recorded number) = recorded_line first
+delivered_line first (delivered.NotNoted number why) = ledger_refusal why
+
+abbrev pub delivered_status : Delivered → Status
+delivered_status delivered.NothingWaits = Good
+delivered_status (delivered.NoReceipt number (json.Refused why)) = Refused
+delivered_status (delivered.NoReceipt number json.Memory) = Memory
+delivered_status (delivered.NotTried error.MarksUsedUp) = Refused
+delivered_status (delivered.NotTried why) = ledger_status why
+delivered_status (delivered.NotRecorded number why) = status_of_fault why
+delivered_status (delivered.Recorded number) = Good
+delivered_status (delivered.NotNoted number why) = ledger_status why
+
+abbrev pub IsRecorded : Delivered → Type 0
+IsRecorded d = (number : ℕ) × (d ≡ delivered.Recorded number)
+
+-- ## What is done
+
+-- The first receipt that waits has this number.
+abbrev pub IsFirst : List Entry → ℕ → Type 0
+IsFirst entries number = (content : List ℕ) × (tried : ℕ) × FirstWaits entries number content tried
+
+-- Over some link `deliver_one` answered this. `Held` says of a ledger that its store holds it.
+abbrev pub IsDelivered : {S : Type 0} → (LedgerView S → Type 0) → Option (List ℕ) → LedgerView S → Delivered → LedgerView S → Type 0
+IsDelivered Held copy old d new = (l : Link) × Delivers Held l copy old d new
+
+-- Why no further receipt is sent, the line that says so, and the status: none waits; the ledger has failed; there is no
+-- connection; or the receipt isn't recorded.
+pub data Ends {S : Type 0} (Held : LedgerView S → Type 0) (copy : Option (List ℕ)) (old new : LedgerView S) : List ℕ → Status → Type 0 where
+  nothing_waits : IsLive old → waiting old.entries ≡ [] → new ≡ old → Ends Held copy old new [] Good
+  has_failed : HasFailed old → new ≡ old → Ends Held copy old new (ledger_refusal error.Failed) (ledger_status error.Failed)
+  no_link : (first : ℕ) → IsFirst old.entries first → new ≡ old → Ends Held copy old new (waiting_line first (codes "no link")) Device
+  not_recorded : (first : ℕ) (d : Delivered) → IsFirst old.entries first → IsDelivered Held copy old d new → ¬ IsRecorded d
+      → Ends Held copy old new (delivered_line first d) (delivered_status d)
+
+-- The output failed, and so nothing more is sent.
+abbrev pub IsUnheard : JobEnd → Type 0
+IsUnheard o = (o.status ≡ Device) × IsTrue o.failed
+
+-- One receipt is recorded, which the output didn't take; or none is, and the line says why.
+abbrev pub RoundEnds : {S : Type 0} → (LedgerView S → Type 0) → Option (List ℕ) → LedgerView S → ℕ → LedgerView S → JobEnd → Type 0
+RoundEnds Held copy old number new o =
+    ((recorded new.entries ≡ recorded old.entries ++ number ∷ []) × IsUnheard o)
+    ⊎ ((line : List ℕ) × (status : Status) × Ends Held copy old new line status × Tells o line status)
+
+-- Receipts are recorded, and a line is printed for each; then comes the line that says why no further one is sent, unless the
+-- output failed.
+pub record DeliversAndTells {S : Type 0} (Held : LedgerView S → Type 0) (copy : Option (List ℕ)) (old new : LedgerView S) (o : JobEnd) : Type 0 where
+  pub numbers : List ℕ
+  pub middle : LedgerView S
+  pub recorded : recorded middle.entries ≡ recorded old.entries ++ numbers
+  pub ends : ((new ≡ middle) × IsUnheard o) ⊎ ((line : List ℕ) × (status : Status) × Ends Held copy middle new line status
+      × Tells o (flat_map recorded_line numbers ++ line) status)
