@@ -170,9 +170,9 @@ round_ends Held copy old now new before between after failed status number so_fa
 round_ends Held copy old now new before between after failed status number so_far (inr (line, wanted, ends, tells)) =
     ends_here Held copy old now new before between after failed status wanted line so_far ends tells
 
-pub if_none : {X : Type 0} {P : Type 0} {Q : X → Type 0} (o : Option X) → MatchOption o P Q → o ≡ None → P
-if_none None p is = p
-if_none (Some x) q is = absurd cc
+pub if_none : {X : Type 0} (P : Type 0) (Q : X → Type 0) (o : Option X) → MatchOption o P Q → o ≡ None → P
+if_none P Q None p is = p
+if_none P Q (Some x) q is = absurd cc
 
 pub any_ok : {T E : Type 0} {P : Type 0} (r : Result T E) → P → OnOk r P
 any_ok (Ok x) p = p

@@ -10,7 +10,7 @@ use Rattle.escpos_till_jobs.proofs.deliver.deliver_waiting.Goals as goal
 
 pub returns-in-Ok-None-clause-delivers : goal.returns-in-Ok-None-clause-delivers
 returns-in-Ok-None-clause-delivers g c =
-    ends_here _ _ _ _ _ _ _ _ _ _ _ _ c.loop-number.invariant.so_far (Ends.nothing_waits c.in-Ok-None.ensures.live (if_none c.in-Ok-None.field-0 c.in-Ok-None.ensures.first c.in-Ok-None.field-0-is) refl)
+    ends_here _ _ _ _ _ _ _ _ _ _ _ _ c.loop-number.invariant.so_far (Ends.nothing_waits c.in-Ok-None.ensures.live (if_none _ _ c.in-Ok-None.field-0 c.in-Ok-None.ensures.first c.in-Ok-None.field-0-is) refl)
     (inl (refl, Appends-nil (g.W.ByteOut.written c.loop-number.output)))
 
 pub returns-in-Err-clause-delivers : goal.returns-in-Err-clause-delivers
