@@ -1,2 +1,4 @@
 pub mod TaskValues
 pub mod TaskWords
+pub mod TillWords
+pub mod TillValues

@@ -376,14 +376,14 @@ pub fails_by : {T : Type 0} (a : App) (texts : List Text) (r : Result T Error) �
     → (is_simple_and_free a ≡ true → FailsBy (fault_of a texts) r) → FailsBy (fault_of command_words texts) r
 fails_by a texts r e h = subst (λ (b : App). FailsBy (fault_of b texts) r) e (h (ap is_simple_and_free e ∙ is_exact))
 
-name_of_rows : (m : ArgMatches) → option_map (λ p. p.0) (subcommand_rows_of m) ≡ subcommand_name_of m
+pub name_of_rows : (m : ArgMatches) → option_map (λ p. p.0) (subcommand_rows_of m) ≡ subcommand_name_of m
 name_of_rows m = elim (out-ArgMatches m).subcommand as (λ o. option_map (λ p. p.0) (subcommand_rows o) ≡ option_map (λ b. (out-SubCommand (box_value b)).name.now) o) [ Some b ↦ refl | None ↦ refl ]
 
 pub found_by : (a : App) (texts : List Text) (m : ArgMatches) → a ≡ command_words
     → HasMatchesOf a texts m → subcommand_rows_of m ≡ subcommand_of command_words texts
 found_by a texts m e h = (h (ap is_simple e ∙ is_known)).1 ∙ ap (λ (b : App). subcommand_of b texts) e
 
-both_parts : (found : Option (Text × List Row)) (name : Text) (rows : List Row) → Some name ≡ option_map (λ p. p.0) found
+pub both_parts : (found : Option (Text × List Row)) (name : Text) (rows : List Row) → Some name ≡ option_map (λ p. p.0) found
     → Some rows ≡ option_map (λ p. p.1) found → Some (name, rows) ≡ found
 both_parts None name rows e f = cc
 both_parts (Some p) name rows e f = let e1 : name ≡ p.0 = cc in let f1 : rows ≡ p.1 = cc in
@@ -395,14 +395,14 @@ pub is_found : (m : ArgMatches) (texts : List Text) (name : Text) (rows : List R
     → Some rows ≡ option_map (λ p. p.1) (subcommand_rows_of m) → Some (name, rows) ≡ subcommand_of command_words texts
 is_found m texts name rows found e f = both_parts (subcommand_rows_of m) name rows (e ∙ sym (name_of_rows m)) f ∙ found
 
+pub no_rows : (o : Option (Text × List Row)) → None ≡ option_map (λ p. p.0) o → o ≡ None
+no_rows None h = refl
+no_rows (Some p) h = cc
+
 -- where a parse met no subcommand, the arguments name none
 pub none_found : (m : ArgMatches) (texts : List Text)
     → subcommand_rows_of m ≡ subcommand_of command_words texts → None ≡ subcommand_name_of m → subcommand_of command_words texts ≡ None
 none_found m texts found e = sym found ∙ no_rows (subcommand_rows_of m) (e ∙ sym (name_of_rows m))
-  where
-    no_rows : (o : Option (Text × List Row)) → None ≡ option_map (λ p. p.0) o → o ≡ None
-    no_rows None h = refl
-    no_rows (Some p) h = cc
 
 third : (a b g r : Bool) → (a && (b && (not g && r))) ≡ true → g ≡ false
 third true true false r e = refl

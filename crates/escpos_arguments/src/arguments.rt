@@ -75,7 +75,7 @@ pub fn task_of<S: AsStr>(alloc: Global, words: &[S]) -> Result<Task, NoTask>
 }
 
 // The refusal of the program for this refusal of `clap`.
-fn no_task(refusal: &clap::Error) -> NoTask
+pub(crate) fn no_task(refusal: &clap::Error) -> NoTask
     ensures { result ≡ no_task_of (kind_of refusal.now) }
 {
     match refusal.kind() {
@@ -143,7 +143,7 @@ fn send_asked(alloc: Global, given: &ArgMatches) -> Result<Task, NoTask>
 }
 
 // The address that was given.
-fn address_of(alloc: Global, given: &ArgMatches) -> Result<SocketAddrV4, NoTask>
+pub(crate) fn address_of(alloc: Global, given: &ArgMatches) -> Result<SocketAddrV4, NoTask>
     ensures read { IfOk result (λ address. IsSomeAnd (first_of (codes "address") (rows_of (found_of given.now))) (λ text. IsAddress text address)) }
     ensures taken { (address : SocketAddrV4) → IsSomeAnd (first_of (codes "address") (rows_of (found_of given.now))) (λ text. IsAddress text address)
         → (result ≡ Ok address) ⊎ (result ≡ Err NoTask.Memory) }
@@ -186,7 +186,12 @@ fn first_mark_of(given: &ArgMatches) -> Result<u32, NoTask>
 }
 
 // The number that was given for this option, or the fallback where it wasn't given; from 1 to `most`.
-fn count_of(given: &ArgMatches, option: &str, fallback: u32, most: u32) -> Result<u32, NoTask>
+pub(crate) fn count_of(
+    given: &ArgMatches,
+    option: &str,
+    fallback: u32,
+    most: u32,
+) -> Result<u32, NoTask>
     ensures read { IfOk result (λ n. IsNumberOr fallback (one_of option.now (rows_of (found_of given.now))) n × (1 ≤ n) × (n ≤ most)) }
     ensures taken { (n : ℕ) → IsNumberOr fallback (one_of option.now (rows_of (found_of given.now))) n → 1 ≤ n → n ≤ most
         → result ≡ Ok n }
@@ -201,7 +206,7 @@ fn count_of(given: &ArgMatches, option: &str, fallback: u32, most: u32) -> Resul
 }
 
 // The number that was given for this option, if any.
-fn number_given(given: &ArgMatches, option: &str) -> Result<Option<u32>, NoTask>
+pub(crate) fn number_given(given: &ArgMatches, option: &str) -> Result<Option<u32>, NoTask>
     ensures read { IfOk result (IsNumberIn (one_of option.now (rows_of (found_of given.now)))) }
     ensures taken { (number : Option ℕ) → IsNumberIn (one_of option.now (rows_of (found_of given.now))) number → result ≡ Ok number }
     ensures usage { IfErr result (λ why. why ≡ NoTask.Usage) }
@@ -275,7 +280,7 @@ fn send_command<'a>(alloc: Global) -> Result<Command<'a>, AllocError>
 }
 
 // A required argument without a name of its own before it.
-fn address<'a>(alloc: Global) -> Arg<'a>
+pub(crate) fn address<'a>(alloc: Global) -> Arg<'a>
     ensures rule { rule_of result ≡ address_rule }
     ensures local { result.global ≡ false }
 {
@@ -285,7 +290,7 @@ fn address<'a>(alloc: Global) -> Arg<'a>
 }
 
 // An option: two dashes and this name, followed by a value.
-fn option<'a>(alloc: Global, name: &'a str, required: bool) -> Arg<'a>
+pub(crate) fn option<'a>(alloc: Global, name: &'a str, required: bool) -> Arg<'a>
     ensures rule { rule_of result ≡ option_rule name.entry.now required }
     ensures local { result.global ≡ false }
 {

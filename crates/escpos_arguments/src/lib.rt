@@ -1,9 +1,11 @@
-//! The arguments of the command line: which task of escpos_jobs they ask for.
+//! The arguments of the command line: which task of escpos_jobs or escpos_till_jobs they ask for.
 //!
-//! `arguments` has `clap` read them; `specs/Arguments.antt` defines what they ask for. Doing it, and the texts of usage and
-//! help, are left to escpos_jobs.
+//! `arguments` and `till` have `clap` read them; `specs/Arguments.antt` and `specs/TillArguments.antt` define what they ask
+//! for. Doing it is left to escpos_jobs, which has the texts of usage and help, and to escpos_till_jobs.
 #![tactic(auto)]
 
 mod arguments;
+mod till;
 
 pub use arguments::{LINKS, MOST_LINKS, MOST_OPENINGS, OPENINGS, task_of, without_name};
+pub use till::{is_till_word, till_task_of};

@@ -76,10 +76,10 @@ both : (old new : List Entry) (number next : ℕ) → new ≡ (old ++ entry.Trie
     → (recorded new ≡ recorded old ++ number ∷ []) × (contents new ≡ contents old)
 both old new number next is = (
   ap recorded is ∙ filter_map-append record_of (old ++ entry.Tried number next ∷ []) (entry.Recorded number ∷ [])
-  ∙ ap (λ r. r ++ number ∷ []) (filter_map-append record_of old (entry.Tried number next ∷ []) ∙ append-nil (recorded old)),
+      ∙ ap (λ r. r ++ number ∷ []) (filter_map-append record_of old (entry.Tried number next ∷ []) ∙ append-nil (recorded old)),
   ap contents is ∙ filter_map-append content_of (old ++ entry.Tried number next ∷ []) (entry.Recorded number ∷ [])
-  ∙ append-nil (contents (old ++ entry.Tried number next ∷ []))
-  ∙ filter_map-append content_of old (entry.Tried number next ∷ []) ∙ append-nil (contents old),
+      ∙ append-nil (contents (old ++ entry.Tried number next ∷ []))
+      ∙ filter_map-append content_of old (entry.Tried number next ∷ []) ∙ append-nil (contents old),
 )
 
 fewer_wait : (old new : List Entry) (number : ℕ) (content : List ℕ) → recorded new ≡ recorded old ++ number ∷ [] → contents new ≡ contents old
@@ -89,8 +89,8 @@ fewer_wait old new number content records same first =
     let p : Taken → Bool = λ r. is_none (position_from (λ n. n == r.number) 0 (recorded old)) in
     let q : Taken → Bool = λ r. is_none (position_from (λ n. n == r.number) 0 (recorded old ++ number ∷ [])) in
     let less : length (filter q (numbered_from 1 (contents old))) < length (filter p (numbered_from 1 (contents old))) =
-        fewer p q (numbered_from 1 (contents old)) receipt (λ r. still_none (λ n. n == r.number) 0 (recorded old) number)
-        (found (λ n. n == number) 0 (recorded old) number (is_self number)) first in
+    fewer p q (numbered_from 1 (contents old)) receipt (λ r. still_none (λ n. n == r.number) 0 (recorded old) number)
+    (found (λ n. n == number) 0 (recorded old) number (is_self number)) first in
     subst (λ m. m < length (waiting old)) (sym (ap (λ r. length (waiting_by r (contents new))) records ∙ ap (λ c. length (waiting_by (recorded old ++ number ∷ []) c)) same)) less
 
 -- The receipt that is recorded is the first that waited.

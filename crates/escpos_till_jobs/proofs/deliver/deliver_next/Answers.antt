@@ -32,8 +32,12 @@ returns-in_default g c =
       fewer = tt;
       told = tt;
       not_failed = tt;
-      ended = inr (delivered_line c.args.number d, delivered_status d,
-      Ends.not_recorded c.args.number d c.requires.first c.deliver_over-delivered.ensures.delivered (λ r. c.in_default.not-Recorded r.0 r.1), c.tell.ensures.tells);
+      ended = inr (
+        delivered_line c.args.number d,
+        delivered_status d,
+        Ends.not_recorded c.args.number d c.requires.first c.deliver_over-delivered.ensures.delivered (λ r. c.in_default.not-Recorded r.0 r.1),
+        c.tell.ensures.tells,
+      );
       was_faithful = c.deliver_over-delivered.ensures.was_faithful;
       not_hidden = c.tell.ensures.not_hidden;
       never_usage = c.tell.ensures.never_usage;

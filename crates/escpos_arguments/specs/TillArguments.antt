@@ -1,0 +1,76 @@
+-- The arguments of a till's words, `queue`, `deliver` and `ledger`, and what they ask for.
+use Rattle.std.specs.Prelude.{◌≡◌, ◌<◌, ◌≤◌, ℕ, ⊤, List, [], ◌∷◌, Option, Some, None, IfSome, IsSomeAnd, codes, length, true, false}
+use Rattle.std.specs.List.{AllPass}
+use Rattle.clap.specs.Words.{App, Row, Rule, Shape, Text, first_of, new_app, new_rule, one_of, with_rule, with_subcommand}
+use Rattle.clap.specs.Simple.{on_top}
+use Rattle.clap.specs.declared.builder.action.ArgAction.TheVariants.{Set}
+use Rattle.escpos_command.specs.Digits.{mark_count}
+use Rattle.escpos_arguments.specs.declared.arguments.TheConstants.{OPENINGS, MOST_OPENINGS}
+use Rattle.escpos_arguments.specs.Arguments.{IsAddress, IsNumber, IsNumberOr, address_rule, option_rule}
+use Rattle.escpos_arguments.specs.ClapAnswers.{IsNumberIn}
+use Rattle.escpos_till.specs.Copy.{is_copy_character}
+use Rattle.escpos_till_jobs.specs.declared.task.TillTask.{TillTask}
+use Rattle.escpos_till_jobs.specs.declared.task.TillTask.TheVariants.{Queue, Deliver, List as listing}
+
+-- ---- what the arguments ask for
+
+-- the words that a till uses
+abbrev pub till_names : List Text
+till_names = codes "queue" ∷ codes "deliver" ∷ codes "ledger" ∷ []
+
+-- this name, with the values that were given after it, asks for the task
+abbrev pub AsksTillBy : Text → List Row → TillTask → Type 0
+AsksTillBy name rows (Queue ledger) = (name ≡ codes "queue") × (first_of (codes "ledger") rows ≡ Some ledger)
+AsksTillBy name rows (Deliver ledger delivery) = (name ≡ codes "deliver")
+    × (first_of (codes "ledger") rows ≡ Some ledger)
+    × IsSomeAnd (first_of (codes "address") rows) (λ text. IsAddress text delivery.address)
+    × IsNumberOr OPENINGS (one_of (codes "openings") rows) delivery.openings
+    × (first_of (codes "copy") rows ≡ delivery.copy)
+AsksTillBy name rows (listing ledger first) = (name ≡ codes "ledger")
+    × (first_of (codes "ledger") rows ≡ Some ledger)
+    × IsNumberIn (one_of (codes "first") rows) first
+
+-- what `clap` finds in the arguments, a name and the values after it, asks for the task
+abbrev pub AsksTill : Option (Text × List Row) → TillTask → Type 0
+AsksTill found task = IsSomeAnd found (λ p. AsksTillBy p.0 p.1 task)
+
+-- a copy's text may be printed in a line
+pub record IsCopyText (text : List ℕ) : Type 0 where
+  pub some : 0 < length text
+  pub few : length text ≤ 42
+  pub plain : AllPass is_copy_character text
+
+-- the values of the task are in range
+abbrev pub IsTillInRange : TillTask → Type 0
+IsTillInRange (Queue ledger) = ⊤
+IsTillInRange (Deliver ledger delivery) = (1 ≤ delivery.openings) × (delivery.openings ≤ MOST_OPENINGS) × IfSome delivery.copy IsCopyText
+IsTillInRange (listing ledger first) = IfSome first (λ n. n < mark_count)
+
+-- ---- the till's arguments, as `clap` reads them
+
+-- the path of a ledger
+abbrev pub ledger_rule : Rule
+ledger_rule = record (new_rule (codes "ledger")) { required = true; action = Some Set }
+
+-- what may follow `queue`
+abbrev pub queue_words : Shape
+queue_words = (with_rule (new_app (codes "queue")) ledger_rule).top
+
+-- what may follow `deliver`
+abbrev pub deliver_words : Shape
+deliver_words = (with_rule (with_rule (with_rule (with_rule (new_app (codes "deliver")) ledger_rule) address_rule)
+    (option_rule (codes "openings") false)) (option_rule (codes "copy") false)).top
+
+-- what may follow `ledger`
+abbrev pub ledger_words : Shape
+ledger_words = (with_rule (with_rule (new_app (codes "ledger")) ledger_rule) (option_rule (codes "first") false)).top
+
+-- the name of a task with its values, and nothing more
+abbrev pub till_words : App
+till_words =
+    let top = on_top (λ s. record s {
+      no_binary_name = true;
+      disable_help_subcommand = true;
+      subcommand_required = true;
+    }) (new_app (codes "escpos_cli")) in
+    with_subcommand (with_subcommand (with_subcommand top queue_words) deliver_words) ledger_words

@@ -1,0 +1,237 @@
+//! The arguments of a till's words, `queue`, `deliver` and `ledger`: which task they ask for.
+
+ghost use Rattle.std.specs.Prelude.{◌≡◌, ◌≢◌, ◌⊎◌, ◌≤◌, ◌<◌, ℕ, Err, None, Ok, Option, Some, [], ◌∷◌, Contains, IfErr, IfOk, IfSome, IsSomeAnd, IsTrue, codes, false, map, ◌↔◌};
+ghost use Rattle.clap.specs.Words.{HasKind, IsAmong, Text, app_of, fault_of, first_of, found_of, kind_of, one_of, rows_of, rule_of, subcommand_of, subcommand_rows_of};
+ghost use Rattle.escpos_command.specs.Digits.{mark_count};
+ghost use Rattle.escpos_till_jobs.specs.declared.task.TillTask.{TillTask};
+ghost use Rattle.escpos_arguments.specs.ClapAnswers.{IsNumberIn};
+ghost use Rattle.escpos_arguments.specs.TillArguments.{AsksTill, AsksTillBy, IsCopyText, IsTillInRange, deliver_words, ledger_rule, ledger_words, queue_words, till_names, till_words};
+
+use crate::arguments::{
+    MOST_OPENINGS, OPENINGS, address, address_of, count_of, no_task, number_given, option,
+};
+use clap::error::ErrorKind;
+use clap::{Arg, ArgAction, ArgMatches, Command};
+use escpos_command::MarkId;
+use escpos_jobs::task::NoTask;
+use escpos_till::CopyText;
+use escpos_till_jobs::{Delivery, LedgerPath, TillTask};
+use std::alloc::{AllocError, Global};
+use std::convert::AsStr;
+
+/// Whether a till's words begin with this one.
+pub fn is_till_word(word: &str) -> bool
+    ensures { IsTrue result ↔ Contains till_names word.now }
+{
+    matches!(word, "queue" | "deliver" | "ledger")
+}
+
+/// The task that a till's arguments ask for. The program's own name isn't among them.
+///
+/// `Help` comes only where they ask for help, `Memory` where an allocation failed, and `Usage` for all other arguments that
+/// name no task.
+pub fn till_task_of<'a, S: AsStr>(alloc: Global, words: &'a [S]) -> Result<TillTask<'a>, NoTask>
+    ensures asks { IfOk result (AsksTill (subcommand_of till_words (map S.text words.entry.now))) }
+    ensures ranges { IfOk result IsTillInRange }
+    ensures passed { IfOk result (λ task. fault_of till_words (map S.text words.entry.now) ≡ []) }
+    ensures taken { (task : TillTask) → fault_of till_words (map S.text words.entry.now) ≡ []
+        → AsksTill (subcommand_of till_words (map S.text words.entry.now)) task → IsTillInRange task
+        → (result ≡ Ok task) ⊎ (result ≡ Err NoTask.Memory) }
+    ensures help_only { result ≡ Err NoTask.Help → IsAmong ErrorKind.DisplayHelp (fault_of till_words (map S.text words.entry.now)) }
+{
+    let matches = match till_matches_of(alloc, words) {
+        Ok(matches) => matches,
+        Err(refusal) => return Err(no_task(&refusal)),
+    };
+    match matches.subcommand() {
+        Some((name, given)) => till_task_asked(alloc, name, given),
+        None => Err(NoTask::Usage),
+    }
+}
+
+// The task of this subcommand with the arguments that follow its name.
+fn till_task_asked<'a>(
+    alloc: Global,
+    name: &str,
+    given: &ArgMatches<'a>,
+) -> Result<TillTask<'a>, NoTask>
+    ensures asks { IfOk result (AsksTillBy name.now (rows_of (found_of given.now))) }
+    ensures ranges { IfOk result IsTillInRange }
+    ensures taken { (task : TillTask) → AsksTillBy name.now (rows_of (found_of given.now)) task → IsTillInRange task
+        → (result ≡ Ok task) ⊎ (result ≡ Err NoTask.Memory) }
+    ensures no_help { result ≢ Err NoTask.Help }
+{
+    match name {
+        "queue" => queue_asked(given),
+        "deliver" => deliver_asked(alloc, given),
+        "ledger" => ledger_asked(given),
+        _ => Err(NoTask::Usage),
+    }
+}
+
+// The task of `queue` with the arguments that follow it.
+fn queue_asked<'a>(given: &ArgMatches<'a>) -> Result<TillTask<'a>, NoTask>
+    ensures asks { IfOk result (AsksTillBy (codes "queue") (rows_of (found_of given.now))) }
+    ensures ranges { IfOk result IsTillInRange }
+    ensures taken { (task : TillTask) → AsksTillBy (codes "queue") (rows_of (found_of given.now)) task → IsTillInRange task
+        → result ≡ Ok task }
+    ensures no_help { result ≢ Err NoTask.Help }
+{
+    let ledger = ledger_path(given)?;
+    Ok(TillTask::Queue { ledger })
+}
+
+// The task of `deliver` with the arguments that follow it.
+fn deliver_asked<'a>(alloc: Global, given: &ArgMatches<'a>) -> Result<TillTask<'a>, NoTask>
+    ensures asks { IfOk result (AsksTillBy (codes "deliver") (rows_of (found_of given.now))) }
+    ensures ranges { IfOk result IsTillInRange }
+    ensures taken { (task : TillTask) → AsksTillBy (codes "deliver") (rows_of (found_of given.now)) task → IsTillInRange task
+        → (result ≡ Ok task) ⊎ (result ≡ Err NoTask.Memory) }
+    ensures no_help { result ≢ Err NoTask.Help }
+{
+    let ledger = ledger_path(given)?;
+    let address = match address_of(alloc, given) {
+        Ok(address) => address,
+        Err(why) => return Err(why),
+    };
+    let openings = count_of(given, "openings", OPENINGS, MOST_OPENINGS)?;
+    let copy = copy_given(given)?;
+    Ok(TillTask::Deliver {
+        ledger,
+        delivery: Delivery {
+            address,
+            openings,
+            copy,
+        },
+    })
+}
+
+// The task of `ledger` with the arguments that follow it.
+fn ledger_asked<'a>(given: &ArgMatches<'a>) -> Result<TillTask<'a>, NoTask>
+    ensures asks { IfOk result (AsksTillBy (codes "ledger") (rows_of (found_of given.now))) }
+    ensures ranges { IfOk result IsTillInRange }
+    ensures taken { (task : TillTask) → AsksTillBy (codes "ledger") (rows_of (found_of given.now)) task → IsTillInRange task
+        → result ≡ Ok task }
+    ensures no_help { result ≢ Err NoTask.Help }
+{
+    let ledger = ledger_path(given)?;
+    let first = first_given(given)?;
+    Ok(TillTask::List { ledger, first })
+}
+
+// The path of the ledger.
+fn ledger_path<'a>(given: &ArgMatches<'a>) -> Result<LedgerPath<'a>, NoTask>
+    ensures read { IfOk result (λ path. first_of (codes "ledger") (rows_of (found_of given.now)) ≡ Some path) }
+    ensures taken { (path : Text) → first_of (codes "ledger") (rows_of (found_of given.now)) ≡ Some path → result ≡ Ok path }
+    ensures usage { IfErr result (λ why. why ≡ NoTask.Usage) }
+{
+    match given.get_str("ledger") {
+        Some(text) => Ok(LedgerPath::new(text)),
+        None => Err(NoTask::Usage),
+    }
+}
+
+// The text of a copy's line, if it is given.
+fn copy_given<'a>(given: &ArgMatches<'a>) -> Result<Option<CopyText<'a>>, NoTask>
+    ensures read { IfOk result (λ copy. first_of (codes "copy") (rows_of (found_of given.now)) ≡ copy) }
+    ensures range { IfOk result (λ copy. IfSome copy IsCopyText) }
+    ensures taken { (copy : Option Text) → first_of (codes "copy") (rows_of (found_of given.now)) ≡ copy → IfSome copy IsCopyText
+        → result ≡ Ok copy }
+    ensures usage { IfErr result (λ why. why ≡ NoTask.Usage) }
+{
+    match given.get_str("copy") {
+        Some(text) => match CopyText::new(text.as_bytes()) {
+            Some(copy) => Ok(Some(copy)),
+            None => Err(NoTask::Usage),
+        },
+        None => Ok(None),
+    }
+}
+
+// The number that the next mark number is raised to, if it is given, and a mark may have it.
+fn first_given(given: &ArgMatches) -> Result<Option<u32>, NoTask>
+    ensures read { IfOk result (IsNumberIn (one_of (codes "first") (rows_of (found_of given.now)))) }
+    ensures range { IfOk result (λ first. IfSome first (λ n. n < mark_count)) }
+    ensures taken { (first : Option ℕ) → IsNumberIn (one_of (codes "first") (rows_of (found_of given.now))) first
+        → IfSome first (λ n. n < mark_count) → result ≡ Ok first }
+    ensures usage { IfErr result (λ why. why ≡ NoTask.Usage) }
+{
+    match number_given(given, "first")? {
+        Some(first) => match MarkId::of_number(first) {
+            Some(_) => Ok(Some(first)),
+            None => Err(NoTask::Usage),
+        },
+        None => Ok(None),
+    }
+}
+
+// What `clap` reads in the arguments.
+fn till_matches_of<'a, S: AsStr>(
+    alloc: Global,
+    words: &'a [S],
+) -> Result<ArgMatches<'a>, clap::Error>
+    ensures parsed { IfOk result (λ matches. fault_of till_words (map S.text words.entry.now) ≡ []) }
+    ensures found { IfOk result (λ matches. subcommand_rows_of matches ≡ subcommand_of till_words (map S.text words.entry.now)) }
+    ensures refused { IfErr result (HasKind (fault_of till_words (map S.text words.entry.now))) }
+{
+    let command = till_command(alloc)?;
+    command.try_get_matches_from(words)
+}
+
+// The `clap` command with a till's words. It is built in small functions, because proof time grows faster than the number of
+// builder calls.
+fn till_command<'a>(alloc: Global) -> Result<Command<'a>, AllocError>
+    ensures shape { IfOk result (λ command. app_of command ≡ till_words) }
+{
+    let queue = queue_command(alloc)?;
+    let deliver = deliver_command(alloc)?;
+    let ledger = ledger_command(alloc)?;
+    let command = Command::new(alloc, "escpos_cli")
+        .no_binary_name(true)
+        .disable_help_subcommand(true)
+        .subcommand_required(true)
+        .subcommand(queue)?
+        .subcommand(deliver)?
+        .subcommand(ledger)?;
+    Ok(command)
+}
+
+// The subcommand `queue` with its argument.
+fn queue_command<'a>(alloc: Global) -> Result<Command<'a>, AllocError>
+    ensures shape { IfOk result (λ command. (app_of command).top ≡ queue_words) }
+{
+    let command = Command::new(alloc, "queue").arg(ledger_argument(alloc))?;
+    Ok(command)
+}
+
+// The subcommand `deliver` with its arguments.
+fn deliver_command<'a>(alloc: Global) -> Result<Command<'a>, AllocError>
+    ensures shape { IfOk result (λ command. (app_of command).top ≡ deliver_words) }
+{
+    let command = Command::new(alloc, "deliver")
+        .arg(ledger_argument(alloc))?
+        .arg(address(alloc))?
+        .arg(option(alloc, "openings", false))?
+        .arg(option(alloc, "copy", false))?;
+    Ok(command)
+}
+
+// The subcommand `ledger` with its arguments.
+fn ledger_command<'a>(alloc: Global) -> Result<Command<'a>, AllocError>
+    ensures shape { IfOk result (λ command. (app_of command).top ≡ ledger_words) }
+{
+    let command = Command::new(alloc, "ledger")
+        .arg(ledger_argument(alloc))?
+        .arg(option(alloc, "first", false))?;
+    Ok(command)
+}
+
+// The path of a ledger: a required argument without a name of its own before it.
+fn ledger_argument<'a>(alloc: Global) -> Arg<'a>
+    ensures rule { rule_of result ≡ ledger_rule }
+    ensures local { result.global ≡ false }
+{
+    Arg::new(alloc, "ledger")
+        .required(true)
+        .action(ArgAction::Set)
+}

@@ -1,0 +1,55 @@
+//! What a till may ask the program to do with its ledger.
+
+ghost use Rattle.std.specs.Prelude.{◌≡◌};
+
+use crate::deliver::Delivery;
+use std::marker::Model;
+
+/// The path of a ledger's file. The model is the list of its bytes.
+#[derive(Debug, Drop)]
+pub struct LedgerPath<'a> {
+    text: &'a str,
+}
+
+impl<'a> Model for LedgerPath<'a> {
+    ghost use Rattle.std.specs.Prelude.{ℕ, List};
+
+    ghost Value = { List ℕ };
+
+    ghost view = { λ p. p.text.now };
+}
+
+impl<'a> LedgerPath<'a> {
+    /// The path with this text.
+    pub fn new(text: &'a str) -> Self
+        ensures { result ≡ text.now }
+    {
+        LedgerPath { text }
+    }
+
+    /// Its text.
+    pub fn text(&self) -> &'a str
+        ensures { result.now ≡ self.now }
+    {
+        self.text
+    }
+}
+
+/// What a till asks for.
+#[derive(Debug, Drop)]
+pub enum TillTask<'a> {
+    /// Take a receipt into this ledger.
+    Queue {
+        ledger: LedgerPath<'a>,
+    },
+    /// Deliver the receipts of this ledger that wait.
+    Deliver {
+        ledger: LedgerPath<'a>,
+        delivery: Delivery<'a>,
+    },
+    /// List where the receipts of this ledger stand, once its next mark number was raised to `first`, if that is given.
+    List {
+        ledger: LedgerPath<'a>,
+        first: Option<u32>,
+    },
+}
