@@ -1,0 +1,4 @@
+pub mod Receipts
+pub mod Parts
+pub mod Steps
+pub mod Kept
