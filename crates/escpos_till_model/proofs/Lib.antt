@@ -1,0 +1,5 @@
+pub mod EntryFacts
+pub mod Accounts
+pub mod GoesOn
+pub mod Keeping
+pub mod Tilling
