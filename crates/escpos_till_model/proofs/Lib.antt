@@ -1,5 +1,2 @@
 pub mod EntryFacts
 pub mod Accounts
-pub mod GoesOn
-pub mod Keeping
-pub mod Tilling
