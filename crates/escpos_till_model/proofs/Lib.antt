@@ -1,3 +1,4 @@
 pub mod EntryFacts
 pub mod Accounts
 pub mod GoesOn
+pub mod Keeping
