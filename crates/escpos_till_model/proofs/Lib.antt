@@ -2,3 +2,4 @@ pub mod EntryFacts
 pub mod Accounts
 pub mod GoesOn
 pub mod Keeping
+pub mod Tilling
