@@ -273,3 +273,123 @@ keeps (event.OnLine e) t after desk (note, g) till =
       desk = till.desk;
       keeps = on_keeps (entries_of t) t.hand t.line.host g.line.host (goes_on e t.line g.line note g.no_call g.happens.0) till.keeps;
     })
+
+-- ## Each refusal
+
+line_keeps : (e : Event) (why : Rattle.escpos_link.specs.declared.event.Refusal.Refusal) (t after : TillParts)
+    → ((l : LineView) → Leaves e t.line l → Keeps (entries_of t) t.hand t.line.host → Keeps (entries_of t) t.hand l.host) → RefusedOnLine e why t after → IsTill t → IsTill after
+line_keeps e why t after leaves r till = subst IsTill (sym r.after_is) (record { desk = till.desk; keeps = leaves r.line r.is.line till.keeps })
+
+same_line : (t : TillParts) (l : LineView) → l ≡ t.line → Keeps (entries_of t) t.hand t.line.host → Keeps (entries_of t) t.hand l.host
+same_line t l same k = by_line (entries_of t) t.hand l t.line same k
+
+mark_refused : (e : Event) (why : TillRefusal) (t after : TillParts) → ((l : LineView) → Leaves e t.line l → l ≡ t.line) → RefusesMark e why t after → IsTill t → IsTill after
+mark_refused e refusal.NothingInHand t after same r till = same_keeps t after r.1 till
+mark_refused e refusal.NoneReserved t after same (hand, has, most, r) till = same_keeps t after r till
+mark_refused e (refusal.Line why) t after same (hand, has, within, r) till = line_keeps e why t after (λ l leaves k. same_line t l (same l leaves) k) r till
+mark_refused e refusal.SwitchedOff t after same r till = absurd r
+mark_refused e refusal.SwitchedOn t after same r till = absurd r
+mark_refused e refusal.InHand t after same r till = absurd r
+mark_refused e refusal.NothingWaits t after same r till = absurd r
+mark_refused e (refusal.NoReceipt cause) t after same r till = absurd r
+mark_refused e refusal.Submitted t after same r till = absurd r
+mark_refused e refusal.NotAnswered t after same r till = absurd r
+mark_refused e refusal.IsHostCall t after same r till = absurd r
+mark_refused e (refusal.Ledger cause) t after same r till = absurd r
+mark_refused e (refusal.Open cause) t after same r till = absurd r
+
+submit_refused : (why : TillRefusal) (t after : TillParts) → RefusesSubmitting why t after → IsTill t → IsTill after
+submit_refused refusal.Submitted t after (hand, has, none, r) till = same_keeps t after r till
+submit_refused refusal.NothingInHand t after r till = mark_refused (line.Submit r.0) refusal.NothingInHand t after (λ l same. same) r.1 till
+submit_refused refusal.NoneReserved t after r till = mark_refused (line.Submit r.0) refusal.NoneReserved t after (λ l same. same) r.1 till
+submit_refused (refusal.Line why) t after r till = mark_refused (line.Submit r.0) (refusal.Line why) t after (λ l same. same) r.1 till
+submit_refused refusal.SwitchedOff t after r till = absurd r.1
+submit_refused refusal.SwitchedOn t after r till = absurd r.1
+submit_refused refusal.InHand t after r till = absurd r.1
+submit_refused refusal.NothingWaits t after r till = absurd r.1
+submit_refused (refusal.NoReceipt cause) t after r till = absurd r.1
+submit_refused refusal.NotAnswered t after r till = absurd r.1
+submit_refused refusal.IsHostCall t after r till = absurd r.1
+submit_refused (refusal.Ledger cause) t after r till = absurd r.1
+submit_refused (refusal.Open cause) t after r till = absurd r.1
+
+taking_refused : (openings : ℕ) (why : TillRefusal) (t after : TillParts) → IsDesk after.desk → RefusesTaking openings why t after → IsTill t → IsTill after
+taking_refused openings refusal.InHand t after desk r till = same_keeps t after r.1 till
+taking_refused openings refusal.SwitchedOff t after desk r till = same_keeps t after r.1 till
+taking_refused openings refusal.NothingWaits t after desk (ledger, on, live, none, same) till = same_keeps t after same till
+taking_refused openings (refusal.NoReceipt why) t after desk (ledger, number, content, tried, on, live, first, cause, same) till = same_keeps t after same till
+taking_refused openings (refusal.Ledger why) t after desk r till = refused_keeps (RefusesTry openings why) t after (try_refused openings why) desk r till
+taking_refused openings refusal.NothingInHand t after desk r till = absurd r
+taking_refused openings refusal.NoneReserved t after desk r till = absurd r
+taking_refused openings (refusal.Line why) t after desk r till = absurd r
+taking_refused openings refusal.SwitchedOn t after desk r till = absurd r
+taking_refused openings refusal.Submitted t after desk r till = absurd r
+taking_refused openings refusal.NotAnswered t after desk r till = absurd r
+taking_refused openings refusal.IsHostCall t after desk r till = absurd r
+taking_refused openings (refusal.Open cause) t after desk r till = absurd r
+
+not_noted : (why : LedgerError) (t after : TillParts) → NotNoted why t after → IsDesk after.desk → IsTill t → IsTill after
+not_noted why t after n desk till =
+    noted_keeps n.old n.new t after n.hand n.desk n.hand_is n.live n.answered (λ before later. recorded_refused why n.old n.new n.hand.number before later n.refused) n.after_is desk till
+
+record_refused : (why : TillRefusal) (t after : TillParts) → IsDesk after.desk → RefusesRecording why t after → IsTill t → IsTill after
+record_refused refusal.NothingInHand t after desk r till = same_keeps t after r.1 till
+record_refused refusal.SwitchedOff t after desk r till = same_keeps t after r.1 till
+record_refused refusal.NotAnswered t after desk (ledger, on, live, few, same) till = same_keeps t after same till
+record_refused (refusal.Ledger why) t after desk (inl (ledger, on, failed, is, same)) till = same_keeps t after same till
+record_refused (refusal.Ledger why) t after desk (inr n) till = not_noted why t after n desk till
+record_refused refusal.InHand t after desk r till = absurd r
+record_refused refusal.NothingWaits t after desk r till = absurd r
+record_refused (refusal.NoReceipt cause) t after desk r till = absurd r
+record_refused refusal.NoneReserved t after desk r till = absurd r
+record_refused (refusal.Line why) t after desk r till = absurd r
+record_refused refusal.SwitchedOn t after desk r till = absurd r
+record_refused refusal.Submitted t after desk r till = absurd r
+record_refused refusal.IsHostCall t after desk r till = absurd r
+record_refused (refusal.Open cause) t after desk r till = absurd r
+
+start_refused : (why : TillRefusal) (t after : TillParts) → RefusesStart why t after → IsTill t → IsTill after
+start_refused refusal.SwitchedOn t after r till = same_keeps t after r.1 till
+start_refused (refusal.Open why) t after (store, off, damaged, same) till = same_keeps t after same till
+start_refused refusal.SwitchedOff t after r till = absurd r
+start_refused refusal.InHand t after r till = absurd r
+start_refused refusal.NothingInHand t after r till = absurd r
+start_refused refusal.NothingWaits t after r till = absurd r
+start_refused (refusal.NoReceipt cause) t after r till = absurd r
+start_refused refusal.NoneReserved t after r till = absurd r
+start_refused refusal.Submitted t after r till = absurd r
+start_refused refusal.NotAnswered t after r till = absurd r
+start_refused refusal.IsHostCall t after r till = absurd r
+start_refused (refusal.Ledger cause) t after r till = absurd r
+start_refused (refusal.Line why) t after r till = absurd r
+
+on_line_refused : (e : Event) (why : TillRefusal) (t after : TillParts) → RefusesOnLine e why t after → IsTill t → IsTill after
+on_line_refused e refusal.IsHostCall t after r till = same_keeps t after r.1 till
+on_line_refused e (refusal.Line why) t after (no_call, r) till =
+    line_keeps e why t after (λ l leaves k. on_keeps (entries_of t) t.hand t.line.host l.host (leaves_on e t.line l no_call leaves) k) r till
+on_line_refused e refusal.SwitchedOff t after r till = absurd r
+on_line_refused e refusal.SwitchedOn t after r till = absurd r
+on_line_refused e refusal.InHand t after r till = absurd r
+on_line_refused e refusal.NothingInHand t after r till = absurd r
+on_line_refused e refusal.NothingWaits t after r till = absurd r
+on_line_refused e (refusal.NoReceipt cause) t after r till = absurd r
+on_line_refused e refusal.NoneReserved t after r till = absurd r
+on_line_refused e refusal.Submitted t after r till = absurd r
+on_line_refused e refusal.NotAnswered t after r till = absurd r
+on_line_refused e (refusal.Ledger cause) t after r till = absurd r
+on_line_refused e (refusal.Open cause) t after r till = absurd r
+
+pub keeps_refused : (e : TillEvent) (why : TillRefusal) (t after : TillParts) → IsDesk after.desk → Refuses e why t after → IsTill t → IsTill after
+keeps_refused (event.Queue json) why t after desk r till =
+    write_refused (λ e old new. RefusesQueue e old json new) (entry.Queued json) why t after refl (λ cause old new. queue_refused cause old new json) desk r till
+keeps_refused (event.Raise first) why t after desk r till =
+    write_refused (λ e old new. RefusesRaise e old first new) (entry.Raised first) why t after refl (λ cause old new. raise_refused cause old new first) desk r till
+keeps_refused (event.TakeInHand openings) why t after desk r till = taking_refused openings why t after desk r till
+keeps_refused event.LinkUp why t after desk r till = mark_refused line.LinkUp why t after (λ l same. same) r till
+keeps_refused event.Nudge why t after desk r till = mark_refused line.Nudge why t after (λ l same. same) r till
+keeps_refused event.Submit why t after desk r till = submit_refused why t after r till
+keeps_refused event.Record why t after desk r till = record_refused why t after desk r till
+keeps_refused event.GiveUp why t after desk (is, none, same) till = same_keeps t after same till
+keeps_refused event.Crash why t after desk r till = absurd r
+keeps_refused (event.Start failure) why t after desk r till = start_refused why t after r till
+keeps_refused (event.OnLine e) why t after desk r till = on_line_refused e why t after r till
