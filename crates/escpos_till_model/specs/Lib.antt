@@ -2,3 +2,4 @@ pub mod Receipts
 pub mod Parts
 pub mod Steps
 pub mod Kept
+pub mod Due

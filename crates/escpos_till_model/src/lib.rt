@@ -13,6 +13,7 @@
 #![tactic(auto)]
 
 mod desk;
+mod due;
 mod event;
 mod hand;
 mod parts;
