@@ -299,19 +299,20 @@ mark_refused e (refusal.Ledger cause) t after same r till = absurd r
 mark_refused e (refusal.Open cause) t after same r till = absurd r
 
 submit_refused : (why : TillRefusal) (t after : TillParts) → RefusesSubmitting why t after → IsTill t → IsTill after
-submit_refused refusal.Submitted t after (hand, has, none, r) till = same_keeps t after r till
-submit_refused refusal.NothingInHand t after r till = mark_refused (line.Submit r.0) refusal.NothingInHand t after (λ l same. same) r.1 till
-submit_refused refusal.NoneReserved t after r till = mark_refused (line.Submit r.0) refusal.NoneReserved t after (λ l same. same) r.1 till
-submit_refused (refusal.Line why) t after r till = mark_refused (line.Submit r.0) (refusal.Line why) t after (λ l same. same) r.1 till
-submit_refused refusal.SwitchedOff t after r till = absurd r.1
-submit_refused refusal.SwitchedOn t after r till = absurd r.1
-submit_refused refusal.InHand t after r till = absurd r.1
-submit_refused refusal.NothingWaits t after r till = absurd r.1
-submit_refused (refusal.NoReceipt cause) t after r till = absurd r.1
-submit_refused refusal.NotAnswered t after r till = absurd r.1
-submit_refused refusal.IsHostCall t after r till = absurd r.1
-submit_refused (refusal.Ledger cause) t after r till = absurd r.1
-submit_refused (refusal.Open cause) t after r till = absurd r.1
+submit_refused refusal.NothingInHand t after r till = same_keeps t after r.1 till
+submit_refused refusal.NoneReserved t after (hand, has, most, r) till = same_keeps t after r till
+submit_refused refusal.Submitted t after (hand, has, within, none, r) till = same_keeps t after r till
+submit_refused (refusal.Line why) t after (hand, commands, has, within, receipt, r) till =
+    line_keeps (line.Submit commands) why t after (λ l same k. same_line t l same k) r till
+submit_refused refusal.SwitchedOff t after r till = absurd r
+submit_refused refusal.SwitchedOn t after r till = absurd r
+submit_refused refusal.InHand t after r till = absurd r
+submit_refused refusal.NothingWaits t after r till = absurd r
+submit_refused (refusal.NoReceipt cause) t after r till = absurd r
+submit_refused refusal.NotAnswered t after r till = absurd r
+submit_refused refusal.IsHostCall t after r till = absurd r
+submit_refused (refusal.Ledger cause) t after r till = absurd r
+submit_refused (refusal.Open cause) t after r till = absurd r
 
 taking_refused : (openings : ℕ) (why : TillRefusal) (t after : TillParts) → IsDesk after.desk → RefusesTaking openings why t after → IsTill t → IsTill after
 taking_refused openings refusal.InHand t after desk r till = same_keeps t after r.1 till

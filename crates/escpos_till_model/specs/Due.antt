@@ -1,20 +1,29 @@
--- How the first receipt that waits is taken in hand. For private clauses and proofs alone.
-use Rattle.std.specs.Prelude.{ℕ, ◌≡◌, ◌≢◌, ◌⊎◌, ◌+◌, ◌≤◌, List, [], length}
+-- What a till does to its ledger alone, and to its receipt in hand and its line. For private clauses and proofs alone.
+use Rattle.std.specs.Prelude.{ℕ, ◌≡◌, ◌+◌, ◌<◌, ◌≤◌, List, [], Option, Some, None, Result, Ok, Err, length}
+use Rattle.escpos_command.specs.declared.command.Command.{Command}
 use Rattle.escpos_command.specs.Digits.{mark_count}
 use Rattle.escpos_till.specs.declared.entry.Entry.{Entry}
 use Rattle.escpos_till.specs.declared.entry.Entry.TheVariants as entry
+use Rattle.escpos_till.specs.declared.error.LedgerError.{LedgerError}
 use Rattle.escpos_till.specs.declared.error.LedgerError.TheVariants as error
 use Rattle.escpos_till.specs.Delivers.{WhyNone, marks_taken}
 use Rattle.escpos_till.specs.Entries.{next_free, recorded, waiting}
-use Rattle.escpos_till.specs.Ledger.{Adds, FirstWaits, HasFailed, IsLive, LedgerView}
+use Rattle.escpos_till.specs.Ledger.{Adds, FirstWaits, HasFailed, IsLive, LedgerView, RefusesRecorded}
+use Rattle.escpos_link.specs.declared.event.Event.TheVariants as line
+use Rattle.escpos_link.specs.declared.event.Note.{Note}
+use Rattle.escpos_link.specs.declared.event.Refused.{Refused}
+use Rattle.escpos_link.specs.EventTable.{IsRefused}
+use Rattle.escpos_link.specs.Line.{LineView}
+use Rattle.escpos_link.specs.Steps.{Happens}
 use Rattle.escpos_till_model.specs.declared.desk.Desk.{Desk}
 use Rattle.escpos_till_model.specs.declared.desk.Desk.TheVariants.{On, Off}
 use Rattle.escpos_till_model.specs.declared.due.DueReceipt.{DueReceipt}
 use Rattle.escpos_till_model.specs.declared.due.FirstReceipt.{FirstReceipt}
 use Rattle.escpos_till_model.specs.declared.event.TillRefusal.{TillRefusal}
 use Rattle.escpos_till_model.specs.declared.event.TillRefusal.TheVariants as refusal
+use Rattle.escpos_till_model.specs.declared.hand.Hand.{Hand}
 use Rattle.escpos_till_model.specs.Receipts.{IsReceipt}
-use Rattle.escpos_till_model.specs.Steps.{IsOff, RefusesTry}
+use Rattle.escpos_till_model.specs.Steps.{IsOff, RefusesTry, submitted}
 
 -- It is the first receipt that waits in this ledger.
 pub record IsFirst (ledger : LedgerView (List Entry)) (first : FirstReceipt) : Type 0 where
@@ -57,3 +66,41 @@ RefusesDesk openings (refusal.NoReceipt why) before after =
 RefusesDesk openings (refusal.Ledger why) before after =
     (old : LedgerView (List Entry)) × (new : LedgerView (List Entry)) × (before ≡ On old) × RefusesTry openings why old new × (after ≡ On new)
 RefusesDesk openings _ before after = ⊥
+
+-- The host is given the receipt in hand.
+pub record Gives (hand : Hand) (l : LineView) (left : Hand) (after : LineView) : Type 0 where
+  pub commands : List Command
+  pub has : hand.receipt ≡ Some commands
+  pub reserved : l.host.next < hand.limit
+  pub note : Note
+  pub happens : Happens (line.Submit commands) l note after
+  pub left_is : left ≡ submitted hand
+
+abbrev pub RefusesGiving : TillRefusal → Hand → LineView → Hand → LineView → Type 0
+RefusesGiving refusal.NoneReserved hand l left after = (hand.limit ≤ l.host.next) × (left ≡ hand) × (after ≡ l)
+RefusesGiving refusal.Submitted hand l left after = (l.host.next < hand.limit) × (hand.receipt ≡ None) × (left ≡ hand) × (after ≡ l)
+RefusesGiving (refusal.Line why) hand l left after =
+    (commands : List Command) × (refused : Refused) × (l.host.next < hand.limit) × (hand.receipt ≡ Some commands) × (refused.why ≡ why)
+    × IsRefused (line.Submit commands) l refused after × (left ≡ hand)
+RefusesGiving _ hand l left after = ⊥
+
+-- The ledger was to note that the receipt with this number is recorded, where the host has so many records.
+abbrev pub IsNoted : Result (Unit {0}) LedgerError → LedgerView (List Entry) → ℕ → LedgerView (List Entry) → Type 0
+IsNoted (Ok done) old number new = Adds old (entry.Recorded number) new
+IsNoted (Err why) old number new = RefusesRecorded why old number new
+
+pub record Notes (number records : ℕ) (before : Desk) (noted : Result (Unit {0}) LedgerError) (after : Desk) : Type 0 where
+  pub old : LedgerView (List Entry)
+  pub new : LedgerView (List Entry)
+  pub desk : before ≡ On old
+  pub live : IsLive old
+  pub answered : length (recorded old.entries) < records
+  pub is : IsNoted noted old number new
+  pub desk_after : after ≡ On new
+
+abbrev pub RefusesNoting : TillRefusal → ℕ → Desk → Type 0
+RefusesNoting refusal.SwitchedOff records desk = IsOff desk
+RefusesNoting refusal.NotAnswered records desk =
+    (ledger : LedgerView (List Entry)) × (desk ≡ On ledger) × IsLive ledger × (records ≤ length (recorded ledger.entries))
+RefusesNoting (refusal.Ledger why) records desk = (ledger : LedgerView (List Entry)) × (desk ≡ On ledger) × HasFailed ledger × (why ≡ error.Failed)
+RefusesNoting _ records desk = ⊥

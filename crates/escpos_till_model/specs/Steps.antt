@@ -193,8 +193,14 @@ RefusesMark e (refusal.Line why) t after = (hand : Hand) × (t.hand ≡ Some han
 RefusesMark e _ t after = ⊥
 
 abbrev pub RefusesSubmitting : TillRefusal → TillParts → TillParts → Type 0
-RefusesSubmitting refusal.Submitted t after = (hand : Hand) × (t.hand ≡ Some hand) × (hand.receipt ≡ None) × (after ≡ t)
-RefusesSubmitting why t after = (commands : List Command) × RefusesMark (line.Submit commands) why t after
+RefusesSubmitting refusal.NothingInHand t after = (t.hand ≡ None) × (after ≡ t)
+RefusesSubmitting refusal.NoneReserved t after = (hand : Hand) × (t.hand ≡ Some hand) × (hand.limit ≤ t.line.host.next) × (after ≡ t)
+RefusesSubmitting refusal.Submitted t after =
+    (hand : Hand) × (t.hand ≡ Some hand) × (t.line.host.next < hand.limit) × (hand.receipt ≡ None) × (after ≡ t)
+RefusesSubmitting (refusal.Line why) t after =
+    (hand : Hand) × (commands : List Command) × (t.hand ≡ Some hand) × (t.line.host.next < hand.limit) × (hand.receipt ≡ Some commands)
+    × RefusedOnLine (line.Submit commands) why t after
+RefusesSubmitting _ t after = ⊥
 
 -- The host has recorded the receipt in hand, and the ledger doesn't note it. The till lets the receipt go.
 pub record NotNoted (why : LedgerError) (t : TillParts) (after : TillParts) : Type 0 where
