@@ -213,6 +213,19 @@ impl TillParts {
         requires { IsTill self.old }
         ensures happened { OnOk result (After happening self.old self.new) }
         ensures refused { IfErr result (λ why. Refuses happening why self.old self.new) }
+        ensures desk { IsDesk self.new.desk }
+    {
+        let result = self.happen_so(alloc, happening);
+        // Proof only: what the ledger has is in its store.
+        self.desk.is_sound();
+        result
+    }
+
+    // The same; its caller says what the store has.
+    fn happen_so(&mut self, alloc: Global, happening: TillEvent) -> Result<(), TillRefusal>
+        requires { IsTill self.old }
+        ensures happened { OnOk result (After happening self.old self.new) }
+        ensures refused { IfErr result (λ why. Refuses happening why self.old self.new) }
     {
         match happening {
             TillEvent::Queue(json) => match self.queue(alloc, json.bytes()) {
