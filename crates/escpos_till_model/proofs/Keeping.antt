@@ -104,7 +104,7 @@ hung_records Down h = refl
 hung_records (Opening first) h = refl
 hung_records (Open flight) h = refl
 
-hung_next : (phase : Phase) (h : HostView) → (hung_up phase h).next ≡ h.next
+pub hung_next : (phase : Phase) (h : HostView) → (hung_up phase h).next ≡ h.next
 hung_next Down h = refl
 hung_next (Opening first) h = refl
 hung_next (Open flight) h = refl

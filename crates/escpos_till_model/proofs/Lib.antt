@@ -3,3 +3,5 @@ pub mod Accounts
 pub mod GoesOn
 pub mod Keeping
 pub mod Tilling
+pub mod Standing
+pub mod Marking

@@ -115,7 +115,7 @@ pub record Open (ledger : LedgerView (List Entry)) (hand : Option Hand) (h : Hos
   pub stored : IsInStore ledger
   pub keeps : Keeps ledger.store hand h
 
-opened : (t : TillParts) (ledger : LedgerView (List Entry)) → t.desk ≡ On ledger → IsTill t → Open ledger t.hand t.line.host
+pub opened : (t : TillParts) (ledger : LedgerView (List Entry)) → t.desk ≡ On ledger → IsTill t → Open ledger t.hand t.line.host
 opened t ledger is till = record {
   stored = subst IsDesk is till.desk;
   keeps = subst (λ (d : Desk). Keeps (entries_at d) t.hand t.line.host) is till.keeps;
@@ -352,17 +352,7 @@ record_refused (refusal.Open cause) t after desk r till = absurd r
 start_refused : (why : TillRefusal) (t after : TillParts) → RefusesStart why t after → IsTill t → IsTill after
 start_refused refusal.SwitchedOn t after r till = same_keeps t after r.1 till
 start_refused (refusal.Open why) t after (store, off, damaged, same) till = same_keeps t after same till
-start_refused refusal.SwitchedOff t after r till = absurd r
-start_refused refusal.InHand t after r till = absurd r
-start_refused refusal.NothingInHand t after r till = absurd r
-start_refused refusal.NothingWaits t after r till = absurd r
-start_refused (refusal.NoReceipt cause) t after r till = absurd r
-start_refused refusal.NoneReserved t after r till = absurd r
-start_refused refusal.Submitted t after r till = absurd r
-start_refused refusal.NotAnswered t after r till = absurd r
-start_refused refusal.IsHostCall t after r till = absurd r
-start_refused (refusal.Ledger cause) t after r till = absurd r
-start_refused (refusal.Line why) t after r till = absurd r
+start_refused _ t after r till = absurd r
 
 on_line_refused : (e : Event) (why : TillRefusal) (t after : TillParts) → RefusesOnLine e why t after → IsTill t → IsTill after
 on_line_refused e refusal.IsHostCall t after r till = same_keeps t after r.1 till

@@ -11,11 +11,17 @@ use Rattle.escpos_till.specs.Copy.{copy_line, is_copy_character}
 use Rattle.escpos_till.specs.Entries.{Taken, recorded, taken, waiting}
 use Rattle.escpos_link.specs.Stands.{Stands}
 
--- ## Receipts of entries
+-- ## Lists
 
 -- It is one of these.
 abbrev pub Among : {X : Type 0} → X → List X → Type 0
 Among {X} x xs = (before : List X) × (following : List X) × (xs ≡ before ++ x ∷ following)
+
+-- No number is among them twice.
+abbrev pub NoneTwice : List ℕ → Type 0
+NoneTwice ns = (n : ℕ) (before following : List ℕ) → ns ≡ before ++ n ∷ following → ¬ Among n before
+
+-- ## Receipts of entries
 
 -- The receipt with this number was taken, and this is its text in JSON.
 abbrev pub IsTaken : List Entry → ℕ → List ℕ → Type 0
@@ -54,4 +60,4 @@ pub record EachIsKept (entries : List Entry) : Type 0 where
   pub waits_or_recorded : (receipt : Taken) → Among receipt (taken entries) → Among receipt (waiting entries) ⊎ Among receipt.number (recorded entries)
   pub not_both : (receipt : Taken) → Among receipt (waiting entries) → ¬ Among receipt.number (recorded entries)
   pub were_taken : (number : ℕ) → Among number (recorded entries) → (content : List ℕ) × IsTaken entries number content
-  pub once : (number : ℕ) (before following : List ℕ) → recorded entries ≡ before ++ number ∷ following → ¬ Among number before
+  pub once : NoneTwice (recorded entries)

@@ -1,0 +1,53 @@
+-- The numbers of the marks that a till puts on its line, over a list of events.
+use Rattle.std.specs.Prelude.{ℕ, ◌≡◌, ◌⊎◌, ◌<◌, ◌≤◌, List, [], ◌∷◌, ◌++◌}
+use Rattle.std.specs.List.{AllByRecursion}
+use Rattle.escpos_till.specs.declared.entry.Entry.{Entry}
+use Rattle.escpos_till.specs.declared.entry.Entry.TheVariants as entry
+use Rattle.escpos_till.specs.Entries.{next_free}
+use Rattle.escpos_till_model.specs.declared.event.TillEvent.{TillEvent}
+use Rattle.escpos_till_model.specs.declared.event.TillEvent.TheVariants as event
+use Rattle.escpos_till_model.specs.declared.event.TillRefusal.{TillRefusal}
+use Rattle.escpos_till_model.specs.declared.parts.TillParts.{TillParts}
+use Rattle.escpos_till_model.specs.Parts.{entries_of}
+use Rattle.escpos_till_model.specs.Steps.{After, Refuses}
+
+-- The numbers of the marks that an event puts on the line when it happens: an opening mark, or the closing mark of the
+-- receipt in hand, has the host's next number.
+abbrev pub marks_put : TillEvent → TillParts → List ℕ
+marks_put (event.Queue json) t = []
+marks_put (event.Raise first) t = []
+marks_put (event.TakeInHand openings) t = []
+marks_put event.LinkUp t = t.line.host.next ∷ []
+marks_put event.Nudge t = t.line.host.next ∷ []
+marks_put event.Submit t = t.line.host.next ∷ []
+marks_put event.Record t = []
+marks_put event.GiveUp t = []
+marks_put event.Crash t = []
+marks_put (event.Start failure) t = []
+marks_put (event.OnLine e) t = []
+
+-- An entry has reserved the number for a receipt; it was free before that.
+pub record IsReserved (entries : List Entry) (mark : ℕ) : Type 0 where
+  pub number : ℕ
+  pub limit : ℕ
+  pub before : List Entry
+  pub following : List Entry
+  pub entries_are : entries ≡ before ++ entry.Tried number limit ∷ following
+  pub from : next_free before ≤ mark
+  pub to : mark < limit
+
+-- Each of the numbers is reserved, and is from the host's next one up to the one that is next then.
+pub record UsesMarks (t : TillParts) (marks : List ℕ) (after : TillParts) : Type 0 where
+  pub own : AllByRecursion (IsReserved (entries_of t)) marks
+  pub within : AllByRecursion (λ n. (t.line.host.next ≤ n) × (n < after.line.host.next)) marks
+  pub rises : t.line.host.next ≤ after.line.host.next
+
+-- An event happened, or was refused; these are the numbers of the marks that it put on the line.
+abbrev pub Steps : TillParts → TillEvent → List ℕ → TillParts → Type 0
+Steps t e marks after = (After e t after × (marks ≡ marks_put e t)) ⊎ ((why : TillRefusal) × Refuses e why t after × (marks ≡ []))
+
+-- The events came one after another.
+abbrev pub Ran : TillParts → List TillEvent → List ℕ → TillParts → Type 0
+Ran t [] marks after = (marks ≡ []) × (after ≡ t)
+Ran t (e ∷ es) marks after =
+    (next : TillParts) × (some : List ℕ) × (others : List ℕ) × (marks ≡ some ++ others) × Steps t e some next × Ran next es others after
