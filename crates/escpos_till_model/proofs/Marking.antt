@@ -61,8 +61,8 @@ one_mark e t after hand left till u next =
       rises = omega (arith, is);
     }
 
-taking_rises : (openings : ℕ) (t after : TillParts) → IsTill t → TakesInHand openings t after → t.line.host.next ≤ after.line.host.next
-taking_rises openings t after till w =
+taking_rises : (openings : ℕ) (copy : Option (List ℕ)) (t after : TillParts) → IsTill t → TakesInHand openings copy t after → t.line.host.next ≤ after.line.host.next
+taking_rises openings copy t after till w =
     let o = opened t w.old w.desk till in
     let same = o.stored.live w.adds.live in
     let first : next_free w.old.store ≡ next_free w.old.entries = ap next_free same in
@@ -72,7 +72,7 @@ taking_rises openings t after till w =
 pub uses_marks : (e : TillEvent) (t after : TillParts) → IsTill t → After e t after → UsesMarks t (marks_put e t) after
 uses_marks (event.Queue json) t after till (w, receipt) = no_marks t after (next_of t after _ w.after_is refl)
 uses_marks (event.Raise first) t after till w = no_marks t after (next_of t after _ w.after_is refl)
-uses_marks (event.TakeInHand openings) t after till w = record { own = tt; within = tt; rises = taking_rises openings t after till w }
+uses_marks (event.TakeInHand openings copy) t after till w = record { own = tt; within = tt; rises = taking_rises openings copy t after till w }
 uses_marks event.LinkUp t after till (hand, u) =
     let (done, is_down, mark, same) = u.happens.0 in one_mark line.LinkUp t after hand hand till u (ap (λ (l : LineView). l.host.next) same)
 uses_marks event.Nudge t after till (hand, u) =
@@ -96,13 +96,14 @@ write_same Why refusal.SwitchedOff t after r = next_of t after t r.1 refl
 write_same Why (refusal.Ledger cause) t after r = next_of t after _ r.after_is refl
 write_same Why _ t after r = absurd r
 
-taking_same : (openings : ℕ) (why : TillRefusal) (t after : TillParts) → RefusesTaking openings why t after → Same t after
-taking_same openings refusal.InHand t after r = next_of t after t r.1 refl
-taking_same openings refusal.SwitchedOff t after r = next_of t after t r.1 refl
-taking_same openings refusal.NothingWaits t after (ledger, on, live, none, same) = next_of t after t same refl
-taking_same openings (refusal.NoReceipt why) t after (ledger, number, content, tried, on, live, first, cause, same) = next_of t after t same refl
-taking_same openings (refusal.Ledger why) t after r = next_of t after _ r.after_is refl
-taking_same openings _ t after r = absurd r
+taking_same : (openings : ℕ) (copy : Option (List ℕ)) (why : TillRefusal) (t after : TillParts) → RefusesTaking openings copy why t after → Same t after
+taking_same openings copy refusal.InHand t after r = next_of t after t r.1 refl
+taking_same openings copy refusal.NotCopyText t after r = next_of t after t r.2 refl
+taking_same openings copy refusal.SwitchedOff t after r = next_of t after t r.1 refl
+taking_same openings copy refusal.NothingWaits t after (ledger, on, live, none, same) = next_of t after t same refl
+taking_same openings copy (refusal.NoReceipt why) t after (ledger, number, content, tried, on, live, first, cause, same) = next_of t after t same refl
+taking_same openings copy (refusal.Ledger why) t after r = next_of t after _ r.after_is refl
+taking_same openings copy _ t after r = absurd r
 
 mark_same : (e : Event) (why : TillRefusal) (t after : TillParts) → ((l : LineView) → Leaves e t.line l → l ≡ t.line) → RefusesMark e why t after → Same t after
 mark_same e refusal.NothingInHand t after leaves r = next_of t after t r.1 refl
@@ -138,7 +139,7 @@ on_line_same e _ t after r = absurd r
 pub refused_same : (e : TillEvent) (why : TillRefusal) (t after : TillParts) → Refuses e why t after → Same t after
 refused_same (event.Queue json) why t after r = write_same _ why t after r
 refused_same (event.Raise first) why t after r = write_same _ why t after r
-refused_same (event.TakeInHand openings) why t after r = taking_same openings why t after r
+refused_same (event.TakeInHand openings copy) why t after r = taking_same openings copy why t after r
 refused_same event.LinkUp why t after r = mark_same line.LinkUp why t after (λ l same. same) r
 refused_same event.Nudge why t after r = mark_same line.Nudge why t after (λ l same. same) r
 refused_same event.Submit why t after r = submit_same why t after r

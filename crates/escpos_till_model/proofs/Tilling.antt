@@ -1,6 +1,10 @@
 -- What holds for every till holds after each event, and after each refusal.
-use Rattle.std.proofs.Common.{ℕ, ◌≡◌, ◌≢◌, ◌+◌, ◌<◌, ◌≤◌, ◌⊎◌, inl, inr, Option, Some, None, List, [], ◌∷◌, ◌++◌, length, refl, sym, ◌∙◌, ap, subst}
+use Rattle.std.proofs.Common.{ℕ, ◌≡◌, ◌≢◌, ◌+◌, ◌<◌, ◌≤◌, ◌⊎◌, inl, inr, Bool, true, false, Option, Some, None, List, [], ◌∷◌, ◌++◌, length, refl, sym, ◌∙◌, ap, subst}
+use Rattle.std.specs.Prelude.{nat_lt, if◌then◌else◌}
 use Rattle.escpos_command.specs.declared.command.Command.{Command}
+use Rattle.escpos_receipt.specs.Describes.{Describes}
+use Rattle.escpos_receipt.specs.Whole.{Whole}
+use Rattle.escpos_till.specs.Copy.{copy_line, sent_of}
 use Rattle.escpos_host.specs.Machine.{Down, HostView, InFlight, linked, nudged, submitted as given}
 use Rattle.escpos_till.specs.declared.entry.Entry.{Entry}
 use Rattle.escpos_till.specs.declared.entry.Entry.TheVariants as entry
@@ -25,8 +29,8 @@ use Rattle.escpos_till_model.specs.declared.hand.Hand.{Hand}
 use Rattle.escpos_till_model.specs.declared.parts.TillParts.{TillParts}
 use Rattle.escpos_till_model.specs.Kept.{IsTill, Keeps}
 use Rattle.escpos_till_model.specs.Parts.{IsDesk, IsInStore, dropped, entries_at, entries_of, let_go, switched_off, with_desk, with_line}
-use Rattle.escpos_till_model.specs.Receipts.{IsReceiptOf}
-use Rattle.escpos_till_model.specs.Steps.{After, GoesOnLine, IsOff, NotNoted, Records, RefusedBy, RefusedOnLine, Refuses, RefusesMark, RefusesOnLine, RefusesRecording, RefusesStart, RefusesSubmitting, RefusesTaking, RefusesTry, RefusesWrite, TakesInHand, UsesMark, Writes, is_host_call, submitted}
+use Rattle.escpos_till_model.specs.Receipts.{IsReceipt, IsReceiptOf}
+use Rattle.escpos_till_model.specs.Steps.{After, GoesOnLine, IsCopy, IsOff, NotNoted, Records, RefusedBy, RefusedOnLine, Refuses, RefusesMark, RefusesOnLine, RefusesRecording, RefusesStart, RefusesSubmitting, RefusesTaking, RefusesTry, RefusesWrite, TakesInHand, UsesMark, Writes, is_host_call, submitted}
 use Rattle.escpos_till_model.proofs.EntryFacts.{first_is_taken}
 use Rattle.escpos_till_model.proofs.GoesOn.{goes_on, leaves_on}
 use Rattle.escpos_till_model.proofs.Keeping.{entry_keeps, gone_keeps, linked_keeps, nudged_keeps, on_keeps, record_keeps, submitted_keeps, take_keeps}
@@ -58,11 +62,7 @@ entry_refused : (why : LedgerError) (old new : LedgerView (List Entry)) (e : Ent
 entry_refused (error.Store fault) old new e before after r = store_unsure old new e before after r
 entry_refused error.Failed old new e before after r = store_same old new e r.1
 entry_refused error.Memory old new e before after r = store_same old new e r.1
-entry_refused (error.NotReceipt fault) old new e before after r = absurd r
-entry_refused error.NotWaiting old new e before after r = absurd r
-entry_refused error.NotTried old new e before after r = absurd r
-entry_refused error.MarksUsedUp old new e before after r = absurd r
-entry_refused (error.MarkReused next) old new e before after r = absurd r
+entry_refused _ old new e before after r = absurd r
 
 queue_refused : (why : LedgerError) (old new : LedgerView (List Entry)) (json : List ℕ) → IsInStore old → IsInStore new → RefusesQueue why old json new
     → Grown old.store (entry.Queued json) new.store
@@ -70,43 +70,33 @@ queue_refused (error.Store fault) old new json before after r = store_unsure old
 queue_refused error.Failed old new json before after r = store_same old new _ r.1
 queue_refused error.Memory old new json before after r = store_same old new _ r.1
 queue_refused (error.NotReceipt fault) old new json before after r = store_same old new _ r.2
-queue_refused error.NotWaiting old new json before after r = absurd r
-queue_refused error.NotTried old new json before after r = absurd r
-queue_refused error.MarksUsedUp old new json before after r = absurd r
-queue_refused (error.MarkReused next) old new json before after r = absurd r
+queue_refused _ old new json before after r = absurd r
 
 raise_refused : (why : LedgerError) (old new : LedgerView (List Entry)) (first : ℕ) → IsInStore old → IsInStore new → RefusesRaise why old first new
     → Grown old.store (entry.Raised first) new.store
 raise_refused (error.Store fault) old new first before after r = store_unsure old new _ before after r
 raise_refused error.Failed old new first before after r = store_same old new _ r.1
 raise_refused error.Memory old new first before after r = store_same old new _ r.1
-raise_refused (error.NotReceipt fault) old new first before after r = absurd r
-raise_refused error.NotWaiting old new first before after r = absurd r
-raise_refused error.NotTried old new first before after r = absurd r
-raise_refused error.MarksUsedUp old new first before after r = absurd r
 raise_refused (error.MarkReused next) old new first before after r = store_same old new _ r.3
+raise_refused _ old new first before after r = absurd r
 
 tried_refused : (why : LedgerError) (old new : LedgerView (List Entry)) (number marks : ℕ) → IsInStore old → IsInStore new → RefusesTried why old number marks new
     → Grown old.store (entry.Tried number (next_free old.entries + marks)) new.store
 tried_refused (error.Store fault) old new number marks before after r = store_unsure old new _ before after r.1
 tried_refused error.Failed old new number marks before after r = store_same old new _ r.1
 tried_refused error.Memory old new number marks before after r = store_same old new _ r.1
-tried_refused (error.NotReceipt fault) old new number marks before after r = absurd r
 tried_refused error.NotWaiting old new number marks before after r = store_same old new _ r.2
-tried_refused error.NotTried old new number marks before after r = absurd r
 tried_refused error.MarksUsedUp old new number marks before after r = store_same old new _ r.3
-tried_refused (error.MarkReused next) old new number marks before after r = absurd r
+tried_refused _ old new number marks before after r = absurd r
 
 recorded_refused : (why : LedgerError) (old new : LedgerView (List Entry)) (number : ℕ) → IsInStore old → IsInStore new → RefusesRecorded why old number new
     → Grown old.store (entry.Recorded number) new.store
 recorded_refused (error.Store fault) old new number before after r = store_unsure old new _ before after r
 recorded_refused error.Failed old new number before after r = store_same old new _ r.1
 recorded_refused error.Memory old new number before after r = store_same old new _ r.1
-recorded_refused (error.NotReceipt fault) old new number before after r = absurd r
 recorded_refused error.NotWaiting old new number before after r = store_same old new _ r.2
 recorded_refused error.NotTried old new number before after r = store_same old new _ r.3
-recorded_refused error.MarksUsedUp old new number before after r = absurd r
-recorded_refused (error.MarkReused next) old new number before after r = absurd r
+recorded_refused _ old new number before after r = absurd r
 
 -- ## The ledger gets an entry, or doesn't
 
@@ -146,11 +136,11 @@ refused_keeps Why t after grows desk r till =
     let (e, none, grown) = grows r.old r.new o.stored stored r.why in
     subst IsTill (sym r.after_is) (record { desk = stored; keeps = grown_keeps r.old.store r.new.store e t.hand t.line.host none grown o.keeps })
 
-try_refused : (openings : ℕ) (why : LedgerError) (old new : LedgerView (List Entry)) → IsInStore old → IsInStore new → RefusesTry openings why old new
+try_refused : (openings : ℕ) (copy : Option (List ℕ)) (why : LedgerError) (old new : LedgerView (List Entry)) → IsInStore old → IsInStore new → RefusesTry openings copy why old new
     → (e : Entry) × (record_of e ≡ None) × Grown old.store e new.store
-try_refused openings why old new before after (inl (failed, had, same)) =
+try_refused openings copy why old new before after (inl (failed, had, same)) =
     (entry.Raised 0, refl, store_same old new (entry.Raised 0) same)
-try_refused openings why old new before after (inr (number, content, tried, first, refused)) =
+try_refused openings copy why old new before after (inr (number, commands, due, refused)) =
     (entry.Tried number (next_free old.entries + marks_taken openings), refl, tried_refused why old new number (marks_taken openings) before after refused)
 
 same_keeps : (t after : TillParts) → after ≡ t → IsTill t → IsTill after
@@ -162,31 +152,36 @@ write_refused : (Why : LedgerError → LedgerView (List Entry) → LedgerView (L
 write_refused Why e refusal.SwitchedOff t after none grows desk r till = same_keeps t after r.1 till
 write_refused Why e (refusal.Ledger cause) t after none grows desk r till =
     refused_keeps (Why cause) t after (λ old new before later why. (e, none, grows cause old new before later why)) desk r till
-write_refused Why e refusal.SwitchedOn t after none grows desk r till = absurd r
-write_refused Why e refusal.InHand t after none grows desk r till = absurd r
-write_refused Why e refusal.NothingInHand t after none grows desk r till = absurd r
-write_refused Why e refusal.NothingWaits t after none grows desk r till = absurd r
-write_refused Why e (refusal.NoReceipt cause) t after none grows desk r till = absurd r
-write_refused Why e refusal.NoneReserved t after none grows desk r till = absurd r
-write_refused Why e refusal.Submitted t after none grows desk r till = absurd r
-write_refused Why e refusal.NotAnswered t after none grows desk r till = absurd r
-write_refused Why e refusal.IsHostCall t after none grows desk r till = absurd r
-write_refused Why e (refusal.Open cause) t after none grows desk r till = absurd r
-write_refused Why e (refusal.Line cause) t after none grows desk r till = absurd r
+write_refused Why e _ t after none grows desk r till = absurd r
 
 -- ## A receipt is taken in hand
 
-taking_keeps : (openings : ℕ) (t after : TillParts) → IsDesk after.desk → TakesInHand openings t after → IsTill t → IsTill after
-taking_keeps openings t after desk w till =
+with_or_without : (b : Bool) (commands receipt line : List Command) → commands ≡ (if b then line ++ receipt else receipt) → (commands ≡ receipt) ⊎ (commands ≡ line ++ receipt)
+with_or_without true commands receipt line e = inr e
+with_or_without false commands receipt line e = inl e
+
+-- What is sent of a receipt is a receipt, or one after the line of a copy.
+sent_is : (content : List ℕ) (receipt commands : List Command) (copy : Option (List ℕ)) (tried : ℕ) → IsCopy copy → Describes content receipt → Whole receipt
+    → commands ≡ sent_of copy tried receipt → IsReceipt content commands
+sent_is content receipt commands None tried is describes whole sent = record { receipt = receipt; describes = describes; whole = whole; sent = inl sent }
+sent_is content receipt commands (Some text) tried is describes whole sent = record {
+  receipt = receipt;
+  describes = describes;
+  whole = whole;
+  sent = elim (with_or_without (nat_lt 0 tried) commands receipt (copy_line text) sent) [ inl e ↦ inl e | inr e ↦ inr (text, is, e) ];
+}
+
+taking_keeps : (openings : ℕ) (copy : Option (List ℕ)) (t after : TillParts) → IsDesk after.desk → TakesInHand openings copy t after → IsTill t → IsTill after
+taking_keeps openings copy t after desk w till =
     let o = opened t w.old w.desk till in
     let stored = subst IsDesk w.desk_after desk in
     let same = o.stored.live w.adds.live in
     let limit = next_free w.old.entries + marks_taken openings in
     let (is, follows) = store_adds w.old w.new (entry.Tried w.number limit) o.stored stored w.adds in
     let taken : IsReceiptOf w.old.store w.number w.commands = record {
-      content = w.content;
-      taken = first_is_taken w.old.store w.number w.tried w.content (subst (λ es. FirstWaits es w.number w.content w.tried) (sym same) w.first);
-      receipt = w.receipt;
+      content = w.due.content;
+      taken = first_is_taken w.old.store w.number w.due.tried w.due.content (subst (λ es. FirstWaits es w.number w.due.content w.due.tried) (sym same) w.due.first);
+      receipt = sent_is w.due.content w.due.receipt w.commands copy w.due.tried w.copy_is w.due.describes w.due.whole w.due.sent;
     } in
     let kept = subst (λ (v : Option Hand). Keeps w.old.store v t.line.host) w.free o.keeps in
     let next = take_keeps w.old.store t.line.host w.number limit w.commands follows taken kept in
@@ -254,7 +249,7 @@ start_keeps t after store off same till =
 pub keeps : (e : TillEvent) (t after : TillParts) → IsDesk after.desk → After e t after → IsTill t → IsTill after
 keeps (event.Queue json) t after desk (w, receipt) till = write_keeps t after (entry.Queued json) refl desk w till
 keeps (event.Raise first) t after desk w till = write_keeps t after (entry.Raised first) refl desk w till
-keeps (event.TakeInHand openings) t after desk w till = taking_keeps openings t after desk w till
+keeps (event.TakeInHand openings copy) t after desk w till = taking_keeps openings copy t after desk w till
 keeps event.LinkUp t after desk (hand, u) till =
     mark_keeps t after hand hand line.LinkUp (λ n l (done, is_down, mark, same) within k. by_line _ (Some hand) l (linked_up t.line) same (linked_keeps _ hand t.line.host is_down within k)) u till
 keeps event.Nudge t after desk (hand, u) till =
@@ -287,16 +282,7 @@ mark_refused : (e : Event) (why : TillRefusal) (t after : TillParts) → ((l : L
 mark_refused e refusal.NothingInHand t after same r till = same_keeps t after r.1 till
 mark_refused e refusal.NoneReserved t after same (hand, has, most, r) till = same_keeps t after r till
 mark_refused e (refusal.Line why) t after same (hand, has, within, r) till = line_keeps e why t after (λ l leaves k. same_line t l (same l leaves) k) r till
-mark_refused e refusal.SwitchedOff t after same r till = absurd r
-mark_refused e refusal.SwitchedOn t after same r till = absurd r
-mark_refused e refusal.InHand t after same r till = absurd r
-mark_refused e refusal.NothingWaits t after same r till = absurd r
-mark_refused e (refusal.NoReceipt cause) t after same r till = absurd r
-mark_refused e refusal.Submitted t after same r till = absurd r
-mark_refused e refusal.NotAnswered t after same r till = absurd r
-mark_refused e refusal.IsHostCall t after same r till = absurd r
-mark_refused e (refusal.Ledger cause) t after same r till = absurd r
-mark_refused e (refusal.Open cause) t after same r till = absurd r
+mark_refused e _ t after same r till = absurd r
 
 submit_refused : (why : TillRefusal) (t after : TillParts) → RefusesSubmitting why t after → IsTill t → IsTill after
 submit_refused refusal.NothingInHand t after r till = same_keeps t after r.1 till
@@ -304,30 +290,16 @@ submit_refused refusal.NoneReserved t after (hand, has, most, r) till = same_kee
 submit_refused refusal.Submitted t after (hand, has, within, none, r) till = same_keeps t after r till
 submit_refused (refusal.Line why) t after (hand, commands, has, within, receipt, r) till =
     line_keeps (line.Submit commands) why t after (λ l same k. same_line t l same k) r till
-submit_refused refusal.SwitchedOff t after r till = absurd r
-submit_refused refusal.SwitchedOn t after r till = absurd r
-submit_refused refusal.InHand t after r till = absurd r
-submit_refused refusal.NothingWaits t after r till = absurd r
-submit_refused (refusal.NoReceipt cause) t after r till = absurd r
-submit_refused refusal.NotAnswered t after r till = absurd r
-submit_refused refusal.IsHostCall t after r till = absurd r
-submit_refused (refusal.Ledger cause) t after r till = absurd r
-submit_refused (refusal.Open cause) t after r till = absurd r
+submit_refused _ t after r till = absurd r
 
-taking_refused : (openings : ℕ) (why : TillRefusal) (t after : TillParts) → IsDesk after.desk → RefusesTaking openings why t after → IsTill t → IsTill after
-taking_refused openings refusal.InHand t after desk r till = same_keeps t after r.1 till
-taking_refused openings refusal.SwitchedOff t after desk r till = same_keeps t after r.1 till
-taking_refused openings refusal.NothingWaits t after desk (ledger, on, live, none, same) till = same_keeps t after same till
-taking_refused openings (refusal.NoReceipt why) t after desk (ledger, number, content, tried, on, live, first, cause, same) till = same_keeps t after same till
-taking_refused openings (refusal.Ledger why) t after desk r till = refused_keeps (RefusesTry openings why) t after (try_refused openings why) desk r till
-taking_refused openings refusal.NothingInHand t after desk r till = absurd r
-taking_refused openings refusal.NoneReserved t after desk r till = absurd r
-taking_refused openings (refusal.Line why) t after desk r till = absurd r
-taking_refused openings refusal.SwitchedOn t after desk r till = absurd r
-taking_refused openings refusal.Submitted t after desk r till = absurd r
-taking_refused openings refusal.NotAnswered t after desk r till = absurd r
-taking_refused openings refusal.IsHostCall t after desk r till = absurd r
-taking_refused openings (refusal.Open cause) t after desk r till = absurd r
+taking_refused : (openings : ℕ) (copy : Option (List ℕ)) (why : TillRefusal) (t after : TillParts) → IsDesk after.desk → RefusesTaking openings copy why t after → IsTill t → IsTill after
+taking_refused openings copy refusal.InHand t after desk r till = same_keeps t after r.1 till
+taking_refused openings copy refusal.NotCopyText t after desk r till = same_keeps t after r.2 till
+taking_refused openings copy refusal.SwitchedOff t after desk r till = same_keeps t after r.1 till
+taking_refused openings copy refusal.NothingWaits t after desk (ledger, on, live, none, same) till = same_keeps t after same till
+taking_refused openings copy (refusal.NoReceipt why) t after desk (ledger, number, content, tried, on, live, first, cause, same) till = same_keeps t after same till
+taking_refused openings copy (refusal.Ledger why) t after desk r till = refused_keeps (RefusesTry openings copy why) t after (try_refused openings copy why) desk r till
+taking_refused openings copy _ t after desk r till = absurd r
 
 not_noted : (why : LedgerError) (t after : TillParts) → NotNoted why t after → IsDesk after.desk → IsTill t → IsTill after
 not_noted why t after n desk till =
@@ -339,15 +311,7 @@ record_refused refusal.SwitchedOff t after desk r till = same_keeps t after r.1 
 record_refused refusal.NotAnswered t after desk (ledger, on, live, few, same) till = same_keeps t after same till
 record_refused (refusal.Ledger why) t after desk (inl (ledger, on, failed, is, same)) till = same_keeps t after same till
 record_refused (refusal.Ledger why) t after desk (inr n) till = not_noted why t after n desk till
-record_refused refusal.InHand t after desk r till = absurd r
-record_refused refusal.NothingWaits t after desk r till = absurd r
-record_refused (refusal.NoReceipt cause) t after desk r till = absurd r
-record_refused refusal.NoneReserved t after desk r till = absurd r
-record_refused (refusal.Line why) t after desk r till = absurd r
-record_refused refusal.SwitchedOn t after desk r till = absurd r
-record_refused refusal.Submitted t after desk r till = absurd r
-record_refused refusal.IsHostCall t after desk r till = absurd r
-record_refused (refusal.Open cause) t after desk r till = absurd r
+record_refused _ t after desk r till = absurd r
 
 start_refused : (why : TillRefusal) (t after : TillParts) → RefusesStart why t after → IsTill t → IsTill after
 start_refused refusal.SwitchedOn t after r till = same_keeps t after r.1 till
@@ -358,24 +322,14 @@ on_line_refused : (e : Event) (why : TillRefusal) (t after : TillParts) → Refu
 on_line_refused e refusal.IsHostCall t after r till = same_keeps t after r.1 till
 on_line_refused e (refusal.Line why) t after (no_call, r) till =
     line_keeps e why t after (λ l leaves k. on_keeps (entries_of t) t.hand t.line.host l.host (leaves_on e t.line l no_call leaves) k) r till
-on_line_refused e refusal.SwitchedOff t after r till = absurd r
-on_line_refused e refusal.SwitchedOn t after r till = absurd r
-on_line_refused e refusal.InHand t after r till = absurd r
-on_line_refused e refusal.NothingInHand t after r till = absurd r
-on_line_refused e refusal.NothingWaits t after r till = absurd r
-on_line_refused e (refusal.NoReceipt cause) t after r till = absurd r
-on_line_refused e refusal.NoneReserved t after r till = absurd r
-on_line_refused e refusal.Submitted t after r till = absurd r
-on_line_refused e refusal.NotAnswered t after r till = absurd r
-on_line_refused e (refusal.Ledger cause) t after r till = absurd r
-on_line_refused e (refusal.Open cause) t after r till = absurd r
+on_line_refused e _ t after r till = absurd r
 
 pub keeps_refused : (e : TillEvent) (why : TillRefusal) (t after : TillParts) → IsDesk after.desk → Refuses e why t after → IsTill t → IsTill after
 keeps_refused (event.Queue json) why t after desk r till =
     write_refused (λ e old new. RefusesQueue e old json new) (entry.Queued json) why t after refl (λ cause old new. queue_refused cause old new json) desk r till
 keeps_refused (event.Raise first) why t after desk r till =
     write_refused (λ e old new. RefusesRaise e old first new) (entry.Raised first) why t after refl (λ cause old new. raise_refused cause old new first) desk r till
-keeps_refused (event.TakeInHand openings) why t after desk r till = taking_refused openings why t after desk r till
+keeps_refused (event.TakeInHand openings copy) why t after desk r till = taking_refused openings copy why t after desk r till
 keeps_refused event.LinkUp why t after desk r till = mark_refused line.LinkUp why t after (λ l same. same) r till
 keeps_refused event.Nudge why t after desk r till = mark_refused line.Nudge why t after (λ l same. same) r till
 keeps_refused event.Submit why t after desk r till = submit_refused why t after r till

@@ -16,7 +16,7 @@ use Rattle.escpos_till_model.specs.Steps.{After, Refuses}
 abbrev pub marks_put : TillEvent → TillParts → List ℕ
 marks_put (event.Queue json) t = []
 marks_put (event.Raise first) t = []
-marks_put (event.TakeInHand openings) t = []
+marks_put (event.TakeInHand openings copy) t = []
 marks_put event.LinkUp t = t.line.host.next ∷ []
 marks_put event.Nudge t = t.line.host.next ∷ []
 marks_put event.Submit t = t.line.host.next ∷ []

@@ -27,6 +27,7 @@ NoneTwice ns = (n : ℕ) (before following : List ℕ) → ns ≡ before ++ n �
 abbrev pub IsTaken : List Entry → ℕ → List ℕ → Type 0
 IsTaken entries number content = Among (record { number = number; content = content }) (taken entries)
 
+-- The text of a line that says that a receipt is printed again.
 abbrev pub IsCopyText : List ℕ → Type 0
 IsCopyText text = (0 < length text) × (length text ≤ 42) × AllPass is_copy_character text
 
@@ -48,6 +49,10 @@ abbrev pub AreReceipts : List Entry → List (List Command) → Type 0
 AreReceipts entries receipts = AllZip (IsReceiptOf entries) (recorded entries) receipts
 
 -- ## What is promised
+
+-- The entries that were there are there, in their places; there may be more after them.
+abbrev pub Extends : List Entry → List Entry → Type 0
+Extends entries after = (more : List Entry) × (after ≡ entries ++ more)
 
 -- What is recorded stands on the paper whole, one receipt after another in the order of recording.
 pub record RecordedStand (entries : List Entry) (paper : List Item) : Type 0 where

@@ -3,7 +3,7 @@
 --   Event        | What it does
 --   Queue        | the ledger takes a receipt
 --   Raise f      | the next mark number is f
---   TakeInHand n | the first receipt that waits is noted as tried, with marks for a link; a host goes on from the receipts that are recorded
+--   TakeInHand   | the first receipt that waits is noted as tried, with marks for a link; a host goes on from the receipts that are recorded
 --   LinkUp,Nudge | the host's call, with a number that is reserved for the receipt in hand
 --   Submit       | the host is given the receipt in hand, with a reserved number for its closing mark
 --   Record       | the receipt in hand is noted as recorded, where the host has recorded it, and is let go
@@ -24,7 +24,7 @@ use Rattle.escpos_till.specs.declared.entry.Entry.TheVariants as entry
 use Rattle.escpos_till.specs.declared.error.LedgerError.{LedgerError}
 use Rattle.escpos_till.specs.declared.error.LedgerError.TheVariants as error
 use Rattle.escpos_till.specs.declared.error.OpenError.TheVariants as broken
-use Rattle.escpos_till.specs.Delivers.{WhyNone, marks_taken}
+use Rattle.escpos_till.specs.Delivers.{Due, WhyNone, marks_taken}
 use Rattle.escpos_till.specs.Entries.{IsLedger, next_free, recorded, waiting}
 use Rattle.escpos_till.specs.Ledger.{Adds, FirstWaits, HasFailed, IsLive, LedgerView, RefusesQueue, RefusesRaise, RefusesRecorded, RefusesTried}
 use Rattle.escpos_link.specs.declared.event.Event.{Event}
@@ -45,7 +45,7 @@ use Rattle.escpos_till_model.specs.declared.event.TillRefusal.TheVariants as ref
 use Rattle.escpos_till_model.specs.declared.hand.Hand.{Hand}
 use Rattle.escpos_till_model.specs.declared.parts.TillParts.{TillParts}
 use Rattle.escpos_till_model.specs.Parts.{let_go, switched_off, with_desk, with_line}
-use Rattle.escpos_till_model.specs.Receipts.{IsReceipt}
+use Rattle.escpos_till_model.specs.Receipts.{IsCopyText}
 
 -- ## What events do
 
@@ -57,19 +57,22 @@ pub record Writes (t : TillParts) (e : Entry) (after : TillParts) : Type 0 where
   pub adds : Adds old e new
   pub after_is : after ≡ with_desk t (On new)
 
+-- The text for the line of a copy, if there is one, is such a text.
+abbrev pub IsCopy : Option (List ℕ) → Type 0
+IsCopy None = Unit {0}
+IsCopy (Some text) = IsCopyText text
+
 -- The till, which has nothing in hand, notes that it tries the first receipt that waits, with the marks for a link from the
 -- first number that is free on. Then its host goes on with that number, and with the receipts that the ledger has as recorded.
-pub record TakesInHand (openings : ℕ) (t : TillParts) (after : TillParts) : Type 0 where
+pub record TakesInHand (openings : ℕ) (copy : Option (List ℕ)) (t : TillParts) (after : TillParts) : Type 0 where
   pub old : LedgerView (List Entry)
   pub new : LedgerView (List Entry)
   pub desk : t.desk ≡ On old
   pub free : t.hand ≡ None
+  pub copy_is : IsCopy copy
   pub number : ℕ
-  pub content : List ℕ
-  pub tried : ℕ
-  pub first : FirstWaits old.entries number content tried
   pub commands : List Command
-  pub receipt : IsReceipt content commands
+  pub due : Due old.entries copy number commands
   pub within : next_free old.entries + marks_taken openings ≤ mark_count
   pub adds : Adds old (entry.Tried number (next_free old.entries + marks_taken openings)) new
   pub desk_after : after.desk ≡ On new
@@ -128,7 +131,7 @@ pub record GoesOnLine (e : Event) (t : TillParts) (note : Note) (after : TillPar
 abbrev pub After : TillEvent → TillParts → TillParts → Type 0
 After (event.Queue json) t after = Writes t (entry.Queued json) after × ((commands : List Command) × Describes json commands × Whole commands)
 After (event.Raise first) t after = Writes t (entry.Raised first) after
-After (event.TakeInHand openings) t after = TakesInHand openings t after
+After (event.TakeInHand openings copy) t after = TakesInHand openings copy t after
 After event.LinkUp t after = (hand : Hand) × UsesMark line.LinkUp t hand hand after
 After event.Nudge t after = (hand : Hand) × UsesMark line.Nudge t hand hand after
 After event.Submit t after =
@@ -169,21 +172,22 @@ RefusesWrite Why (refusal.Ledger e) t after = RefusedBy (Why e) t after
 RefusesWrite Why _ t after = ⊥
 
 -- The ledger has failed before, or doesn't note that the first receipt that waits is tried.
-abbrev pub RefusesTry : ℕ → LedgerError → LedgerView (List Entry) → LedgerView (List Entry) → Type 0
-RefusesTry openings why old new =
+abbrev pub RefusesTry : ℕ → Option (List ℕ) → LedgerError → LedgerView (List Entry) → LedgerView (List Entry) → Type 0
+RefusesTry openings copy why old new =
     ((why ≡ error.Failed) × HasFailed old × (new ≡ old))
-    ⊎ ((number : ℕ) × (content : List ℕ) × (tried : ℕ) × FirstWaits old.entries number content tried × RefusesTried why old number (marks_taken openings) new)
+    ⊎ ((number : ℕ) × (commands : List Command) × Due old.entries copy number commands × RefusesTried why old number (marks_taken openings) new)
 
-abbrev pub RefusesTaking : ℕ → TillRefusal → TillParts → TillParts → Type 0
-RefusesTaking openings refusal.InHand t after = (t.hand ≢ None) × (after ≡ t)
-RefusesTaking openings refusal.SwitchedOff t after = IsOff t.desk × (after ≡ t)
-RefusesTaking openings refusal.NothingWaits t after =
+abbrev pub RefusesTaking : ℕ → Option (List ℕ) → TillRefusal → TillParts → TillParts → Type 0
+RefusesTaking openings copy refusal.InHand t after = (t.hand ≢ None) × (after ≡ t)
+RefusesTaking openings copy refusal.NotCopyText t after = (t.hand ≡ None) × ¬ IsCopy copy × (after ≡ t)
+RefusesTaking openings copy refusal.SwitchedOff t after = IsOff t.desk × (after ≡ t)
+RefusesTaking openings copy refusal.NothingWaits t after =
     (ledger : LedgerView (List Entry)) × (t.desk ≡ On ledger) × IsLive ledger × (waiting ledger.entries ≡ []) × (after ≡ t)
-RefusesTaking openings (refusal.NoReceipt why) t after =
+RefusesTaking openings copy (refusal.NoReceipt why) t after =
     (ledger : LedgerView (List Entry)) × (number : ℕ) × (content : List ℕ) × (tried : ℕ) × (t.desk ≡ On ledger) × IsLive ledger
     × FirstWaits ledger.entries number content tried × WhyNone why content × (after ≡ t)
-RefusesTaking openings (refusal.Ledger why) t after = RefusedBy (RefusesTry openings why) t after
-RefusesTaking openings _ t after = ⊥
+RefusesTaking openings copy (refusal.Ledger why) t after = RefusedBy (RefusesTry openings copy why) t after
+RefusesTaking openings copy _ t after = ⊥
 
 -- The host is to do something with its next mark number.
 abbrev pub RefusesMark : Event → TillRefusal → TillParts → TillParts → Type 0
@@ -237,7 +241,7 @@ RefusesOnLine e _ t after = ⊥
 abbrev pub Refuses : TillEvent → TillRefusal → TillParts → TillParts → Type 0
 Refuses (event.Queue json) why t after = RefusesWrite (λ e old new. RefusesQueue e old json new) why t after
 Refuses (event.Raise first) why t after = RefusesWrite (λ e old new. RefusesRaise e old first new) why t after
-Refuses (event.TakeInHand openings) why t after = RefusesTaking openings why t after
+Refuses (event.TakeInHand openings copy) why t after = RefusesTaking openings copy why t after
 Refuses event.LinkUp why t after = RefusesMark line.LinkUp why t after
 Refuses event.Nudge why t after = RefusesMark line.Nudge why t after
 Refuses event.Submit why t after = RefusesSubmitting why t after

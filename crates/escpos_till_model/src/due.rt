@@ -1,12 +1,16 @@
 //! The first receipt that waits, as it is taken in hand.
 
-ghost use Rattle.std.specs.Prelude.{◌≡◌, ℕ, List, ◌+◌, ◌-◌, ◌^◌, ◌≤◌, min, length, IfOk, IfErr};
+ghost use Rattle.std.specs.Prelude.{◌≡◌, ℕ, List, ◌-◌, ◌^◌, min, option_map, IfOk, IfErr};
 ghost use Rattle.escpos_command.specs.declared.command.Command.{Command};
-ghost use Rattle.escpos_till.specs.Delivers.{marks_taken};
+ghost use Rattle.escpos_receipt.specs.Describes.{Describes};
+ghost use Rattle.escpos_receipt.specs.Whole.{Whole};
+ghost use Rattle.escpos_till.specs.Copy.{sent_of};
+ghost use Rattle.escpos_till.specs.Delivers.{WhyNone, marks_taken};
 ghost use Rattle.escpos_till_model.specs.Due.{IsFirst, RefusesDesk, RefusesFirst, Takes};
 ghost use Rattle.escpos_till_model.specs.Parts.{IsDesk};
-ghost use Rattle.escpos_till_model.specs.Receipts.{IsReceipt};
+ghost use Rattle.escpos_till_model.specs.Steps.{IsCopy};
 
+use crate::copy::with_copy;
 use crate::desk::Desk;
 use crate::event::TillRefusal;
 use escpos_receipt::{JsonError, Receipt};
@@ -36,9 +40,11 @@ pub fn take_due(
     desk: &mut Desk,
     alloc: Global,
     openings: u32,
+    copy: Option<&[u8]>,
 ) -> Result<DueReceipt, TillRefusal>
-    ensures takes { IfOk result (λ due. Takes openings desk.old due desk.new) }
-    ensures refused { IfErr result (λ why. RefusesDesk openings why desk.old desk.new) }
+    requires { IsCopy (option_map (λ t. t.now) copy) }
+    ensures takes { IfOk result (λ due. Takes openings (option_map (λ t. t.now) copy.entry) desk.old due desk.new) }
+    ensures refused { IfErr result (λ why. RefusesDesk openings (option_map (λ t. t.now) copy.entry) why desk.old desk.new) }
     ensures desk { IsDesk desk.new }
 {
     let Desk::On(ledger) = desk else {
@@ -46,7 +52,7 @@ pub fn take_due(
     };
     // Proof only: what the ledger has is in its store.
     ledger.is_sound();
-    let FirstReceipt { number, receipt } = match first_receipt(ledger, alloc) {
+    let FirstReceipt { number, receipt } = match first_receipt(ledger, alloc, copy) {
         Ok(first) => first,
         Err(why) => return Err(why),
     };
@@ -70,9 +76,14 @@ pub fn take_due(
     }
 }
 
-// The first receipt that waits.
-fn first_receipt(ledger: &Ledger<MemoryStore>, alloc: Global) -> Result<FirstReceipt, TillRefusal>
-    ensures first { IfOk result (λ first. IsFirst ledger.now first) }
+// What is sent of the first receipt that waits.
+fn first_receipt(
+    ledger: &Ledger<MemoryStore>,
+    alloc: Global,
+    copy: Option<&[u8]>,
+) -> Result<FirstReceipt, TillRefusal>
+    requires { IsCopy (option_map (λ t. t.now) copy) }
+    ensures first { IfOk result (λ first. IsFirst ledger.now (option_map (λ t. t.now) copy.entry) first) }
     ensures refused { IfErr result (λ why. RefusesFirst why ledger.now) }
 {
     let waiting = match ledger.waiting() {
@@ -80,12 +91,31 @@ fn first_receipt(ledger: &Ledger<MemoryStore>, alloc: Global) -> Result<FirstRec
         Ok(None) => return Err(TillRefusal::NothingWaits),
         Err(why) => return Err(TillRefusal::Ledger(why)),
     };
-    match Receipt::from_json(alloc, waiting.content) {
+    match receipt_of(alloc, waiting.content, waiting.tried, copy) {
         Ok(receipt) => Ok(FirstReceipt {
             number: waiting.number,
             receipt,
         }),
         Err(why) => Err(TillRefusal::NoReceipt(why)),
+    }
+}
+
+// What is sent of a receipt with this text, which was tried so often.
+fn receipt_of(
+    alloc: Global,
+    content: &[u8],
+    tried: usize,
+    copy: Option<&[u8]>,
+) -> Result<Receipt, JsonError>
+    requires { IsCopy (option_map (λ t. t.now) copy) }
+    ensures receipt { IfOk result (λ sent. (receipt : List Command) × Describes content.now receipt × Whole receipt
+        × (sent ≡ sent_of (option_map (λ t. t.now) copy.entry) tried receipt)) }
+    ensures refused { IfErr result (λ why. WhyNone why content.now) }
+{
+    let receipt = Receipt::from_json(alloc, content)?;
+    match copy {
+        Some(text) if tried > 0 => Ok(with_copy(alloc, text, &receipt)?),
+        _ => Ok(receipt),
     }
 }
 

@@ -12,8 +12,12 @@ pub enum TillEvent {
     /// The till raises the next mark number to this one.
     Raise(u32),
     /// The till takes the first receipt that waits in hand, and reserves mark numbers for it: one for each of so many opening
-    /// marks (0 counts as 1), and one for the closing mark. Its host goes on with the receipts that are recorded.
-    TakeInHand { openings: u32 },
+    /// marks (0 counts as 1), and one for the closing mark. Its host goes on with the receipts that are recorded. `copy` is the
+    /// text of a line that is put before a receipt that was tried before.
+    TakeInHand {
+        openings: u32,
+        copy: Option<Content>,
+    },
     /// The host opens a link, with a reserved mark number.
     LinkUp,
     /// The host puts one more opening mark out, with a reserved number.
@@ -44,6 +48,8 @@ pub enum TillRefusal {
     InHand,
     /// The till has no receipt in hand.
     NothingInHand,
+    /// The text for the line of a copy isn't 1 to 42 characters, each 20 to 7E hexadecimal.
+    NotCopyText,
     /// No receipt waits.
     NothingWaits,
     /// The text of the first receipt that waits gives no receipt.

@@ -12,6 +12,7 @@
 //! one, so that a crash may come between any two of them.
 #![tactic(auto)]
 
+mod copy;
 mod desk;
 mod due;
 mod event;

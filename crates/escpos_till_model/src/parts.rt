@@ -2,7 +2,7 @@
 //!
 //! What holds for a till at all times is left to `till`.
 
-ghost use Rattle.std.specs.Prelude.{ℕ, ◌≡◌, length, Some, IfOk, IfErr, OnOk, ◌≤◌};
+ghost use Rattle.std.specs.Prelude.{ℕ, ◌≡◌, length, Some, option_map, IfOk, IfErr, OnOk, ◌≤◌};
 ghost use Rattle.escpos_link.specs.Resumed.{resumed};
 ghost use Rattle.escpos_till.specs.Entries.{taken};
 ghost use Rattle.escpos_till_model.specs.declared.event.TillEvent.TheVariants as event;
@@ -12,12 +12,13 @@ ghost use Rattle.escpos_till_model.specs.Kept.{IsTill};
 ghost use Rattle.escpos_till_model.specs.Parts.{IsDesk, dropped, entries_of};
 ghost use Rattle.escpos_till_model.specs.Steps.{After, GoesOnLine, Refuses, RefusesMark, UsesMark, is_host_call};
 
+use crate::copy::is_copy;
 use crate::desk::Desk;
 use crate::due::{DueReceipt, take_due};
 use crate::event::{TillEvent, TillRefusal};
 use crate::hand::Hand;
 use escpos_link::{Event, Note, Sim};
-use escpos_till::{Failure, Ledger, LedgerError, ReceiptNumber};
+use escpos_till::{Content, Failure, Ledger, LedgerError, ReceiptNumber};
 use std::alloc::Global;
 use std::mem::replace;
 
@@ -79,15 +80,19 @@ impl TillParts {
         &mut self,
         alloc: Global,
         openings: u32,
+        copy: Option<&[u8]>,
     ) -> Result<ReceiptNumber, TillRefusal>
         requires { IsTill self.old }
-        ensures happened { OnOk result (After (event.TakeInHand openings) self.old self.new) }
+        ensures happened { OnOk result (After (event.TakeInHand openings (option_map (λ t. t.now) copy.entry)) self.old self.new) }
         ensures number { IfOk result (λ number. (hand : Hand) × (self.new.hand ≡ Some hand) × (number ≡ hand.number)) }
-        ensures refused { IfErr result (λ why. Refuses (event.TakeInHand openings) why self.old self.new) }
+        ensures refused { IfErr result (λ why. Refuses (event.TakeInHand openings (option_map (λ t. t.now) copy.entry)) why self.old self.new) }
         ensures desk { IsDesk self.new.desk }
     {
         if self.hand.is_some() {
             return Err(TillRefusal::InHand);
+        }
+        if !is_copy(copy) {
+            return Err(TillRefusal::NotCopyText);
         }
         let DueReceipt {
             number,
@@ -95,7 +100,7 @@ impl TillParts {
             first,
             limit,
             count,
-        } = match take_due(&mut self.desk, alloc, openings) {
+        } = match take_due(&mut self.desk, alloc, openings, copy) {
             Ok(due) => due,
             Err(why) => return Err(why),
         };
@@ -106,6 +111,27 @@ impl TillParts {
             limit,
         });
         Ok(number)
+    }
+
+    // The same, with the text for the line of a copy as an event has it.
+    fn take_with(
+        &mut self,
+        alloc: Global,
+        openings: u32,
+        copy: &Option<Content>,
+    ) -> Result<(), TillRefusal>
+        requires { IsTill self.old }
+        ensures happened { OnOk result (After (event.TakeInHand openings copy.now) self.old self.new) }
+        ensures refused { IfErr result (λ why. Refuses (event.TakeInHand openings copy.now) why self.old self.new) }
+    {
+        let taken = match copy {
+            None => self.take_in_hand(alloc, openings, None),
+            Some(text) => self.take_in_hand(alloc, openings, Some(text.bytes())),
+        };
+        match taken {
+            Ok(_) => Ok(()),
+            Err(why) => Err(why),
+        }
     }
 
     // The host opens a link, or puts one more opening mark out, with a reserved mark number.
@@ -233,10 +259,7 @@ impl TillParts {
                 Err(why) => Err(why),
             },
             TillEvent::Raise(first) => self.raise(first),
-            TillEvent::TakeInHand { openings } => match self.take_in_hand(alloc, openings) {
-                Ok(_) => Ok(()),
-                Err(why) => Err(why),
-            },
+            TillEvent::TakeInHand { openings, copy } => self.take_with(alloc, openings, &copy),
             TillEvent::LinkUp => self.use_mark(Event::LinkUp),
             TillEvent::Nudge => self.use_mark(Event::Nudge),
             TillEvent::Submit => self.submit(),
