@@ -170,7 +170,7 @@ hung_up_on h Down is = stays h
 hung_up_on h (Opening first) is = goes_down h
 hung_up_on h (Open flight) is = goes_down h
 
-no_call : {P : Type 0} → true ≡ false → P
+pub no_call : {P : Type 0} → true ≡ false → P
 no_call e = cc
 
 by_host : (l after next : LineView) → after ≡ next → GoesOn l.host next.host → GoesOn l.host after.host

@@ -5,3 +5,6 @@ pub mod Keeping
 pub mod Tilling
 pub mod Standing
 pub mod Marking
+pub mod Extending
+pub mod Possible
+pub mod Running

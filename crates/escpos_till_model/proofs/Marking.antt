@@ -1,6 +1,6 @@
 -- No mark number is used twice.
 use Rattle.std.proofs.Common.{ℕ, ◌≡◌, ◌≢◌, ◌+◌, ◌<◌, ◌≤◌, ◌⊎◌, inl, inr, Option, Some, None, Result, Ok, Err, IfErr, List, [], ◌∷◌, ◌++◌, refl, sym, ◌∙◌, ap, subst, append-nil, append_assoc, arith}
-use Rattle.std.specs.Prelude.{OnOk}
+use Rattle.std.specs.Prelude.{OnErr, OnOk}
 use Rattle.std.specs.List.{AllByRecursion}
 use Rattle.escpos_host.specs.Machine.{HostView}
 use Rattle.escpos_link.specs.declared.event.Event.{Event}
@@ -149,6 +149,11 @@ refused_same event.Crash why t after r = absurd r
 refused_same (event.Start failure) why t after r = start_same why t after r
 refused_same (event.OnLine e) why t after r = on_line_same e why t after r
 
-pub step_uses : (t : TillParts) (e : TillEvent) (marks : List ℕ) (after : TillParts) → IsTill t → Steps t e marks after → UsesMarks t marks after
-step_uses t e marks after till (inl (happened, is)) = subst (λ ms. UsesMarks t ms after) (sym is) (uses_marks e t after till happened)
-step_uses t e marks after till (inr (why, refused, is)) = subst (λ ms. UsesMarks t ms after) (sym is) (no_marks t after (refused_same e why t after refused))
+pub whatever_uses : {X : Type 0} (e : TillEvent) (t after : TillParts) (r : Result X TillRefusal) → OnOk r (After e t after) → IsTill t
+    → OnOk r (UsesMarks t (marks_put e t) after)
+whatever_uses e t after (Ok x) happened till = uses_marks e t after till happened
+whatever_uses e t after (Err why) happened till = tt
+
+pub whatever_unused : {X : Type 0} (e : TillEvent) (t after : TillParts) (r : Result X TillRefusal) → IfErr r (λ why. Refuses e why t after) → OnErr r (UsesMarks t [] after)
+whatever_unused e t after (Ok x) refused = tt
+whatever_unused e t after (Err why) refused = no_marks t after (refused_same e why t after refused)

@@ -1,6 +1,6 @@
 -- What a till's owner wants to be sure of follows from what holds for every till.
 use Rattle.std.proofs.Common.{ℕ, ◌≡◌, ◌≤◌, ◌+◌, Option, Some, None, Result, Ok, Err, IfErr, List, [], ◌++◌, refl, sym, subst, arith}
-use Rattle.std.specs.Prelude.{OnOk}
+use Rattle.std.specs.Prelude.{IfOk, OnOk}
 use Rattle.escpos_command.specs.declared.command.Command.{Command}
 use Rattle.escpos_paper.specs.declared.item.Item.{Item}
 use Rattle.escpos_host.specs.Machine.{Down, HostView}
@@ -10,13 +10,16 @@ use Rattle.escpos_link.proofs.Standing.{stands_front}
 use Rattle.escpos_till.proofs.EntryLemmas.{empty_ledger}
 use Rattle.escpos_till_model.specs.declared.desk.Desk.{Desk}
 use Rattle.escpos_till_model.specs.declared.desk.Desk.TheVariants.{Off}
+use Rattle.escpos_link.specs.declared.event.Event.{Event}
+use Rattle.escpos_link.specs.declared.event.Note.{Note}
 use Rattle.escpos_till_model.specs.declared.event.TillEvent.{TillEvent}
+use Rattle.escpos_till_model.specs.declared.event.TillEvent.TheVariants as event
 use Rattle.escpos_till_model.specs.declared.event.TillRefusal.{TillRefusal}
 use Rattle.escpos_till_model.specs.declared.parts.TillParts.{TillParts}
 use Rattle.escpos_till_model.specs.Kept.{IsTill, Keeps}
-use Rattle.escpos_till_model.specs.Parts.{IsDesk, entries_at, entries_of}
+use Rattle.escpos_till_model.specs.Parts.{IsDesk, entries_at, entries_of, switched_off}
 use Rattle.escpos_till_model.specs.Receipts.{EachIsKept, RecordedStand}
-use Rattle.escpos_till_model.specs.Steps.{After, Refuses}
+use Rattle.escpos_till_model.specs.Steps.{After, GoesOnLine, Refuses}
 use Rattle.escpos_till_model.proofs.Accounts.{each_is_kept}
 use Rattle.escpos_till_model.proofs.Tilling.{keeps, keeps_refused}
 
@@ -53,3 +56,11 @@ pub whatever_till : {X : Type 0} (e : TillEvent) (t after : TillParts) (r : Resu
     → IfErr r (λ why. Refuses e why t after) → IsTill t → IsTill after
 whatever_till e t after (Ok x) desk happened refused till = keeps e t after desk happened till
 whatever_till e t after (Err why) desk happened refused till = keeps_refused e why t after desk refused till
+
+pub off_till : (t after : TillParts) → after ≡ switched_off t → IsTill t → IsTill after
+off_till t after same till = keeps event.Crash t after (subst (λ (v : TillParts). IsDesk v.desk) (sym same) tt) same till
+
+pub line_till : (e : Event) (t after : TillParts) (r : Result Note TillRefusal) → IsDesk after.desk → IfOk r (λ note. GoesOnLine e t note after)
+    → IfErr r (λ why. Refuses (event.OnLine e) why t after) → IsTill t → IsTill after
+line_till e t after (Ok note) desk happened refused till = keeps (event.OnLine e) t after desk (note, happened) till
+line_till e t after (Err why) desk happened refused till = keeps_refused (event.OnLine e) why t after desk refused till

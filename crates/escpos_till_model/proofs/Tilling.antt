@@ -38,10 +38,10 @@ use Rattle.escpos_till_model.proofs.Keeping.{entry_keeps, gone_keeps, linked_kee
 -- ## What a store has after a call
 
 -- The store has the entries that it had, or the entry after them.
-abbrev Grown : List Entry → Entry → List Entry → Type 0
+abbrev pub Grown : List Entry → Entry → List Entry → Type 0
 Grown es e after = (after ≡ es) ⊎ ((after ≡ es ++ e ∷ []) × MayFollow es e)
 
-store_adds : (old new : LedgerView (List Entry)) (e : Entry) → IsInStore old → IsInStore new → Adds old e new → (new.store ≡ old.store ++ e ∷ []) × MayFollow old.store e
+pub store_adds : (old new : LedgerView (List Entry)) (e : Entry) → IsInStore old → IsInStore new → Adds old e new → (new.store ≡ old.store ++ e ∷ []) × MayFollow old.store e
 store_adds old new e before after adds =
     let same = before.live adds.live in
     (after.live adds.still_live ∙ adds.entries ∙ ap (λ es. es ++ e ∷ []) (sym same), subst (λ es. MayFollow es e) (sym same) adds.follows)
@@ -64,7 +64,7 @@ entry_refused error.Failed old new e before after r = store_same old new e r.1
 entry_refused error.Memory old new e before after r = store_same old new e r.1
 entry_refused _ old new e before after r = absurd r
 
-queue_refused : (why : LedgerError) (old new : LedgerView (List Entry)) (json : List ℕ) → IsInStore old → IsInStore new → RefusesQueue why old json new
+pub queue_refused : (why : LedgerError) (old new : LedgerView (List Entry)) (json : List ℕ) → IsInStore old → IsInStore new → RefusesQueue why old json new
     → Grown old.store (entry.Queued json) new.store
 queue_refused (error.Store fault) old new json before after r = store_unsure old new _ before after r
 queue_refused error.Failed old new json before after r = store_same old new _ r.1
@@ -72,7 +72,7 @@ queue_refused error.Memory old new json before after r = store_same old new _ r.
 queue_refused (error.NotReceipt fault) old new json before after r = store_same old new _ r.2
 queue_refused _ old new json before after r = absurd r
 
-raise_refused : (why : LedgerError) (old new : LedgerView (List Entry)) (first : ℕ) → IsInStore old → IsInStore new → RefusesRaise why old first new
+pub raise_refused : (why : LedgerError) (old new : LedgerView (List Entry)) (first : ℕ) → IsInStore old → IsInStore new → RefusesRaise why old first new
     → Grown old.store (entry.Raised first) new.store
 raise_refused (error.Store fault) old new first before after r = store_unsure old new _ before after r
 raise_refused error.Failed old new first before after r = store_same old new _ r.1
@@ -80,7 +80,7 @@ raise_refused error.Memory old new first before after r = store_same old new _ r
 raise_refused (error.MarkReused next) old new first before after r = store_same old new _ r.3
 raise_refused _ old new first before after r = absurd r
 
-tried_refused : (why : LedgerError) (old new : LedgerView (List Entry)) (number marks : ℕ) → IsInStore old → IsInStore new → RefusesTried why old number marks new
+pub tried_refused : (why : LedgerError) (old new : LedgerView (List Entry)) (number marks : ℕ) → IsInStore old → IsInStore new → RefusesTried why old number marks new
     → Grown old.store (entry.Tried number (next_free old.entries + marks)) new.store
 tried_refused (error.Store fault) old new number marks before after r = store_unsure old new _ before after r.1
 tried_refused error.Failed old new number marks before after r = store_same old new _ r.1
@@ -89,7 +89,7 @@ tried_refused error.NotWaiting old new number marks before after r = store_same 
 tried_refused error.MarksUsedUp old new number marks before after r = store_same old new _ r.3
 tried_refused _ old new number marks before after r = absurd r
 
-recorded_refused : (why : LedgerError) (old new : LedgerView (List Entry)) (number : ℕ) → IsInStore old → IsInStore new → RefusesRecorded why old number new
+pub recorded_refused : (why : LedgerError) (old new : LedgerView (List Entry)) (number : ℕ) → IsInStore old → IsInStore new → RefusesRecorded why old number new
     → Grown old.store (entry.Recorded number) new.store
 recorded_refused (error.Store fault) old new number before after r = store_unsure old new _ before after r
 recorded_refused error.Failed old new number before after r = store_same old new _ r.1
@@ -136,7 +136,7 @@ refused_keeps Why t after grows desk r till =
     let (e, none, grown) = grows r.old r.new o.stored stored r.why in
     subst IsTill (sym r.after_is) (record { desk = stored; keeps = grown_keeps r.old.store r.new.store e t.hand t.line.host none grown o.keeps })
 
-try_refused : (openings : ℕ) (copy : Option (List ℕ)) (why : LedgerError) (old new : LedgerView (List Entry)) → IsInStore old → IsInStore new → RefusesTry openings copy why old new
+pub try_refused : (openings : ℕ) (copy : Option (List ℕ)) (why : LedgerError) (old new : LedgerView (List Entry)) → IsInStore old → IsInStore new → RefusesTry openings copy why old new
     → (e : Entry) × (record_of e ≡ None) × Grown old.store e new.store
 try_refused openings copy why old new before after (inl (failed, had, same)) =
     (entry.Raised 0, refl, store_same old new (entry.Raised 0) same)

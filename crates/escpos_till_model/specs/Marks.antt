@@ -9,6 +9,7 @@ use Rattle.escpos_till_model.specs.declared.event.TillEvent.TheVariants as event
 use Rattle.escpos_till_model.specs.declared.event.TillRefusal.{TillRefusal}
 use Rattle.escpos_till_model.specs.declared.parts.TillParts.{TillParts}
 use Rattle.escpos_till_model.specs.Parts.{entries_of}
+use Rattle.escpos_till_model.specs.Receipts.{NoneTwice}
 use Rattle.escpos_till_model.specs.Steps.{After, Refuses}
 
 -- The numbers of the marks that an event puts on the line when it happens: an opening mark, or the closing mark of the
@@ -51,3 +52,10 @@ abbrev pub Ran : TillParts → List TillEvent → List ℕ → TillParts → Typ
 Ran t [] marks after = (marks ≡ []) × (after ≡ t)
 Ran t (e ∷ es) marks after =
     (next : TillParts) × (some : List ℕ) × (others : List ℕ) × (marks ≡ some ++ others) × Steps t e some next × Ran next es others after
+
+-- They did, and no mark number was used twice; each number was reserved for a receipt.
+pub record RanWell (t : TillParts) (events : List TillEvent) (after : TillParts) : Type 0 where
+  pub marks : List ℕ
+  pub ran : Ran t events marks after
+  pub once : NoneTwice marks
+  pub own : AllByRecursion (IsReserved (entries_of after)) marks

@@ -31,6 +31,7 @@ use Rattle.escpos_link.specs.declared.event.Event.{Event}
 use Rattle.escpos_link.specs.declared.event.Event.TheVariants as line
 use Rattle.escpos_link.specs.declared.event.Note.{Note}
 use Rattle.escpos_link.specs.declared.event.Refusal.{Refusal}
+use Rattle.escpos_link.specs.declared.event.Refusal.TheVariants as reason
 use Rattle.escpos_link.specs.declared.event.Refused.{Refused}
 use Rattle.escpos_link.specs.EventTable.{IsRefused}
 use Rattle.escpos_link.specs.Line.{LineView}
@@ -250,3 +251,8 @@ Refuses event.GiveUp why t after = (why ≡ refusal.NothingInHand) × (t.hand �
 Refuses event.Crash why t after = ⊥
 Refuses (event.Start failure) why t after = RefusesStart why t after
 Refuses (event.OnLine e) why t after = RefusesOnLine e why t after
+
+-- Some reasons never come: the numbers that the till gives its host were never used, and what its store has is a ledger.
+pub record IsPossible (why : TillRefusal) : Type 0 where
+  pub reused : (least : ℕ) → why ≢ refusal.Line (reason.MarkReused least)
+  pub damaged : why ≢ refusal.Open broken.Damaged
