@@ -67,7 +67,7 @@ numbered_append m (c ∷ cs) ds =
     let first : Taken = record { number = m; content = c } in
     ap (λ v. first ∷ v) (numbered_append (m + 1) cs ds ∙ ap (λ k. numbered_from (m + 1) cs ++ numbered_from k ds) same)
 
-taken_append : (es more : List Entry) → taken (es ++ more) ≡ taken es ++ numbered_from (1 + length (contents es)) (contents more)
+pub taken_append : (es more : List Entry) → taken (es ++ more) ≡ taken es ++ numbered_from (1 + length (contents es)) (contents more)
 taken_append es more = ap (numbered_from 1) (filter_map-append content_of es more) ∙ numbered_append 1 (contents es) (contents more)
 
 pub is_taken_grows : (es more : List Entry) (number : ℕ) (content : List ℕ) → IsTaken es number content → IsTaken (es ++ more) number content

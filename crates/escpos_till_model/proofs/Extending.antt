@@ -1,9 +1,12 @@
 -- A ledger keeps the entries that it has, whatever happens.
-use Rattle.std.proofs.Common.{ℕ, ◌≡◌, ◌+◌, ◌⊎◌, inl, inr, Option, Some, None, Result, Ok, Err, IfErr, List, [], ◌∷◌, ◌++◌, refl, sym, ◌∙◌, ap, subst, append-nil}
-use Rattle.std.specs.Prelude.{OnOk}
+use Rattle.std.proofs.Common.{ℕ, ◌≡◌, ◌+◌, ◌⊎◌, inl, inr, Option, Some, None, Result, Ok, Err, IfErr, List, [], ◌∷◌, ◌++◌, length, refl, sym, ◌∙◌, ap, subst, append-nil, length-append, arith}
+use Rattle.std.specs.Prelude.{IfOk, OnOk}
+use Rattle.std.specs.List.{AllByRecursion}
 use Rattle.escpos_till.specs.declared.entry.Entry.{Entry}
 use Rattle.escpos_till.specs.declared.entry.Entry.TheVariants as entry
 use Rattle.escpos_till.specs.declared.error.LedgerError.{LedgerError}
+use Rattle.escpos_till.specs.Entries.{Taken, contents, taken}
+use Rattle.escpos_till.proofs.EntryLemmas.{length-taken}
 use Rattle.escpos_till.specs.Ledger.{LedgerView, RefusesQueue, RefusesRaise}
 use Rattle.escpos_till_model.specs.declared.desk.Desk.{Desk}
 use Rattle.escpos_till_model.specs.declared.desk.Desk.TheVariants.{On, Off}
@@ -14,8 +17,10 @@ use Rattle.escpos_till_model.specs.declared.event.TillRefusal.TheVariants as ref
 use Rattle.escpos_till_model.specs.declared.parts.TillParts.{TillParts}
 use Rattle.escpos_till_model.specs.Kept.{IsTill}
 use Rattle.escpos_till_model.specs.Parts.{IsDesk, IsInStore, entries_at, entries_of}
-use Rattle.escpos_till_model.specs.Receipts.{Extends}
-use Rattle.escpos_till_model.specs.Steps.{After, NotNoted, Refuses, RefusesMark, RefusesOnLine, RefusesRecording, RefusesStart, RefusesSubmitting, RefusesTaking, RefusesTry, RefusesWrite}
+use Rattle.escpos_till_model.specs.Marks.{HasTaken, texts_taken}
+use Rattle.escpos_till_model.specs.Receipts.{Extends, IsTaken}
+use Rattle.escpos_till_model.specs.Steps.{After, NotNoted, Refuses, RefusesDue, RefusesMark, RefusesOnLine, RefusesRecording, RefusesStart, RefusesSubmitting, RefusesTaking, RefusesTry, RefusesWrite, Writes}
+use Rattle.escpos_till_model.proofs.EntryFacts.{taken_append}
 use Rattle.escpos_till_model.proofs.Tilling.{Grown, opened, queue_refused, raise_refused, recorded_refused, store_adds, try_refused}
 
 -- Each of these has the entries of the till before.
@@ -70,19 +75,23 @@ write_extends Why e (refusal.Ledger cause) t after grows desk r till =
     by_ledger t after r.old r.new e till r.desk (desk_is after _ (On r.new) r.after_is refl) desk (λ before later. grows cause r.old r.new before later r.why)
 write_extends Why e _ t after grows desk r till = absurd r
 
-taking_extends : (openings : ℕ) (copy : Option (List ℕ)) (why : TillRefusal) (t after : TillParts) → IsDesk after.desk → RefusesTaking openings copy why t after → IsTill t
+due_extends : (openings : ℕ) (copy : Option (List ℕ)) (why : TillRefusal) (t after : TillParts) → IsDesk after.desk → RefusesDue openings copy why t after → IsTill t
     → Grows t after
-taking_extends openings copy refusal.InHand t after desk r till = same_till t after r.1
-taking_extends openings copy refusal.NotCopyText t after desk r till = same_till t after r.2
-taking_extends openings copy refusal.SwitchedOff t after desk r till = same_till t after r.1
-taking_extends openings copy refusal.NothingWaits t after desk (ledger, on, live, none, same) till = same_till t after same
-taking_extends openings copy (refusal.NoReceipt why) t after desk (ledger, number, content, tried, on, live, first, cause, same) till = same_till t after same
-taking_extends openings copy (refusal.Ledger why) t after desk r till =
+due_extends openings copy refusal.SwitchedOff t after desk r till = same_till t after r.1
+due_extends openings copy refusal.NothingWaits t after desk (ledger, on, live, none, same) till = same_till t after same
+due_extends openings copy (refusal.NoReceipt why) t after desk (ledger, number, content, tried, on, live, first, cause, same) till = same_till t after same
+due_extends openings copy (refusal.Ledger why) t after desk r till =
     let before = (opened t r.old r.desk till).stored in
     let is = desk_is after _ (On r.new) r.after_is refl in
     let (e, none, grows) = try_refused openings copy why r.old r.new before (subst IsDesk is desk) r.why in
     by_ledger t after r.old r.new e till r.desk is desk (λ some later. grows)
-taking_extends openings copy _ t after desk r till = absurd r
+due_extends openings copy _ t after desk r till = absurd r
+
+taking_extends : (openings : ℕ) (copy : Option (List ℕ)) (why : TillRefusal) (t after : TillParts) → IsDesk after.desk → RefusesTaking openings copy why t after → IsTill t
+    → Grows t after
+taking_extends openings copy refusal.InHand t after desk r till = same_till t after r.1
+taking_extends openings copy refusal.NotCopyText t after desk r till = same_till t after r.2
+taking_extends openings copy why t after desk r till = due_extends openings copy why t after desk r.2 till
 
 mark_extends : (e : _) (why : TillRefusal) (t after : TillParts) → RefusesMark e why t after → Grows t after
 mark_extends e refusal.NothingInHand t after r = same_till t after r.1
@@ -99,9 +108,9 @@ submit_extends _ t after r = absurd r
 
 record_extends : (why : TillRefusal) (t after : TillParts) → IsDesk after.desk → RefusesRecording why t after → IsTill t → Grows t after
 record_extends refusal.NothingInHand t after desk r till = same_till t after r.1
-record_extends refusal.SwitchedOff t after desk r till = same_till t after r.1
-record_extends refusal.NotAnswered t after desk (ledger, on, live, few, same) till = same_till t after same
-record_extends (refusal.Ledger why) t after desk (inl (ledger, on, failed, is, same)) till = same_till t after same
+record_extends refusal.SwitchedOff t after desk r till = same_till t after r.2
+record_extends refusal.NotAnswered t after desk (ledger, has, on, live, few, same) till = same_till t after same
+record_extends (refusal.Ledger why) t after desk (inl (ledger, has, on, failed, is, same)) till = same_till t after same
 record_extends (refusal.Ledger why) t after desk (inr n) till =
     by_ledger t after n.old n.new _ till n.desk (desk_is after _ (On n.new) n.after_is refl) desk
     (λ before later. recorded_refused why n.old n.new n.hand.number before later n.refused)
@@ -136,3 +145,36 @@ pub whatever_extends : {X : Type 0} (e : TillEvent) (t after : TillParts) (r : R
     → IfErr r (λ why. Refuses e why t after) → IsTill t → Extends (entries_of t) (entries_of after)
 whatever_extends e t after (Ok x) desk happened refused till = extends e t after desk happened till
 whatever_extends e t after (Err why) desk happened refused till = refused_extends e why t after desk refused till
+
+-- ## What is taken
+
+-- The receipt that was queued last is the last that was taken.
+queued_taken : (es : List Entry) (json : List ℕ) → IsTaken (es ++ entry.Queued json ∷ []) (length (taken (es ++ entry.Queued json ∷ []))) json
+queued_taken es json =
+    let last : Taken = record { number = 1 + length (contents es); content = json } in
+    let is : taken (es ++ entry.Queued json ∷ []) ≡ taken es ++ last ∷ [] = taken_append es (entry.Queued json ∷ []) in
+    let count : length (taken (es ++ entry.Queued json ∷ [])) ≡ 1 + length (contents es) =
+    ap length is ∙ length-append (taken es) (last ∷ []) ∙ (let same = length-taken 1 (contents es) in omega (arith, same)) in
+    subst (λ n. IsTaken (es ++ entry.Queued json ∷ []) n json) (sym count) (taken es, [], is)
+
+pub queue_takes : (t after : TillParts) (json : List ℕ) → IsDesk after.desk → Writes t (entry.Queued json) after → IsTill t
+    → IsTaken (entries_of after) (length (taken (entries_of after))) json
+queue_takes t after json desk w till =
+    let before = (opened t w.old w.desk till).stored in
+    let is = desk_is after _ (On w.new) w.after_is refl in
+    let (same, follows) = store_adds w.old w.new _ before (subst IsDesk is desk) w.adds in
+    subst (λ es. IsTaken es (length (taken es)) json) (sym (ap entries_at is ∙ same)) (queued_taken w.old.store json)
+
+takes_it : (e : TillEvent) (t after : TillParts) → IsDesk after.desk → After e t after → IsTill t → AllByRecursion (HasTaken (entries_of after)) (texts_taken e)
+takes_it (event.Queue json) t after desk (w, receipt) till = ((length (taken (entries_of after)), queue_takes t after json desk w till), tt)
+takes_it _ t after desk happened till = tt
+
+pub whatever_takes : {X : Type 0} (e : TillEvent) (t after : TillParts) (r : Result X TillRefusal) → IsDesk after.desk → OnOk r (After e t after) → IsTill t
+    → OnOk r (AllByRecursion (HasTaken (entries_of after)) (texts_taken e))
+whatever_takes e t after (Ok x) desk happened till = takes_it e t after desk happened till
+whatever_takes e t after (Err why) desk happened till = tt
+
+pub queue_numbers : (t after : TillParts) (json : List ℕ) (r : Result ℕ TillRefusal) → IsDesk after.desk → OnOk r (After (event.Queue json) t after)
+    → IfOk r (λ number. number ≡ length (taken (entries_of after))) → IsTill t → IfOk r (λ number. IsTaken (entries_of after) number json)
+queue_numbers t after json (Ok number) desk (w, receipt) is till = subst (λ n. IsTaken (entries_of after) n json) (sym is) (queue_takes t after json desk w till)
+queue_numbers t after json (Err why) desk happened is till = tt

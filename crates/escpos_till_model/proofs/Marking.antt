@@ -21,7 +21,7 @@ use Rattle.escpos_till_model.specs.Kept.{IsInHand, IsTill, Keeps}
 use Rattle.escpos_till_model.specs.Marks.{IsReserved, Ran, Steps, UsesMarks, marks_put}
 use Rattle.escpos_till_model.specs.Parts.{entries_at, entries_of}
 use Rattle.escpos_till_model.specs.Receipts.{Among, NoneTwice}
-use Rattle.escpos_till_model.specs.Steps.{After, NotNoted, RefusedBy, RefusedOnLine, Refuses, RefusesMark, RefusesOnLine, RefusesRecording, RefusesStart, RefusesSubmitting, RefusesTaking, RefusesWrite, TakesInHand, UsesMark, Writes}
+use Rattle.escpos_till_model.specs.Steps.{After, NotNoted, RefusedBy, RefusedOnLine, Refuses, RefusesDue, RefusesMark, RefusesOnLine, RefusesRecording, RefusesStart, RefusesSubmitting, RefusesTaking, RefusesWrite, TakesInHand, UsesMark, Writes}
 use Rattle.escpos_till_model.proofs.EntryFacts.{among_cons, among_nothing}
 use Rattle.escpos_till_model.proofs.GoesOn.{goes_on, leaves_on}
 use Rattle.escpos_till_model.proofs.Keeping.{hung_next}
@@ -96,14 +96,17 @@ write_same Why refusal.SwitchedOff t after r = next_of t after t r.1 refl
 write_same Why (refusal.Ledger cause) t after r = next_of t after _ r.after_is refl
 write_same Why _ t after r = absurd r
 
+due_same : (openings : ℕ) (copy : Option (List ℕ)) (why : TillRefusal) (t after : TillParts) → RefusesDue openings copy why t after → Same t after
+due_same openings copy refusal.SwitchedOff t after r = next_of t after t r.1 refl
+due_same openings copy refusal.NothingWaits t after (ledger, on, live, none, same) = next_of t after t same refl
+due_same openings copy (refusal.NoReceipt why) t after (ledger, number, content, tried, on, live, first, cause, same) = next_of t after t same refl
+due_same openings copy (refusal.Ledger why) t after r = next_of t after _ r.after_is refl
+due_same openings copy _ t after r = absurd r
+
 taking_same : (openings : ℕ) (copy : Option (List ℕ)) (why : TillRefusal) (t after : TillParts) → RefusesTaking openings copy why t after → Same t after
 taking_same openings copy refusal.InHand t after r = next_of t after t r.1 refl
 taking_same openings copy refusal.NotCopyText t after r = next_of t after t r.2 refl
-taking_same openings copy refusal.SwitchedOff t after r = next_of t after t r.1 refl
-taking_same openings copy refusal.NothingWaits t after (ledger, on, live, none, same) = next_of t after t same refl
-taking_same openings copy (refusal.NoReceipt why) t after (ledger, number, content, tried, on, live, first, cause, same) = next_of t after t same refl
-taking_same openings copy (refusal.Ledger why) t after r = next_of t after _ r.after_is refl
-taking_same openings copy _ t after r = absurd r
+taking_same openings copy why t after r = due_same openings copy why t after r.2
 
 mark_same : (e : Event) (why : TillRefusal) (t after : TillParts) → ((l : LineView) → Leaves e t.line l → l ≡ t.line) → RefusesMark e why t after → Same t after
 mark_same e refusal.NothingInHand t after leaves r = next_of t after t r.1 refl
@@ -120,9 +123,9 @@ submit_same _ t after r = absurd r
 
 record_same : (why : TillRefusal) (t after : TillParts) → RefusesRecording why t after → Same t after
 record_same refusal.NothingInHand t after r = next_of t after t r.1 refl
-record_same refusal.SwitchedOff t after r = next_of t after t r.1 refl
-record_same refusal.NotAnswered t after (ledger, on, live, few, same) = next_of t after t same refl
-record_same (refusal.Ledger why) t after (inl (ledger, on, failed, is, same)) = next_of t after t same refl
+record_same refusal.SwitchedOff t after r = next_of t after t r.2 refl
+record_same refusal.NotAnswered t after (ledger, has, on, live, few, same) = next_of t after t same refl
+record_same (refusal.Ledger why) t after (inl (ledger, has, on, failed, is, same)) = next_of t after t same refl
 record_same (refusal.Ledger why) t after (inr n) = next_of t after _ n.after_is (hung_next t.line.host.phase t.line.host)
 record_same _ t after r = absurd r
 

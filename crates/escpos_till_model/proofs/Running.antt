@@ -8,10 +8,11 @@ use Rattle.escpos_till_model.specs.declared.event.TillEvent.{TillEvent}
 use Rattle.escpos_till_model.specs.declared.event.TillEvent.TheVariants as event
 use Rattle.escpos_till_model.specs.declared.event.TillRefusal.{TillRefusal}
 use Rattle.escpos_till_model.specs.declared.parts.TillParts.{TillParts}
-use Rattle.escpos_till_model.specs.Marks.{IsReserved, Ran, RanWell, Steps, UsesMarks, marks_put}
+use Rattle.escpos_till_model.specs.Marks.{HasTaken, IsReserved, Ran, RanWell, Steps, UsesMarks, marks_put, texts_taken}
 use Rattle.escpos_till_model.specs.Parts.{entries_of}
-use Rattle.escpos_till_model.specs.Receipts.{Among, Extends, NoneTwice}
+use Rattle.escpos_till_model.specs.Receipts.{Among, Extends, IsTaken, NoneTwice}
 use Rattle.escpos_till_model.specs.Steps.{After, Refuses}
+use Rattle.escpos_till_model.proofs.EntryFacts.{is_taken_grows}
 
 -- ## Lists
 
@@ -62,21 +63,42 @@ put_one event.Nudge t = inr refl
 put_one event.Submit t = inr refl
 put_one _ t = inl refl
 
-step_one : (t : TillParts) (e : TillEvent) (marks : List ℕ) (after : TillParts) → Steps t e marks after → (marks ≡ []) ⊎ (marks ≡ t.line.host.next ∷ [])
-step_one t e marks after (inl (happened, is)) = elim (put_one e t) [ inl none ↦ inl (is ∙ none) | inr one ↦ inr (is ∙ one) ]
-step_one t e marks after (inr (why, refused, is)) = inl is
+step_one : (t : TillParts) (e : TillEvent) (texts : List (List ℕ)) (marks : List ℕ) (after : TillParts) → Steps t e texts marks after
+    → (marks ≡ []) ⊎ (marks ≡ t.line.host.next ∷ [])
+step_one t e texts marks after (inl (happened, taken, is)) = elim (put_one e t) [ inl none ↦ inl (is ∙ none) | inr one ↦ inr (is ∙ one) ]
+step_one t e texts marks after (inr (why, refused, none, is)) = inl is
 
 twice_step : (t : TillParts) (marks some : List ℕ) → (some ≡ []) ⊎ (some ≡ t.line.host.next ∷ []) → NoneTwice marks → AllByRecursion (λ n. n < t.line.host.next) marks
     → NoneTwice (marks ++ some)
 twice_step t marks some (inl none) twice below = subst NoneTwice (sym (ap (λ v. marks ++ v) none ∙ append-nil marks)) twice
 twice_step t marks some (inr one) twice below = subst NoneTwice (sym (ap (λ v. marks ++ v) one)) (twice_add marks t.line.host.next twice below)
 
-ran_snoc : (t : TillParts) (es : List TillEvent) (marks : List ℕ) (now : TillParts) (e : TillEvent) (some : List ℕ) (after : TillParts) → Ran t es marks now
-    → Steps now e some after → Ran t (es ++ e ∷ []) (marks ++ some) after
-ran_snoc t [] marks now e some after (none, same) step =
-    (after, some, [], ap (λ v. v ++ some) none ∙ sym (append-nil some), subst (λ (v : TillParts). Steps v e some after) same step, (refl, refl))
-ran_snoc t (d ∷ es) marks now e some after (next, first, others, is, one, rest) step =
-    (next, first, others ++ some, ap (λ v. v ++ some) is ∙ append_assoc first others some, one, ran_snoc next es others now e some after rest step)
+ran_snoc : (t : TillParts) (es : List TillEvent) (texts : List (List ℕ)) (marks : List ℕ) (now : TillParts) (e : TillEvent) (taken : List (List ℕ)) (some : List ℕ)
+    (after : TillParts) → Ran t es texts marks now → Steps now e taken some after → Ran t (es ++ e ∷ []) (texts ++ taken) (marks ++ some) after
+ran_snoc t [] texts marks now e taken some after (nothing, none, same) step =
+    (
+      after,
+      taken,
+      [],
+      some,
+      [],
+      ap (λ v. v ++ taken) nothing ∙ sym (append-nil taken),
+      ap (λ v. v ++ some) none ∙ sym (append-nil some),
+      subst (λ (v : TillParts). Steps v e taken some after) same step,
+      (refl, refl, refl),
+    )
+ran_snoc t (d ∷ es) texts marks now e taken some after (next, first, others, used, more, is, also, one, rest) step =
+    (
+      next,
+      first,
+      others ++ taken,
+      used,
+      more ++ some,
+      ap (λ v. v ++ taken) is ∙ append_assoc first others taken,
+      ap (λ v. v ++ some) also ∙ append_assoc used more some,
+      one,
+      ran_snoc next es others more now e taken some after rest step,
+    )
 
 reserved_grows : (es after : List Entry) → Extends es after → (n : ℕ) → IsReserved es n → IsReserved after n
 reserved_grows es after (more, is) n r = record {
@@ -95,8 +117,10 @@ reserved_grows es after (more, is) n r = record {
 pub record SoFar (t : TillParts) (events left : List TillEvent) (now : TillParts) : Type 0 where
   pub done : List TillEvent
   pub split : events ≡ done ++ left
+  pub texts : List (List ℕ)
   pub marks : List ℕ
-  pub ran : Ran t done marks now
+  pub ran : Ran t done texts marks now
+  pub taken : AllByRecursion (HasTaken (entries_of now)) texts
   pub twice : NoneTwice marks
   pub below : AllByRecursion (λ n. n < now.line.host.next) marks
   pub own : AllByRecursion (IsReserved (entries_of now)) marks
@@ -106,22 +130,31 @@ pub begin : (t : TillParts) (events : List TillEvent) → SoFar t events events 
 begin t events = record {
   done = [];
   split = refl;
+  texts = [];
   marks = [];
-  ran = (refl, refl);
+  ran = (refl, refl, refl);
+  taken = tt;
   twice = none_of_nothing;
   below = tt;
   own = tt;
   grows = ([], sym (append-nil (entries_of t)));
 }
 
-one_step : (t now after : TillParts) (events left rest : List TillEvent) (e : TillEvent) (some : List ℕ) → left ≡ e ∷ rest → Steps now e some after → UsesMarks now some after
-    → Extends (entries_of now) (entries_of after) → SoFar t events left now → SoFar t events rest after
-one_step t now after events left rest e some first step uses (more, is) s = record {
+taken_grows : (es after : List Entry) → Extends es after → (json : List ℕ) → HasTaken es json → HasTaken after json
+taken_grows es after (more, is) json (number, taken) = (number, subst (λ v. IsTaken v number json) (sym is) (is_taken_grows es more number json taken))
+
+one_step : (t now after : TillParts) (events left rest : List TillEvent) (e : TillEvent) (taken : List (List ℕ)) (some : List ℕ) → left ≡ e ∷ rest
+    → Steps now e taken some after → AllByRecursion (HasTaken (entries_of after)) taken → UsesMarks now some after → Extends (entries_of now) (entries_of after)
+    → SoFar t events left now → SoFar t events rest after
+one_step t now after events left rest e taken some first step there uses (more, is) s = record {
   done = s.done ++ e ∷ [];
   split = s.split ∙ ap (λ v. s.done ++ v) first ∙ sym (append_assoc s.done (e ∷ []) rest);
+  texts = s.texts ++ taken;
   marks = s.marks ++ some;
-  ran = ran_snoc t s.done s.marks now e some after s.ran step;
-  twice = twice_step now s.marks some (step_one now e some after step) s.twice s.below;
+  ran = ran_snoc t s.done s.texts s.marks now e taken some after s.ran step;
+  taken = all_joined (HasTaken (entries_of after)) s.texts taken
+      (all_turn (HasTaken (entries_of now)) (HasTaken (entries_of after)) (taken_grows (entries_of now) (entries_of after) (more, is)) s.texts s.taken) there;
+  twice = twice_step now s.marks some (step_one now e taken some after step) s.twice s.below;
   below = all_joined (λ n. n < after.line.host.next) s.marks some
       (all_turn (λ n. n < now.line.host.next) (λ n. n < after.line.host.next) (λ n less. omega (arith, uses.rises)) s.marks s.below)
       (all_turn (λ n. (now.line.host.next ≤ n) × (n < after.line.host.next)) (λ n. n < after.line.host.next) (λ n within. within.1) some uses.within);
@@ -131,17 +164,20 @@ one_step t now after events left rest e some first step uses (more, is) s = reco
 }
 
 pub goes_so_far : (t now after : TillParts) (events left rest : List TillEvent) (e : TillEvent) (r : Result (Unit {0}) TillRefusal) → left ≡ e ∷ rest
-    → OnOk r (After e now after) → IfErr r (λ why. Refuses e why now after) → OnOk r (UsesMarks now (marks_put e now) after) → OnErr r (UsesMarks now [] after)
-    → Extends (entries_of now) (entries_of after) → SoFar t events left now → SoFar t events rest after
-goes_so_far t now after events left rest e (Ok done) first happened refused marks unused grows s =
-    one_step t now after events left rest e (marks_put e now) first (inl (happened, refl)) marks grows s
-goes_so_far t now after events left rest e (Err why) first happened refused marks unused grows s =
-    one_step t now after events left rest e [] first (inr (why, refused, refl)) unused grows s
+    → OnOk r (After e now after) → IfErr r (λ why. Refuses e why now after) → OnOk r (AllByRecursion (HasTaken (entries_of after)) (texts_taken e))
+    → OnOk r (UsesMarks now (marks_put e now) after) → OnErr r (UsesMarks now [] after) → Extends (entries_of now) (entries_of after) → SoFar t events left now
+    → SoFar t events rest after
+goes_so_far t now after events left rest e (Ok done) first happened refused taken marks unused grows s =
+    one_step t now after events left rest e (texts_taken e) (marks_put e now) first (inl (happened, refl, refl)) taken marks grows s
+goes_so_far t now after events left rest e (Err why) first happened refused taken marks unused grows s =
+    one_step t now after events left rest e [] [] first (inr (why, refused, refl, refl)) tt unused grows s
 
 pub ran_well : (t now : TillParts) (events : List TillEvent) → SoFar t events [] now → RanWell t events now
 ran_well t now events s = record {
+  texts = s.texts;
   marks = s.marks;
-  ran = subst (λ es. Ran t es s.marks now) (sym (s.split ∙ append-nil s.done)) s.ran;
+  ran = subst (λ es. Ran t es s.texts s.marks now) (sym (s.split ∙ append-nil s.done)) s.ran;
+  taken = s.taken;
   once = s.twice;
   own = s.own;
 }

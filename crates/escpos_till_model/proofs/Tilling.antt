@@ -30,7 +30,7 @@ use Rattle.escpos_till_model.specs.declared.parts.TillParts.{TillParts}
 use Rattle.escpos_till_model.specs.Kept.{IsTill, Keeps}
 use Rattle.escpos_till_model.specs.Parts.{IsDesk, IsInStore, dropped, entries_at, entries_of, let_go, switched_off, with_desk, with_line}
 use Rattle.escpos_till_model.specs.Receipts.{IsReceipt, IsReceiptOf}
-use Rattle.escpos_till_model.specs.Steps.{After, GoesOnLine, IsCopy, IsOff, NotNoted, Records, RefusedBy, RefusedOnLine, Refuses, RefusesMark, RefusesOnLine, RefusesRecording, RefusesStart, RefusesSubmitting, RefusesTaking, RefusesTry, RefusesWrite, TakesInHand, UsesMark, Writes, is_host_call, submitted}
+use Rattle.escpos_till_model.specs.Steps.{After, GoesOnLine, IsCopy, IsOff, NotNoted, Records, RefusedBy, RefusedOnLine, Refuses, RefusesDue, RefusesMark, RefusesOnLine, RefusesRecording, RefusesStart, RefusesSubmitting, RefusesTaking, RefusesTry, RefusesWrite, TakesInHand, UsesMark, Writes, is_host_call, submitted}
 use Rattle.escpos_till_model.proofs.EntryFacts.{first_is_taken}
 use Rattle.escpos_till_model.proofs.GoesOn.{goes_on, leaves_on}
 use Rattle.escpos_till_model.proofs.Keeping.{entry_keeps, gone_keeps, linked_keeps, nudged_keeps, on_keeps, record_keeps, submitted_keeps, take_keeps}
@@ -292,14 +292,18 @@ submit_refused (refusal.Line why) t after (hand, commands, has, within, receipt,
     line_keeps (line.Submit commands) why t after (λ l same k. same_line t l same k) r till
 submit_refused _ t after r till = absurd r
 
-taking_refused : (openings : ℕ) (copy : Option (List ℕ)) (why : TillRefusal) (t after : TillParts) → IsDesk after.desk → RefusesTaking openings copy why t after → IsTill t → IsTill after
+due_refused : (openings : ℕ) (copy : Option (List ℕ)) (why : TillRefusal) (t after : TillParts) → IsDesk after.desk → RefusesDue openings copy why t after → IsTill t → IsTill after
+due_refused openings copy refusal.SwitchedOff t after desk r till = same_keeps t after r.1 till
+due_refused openings copy refusal.NothingWaits t after desk (ledger, on, live, none, same) till = same_keeps t after same till
+due_refused openings copy (refusal.NoReceipt why) t after desk (ledger, number, content, tried, on, live, first, cause, same) till = same_keeps t after same till
+due_refused openings copy (refusal.Ledger why) t after desk r till = refused_keeps (RefusesTry openings copy why) t after (try_refused openings copy why) desk r till
+due_refused openings copy _ t after desk r till = absurd r
+
+taking_refused : (openings : ℕ) (copy : Option (List ℕ)) (why : TillRefusal) (t after : TillParts) → IsDesk after.desk → RefusesTaking openings copy why t after → IsTill t
+    → IsTill after
 taking_refused openings copy refusal.InHand t after desk r till = same_keeps t after r.1 till
 taking_refused openings copy refusal.NotCopyText t after desk r till = same_keeps t after r.2 till
-taking_refused openings copy refusal.SwitchedOff t after desk r till = same_keeps t after r.1 till
-taking_refused openings copy refusal.NothingWaits t after desk (ledger, on, live, none, same) till = same_keeps t after same till
-taking_refused openings copy (refusal.NoReceipt why) t after desk (ledger, number, content, tried, on, live, first, cause, same) till = same_keeps t after same till
-taking_refused openings copy (refusal.Ledger why) t after desk r till = refused_keeps (RefusesTry openings copy why) t after (try_refused openings copy why) desk r till
-taking_refused openings copy _ t after desk r till = absurd r
+taking_refused openings copy why t after desk r till = due_refused openings copy why t after desk r.2 till
 
 not_noted : (why : LedgerError) (t after : TillParts) → NotNoted why t after → IsDesk after.desk → IsTill t → IsTill after
 not_noted why t after n desk till =
@@ -307,9 +311,9 @@ not_noted why t after n desk till =
 
 record_refused : (why : TillRefusal) (t after : TillParts) → IsDesk after.desk → RefusesRecording why t after → IsTill t → IsTill after
 record_refused refusal.NothingInHand t after desk r till = same_keeps t after r.1 till
-record_refused refusal.SwitchedOff t after desk r till = same_keeps t after r.1 till
-record_refused refusal.NotAnswered t after desk (ledger, on, live, few, same) till = same_keeps t after same till
-record_refused (refusal.Ledger why) t after desk (inl (ledger, on, failed, is, same)) till = same_keeps t after same till
+record_refused refusal.SwitchedOff t after desk r till = same_keeps t after r.2 till
+record_refused refusal.NotAnswered t after desk (ledger, has, on, live, few, same) till = same_keeps t after same till
+record_refused (refusal.Ledger why) t after desk (inl (ledger, has, on, failed, is, same)) till = same_keeps t after same till
 record_refused (refusal.Ledger why) t after desk (inr n) till = not_noted why t after n desk till
 record_refused _ t after desk r till = absurd r
 

@@ -178,17 +178,21 @@ RefusesTry openings copy why old new =
     ((why ≡ error.Failed) × HasFailed old × (new ≡ old))
     ⊎ ((number : ℕ) × (commands : List Command) × Due old.entries copy number commands × RefusesTried why old number (marks_taken openings) new)
 
+-- The ledger has no receipt for the till to take in hand, or doesn't note that.
+abbrev pub RefusesDue : ℕ → Option (List ℕ) → TillRefusal → TillParts → TillParts → Type 0
+RefusesDue openings copy refusal.SwitchedOff t after = IsOff t.desk × (after ≡ t)
+RefusesDue openings copy refusal.NothingWaits t after =
+    (ledger : LedgerView (List Entry)) × (t.desk ≡ On ledger) × IsLive ledger × (waiting ledger.entries ≡ []) × (after ≡ t)
+RefusesDue openings copy (refusal.NoReceipt why) t after =
+    (ledger : LedgerView (List Entry)) × (number : ℕ) × (content : List ℕ) × (tried : ℕ) × (t.desk ≡ On ledger) × IsLive ledger
+    × FirstWaits ledger.entries number content tried × WhyNone why content × (after ≡ t)
+RefusesDue openings copy (refusal.Ledger why) t after = RefusedBy (RefusesTry openings copy why) t after
+RefusesDue openings copy _ t after = ⊥
+
 abbrev pub RefusesTaking : ℕ → Option (List ℕ) → TillRefusal → TillParts → TillParts → Type 0
 RefusesTaking openings copy refusal.InHand t after = (t.hand ≢ None) × (after ≡ t)
 RefusesTaking openings copy refusal.NotCopyText t after = (t.hand ≡ None) × ¬ IsCopy copy × (after ≡ t)
-RefusesTaking openings copy refusal.SwitchedOff t after = IsOff t.desk × (after ≡ t)
-RefusesTaking openings copy refusal.NothingWaits t after =
-    (ledger : LedgerView (List Entry)) × (t.desk ≡ On ledger) × IsLive ledger × (waiting ledger.entries ≡ []) × (after ≡ t)
-RefusesTaking openings copy (refusal.NoReceipt why) t after =
-    (ledger : LedgerView (List Entry)) × (number : ℕ) × (content : List ℕ) × (tried : ℕ) × (t.desk ≡ On ledger) × IsLive ledger
-    × FirstWaits ledger.entries number content tried × WhyNone why content × (after ≡ t)
-RefusesTaking openings copy (refusal.Ledger why) t after = RefusedBy (RefusesTry openings copy why) t after
-RefusesTaking openings copy _ t after = ⊥
+RefusesTaking openings copy why t after = (t.hand ≡ None) × IsCopy copy × RefusesDue openings copy why t after
 
 -- The host is to do something with its next mark number.
 abbrev pub RefusesMark : Event → TillRefusal → TillParts → TillParts → Type 0
@@ -221,11 +225,12 @@ pub record NotNoted (why : LedgerError) (t : TillParts) (after : TillParts) : Ty
 
 abbrev pub RefusesRecording : TillRefusal → TillParts → TillParts → Type 0
 RefusesRecording refusal.NothingInHand t after = (t.hand ≡ None) × (after ≡ t)
-RefusesRecording refusal.SwitchedOff t after = IsOff t.desk × (after ≡ t)
+RefusesRecording refusal.SwitchedOff t after = (t.hand ≢ None) × IsOff t.desk × (after ≡ t)
 RefusesRecording refusal.NotAnswered t after =
-    (ledger : LedgerView (List Entry)) × (t.desk ≡ On ledger) × IsLive ledger × (length t.line.host.records ≤ length (recorded ledger.entries)) × (after ≡ t)
+    (ledger : LedgerView (List Entry)) × (t.hand ≢ None) × (t.desk ≡ On ledger) × IsLive ledger
+    × (length t.line.host.records ≤ length (recorded ledger.entries)) × (after ≡ t)
 RefusesRecording (refusal.Ledger why) t after =
-    ((ledger : LedgerView (List Entry)) × (t.desk ≡ On ledger) × HasFailed ledger × (why ≡ error.Failed) × (after ≡ t)) ⊎ NotNoted why t after
+    ((ledger : LedgerView (List Entry)) × (t.hand ≢ None) × (t.desk ≡ On ledger) × HasFailed ledger × (why ≡ error.Failed) × (after ≡ t)) ⊎ NotNoted why t after
 RefusesRecording _ t after = ⊥
 
 -- What the store has is no ledger, where it is said to be damaged.

@@ -17,6 +17,7 @@ mod desk;
 mod due;
 mod event;
 mod hand;
+pub mod laws;
 mod parts;
 mod till;
 

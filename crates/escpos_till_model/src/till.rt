@@ -1,6 +1,7 @@
 //! A till for which the statement holds at all times, and to which every list of events may happen.
 
 ghost use Rattle.std.specs.Prelude.{◌≡◌, [], length, Some, None, option_map, IfOk, IfErr, OnOk, OnErr};
+ghost use Rattle.std.specs.List.{AllByRecursion};
 ghost use Rattle.escpos_host.specs.Machine.{Down};
 ghost use Rattle.escpos_paper.specs.Page.{SheetIs};
 ghost use Rattle.escpos_till.specs.Entries.{taken};
@@ -9,8 +10,8 @@ ghost use Rattle.escpos_till_model.specs.declared.event.TillEvent.TheVariants as
 ghost use Rattle.escpos_till_model.specs.declared.hand.Hand.{Hand};
 ghost use Rattle.escpos_till_model.specs.Kept.{IsTill};
 ghost use Rattle.escpos_till_model.specs.Parts.{entries_of};
-ghost use Rattle.escpos_till_model.specs.Marks.{RanWell, UsesMarks, marks_put};
-ghost use Rattle.escpos_till_model.specs.Receipts.{EachIsKept, Extends, RecordedStand};
+ghost use Rattle.escpos_till_model.specs.Marks.{HasTaken, RanWell, UsesMarks, marks_put, texts_taken};
+ghost use Rattle.escpos_till_model.specs.Receipts.{EachIsKept, Extends, IsTaken, RecordedStand};
 ghost use Rattle.escpos_till_model.specs.Steps.{After, GoesOnLine, IsPossible, Refuses};
 
 use crate::desk::Desk;
@@ -71,6 +72,8 @@ impl Till {
         ensures happened { OnOk result (After happening self.old self.new) }
         ensures refused { IfErr result (λ why. Refuses happening why self.old self.new) }
         ensures possible { IfErr result IsPossible }
+        // A receipt that was taken is in the ledger.
+        ensures taken { OnOk result (AllByRecursion (HasTaken (entries_of self.new)) (texts_taken happening)) }
         // Each mark that it puts on the line has a number that an entry has reserved, from the host's next one on.
         ensures marks { OnOk result (UsesMarks self.old (marks_put happening self.old) self.new) }
         ensures unused { OnErr result (UsesMarks self.old [] self.new) }
@@ -87,7 +90,7 @@ impl Till {
 
     /// Lets events happen, in order; one that is refused leaves what the refusal says, and the next one follows.
     pub fn run(&mut self, events: Vec<TillEvent>)
-        // No mark number was used twice, and each was reserved.
+        // Each receipt that was taken is in the ledger; no mark number was used twice, and each was reserved.
         ensures ran { RanWell self.old events.items self.new }
         // What the ledger had it has; what is recorded stands on the paper; each receipt that was taken waits or is recorded.
         ensures extends { Extends (entries_of self.old) (entries_of self.new) }
@@ -108,6 +111,7 @@ impl Till {
     pub fn queue(&mut self, json: &[u8]) -> Result<ReceiptNumber, TillRefusal>
         ensures happened { OnOk result (After (event.Queue json.now) self.old self.new) }
         ensures number { IfOk result (λ number. number ≡ length (taken (entries_of self.new))) }
+        ensures taken { IfOk result (λ number. IsTaken (entries_of self.new) number json.now) }
         ensures refused { IfErr result (λ why. Refuses (event.Queue json.now) why self.old self.new) }
     {
         self.parts.queue(self.alloc, json)

@@ -7,7 +7,7 @@ use Rattle.escpos_till_model.proofs.till.Till.run.Goals as goal
 pub loop-event-preserved : goal.loop-event-preserved
 loop-event-preserved c =
     goes_so_far c.args.self.now c.loop-event.self c.step.new.self c.args.events.items c.loop-event.left.items c.pop_front.new.self.items c.in-Some.event c.step.result
-    c.in-Some.ensures.items c.step.ensures.happened c.step.ensures.refused c.step.ensures.marks c.step.ensures.unused c.step.ensures.extends c.loop-event.invariant
+    c.in-Some.ensures.items c.step.ensures.happened c.step.ensures.refused c.step.ensures.taken c.step.ensures.marks c.step.ensures.unused c.step.ensures.extends c.loop-event.invariant
 
 pub loop-event-init : goal.loop-event-init
 loop-event-init c =

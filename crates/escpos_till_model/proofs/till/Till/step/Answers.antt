@@ -5,7 +5,7 @@ use Rattle.escpos_till_model.specs.declared.parts.TillParts.{TillParts}
 use Rattle.escpos_till_model.specs.Marks.{UsesMarks, marks_put}
 use Rattle.escpos_till_model.specs.Parts.{entries_of}
 use Rattle.escpos_till_model.specs.Receipts.{Extends}
-use Rattle.escpos_till_model.proofs.Extending.{whatever_extends}
+use Rattle.escpos_till_model.proofs.Extending.{whatever_extends, whatever_takes}
 use Rattle.escpos_till_model.proofs.Possible.{whatever_possible}
 use Rattle.escpos_till_model.proofs.Marking.{whatever_unused, whatever_uses}
 use Rattle.escpos_till_model.proofs.Standing.{whatever_till}
@@ -35,3 +35,7 @@ returns-clause-extends c =
     subst (λ (t : TillParts). Extends (entries_of t) (entries_of c.happen-result.new.self)) c.self.view_is
     (whatever_extends c.args.happening c.self.inside.parts c.happen-result.new.self c.happen-result.result c.happen-result.ensures.desk c.happen-result.ensures.happened
     c.happen-result.ensures.refused c.self.invariant)
+
+pub returns-clause-taken : goal.returns-clause-taken
+returns-clause-taken c =
+    whatever_takes c.args.happening c.self.inside.parts c.happen-result.new.self c.happen-result.result c.happen-result.ensures.desk c.happen-result.ensures.happened c.self.invariant
