@@ -67,12 +67,14 @@ line_cause event.Nudge least t after (hand, has, within, r) = by_line line.Nudge
 line_cause event.Submit least t after (hand, commands, has, within, receipt, r) = by_line (line.Submit commands) least t after (unused_submit commands) r
 line_cause (event.OnLine e) least t after (call, r) = by_line e least t after (unused_on_line e call) r
 line_cause event.GiveUp least t after (is, none, same) = cc is
+line_cause (event.TakeInHand openings copy) least t after r = r.2
 line_cause _ least t after r = r
 
 start_cause : (e : TillEvent) (t after : TillParts) → IsTill t → Refuses e (refusal.Open broken.Damaged) t after → ⊥
 start_cause (event.Start failure) t after till (store, off, damaged, same) =
     damaged refl (subst (λ (d : Desk). IsLedger (entries_at d)) off till.keeps.ledger)
 start_cause event.GiveUp t after till (is, none, same) = cc is
+start_cause (event.TakeInHand openings copy) t after till r = r.2
 start_cause _ t after till r = r
 
 pub possible : (e : TillEvent) (why : TillRefusal) (t after : TillParts) → IsTill t → Refuses e why t after → IsPossible why

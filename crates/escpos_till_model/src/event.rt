@@ -36,8 +36,9 @@ pub enum TillEvent {
     OnLine(Event),
 }
 
-/// Why an event is refused. All but `Ledger` and `Open` leave the till as it was; those leave it so but for the ledger, and
-/// but for the receipt in hand if it was to be recorded. `Line` leaves what the line says.
+/// Why an event is refused. All but `Ledger` and `Line` leave the till as it was. `Ledger` leaves the ledger as its error says;
+/// a receipt in hand that was to be recorded is let go then, unless the ledger had failed before. `Line` leaves the line as
+/// its refusal says.
 #[derive(Clone, Copy, Debug, PartialEq, Eq)]
 pub enum TillRefusal {
     /// The till is switched off.
