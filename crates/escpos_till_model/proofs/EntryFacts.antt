@@ -1,7 +1,7 @@
 -- What stays true of receipts and numbers when a ledger gets one more entry.
-use Rattle.std.proofs.Common.{ℕ, ◌≡◌, ◌≢◌, ◌+◌, ◌<◌, ◌≤◌, ◌⊎◌, inl, inr, Bool, true, false, cond, Option, Some, None, List, [], ◌∷◌, ◌++◌, length, refl, sym, ◌∙◌, ap, subst, add-zero, append-nil, append_assoc, length-append, arith}
+use Rattle.std.proofs.Common.{ℕ, ◌≡◌, ◌+◌, ◌≤◌, ◌⊎◌, inl, inr, Bool, true, false, cond, Some, None, List, [], ◌∷◌, ◌++◌, length, refl, sym, ◌∙◌, ap, subst, add-zero, append-nil, append_assoc, arith}
 use Rattle.std.specs.Prelude.{filter, slice_get}
-use Rattle.std.specs.List.{AllZip, cons_option, filter_map}
+use Rattle.std.specs.List.{AllZip, cons_option}
 use Rattle.std.proofs.lemmas.List.Elements.{filter-append, filter_map-append}
 use Rattle.std.proofs.lemmas.Option.{same_Some}
 use Rattle.escpos_command.specs.declared.command.Command.{Command}
@@ -10,7 +10,7 @@ use Rattle.escpos_till.specs.declared.entry.Entry.TheVariants.{Queued, Tried, Re
 use Rattle.escpos_till.specs.Entries.{MayFollow, Taken, content_of, contents, next_free, numbered_from, record_of, recorded, taken}
 use Rattle.escpos_till.specs.Ledger.{FirstWaits}
 use Rattle.escpos_till.proofs.EntryLemmas.{next_after_queued, next_after_raised, next_after_recorded, next_after_tried}
-use Rattle.escpos_till_model.specs.Receipts.{Among, AreReceipts, IsReceipt, IsReceiptOf, IsTaken}
+use Rattle.escpos_till_model.specs.Receipts.{Among, AreReceipts, IsReceiptOf, IsTaken}
 
 -- ## What is among a list
 
@@ -46,13 +46,12 @@ among_filtered p x (y ∷ xs) among = filtered_step p x y xs (p y) refl (among_f
 
 -- What is there and passes is let through.
 pub filter_keeps : {X : Type 0} (p : X → Bool) (x : X) (xs : List X) → p x ≡ true → Among x xs → Among x (filter p xs)
-filter_keeps p x xs passes (before, following, is) =
-    (
-      filter p before,
-      filter p following,
-      ap (filter p) is ∙ filter-append p before (x ∷ following)
-          ∙ ap (λ b. filter p before ++ cond b (x ∷ filter p following) (filter p following)) passes,
-    )
+filter_keeps p x xs passes (before, following, is) = (
+  filter p before,
+  filter p following,
+  ap (filter p) is ∙ filter-append p before (x ∷ following)
+      ∙ ap (λ b. filter p before ++ cond b (x ∷ filter p following) (filter p following)) passes,
+)
 
 first_among : {X : Type 0} (x : X) (xs : List X) → slice_get xs 0 ≡ Some x → Among x xs
 first_among x [] e = absurd (let bad : None ≡ Some x = e in cc)

@@ -1,5 +1,5 @@
 -- A ledger keeps the entries that it has, whatever happens.
-use Rattle.std.proofs.Common.{ℕ, ◌≡◌, ◌+◌, ◌⊎◌, inl, inr, Option, Some, None, Result, Ok, Err, IfErr, List, [], ◌∷◌, ◌++◌, length, refl, sym, ◌∙◌, ap, subst, append-nil, length-append, arith}
+use Rattle.std.proofs.Common.{ℕ, ◌≡◌, ◌+◌, inl, inr, Option, Result, Ok, Err, IfErr, List, [], ◌∷◌, ◌++◌, length, refl, sym, ◌∙◌, ap, subst, append-nil, length-append, arith}
 use Rattle.std.specs.Prelude.{IfOk, OnOk}
 use Rattle.std.specs.List.{AllByRecursion}
 use Rattle.escpos_till.specs.declared.entry.Entry.{Entry}
@@ -9,7 +9,7 @@ use Rattle.escpos_till.specs.Entries.{Taken, contents, taken}
 use Rattle.escpos_till.proofs.EntryLemmas.{length-taken}
 use Rattle.escpos_till.specs.Ledger.{LedgerView, RefusesQueue, RefusesRaise}
 use Rattle.escpos_till_model.specs.declared.desk.Desk.{Desk}
-use Rattle.escpos_till_model.specs.declared.desk.Desk.TheVariants.{On, Off}
+use Rattle.escpos_till_model.specs.declared.desk.Desk.TheVariants.{On}
 use Rattle.escpos_till_model.specs.declared.event.TillEvent.{TillEvent}
 use Rattle.escpos_till_model.specs.declared.event.TillEvent.TheVariants as event
 use Rattle.escpos_till_model.specs.declared.event.TillRefusal.{TillRefusal}
@@ -19,7 +19,7 @@ use Rattle.escpos_till_model.specs.Kept.{IsTill}
 use Rattle.escpos_till_model.specs.Parts.{IsDesk, IsInStore, entries_at, entries_of}
 use Rattle.escpos_till_model.specs.Marks.{HasTaken, texts_taken}
 use Rattle.escpos_till_model.specs.Receipts.{Extends, IsTaken}
-use Rattle.escpos_till_model.specs.Steps.{After, NotNoted, Refuses, RefusesDue, RefusesMark, RefusesOnLine, RefusesRecording, RefusesStart, RefusesSubmitting, RefusesTaking, RefusesTry, RefusesWrite, Writes}
+use Rattle.escpos_till_model.specs.Steps.{After, Refuses, RefusesDue, RefusesMark, RefusesOnLine, RefusesRecording, RefusesStart, RefusesSubmitting, RefusesTaking, RefusesWrite, Writes}
 use Rattle.escpos_till_model.proofs.EntryFacts.{taken_append}
 use Rattle.escpos_till_model.proofs.Tilling.{Grown, opened, queue_refused, raise_refused, recorded_refused, store_adds, try_refused}
 

@@ -1,5 +1,5 @@
 -- What keeps a till's records and numbers right holds after each kind of step.
-use Rattle.std.proofs.Common.{ℕ, ◌≡◌, ◌≢◌, ◌+◌, ◌<◌, ◌≤◌, ◌⊎◌, inl, inr, Option, Some, None, List, [], ◌∷◌, ◌++◌, length, map, take, refl, sym, ◌∙◌, ap, subst, append-nil, append_assoc, length-append, arith}
+use Rattle.std.proofs.Common.{ℕ, ◌≡◌, ◌+◌, ◌<◌, ◌≤◌, ◌⊎◌, inl, inr, Option, Some, None, List, [], ◌∷◌, ◌++◌, length, map, take, refl, sym, ◌∙◌, ap, subst, append-nil, append_assoc, length-append, arith}
 use Rattle.std.proofs.lemmas.List.{map-append, take-append-le, take_all}
 use Rattle.escpos_command.specs.declared.command.Command.{Command}
 use Rattle.escpos_command.specs.Digits.{mark_of}
@@ -11,7 +11,7 @@ use Rattle.escpos_till.specs.declared.entry.Entry.TheVariants.{Tried, Recorded}
 use Rattle.escpos_till.specs.Entries.{MayFollow, next_free, record_of, recorded}
 use Rattle.escpos_till.proofs.EntryLemmas.{ledger-snoc, next_after_tried}
 use Rattle.escpos_till_model.specs.declared.hand.Hand.{Hand}
-use Rattle.escpos_till_model.specs.Kept.{HasInHand, IsInHand, IsSent, Keeps, Reserves}
+use Rattle.escpos_till_model.specs.Kept.{IsInHand, IsSent, Keeps, Reserves}
 use Rattle.escpos_till_model.specs.Receipts.{IsReceiptOf}
 use Rattle.escpos_till_model.proofs.EntryFacts.{are_add, are_same, next_grows, receipt_of_grows, zip_length}
 use Rattle.escpos_till_model.proofs.GoesOn.{GoesOn}

@@ -1,28 +1,21 @@
 -- No mark number is used twice.
-use Rattle.std.proofs.Common.{ℕ, ◌≡◌, ◌≢◌, ◌+◌, ◌<◌, ◌≤◌, ◌⊎◌, inl, inr, Option, Some, None, Result, Ok, Err, IfErr, List, [], ◌∷◌, ◌++◌, refl, sym, ◌∙◌, ap, subst, append-nil, append_assoc, arith}
+use Rattle.std.proofs.Common.{ℕ, ◌≡◌, ◌+◌, ◌≤◌, inl, inr, Option, Result, Ok, Err, IfErr, List, [], ◌∷◌, refl, ◌∙◌, ap, subst, arith}
 use Rattle.std.specs.Prelude.{OnErr, OnOk}
-use Rattle.std.specs.List.{AllByRecursion}
-use Rattle.escpos_host.specs.Machine.{HostView}
 use Rattle.escpos_link.specs.declared.event.Event.{Event}
 use Rattle.escpos_link.specs.declared.event.Event.TheVariants as line
-use Rattle.escpos_link.specs.declared.event.Note.{Note}
-use Rattle.escpos_link.specs.EventTable.{After as AfterOnLine, Leaves}
+use Rattle.escpos_link.specs.EventTable.{Leaves}
 use Rattle.escpos_link.specs.Line.{LineView}
-use Rattle.escpos_till.specs.declared.entry.Entry.{Entry}
 use Rattle.escpos_till.specs.Entries.{next_free}
-use Rattle.escpos_till_model.specs.declared.desk.Desk.{Desk}
 use Rattle.escpos_till_model.specs.declared.event.TillEvent.{TillEvent}
 use Rattle.escpos_till_model.specs.declared.event.TillEvent.TheVariants as event
 use Rattle.escpos_till_model.specs.declared.event.TillRefusal.{TillRefusal}
 use Rattle.escpos_till_model.specs.declared.event.TillRefusal.TheVariants as refusal
 use Rattle.escpos_till_model.specs.declared.hand.Hand.{Hand}
 use Rattle.escpos_till_model.specs.declared.parts.TillParts.{TillParts}
-use Rattle.escpos_till_model.specs.Kept.{IsInHand, IsTill, Keeps}
-use Rattle.escpos_till_model.specs.Marks.{IsReserved, Ran, Steps, UsesMarks, marks_put}
-use Rattle.escpos_till_model.specs.Parts.{entries_at, entries_of}
-use Rattle.escpos_till_model.specs.Receipts.{Among, NoneTwice}
-use Rattle.escpos_till_model.specs.Steps.{After, NotNoted, RefusedBy, RefusedOnLine, Refuses, RefusesDue, RefusesMark, RefusesOnLine, RefusesRecording, RefusesStart, RefusesSubmitting, RefusesTaking, RefusesWrite, TakesInHand, UsesMark, Writes}
-use Rattle.escpos_till_model.proofs.EntryFacts.{among_cons, among_nothing}
+use Rattle.escpos_till_model.specs.Kept.{IsInHand, IsTill}
+use Rattle.escpos_till_model.specs.Marks.{UsesMarks, marks_put}
+use Rattle.escpos_till_model.specs.Parts.{entries_of}
+use Rattle.escpos_till_model.specs.Steps.{After, Refuses, RefusesDue, RefusesMark, RefusesOnLine, RefusesRecording, RefusesStart, RefusesSubmitting, RefusesTaking, RefusesWrite, TakesInHand, UsesMark}
 use Rattle.escpos_till_model.proofs.GoesOn.{goes_on, leaves_on}
 use Rattle.escpos_till_model.proofs.Keeping.{hung_next}
 use Rattle.escpos_till_model.proofs.Tilling.{opened}
@@ -46,17 +39,17 @@ one_mark e t after hand left till u next =
     let is : after.line.host.next ≡ t.line.host.next + 1 = ap (λ (v : TillParts). v.line.host.next) u.after_is ∙ next in
     record {
       own = (
-            record {
-              number = hand.number;
-              limit = hand.limit;
-              before = held.reserved.before;
-              following = held.reserved.following;
-              entries_are = held.reserved.entries_are;
-              from = held.reserved.from;
-              to = u.reserved;
-            },
-            tt,
-          );
+        record {
+          number = hand.number;
+          limit = hand.limit;
+          before = held.reserved.before;
+          following = held.reserved.following;
+          entries_are = held.reserved.entries_are;
+          from = held.reserved.from;
+          to = u.reserved;
+        },
+        tt,
+      );
       within = ((omega arith, omega (arith, is)), tt);
       rises = omega (arith, is);
     }

@@ -1,9 +1,7 @@
 -- Why nothing is refused for a mark number that was used, or for a ledger that is damaged.
-use Rattle.std.proofs.Common.{ℕ, ◌≡◌, ◌≢◌, false, Result, Ok, Err, IfErr, List, refl, sym, ◌∙◌, ap, subst}
+use Rattle.std.proofs.Common.{ℕ, ◌≡◌, ◌≢◌, false, Result, Ok, Err, IfErr, refl, sym, ◌∙◌, subst}
 use Rattle.escpos_host.specs.declared.host.HostError.{HostError}
 use Rattle.escpos_host.specs.declared.host.HostError.TheVariants as error
-use Rattle.escpos_till.specs.declared.entry.Entry.{Entry}
-use Rattle.escpos_till.specs.declared.error.OpenError.{OpenError}
 use Rattle.escpos_till.specs.declared.error.OpenError.TheVariants as broken
 use Rattle.escpos_till.specs.Entries.{IsLedger}
 use Rattle.escpos_link.specs.declared.event.Event.{Event}
@@ -20,7 +18,7 @@ use Rattle.escpos_till_model.specs.declared.event.TillRefusal.{TillRefusal}
 use Rattle.escpos_till_model.specs.declared.event.TillRefusal.TheVariants as refusal
 use Rattle.escpos_till_model.specs.declared.parts.TillParts.{TillParts}
 use Rattle.escpos_till_model.specs.Kept.{IsTill}
-use Rattle.escpos_till_model.specs.Parts.{entries_at, entries_of}
+use Rattle.escpos_till_model.specs.Parts.{entries_at}
 use Rattle.escpos_till_model.specs.Steps.{IsPossible, RefusedOnLine, Refuses, is_host_call}
 use Rattle.escpos_till_model.proofs.GoesOn.{no_call}
 

@@ -1,5 +1,5 @@
 -- Events one after another: no mark number is used twice.
-use Rattle.std.proofs.Common.{ℕ, ◌≡◌, ◌≢◌, ◌+◌, ◌<◌, ◌≤◌, ◌⊎◌, inl, inr, Result, Ok, Err, IfErr, List, [], ◌∷◌, ◌++◌, refl, sym, ◌∙◌, ap, subst, append-nil, append_assoc, arith}
+use Rattle.std.proofs.Common.{ℕ, ◌≡◌, ◌<◌, ◌≤◌, ◌⊎◌, inl, inr, Result, Ok, Err, IfErr, List, [], ◌∷◌, ◌++◌, refl, sym, ◌∙◌, ap, subst, append-nil, append_assoc, arith}
 use Rattle.std.specs.Prelude.{OnErr, OnOk}
 use Rattle.std.specs.List.{AllByRecursion}
 use Rattle.escpos_till.specs.declared.entry.Entry.{Entry}
@@ -75,30 +75,28 @@ twice_step t marks some (inr one) twice below = subst NoneTwice (sym (ap (λ v. 
 
 ran_snoc : (t : TillParts) (es : List TillEvent) (texts : List (List ℕ)) (marks : List ℕ) (now : TillParts) (e : TillEvent) (taken : List (List ℕ)) (some : List ℕ)
     (after : TillParts) → Ran t es texts marks now → Steps now e taken some after → Ran t (es ++ e ∷ []) (texts ++ taken) (marks ++ some) after
-ran_snoc t [] texts marks now e taken some after (nothing, none, same) step =
-    (
-      after,
-      taken,
-      [],
-      some,
-      [],
-      ap (λ v. v ++ taken) nothing ∙ sym (append-nil taken),
-      ap (λ v. v ++ some) none ∙ sym (append-nil some),
-      subst (λ (v : TillParts). Steps v e taken some after) same step,
-      (refl, refl, refl),
-    )
-ran_snoc t (d ∷ es) texts marks now e taken some after (next, first, others, used, more, is, also, one, rest) step =
-    (
-      next,
-      first,
-      others ++ taken,
-      used,
-      more ++ some,
-      ap (λ v. v ++ taken) is ∙ append_assoc first others taken,
-      ap (λ v. v ++ some) also ∙ append_assoc used more some,
-      one,
-      ran_snoc next es others more now e taken some after rest step,
-    )
+ran_snoc t [] texts marks now e taken some after (nothing, none, same) step = (
+  after,
+  taken,
+  [],
+  some,
+  [],
+  ap (λ v. v ++ taken) nothing ∙ sym (append-nil taken),
+  ap (λ v. v ++ some) none ∙ sym (append-nil some),
+  subst (λ (v : TillParts). Steps v e taken some after) same step,
+  (refl, refl, refl),
+)
+ran_snoc t (d ∷ es) texts marks now e taken some after (next, first, others, used, more, is, also, one, rest) step = (
+  next,
+  first,
+  others ++ taken,
+  used,
+  more ++ some,
+  ap (λ v. v ++ taken) is ∙ append_assoc first others taken,
+  ap (λ v. v ++ some) also ∙ append_assoc used more some,
+  one,
+  ran_snoc next es others more now e taken some after rest step,
+)
 
 reserved_grows : (es after : List Entry) → Extends es after → (n : ℕ) → IsReserved es n → IsReserved after n
 reserved_grows es after (more, is) n r = record {

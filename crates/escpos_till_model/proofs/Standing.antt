@@ -1,7 +1,6 @@
 -- What a till's owner wants to be sure of follows from what holds for every till.
-use Rattle.std.proofs.Common.{ℕ, ◌≡◌, ◌≤◌, ◌+◌, Option, Some, None, Result, Ok, Err, IfErr, List, [], ◌++◌, refl, sym, subst, arith}
+use Rattle.std.proofs.Common.{◌≡◌, None, Result, Ok, Err, IfErr, List, [], refl, sym, subst, arith}
 use Rattle.std.specs.Prelude.{IfOk, OnOk}
-use Rattle.escpos_command.specs.declared.command.Command.{Command}
 use Rattle.escpos_paper.specs.declared.item.Item.{Item}
 use Rattle.escpos_host.specs.Machine.{Down, HostView}
 use Rattle.escpos_link.specs.Line.{LineView}

@@ -1,11 +1,11 @@
 -- What holds for every till holds after each event, and after each refusal.
-use Rattle.std.proofs.Common.{ℕ, ◌≡◌, ◌≢◌, ◌+◌, ◌<◌, ◌≤◌, ◌⊎◌, inl, inr, Bool, true, false, Option, Some, None, List, [], ◌∷◌, ◌++◌, length, refl, sym, ◌∙◌, ap, subst}
+use Rattle.std.proofs.Common.{ℕ, ◌≡◌, ◌+◌, ◌<◌, ◌⊎◌, inl, inr, Bool, true, false, Option, Some, None, List, [], ◌∷◌, ◌++◌, length, refl, sym, ◌∙◌, ap, subst}
 use Rattle.std.specs.Prelude.{nat_lt, if◌then◌else◌}
 use Rattle.escpos_command.specs.declared.command.Command.{Command}
 use Rattle.escpos_receipt.specs.Describes.{Describes}
 use Rattle.escpos_receipt.specs.Whole.{Whole}
 use Rattle.escpos_till.specs.Copy.{copy_line, sent_of}
-use Rattle.escpos_host.specs.Machine.{Down, HostView, InFlight, linked, nudged, submitted as given}
+use Rattle.escpos_host.specs.Machine.{HostView, nudged, submitted as given}
 use Rattle.escpos_till.specs.declared.entry.Entry.{Entry}
 use Rattle.escpos_till.specs.declared.entry.Entry.TheVariants as entry
 use Rattle.escpos_till.specs.declared.error.LedgerError.{LedgerError}
@@ -16,7 +16,7 @@ use Rattle.escpos_till.specs.Ledger.{Adds, CannotTell, FirstWaits, IsLive, Ledge
 use Rattle.escpos_link.specs.declared.event.Event.{Event}
 use Rattle.escpos_link.specs.declared.event.Event.TheVariants as line
 use Rattle.escpos_link.specs.declared.event.Note.{Note}
-use Rattle.escpos_link.specs.EventTable.{After as AfterOnLine, IsRefused, Leaves, Refuses as RefusesLine, linked_up, with_host}
+use Rattle.escpos_link.specs.EventTable.{After as AfterOnLine, Leaves, linked_up, with_host}
 use Rattle.escpos_link.specs.Line.{LineView}
 use Rattle.escpos_link.specs.Resumed.{resumed}
 use Rattle.escpos_till_model.specs.declared.desk.Desk.{Desk}
@@ -28,9 +28,9 @@ use Rattle.escpos_till_model.specs.declared.event.TillRefusal.TheVariants as ref
 use Rattle.escpos_till_model.specs.declared.hand.Hand.{Hand}
 use Rattle.escpos_till_model.specs.declared.parts.TillParts.{TillParts}
 use Rattle.escpos_till_model.specs.Kept.{IsTill, Keeps}
-use Rattle.escpos_till_model.specs.Parts.{IsDesk, IsInStore, dropped, entries_at, entries_of, let_go, switched_off, with_desk, with_line}
+use Rattle.escpos_till_model.specs.Parts.{IsDesk, IsInStore, dropped, entries_at, entries_of, let_go, switched_off, with_desk}
 use Rattle.escpos_till_model.specs.Receipts.{IsReceipt, IsReceiptOf}
-use Rattle.escpos_till_model.specs.Steps.{After, GoesOnLine, IsCopy, IsOff, NotNoted, Records, RefusedBy, RefusedOnLine, Refuses, RefusesDue, RefusesMark, RefusesOnLine, RefusesRecording, RefusesStart, RefusesSubmitting, RefusesTaking, RefusesTry, RefusesWrite, TakesInHand, UsesMark, Writes, is_host_call, submitted}
+use Rattle.escpos_till_model.specs.Steps.{After, IsCopy, NotNoted, RefusedBy, RefusedOnLine, Refuses, RefusesDue, RefusesMark, RefusesOnLine, RefusesRecording, RefusesStart, RefusesSubmitting, RefusesTaking, RefusesTry, RefusesWrite, TakesInHand, UsesMark, Writes, submitted}
 use Rattle.escpos_till_model.proofs.EntryFacts.{first_is_taken}
 use Rattle.escpos_till_model.proofs.GoesOn.{goes_on, leaves_on}
 use Rattle.escpos_till_model.proofs.Keeping.{entry_keeps, gone_keeps, linked_keeps, nudged_keeps, on_keeps, record_keeps, submitted_keeps, take_keeps}
@@ -257,7 +257,7 @@ keeps event.Nudge t after desk (hand, u) till =
 keeps event.Submit t after desk (hand, commands, has, u) till =
     mark_keeps t after hand (submitted hand) (line.Submit commands)
     (λ n l (flight, done, is, few, mark, same) within k.
-        by_line _ (Some (submitted hand)) l (with_host t.line (given t.line.host flight commands)) same (submitted_keeps _ hand t.line.host flight commands has is within k)) u till
+    by_line _ (Some (submitted hand)) l (with_host t.line (given t.line.host flight commands)) same (submitted_keeps _ hand t.line.host flight commands has is within k)) u till
 keeps event.Record t after desk w till =
     noted_keeps w.old w.new t after w.hand w.desk w.hand_is w.adds.live w.answered (λ before later. inr (store_adds w.old w.new _ before later w.adds)) w.after_is desk till
 keeps event.GiveUp t after desk (some, same) till = let_go_keeps t after same till

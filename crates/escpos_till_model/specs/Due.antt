@@ -16,7 +16,7 @@ use Rattle.escpos_link.specs.EventTable.{IsRefused}
 use Rattle.escpos_link.specs.Line.{LineView}
 use Rattle.escpos_link.specs.Steps.{Happens}
 use Rattle.escpos_till_model.specs.declared.desk.Desk.{Desk}
-use Rattle.escpos_till_model.specs.declared.desk.Desk.TheVariants.{On, Off}
+use Rattle.escpos_till_model.specs.declared.desk.Desk.TheVariants.{On}
 use Rattle.escpos_till_model.specs.declared.due.DueReceipt.{DueReceipt}
 use Rattle.escpos_till_model.specs.declared.due.FirstReceipt.{FirstReceipt}
 use Rattle.escpos_till_model.specs.declared.event.TillRefusal.{TillRefusal}

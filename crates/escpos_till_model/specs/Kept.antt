@@ -1,5 +1,5 @@
 -- What holds for every till, so that what is recorded stands on the paper and no mark number is used twice.
-use Rattle.std.specs.Prelude.{ℕ, ◌≡◌, ◌⊎◌, ◌<◌, ◌≤◌, List, [], ◌∷◌, ◌++◌, Option, Some, None}
+use Rattle.std.specs.Prelude.{ℕ, ◌≡◌, ◌⊎◌, ◌≤◌, List, [], ◌∷◌, ◌++◌, Option, Some, None}
 use Rattle.escpos_command.specs.declared.command.Command.{Command}
 use Rattle.escpos_host.specs.Machine.{Down, HostView, in_flight}
 use Rattle.escpos_till.specs.declared.entry.Entry.{Entry}

@@ -1,13 +1,11 @@
 -- What a till is made of.
-use Rattle.std.specs.Prelude.{ℕ, ◌≡◌, List, Option, Some, None}
-use Rattle.escpos_host.specs.Machine.{HostView}
+use Rattle.std.specs.Prelude.{◌≡◌, List, None}
 use Rattle.escpos_till.specs.declared.entry.Entry.{Entry}
 use Rattle.escpos_till.specs.Ledger.{IsLive, LedgerView, MayBeLeft}
 use Rattle.escpos_link.specs.EventTable.{hung_up, off_link, with_host}
 use Rattle.escpos_link.specs.Line.{LineView}
 use Rattle.escpos_till_model.specs.declared.desk.Desk.{Desk}
 use Rattle.escpos_till_model.specs.declared.desk.Desk.TheVariants.{On, Off}
-use Rattle.escpos_till_model.specs.declared.hand.Hand.{Hand}
 use Rattle.escpos_till_model.specs.declared.parts.TillParts.{TillParts}
 
 -- The entries of a till: those that its store has, which are also those that a crash leaves now.

@@ -13,10 +13,9 @@
 --   OnLine e     | what the event does to the line
 --
 -- The steps of `deliver_one` are TakeInHand, LinkUp, Nudge, Submit, and then Record or GiveUp.
-use Rattle.std.specs.Prelude.{ℕ, ◌≡◌, ◌≢◌, ◌⊎◌, ◌+◌, ◌<◌, ◌≤◌, Bool, true, false, IsTrue, List, [], Option, Some, None, length}
+use Rattle.std.specs.Prelude.{ℕ, ◌≡◌, ◌≢◌, ◌⊎◌, ◌+◌, ◌<◌, ◌≤◌, Bool, true, false, List, [], Option, Some, None, length}
 use Rattle.escpos_command.specs.declared.command.Command.{Command}
 use Rattle.escpos_command.specs.Digits.{mark_count}
-use Rattle.escpos_receipt.specs.declared.json.JsonError.{JsonError}
 use Rattle.escpos_receipt.specs.Describes.{Describes}
 use Rattle.escpos_receipt.specs.Whole.{Whole}
 use Rattle.escpos_till.specs.declared.entry.Entry.{Entry}

@@ -35,11 +35,7 @@ pub struct TillParts {
 
 impl TillParts {
     // The till takes a receipt.
-    pub(crate) fn queue(
-        &mut self,
-        alloc: Global,
-        json: &[u8],
-    ) -> Result<ReceiptNumber, TillRefusal>
+    pub(crate) fn queue(&mut self, alloc: Global, json: &[u8]) -> Result<ReceiptNumber, TillRefusal>
         ensures happened { OnOk result (After (event.Queue json.now) self.old self.new) }
         ensures number { IfOk result (λ number. number ≡ length (taken (entries_of self.new))) }
         ensures refused { IfErr result (λ why. Refuses (event.Queue json.now) why self.old self.new) }
@@ -371,10 +367,6 @@ fn is_host_call(event: &Event) -> bool
 {
     matches!(
         event,
-        Event::LinkUp
-            | Event::Nudge
-            | Event::Submit(_)
-            | Event::Ask(_)
-            | Event::HostRestart(_)
+        Event::LinkUp | Event::Nudge | Event::Submit(_) | Event::Ask(_) | Event::HostRestart(_)
     )
 }

@@ -1,9 +1,7 @@
 -- A store that gives no ledger has what it had.
 use Rattle.std.proofs.Common.{◌≡◌, refl, sym, ◌∙◌, ap, subst}
 use Rattle.escpos_till.specs.Entries.{IsLedger}
-use Rattle.escpos_till_model.specs.declared.desk.Desk.{Desk}
 use Rattle.escpos_till_model.specs.declared.desk.Desk.TheVariants.{Off}
-use Rattle.escpos_till_model.specs.declared.parts.TillParts.{TillParts}
 use Rattle.escpos_till_model.specs.Parts.{entries_at, with_desk}
 use Rattle.escpos_till_model.proofs.parts.TillParts.start.Goals as goal
 

@@ -1,5 +1,4 @@
 -- What holds for a till holds after this.
-use Rattle.escpos_till_model.specs.declared.event.TillEvent.TheVariants as event
 use Rattle.escpos_till_model.proofs.Standing.{off_till}
 use Rattle.escpos_till_model.proofs.till.Till.crash.Goals as goal
 

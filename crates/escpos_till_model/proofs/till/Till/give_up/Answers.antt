@@ -1,7 +1,6 @@
 -- What holds for a till holds after this.
 use Rattle.escpos_till_model.specs.declared.event.TillEvent.TheVariants as event
 use Rattle.escpos_till_model.proofs.Standing.{whatever_till}
-use Rattle.escpos_till_model.proofs.Possible.{whatever_possible}
 use Rattle.escpos_till_model.proofs.till.Till.give_up.Goals as goal
 
 pub invariant_of-self : goal.invariant_of-self

@@ -1,7 +1,6 @@
 -- What the host has recorded stands on the paper, and so does what the ledger has as recorded.
 use Rattle.std.proofs.Common.{subst}
 use Rattle.escpos_link.specs.Stands.{Stands}
-use Rattle.escpos_till_model.specs.Kept.{IsTill}
 use Rattle.escpos_till_model.specs.declared.parts.TillParts.{TillParts}
 use Rattle.escpos_till_model.specs.Parts.{entries_of}
 use Rattle.escpos_till_model.specs.Receipts.{EachIsKept, RecordedStand}

@@ -1,7 +1,7 @@
 -- The events so far, and the next one.
-use Rattle.std.proofs.Common.{◌≡◌, ◌∷◌, [], List, subst, sym}
+use Rattle.std.proofs.Common.{List, subst, sym}
 use Rattle.escpos_till_model.specs.declared.event.TillEvent.{TillEvent}
-use Rattle.escpos_till_model.proofs.Running.{SoFar, begin, goes_so_far, ran_well}
+use Rattle.escpos_till_model.proofs.Running.{SoFar, begin, goes_so_far}
 use Rattle.escpos_till_model.proofs.till.Till.run.Goals as goal
 
 pub loop-event-preserved : goal.loop-event-preserved
