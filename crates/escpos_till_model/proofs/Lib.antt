@@ -1,0 +1,10 @@
+pub mod EntryFacts
+pub mod Accounts
+pub mod GoesOn
+pub mod Keeping
+pub mod Tilling
+pub mod Standing
+pub mod Marking
+pub mod Extending
+pub mod Possible
+pub mod Running

@@ -1,0 +1,10 @@
+-- The events that are left haven't come, and the others have.
+use Rattle.std.proofs.Common.{length}
+use Rattle.escpos_till_model.proofs.Running.{SoFar}
+use Rattle.escpos_till_model.proofs.till.Till.run.Given as goal
+
+abbrev pub invariant-loop-event : goal.invariant-loop-event
+invariant-loop-event l = SoFar l.fn.self l.fn.events.items l.left.items l.self
+
+abbrev pub decreases-loop-event : goal.decreases-loop-event
+decreases-loop-event l = length l.left.items

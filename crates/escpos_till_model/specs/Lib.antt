@@ -1,0 +1,6 @@
+pub mod Receipts
+pub mod Parts
+pub mod Steps
+pub mod Kept
+pub mod Marks
+pub mod Due

@@ -1,0 +1,68 @@
+-- What a till's owner wants to be sure of, said of the entries of his ledger and of the printer's paper: each receipt that
+-- was taken waits or is recorded, and those that are recorded are on the paper.
+use Rattle.std.specs.Prelude.{ℕ, ◌≡◌, ◌⊎◌, ◌<◌, ◌≤◌, List, ◌∷◌, ◌++◌, length}
+use Rattle.std.specs.List.{AllPass, AllZip}
+use Rattle.escpos_command.specs.declared.command.Command.{Command}
+use Rattle.escpos_paper.specs.declared.item.Item.{Item}
+use Rattle.escpos_receipt.specs.Describes.{Describes}
+use Rattle.escpos_receipt.specs.Whole.{Whole}
+use Rattle.escpos_till.specs.declared.entry.Entry.{Entry}
+use Rattle.escpos_till.specs.Copy.{copy_line, is_copy_character}
+use Rattle.escpos_till.specs.Entries.{Taken, recorded, taken, waiting}
+use Rattle.escpos_link.specs.Stands.{Stands}
+
+-- ## Lists
+
+-- It is one of these.
+abbrev pub Among : {X : Type 0} → X → List X → Type 0
+Among {X} x xs = (before : List X) × (following : List X) × (xs ≡ before ++ x ∷ following)
+
+-- No number is among them twice.
+abbrev pub NoneTwice : List ℕ → Type 0
+NoneTwice ns = (n : ℕ) (before following : List ℕ) → ns ≡ before ++ n ∷ following → ¬ Among n before
+
+-- ## Receipts of entries
+
+-- The receipt with this number was taken, and this is its text in JSON.
+abbrev pub IsTaken : List Entry → ℕ → List ℕ → Type 0
+IsTaken entries number content = Among (record { number = number; content = content }) (taken entries)
+
+-- The text of a line that says that a receipt is printed again.
+abbrev pub IsCopyText : List ℕ → Type 0
+IsCopyText text = (0 < length text) × (length text ≤ 42) × AllPass is_copy_character text
+
+-- The commands are a receipt that the text describes; or such a one after the line that says that it is printed again.
+pub record IsReceipt (content : List ℕ) (commands : List Command) : Type 0 where
+  pub receipt : List Command
+  pub describes : Describes content receipt
+  pub whole : Whole receipt
+  pub sent : (commands ≡ receipt) ⊎ ((text : List ℕ) × IsCopyText text × (commands ≡ copy_line text ++ receipt))
+
+-- The commands are a receipt that the text describes which was taken under this number.
+pub record IsReceiptOf (entries : List Entry) (number : ℕ) (commands : List Command) : Type 0 where
+  pub content : List ℕ
+  pub taken : IsTaken entries number content
+  pub receipt : IsReceipt content commands
+
+-- The receipts of what is recorded: one for each number, in the order of recording.
+abbrev pub AreReceipts : List Entry → List (List Command) → Type 0
+AreReceipts entries receipts = AllZip (IsReceiptOf entries) (recorded entries) receipts
+
+-- ## What is promised
+
+-- The entries that were there are there, in their places; there may be more after them.
+abbrev pub Extends : List Entry → List Entry → Type 0
+Extends entries after = (more : List Entry) × (after ≡ entries ++ more)
+
+-- What is recorded stands on the paper whole, one receipt after another in the order of recording.
+pub record RecordedStand (entries : List Entry) (paper : List Item) : Type 0 where
+  pub receipts : List (List Command)
+  pub are : AreReceipts entries receipts
+  pub stand : Stands receipts paper
+
+-- Each receipt that was taken waits or is recorded, and none is both; what is recorded was taken, and none is recorded twice.
+pub record EachIsKept (entries : List Entry) : Type 0 where
+  pub waits_or_recorded : (receipt : Taken) → Among receipt (taken entries) → Among receipt (waiting entries) ⊎ Among receipt.number (recorded entries)
+  pub not_both : (receipt : Taken) → Among receipt (waiting entries) → ¬ Among receipt.number (recorded entries)
+  pub were_taken : (number : ℕ) → Among number (recorded entries) → (content : List ℕ) × IsTaken entries number content
+  pub once : NoneTwice (recorded entries)
