@@ -1,0 +1,5 @@
+//! A till's ledger in a SQLite file.
+#![tactic(auto)]
+
+mod row;
+mod schema;
