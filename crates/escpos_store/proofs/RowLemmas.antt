@@ -1,10 +1,19 @@
 -- The rows of a list of entries.
-use Rattle.std.proofs.Common.{◌≡◌, ℕ, ◌+◌, ◌<◌, List, [], ◌∷◌, ◌++◌, length, take, get_or, refl, sym, ap, ap₂, ◌∙◌, arith}
+use Rattle.std.proofs.Common.{◌≡◌, ℕ, ◌+◌, ◌<◌, ◌==◌, Bool, true, false, not, List, [], ◌∷◌, ◌++◌, length, take, filter, get_or, map, refl, sym, ap, ap₂, subst, subst₂, ◌∙◌, arith, IsPermutation, Ordering, Less, Equal, Greater, is_eq}
+use Rattle.std.specs.List.{list_any}
+use Rattle.std.specs.Ordering.{match_ordering}
+use Rattle.std.proofs.lemmas.Bool.Decides.{nat_tests}
+use Rattle.std.proofs.lemmas.List.Sorted.{length_permutation, IsPermutation-refl, IsPermutation-cons, IsPermutation-trans, IsPermutation-middle, IsPermutation-map, IsPermutation-sym, IsPermutation-to_front}
 use Rattle.std.proofs.Math.Seq.{take-suc}
 use native.Mathlib.Numerals.{add-one}
 use Rattle.escpos_till.specs.declared.entry.Entry.{Entry}
-use Rattle.sqlite.specs.Order.{Row}
-use Rattle.escpos_store.specs.Table.{row_of, rows_from}
+use Rattle.escpos_till.specs.declared.entry.Entry.TheVariants as entry
+use Rattle.sqlite.specs.Order.{Row, column, value_cmp}
+use Rattle.sqlite.specs.Tree.{rowid, put_row}
+use Rattle.sqlite_trees.specs.Objects.{number_in}
+use Rattle.sqlite_keyed.proofs.ListLemmas.{IsPermutation-filter}
+use Rattle.sqlite.proofs.Callers.{one_permutation}
+use Rattle.escpos_store.specs.Table.{row_of, rows_from, visible}
 
 pub rows_push : (id : ℕ) (entries : List Entry) (e : Entry) → rows_from id (entries ++ e ∷ []) ≡ rows_from id entries ++ row_of (id + length entries) e ∷ []
 rows_push id [] e = let at : id ≡ id + 0 = omega arith in ap (λ n. row_of n e ∷ []) at
@@ -18,3 +27,79 @@ pub row_after : (all : List Row) (i : ℕ) (row : Row) (entries : List Entry) (e
 row_after all i row entries e inside at same is =
     ap (λ n. take n all) (add-one i) ∙ take-suc all i row inside ∙ ap (λ r. take i all ++ r ∷ []) (sym at ∙ is) ∙ ap (λ rows. rows ++ row_of (1 + length entries) e ∷ []) same
     ∙ sym (rows_push 1 entries e)
+
+-- ## Rows tell their entries
+
+same_entry : (id : ℕ) (x y : Entry) → row_of id x ≡ row_of id y → x ≡ y
+same_entry id (entry.Queued c) (entry.Queued d) h = cc
+same_entry id (entry.Queued c) (entry.Tried n m) h = absurd (cc)
+same_entry id (entry.Queued c) (entry.Recorded n) h = absurd (cc)
+same_entry id (entry.Queued c) (entry.Raised m) h = absurd (cc)
+same_entry id (entry.Tried n m) (entry.Queued c) h = absurd (cc)
+same_entry id (entry.Tried n m) (entry.Tried k l) h = cc
+same_entry id (entry.Tried n m) (entry.Recorded k) h = absurd (cc)
+same_entry id (entry.Tried n m) (entry.Raised k) h = absurd (cc)
+same_entry id (entry.Recorded n) (entry.Queued c) h = absurd (cc)
+same_entry id (entry.Recorded n) (entry.Tried k l) h = absurd (cc)
+same_entry id (entry.Recorded n) (entry.Recorded k) h = cc
+same_entry id (entry.Recorded n) (entry.Raised k) h = absurd (cc)
+same_entry id (entry.Raised n) (entry.Queued c) h = absurd (cc)
+same_entry id (entry.Raised n) (entry.Tried k l) h = absurd (cc)
+same_entry id (entry.Raised n) (entry.Recorded k) h = absurd (cc)
+same_entry id (entry.Raised n) (entry.Raised k) h = cc
+
+abbrev has_id : ℕ → Row → Bool
+has_id id row = number_in (column row 0) == id
+
+not_yet : (id at : ℕ) → id < at → (at == id) ≡ false
+not_yet id at below = grind (arith, nat_tests)
+
+none_later : (id at : ℕ) (entries : List Entry) → id < at → filter (has_id id) (rows_from at entries) ≡ []
+none_later id at [] below = refl
+none_later id at (e ∷ entries) below = rw (not_yet id at below) (none_later id (at + 1) entries (omega arith))
+
+all_later : (id at : ℕ) (entries : List Entry) → id < at → filter (λ r. not (has_id id r)) (rows_from at entries) ≡ rows_from at entries
+all_later id at [] below = refl
+all_later id at (e ∷ entries) below = rw (not_yet id at below) (ap (λ rest. row_of at e ∷ rest) (all_later id (at + 1) entries (omega arith)))
+
+itself : (id : ℕ) → (id == id) ≡ true
+itself id = grind (arith, nat_tests)
+
+here : (id : ℕ) (e : Entry) (entries : List Entry) → filter (has_id id) (rows_from id (e ∷ entries)) ≡ row_of id e ∷ []
+here id e entries = rw (itself id) (ap (λ rest. row_of id e ∷ rest) (none_later id (id + 1) entries (omega arith)))
+
+others : (id : ℕ) (e : Entry) (entries : List Entry) → filter (λ r. not (has_id id r)) (rows_from id (e ∷ entries)) ≡ rows_from (id + 1) entries
+others id e entries = rw (itself id) (all_later id (id + 1) entries (omega arith))
+
+pub same_entries : (id : ℕ) (xs ys : List Entry) → IsPermutation (rows_from id xs) (rows_from id ys) → xs ≡ ys
+same_entries id [] [] same = refl
+same_entries id [] (y ∷ ys) same = absurd (omega (arith, length_permutation _ _ same))
+same_entries id (x ∷ xs) [] same = absurd (omega (arith, length_permutation _ _ same))
+same_entries id (x ∷ xs) (y ∷ ys) same =
+    let first = subst₂ IsPermutation (here id x xs) (here id y ys) (IsPermutation-filter (has_id id) _ _ same) in
+    let more = subst₂ IsPermutation (others id x xs) (others id y ys) (IsPermutation-filter (λ r. not (has_id id r)) _ _ same) in
+    let row : row_of id x ≡ row_of id y = let one = one_permutation (row_of id x) (row_of id y ∷ []) first in cc in
+    ap₂ ◌∷◌ (same_entry id x y row) (same_entries (id + 1) xs ys more)
+
+-- ## A row that is added
+
+-- a new row goes to some place among rows of which none has its rowid
+pub put_among : (new : Row) (old : List Row) → list_any (λ r. is_eq (value_cmp (rowid r) (rowid new))) old ≡ false → IsPermutation (put_row new old) (new ∷ old)
+put_among new [] fresh = IsPermutation-refl _
+put_among new (r ∷ old) fresh = go (value_cmp (rowid r) (rowid new)) refl (put_among new old)
+  where
+    go : (o : Ordering) → value_cmp (rowid r) (rowid new) ≡ o → (list_any (λ r. is_eq (value_cmp (rowid r) (rowid new))) old ≡ false → IsPermutation (put_row new old) (new ∷ old))
+        → IsPermutation (match_ordering o (r ∷ put_row new old) (new ∷ old) (new ∷ r ∷ old)) (new ∷ r ∷ old)
+    go Less is more = IsPermutation-trans _ _ _ (IsPermutation-cons r _ _ (more (rw is at fresh))) (IsPermutation-middle (r ∷ []) new old)
+    go Equal is more = absurd (let e = rw is at fresh in cc)
+    go Greater is more = IsPermutation-refl _
+
+-- what is shown of the rows, with that of a new row, is the rows of one entry more
+pub one_more : (entries : List Entry) (e : Entry) (new : Row) (old : List Row) → IsPermutation (map visible old) (rows_from 1 entries)
+    → visible new ≡ row_of (1 + length entries) e → IsPermutation (put_row new old) (new ∷ old) → IsPermutation (map visible (put_row new old)) (rows_from 1 (entries ++ e ∷ []))
+one_more entries e new old has is put =
+    let row = row_of (1 + length entries) e in
+    let all = IsPermutation-map visible _ _ put in
+    let shown : IsPermutation (visible new ∷ map visible old) (row ∷ rows_from 1 entries) = subst (λ r. IsPermutation (r ∷ map visible old) (row ∷ rows_from 1 entries)) (sym is) (IsPermutation-cons row _ _ has) in
+    let last : IsPermutation (row ∷ rows_from 1 entries) (rows_from 1 entries ++ row ∷ []) = IsPermutation-sym _ _ (IsPermutation-to_front (rows_from 1 entries) row) in
+    subst (IsPermutation (map visible (put_row new old))) (sym (rows_push 1 entries e)) (IsPermutation-trans _ _ _ all (IsPermutation-trans _ _ _ shown last))
