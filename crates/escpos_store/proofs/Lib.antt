@@ -1,2 +1,3 @@
+mod HoldsLemmas
 mod RowLemmas
 mod StatementLemmas

@@ -22,20 +22,14 @@ use Rattle.sqlite.specs.Does.{Tally, Does, lacks_sequence}
 use Rattle.sqlite.specs.Rows.{Written}
 use Rattle.sqlite.specs.declared.run.Mode.{Mode}
 use Rattle.sqlite.specs.Effect.{Database}
-use Rattle.sqlite.specs.State.{State, mode_of, Writes, Executes, Shows, CommitsBy, MayCommit, Shown}
+use Rattle.sqlite.specs.State.{State, mode_of, Writes, Executes, Shows, CommitsBy, MayCommit, Shown, IsUnchanged}
 use Rattle.sqlite.specs.Command.{Command}
 use Rattle.sqlite.specs.Command.TheVariants.{Insert, Select, CreateTable}
 use Rattle.sqlite.specs.Compile.{table_defined_by}
 use Rattle.sqlite_tied.specs.Compute.{everything}
 use Rattle.sqlite.specs.Listing.{understood, reads_listing}
 use Rattle.sqlite.proofs.Callers.{IsPlain, command_of, statement_of, runs_as, reads_as, one_step}
-use Rattle.escpos_store.specs.Table.{create_text, entry_table, ledger_schema, no_schema, visible}
-
-abbrev pub insert_text : List ℕ
-insert_text = codes "INSERT INTO entry (id, kind, number, next, content) VALUES (?1, ?2, ?3, ?4, ?5)"
-
-abbrev pub select_text : List ℕ
-select_text = codes "SELECT id, kind, number, next, content FROM entry ORDER BY id"
+use Rattle.escpos_store.specs.Table.{create_text, insert_text, select_text, entry_table, ledger_schema, no_schema, visible}
 
 create_is : (command_of (understood no_schema create_text) ≡ CreateTable) × (statement_of create_text (understood no_schema create_text) ≡ create_text) × (table_defined_by create_text ≡ Ok entry_table)
 unfolding understood everything
@@ -196,6 +190,14 @@ one_each f (x ∷ xs) = ap (λ ys. f x ∷ ys) (one_each f xs)
 shown_each : (rows : List Row) → map (λ (o : Output). o.1) (map (output query) (map (λ (r : Row). [] ∷ r ∷ []) rows)) ≡ map visible rows
 shown_each [] = refl
 shown_each (r ∷ rows) = ap (λ more. visible r ∷ more) (shown_each rows)
+
+-- the query changes nothing
+pub unchanged : (old new : State) (rows : List Row) → old.now.schema ≡ ledger_schema → Shown select_text [] old new rows → IsUnchanged old new
+unfolding Shown
+unchanged old new rows has h =
+    let bare = subst (λ (s : Schema). IsPlain (understood s select_text)) (sym has) select_plain in
+    let none = (subst IsPlain h.1.is bare).0 in
+    (rw none at h.2).3
 
 -- the rows of an answer are what is shown of the rows of the table
 pub selects : (old new : State) (rows : List Row) → old.now.schema ≡ ledger_schema → Shown select_text [] old new rows → IsPermutation (map visible (old.now.trees 0)) rows

@@ -20,6 +20,14 @@ use Rattle.sqlite.specs.Tree.{Trees}
 abbrev pub create_text : List ℕ
 create_text = codes "CREATE TABLE entry (id INTEGER PRIMARY KEY, kind INTEGER NOT NULL, number INTEGER NOT NULL, next INTEGER NOT NULL, content BLOB) STRICT"
 
+-- the statement that adds a row
+abbrev pub insert_text : List ℕ
+insert_text = codes "INSERT INTO entry (id, kind, number, next, content) VALUES (?1, ?2, ?3, ?4, ?5)"
+
+-- the query that gives the rows in order
+abbrev pub select_text : List ℕ
+select_text = codes "SELECT id, kind, number, next, content FROM entry ORDER BY id"
+
 abbrev pub integer_column : List ℕ → Column
 integer_column name = record { name = name; kind = Integer; is_strict = true; not_null = true; default = Null; collation = Binary }
 

@@ -1,5 +1,7 @@
 //! A till's ledger in a SQLite file.
 #![tactic(auto)]
 
+mod read;
 mod row;
 mod schema;
+mod statements;

@@ -1,9 +1,9 @@
 //! An entry as a row of the table, and back.
 
 ghost use Rattle.std.specs.Prelude.{◌≡◌, ℕ, ◌+◌, ◌<◌, pos, List, Some, None, [], ◌∷◌, IsTrue, IfOk, IfSome, IfErr, length};
-ghost use Rattle.sqlite.specs.declared.types.Value.TheVariants.{Null, Int, Blob as Bytes};
+ghost use Rattle.sqlite.specs.declared.types.Value.TheVariants.{Null, Int};
 ghost use Rattle.sqlite.specs.Order.{column};
-ghost use Rattle.sqlite.specs.Values.{or_null};
+ghost use Rattle.sqlite.specs.Value.{owned};
 ghost use Rattle.escpos_till.specs.declared.entry.Entry.TheVariants as entry_kind;
 ghost use Rattle.escpos_store.specs.Table.{kind_of, number_of, next_of, content_of, row_of, rows_from};
 
@@ -12,45 +12,54 @@ use sqlite::Row;
 use sqlite::types::ValueRef;
 use std::alloc::{AllocError, Global};
 
-/// The number in the column `kind`: 1 for Queued, 2 for Tried, 3 for Recorded, 4 for Raised.
-pub fn kind(entry: &Entry) -> i64
-    ensures { result ≡ pos (kind_of entry.now) }
+/// The id of the entry that comes after so many others; `None` past 2^63.
+pub fn id_after(count: usize) -> Option<ValueRef<'static>>
+    ensures { IfSome result (λ id. owned id ≡ Int (pos (1 + count))) }
 {
-    match entry {
+    let id = i64::try_from(count).ok()?.checked_add(1)?;
+    Some(ValueRef::Int(id))
+}
+
+/// The kind: 1 for Queued, 2 for Tried, 3 for Recorded, 4 for Raised.
+pub fn kind(entry: &Entry) -> ValueRef<'static>
+    ensures { owned result ≡ Int (pos (kind_of entry.now)) }
+{
+    ValueRef::Int(match entry {
         Entry::Queued { .. } => 1,
         Entry::Tried { .. } => 2,
         Entry::Recorded { .. } => 3,
         Entry::Raised { .. } => 4,
-    }
+    })
 }
 
-/// The receipt's number; 0 in an entry that has none.
-pub fn number(entry: &Entry) -> usize
-    ensures { result ≡ number_of entry.now }
+/// The receipt's number, and 0 in an entry that has none; `None` past 2^63.
+pub fn number(entry: &Entry) -> Option<ValueRef<'static>>
+    ensures { IfSome result (λ number. owned number ≡ Int (pos (number_of entry.now))) }
 {
-    match entry {
+    let number = match entry {
         Entry::Queued { .. } | Entry::Raised { .. } => 0,
         Entry::Tried { number, .. } | Entry::Recorded { number } => number.get(),
-    }
+    };
+    Some(ValueRef::Int(i64::try_from(number).ok()?))
 }
 
 /// The mark number that is free afterwards; 0 in an entry that has none.
-pub fn next(entry: &Entry) -> u32
-    ensures { result ≡ next_of entry.now }
+pub fn next(entry: &Entry) -> ValueRef<'static>
+    ensures { owned result ≡ Int (pos (next_of entry.now)) }
 {
-    match entry {
+    ValueRef::Int(match entry {
         Entry::Queued { .. } | Entry::Recorded { .. } => 0,
-        Entry::Tried { next, .. } | Entry::Raised { next } => *next,
-    }
+        Entry::Tried { next, .. } | Entry::Raised { next } => i64::from(*next),
+    })
 }
 
-/// The receipt's text, in an entry that has one.
-pub fn content(entry: &Entry) -> Option<&[u8]>
-    ensures { or_null (λ bytes. Bytes bytes.now) result ≡ content_of entry.now }
+/// The receipt's text; NULL in an entry that has none.
+pub fn content(entry: &Entry) -> ValueRef<'_>
+    ensures { owned result ≡ content_of entry.now }
 {
     match entry {
-        Entry::Queued { content } => Some(content.bytes()),
-        Entry::Tried { .. } | Entry::Recorded { .. } | Entry::Raised { .. } => None,
+        Entry::Queued { content } => ValueRef::Blob(content.bytes()),
+        Entry::Tried { .. } | Entry::Recorded { .. } | Entry::Raised { .. } => ValueRef::Null,
     }
 }
 
