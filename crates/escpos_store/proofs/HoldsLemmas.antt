@@ -1,9 +1,9 @@
 -- What a store holds, after each statement.
 use Rattle.std.proofs.Common.{◌≡◌, ◌⊎◌, inl, inr, ℕ, ◌+◌, Bool, true, false, List, [], ◌∷◌, ◌++◌, length, map, cond, Ok, IsTrue, IsPermutation, refl, sym, ap, subst, ◌∙◌}
-use Rattle.std.proofs.lemmas.List.Sorted.{IsPermutation-refl, IsPermutation-trans, IsPermutation-sym}
+use Rattle.std.proofs.lemmas.List.Sorted.{IsPermutation-refl, IsPermutation-trans}
 use Rattle.escpos_till.specs.declared.entry.Entry.{Entry}
 use Rattle.escpos_till.specs.declared.entry.Entry.TheVariants as entry
-use Rattle.std.proofs.Common.{is_eq, ℤ, pos, Vec, Global, Result, Err, OnOk, IfOk}
+use Rattle.std.proofs.Common.{is_eq, Option, Some, None, IfSome, ℤ, pos, Vec, Global, Result, Err, OnOk, OnErr, IfOk}
 use Rattle.sqlite.specs.declared.error.Error.{Error}
 use Rattle.std.specs.List.{list_any}
 use Rattle.sqlite.specs.Order.{Row, value_cmp}
@@ -17,7 +17,8 @@ use Rattle.sqlite.specs.State.{State, HasCleanDisk, Executes, Survives, CommitsB
 use Rattle.sqlite.proofs.Callers.{IsPlain, never_commits}
 use Rattle.escpos_store.specs.Table.{create_text, insert_text, select_text, ledger_schema, no_schema, kind_of, number_of, next_of, content_of, rows_from, rows, visible}
 use Rattle.escpos_store.specs.Holds.{HasEntries, Holds, Leaves}
-use Rattle.escpos_store.proofs.RowLemmas.{put_among, one_more, same_entries}
+use Rattle.escpos_store.proofs.RowLemmas.{put_among, one_more}
+use Rattle.escpos_store.specs.Laws.{one_list}
 use Rattle.escpos_store.proofs.StatementLemmas.{values_of, stored, creates, adds, may_add, unchanged, selects, select_plain}
 
 -- while the connection is open, a crash leaves the last commit
@@ -29,10 +30,6 @@ bound_content (entry.Queued content) = refl
 bound_content (entry.Tried number next) = refl
 bound_content (entry.Recorded number) = refl
 bound_content (entry.Raised next) = refl
-
--- a database has one list of entries
-pub one_list : (db : Trees) (xs ys : List Entry) → HasEntries db xs → HasEntries db ys → xs ≡ ys
-one_list db xs ys first second = same_entries 1 xs ys (IsPermutation-trans _ _ _ (IsPermutation-sym _ _ first) second)
 
 outside : (b : Bool) (x y : Database) → b ≡ false → cond b x y ≡ y
 outside false x y none = refl
@@ -129,9 +126,22 @@ found old new all entries settled alone committed has same shown is crash =
       },
     )
 
--- what a store holds outlives a crash
-pub outlives : (s : State) (entries left : List Entry) → Holds s entries → Leaves s left → left ≡ entries
-outlives s entries left held may = one_list may.0 left entries may.2 (held.crash may.0 may.1)
-
 pub outlives_reading : (old new : State) (entries left : List Entry) → Holds old entries → ((db : Trees) → new.may_leave db → old.may_leave db) → Leaves new left → left ≡ entries
 outlives_reading old new entries left held crash may = one_list may.0 left entries may.2 (held.crash may.0 (crash may.0 may.1))
+
+pub found_if_some : (old new : State) (all : List Row) (o : Option (Vec Entry Global)) → Settles old → old.in_transaction ≡ false → (IsTrue old.is_open → old.now ≡ old.committed)
+    → old.now.schema ≡ ledger_schema → (HasCleanDisk new → old.now.schema ≡ ledger_schema → IsUnchanged old new × IsPermutation (map visible (old.now.trees 0)) all)
+    → (HasCleanDisk new → old.now.schema ≡ ledger_schema → (db : Trees) → new.may_leave db → old.may_leave db) → IfSome o (λ entries. all ≡ rows_from 1 entries.items)
+    → IfSome o (λ entries. HasCleanDisk new → Holds old entries.items × Holds new entries.items)
+found_if_some old new all None settled alone committed has shown crash are = tt
+found_if_some old new all (Some entries) settled alone committed has shown crash are =
+    λ clean. found old new all entries.items settled alone committed has (shown clean has).0 (shown clean has).1 are (crash clean has)
+
+-- A crash leaves the entries with the new one or without.
+pub left_by_append : (s : State) (entries left : List Entry) (e : Entry) → ((db : Trees) → s.may_leave db → HasEntries db entries ⊎ HasEntries db (entries ++ e ∷ [])) → Leaves s left
+    → (left ≡ entries) ⊎ (left ≡ entries ++ e ∷ [])
+left_by_append s entries left e each may = elim (each may.0 may.1) [ inl without ↦ inl (one_list may.0 left entries may.2 without) | inr with_it ↦ inr (one_list may.0 left _ may.2 with_it) ]
+
+pub on_err : {T E : Type 0} (r : Result T E) (P : Type 0) → P → OnErr r P
+on_err (Ok x) P p = tt
+on_err (Err e) P p = p

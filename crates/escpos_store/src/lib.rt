@@ -5,3 +5,6 @@ mod read;
 mod row;
 mod schema;
 mod statements;
+mod store;
+
+pub use store::SqliteStore;

@@ -12,12 +12,11 @@ use sqlite::Row;
 use sqlite::types::ValueRef;
 use std::alloc::{AllocError, Global};
 
-/// The id of the entry that comes after so many others; `None` past 2^63.
-pub fn id_after(count: usize) -> Option<ValueRef<'static>>
-    ensures { IfSome result (λ id. owned id ≡ Int (pos (1 + count))) }
+/// A number as an id; `None` past 2^63.
+pub fn id(number: usize) -> Option<ValueRef<'static>>
+    ensures { IfSome result (λ id. owned id ≡ Int (pos number)) }
 {
-    let id = i64::try_from(count).ok()?.checked_add(1)?;
-    Some(ValueRef::Int(id))
+    Some(ValueRef::Int(i64::try_from(number).ok()?))
 }
 
 /// The kind: 1 for Queued, 2 for Tried, 3 for Recorded, 4 for Raised.

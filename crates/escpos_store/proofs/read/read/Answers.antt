@@ -1,27 +1,30 @@
-use Rattle.std.proofs.Common.{rules, ◌≡◌, ◌≤◌, List, IfOk, IfSome, ℕ, ◌+◌, ◌-◌, ◌*◌, ◌<◌, length, ◌/◌, ◌%◌, Bool, true, false, nat_eq, nat_lt, [], ◌∷◌, ◌++◌, slice_index_or, slice_set, bit_and, bit_or, Fits, w8, w32, w64, Bor, MutBor}
-use Rattle.sqlite.specs.View.{doubt}
-use Rattle.sqlite.specs.State.{HasCleanDisk}
+use Rattle.std.proofs.Common.{◌≡◌, false, IsTrue, rules}
 use Rattle.sqlite.specs.Held.{state}
-use Rattle.escpos_till.specs.declared.entry.Entry.{Entry}
-use Rattle.escpos_store.specs.Holds.{Holds, Leaves}
+use Rattle.escpos_store.specs.Table.{ledger_schema, rows_from}
+use Rattle.escpos_store.proofs.HoldsLemmas.{found_if_some, outlives_reading}
+use Rattle.escpos_store.specs.Laws.{outlives}
 use Rattle.escpos_store.proofs.read.read.Goals as goal
 
--- src/read.rt:26:9
 pub returns-then-not-is_autocommit-clause-crash : goal.returns-then-not-is_autocommit-clause-crash
-returns-then-not-is_autocommit-clause-crash g c = ?
+returns-then-not-is_autocommit-clause-crash g c clean entries left held may = outlives (state g.S.Store c.args.conn.now) entries left held may
 
--- src/read.rt:28:16
 pub returns-in_err-rows-clause-crash : goal.returns-in_err-rows-clause-crash
-returns-in_err-rows-clause-crash g c = ?
+returns-in_err-rows-clause-crash g c clean entries left held may =
+    outlives_reading (state g.S.Store c.args.conn.now) (state g.S.Store c.select.new.conn) entries left held (c.select.ensures.crash clean held.schema) may
 
--- src/read.rt:29:8
 pub returns-in_err-entries_of-clause-crash : goal.returns-in_err-entries_of-clause-crash
-returns-in_err-entries_of-clause-crash g c = ?
+returns-in_err-entries_of-clause-crash g c clean entries left held may =
+    outlives_reading (state g.S.Store c.args.conn.now) (state g.S.Store c.select.new.conn) entries left held (c.select.ensures.crash clean held.schema) may
 
--- src/read.rt:18:1
 pub returns-clause-found : goal.returns-clause-found
-returns-clause-found g c = ?
+returns-clause-found g c =
+    let alone : c.args.conn.now.in_transaction ≡ false = search rules in
+    let auto : IsTrue c.is_autocommit.result = search rules in
+    let has : c.args.conn.now.schema ≡ ledger_schema = search rules in
+    found_if_some (state g.S.Store c.args.conn.now) (state g.S.Store c.select.new.conn) c.in_ok-rows.rows.items c.in_ok-entries_of.field-0
+    (λ db is_open may. g.met.S.Store.settled c.args.conn.now.store db is_open may) alone (c.is_autocommit.ensures.settled auto) has c.in_ok-rows.ensures.shown c.select.ensures.crash
+    (search rules)
 
--- src/read.rt:18:1
 pub returns-clause-crash : goal.returns-clause-crash
-returns-clause-crash g c = ?
+returns-clause-crash g c clean entries left held may =
+    outlives_reading (state g.S.Store c.args.conn.now) (state g.S.Store c.select.new.conn) entries left held (c.select.ensures.crash clean held.schema) may

@@ -1,0 +1,81 @@
+//! A store of entries in a database.
+
+ghost use Rattle.std.specs.Prelude.{◌≡◌, List, length};
+ghost use Rattle.sqlite.specs.State.{HasCleanDisk};
+ghost use Rattle.sqlite.specs.Held.{state};
+ghost use Rattle.escpos_store.specs.Holds.{HoldsIn, Leaves};
+
+use crate::read::read;
+use crate::row::{id, number};
+use crate::statements::insert;
+use escpos_till::{Entry, Store, StoreFault};
+use sqlite::{Alter, Connection, Error, ErrorCode};
+use std::alloc::Global;
+use std::marker::Model;
+
+/// A store of entries in a database, over a file or over memory.
+///
+/// The table has a row for each entry: its id (1, 2, 3 and so on, in the order of the entries), its kind (1 Queued, 2 Tried,
+/// 3 Recorded, 4 Raised), the receipt's number and the next mark number (0 in an entry that has none) and the receipt's text
+/// (NULL in an entry that has none). Rows are only ever added. The model is the connection and how many entries there are.
+#[derive(Drop)]
+pub struct SqliteStore<S: Alter> {
+    conn: Connection<S>,
+    count: usize,
+}
+
+impl<S: Alter> Model for SqliteStore<S> {
+    ghost use Rattle.escpos_store.specs.Holds.{StoreView, store_code};
+
+    ghost Value = { StoreView S };
+
+    ghost coded = { store_code S.code };
+
+    ghost view = { λ s. record { connection = s.conn; count = s.count } };
+}
+
+impl<S: Alter> Store for SqliteStore<S> {
+    // The disk has returned what was written.
+    ghost faithful = { λ s. HasCleanDisk (state S.Store s.connection) };
+
+    ghost holds = { HoldsIn S.Store };
+
+    ghost leaves = { λ s. Leaves (state S.Store s.connection) };
+
+    fn append(&mut self, entry: &Entry) -> Result<(), StoreFault> {
+        let Some(count) = self.count.checked_add(1) else {
+            return Err(StoreFault::Failed);
+        };
+        let (Some(id), Some(number)) = (id(count), number(entry)) else {
+            return Err(StoreFault::Failed);
+        };
+        match insert(&mut self.conn, id, number, entry) {
+            Ok(_) => {
+                self.count = count;
+                Ok(())
+            }
+            Err(error) => Err(store_fault(error)),
+        }
+    }
+
+    fn entries(&mut self, alloc: Global) -> Result<Vec<Entry>, StoreFault> {
+        match read(alloc, &mut self.conn) {
+            Ok(Some(entries)) if entries.len() == self.count => Ok(entries),
+            Ok(_) => Err(StoreFault::Failed),
+            Err(error) => Err(store_fault(error)),
+        }
+    }
+
+    ghost use Rattle.escpos_store.specs.Laws.{held_once, outlives};
+
+    ghost one_list = { λ s entries others faithful held also. held_once _ entries others held.0 also.0 };
+
+    ghost outlives = { λ s entries left faithful held leaves. outlives _ entries left held.0 leaves };
+}
+
+fn store_fault(error: Error) -> StoreFault {
+    match error {
+        Error::SqliteFailure(ErrorCode::OutOfMemory) => StoreFault::Memory,
+        _ => StoreFault::Failed,
+    }
+}
