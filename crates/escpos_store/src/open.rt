@@ -1,0 +1,70 @@
+//! Opening a ledger, and closing it.
+
+ghost use Rattle.std.specs.Prelude.{◌≡◌, ◌≤◌, List, [], length, IfOk, IfErr, IsTrue};
+ghost use Rattle.escpos_till.specs.declared.entry.Entry.{Entry};
+ghost use Rattle.sqlite.specs.View.{doubt};
+ghost use Rattle.sqlite.specs.Recovery.{Image};
+ghost use Rattle.sqlite.specs.WalFiles.{image_at, outcomes};
+ghost use Rattle.sqlite.specs.WalReads.{AreClean};
+ghost use Rattle.sqlite.specs.State.{HasCleanDisk};
+ghost use Rattle.sqlite.specs.Held.{state};
+ghost use Rattle.sqlite.specs.Steps.{over_memory};
+ghost use Rattle.sqlite.specs.Files.{file_state, over_files, image_of};
+ghost use Rattle.escpos_store.specs.Holds.{FoundIn, Holds, HoldsIn, KeptIn, StartsAs};
+
+use crate::read::read;
+use crate::schema::is_new;
+use crate::statements::create;
+use crate::store::SqliteStore;
+use sqlite::{Alter, Connection, Error, ErrorCode};
+use std::alloc::Global;
+
+/// Why a ledger isn't opened.
+#[derive(Clone, Copy, Debug, PartialEq, Eq)]
+pub enum OpenFault {
+    /// Another process has the file open.
+    InUse,
+    /// The file is another kind of file, or is damaged.
+    NoLedger,
+    /// Out of memory.
+    Memory,
+    /// A read, a write or a sync failed, or the file can't be opened or made.
+    Failed,
+}
+
+/// Why the file isn't opened.
+pub fn file_fault(error: Error) -> OpenFault {
+    match error {
+        Error::SqliteFailure(ErrorCode::DatabaseBusy) => OpenFault::InUse,
+        Error::SqliteFailure(ErrorCode::NotADatabase | ErrorCode::DatabaseCorrupt) => OpenFault::NoLedger,
+        Error::SqliteFailure(ErrorCode::OutOfMemory) => OpenFault::Memory,
+        _ => OpenFault::Failed,
+    }
+}
+
+// Why a statement of an open fails.
+fn statement_fault(error: Error) -> OpenFault {
+    match error {
+        Error::SqliteFailure(ErrorCode::OutOfMemory) => OpenFault::Memory,
+        _ => OpenFault::Failed,
+    }
+}
+
+/// How many entries the ledger has that the connection shows; a database that has nothing becomes an empty ledger.
+pub fn begin<S: Alter>(alloc: Global, conn: &mut Connection<S>) -> Result<usize, OpenFault>
+    ensures clean { doubt (state S.Store conn.old).is_clean ≤ doubt (state S.Store conn.new).is_clean }
+    ensures found { IfOk result (λ count. HasCleanDisk (state S.Store conn.new) → (entries : List Entry) × Holds (state S.Store conn.new) entries
+        × (count ≡ length entries) × StartsAs (state S.Store conn.old).now entries) }
+{
+    if conn.is_autocommit() && is_new(conn.schema()) {
+        return match create(conn) {
+            Ok(_) => Ok(0),
+            Err(error) => Err(statement_fault(error)),
+        };
+    }
+    match read(alloc, conn) {
+        Ok(Some(entries)) => Ok(entries.len()),
+        Ok(None) => Err(OpenFault::NoLedger),
+        Err(error) => Err(statement_fault(error)),
+    }
+}
