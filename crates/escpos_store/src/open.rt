@@ -16,7 +16,7 @@ use crate::read::read;
 use crate::schema::is_new;
 use crate::statements::create;
 use crate::store::SqliteStore;
-use sqlite::{Alter, Connection, Error, ErrorCode};
+use sqlite::{Alter, Connection, Error, ErrorCode, FileFrom, FileStore, Start};
 use std::alloc::Global;
 
 /// Why a ledger isn't opened.
@@ -66,5 +66,32 @@ pub fn begin<S: Alter>(alloc: Global, conn: &mut Connection<S>) -> Result<usize,
         Ok(Some(entries)) => Ok(entries.len()),
         Ok(None) => Err(OpenFault::NoLedger),
         Err(error) => Err(statement_fault(error)),
+    }
+}
+
+// The store over a connection, if that shows a ledger or has nothing.
+fn begun<S: Alter + Drop>(alloc: Global, conn: Connection<S>) -> Result<SqliteStore<S>, OpenFault>
+    ensures found { IfOk result (λ store. HasCleanDisk (state S.Store store.connection) → HasCleanDisk (state S.Store conn)
+        × ((entries : List Entry) × HoldsIn S.Store store entries × StartsAs (state S.Store conn).now entries)) }
+{
+    let mut conn = conn;
+    match begin(alloc, &mut conn) {
+        Ok(count) => Ok(SqliteStore::over(conn, count)),
+        Err(fault) => Err(fault),
+    }
+}
+
+impl<S: Start> SqliteStore<FileStore<FileFrom<S>>> {
+    /// Opens the ledger at a path. A file that isn't there yet, or is empty, becomes an empty ledger.
+    ///
+    /// `start` stands for what the files hold; a program passes `Unknown`. What the store holds is what they held.
+    pub fn open(rt: &HostRuntime, path: &str, start: S) -> Result<Self, OpenFault>
+        ensures found { IfOk result (λ store. HasCleanDisk (file_state store.connection) → (entries : List Entry)
+            × HoldsIn over_files store entries × FoundIn (image_at S.Start) entries) }
+    {
+        match Connection::open_from(rt, path, false, start) {
+            Ok(conn) => begun(rt.alloc(), conn),
+            Err((error, _)) => Err(file_fault(error)),
+        }
     }
 }

@@ -34,6 +34,22 @@ impl<S: Alter> Model for SqliteStore<S> {
     ghost view = { λ s. record { connection = s.conn; count = s.count } };
 }
 
+impl<S: Alter> SqliteStore<S> {
+    /// The store over a connection that shows so many entries.
+    pub(crate) fn over(conn: Connection<S>, count: usize) -> Self
+        ensures { result ≡ record { connection = conn; count = count } }
+    {
+        SqliteStore { conn, count }
+    }
+
+    pub(crate) fn into_connection(self) -> Connection<S>
+        ensures { result ≡ self.connection }
+    {
+        let SqliteStore { conn, count: _ } = self;
+        conn
+    }
+}
+
 impl<S: Alter> Store for SqliteStore<S> {
     // The disk has returned what was written.
     ghost faithful = { λ s. HasCleanDisk (state S.Store s.connection) };
