@@ -43,6 +43,7 @@ made old new count settled has alone h =
     record {
       is_open = all.2.is_open;
       autocommit = all.2.mode ∙ alone;
+      committed = committed;
       schema = all.0;
       has = empty;
       crash = λ db may. subst (λ (d : Trees). HasEntries d []) (sym (settled db all.2.is_open may ∙ ap (λ (d : Database). d.trees) committed)) empty;
@@ -67,6 +68,7 @@ added old new entries e count settled held h =
     record {
       is_open = shows.is_open;
       autocommit = shows.mode ∙ held.autocommit;
+      committed = committed;
       schema = all.0;
       has = has;
       crash = λ db may. subst (λ (d : Trees). HasEntries d (entries ++ e ∷ [])) (sym (settled db shows.is_open may ∙ ap (λ (d : Database). d.trees) committed)) has;
@@ -116,10 +118,11 @@ found old new all entries settled alone committed has same shown is crash =
     let entered : HasEntries old.now.trees entries = subst (IsPermutation (map visible (old.now.trees 0))) is shown in
     let left : (db : Trees) → old.may_leave db → HasEntries db entries =
     λ db may. subst (λ (d : Trees). HasEntries d entries) (sym (settled db shows.was_open may ∙ sym (ap (λ (d : Database). d.trees) (committed shows.was_open)))) entered in (
-      record { is_open = shows.was_open; autocommit = alone; schema = has; has = entered; crash = left },
+      record { is_open = shows.was_open; autocommit = alone; committed = sym (committed shows.was_open); schema = has; has = entered; crash = left },
       record {
         is_open = shows.is_open;
         autocommit = shows.mode ∙ alone;
+        committed = shows.committed_is ∙ sym (committed shows.was_open) ∙ sym shows.now_is;
         schema = ap (λ (d : Database). d.schema) shows.now_is ∙ has;
         has = subst (λ (d : Database). HasEntries d.trees entries) (sym shows.now_is) entered;
         crash = λ db may. left db (crash db may);

@@ -142,7 +142,7 @@ not_taken true h = absurd (cc)
 pub inserts : (limit : Option ℕ) (mode : Mode) (id kind number next : ℕ) (content : Value) (db : Database) (text : List ℕ) (tally : Tally) (after : Database) → db.schema ≡ ledger_schema
     → Does limit mode (values_of id kind number next content) db text None (Insert 0 (Values terms 6)) (Ok (tally, after))
     → let new = stored (values_of id kind number next content) in
-      (after.schema ≡ ledger_schema) × (after.trees 0 ≡ put_row new (db.trees 0)) × (list_any (λ r. is_eq (value_cmp (rowid r) (rowid new))) (db.trees 0) ≡ false)
+    (after.schema ≡ ledger_schema) × (after.trees 0 ≡ put_row new (db.trees 0)) × (list_any (λ r. is_eq (value_cmp (rowid r) (rowid new))) (db.trees 0) ≡ false)
 inserts limit mode id kind number next content db text tally after has h =
     let params = values_of id kind number next content in
     let new = stored params in

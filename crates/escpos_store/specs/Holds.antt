@@ -16,10 +16,11 @@ use Rattle.escpos_store.specs.Table.{ledger_schema, no_schema, rows, visible}
 abbrev pub HasEntries : Trees → List Entry → Type 0
 HasEntries db entries = IsPermutation (map visible (db 0)) (rows entries)
 
--- The database that the connection shows is a ledger with these entries, nothing waits for a commit, and a crash leaves the same entries.
+-- The database that the connection shows is a ledger with these entries, all of it is committed, and a crash leaves the same entries.
 pub record Holds (s : State) (entries : List Entry) : Type 0 where
   pub is_open : IsTrue s.is_open
   pub autocommit : s.in_transaction ≡ false
+  pub committed : s.committed ≡ s.now
   pub schema : s.now.schema ≡ ledger_schema
   pub has : HasEntries s.now.trees entries
   pub crash : (db : Trees) → s.may_leave db → HasEntries db entries

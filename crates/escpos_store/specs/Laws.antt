@@ -64,7 +64,6 @@ same_entries id (x ∷ xs) (y ∷ ys) same =
     let row : row_of id x ≡ row_of id y = let one = one_permutation (row_of id x) (row_of id y ∷ []) first in cc in
     ap₂ ◌∷◌ (same_entry id x y row) (same_entries (id + 1) xs ys more)
 
-
 -- a database has one list of entries
 pub one_list : (db : Trees) (xs ys : List Entry) → HasEntries db xs → HasEntries db ys → xs ≡ ys
 one_list db xs ys first second = same_entries 1 xs ys (IsPermutation-trans _ _ _ (IsPermutation-sym _ _ first) second)

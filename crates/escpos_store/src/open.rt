@@ -15,8 +15,12 @@ ghost use Rattle.escpos_store.specs.Holds.{FoundIn, Holds, HoldsIn, KeptIn, Star
 use crate::read::read;
 use crate::schema::is_new;
 use crate::statements::create;
-use crate::store::SqliteStore;
-use sqlite::{Alter, Connection, Error, ErrorCode, FileFrom, FileStore, Start};
+use crate::store::{SqliteStore, store_fault};
+use escpos_till::StoreFault;
+use sqlite::{
+    Alter, Connection, Error, ErrorCode, FileFrom, FileStore, Files, MemStore, Options, Start,
+};
+use sqlite_disk::Disk;
 use std::alloc::Global;
 
 /// Why a ledger isn't opened.
@@ -36,7 +40,8 @@ pub enum OpenFault {
 pub fn file_fault(error: Error) -> OpenFault {
     match error {
         Error::SqliteFailure(ErrorCode::DatabaseBusy) => OpenFault::InUse,
-        Error::SqliteFailure(ErrorCode::NotADatabase | ErrorCode::DatabaseCorrupt) => OpenFault::NoLedger,
+        Error::SqliteFailure(ErrorCode::NotADatabase | ErrorCode::DatabaseCorrupt) =>
+            OpenFault::NoLedger,
         Error::SqliteFailure(ErrorCode::OutOfMemory) => OpenFault::Memory,
         _ => OpenFault::Failed,
     }
@@ -92,6 +97,53 @@ impl<S: Start> SqliteStore<FileStore<FileFrom<S>>> {
         match Connection::open_from(rt, path, false, start) {
             Ok(conn) => begun(rt.alloc(), conn),
             Err((error, _)) => Err(file_fault(error)),
+        }
+    }
+}
+
+impl<D: Disk + Drop> SqliteStore<FileStore<D>> {
+    /// Opens the ledger in files that are open: a database file and its log. Empty files become an empty ledger.
+    pub fn open_files(alloc: Global, files: Files<D>, options: Options) -> Result<Self, OpenFault>
+        requires log { IsTrue (D.Disk.is_usable files.log) }
+        requires db { IsTrue (D.Disk.is_usable files.db) }
+        ensures found { IfOk result (λ store. HasCleanDisk (file_state store.connection) → (entries : List Entry)
+            × HoldsIn over_files store entries × FoundIn (image_of D.Disk files) entries) }
+    {
+        match Connection::open_files(alloc, files, options) {
+            Ok(conn) => begun(alloc, conn),
+            Err((error, _)) => Err(file_fault(error)),
+        }
+    }
+
+    /// Copies the log into the database file, and gives the files back. They then hold the entries, also after a crash, and so
+    /// does the database file alone. At `Err` they are given back too, and the log holds what the database file lacks.
+    pub fn into_files(self) -> Result<Files<D>, (StoreFault, Files<D>)>
+        ensures kept { IfOk result (λ files. AreClean D.Disk files.log files.db → (entries : List Entry) → HoldsIn over_files self entries
+            → KeptIn (image_of D.Disk files) entries × ((image : Image) → outcomes D.Disk files.log files.db image → KeptIn image entries)) }
+    {
+        match self.into_connection().close_files() {
+            Ok(files) => Ok(files),
+            Err((error, store)) => Err((store_fault(error), store.close())),
+        }
+    }
+
+    /// Copies the log into the database file, and closes both. At `Err` the log holds what the database file lacks.
+    pub fn close(self) -> Result<(), StoreFault> {
+        match self.into_connection().close() {
+            Ok(()) => Ok(()),
+            Err(error) => Err(store_fault(error)),
+        }
+    }
+}
+
+impl SqliteStore<MemStore> {
+    /// An empty ledger in memory.
+    pub fn in_memory(alloc: Global) -> Result<Self, OpenFault>
+        ensures empty { IfOk result (λ store. HoldsIn over_memory store []) }
+    {
+        match Connection::open_in_memory(alloc) {
+            Ok(conn) => begun(alloc, conn),
+            Err(_) => Err(OpenFault::Memory),
         }
     }
 }

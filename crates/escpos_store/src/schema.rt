@@ -78,12 +78,11 @@ fn has_entry_columns(columns: &Items<Column>) -> bool
     ensures { IsTrue result → columns.now ≡ entry_table.columns }
 {
     match columns.as_slice() {
-        [id, kind, number, next, content] =>
-            is_column(id, b"id".as_slice(), Kind::Integer, false)
-                && is_column(kind, b"kind".as_slice(), Kind::Integer, true)
-                && is_column(number, b"number".as_slice(), Kind::Integer, true)
-                && is_column(next, b"next".as_slice(), Kind::Integer, true)
-                && is_column(content, b"content".as_slice(), Kind::Blob, false),
+        [id, kind, number, next, content] => is_column(id, b"id".as_slice(), Kind::Integer, false)
+            && is_column(kind, b"kind".as_slice(), Kind::Integer, true)
+            && is_column(number, b"number".as_slice(), Kind::Integer, true)
+            && is_column(next, b"next".as_slice(), Kind::Integer, true)
+            && is_column(content, b"content".as_slice(), Kind::Blob, false),
         _ => false,
     }
 }

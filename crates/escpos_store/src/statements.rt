@@ -13,8 +13,8 @@ ghost use Rattle.escpos_store.specs.Holds.{HasEntries, Holds};
 
 use crate::row::{content, kind, next};
 use escpos_till::Entry;
-use sqlite::{Alter, Connection, Error, Row};
 use sqlite::types::ValueRef;
+use sqlite::{Alter, Connection, Error, Row};
 
 /// Makes the table of a ledger in a database that has nothing.
 pub fn create<S: Alter>(conn: &mut Connection<S>) -> Result<usize, Error>

@@ -89,7 +89,8 @@ impl<S: Alter> Store for SqliteStore<S> {
     ghost outlives = { λ s entries left faithful held leaves. outlives _ entries left held.0 leaves };
 }
 
-fn store_fault(error: Error) -> StoreFault {
+/// Why a statement fails.
+pub(crate) fn store_fault(error: Error) -> StoreFault {
     match error {
         Error::SqliteFailure(ErrorCode::OutOfMemory) => StoreFault::Memory,
         _ => StoreFault::Failed,
