@@ -9,16 +9,16 @@ use Rattle.std.specs.List.{list_any}
 use Rattle.sqlite.specs.Order.{Row, value_cmp}
 use Rattle.sqlite.specs.Tree.{Trees, rowid, put_row}
 use Rattle.sqlite.specs.Listing.{understood}
+use Rattle.sqlite_catalog.specs.Listing.{IsSound}
 use Rattle.sqlite.specs.Effect.{Database}
 use Rattle.sqlite.specs.Values.{bound_value}
 use Rattle.sqlite.specs.declared.types.Value.{Value}
 use Rattle.sqlite.specs.declared.types.Value.TheVariants.{Int}
-use Rattle.sqlite.specs.State.{State, HasCleanDisk, Executes, Survives, CommitsBy, CommitsShowing, Shown, IsUnchanged}
+use Rattle.sqlite.specs.State.{State, HasCleanDisk, IsLive, Executes, Survives, CommitsBy, CommitsShowing, Shown, IsUnchanged}
 use Rattle.sqlite.proofs.Callers.{IsPlain, never_commits}
 use Rattle.escpos_store.specs.Table.{create_text, insert_text, select_text, ledger_schema, no_schema, kind_of, number_of, next_of, content_of, rows_from, rows, visible}
 use Rattle.escpos_store.specs.Holds.{HasEntries, Holds, Leaves}
 use Rattle.escpos_store.proofs.RowLemmas.{put_among, one_more}
-use Rattle.escpos_store.specs.Laws.{one_list}
 use Rattle.escpos_store.proofs.StatementLemmas.{values_of, stored, creates, adds, may_add, unchanged, selects, select_plain}
 
 -- while the connection is open, a crash leaves the last commit
@@ -39,7 +39,10 @@ pub made : (old new : State) (count : ℕ) → Settles new → old.now.schema �
 made old new count settled has alone h =
     let all = creates old new count has h in
     let committed : new.committed ≡ new.now = all.2.committed_is ∙ outside old.in_transaction old.committed new.now alone in
-    let empty : HasEntries new.now.trees [] = subst (λ (rows : List Row). IsPermutation (map visible rows) []) (sym all.1) (IsPermutation-refl []) in
+    let empty : HasEntries new.now.trees [] = record {
+      sound = subst (λ s. IsSound s new.now.trees) all.0 all.3;
+      are = subst (λ (rows : List Row). IsPermutation (map visible rows) []) (sym all.1) (IsPermutation-refl []);
+    } in
     record {
       is_open = all.2.is_open;
       autocommit = all.2.mode ∙ alone;
@@ -64,7 +67,10 @@ added old new entries e count settled held h =
     let all = adds old new (1 + length entries) (kind_of e) (number_of e) (next_of e) (content_of e) count held.schema h in
     let shows = all.3 in
     let committed : new.committed ≡ new.now = shows.committed_is ∙ outside old.in_transaction old.committed new.now held.autocommit in
-    let has : HasEntries new.now.trees (entries ++ e ∷ []) = added_to entries e (old.now.trees 0) (new.now.trees 0) held.has all.1 all.2 in
+    let has : HasEntries new.now.trees (entries ++ e ∷ []) = record {
+      sound = subst (λ s. IsSound s new.now.trees) all.0 all.4;
+      are = added_to entries e (old.now.trees 0) (new.now.trees 0) held.has.are all.1 all.2;
+    } in
     record {
       is_open = shows.is_open;
       autocommit = shows.mode ∙ held.autocommit;
@@ -79,7 +85,7 @@ pub added_or_not : (old new : State) (entries : List Entry) (e : Entry) → Hold
 added_or_not old new entries e held clean survives db may = elim (survives.crash clean db may) [
   | inl before ↦ inl (held.crash db before)
   | inr commits ↦ (let all = may_add old (1 + length entries) (kind_of e) (number_of e) (next_of e) (content_of e) db held.schema commits in
-      inr (added_to entries e (old.now.trees 0) (db 0) held.has all.0 all.1))
+      inr (record { sound = all.2; are = added_to entries e (old.now.trees 0) (db 0) held.has.are all.0 all.1 }))
 ]
 
 -- a query leaves what a crash may leave
@@ -110,12 +116,15 @@ shown_if_ok old new (Ok rows) ran = λ clean has. (unchanged old new rows.items 
 
 -- ## Reading
 
-pub found : (old new : State) (all : List Row) (entries : List Entry) → Settles old → old.in_transaction ≡ false → (IsTrue old.is_open → old.now ≡ old.committed) → old.now.schema ≡ ledger_schema
+pub found : (old new : State) (all : List Row) (entries : List Entry) → Settles old → old.in_transaction ≡ false → (IsTrue old.is_open → old.now ≡ old.committed) → old.now.schema ≡ ledger_schema → IsLive old
     → IsUnchanged old new → IsPermutation (map visible (old.now.trees 0)) all → all ≡ rows_from 1 entries → ((db : Trees) → new.may_leave db → old.may_leave db)
     → Holds old entries × Holds new entries
-found old new all entries settled alone committed has same shown is crash =
+found old new all entries settled alone committed has live same shown is crash =
     let shows = same.0 in
-    let entered : HasEntries old.now.trees entries = subst (IsPermutation (map visible (old.now.trees 0))) is shown in
+    let entered : HasEntries old.now.trees entries = record {
+      sound = subst (λ s. IsSound s old.now.trees) has (live shows.was_open).0;
+      are = subst (IsPermutation (map visible (old.now.trees 0))) is shown;
+    } in
     let left : (db : Trees) → old.may_leave db → HasEntries db entries =
     λ db may. subst (λ (d : Trees). HasEntries d entries) (sym (settled db shows.was_open may ∙ sym (ap (λ (d : Database). d.trees) (committed shows.was_open)))) entered in (
       record { is_open = shows.was_open; autocommit = alone; committed = sym (committed shows.was_open); schema = has; has = entered; crash = left },
@@ -130,20 +139,20 @@ found old new all entries settled alone committed has same shown is crash =
     )
 
 pub outlives_reading : (old new : State) (entries left : List Entry) → Holds old entries → ((db : Trees) → new.may_leave db → old.may_leave db) → Leaves new left → left ≡ entries
-outlives_reading old new entries left held crash may = one_list may.0 left entries may.2 (held.crash may.0 (crash may.0 may.1))
+outlives_reading old new entries left held crash may = may.2 entries (held.crash may.0 (crash may.0 may.1))
 
 pub found_if_some : (old new : State) (all : List Row) (o : Option (Vec Entry Global)) → Settles old → old.in_transaction ≡ false → (IsTrue old.is_open → old.now ≡ old.committed)
-    → old.now.schema ≡ ledger_schema → (HasCleanDisk new → old.now.schema ≡ ledger_schema → IsUnchanged old new × IsPermutation (map visible (old.now.trees 0)) all)
+    → old.now.schema ≡ ledger_schema → IsLive old → (HasCleanDisk new → old.now.schema ≡ ledger_schema → IsUnchanged old new × IsPermutation (map visible (old.now.trees 0)) all)
     → (HasCleanDisk new → old.now.schema ≡ ledger_schema → (db : Trees) → new.may_leave db → old.may_leave db) → IfSome o (λ entries. all ≡ rows_from 1 entries.items)
     → IfSome o (λ entries. HasCleanDisk new → Holds old entries.items × Holds new entries.items)
-found_if_some old new all None settled alone committed has shown crash are = tt
-found_if_some old new all (Some entries) settled alone committed has shown crash are =
-    λ clean. found old new all entries.items settled alone committed has (shown clean has).0 (shown clean has).1 are (crash clean has)
+found_if_some old new all None settled alone committed has live shown crash are = tt
+found_if_some old new all (Some entries) settled alone committed has live shown crash are =
+    λ clean. found old new all entries.items settled alone committed has live (shown clean has).0 (shown clean has).1 are (crash clean has)
 
 -- A crash leaves the entries with the new one or without.
 pub left_by_append : (s : State) (entries left : List Entry) (e : Entry) → ((db : Trees) → s.may_leave db → HasEntries db entries ⊎ HasEntries db (entries ++ e ∷ [])) → Leaves s left
     → (left ≡ entries) ⊎ (left ≡ entries ++ e ∷ [])
-left_by_append s entries left e each may = elim (each may.0 may.1) [ inl without ↦ inl (one_list may.0 left entries may.2 without) | inr with_it ↦ inr (one_list may.0 left _ may.2 with_it) ]
+left_by_append s entries left e each may = elim (each may.0 may.1) [ inl without ↦ inl (may.2 entries without) | inr with_it ↦ inr (may.2 _ with_it) ]
 
 pub on_err : {T E : Type 0} (r : Result T E) (P : Type 0) → P → OnErr r P
 on_err (Ok x) P p = tt

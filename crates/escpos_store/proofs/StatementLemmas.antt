@@ -21,7 +21,8 @@ use Rattle.sqlite.specs.Change.{created, next_tree}
 use Rattle.sqlite.specs.Does.{Tally, Does, lacks_sequence}
 use Rattle.sqlite.specs.Rows.{Written}
 use Rattle.sqlite.specs.declared.run.Mode.{Mode}
-use Rattle.sqlite.specs.Effect.{Database}
+use Rattle.sqlite.specs.Effect.{Database, IsDatabase}
+use Rattle.sqlite_catalog.specs.Listing.{IsSound}
 use Rattle.sqlite.specs.State.{State, mode_of, Writes, Executes, Shows, CommitsBy, MayCommit, Shown, IsUnchanged}
 use Rattle.sqlite.specs.Command.{Command}
 use Rattle.sqlite.specs.Command.TheVariants.{Insert, Select, CreateTable}
@@ -112,7 +113,7 @@ commits_as sql params s schema has command is plain db h =
 -- ## CREATE TABLE
 
 pub creates : (old new : State) (count : ℕ) → old.now.schema ≡ no_schema → Executes create_text [] old new (Ok count)
-    → (new.now.schema ≡ ledger_schema) × (new.now.trees 0 ≡ []) × Shows old new new.now (if old.in_transaction then old.committed else new.now) old.in_transaction
+    → (new.now.schema ≡ ledger_schema) × (new.now.trees 0 ≡ []) × Shows old new new.now (if old.in_transaction then old.committed else new.now) old.in_transaction × IsDatabase new.now
 creates old new count has h =
     let w = subst (λ t. Writes old new None CreateTable t [] count) create_is.1 (runs_as create_text [] old new no_schema has CreateTable create_is.0 create_plain count h) in
     let all = went w.changed in
@@ -123,7 +124,7 @@ creates old new count has h =
     let schema : first.0.schema ≡ ledger_schema = made.is ∙ ap (λ s. created s made.table) has ∙ ap (created no_schema) same in
     let plain : lacks_sequence first.0.schema ≡ false = ap lacks_sequence schema in
     let now : new.now ≡ first.0 = ap (λ (p : Tally × Database). p.1) (same_value all.2) ∙ same_value (rw plain at first.2) in
-    (ap (λ (d : Database). d.schema) now ∙ schema, ap (λ (d : Database). d.trees 0) now ∙ subst (λ s. first.0.trees (next_tree s) ≡ []) has made.empty, w.shown)
+    (ap (λ (d : Database). d.schema) now ∙ schema, ap (λ (d : Database). d.trees 0) now ∙ subst (λ s. first.0.trees (next_tree s) ≡ []) has made.empty, w.shown, w.sound)
 
 -- ## INSERT
 
@@ -164,21 +165,21 @@ inserts limit mode id kind number next content db text tally after has h =
 pub adds : (old new : State) (id kind number next : ℕ) (content : Value) (count : ℕ) → old.now.schema ≡ ledger_schema → Executes insert_text (values_of id kind number next content) old new (Ok count)
     → (new.now.schema ≡ ledger_schema) × (new.now.trees 0 ≡ put_row (stored (values_of id kind number next content)) (old.now.trees 0))
     × (list_any (λ r. is_eq (value_cmp (rowid r) (rowid (stored (values_of id kind number next content))))) (old.now.trees 0) ≡ false)
-    × Shows old new new.now (if old.in_transaction then old.committed else new.now) old.in_transaction
+    × Shows old new new.now (if old.in_transaction then old.committed else new.now) old.in_transaction × IsDatabase new.now
 adds old new id kind number next content count has h =
     let w = runs_as insert_text (values_of id kind number next content) old new ledger_schema has (Insert 0 (Values terms 6)) insert_is insert_plain count h in
     let all = inserts old.step_limit (mode_of old) id kind number next content old.now (statement_of insert_text (understood ledger_schema insert_text)) w.tally new.now has w.changed in
-    (all.0, all.1, all.2, w.shown)
+    (all.0, all.1, all.2, w.shown, w.sound)
 
 -- what a crash in the middle of the INSERT may leave beside what it could leave before
 pub may_add : (old : State) (id kind number next : ℕ) (content : Value) (db : Trees) → old.now.schema ≡ ledger_schema → CommitsBy insert_text (values_of id kind number next content) old db
     → (db 0 ≡ put_row (stored (values_of id kind number next content)) (old.now.trees 0))
-    × (list_any (λ r. is_eq (value_cmp (rowid r) (rowid (stored (values_of id kind number next content))))) (old.now.trees 0) ≡ false)
+    × (list_any (λ r. is_eq (value_cmp (rowid r) (rowid (stored (values_of id kind number next content))))) (old.now.trees 0) ≡ false) × IsSound ledger_schema db
 may_add old id kind number next content db has h =
     elim (commits_as insert_text (values_of id kind number next content) old ledger_schema has (Insert 0 (Values terms 6)) insert_is insert_plain db h) [
       | inl ends ↦ absurd (elim ends.0 [ inl commit ↦ (let e = commit in cc) | inr release ↦ (let e = release.2 in cc) ])
       | inr writes ↦ (let all = inserts old.step_limit (mode_of old) id kind number next content old.now (statement_of insert_text (understood ledger_schema insert_text)) writes.1 writes.2 has writes.3 in
-          (ap (λ (t : Trees). t 0) writes.5 ∙ all.1, all.2))
+          (ap (λ (t : Trees). t 0) writes.5 ∙ all.1, all.2, subst₂ IsSound all.0 (sym writes.5) writes.4))
     ]
 
 -- ## SELECT

@@ -7,14 +7,16 @@ use Rattle.sqlite.specs.Store.{Ghosts}
 use Rattle.sqlite.specs.Effect.{Database, IsDatabase}
 use Rattle.sqlite.specs.State.{State}
 use Rattle.sqlite.specs.Held.{Held, held_code, state}
+use Rattle.sqlite_catalog.specs.Listing.{IsSound}
 use Rattle.sqlite.specs.Recovery.{Image}
 use Rattle.sqlite.specs.Files.{HoldsDatabase, AreFoundIn}
 use Rattle.sqlite.specs.Closing.{HoldsAlone}
 use Rattle.escpos_store.specs.Table.{ledger_schema, no_schema, rows, visible}
 
--- the table has these entries as its rows, and no others
-abbrev pub HasEntries : Trees → List Entry → Type 0
-HasEntries db entries = IsPermutation (map visible (db 0)) (rows entries)
+-- The database is a ledger: it lists the table and nothing else, and obeys it. The rows of the table are these entries, in any order.
+pub record HasEntries (db : Trees) (entries : List Entry) : Type 0 where
+  pub sound : IsSound ledger_schema db
+  pub are : IsPermutation (map visible (db 0)) (rows entries)
 
 -- The database that the connection shows is a ledger with these entries, all of it is committed, and a crash leaves the same entries.
 pub record Holds (s : State) (entries : List Entry) : Type 0 where
@@ -25,9 +27,10 @@ pub record Holds (s : State) (entries : List Entry) : Type 0 where
   pub has : HasEntries s.now.trees entries
   pub crash : (db : Trees) → s.may_leave db → HasEntries db entries
 
--- a crash may leave a database with these entries
+-- A crash may leave a database whose entries are these. Of a database that is no ledger any entries would count as left, so what excludes them says
+-- that each database that may be left is a ledger.
 abbrev pub Leaves : State → List Entry → Type 0
-Leaves s entries = (db : Trees) × s.may_leave db × HasEntries db entries
+Leaves s left = (db : Trees) × s.may_leave db × ((entries : List Entry) → HasEntries db entries → left ≡ entries)
 
 -- The model of a store: its connection, and how many entries it has.
 pub record StoreView (S : Type 0) : Type 0 where

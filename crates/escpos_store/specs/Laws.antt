@@ -66,11 +66,11 @@ same_entries id (x ∷ xs) (y ∷ ys) same =
 
 -- a database has one list of entries
 pub one_list : (db : Trees) (xs ys : List Entry) → HasEntries db xs → HasEntries db ys → xs ≡ ys
-one_list db xs ys first second = same_entries 1 xs ys (IsPermutation-trans _ _ _ (IsPermutation-sym _ _ first) second)
+one_list db xs ys first second = same_entries 1 xs ys (IsPermutation-trans _ _ _ (IsPermutation-sym _ _ first.are) second.are)
 
 pub held_once : (s : State) (xs ys : List Entry) → Holds s xs → Holds s ys → xs ≡ ys
 held_once s xs ys first second = one_list s.now.trees xs ys first.has second.has
 
 -- what a store holds outlives a crash
 pub outlives : (s : State) (entries left : List Entry) → Holds s entries → Leaves s left → left ≡ entries
-outlives s entries left held may = one_list may.0 left entries may.2 (held.crash may.0 may.1)
+outlives s entries left held may = may.2 entries (held.crash may.0 may.1)

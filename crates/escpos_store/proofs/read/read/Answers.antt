@@ -22,7 +22,7 @@ returns-clause-found g c =
     let auto : IsTrue c.is_autocommit.result = search rules in
     let has : c.args.conn.now.schema ≡ ledger_schema = search rules in
     found_if_some (state g.S.Store c.args.conn.now) (state g.S.Store c.select.new.conn) c.in_ok-rows.rows.items c.in_ok-entries_of.field-0
-    (λ db is_open may. g.met.S.Store.settled c.args.conn.now.store db is_open may) alone (c.is_autocommit.ensures.settled auto) has c.in_ok-rows.ensures.shown c.select.ensures.crash
+    (λ db is_open may. g.met.S.Store.settled c.args.conn.now.store db is_open may) alone (c.is_autocommit.ensures.settled auto) has c.schema.ensures.live c.in_ok-rows.ensures.shown c.select.ensures.crash
     (search rules)
 
 pub returns-clause-crash : goal.returns-clause-crash
