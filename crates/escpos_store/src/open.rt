@@ -23,12 +23,12 @@ use sqlite::{
 use sqlite_disk::Disk;
 use std::alloc::Global;
 
-/// Why a ledger isn't opened.
+/// Why a ledger isn't opened. The files stay as they were, but for a log that may be made beside the ledger.
 #[derive(Clone, Copy, Debug, PartialEq, Eq)]
 pub enum OpenFault {
     /// Another process has the file open.
     InUse,
-    /// The file is another kind of file, or is damaged.
+    /// The file is another kind of file, or is damaged, or the database in it isn't a ledger and isn't empty.
     NoLedger,
     /// Out of memory.
     Memory,
@@ -36,8 +36,8 @@ pub enum OpenFault {
     Failed,
 }
 
-/// Why the file isn't opened.
-pub fn file_fault(error: Error) -> OpenFault {
+// Why the file isn't opened.
+fn file_fault(error: Error) -> OpenFault {
     match error {
         Error::SqliteFailure(ErrorCode::DatabaseBusy) => OpenFault::InUse,
         Error::SqliteFailure(ErrorCode::NotADatabase | ErrorCode::DatabaseCorrupt) =>
@@ -87,9 +87,11 @@ fn begun<S: Alter + Drop>(alloc: Global, conn: Connection<S>) -> Result<SqliteSt
 }
 
 impl<S: Start> SqliteStore<FileStore<FileFrom<S>>> {
-    /// Opens the ledger at a path. A file that isn't there yet, or is empty, becomes an empty ledger.
+    /// Opens the ledger at a path, and locks it until the store is closed or dropped. A file that isn't there yet becomes an empty
+    /// ledger, and so does one of at most a byte, or one with a database that has nothing.
     ///
-    /// `start` stands for what the files hold; a program passes `Unknown`. What the store holds is what they held.
+    /// What the store holds is what the files held. `start` stands for that; a program passes `Unknown`, which supposes that a torn
+    /// write leaves each byte old or new.
     pub fn open(rt: &HostRuntime, path: &str, start: S) -> Result<Self, OpenFault>
         ensures found { IfOk result (λ store. HasCleanDisk (file_state store.connection) → (entries : List Entry)
             × HoldsIn over_files store entries × FoundIn (image_at S.Start) entries) }
@@ -102,7 +104,8 @@ impl<S: Start> SqliteStore<FileStore<FileFrom<S>>> {
 }
 
 impl<D: Disk + Drop> SqliteStore<FileStore<D>> {
-    /// Opens the ledger in files that are open: a database file and its log. Empty files become an empty ledger.
+    /// Opens the ledger in a database file and its log, which are open. Empty files become an empty ledger. What the store holds is
+    /// what the files held. `InUse` isn't answered.
     pub fn open_files(alloc: Global, files: Files<D>, options: Options) -> Result<Self, OpenFault>
         requires log { IsTrue (D.Disk.is_usable files.log) }
         requires db { IsTrue (D.Disk.is_usable files.db) }
@@ -137,7 +140,7 @@ impl<D: Disk + Drop> SqliteStore<FileStore<D>> {
 }
 
 impl SqliteStore<MemStore> {
-    /// An empty ledger in memory.
+    /// An empty ledger in memory, for tests and tries. `Memory` is the error that comes when an allocation fails.
     pub fn in_memory(alloc: Global) -> Result<Self, OpenFault>
         ensures empty { IfOk result (λ store. HoldsIn over_memory store []) }
     {

@@ -1,4 +1,6 @@
-//! A store of entries in a database.
+//! A store of entries in a database: the calls of `Store`.
+//!
+//! How a store is opened and closed is in `open.rt`.
 
 ghost use Rattle.std.specs.Prelude.{◌≡◌, List, length};
 ghost use Rattle.sqlite.specs.State.{HasCleanDisk};
@@ -13,11 +15,11 @@ use sqlite::{Alter, Connection, Error, ErrorCode};
 use std::alloc::Global;
 use std::marker::Model;
 
-/// A store of entries in a database, over a file or over memory.
+/// A store of entries in a database, over a file or over memory. The model is its connection, and how many entries it has.
 ///
-/// The table has a row for each entry: its id (1, 2, 3 and so on, in the order of the entries), its kind (1 Queued, 2 Tried,
-/// 3 Recorded, 4 Raised), the receipt's number and the next mark number (0 in an entry that has none) and the receipt's text
-/// (NULL in an entry that has none). Rows are only ever added. The model is the connection and how many entries there are.
+/// The premise of its contracts is that the disk has returned what was written, and that nothing else has written the files. Then
+/// at `Ok` of `append` the entry would outlive a crash; at `Err` a crash leaves the entries with the new one or without, and nothing
+/// else. After `Err` open the ledger again: what the store then holds isn't said.
 #[derive(Drop)]
 pub struct SqliteStore<S: Alter> {
     conn: Connection<S>,
