@@ -80,7 +80,7 @@ impl<S: Alter> Store for SqliteStore<S> {
         match read(alloc, &mut self.conn) {
             Ok(Some(entries)) if entries.len() == self.count => Ok(entries),
             Ok(_) => Err(StoreFault::Failed),
-            Err(error) => Err(store_fault(error)),
+            Err(fault) => Err(store_fault(fault)),
         }
     }
 
