@@ -1,9 +1,9 @@
 -- What a store holds, after each statement.
 use Rattle.std.proofs.Common.{◌≡◌, ◌⊎◌, inl, inr, ℕ, ◌+◌, Bool, true, false, List, [], ◌∷◌, ◌++◌, length, map, cond, Ok, IsTrue, IsPermutation, refl, sym, ap, subst, ◌∙◌}
-use Rattle.std.proofs.lemmas.List.Sorted.{IsPermutation-refl, IsPermutation-trans}
+use Rattle.std.proofs.lemmas.List.Sorted.{IsPermutation-refl}
 use Rattle.escpos_till.specs.declared.entry.Entry.{Entry}
 use Rattle.escpos_till.specs.declared.entry.Entry.TheVariants as entry
-use Rattle.std.proofs.Common.{is_eq, Option, Some, None, IfSome, ℤ, pos, Vec, Global, Result, Err, OnOk, OnErr, IfOk}
+use Rattle.std.proofs.Common.{is_eq, Option, Some, None, IfSome, pos, Vec, Global, Result, Err, OnOk, OnErr, IfOk}
 use Rattle.sqlite.specs.declared.error.Error.{Error}
 use Rattle.std.specs.List.{list_any}
 use Rattle.sqlite.specs.Order.{Row, value_cmp}

@@ -1,7 +1,6 @@
 -- What an open finds, and what a close leaves.
-use Rattle.std.proofs.Common.{◌≡◌, inl, inr, [], length, arith, List, Result, Ok, Err, IfOk, IsTrue, sym, ap, subst, ◌∙◌}
+use Rattle.std.proofs.Common.{◌≡◌, inl, inr, [], length, arith, List, Result, Ok, Err, IfOk, sym, ap, subst, ◌∙◌}
 use Rattle.escpos_till.specs.declared.entry.Entry.{Entry}
-use Rattle.sqlite.specs.Tree.{Trees}
 use Rattle.sqlite.specs.Effect.{Database}
 use Rattle.sqlite.specs.Store.{Ghosts}
 use Rattle.sqlite.specs.State.{State, HasCleanDisk, IsLive, Opens}
@@ -11,7 +10,7 @@ use Rattle.sqlite_disk.specs.declared.Disk as disk
 use Rattle.sqlite_disk.specs.declared.Files.{Files}
 use Rattle.sqlite_store.specs.declared.store.FileStore.{FileStore}
 use Rattle.sqlite_trees.specs.declared.memory.MemStore.{MemStore}
-use Rattle.sqlite.specs.Files.{AreFoundIn, HoldsDatabase, Finds, IsOpened, file_state, over_files, image_of}
+use Rattle.sqlite.specs.Files.{AreFoundIn, Finds, IsOpened, file_state, over_files, image_of}
 use Rattle.sqlite.specs.Schema.{Schema}
 use Rattle.sqlite.specs.Steps.{over_memory}
 use Rattle.sqlite.specs.WalFiles.{outcomes}

@@ -1,18 +1,13 @@
 -- The rows of a list of entries.
-use Rattle.std.proofs.Common.{◌≡◌, ℕ, ◌+◌, ◌<◌, ◌==◌, Bool, true, false, not, List, [], ◌∷◌, ◌++◌, length, take, filter, get_or, map, refl, sym, ap, ap₂, subst, subst₂, ◌∙◌, arith, IsPermutation, Ordering, Less, Equal, Greater, is_eq}
+use Rattle.std.proofs.Common.{◌≡◌, ℕ, ◌+◌, ◌<◌, false, List, [], ◌∷◌, ◌++◌, length, take, get_or, map, refl, sym, ap, subst, ◌∙◌, arith, IsPermutation, Ordering, Less, Equal, Greater, is_eq}
 use Rattle.std.specs.List.{list_any}
 use Rattle.std.specs.Ordering.{match_ordering}
-use Rattle.std.proofs.lemmas.Bool.Decides.{nat_tests}
-use Rattle.std.proofs.lemmas.List.Sorted.{length_permutation, IsPermutation-refl, IsPermutation-cons, IsPermutation-trans, IsPermutation-middle, IsPermutation-map, IsPermutation-sym, IsPermutation-to_front}
+use Rattle.std.proofs.lemmas.List.Sorted.{IsPermutation-refl, IsPermutation-cons, IsPermutation-trans, IsPermutation-middle, IsPermutation-map, IsPermutation-sym, IsPermutation-to_front}
 use Rattle.std.proofs.Math.Seq.{take-suc}
 use native.Mathlib.Numerals.{add-one}
 use Rattle.escpos_till.specs.declared.entry.Entry.{Entry}
-use Rattle.escpos_till.specs.declared.entry.Entry.TheVariants as entry
-use Rattle.sqlite.specs.Order.{Row, column, value_cmp}
+use Rattle.sqlite.specs.Order.{Row, value_cmp}
 use Rattle.sqlite.specs.Tree.{rowid, put_row}
-use Rattle.sqlite_trees.specs.Objects.{number_in}
-use Rattle.sqlite_keyed.proofs.ListLemmas.{IsPermutation-filter}
-use Rattle.sqlite.proofs.Callers.{one_permutation}
 use Rattle.escpos_store.specs.Table.{row_of, rows_from, visible}
 
 pub rows_push : (id : ℕ) (entries : List Entry) (e : Entry) → rows_from id (entries ++ e ∷ []) ≡ rows_from id entries ++ row_of (id + length entries) e ∷ []

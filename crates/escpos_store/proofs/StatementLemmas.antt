@@ -1,8 +1,8 @@
 -- What the statements of a ledger do.
-use Rattle.std.proofs.Common.{◌≡◌, ◌⊎◌, inl, inr, ℕ, ℤ, pos, negsuc, List, [], ◌∷◌, ◌++◌, append-nil, map, drop, codes, Bool, true, false, not, ◌&&◌, IsPermutation, cond, if◌then◌else◌, Option, Some, None, Ok, Err, Result, refl, sym, ap, subst, subst₂, ◌∙◌, is_eq}
+use Rattle.std.proofs.Common.{◌≡◌, ◌⊎◌, inl, inr, ℕ, ℤ, pos, negsuc, List, [], ◌∷◌, append-nil, map, drop, codes, Bool, true, false, not, ◌&&◌, IsPermutation, cond, if◌then◌else◌, Option, None, Ok, Err, Result, refl, sym, ap, subst, subst₂, ◌∙◌, is_eq}
 use Rattle.std.specs.List.{list_any, flat_map}
 use Rattle.sqlite.specs.declared.types.Value.{Value}
-use Rattle.sqlite.specs.declared.types.Value.TheVariants.{Null, Int, Blob as Bytes}
+use Rattle.sqlite.specs.declared.types.Value.TheVariants.{Null, Int}
 use Rattle.sqlite.specs.Collation.TheVariants.{Binary}
 use Rattle.sqlite.specs.Order.{Row, column, value_cmp}
 use Rattle.sqlite.specs.Tree.{Trees, rowid, put_row}
@@ -16,7 +16,7 @@ use Rattle.sqlite.specs.Cast.{cast}
 use Rattle.sqlite.specs.Kind.TheVariants.{Integer}
 use Rattle.sqlite.specs.Rowids.TheVariants.{Chosen}
 use Rattle.sqlite.specs.Schema.{Schema}
-use Rattle.sqlite.specs.Edit.{Edit, edit_of, edited, put_all, are_fresh}
+use Rattle.sqlite.specs.Edit.{edit_of, put_all, are_fresh}
 use Rattle.sqlite.specs.Change.{created, next_tree}
 use Rattle.sqlite.specs.Does.{Tally, Does, lacks_sequence}
 use Rattle.sqlite.specs.Rows.{Written}

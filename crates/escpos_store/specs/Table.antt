@@ -1,5 +1,5 @@
 -- The table that a ledger's entries are kept in, and each entry as a row of it.
-use Rattle.std.specs.Prelude.{◌≡◌, ℕ, ◌+◌, true, false, ℤ, pos, Some, codes, List, [], ◌∷◌}
+use Rattle.std.specs.Prelude.{ℕ, ◌+◌, true, false, pos, Some, codes, List, [], ◌∷◌}
 use Rattle.escpos_till.specs.declared.entry.Entry.{Entry}
 use Rattle.escpos_till.specs.declared.entry.Entry.TheVariants as entry
 use Rattle.sqlite.specs.declared.types.Value.{Value}
@@ -10,7 +10,6 @@ use Rattle.sqlite.specs.Table.{Table}
 use Rattle.sqlite_schema.specs.declared.schema.Column.{Column}
 use Rattle.sqlite.specs.Schema.{Schema}
 use Rattle.sqlite.specs.Kind.TheVariants.{Integer, Blob}
-use Rattle.sqlite.specs.Tree.{Trees}
 
 -- ## The schema
 

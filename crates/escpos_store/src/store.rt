@@ -2,7 +2,7 @@
 //!
 //! How a store is opened and closed is in `open.rt`.
 
-ghost use Rattle.std.specs.Prelude.{◌≡◌, List, length};
+ghost use Rattle.std.specs.Prelude.{◌≡◌};
 ghost use Rattle.sqlite.specs.State.{HasCleanDisk};
 ghost use Rattle.sqlite.specs.Held.{state};
 ghost use Rattle.escpos_store.specs.Holds.{HoldsIn, Leaves};

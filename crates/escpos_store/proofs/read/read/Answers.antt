@@ -1,6 +1,6 @@
 use Rattle.std.proofs.Common.{◌≡◌, false, IsTrue, rules}
 use Rattle.sqlite.specs.Held.{state}
-use Rattle.escpos_store.specs.Table.{ledger_schema, rows_from}
+use Rattle.escpos_store.specs.Table.{ledger_schema}
 use Rattle.escpos_store.proofs.HoldsLemmas.{found_if_some, outlives_reading}
 use Rattle.escpos_store.specs.Laws.{outlives}
 use Rattle.escpos_store.proofs.read.read.Goals as goal

@@ -1,4 +1,4 @@
-use Rattle.std.proofs.Common.{◌≡◌, ◌∙◌, sym, ap, subst, rules}
+use Rattle.std.proofs.Common.{rules}
 use Rattle.escpos_store.proofs.RowLemmas.{row_after}
 use Rattle.escpos_store.proofs.row.entries_of.Goals as goal
 
