@@ -70,7 +70,7 @@ pub fn begin<S: Alter>(alloc: Global, conn: &mut Connection<S>) -> Result<usize,
     match read(alloc, conn) {
         Ok(Some(entries)) => Ok(entries.len()),
         Ok(None) => Err(OpenFault::NoLedger),
-        Err(error) => Err(statement_fault(error)),
+        Err(fault) => Err(statement_fault(fault)),
     }
 }
 
