@@ -1,0 +1,4 @@
+mod HoldsLemmas
+mod OpenLemmas
+mod RowLemmas
+mod StatementLemmas

@@ -1,0 +1,47 @@
+-- The rows of a list of entries.
+use Rattle.std.proofs.Common.{◌≡◌, ℕ, ◌+◌, ◌<◌, false, List, [], ◌∷◌, ◌++◌, length, take, get_or, map, refl, sym, ap, subst, ◌∙◌, arith, IsPermutation, Ordering, Less, Equal, Greater, is_eq}
+use Rattle.std.specs.List.{list_any}
+use Rattle.std.specs.Ordering.{match_ordering}
+use Rattle.std.proofs.lemmas.List.Sorted.{IsPermutation-refl, IsPermutation-cons, IsPermutation-trans, IsPermutation-middle, IsPermutation-map, IsPermutation-sym, IsPermutation-to_front}
+use Rattle.std.proofs.Math.Seq.{take-suc}
+use native.Mathlib.Numerals.{add-one}
+use Rattle.escpos_till.specs.declared.entry.Entry.{Entry}
+use Rattle.sqlite.specs.Order.{Row, value_cmp}
+use Rattle.sqlite.specs.Tree.{rowid, put_row}
+use Rattle.escpos_store.specs.Table.{row_of, rows_from, visible}
+
+pub rows_push : (id : ℕ) (entries : List Entry) (e : Entry) → rows_from id (entries ++ e ∷ []) ≡ rows_from id entries ++ row_of (id + length entries) e ∷ []
+rows_push id [] e = let at : id ≡ id + 0 = omega arith in ap (λ n. row_of n e ∷ []) at
+rows_push id (f ∷ entries) e =
+    let at : id + 1 + length entries ≡ id + length (f ∷ entries) = omega arith in
+    ap (λ rest. row_of id f ∷ rest) (rows_push (id + 1) entries e ∙ ap (λ n. rows_from (id + 1) entries ++ row_of n e ∷ []) at)
+
+-- the next row is that of the next entry
+pub row_after : (all : List Row) (i : ℕ) (row : Row) (entries : List Entry) (e : Entry) → i < length all → row ≡ get_or all i row
+    → take i all ≡ rows_from 1 entries → row ≡ row_of (1 + length entries) e → take (i + 1) all ≡ rows_from 1 (entries ++ e ∷ [])
+row_after all i row entries e inside at same is =
+    ap (λ n. take n all) (add-one i) ∙ take-suc all i row inside ∙ ap (λ r. take i all ++ r ∷ []) (sym at ∙ is) ∙ ap (λ rows. rows ++ row_of (1 + length entries) e ∷ []) same
+    ∙ sym (rows_push 1 entries e)
+
+-- ## A row that is added
+
+-- a new row goes to some place among rows of which none has its rowid
+pub put_among : (new : Row) (old : List Row) → list_any (λ r. is_eq (value_cmp (rowid r) (rowid new))) old ≡ false → IsPermutation (put_row new old) (new ∷ old)
+put_among new [] fresh = IsPermutation-refl _
+put_among new (r ∷ old) fresh = go (value_cmp (rowid r) (rowid new)) refl (put_among new old)
+  where
+    go : (o : Ordering) → value_cmp (rowid r) (rowid new) ≡ o → (list_any (λ r. is_eq (value_cmp (rowid r) (rowid new))) old ≡ false → IsPermutation (put_row new old) (new ∷ old))
+        → IsPermutation (match_ordering o (r ∷ put_row new old) (new ∷ old) (new ∷ r ∷ old)) (new ∷ r ∷ old)
+    go Less is more = IsPermutation-trans _ _ _ (IsPermutation-cons r _ _ (more (rw is at fresh))) (IsPermutation-middle (r ∷ []) new old)
+    go Equal is more = absurd (let e = rw is at fresh in cc)
+    go Greater is more = IsPermutation-refl _
+
+-- what is shown of the rows, with that of a new row, is the rows of one entry more
+pub one_more : (entries : List Entry) (e : Entry) (new : Row) (old : List Row) → IsPermutation (map visible old) (rows_from 1 entries)
+    → visible new ≡ row_of (1 + length entries) e → IsPermutation (put_row new old) (new ∷ old) → IsPermutation (map visible (put_row new old)) (rows_from 1 (entries ++ e ∷ []))
+one_more entries e new old has is put =
+    let row = row_of (1 + length entries) e in
+    let all = IsPermutation-map visible _ _ put in
+    let shown : IsPermutation (visible new ∷ map visible old) (row ∷ rows_from 1 entries) = subst (λ r. IsPermutation (r ∷ map visible old) (row ∷ rows_from 1 entries)) (sym is) (IsPermutation-cons row _ _ has) in
+    let last : IsPermutation (row ∷ rows_from 1 entries) (rows_from 1 entries ++ row ∷ []) = IsPermutation-sym _ _ (IsPermutation-to_front (rows_from 1 entries) row) in
+    subst (IsPermutation (map visible (put_row new old))) (sym (rows_push 1 entries e)) (IsPermutation-trans _ _ _ all (IsPermutation-trans _ _ _ shown last))

@@ -1,0 +1,76 @@
+-- The laws of the store: a database has one list of entries, and what a store holds outlives a crash.
+use Rattle.std.proofs.Common.{◌≡◌, ℕ, ◌+◌, ◌<◌, ◌==◌, Bool, true, false, not, List, [], ◌∷◌, filter, refl, ap, ap₂, subst₂, arith, IsPermutation}
+use Rattle.std.proofs.lemmas.Bool.Decides.{nat_tests}
+use Rattle.std.proofs.lemmas.List.Sorted.{length_permutation, IsPermutation-trans, IsPermutation-sym}
+use Rattle.escpos_till.specs.declared.entry.Entry.{Entry}
+use Rattle.escpos_till.specs.declared.entry.Entry.TheVariants as entry
+use Rattle.sqlite.specs.Order.{Row, column}
+use Rattle.sqlite.specs.Tree.{Trees}
+use Rattle.sqlite.specs.State.{State}
+use Rattle.sqlite_trees.specs.Objects.{number_in}
+use Rattle.sqlite_keyed.proofs.ListLemmas.{IsPermutation-filter}
+use Rattle.sqlite.proofs.Callers.{one_permutation}
+use Rattle.escpos_store.specs.Table.{row_of, rows_from}
+use Rattle.escpos_store.specs.Holds.{HasEntries, Holds, Leaves}
+
+same_entry : (id : ℕ) (x y : Entry) → row_of id x ≡ row_of id y → x ≡ y
+same_entry id (entry.Queued c) (entry.Queued d) h = cc
+same_entry id (entry.Queued c) (entry.Tried n m) h = absurd (cc)
+same_entry id (entry.Queued c) (entry.Recorded n) h = absurd (cc)
+same_entry id (entry.Queued c) (entry.Raised m) h = absurd (cc)
+same_entry id (entry.Tried n m) (entry.Queued c) h = absurd (cc)
+same_entry id (entry.Tried n m) (entry.Tried k l) h = cc
+same_entry id (entry.Tried n m) (entry.Recorded k) h = absurd (cc)
+same_entry id (entry.Tried n m) (entry.Raised k) h = absurd (cc)
+same_entry id (entry.Recorded n) (entry.Queued c) h = absurd (cc)
+same_entry id (entry.Recorded n) (entry.Tried k l) h = absurd (cc)
+same_entry id (entry.Recorded n) (entry.Recorded k) h = cc
+same_entry id (entry.Recorded n) (entry.Raised k) h = absurd (cc)
+same_entry id (entry.Raised n) (entry.Queued c) h = absurd (cc)
+same_entry id (entry.Raised n) (entry.Tried k l) h = absurd (cc)
+same_entry id (entry.Raised n) (entry.Recorded k) h = absurd (cc)
+same_entry id (entry.Raised n) (entry.Raised k) h = cc
+
+abbrev has_id : ℕ → Row → Bool
+has_id id row = number_in (column row 0) == id
+
+not_yet : (id at : ℕ) → id < at → (at == id) ≡ false
+not_yet id at below = grind (arith, nat_tests)
+
+none_later : (id at : ℕ) (entries : List Entry) → id < at → filter (has_id id) (rows_from at entries) ≡ []
+none_later id at [] below = refl
+none_later id at (e ∷ entries) below = rw (not_yet id at below) (none_later id (at + 1) entries (omega arith))
+
+all_later : (id at : ℕ) (entries : List Entry) → id < at → filter (λ r. not (has_id id r)) (rows_from at entries) ≡ rows_from at entries
+all_later id at [] below = refl
+all_later id at (e ∷ entries) below = rw (not_yet id at below) (ap (λ rest. row_of at e ∷ rest) (all_later id (at + 1) entries (omega arith)))
+
+itself : (id : ℕ) → (id == id) ≡ true
+itself id = grind (arith, nat_tests)
+
+here : (id : ℕ) (e : Entry) (entries : List Entry) → filter (has_id id) (rows_from id (e ∷ entries)) ≡ row_of id e ∷ []
+here id e entries = rw (itself id) (ap (λ rest. row_of id e ∷ rest) (none_later id (id + 1) entries (omega arith)))
+
+others : (id : ℕ) (e : Entry) (entries : List Entry) → filter (λ r. not (has_id id r)) (rows_from id (e ∷ entries)) ≡ rows_from (id + 1) entries
+others id e entries = rw (itself id) (all_later id (id + 1) entries (omega arith))
+
+same_entries : (id : ℕ) (xs ys : List Entry) → IsPermutation (rows_from id xs) (rows_from id ys) → xs ≡ ys
+same_entries id [] [] same = refl
+same_entries id [] (y ∷ ys) same = absurd (omega (arith, length_permutation _ _ same))
+same_entries id (x ∷ xs) [] same = absurd (omega (arith, length_permutation _ _ same))
+same_entries id (x ∷ xs) (y ∷ ys) same =
+    let first = subst₂ IsPermutation (here id x xs) (here id y ys) (IsPermutation-filter (has_id id) _ _ same) in
+    let more = subst₂ IsPermutation (others id x xs) (others id y ys) (IsPermutation-filter (λ r. not (has_id id r)) _ _ same) in
+    let row : row_of id x ≡ row_of id y = let one = one_permutation (row_of id x) (row_of id y ∷ []) first in cc in
+    ap₂ ◌∷◌ (same_entry id x y row) (same_entries (id + 1) xs ys more)
+
+-- a database has one list of entries
+pub one_list : (db : Trees) (xs ys : List Entry) → HasEntries db xs → HasEntries db ys → xs ≡ ys
+one_list db xs ys first second = same_entries 1 xs ys (IsPermutation-trans _ _ _ (IsPermutation-sym _ _ first.are) second.are)
+
+pub held_once : (s : State) (xs ys : List Entry) → Holds s xs → Holds s ys → xs ≡ ys
+held_once s xs ys first second = one_list s.now.trees xs ys first.has second.has
+
+-- what a store holds outlives a crash
+pub outlives : (s : State) (entries left : List Entry) → Holds s entries → Leaves s left → left ≡ entries
+outlives s entries left held may = may.2 entries (held.crash may.0 may.1)

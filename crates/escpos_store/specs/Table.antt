@@ -1,0 +1,100 @@
+-- The table that a ledger's entries are kept in, and each entry as a row of it.
+use Rattle.std.specs.Prelude.{ℕ, ◌+◌, true, false, pos, Some, codes, List, [], ◌∷◌}
+use Rattle.escpos_till.specs.declared.entry.Entry.{Entry}
+use Rattle.escpos_till.specs.declared.entry.Entry.TheVariants as entry
+use Rattle.sqlite.specs.declared.types.Value.{Value}
+use Rattle.sqlite.specs.declared.types.Value.TheVariants.{Null, Int, Blob as Bytes}
+use Rattle.sqlite.specs.Collation.TheVariants.{Binary}
+use Rattle.sqlite.specs.Order.{Row, column}
+use Rattle.sqlite.specs.Table.{Table}
+use Rattle.sqlite_schema.specs.declared.schema.Column.{Column}
+use Rattle.sqlite.specs.Schema.{Schema}
+use Rattle.sqlite.specs.Kind.TheVariants.{Integer, Blob}
+
+-- ## The schema
+
+-- the statement that makes the table
+abbrev pub create_text : List ℕ
+create_text = codes "CREATE TABLE entry (id INTEGER PRIMARY KEY, kind INTEGER NOT NULL, number INTEGER NOT NULL, next INTEGER NOT NULL, content BLOB) STRICT"
+
+-- the statement that adds a row
+abbrev pub insert_text : List ℕ
+insert_text = codes "INSERT INTO entry (id, kind, number, next, content) VALUES (?1, ?2, ?3, ?4, ?5)"
+
+-- the query that gives the rows in order
+abbrev pub select_text : List ℕ
+select_text = codes "SELECT id, kind, number, next, content FROM entry ORDER BY id"
+
+abbrev pub integer_column : List ℕ → Column
+integer_column name = record { name = name; kind = Integer; is_strict = true; not_null = true; default = Null; collation = Binary }
+
+abbrev pub entry_table : Table
+entry_table = record {
+  name = codes "entry";
+  tree = 0;
+  columns = (record { name = codes "id"; kind = Integer; is_strict = true; not_null = false; default = Null; collation = Binary })
+      ∷ integer_column (codes "kind") ∷ integer_column (codes "number") ∷ integer_column (codes "next")
+      ∷ (record { name = codes "content"; kind = Blob; is_strict = true; not_null = false; default = Null; collation = Binary }) ∷ [];
+  key = Some 0;
+  primary = 0 ∷ [];
+  uniques = [];
+  orders = [];
+  checks = [];
+  references = [];
+  computed = [];
+  stamps = record { places = []; terms = []; formats = [] };
+  is_counted = false;
+}
+
+-- a ledger has this table and nothing else
+abbrev pub ledger_schema : Schema
+ledger_schema = record { tables = entry_table ∷ []; indexes = []; views = [] }
+
+-- a new database has nothing
+abbrev pub no_schema : Schema
+no_schema = record { tables = []; indexes = []; views = [] }
+
+-- ## The rows
+
+abbrev pub kind_of : Entry → ℕ
+kind_of (entry.Queued content) = 1
+kind_of (entry.Tried number next) = 2
+kind_of (entry.Recorded number) = 3
+kind_of (entry.Raised next) = 4
+
+-- the receipt's number, and 0 in an entry that has none
+abbrev pub number_of : Entry → ℕ
+number_of (entry.Queued content) = 0
+number_of (entry.Tried number next) = number
+number_of (entry.Recorded number) = number
+number_of (entry.Raised next) = 0
+
+-- the mark number that is free afterwards, and 0 in an entry that has none
+abbrev pub next_of : Entry → ℕ
+next_of (entry.Queued content) = 0
+next_of (entry.Tried number next) = next
+next_of (entry.Recorded number) = 0
+next_of (entry.Raised next) = next
+
+-- the receipt's text, and NULL in an entry that has none
+abbrev pub content_of : Entry → Value
+content_of (entry.Queued content) = Bytes content
+content_of (entry.Tried number next) = Null
+content_of (entry.Recorded number) = Null
+content_of (entry.Raised next) = Null
+
+-- the row of an entry: id, kind, number, next, content
+abbrev pub row_of : ℕ → Entry → Row
+row_of id e = Int (pos id) ∷ Int (pos (kind_of e)) ∷ Int (pos (number_of e)) ∷ Int (pos (next_of e)) ∷ content_of e ∷ []
+
+abbrev pub rows_from : ℕ → List Entry → List Row
+rows_from id [] = []
+rows_from id (e ∷ entries) = row_of id e ∷ rows_from (id + 1) entries
+
+-- the rows of some entries, whose ids are 1, 2, 3 and so on
+abbrev pub rows : List Entry → List Row
+rows = rows_from 1
+
+-- what a query shows of a row of the table: the rowid, which is the id, and the columns after the id
+abbrev pub visible : Row → Row
+visible row = column row 0 ∷ column row 2 ∷ column row 3 ∷ column row 4 ∷ column row 5 ∷ []
