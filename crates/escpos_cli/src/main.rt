@@ -1,13 +1,18 @@
 //! The program of ESC/POS receipts, with a subcommand for each job.
 //!
-//! `main` joins the arguments of the command line, the standard streams and the exit status. escpos_arguments says what the
-//! arguments ask for, and escpos_jobs does it; their names are also names of the program.
+//! `main` joins the arguments of the command line, the standard streams, a till's ledger and the exit status. escpos_arguments
+//! says what the arguments ask for; escpos_jobs does it, and escpos_till_jobs what a till asks of its ledger, which `ledger`
+//! opens. Names of these crates are also names of the program.
 #![tactic(auto)]
 
-pub use escpos_arguments::{task_of, without_name};
-use escpos_io::{Incoming, Outgoing};
+mod ledger;
+
+use crate::ledger::perform_till;
+pub use escpos_arguments::{is_till_word, task_of, till_task_of, without_name};
+use escpos_io::{ByteIn, ByteOut, Incoming, Outgoing};
 use escpos_jobs::perform::perform;
-use escpos_jobs::task::{NoTask, Task};
+use escpos_jobs::status::Status;
+use escpos_jobs::task::NoTask;
 pub use escpos_jobs::{
     check, emulate, encode, loop_link, perform, play, render, send, status, task,
 };
@@ -17,20 +22,37 @@ use std::{env, io};
 fn main(rt: HostRuntime) -> ExitCode {
     let mut input = Incoming::new(rt.stdin());
     let mut output = Outgoing::new(io::writer(&rt));
-    let status = perform(&rt, rt.alloc(), asked(&rt), &mut input, &mut output);
+    let status = match arguments(&rt) {
+        Ok(given) => perform_words(&rt, without_name(given.as_slice()), &mut input, &mut output),
+        Err(why) => perform(&rt, rt.alloc(), Err(why), &mut input, &mut output),
+    };
     ExitCode::from(status)
 }
 
-// What the arguments ask for.
-fn asked(rt: &HostRuntime) -> Result<Task, NoTask> {
-    let given = arguments(rt).map_err(|fault| match fault.kind() {
-        io::ErrorKind::OutOfMemory => NoTask::Memory,
-        _ => NoTask::Usage,
-    })?;
-    task_of(rt.alloc(), without_name(given.as_slice()))
+// Does what these arguments ask for.
+fn perform_words<R: ByteIn, W: ByteOut>(
+    rt: &HostRuntime,
+    words: &[String],
+    input: &mut R,
+    output: &mut W,
+) -> Status {
+    match words.first() {
+        Some(word) if is_till_word(word.as_str()) => match till_task_of(rt.alloc(), words) {
+            Ok(task) => perform_till(rt, task, input, output),
+            Err(why) => perform(rt, rt.alloc(), Err(why), input, output),
+        },
+        _ => perform(rt, rt.alloc(), task_of(rt.alloc(), words), input, output),
+    }
 }
 
 // The arguments of the command line, the program's name first. It fails if one of them isn't text.
-fn arguments(rt: &HostRuntime) -> io::Result<Vec<String>> {
+fn arguments(rt: &HostRuntime) -> Result<Vec<String>, NoTask> {
+    given(rt).map_err(|fault| match fault.kind() {
+        io::ErrorKind::OutOfMemory => NoTask::Memory,
+        _ => NoTask::Usage,
+    })
+}
+
+fn given(rt: &HostRuntime) -> io::Result<Vec<String>> {
     Ok(env::args(rt)?.collect(rt.alloc())?)
 }

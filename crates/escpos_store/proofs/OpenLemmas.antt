@@ -18,7 +18,7 @@ use Rattle.sqlite.specs.Closing.{IsCopied}
 use Rattle.sqlite.proofs.Callers.{memory_is_clean}
 use Rattle.escpos_store.specs.Table.{ledger_schema, no_schema}
 use Rattle.sqlite.specs.Start.{FindsIn}
-use Rattle.escpos_store.specs.declared.open.OpenFault.{OpenFault}
+use Rattle.escpos_till.specs.declared.store.NoStore.{NoStore}
 use Rattle.escpos_store.specs.Holds.{FoundIn, HasEntries, HoldsIn, KeptIn, StartsAs, StoreView}
 
 -- what the connection showed at first is what the files held
@@ -33,7 +33,7 @@ found_in s image entries opens live finds starts =
       starts = starts;
     }
 
-pub found_if_ok : {S : Type 0} (g : Ghosts S) (c : Held S) (image : Image) (r : Result (StoreView S) OpenFault) → (HasCleanDisk (state g c) → Opens (state g c) × IsLive (state g c))
+pub found_if_ok : {S : Type 0} (g : Ghosts S) (c : Held S) (image : Image) (r : Result (StoreView S) NoStore) → (HasCleanDisk (state g c) → Opens (state g c) × IsLive (state g c))
     → (HasCleanDisk (state g c) → FindsIn image (state g c))
     → IfOk r (λ store. HasCleanDisk (state g store.connection) → HasCleanDisk (state g c) × ((entries : List Entry) × HoldsIn g store entries × StartsAs (state g c).now entries))
     → IfOk r (λ store. HasCleanDisk (state g store.connection) → (entries : List Entry) × HoldsIn g store entries × FoundIn image entries)
@@ -43,7 +43,7 @@ found_if_ok g c image (Ok store) opened finds begun = λ clean.
     let open_now = opened it.0 in
     (it.1.0, it.1.1, found_in (state g c) image it.1.0 open_now.0 open_now.1 (finds it.0) it.1.2)
 
-pub files_if_ok : {D : Type 0} {g : disk.Ghosts D} (files : Files D) (c : Held (FileStore D g)) (r : Result (StoreView (FileStore D g)) OpenFault)
+pub files_if_ok : {D : Type 0} {g : disk.Ghosts D} (files : Files D) (c : Held (FileStore D g)) (r : Result (StoreView (FileStore D g)) NoStore)
     → (HasCleanDisk (file_state c) → IsOpened c) → (HasCleanDisk (file_state c) → Finds files c)
     → IfOk r (λ store. HasCleanDisk (file_state store.connection) → HasCleanDisk (file_state c) × ((entries : List Entry) × HoldsIn over_files store entries × StartsAs (file_state c).now entries))
     → IfOk r (λ store. HasCleanDisk (file_state store.connection) → (entries : List Entry) × HoldsIn over_files store entries × FoundIn (image_of g files) entries)
@@ -53,7 +53,7 @@ never_both : (s : Schema) → s ≡ ledger_schema → s ≡ no_schema → ⊥
 never_both s one none = omega (arith, sym (ap (λ (it : Schema). length it.tables) one) ∙ ap (λ (it : Schema). length it.tables) none)
 
 -- a new database in memory has no entry
-pub memory_if_ok : (c : Held MemStore) (r : Result (StoreView MemStore) OpenFault) → (state over_memory c).now.schema ≡ no_schema
+pub memory_if_ok : (c : Held MemStore) (r : Result (StoreView MemStore) NoStore) → (state over_memory c).now.schema ≡ no_schema
     → IfOk r (λ store. HasCleanDisk (state over_memory store.connection) → HasCleanDisk (state over_memory c) × ((entries : List Entry) × HoldsIn over_memory store entries × StartsAs (state over_memory c).now entries))
     → IfOk r (λ store. HoldsIn over_memory store [])
 memory_if_ok c (Err fault) empty begun = tt

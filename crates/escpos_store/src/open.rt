@@ -16,47 +16,34 @@ use crate::read::read;
 use crate::schema::is_new;
 use crate::statements::create;
 use crate::store::{SqliteStore, store_fault};
-use escpos_till::StoreFault;
+use escpos_till::{NoStore, StoreFault};
 use sqlite::{
     Alter, Connection, Error, ErrorCode, FileFrom, FileStore, Files, MemStore, Options, Start,
 };
 use sqlite_disk::Disk;
 use std::alloc::Global;
 
-/// Why a ledger isn't opened. The files stay as they were, but for a log that may be made beside the ledger.
-#[derive(Clone, Copy, Debug, PartialEq, Eq)]
-pub enum OpenFault {
-    /// Another process has the file open.
-    InUse,
-    /// The file is another kind of file, or is damaged, or the database in it isn't a ledger and isn't empty.
-    NoLedger,
-    /// Out of memory.
-    Memory,
-    /// A read, a write or a sync failed, or the file can't be opened or made.
-    Failed,
-}
-
 // Why the file isn't opened.
-fn file_fault(error: Error) -> OpenFault {
+fn file_fault(error: Error) -> NoStore {
     match error {
-        Error::SqliteFailure(ErrorCode::DatabaseBusy) => OpenFault::InUse,
+        Error::SqliteFailure(ErrorCode::DatabaseBusy) => NoStore::InUse,
         Error::SqliteFailure(ErrorCode::NotADatabase | ErrorCode::DatabaseCorrupt) =>
-            OpenFault::NoLedger,
-        Error::SqliteFailure(ErrorCode::OutOfMemory) => OpenFault::Memory,
-        _ => OpenFault::Failed,
+            NoStore::NoLedger,
+        Error::SqliteFailure(ErrorCode::OutOfMemory) => NoStore::Memory,
+        _ => NoStore::Failed,
     }
 }
 
 // Why a statement of an open fails.
-fn statement_fault(error: Error) -> OpenFault {
+fn statement_fault(error: Error) -> NoStore {
     match error {
-        Error::SqliteFailure(ErrorCode::OutOfMemory) => OpenFault::Memory,
-        _ => OpenFault::Failed,
+        Error::SqliteFailure(ErrorCode::OutOfMemory) => NoStore::Memory,
+        _ => NoStore::Failed,
     }
 }
 
 /// How many entries the ledger has that the connection shows; a database that has nothing becomes an empty ledger.
-pub fn begin<S: Alter>(alloc: Global, conn: &mut Connection<S>) -> Result<usize, OpenFault>
+pub fn begin<S: Alter>(alloc: Global, conn: &mut Connection<S>) -> Result<usize, NoStore>
     ensures clean { doubt (state S.Store conn.old).is_clean ≤ doubt (state S.Store conn.new).is_clean }
     ensures found { IfOk result (λ count. HasCleanDisk (state S.Store conn.new) → (entries : List Entry) × Holds (state S.Store conn.new) entries
         × (count ≡ length entries) × StartsAs (state S.Store conn.old).now entries) }
@@ -69,13 +56,13 @@ pub fn begin<S: Alter>(alloc: Global, conn: &mut Connection<S>) -> Result<usize,
     }
     match read(alloc, conn) {
         Ok(Some(entries)) => Ok(entries.len()),
-        Ok(None) => Err(OpenFault::NoLedger),
+        Ok(None) => Err(NoStore::NoLedger),
         Err(fault) => Err(statement_fault(fault)),
     }
 }
 
 // The store over a connection, if that shows a ledger or has nothing.
-fn begun<S: Alter + Drop>(alloc: Global, conn: Connection<S>) -> Result<SqliteStore<S>, OpenFault>
+fn begun<S: Alter + Drop>(alloc: Global, conn: Connection<S>) -> Result<SqliteStore<S>, NoStore>
     ensures found { IfOk result (λ store. HasCleanDisk (state S.Store store.connection) → HasCleanDisk (state S.Store conn)
         × ((entries : List Entry) × HoldsIn S.Store store entries × StartsAs (state S.Store conn).now entries)) }
 {
@@ -92,7 +79,7 @@ impl<S: Start> SqliteStore<FileStore<FileFrom<S>>> {
     ///
     /// What the store holds is what the files held. `start` stands for that; a program passes `Unknown`, which supposes that a torn
     /// write leaves each byte old or new.
-    pub fn open(rt: &HostRuntime, path: &str, start: S) -> Result<Self, OpenFault>
+    pub fn open(rt: &HostRuntime, path: &str, start: S) -> Result<Self, NoStore>
         ensures found { IfOk result (λ store. HasCleanDisk (file_state store.connection) → (entries : List Entry)
             × HoldsIn over_files store entries × FoundIn (image_at S.Start) entries) }
     {
@@ -106,7 +93,7 @@ impl<S: Start> SqliteStore<FileStore<FileFrom<S>>> {
 impl<D: Disk + Drop> SqliteStore<FileStore<D>> {
     /// Opens the ledger in a database file and its log, which are open. Empty files become an empty ledger. What the store holds is
     /// what the files held. `InUse` isn't answered.
-    pub fn open_files(alloc: Global, files: Files<D>, options: Options) -> Result<Self, OpenFault>
+    pub fn open_files(alloc: Global, files: Files<D>, options: Options) -> Result<Self, NoStore>
         requires log { IsTrue (D.Disk.is_usable files.log) }
         requires db { IsTrue (D.Disk.is_usable files.db) }
         ensures found { IfOk result (λ store. HasCleanDisk (file_state store.connection) → (entries : List Entry)
@@ -141,12 +128,12 @@ impl<D: Disk + Drop> SqliteStore<FileStore<D>> {
 
 impl SqliteStore<MemStore> {
     /// An empty ledger in memory, for tests and tries. `Memory` is the error that comes when an allocation fails.
-    pub fn in_memory(alloc: Global) -> Result<Self, OpenFault>
+    pub fn in_memory(alloc: Global) -> Result<Self, NoStore>
         ensures empty { IfOk result (λ store. HoldsIn over_memory store []) }
     {
         match Connection::open_in_memory(alloc) {
             Ok(conn) => begun(alloc, conn),
-            Err(_) => Err(OpenFault::Memory),
+            Err(_) => Err(NoStore::Memory),
         }
     }
 }

@@ -1,0 +1,103 @@
+//! A till's ledger in its file: opened for one task, and closed after it.
+
+use escpos_io::{ByteIn, ByteOut};
+use escpos_jobs::receipt_input::refuse_input;
+use escpos_jobs::status::Status;
+use escpos_store::SqliteStore;
+use escpos_till::{Ledger, NoStore};
+use escpos_till_jobs::{
+    Delivery, LedgerPath, TillTask, deliver_waiting, list, open_ledger, queue_receipt,
+    read_receipt_text, refuse_store,
+};
+use sqlite::{FileFrom, FileStore, Unknown};
+
+// A ledger in a file.
+type FileLedger = Ledger<SqliteStore<FileStore<FileFrom<Unknown>>>>;
+
+/// Does what a till asks of its ledger, and returns how it went.
+pub fn perform_till<R: ByteIn, W: ByteOut>(
+    rt: &HostRuntime,
+    task: TillTask<'_>,
+    input: &mut R,
+    output: &mut W,
+) -> Status {
+    match task {
+        TillTask::Queue { ledger } => queue(rt, &ledger, input, output),
+        TillTask::Deliver { ledger, delivery } => deliver(rt, &ledger, &delivery, output),
+        TillTask::List { ledger, first } => list_ledger(rt, &ledger, first, output),
+    }
+}
+
+// Takes a receipt. The ledger is opened once the receipt is read, so that one that is refused leaves no new file.
+fn queue<R: ByteIn, W: ByteOut>(
+    rt: &HostRuntime,
+    path: &LedgerPath<'_>,
+    input: &mut R,
+    output: &mut W,
+) -> Status {
+    match read_receipt_text(rt.alloc(), input) {
+        Ok(json) => queue_text(rt, path, &json, output),
+        Err(fault) => refuse_input(fault, output),
+    }
+}
+
+fn queue_text<W: ByteOut>(
+    rt: &HostRuntime,
+    path: &LedgerPath<'_>,
+    json: &[u8],
+    output: &mut W,
+) -> Status {
+    match open(rt, path) {
+        Ok(mut ledger) => {
+            let status = queue_receipt(rt.alloc(), &mut ledger, json, output);
+            close(ledger);
+            status
+        }
+        Err(why) => refuse_store(why, output),
+    }
+}
+
+// Delivers the receipts that wait.
+fn deliver<W: ByteOut>(
+    rt: &HostRuntime,
+    path: &LedgerPath<'_>,
+    delivery: &Delivery<'_>,
+    output: &mut W,
+) -> Status {
+    match open(rt, path) {
+        Ok(mut ledger) => {
+            let status = deliver_waiting(rt, rt.alloc(), &mut ledger, delivery, output);
+            close(ledger);
+            status
+        }
+        Err(why) => refuse_store(why, output),
+    }
+}
+
+// Lists where the receipts stand.
+fn list_ledger<W: ByteOut>(
+    rt: &HostRuntime,
+    path: &LedgerPath<'_>,
+    first: Option<u32>,
+    output: &mut W,
+) -> Status {
+    match open(rt, path) {
+        Ok(mut ledger) => {
+            let status = list(&mut ledger, first, output);
+            close(ledger);
+            status
+        }
+        Err(why) => refuse_store(why, output),
+    }
+}
+
+// Opens the ledger in this file. A file that isn't there is made.
+fn open(rt: &HostRuntime, path: &LedgerPath<'_>) -> Result<FileLedger, NoStore> {
+    let store = SqliteStore::<FileStore<FileFrom<Unknown>>>::open(rt, path.text(), Unknown)?;
+    open_ledger(rt.alloc(), store)
+}
+
+// Closes the ledger. What it has recorded outlives a crash already, so nothing is lost where this fails.
+fn close(ledger: FileLedger) {
+    let _ = ledger.into_store().close();
+}
