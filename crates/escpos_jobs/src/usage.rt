@@ -9,6 +9,9 @@ usage: escpos_cli check  < HEXADECIMAL
        escpos_cli emulate ADDRESS [--links N]
        escpos_cli send ADDRESS --first F [--openings N] < RECEIPT
        escpos_cli loop < RECEIPT
+       escpos_cli queue LEDGER < RECEIPT
+       escpos_cli deliver LEDGER ADDRESS [--openings N] [--copy TEXT]
+       escpos_cli ledger LEDGER [--first F]
        escpos_cli help
 ";
 
@@ -17,7 +20,7 @@ pub const HELP: &str = "\
 escpos_cli shows what an ESC/POS byte stream says to a receipt printer, or the
 exact byte at which the stream is refused, and writes the stream of a receipt.
 Over TCP it is a printer, or sends a receipt to one and learns that it is
-printed.
+printed. A till's receipts wait in a ledger, a file, until they are printed.
 
 `check` and `render` read the stream from standard input, as hexadecimal digits
 of either case; spaces, tabs and line ends between them are ignored. Input of
@@ -222,6 +225,45 @@ out of memory.
           row left Hi
           feed 1
           recorded 0
+
+  escpos_cli queue LEDGER
+      Reads a receipt in JSON as `encode` does, takes it into the file LEDGER,
+      and prints `queued N`: its number, from 1. From then on it is kept,
+      whatever is switched off. A file that isn't there is made. A printer has
+      one ledger, and a ledger one printer.
+
+          $ echo '[{\"line\":\"Hi\"}]' | escpos_cli queue shop.ledger
+          queued 1
+
+  escpos_cli deliver LEDGER ADDRESS [--openings N] [--copy TEXT]
+      Sends each receipt that waits to the printer at ADDRESS, in the order of
+      their numbers, each over a link of its own, as `send` does; the ledger
+      keeps the mark numbers. `recorded N` says that receipt N is on paper, and
+      that the ledger has it so. The first that isn't recorded gives `waiting N
+      WHY`, where WHY is `no link` or that of `send`, and ends it. If none
+      waits, nothing is printed.
+
+      A receipt that was sent before may be on paper already. It is printed
+      again as it is; or, with --copy, after a line with TEXT, 1 to 42
+      characters, 20 to 7E hexadecimal, centred and emphasised.
+
+          $ escpos_cli deliver shop.ledger 127.0.0.1:9100
+          recorded 1
+
+  escpos_cli ledger LEDGER [--first F]
+      Lists the receipts, a line each: `N waiting`; `N tried K`, sent K times
+      and not known to be printed; or `N recorded R`, R its place among those
+      recorded, from 0. The last line is `next M`, the next mark number. With
+      --first it is raised to F first, for a printer that another till has used
+      before; an F below it gives the one line `refused MarkReused M`.
+
+          $ escpos_cli ledger shop.ledger
+          1 recorded 0
+          next 4
+
+      If another process has the ledger open, each of these three prints
+      `ledger in use`; if LEDGER is another kind of file, or damaged, `no
+      ledger`; and if a read or a write failed, `ledger failed`.
 
   escpos_cli help
       Prints this text; so do --help and -h.
