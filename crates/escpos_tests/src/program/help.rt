@@ -26,7 +26,7 @@ fn each_thing_asked_for(rt: HostRuntime) {
         (Err(NoTask::Usage), USAGE.as_bytes(), Status::Usage),
         (Err(NoTask::Memory), b"memory\n", Status::Memory),
     ];
-    let mut room = [0; 16384];
+    let mut room = [0; 32768];
     for (asked, output, status) in rows {
         let mut source = MemoryIn::new(b"41 0A", 100);
         let wanted = (output, status);
@@ -41,7 +41,8 @@ fn each_thing_asked_for(rt: HostRuntime) {
 #[test]
 fn usage_and_help(rt: HostRuntime) {
     for name in [
-        "check", "render", "encode", "emulate", "send", "loop", "help",
+        "check", "render", "encode", "emulate", "send", "loop", "queue", "deliver", "ledger",
+        "help",
     ] {
         assert!(rt; USAGE.contains(name));
         assert!(rt; HELP.contains(name));
