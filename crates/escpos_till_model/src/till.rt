@@ -53,6 +53,12 @@ impl Till {
         ensures hand { IfOk result (λ till. till.hand ≡ None) }
         ensures host { IfOk result (λ till. till.line.host ≡ record { phase = Down; out = []; half = []; next = 0; records = []; left = [] }) }
         ensures sheet { IfOk result (λ till. SheetIs till.line.printer.sheet [] []) }
+        ensures half { IfOk result (λ till. till.line.printer.half ≡ []) }
+        ensures waiting { IfOk result (λ till. till.line.printer.waiting ≡ []) }
+        ensures condition { IfOk result (λ till. till.line.printer.condition ≡ condition) }
+        ensures ended { IfOk result (λ till. till.line.ended ≡ []) }
+        ensures live { IfOk result (λ till. till.line.live ≡ None) }
+        ensures coming { IfOk result (λ till. till.line.coming ≡ []) }
         ensures stands { IfOk result (λ till. RecordedStand (entries_of till) till.line.printer.sheet.items) }
         ensures kept { IfOk result (λ till. EachIsKept (entries_of till)) }
     {
