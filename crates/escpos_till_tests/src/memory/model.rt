@@ -25,11 +25,11 @@ fn happens(
     }
 }
 
-// The till is switched off and on, and the printer leaves the link that it had.
+// The till is switched off and on, and so is the printer.
 fn begins_anew(rt: &impl Abort, till: &mut Till) {
     till.crash();
     assert!(rt; till.start(Failure::Never) == Ok(()));
-    let _ = till.on_line(Event::PrinterLeaves);
+    assert!(rt; till.on_line(Event::PrinterRestart).is_ok());
 }
 
 const FAILED: TillRefusal = TillRefusal::Ledger(LedgerError::Store(StoreFault::Memory));

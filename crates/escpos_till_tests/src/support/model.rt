@@ -84,7 +84,7 @@ fn content_at_last(rt: &impl Abort, alloc: Global) -> Content {
     }
 }
 
-fn event_of(rt: &impl Abort, alloc: Global, plain: Plain) -> TillEvent {
+pub fn event_of(rt: &impl Abort, alloc: Global, plain: Plain) -> TillEvent {
     match plain {
         Plain::Start => TillEvent::Start(Failure::Never),
         Plain::Queue => TillEvent::Queue(content_at_last(rt, alloc)),
