@@ -1,0 +1,107 @@
+//! A till's arguments, and what they ask for.
+
+use crate::support::asking::{Plain, asked_by, printer_address};
+use escpos_arguments::is_till_word;
+use escpos_jobs::task::NoTask;
+use std::alloc::Global;
+use std::process::Abort;
+
+fn asks_for(rt: &impl Abort, alloc: Global, words: &[&str], wanted: Result<Plain, NoTask>) {
+    assert!(rt; asked_by(alloc, words) == wanted);
+}
+
+const ADDRESS: &str = "127.0.0.1:9100";
+
+// A text of 42 characters, the most that a copy's line has, and one of 43.
+const LONG: &str = "0123456789 0123456789 0123456789 012345678";
+
+const TOO_LONG: &str = "0123456789 0123456789 0123456789 0123456789";
+
+// The arguments after `deliver till 127.0.0.1:9100`, with how many opening marks they ask for, and whether for a copy's line.
+const DELIVERIES: [(&'static [&'static str], u32, bool); 5] = [
+    (&[], 3, false),
+    (&["--openings", "1"], 1, false),
+    (&["--openings=99"], 99, false),
+    (&["--copy", LONG], 3, true),
+    (&["--copy=~", "--openings", "2"], 2, true),
+];
+
+fn asks_for_delivery(rt: &impl Abort, alloc: Global, given: &[&'static str], wanted: Plain) {
+    let mut words = Vec::new(alloc);
+    let deliver = ["deliver", "till", ADDRESS];
+    words.extend_from_slice(&deliver).expect(rt, "memory");
+    words.extend_from_slice(given).expect(rt, "memory");
+    asks_for(rt, alloc, words.as_slice(), Ok(wanted));
+}
+
+#[test]
+fn deliveries(rt: HostRuntime) {
+    for (given, openings, has_copy) in &DELIVERIES {
+        let wanted = Plain::Deliver("till", printer_address(), *openings, *has_copy);
+        asks_for_delivery(&rt, rt.alloc(), given, wanted);
+    }
+}
+
+const ASKED: [(&'static [&'static str], Result<Plain<'static>, NoTask>); 9] = [
+    (&["queue", "till"], Ok(Plain::Queue("till"))),
+    (&["queue", "a/till.db"], Ok(Plain::Queue("a/till.db"))),
+    (&["ledger", "till"], Ok(Plain::List("till", None))),
+    (
+        &["ledger", "till", "--first", "0"],
+        Ok(Plain::List("till", Some(0))),
+    ),
+    (
+        &["ledger", "--first=1679615", "till"],
+        Ok(Plain::List("till", Some(1_679_615))),
+    ),
+    (&["queue", "--help"], Err(NoTask::Help)),
+    (&["deliver", "-h"], Err(NoTask::Help)),
+    (&["ledger", "till", "--help"], Err(NoTask::Help)),
+    (&["--help"], Err(NoTask::Help)),
+];
+
+// Words that ask for nothing.
+const USAGE: [&'static [&'static str]; 22] = [
+    &[],
+    &["check"],
+    &["queue"],
+    &["queue", "till", "till"],
+    &["queue", "till", "--first", "1"],
+    &["queue", "till", "--nosuch"],
+    &["deliver"],
+    &["deliver", "till"],
+    &["deliver", ADDRESS],
+    &["deliver", "till", "printer:9100"],
+    &["deliver", "till", ADDRESS, "extra"],
+    &["deliver", "till", ADDRESS, "--openings", "0"],
+    &["deliver", "till", ADDRESS, "--openings", "100"],
+    &["deliver", "till", ADDRESS, "--copy"],
+    &["deliver", "till", ADDRESS, "--copy", ""],
+    &["deliver", "till", ADDRESS, "--copy", TOO_LONG],
+    &["deliver", "till", ADDRESS, "--copy", "Zweitdruck für Sie"],
+    &["deliver", "till", ADDRESS, "--first", "1"],
+    &["ledger"],
+    &["ledger", "till", "--first", "1679616"],
+    &["ledger", "till", "--first", "-1"],
+    &["ledger", "till", "--first", "1", "--first", "1"],
+];
+
+#[test]
+fn words_of_a_till(rt: HostRuntime) {
+    for (words, wanted) in &ASKED {
+        asks_for(&rt, rt.alloc(), words, *wanted);
+    }
+    for words in &USAGE {
+        asks_for(&rt, rt.alloc(), words, Err(NoTask::Usage));
+    }
+}
+
+#[test]
+fn till_words(rt: HostRuntime) {
+    for word in ["queue", "deliver", "ledger"] {
+        assert!(&rt; is_till_word(word));
+    }
+    for word in ["", "check", "help", "Queue", "queue ", "ledge"] {
+        assert!(&rt; !is_till_word(word));
+    }
+}

@@ -1,0 +1,95 @@
+//! The store in SQLite: entries of each kind come back in order, over memory, and from files that were closed.
+
+use crate::support::tills::{S, number};
+use escpos_store::SqliteStore;
+use escpos_till::{Content, Entry, Store};
+use sqlite::{Alter, FileStore, Files, Options};
+use sqlite_disk::{Disk, Memory};
+use std::alloc::Global;
+use std::process::Abort;
+
+// An entry of each kind, and two at the ends of their ranges.
+fn entries_of(rt: &impl Abort, alloc: Global) -> Vec<Entry> {
+    let number = number(rt, 1);
+    let content = Content::new(S.to_vec(alloc).expect(rt, "memory"));
+    let empty = Content::new(Vec::new(alloc));
+    let mut entries = Vec::new(alloc);
+    let _ = entries.push(Entry::Queued { content });
+    let _ = entries.push(Entry::Tried { number, next: 4 });
+    let _ = entries.push(Entry::Recorded { number });
+    let _ = entries.push(Entry::Raised { next: u32::MAX });
+    let _ = entries.push(Entry::Queued { content: empty });
+    entries
+}
+
+fn are_alike(rt: &impl Abort, entry: &Entry, wanted: &Entry) {
+    match (entry, wanted) {
+        (Entry::Queued { content }, Entry::Queued { content: text }) => {
+            assert!(rt; content.bytes() == text.bytes());
+        }
+        (Entry::Tried { number, next }, Entry::Tried { number: n, next: m }) => {
+            assert!(rt; *number == *n);
+            assert!(rt; *next == *m);
+        }
+        (Entry::Recorded { number }, Entry::Recorded { number: n }) => {
+            assert!(rt; *number == *n);
+        }
+        (Entry::Raised { next }, Entry::Raised { next: m }) => assert!(rt; *next == *m),
+        _ => panic!(rt; "another kind of entry"),
+    }
+}
+
+fn adds_all<S: Alter>(rt: &impl Abort, store: &mut SqliteStore<S>, entries: &[Entry]) {
+    for entry in entries {
+        assert!(rt; store.append(entry) == Ok(()));
+    }
+}
+
+fn has<S: Alter>(rt: &impl Abort, alloc: Global, store: &mut SqliteStore<S>, wanted: &[Entry]) {
+    let found = store.entries(alloc).expect(rt, "entries");
+    assert!(rt; found.len() == wanted.len());
+    for (entry, other) in found.iter().zip(wanted) {
+        are_alike(rt, entry, other);
+    }
+}
+
+// A store with these entries after those that it has.
+fn keeps<S: Alter>(rt: &impl Abort, alloc: Global, store: &mut SqliteStore<S>, wanted: &[Entry]) {
+    has(rt, alloc, store, &[]);
+    adds_all(rt, store, wanted);
+    has(rt, alloc, store, wanted);
+}
+
+#[test]
+fn in_memory(rt: HostRuntime) {
+    let wanted = entries_of(&rt, rt.alloc());
+    let mut store = SqliteStore::in_memory(rt.alloc()).expect(&rt, "a store");
+    keeps(&rt, rt.alloc(), &mut store, &wanted);
+}
+
+fn opened(rt: &impl Abort, alloc: Global, files: Files<Memory>) -> SqliteStore<FileStore<Memory>> {
+    assert!(rt; files.log.may_be_used());
+    assert!(rt; files.db.may_be_used());
+    SqliteStore::open_files(alloc, files, Options::new(1)).expect(rt, "a store")
+}
+
+fn closed(rt: &impl Abort, store: SqliteStore<FileStore<Memory>>) -> Files<Memory> {
+    match store.into_files() {
+        Ok(files) => files,
+        Err(_) => panic!(rt; "not closed"),
+    }
+}
+
+#[test]
+fn in_files(rt: HostRuntime) {
+    let wanted = entries_of(&rt, rt.alloc());
+    let files = Files {
+        log: Memory::new(rt.alloc()),
+        db: Memory::new(rt.alloc()),
+    };
+    let mut store = opened(&rt, rt.alloc(), files);
+    keeps(&rt, rt.alloc(), &mut store, &wanted);
+    let mut again = opened(&rt, rt.alloc(), closed(&rt, store));
+    has(&rt, rt.alloc(), &mut again, &wanted);
+    assert!(&rt; again.close() == Ok(()));
+}

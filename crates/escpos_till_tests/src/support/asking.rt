@@ -1,0 +1,41 @@
+//! What a till's arguments ask for, in a form that can be compared.
+
+use escpos_arguments::till_task_of;
+use escpos_jobs::task::NoTask;
+use escpos_till_jobs::TillTask;
+use std::alloc::Global;
+use std::net::{Ipv4Addr, SocketAddrV4};
+
+// A task with its ledger's path: the printer's address, how many opening marks, and whether there is a text for copies; or the
+// number that the next mark number is raised to.
+#[derive(Clone, Copy, PartialEq)]
+pub enum Plain<'a> {
+    Queue(&'a str),
+    Deliver(&'a str, SocketAddrV4, u32, bool),
+    List(&'a str, Option<u32>),
+}
+
+fn plain_of<'a>(task: TillTask<'a>) -> Plain<'a> {
+    match task {
+        TillTask::Queue { ledger } => Plain::Queue(ledger.text()),
+        TillTask::Deliver { ledger, delivery } => Plain::Deliver(
+            ledger.text(),
+            delivery.address,
+            delivery.openings,
+            delivery.copy.is_some(),
+        ),
+        TillTask::List { ledger, first } => Plain::List(ledger.text(), first),
+    }
+}
+
+// What these words ask for.
+pub fn asked_by<'a>(alloc: Global, words: &'a [&'a str]) -> Result<Plain<'a>, NoTask> {
+    match till_task_of(alloc, words) {
+        Ok(task) => Ok(plain_of(task)),
+        Err(why) => Err(why),
+    }
+}
+
+pub fn printer_address() -> SocketAddrV4 {
+    SocketAddrV4::new(Ipv4Addr::new(127, 0, 0, 1), 9100)
+}
