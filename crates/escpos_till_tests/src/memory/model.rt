@@ -34,7 +34,7 @@ fn begins_anew(rt: &impl Abort, till: &mut Till) {
 
 const FAILED: TillRefusal = TillRefusal::Ledger(LedgerError::Store(StoreFault::Memory));
 
-// Something happens. Where memory is refused, it happens again. Answers no where the store failed.
+// Something happens. Where memory is refused, it happens again. Answers no where the till began anew.
 fn happens_at_last(
     rt: &impl Abort,
     alloc: Global,
@@ -44,7 +44,9 @@ fn happens_at_last(
 ) -> bool {
     match happens(rt, alloc, till, by_call, plain) {
         Ok(()) => true,
-        Err(why) if why == FAILED => {
+        // (a receipt that was to be recorded is let go)
+        Err(why) if why == FAILED || plain == Plain::Record => {
+            assert!(rt; why == FAILED || is_memory(why));
             begins_anew(rt, till);
             false
         }
@@ -56,7 +58,7 @@ fn happens_at_last(
     }
 }
 
-// S is taken, and delivered. Answers no where the store failed.
+// S is taken, and delivered. Answers no where the till began anew.
 fn takes(rt: &impl Abort, alloc: Global, till: &mut Till, by_call: bool) {
     assert!(rt; happens_at_last(rt, alloc, till, by_call, Plain::Start));
     for plain in [Plain::Queue, Plain::Raise, Plain::Take] {
