@@ -1,23 +1,24 @@
 -- One more receipt is recorded: the entries, and what was printed of them.
-use Rattle.std.proofs.Common.{◌≡◌, ◌≢◌, ℕ, ◌+◌, ◌<◌, ◌≤◌, Bool, true, false, cond, List, [], ◌∷◌, ◌++◌, length, filter, Option, Some, None, Result, Ok, Err, OnOk, inl, inr, refl, sym, ◌∙◌, ap, subst, append-nil, append_assoc, arith}
+use Rattle.std.proofs.Common.{◌≡◌, ℕ, ◌+◌, ◌<◌, ◌≤◌, Bool, true, false, cond, List, [], ◌∷◌, ◌++◌, length, filter, Option, Some, None, Result, Ok, Err, OnOk, inl, inr, refl, sym, ◌∙◌, ap, subst, append-nil, append_assoc, arith}
 use Rattle.std.proofs.lemmas.Bool.Decides.{nat_tests}
 use Rattle.std.proofs.lemmas.Grind.{flat_map-append}
-use Rattle.std.proofs.KnownBytes.{Appends-trans}
+use Rattle.std.proofs.KnownBytes.{Appends-nil, Appends-trans}
 use Rattle.std.proofs.lemmas.List.Elements.{filter_map-append}
 use Rattle.std.specs.Prelude.{◌==◌, IsTrue, MatchOption, flat_map, is_none, slice_get}
-use Rattle.std.specs.List.{filter_map, position_from}
+use Rattle.std.specs.List.{position_from}
 use Rattle.std.specs.Io.KnownBytes.{Appends}
 use Rattle.escpos_host.specs.declared.send.Sent.{Sent}
 use Rattle.escpos_host.specs.declared.send.Sent.TheVariants as became
 use Rattle.escpos_jobs.specs.declared.status.Status.{Status}
-use Rattle.escpos_jobs.specs.Ending.{JobEnd, Tells, job_end}
+use Rattle.escpos_jobs.specs.Ending.{Tells, job_end}
 use Rattle.escpos_till.specs.declared.deliver.Delivered.TheVariants as delivered
 use Rattle.escpos_till.specs.declared.entry.Entry.{Entry}
 use Rattle.escpos_till.specs.declared.entry.Entry.TheVariants as entry
-use Rattle.escpos_till.specs.Delivers.{Concludes, Delivers, Link, Tries}
-use Rattle.escpos_till.specs.Entries.{Taken, content_of, contents, numbered_from, record_of, recorded, taken, waiting}
-use Rattle.escpos_till.specs.Ledger.{Adds, FirstWaits, LedgerView}
-use Rattle.escpos_till_jobs.specs.Delivering.{DeliversAndTells, Ends, IsDelivered, IsFirst, RoundEnds}
+use Rattle.escpos_till.specs.Delivers.{Concludes, Delivers, Link}
+use Rattle.escpos_till.specs.Entries.{Taken, content_of, contents, numbered_from, record_of, recorded, waiting}
+use Rattle.escpos_till.specs.Ledger.{Adds, LedgerView}
+use Rattle.escpos_till_jobs.specs.Delivering.{DeliversAndTells, Ends, IsDelivered, IsDeliveredOver, IsFirst, RoundEnds, Rounds}
+use Rattle.escpos_till_jobs.specs.declared.deliver.Delivery.{Delivery}
 use Rattle.escpos_till_jobs.specs.Lines.{recorded_line}
 
 -- ## Fewer receipts wait
@@ -107,10 +108,10 @@ number_of : Option Taken → ℕ
 number_of None = 0
 number_of (Some receipt) = receipt.number
 
-pub round : {S : Type 0} (Held : LedgerView S → Type 0) (copy : Option (List ℕ)) (old new : LedgerView S) (first m : ℕ) → IsFirst old.entries first
-    → IsDelivered Held copy old (delivered.Recorded m) new → IsRound old.entries new.entries first
+pub round : {S : Type 0} (Held : LedgerView S → Type 0) (copy : Option (List ℕ)) (link : Link) (old new : LedgerView S) (first m : ℕ) → IsFirst old.entries first
+    → Delivers Held link copy old (delivered.Recorded m) new → IsRound old.entries new.entries first
 unfolding number_of
-round Held copy old new first m (content, tried, waits) (link, happened) =
+round Held copy link old new first m (content, tried, waits) happened =
     let (number, sent, mid, tries, done) = happened in
     let same : number ≡ first = ap number_of (sym tries.due.first.first ∙ waits.first) in
     let added = concluded mid number m sent new done in
@@ -119,6 +120,27 @@ round Held copy old new first m (content, tried, waits) (link, happened) =
       records = parts.0 ∙ ap (λ n. recorded old.entries ++ n ∷ []) same;
       fewer = fewer_wait old.entries new.entries number tries.due.content parts.0 parts.1 tries.due.first.first;
     }
+
+-- It was delivered under its own number.
+told_number : {S : Type 0} (mid : LedgerView S) (number m : ℕ) (sent : Sent) (new : LedgerView S) → Concludes mid number sent (delivered.Recorded m) new → m ≡ number
+told_number mid number m (became.Recorded place) new done = done.0
+told_number mid number m (became.NotRecorded why receipt) new done = absurd done
+
+pub under_its_number : {S : Type 0} (Held : LedgerView S → Type 0) (copy : Option (List ℕ)) (link : Link) (old new : LedgerView S) (first m : ℕ) → IsFirst old.entries first
+    → Delivers Held link copy old (delivered.Recorded m) new → Delivers Held link copy old (delivered.Recorded first) new
+unfolding number_of
+under_its_number Held copy link old new first m (content, tried, waits) happened =
+    let (number, sent, mid, tries, done) = happened in
+    let same : number ≡ first = ap number_of (sym tries.due.first.first ∙ waits.first) in
+    subst (λ n. Delivers Held link copy old (delivered.Recorded n) new) (told_number mid number m sent new done ∙ same) happened
+
+pub over_its_number : {S : Type 0} (Held : LedgerView S → Type 0) (delivery : Delivery) (link : Link) (old new : LedgerView S) (first m : ℕ) → IsFirst old.entries first
+    → IsDeliveredOver Held delivery link old (delivered.Recorded m) new → IsDeliveredOver Held delivery link old (delivered.Recorded first) new
+over_its_number Held delivery link old new first m is_first over = record {
+  openings = over.openings;
+  most = over.most;
+  delivers = under_its_number Held delivery.copy link old new first m is_first over.delivers;
+}
 
 -- ## What is printed
 
@@ -129,50 +151,67 @@ tells_after before between after front line failed status wanted so_far (inl (is
 tells_after before between after front line failed status wanted so_far (inr unheard) = inr unheard
 
 -- The receipts so far are recorded, and told.
-pub record SoFar {S : Type 0} (old now : LedgerView S) (before after : Option (List ℕ)) : Type 0 where
+pub record SoFar {S : Type 0} (Held : LedgerView S → Type 0) (delivery : Delivery) (old now : LedgerView S) (before after : Option (List ℕ)) : Type 0 where
   pub numbers : List ℕ
+  pub rounds : Rounds Held delivery old numbers now
   pub recorded : recorded now.entries ≡ recorded old.entries ++ numbers
   pub told : Appends before after (flat_map recorded_line numbers)
 
-pub none_so_far : {S : Type 0} (old : LedgerView S) (before : Option (List ℕ)) → Appends before before [] → SoFar old old before before
-none_so_far old before nothing = record { numbers = []; recorded = sym (append-nil (recorded old.entries)); told = nothing }
+pub none_so_far : {S : Type 0} (Held : LedgerView S → Type 0) (delivery : Delivery) (old : LedgerView S) (before : Option (List ℕ)) → SoFar Held delivery old old before before
+none_so_far Held delivery old before = record { numbers = []; rounds = Rounds.none; recorded = sym (append-nil (recorded old.entries)); told = Appends-nil before }
 
-pub one_more : {S : Type 0} (old now new : LedgerView S) (before between after : Option (List ℕ)) (number : ℕ) → SoFar old now before between
-    → recorded new.entries ≡ recorded now.entries ++ number ∷ [] → Appends between after (recorded_line number) → SoFar old new before after
-one_more old now new before between after number so_far records line = record {
+pub one_more : {S : Type 0} (Held : LedgerView S → Type 0) (delivery : Delivery) (old now new : LedgerView S) (before between after : Option (List ℕ)) (number : ℕ)
+    → SoFar Held delivery old now before between → IsFirst now.entries number → IsDelivered Held delivery now (delivered.Recorded number) new
+    → Appends between after (recorded_line number) → SoFar Held delivery old new before after
+one_more Held delivery old now new before between after number so_far first (link, happened) line = record {
   numbers = so_far.numbers ++ number ∷ [];
-  recorded = records ∙ ap (λ r. r ++ number ∷ []) so_far.recorded ∙ append_assoc (recorded old.entries) so_far.numbers (number ∷ []);
+  rounds = Rounds.more so_far.numbers now new number (so_far.numbers ++ number ∷ []) so_far.rounds first (link, happened) refl;
+  recorded =
+      (round Held delivery.copy link now new number number first happened.delivers).records ∙ ap (λ r. r ++ number ∷ []) so_far.recorded
+      ∙ append_assoc (recorded old.entries) so_far.numbers (number ∷ []);
   told =
       subst (Appends before after) (sym (flat_map-append recorded_line so_far.numbers (number ∷ []) ∙ ap (λ t. flat_map recorded_line so_far.numbers ++ t) (append-nil (recorded_line number))))
       (Appends-trans before between after (flat_map recorded_line so_far.numbers) (recorded_line number) so_far.told line);
 }
 
+pub fewer_left : {S : Type 0} (Held : LedgerView S → Type 0) (delivery : Delivery) (now new : LedgerView S) (number : ℕ) → IsFirst now.entries number
+    → IsDelivered Held delivery now (delivered.Recorded number) new → length (waiting new.entries) < length (waiting now.entries)
+fewer_left Held delivery now new number first (link, happened) = (round Held delivery.copy link now new number number first happened.delivers).fewer
+
 -- How it ends, after the receipts so far.
-pub ends_here : {S : Type 0} (Held : LedgerView S → Type 0) (copy : Option (List ℕ)) (old now new : LedgerView S) (before between after : Option (List ℕ)) (failed : Bool)
-    (status wanted : Status) (line : List ℕ) → SoFar old now before between → Ends Held copy now new line wanted → Tells (job_end between after failed status) line wanted
-    → DeliversAndTells Held copy old new (job_end before after failed status)
-ends_here Held copy old now new before between after failed status wanted line so_far ends tells = record {
+pub ends_here : {S : Type 0} (Held : LedgerView S → Type 0) (delivery : Delivery) (old now new : LedgerView S) (before between after : Option (List ℕ)) (failed : Bool)
+    (status wanted : Status) (line : List ℕ) → SoFar Held delivery old now before between → Ends Held delivery now new line wanted → Tells (job_end between after failed status) line wanted
+    → DeliversAndTells Held delivery old new (job_end before after failed status)
+ends_here Held delivery old now new before between after failed status wanted line so_far ends tells = record {
   numbers = so_far.numbers;
   middle = now;
+  rounds = so_far.rounds;
   recorded = so_far.recorded;
   ends = inr (line, wanted, ends, tells_after before between after (flat_map recorded_line so_far.numbers) line failed status wanted so_far.told tells);
 }
 
-pub round_ends : {S : Type 0} (Held : LedgerView S → Type 0) (copy : Option (List ℕ)) (old now new : LedgerView S) (before between after : Option (List ℕ)) (failed : Bool)
-    (status : Status) (number : ℕ) → SoFar old now before between → RoundEnds Held copy now number new (job_end between after failed status)
-    → DeliversAndTells Held copy old new (job_end before after failed status)
-round_ends Held copy old now new before between after failed status number so_far (inl (records, unheard)) = record {
+pub round_ends : {S : Type 0} (Held : LedgerView S → Type 0) (delivery : Delivery) (old now new : LedgerView S) (before between after : Option (List ℕ)) (failed : Bool)
+    (status : Status) (number : ℕ) → SoFar Held delivery old now before between → IsFirst now.entries number → RoundEnds Held delivery now number new (job_end between after failed status)
+    → DeliversAndTells Held delivery old new (job_end before after failed status)
+round_ends Held delivery old now new before between after failed status number so_far first (inl ((link, happened), unheard)) = record {
   numbers = so_far.numbers ++ number ∷ [];
   middle = new;
-  recorded = records ∙ ap (λ r. r ++ number ∷ []) so_far.recorded ∙ append_assoc (recorded old.entries) so_far.numbers (number ∷ []);
+  rounds = Rounds.more so_far.numbers now new number (so_far.numbers ++ number ∷ []) so_far.rounds first (link, happened) refl;
+  recorded =
+      (round Held delivery.copy link now new number number first happened.delivers).records ∙ ap (λ r. r ++ number ∷ []) so_far.recorded
+      ∙ append_assoc (recorded old.entries) so_far.numbers (number ∷ []);
   ends = inl (refl, unheard);
 }
-round_ends Held copy old now new before between after failed status number so_far (inr (line, wanted, ends, tells)) =
-    ends_here Held copy old now new before between after failed status wanted line so_far ends tells
+round_ends Held delivery old now new before between after failed status number so_far first (inr (line, wanted, ends, tells)) =
+    ends_here Held delivery old now new before between after failed status wanted line so_far ends tells
 
 pub if_none : {X : Type 0} (P : Type 0) (Q : X → Type 0) (o : Option X) → MatchOption o P Q → o ≡ None → P
 if_none P Q None p is = p
 if_none P Q (Some x) q is = absurd cc
+
+pub if_some : {X : Type 0} (P : Type 0) (Q : X → Type 0) (o : Option X) (x : X) → MatchOption o P Q → o ≡ Some x → Q x
+if_some P Q None x p is = absurd cc
+if_some P Q (Some y) x q is = let same : y ≡ x = cc in subst Q same q
 
 pub any_ok : {T E : Type 0} {P : Type 0} (r : Result T E) → P → OnOk r P
 any_ok (Ok x) p = p

@@ -15,6 +15,8 @@ use Rattle.escpos_till.specs.declared.error.LedgerError.TheVariants as error
 use Rattle.escpos_till.specs.Delivers.{Delivers, Link}
 use Rattle.escpos_till.specs.Entries.{recorded, waiting}
 use Rattle.escpos_till.specs.Ledger.{FirstWaits, HasFailed, IsLive, LedgerView}
+use Rattle.escpos_jobs.specs.declared.send.TheConstants.{ANSWERS_LIMIT}
+use Rattle.escpos_till_jobs.specs.declared.deliver.Delivery.{Delivery}
 use Rattle.escpos_till_jobs.specs.Lines.{ledger_refusal, ledger_status, recorded_line, waiting_line}
 
 -- ## What is printed of one receipt
@@ -52,34 +54,59 @@ IsRecorded d = (number : ℕ) × (d ≡ delivered.Recorded number)
 abbrev pub IsFirst : List Entry → ℕ → Type 0
 IsFirst entries number = (content : List ℕ) × (tried : ℕ) × FirstWaits entries number content tried
 
--- Over some link `deliver_one` answered this. `Held` says of a ledger that its store holds it.
-abbrev pub IsDelivered : {S : Type 0} → (LedgerView S → Type 0) → Option (List ℕ) → LedgerView S → Delivered → LedgerView S → Type 0
-IsDelivered Held copy old d new = (l : Link) × Delivers Held l copy old d new
+-- The link of a delivery, by what its source and its sink say before it and after it.
+abbrev pub link_of : Delivery → Option (List ℕ) → Option (List ℕ) → Option (List ℕ) → Option (List ℕ) → Link
+link_of delivery came_before came_after put_before put_after = record {
+  openings = delivery.openings;
+  most = ANSWERS_LIMIT;
+  came_before = came_before;
+  came_after = came_after;
+  put_before = put_before;
+  put_after = put_after;
+}
+
+-- Over this link, whose opening marks and answers are as many as they are to be, `deliver_one` answered this. `Held` says of a
+-- ledger that its store holds it.
+pub record IsDeliveredOver {S : Type 0} (Held : LedgerView S → Type 0) (delivery : Delivery) (l : Link) (old : LedgerView S) (d : Delivered) (new : LedgerView S) : Type 0 where
+  pub openings : l.openings ≡ delivery.openings
+  pub most : l.most ≡ ANSWERS_LIMIT
+  pub delivers : Delivers Held l delivery.copy old d new
+
+-- The same over some link.
+abbrev pub IsDelivered : {S : Type 0} → (LedgerView S → Type 0) → Delivery → LedgerView S → Delivered → LedgerView S → Type 0
+IsDelivered Held delivery old d new = (l : Link) × IsDeliveredOver Held delivery l old d new
+
+-- Receipts were delivered and recorded, one after another, each the first that waited; nothing else happened to the ledger.
+pub data Rounds {S : Type 0} (Held : LedgerView S → Type 0) (delivery : Delivery) (old : LedgerView S) : List ℕ → LedgerView S → Type 0 where
+  none : Rounds Held delivery old [] old
+  more : (numbers : List ℕ) (now new : LedgerView S) (first : ℕ) (all : List ℕ) → Rounds Held delivery old numbers now → IsFirst now.entries first
+      → IsDelivered Held delivery now (delivered.Recorded first) new → all ≡ numbers ++ first ∷ [] → Rounds Held delivery old all new
 
 -- Why no further receipt is sent, the line that says so, and the status: none waits; the ledger has failed; there is no
 -- connection; or the receipt isn't recorded.
-pub data Ends {S : Type 0} (Held : LedgerView S → Type 0) (copy : Option (List ℕ)) (old new : LedgerView S) : List ℕ → Status → Type 0 where
-  nothing_waits : IsLive old → waiting old.entries ≡ [] → new ≡ old → Ends Held copy old new [] Good
-  has_failed : HasFailed old → new ≡ old → Ends Held copy old new (ledger_refusal error.Failed) (ledger_status error.Failed)
-  no_link : (first : ℕ) → IsFirst old.entries first → new ≡ old → Ends Held copy old new (waiting_line first (codes "no link")) Device
-  not_recorded : (first : ℕ) (d : Delivered) → IsFirst old.entries first → IsDelivered Held copy old d new → ¬ IsRecorded d
-      → Ends Held copy old new (delivered_line first d) (delivered_status d)
+pub data Ends {S : Type 0} (Held : LedgerView S → Type 0) (delivery : Delivery) (old new : LedgerView S) : List ℕ → Status → Type 0 where
+  nothing_waits : IsLive old → waiting old.entries ≡ [] → new ≡ old → Ends Held delivery old new [] Good
+  has_failed : HasFailed old → new ≡ old → Ends Held delivery old new (ledger_refusal error.Failed) (ledger_status error.Failed)
+  no_link : (first : ℕ) → IsFirst old.entries first → new ≡ old → Ends Held delivery old new (waiting_line first (codes "no link")) Device
+  not_recorded : (first : ℕ) (d : Delivered) → IsFirst old.entries first → IsDelivered Held delivery old d new → ¬ IsRecorded d
+      → Ends Held delivery old new (delivered_line first d) (delivered_status d)
 
 -- The output failed, and so nothing more is sent.
 abbrev pub IsUnheard : JobEnd → Type 0
 IsUnheard o = (o.status ≡ Device) × IsTrue o.failed
 
 -- One receipt is recorded, which the output didn't take; or none is, and the line says why.
-abbrev pub RoundEnds : {S : Type 0} → (LedgerView S → Type 0) → Option (List ℕ) → LedgerView S → ℕ → LedgerView S → JobEnd → Type 0
-RoundEnds Held copy old number new o =
-    ((recorded new.entries ≡ recorded old.entries ++ number ∷ []) × IsUnheard o)
-    ⊎ ((line : List ℕ) × (status : Status) × Ends Held copy old new line status × Tells o line status)
+abbrev pub RoundEnds : {S : Type 0} → (LedgerView S → Type 0) → Delivery → LedgerView S → ℕ → LedgerView S → JobEnd → Type 0
+RoundEnds Held delivery old number new o =
+    (IsDelivered Held delivery old (delivered.Recorded number) new × IsUnheard o)
+    ⊎ ((line : List ℕ) × (status : Status) × Ends Held delivery old new line status × Tells o line status)
 
 -- Receipts are recorded, and a line is printed for each; then comes the line that says why no further one is sent, unless the
 -- output failed.
-pub record DeliversAndTells {S : Type 0} (Held : LedgerView S → Type 0) (copy : Option (List ℕ)) (old new : LedgerView S) (o : JobEnd) : Type 0 where
+pub record DeliversAndTells {S : Type 0} (Held : LedgerView S → Type 0) (delivery : Delivery) (old new : LedgerView S) (o : JobEnd) : Type 0 where
   pub numbers : List ℕ
   pub middle : LedgerView S
+  pub rounds : Rounds Held delivery old numbers middle
   pub recorded : recorded middle.entries ≡ recorded old.entries ++ numbers
-  pub ends : ((new ≡ middle) × IsUnheard o) ⊎ ((line : List ℕ) × (status : Status) × Ends Held copy middle new line status
+  pub ends : ((new ≡ middle) × IsUnheard o) ⊎ ((line : List ℕ) × (status : Status) × Ends Held delivery middle new line status
       × Tells o (flat_map recorded_line numbers ++ line) status)

@@ -10,12 +10,12 @@ ghost use Rattle.escpos_jobs.specs.Send.{status_of_fault};
 ghost use Rattle.escpos_till.specs.Entries.{recorded, waiting};
 ghost use Rattle.escpos_till.specs.Ledger.{HasFailed, IsKept, IsLive};
 ghost use Rattle.escpos_till_jobs.specs.Lines.{recorded_line, waiting_line};
-ghost use Rattle.escpos_till_jobs.specs.Delivering.{DeliversAndTells, IsDelivered, IsFirst, IsRecorded, RoundEnds, delivered_line, delivered_status};
+ghost use Rattle.escpos_till_jobs.specs.Delivering.{DeliversAndTells, IsDelivered, IsDeliveredOver, IsFirst, IsRecorded, RoundEnds, delivered_line, delivered_status, link_of};
 
 use crate::refusal::{refuse_call, tell_text};
 use escpos_command::LF;
 use escpos_host::{HostError, JsonError, SendFault};
-use escpos_io::{ByteOut, Gather, Incoming, Outgoing, append_number, laws};
+use escpos_io::{ByteIn, ByteOut, Gather, Incoming, Outgoing, append_number, laws};
 use escpos_jobs::ending::MEMORY;
 use escpos_jobs::send::{ANSWERS_LIMIT, is_memory_fault};
 use escpos_jobs::status::Status;
@@ -47,7 +47,7 @@ pub fn deliver_waiting<N: Net<Stream = TcpStream>, S: Store, W: ByteOut>(
     delivery: &Delivery<'_>,
     output: &mut W,
 ) -> Status
-    ensures delivers { DeliversAndTells (IsKept S.faithful S.holds S.leaves) delivery.now.copy ledger.old ledger.new
+    ensures delivers { DeliversAndTells (IsKept S.faithful S.holds S.leaves) delivery.now ledger.old ledger.new
         (job_end (W.written output.old) (W.written output.new) (W.failed output.new) result) }
     ensures was_faithful { S.faithful ledger.new.store → S.faithful ledger.old.store }
     ensures not_hidden { result ≢ Status.Device → ¬ IsTrue (W.failed output.old) → ¬ IsTrue (W.failed output.new) }
@@ -89,47 +89,106 @@ fn deliver_next<N: Net<Stream = TcpStream>, S: Store, W: ByteOut>(
     output: &mut W,
 ) -> Result<(), Status>
     requires first { IsFirst ledger.old.entries number }
-    ensures recorded { OnOk result (recorded ledger.new.entries ≡ recorded ledger.old.entries ++ number ∷ []) }
-    ensures fewer { OnOk result (length (waiting ledger.new.entries) < length (waiting ledger.old.entries)) }
+    ensures delivered { OnOk result (IsDelivered (IsKept S.faithful S.holds S.leaves) delivery.now ledger.old (Delivered.Recorded number) ledger.new) }
     ensures told { OnOk result (Appends (W.written output.old) (W.written output.new) (recorded_line number)) }
     ensures not_failed { OnOk result (¬ IsTrue (W.failed output.old) → ¬ IsTrue (W.failed output.new)) }
-    ensures ended { IfErr result (λ status. RoundEnds (IsKept S.faithful S.holds S.leaves) delivery.now.copy ledger.old number ledger.new
+    ensures ended { IfErr result (λ status. RoundEnds (IsKept S.faithful S.holds S.leaves) delivery.now ledger.old number ledger.new
         (job_end (W.written output.old) (W.written output.new) (W.failed output.new) status)) }
     ensures was_faithful { S.faithful ledger.new.store → S.faithful ledger.old.store }
     ensures not_hidden { IfErr result (λ status. status ≢ Status.Device → ¬ IsTrue (W.failed output.old) → ¬ IsTrue (W.failed output.new)) }
     ensures never_usage { IfErr result (λ status. status ≢ Status.Usage) }
 {
-    let delivered = match TcpStream::connect(net, delivery.address) {
-        Ok(stream) => deliver_over(alloc, ledger, delivery, &stream),
-        Err(_) => return Err(tell_waiting(number, b"no link", Status::Device, output)),
-    };
+    match TcpStream::connect(net, delivery.address) {
+        Ok(stream) => deliver_on(alloc, ledger, number, delivery, &stream, output),
+        Err(_) => Err(tell_waiting(number, b"no link", Status::Device, output)),
+    }
+}
+
+// Sends the first receipt that waits over a stream, and prints what became of it. A wait for the printer lasts as long as the
+// stream.
+fn deliver_on<S: Store, W: ByteOut>(
+    alloc: Global,
+    ledger: &mut Ledger<S>,
+    number: ReceiptNumber,
+    delivery: &Delivery<'_>,
+    stream: &TcpStream,
+    output: &mut W,
+) -> Result<(), Status>
+    requires first { IsFirst ledger.old.entries number }
+    ensures delivered { OnOk result (IsDelivered (IsKept S.faithful S.holds S.leaves) delivery.now ledger.old (Delivered.Recorded number) ledger.new) }
+    ensures told { OnOk result (Appends (W.written output.old) (W.written output.new) (recorded_line number)) }
+    ensures not_failed { OnOk result (¬ IsTrue (W.failed output.old) → ¬ IsTrue (W.failed output.new)) }
+    ensures ended { IfErr result (λ status. RoundEnds (IsKept S.faithful S.holds S.leaves) delivery.now ledger.old number ledger.new
+        (job_end (W.written output.old) (W.written output.new) (W.failed output.new) status)) }
+    ensures was_faithful { S.faithful ledger.new.store → S.faithful ledger.old.store }
+    ensures not_hidden { IfErr result (λ status. status ≢ Status.Device → ¬ IsTrue (W.failed output.old) → ¬ IsTrue (W.failed output.new)) }
+    ensures never_usage { IfErr result (λ status. status ≢ Status.Usage) }
+{
+    // the marks and the receipt go out at once; a stream that can't do so is used as it is
+    let _ = stream.set_nodelay(true);
+    let mut reader = Incoming::new(stream);
+    let mut writer = Outgoing::new(stream);
+    deliver_over(
+        alloc,
+        ledger,
+        number,
+        delivery,
+        &mut reader,
+        &mut writer,
+        output,
+    )
+}
+
+/// Sends the first receipt that waits, which has this number, over a source of answers and a sink, and prints what became of
+/// it, as `deliver_waiting` does. The error is the status where no further one is sent.
+pub fn deliver_over<S: Store, R: ByteIn, A: ByteOut, W: ByteOut>(
+    alloc: Global,
+    ledger: &mut Ledger<S>,
+    number: ReceiptNumber,
+    delivery: &Delivery<'_>,
+    reader: &mut R,
+    writer: &mut A,
+    output: &mut W,
+) -> Result<(), Status>
+    requires first { IsFirst ledger.old.entries number }
+    ensures delivered { OnOk result (IsDeliveredOver (IsKept S.faithful S.holds S.leaves) delivery.now
+        (link_of delivery.now (R.to_come reader.old) (R.to_come reader.new) (A.written writer.old) (A.written writer.new))
+        ledger.old (Delivered.Recorded number) ledger.new) }
+    ensures told { OnOk result (Appends (W.written output.old) (W.written output.new) (recorded_line number)) }
+    ensures not_failed { OnOk result (¬ IsTrue (W.failed output.old) → ¬ IsTrue (W.failed output.new)) }
+    ensures ended { IfErr result (λ status. RoundEnds (IsKept S.faithful S.holds S.leaves) delivery.now ledger.old number ledger.new
+        (job_end (W.written output.old) (W.written output.new) (W.failed output.new) status)) }
+    ensures was_faithful { S.faithful ledger.new.store → S.faithful ledger.old.store }
+    ensures not_hidden { IfErr result (λ status. status ≢ Status.Device → ¬ IsTrue (W.failed output.old) → ¬ IsTrue (W.failed output.new)) }
+    ensures never_usage { IfErr result (λ status. status ≢ Status.Usage) }
+{
+    let delivered = delivered_over(alloc, ledger, delivery, reader, writer);
     match delivered {
         Delivered::Recorded(_) => tell_recorded(number, output),
         _ => Err(tell(number, delivered, output)),
     }
 }
 
-// Delivers the first receipt that waits over a stream. A wait for the printer lasts as long as the stream.
-fn deliver_over<S: Store>(
+// Delivers the first receipt that waits over a source of answers and a sink.
+fn delivered_over<S: Store, R: ByteIn, A: ByteOut>(
     alloc: Global,
     ledger: &mut Ledger<S>,
     delivery: &Delivery<'_>,
-    stream: &TcpStream,
+    reader: &mut R,
+    writer: &mut A,
 ) -> Delivered
-    ensures delivered { IsDelivered (IsKept S.faithful S.holds S.leaves) delivery.now.copy ledger.old result ledger.new }
+    ensures delivered { IsDeliveredOver (IsKept S.faithful S.holds S.leaves) delivery.now
+        (link_of delivery.now (R.to_come reader.old) (R.to_come reader.new) (A.written writer.old) (A.written writer.new))
+        ledger.old result ledger.new }
     ensures was_faithful { S.faithful ledger.new.store → S.faithful ledger.old.store }
 {
-    // the marks and the receipt go out at once; a stream that can't do so is used as it is
-    let _ = stream.set_nodelay(true);
-    let mut reader = Incoming::new(stream);
-    let mut writer = Outgoing::new(stream);
     deliver_one(
         ledger,
         alloc,
         delivery.openings,
         delivery.copy.as_ref(),
-        &mut reader,
-        &mut writer,
+        reader,
+        writer,
         ANSWERS_LIMIT,
     )
 }

@@ -12,7 +12,7 @@ mod queue;
 mod refusal;
 mod task;
 
-pub use deliver::{Delivery, deliver_waiting};
+pub use deliver::{Delivery, deliver_over, deliver_waiting};
 pub use listing::list;
 pub use opening::{open_ledger, refuse_store};
 pub use queue::{queue_receipt, read_receipt_text};

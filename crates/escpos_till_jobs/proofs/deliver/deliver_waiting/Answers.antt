@@ -5,7 +5,7 @@ use Rattle.escpos_jobs.specs.Ending.{Tells, job_end}
 use Rattle.escpos_till.specs.declared.error.LedgerError.TheVariants as error
 use Rattle.escpos_till_jobs.specs.Delivering.{Ends}
 use Rattle.escpos_till_jobs.specs.Lines.{ledger_refusal, ledger_status}
-use Rattle.escpos_till_jobs.proofs.Rounds.{ends_here, if_none, round_ends}
+use Rattle.escpos_till_jobs.proofs.Rounds.{ends_here, fewer_left, if_none, if_some, none_so_far, one_more, round_ends}
 use Rattle.escpos_till_jobs.proofs.deliver.deliver_waiting.Goals as goal
 
 pub returns-in-Ok-None-clause-delivers : goal.returns-in-Ok-None-clause-delivers
@@ -22,4 +22,26 @@ returns-in-Err-clause-delivers g c =
 
 pub returns-in-Err-deliver_next-clause-delivers : goal.returns-in-Err-deliver_next-clause-delivers
 returns-in-Err-deliver_next-clause-delivers g c =
-    round_ends _ _ _ _ _ _ _ _ _ _ c.in-Ok-Some.number c.loop-number.invariant.so_far c.in-Err-deliver_next.ensures.ended
+    round_ends _ _ _ _ _ _ _ _ _ _ c.in-Ok-Some.number c.loop-number.invariant.so_far (if_some _ _ c.in-Ok-Some.field-0 c.in-Ok-Some.number c.in-Ok-Some.ensures.first c.in-Ok-Some.field-0-is) c.in-Err-deliver_next.ensures.ended
+
+pub loop-number-init : goal.loop-number-init
+loop-number-init g c = record {
+  so_far = none_so_far _ c.args.delivery.now c.args.ledger.now (g.W.ByteOut.written c.args.output.now);
+  not_failed = λ well. well;
+  was_faithful = λ f. f;
+}
+
+pub loop-number-smaller : goal.loop-number-smaller
+loop-number-smaller g c =
+    let first = if_some _ _ c.in-Ok-Some.field-0 c.in-Ok-Some.number c.in-Ok-Some.ensures.first c.in-Ok-Some.field-0-is in
+    fewer_left _ c.args.delivery.now c.loop-number.ledger c.deliver_next.new.ledger c.in-Ok-Some.number first c.in_default.ensures.delivered
+
+pub loop-number-preserved : goal.loop-number-preserved
+loop-number-preserved g c =
+    let first = if_some _ _ c.in-Ok-Some.field-0 c.in-Ok-Some.number c.in-Ok-Some.ensures.first c.in-Ok-Some.field-0-is in
+    record {
+      so_far = one_more _ c.args.delivery.now c.args.ledger.now c.loop-number.ledger c.deliver_next.new.ledger _ _ _ c.in-Ok-Some.number c.loop-number.invariant.so_far first
+          c.in_default.ensures.delivered c.in_default.ensures.told;
+      not_failed = λ well. c.in_default.ensures.not_failed (c.loop-number.invariant.not_failed well);
+      was_faithful = λ f. c.loop-number.invariant.was_faithful (c.deliver_next.ensures.was_faithful f);
+    }

@@ -1,5 +1,5 @@
 -- The lines are kept back, and are printed at the end.
-use Rattle.std.proofs.Common.{inl, refl, [], subst, append_assoc}
+use Rattle.std.proofs.Common.{inl, refl, []}
 use Rattle.escpos_jobs.proofs.Reports.{succeeded}
 use Rattle.escpos_till_jobs.proofs.listing.print_states.Goals as goal
 

@@ -1,5 +1,5 @@
 -- The line of each receipt is given after those before it; if one failed, they are a prefix of all.
-use Rattle.std.proofs.Common.{◌≡◌, ◌+◌, ◌<◌, ◌≤◌, ◌++◌, ◌∙◌, Ok, Err, length, take, drop, get_or, ap, sym, arith}
+use Rattle.std.proofs.Common.{◌≡◌, ◌+◌, ◌<◌, ◌≤◌, ◌++◌, ◌∙◌, Ok, Err, length, take, drop, get_or, ap, arith}
 use Rattle.escpos_till.specs.declared.state.ReceiptState.TheVariants.{Waiting}
 use Rattle.escpos_till_jobs.specs.Lines.{state_line, state_lines}
 use Rattle.escpos_till_jobs.proofs.StateLines.{lines_and_rest, one_more_line}
