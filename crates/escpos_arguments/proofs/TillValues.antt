@@ -4,7 +4,8 @@ use Rattle.std.specs.Prelude.{◌≤◌, IfSome, IsSomeAnd}
 use Rattle.clap.specs.Words.{Row, first_of, one_of}
 use Rattle.escpos_arguments.specs.declared.arguments.TheConstants.{OPENINGS, MOST_OPENINGS}
 use Rattle.escpos_arguments.specs.Arguments.{IsAddress, IsNumberOr}
-use Rattle.escpos_arguments.specs.TillArguments.{AsksTillBy, IsCopyText, IsTillInRange}
+use Rattle.escpos_arguments.specs.TillArguments.{AsksTillBy, IsTillInRange}
+use Rattle.escpos_till.specs.Copy.{IsCopyText}
 use Rattle.std.specs.declared.net.socket_addr.SocketAddrV4.{SocketAddrV4}
 use Rattle.escpos_jobs.specs.declared.task.NoTask.{NoTask}
 use Rattle.escpos_jobs.specs.declared.task.NoTask.TheVariants.{Memory}

@@ -1,6 +1,5 @@
 -- The arguments of a till's words, `queue`, `deliver` and `ledger`, and what they ask for.
 use Rattle.std.specs.Prelude.{◌≡◌, ◌<◌, ◌≤◌, ℕ, ⊤, List, [], ◌∷◌, Option, Some, None, IfSome, IsSomeAnd, codes, length, true, false}
-use Rattle.std.specs.List.{AllPass}
 use Rattle.clap.specs.Words.{App, Row, Rule, Shape, Text, first_of, new_app, new_rule, one_of, with_rule, with_subcommand}
 use Rattle.clap.specs.Simple.{on_top}
 use Rattle.clap.specs.declared.builder.action.ArgAction.TheVariants.{Set}
@@ -8,7 +7,7 @@ use Rattle.escpos_command.specs.Digits.{mark_count}
 use Rattle.escpos_arguments.specs.declared.arguments.TheConstants.{OPENINGS, MOST_OPENINGS}
 use Rattle.escpos_arguments.specs.Arguments.{IsAddress, IsNumber, IsNumberOr, address_rule, option_rule}
 use Rattle.escpos_arguments.specs.ClapAnswers.{IsNumberIn}
-use Rattle.escpos_till.specs.Copy.{is_copy_character}
+use Rattle.escpos_till.specs.Copy.{IsCopyText}
 use Rattle.escpos_till_jobs.specs.declared.task.TillTask.{TillTask}
 use Rattle.escpos_till_jobs.specs.declared.task.TillTask.TheVariants.{Queue, Deliver, List as listing}
 
@@ -33,12 +32,6 @@ AsksTillBy name rows (listing ledger first) = (name ≡ codes "ledger")
 -- what `clap` finds in the arguments, a name and the values after it, asks for the task
 abbrev pub AsksTill : Option (Text × List Row) → TillTask → Type 0
 AsksTill found task = IsSomeAnd found (λ p. AsksTillBy p.0 p.1 task)
-
--- a copy's text may be printed in a line
-pub record IsCopyText (text : List ℕ) : Type 0 where
-  pub some : 0 < length text
-  pub few : length text ≤ 42
-  pub plain : AllPass is_copy_character text
 
 -- the values of the task are in range
 abbrev pub IsTillInRange : TillTask → Type 0

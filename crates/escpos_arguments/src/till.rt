@@ -3,9 +3,10 @@
 ghost use Rattle.std.specs.Prelude.{◌≡◌, ◌≢◌, ◌⊎◌, ◌≤◌, ◌<◌, ℕ, Err, None, Ok, Option, Some, [], ◌∷◌, Contains, IfErr, IfOk, IfSome, IsSomeAnd, IsTrue, codes, false, map, ◌↔◌};
 ghost use Rattle.clap.specs.Words.{HasKind, IsAmong, Text, app_of, fault_of, first_of, found_of, kind_of, one_of, rows_of, rule_of, subcommand_of, subcommand_rows_of};
 ghost use Rattle.escpos_command.specs.Digits.{mark_count};
+ghost use Rattle.escpos_till.specs.Copy.{IsCopyText};
 ghost use Rattle.escpos_till_jobs.specs.declared.task.TillTask.{TillTask};
 ghost use Rattle.escpos_arguments.specs.ClapAnswers.{IsNumberIn};
-ghost use Rattle.escpos_arguments.specs.TillArguments.{AsksTill, AsksTillBy, IsCopyText, IsTillInRange, deliver_words, ledger_rule, ledger_words, queue_words, till_names, till_words};
+ghost use Rattle.escpos_arguments.specs.TillArguments.{AsksTill, AsksTillBy, IsTillInRange, deliver_words, ledger_rule, ledger_words, queue_words, till_names, till_words};
 
 use crate::arguments::{
     MOST_OPENINGS, OPENINGS, address, address_of, count_of, no_task, number_given, option,

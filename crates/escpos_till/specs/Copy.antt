@@ -1,11 +1,19 @@
 -- The line that comes before a receipt which may be on the paper already.
-use Rattle.std.specs.Prelude.{ℕ, Bool, ◌&&◌, nat_le, Option, Some, None, nat_lt, if◌then◌else◌, List, [], ◌∷◌, ◌++◌, map}
+use Rattle.std.specs.Prelude.{ℕ, Bool, ◌&&◌, ◌<◌, ◌≤◌, nat_le, Option, Some, None, nat_lt, if◌then◌else◌, List, [], ◌∷◌, ◌++◌, length, map}
+use Rattle.std.specs.List.{AllPass}
 use Rattle.escpos_command.specs.declared.command.Command.{Command}
 use Rattle.escpos_command.specs.declared.command.Command.TheVariants as kind
+use Rattle.escpos_till.specs.declared.copy.TheConstants.{COPY_CHARACTERS}
 
 -- A character that such a line may have, 20 to 7E hexadecimal.
 abbrev pub is_copy_character : ℕ → Bool
 is_copy_character b = nat_le 0x20 b && nat_le b 0x7E
+
+-- The text of such a line.
+pub record IsCopyText (text : List ℕ) : Type 0 where
+  pub some : 0 < length text
+  pub short : length text ≤ COPY_CHARACTERS
+  pub plain : AllPass is_copy_character text
 
 -- A line with this text, centred and emphasised; then emphasis is off and lines are at the left, as after Init.
 abbrev pub copy_line : List ℕ → List Command

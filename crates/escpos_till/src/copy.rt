@@ -1,10 +1,10 @@
 //! The line that comes before a receipt which may be on the paper already.
 
-ghost use Rattle.std.specs.Prelude.{◌≡◌, ◌<◌, ◌≤◌, ◌++◌, ℕ, List, length, map, IfOk, OnOk};
+ghost use Rattle.std.specs.Prelude.{◌≡◌, ◌++◌, List, map, IfOk, OnOk};
 ghost use Rattle.escpos_command.specs.declared.command.Command.TheVariants.{Char};
 ghost use Rattle.std.specs.List.{AllPass};
 ghost use Rattle.std.specs.Option.{SomeIff};
-ghost use Rattle.escpos_till.specs.Copy.{copy_line, is_copy_character};
+ghost use Rattle.escpos_till.specs.Copy.{IsCopyText, copy_line, is_copy_character};
 
 use escpos_command::{Align, Character, Command, Emphasis, laws};
 use escpos_receipt::Receipt;
@@ -25,20 +25,19 @@ pub struct CopyText<'a> {
 
 impl<'a> Model for CopyText<'a> {
     ghost use Rattle.std.specs.Prelude.{ℕ, List};
-    ghost use Rattle.std.specs.List.{AllPass};
-    ghost use Rattle.escpos_till.specs.Copy.{is_copy_character};
+    ghost use Rattle.escpos_till.specs.Copy.{IsCopyText};
 
     ghost Value = { List ℕ };
 
     ghost view = { λ t. t.text.now };
 
-    ghost invariant = { λ t. AllPass is_copy_character t.text.now };
+    ghost invariant = { λ t. IsCopyText t.text.now };
 }
 
 impl<'a> CopyText<'a> {
     /// The text of these bytes; `None` if there is none, or there are more than 42, or one of them isn't 20 to 7E.
     pub fn new(text: &'a [u8]) -> Option<Self>
-        ensures { SomeIff result ((0 < length text.now) × (length text.now ≤ 42) × AllPass is_copy_character text.now) text.now }
+        ensures { SomeIff result (IsCopyText text.now) text.now }
     {
         let short = !text.is_empty() && text.len() <= COPY_CHARACTERS;
         if short && text.iter().all(|byte| is_copy_character(*byte)) {
@@ -48,10 +47,10 @@ impl<'a> CopyText<'a> {
         }
     }
 
-    // Each byte is a character.
-    fn characters(&self) -> &'a [u8]
+    /// Its bytes, each of which is a character.
+    pub fn text(&self) -> &'a [u8]
         ensures same { result.now ≡ self.now }
-        ensures characters { AllPass is_copy_character result.now }
+        ensures is { IsCopyText result.now }
     {
         self.text
     }
@@ -87,7 +86,7 @@ fn push_copy_line(commands: &mut Vec<Command>, text: &CopyText<'_>) -> Result<()
 {
     commands.push(Command::Align(Align::new(1).unwrap()))?;
     commands.push(Command::Emphasis(Emphasis::new(1).unwrap()))?;
-    push_characters(commands, text.characters())?;
+    push_characters(commands, text.text())?;
     commands.push(Command::LineFeed)?;
     commands.push(Command::Emphasis(Emphasis::new(0).unwrap()))?;
     commands.push(Command::Align(Align::new(0).unwrap()))?;

@@ -5,15 +5,11 @@
 
 ghost use Rattle.std.specs.Prelude.{◌≡◌, ◌≢◌, ◌+◌, ◌-◌, ◌^◌, ◌<◌, ◌≤◌, min, max, ℕ, List, Option, Some, None, [], ◌++◌, length, IsTrue, option_map, MatchOption, IfOk, IfErr, OnOk};
 ghost use Rattle.std.specs.Io.KnownBytes.{Appends, Consumes};
-ghost use Rattle.escpos_command.specs.declared.command.Command.{Command};
-ghost use Rattle.escpos_till.specs.Delivers.{Concludes, Delivers, Due, Exchange, PutsMarks, RefusesDue, WhyNone, marks_taken};
-ghost use Rattle.escpos_till.specs.Copy.{sent_of};
-ghost use Rattle.escpos_receipt.specs.Describes.{Describes};
-ghost use Rattle.escpos_receipt.specs.Whole.{Whole};
+ghost use Rattle.escpos_till.specs.Delivers.{Concludes, Delivers, Due, Exchange, PutsMarks, RefusesDue, marks_taken};
 ghost use Rattle.escpos_till.specs.Entries.{next_free, waiting};
 ghost use Rattle.escpos_till.specs.Ledger.{FirstWaits, HasFailed, IsKept, IsLive};
 
-use crate::copy::{CopyText, with_copy};
+use crate::copy::CopyText;
 use crate::error::LedgerError;
 use crate::ledger::Ledger;
 use crate::number::ReceiptNumber;
@@ -186,7 +182,7 @@ fn next_due<S: Store>(
         Ok(None) => return Ok(None),
         Err(why) => return Err(Delivered::NotTried(why)),
     };
-    match receipt_of(alloc, waiting.content, waiting.tried, copy) {
+    match waiting.to_send(alloc, copy) {
         Ok(receipt) => Ok(Some(DueReceipt {
             number: waiting.number,
             receipt,
@@ -198,26 +194,9 @@ fn next_due<S: Store>(
     }
 }
 
-// What is sent of a receipt with this text, which was tried so often.
-fn receipt_of(
-    alloc: Global,
-    content: &[u8],
-    tried: usize,
-    copy: Option<&CopyText<'_>>,
-) -> Result<Receipt, JsonError>
-    ensures receipt { IfOk result (λ sent. (receipt : List Command) × Describes content.now receipt × Whole receipt
-        × (sent ≡ sent_of (option_map (λ t. t.now) copy.entry) tried receipt)) }
-    ensures refused { IfErr result (λ why. WhyNone why content.now) }
-{
-    let receipt = Receipt::from_json(alloc, content)?;
-    match copy {
-        Some(text) if tried > 0 => Ok(with_copy(alloc, text, &receipt)?),
-        _ => Ok(receipt),
-    }
-}
-
-// How many mark numbers a call takes; if that can't be counted, more than there are.
-fn marks_taken(openings: u32) -> u32
+/// How many mark numbers `deliver_one` takes: one for each opening mark, at least one, and one for the closing mark. If that
+/// can't be counted, it is more than there are.
+pub fn marks_taken(openings: u32) -> u32
     ensures { result ≡ min (marks_taken openings) (2 ^ 32 - 1) }
 {
     openings.max(1).saturating_add(1)

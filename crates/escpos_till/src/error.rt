@@ -6,8 +6,8 @@ use escpos_receipt::JsonFault;
 /// Why a call of a ledger is refused. All but `Store` leave the ledger as it was.
 #[derive(Clone, Copy, Debug, PartialEq, Eq)]
 pub enum LedgerError {
-    /// The store failed at this call, and can't tell whether it added the entry. Every later call answers `Failed`. Whoever
-    /// opens the store again finds the entries from before the call, with the new one or without.
+    /// The store failed at this call, and can't tell whether it added the entry. Every later call answers `Failed`. Where the
+    /// store keeps what it promises, whoever opens it again finds the entries from before the call, with the new one or without.
     Store(StoreFault),
     /// The store failed at an earlier call.
     Failed,

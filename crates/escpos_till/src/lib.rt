@@ -14,7 +14,7 @@ mod summary;
 mod waiting;
 
 pub use copy::{COPY_CHARACTERS, CopyText};
-pub use deliver::{Delivered, deliver_one};
+pub use deliver::{Delivered, deliver_one, marks_taken};
 pub use entry::{Content, Entry};
 pub use error::{LedgerError, OpenError};
 pub use ledger::Ledger;

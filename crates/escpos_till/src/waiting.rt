@@ -1,15 +1,23 @@
 //! The first receipt of a ledger that waits.
 
-ghost use Rattle.std.specs.Prelude.{◌≡◌, ℕ, List, [], Some, slice_get, MatchOption};
+ghost use Rattle.std.specs.Prelude.{◌≡◌, ℕ, List, [], Some, slice_get, option_map, MatchOption, IfErr, IfOk};
+ghost use Rattle.escpos_command.specs.declared.command.Command.{Command};
+ghost use Rattle.escpos_receipt.specs.Describes.{Describes};
+ghost use Rattle.escpos_receipt.specs.Whole.{Whole};
+ghost use Rattle.escpos_till.specs.Copy.{sent_of};
+ghost use Rattle.escpos_till.specs.Delivers.{WhyNone};
 ghost use Rattle.escpos_till.specs.declared.entry.Entry.TheVariants.{Queued};
 ghost use Rattle.escpos_till.specs.Entries.{waiting};
 ghost use Rattle.escpos_till.specs.Ledger.{FirstWaits};
 ghost use Rattle.escpos_till.specs.Summary.{SumsUp};
 
+use crate::copy::{CopyText, with_copy};
 use crate::entry::Entry;
 use crate::number::ReceiptNumber;
 use crate::state::ReceiptState;
 use crate::summary::Summary;
+use escpos_receipt::{JsonError, Receipt};
+use std::alloc::Global;
 
 /// A receipt that waits: it was taken, and isn't known to be printed.
 #[derive(Debug, Drop)]
@@ -20,6 +28,24 @@ pub struct WaitingReceipt<'a> {
     pub content: &'a [u8],
     /// How often it was tried. If that isn't 0, it may be on the paper already.
     pub tried: usize,
+}
+
+impl<'a> WaitingReceipt<'a> {
+    /// What is to be sent: the receipt that its text gives; with the line of the copy before it, if there is such a text and the
+    /// receipt was tried.
+    ///
+    /// The errors are why the text gives none, and `Memory`.
+    pub fn to_send(&self, alloc: Global, copy: Option<&CopyText<'_>>) -> Result<Receipt, JsonError>
+        ensures receipt { IfOk result (λ sent. (receipt : List Command) × Describes self.now.content.now receipt × Whole receipt
+            × (sent ≡ sent_of (option_map (λ t. t.now) copy.entry) self.now.tried receipt)) }
+        ensures refused { IfErr result (λ why. WhyNone why self.now.content.now) }
+    {
+        let receipt = Receipt::from_json(alloc, self.content)?;
+        match copy {
+            Some(text) if self.tried > 0 => Ok(with_copy(alloc, text, &receipt)?),
+            _ => Ok(receipt),
+        }
+    }
 }
 
 // The first of the receipts that wait.

@@ -1,13 +1,13 @@
 -- What a till's owner wants to be sure of, said of the entries of his ledger and of the printer's paper: each receipt that
 -- was taken waits or is recorded, and those that are recorded are on the paper.
-use Rattle.std.specs.Prelude.{ℕ, ◌≡◌, ◌⊎◌, ◌<◌, ◌≤◌, List, ◌∷◌, ◌++◌, length}
-use Rattle.std.specs.List.{AllPass, AllZip}
+use Rattle.std.specs.Prelude.{ℕ, ◌≡◌, ◌⊎◌, List, ◌∷◌, ◌++◌}
+use Rattle.std.specs.List.{AllZip}
 use Rattle.escpos_command.specs.declared.command.Command.{Command}
 use Rattle.escpos_paper.specs.declared.item.Item.{Item}
 use Rattle.escpos_receipt.specs.Describes.{Describes}
 use Rattle.escpos_receipt.specs.Whole.{Whole}
 use Rattle.escpos_till.specs.declared.entry.Entry.{Entry}
-use Rattle.escpos_till.specs.Copy.{copy_line, is_copy_character}
+use Rattle.escpos_till.specs.Copy.{IsCopyText, copy_line}
 use Rattle.escpos_till.specs.Entries.{Taken, recorded, taken, waiting}
 use Rattle.escpos_link.specs.Stands.{Stands}
 
@@ -26,10 +26,6 @@ NoneTwice ns = (n : ℕ) (before following : List ℕ) → ns ≡ before ++ n �
 -- The receipt with this number was taken, and this is its text in JSON.
 abbrev pub IsTaken : List Entry → ℕ → List ℕ → Type 0
 IsTaken entries number content = Among (record { number = number; content = content }) (taken entries)
-
--- The text of a line that says that a receipt is printed again.
-abbrev pub IsCopyText : List ℕ → Type 0
-IsCopyText text = (0 < length text) × (length text ≤ 42) × AllPass is_copy_character text
 
 -- The commands are a receipt that the text describes; or such a one after the line that says that it is printed again.
 pub record IsReceipt (content : List ℕ) (commands : List Command) : Type 0 where

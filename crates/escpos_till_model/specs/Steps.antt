@@ -23,6 +23,7 @@ use Rattle.escpos_till.specs.declared.entry.Entry.TheVariants as entry
 use Rattle.escpos_till.specs.declared.error.LedgerError.{LedgerError}
 use Rattle.escpos_till.specs.declared.error.LedgerError.TheVariants as error
 use Rattle.escpos_till.specs.declared.error.OpenError.TheVariants as broken
+use Rattle.escpos_till.specs.Copy.{IsCopyText}
 use Rattle.escpos_till.specs.Delivers.{Due, WhyNone, marks_taken}
 use Rattle.escpos_till.specs.Entries.{IsLedger, next_free, recorded, waiting}
 use Rattle.escpos_till.specs.Ledger.{Adds, FirstWaits, HasFailed, IsLive, LedgerView, RefusesQueue, RefusesRaise, RefusesRecorded, RefusesTried}
@@ -45,7 +46,6 @@ use Rattle.escpos_till_model.specs.declared.event.TillRefusal.TheVariants as ref
 use Rattle.escpos_till_model.specs.declared.hand.Hand.{Hand}
 use Rattle.escpos_till_model.specs.declared.parts.TillParts.{TillParts}
 use Rattle.escpos_till_model.specs.Parts.{let_go, switched_off, with_desk, with_line}
-use Rattle.escpos_till_model.specs.Receipts.{IsCopyText}
 
 -- ## What events do
 

@@ -1,20 +1,19 @@
 //! The first receipt that waits, as it is taken in hand.
 
-ghost use Rattle.std.specs.Prelude.{◌≡◌, ℕ, List, ◌-◌, ◌^◌, min, option_map, IfOk, IfErr};
+ghost use Rattle.std.specs.Prelude.{◌≡◌, ◌↔◌, List, option_map, IfOk, IfErr, IsTrue};
 ghost use Rattle.escpos_command.specs.declared.command.Command.{Command};
 ghost use Rattle.escpos_receipt.specs.Describes.{Describes};
 ghost use Rattle.escpos_receipt.specs.Whole.{Whole};
 ghost use Rattle.escpos_till.specs.Copy.{sent_of};
-ghost use Rattle.escpos_till.specs.Delivers.{WhyNone, marks_taken};
+ghost use Rattle.escpos_till.specs.Delivers.{WhyNone};
 ghost use Rattle.escpos_till_model.specs.Due.{IsFirst, RefusesDesk, RefusesFirst, Takes};
 ghost use Rattle.escpos_till_model.specs.Parts.{IsDesk};
 ghost use Rattle.escpos_till_model.specs.Steps.{IsCopy};
 
-use crate::copy::with_copy;
 use crate::desk::Desk;
 use crate::event::TillRefusal;
 use escpos_receipt::{JsonError, Receipt};
-use escpos_till::{Ledger, MemoryStore, ReceiptNumber};
+use escpos_till::{CopyText, Ledger, MemoryStore, ReceiptNumber, WaitingReceipt, marks_taken};
 use std::alloc::Global;
 
 // A receipt that is to be sent.
@@ -91,7 +90,7 @@ fn first_receipt(
         Ok(None) => return Err(TillRefusal::NothingWaits),
         Err(why) => return Err(TillRefusal::Ledger(why)),
     };
-    match receipt_of(alloc, waiting.content, waiting.tried, copy) {
+    match receipt_to_send(alloc, &waiting, copy) {
         Ok(receipt) => Ok(FirstReceipt {
             number: waiting.number,
             receipt,
@@ -100,28 +99,32 @@ fn first_receipt(
     }
 }
 
-// What is sent of a receipt with this text, which was tried so often.
-fn receipt_of(
+// What is sent of this receipt, with the line of a copy if there is such a text.
+fn receipt_to_send(
     alloc: Global,
-    content: &[u8],
-    tried: usize,
+    waiting: &WaitingReceipt<'_>,
     copy: Option<&[u8]>,
 ) -> Result<Receipt, JsonError>
     requires { IsCopy (option_map (λ t. t.now) copy) }
-    ensures receipt { IfOk result (λ sent. (receipt : List Command) × Describes content.now receipt × Whole receipt
-        × (sent ≡ sent_of (option_map (λ t. t.now) copy.entry) tried receipt)) }
-    ensures refused { IfErr result (λ why. WhyNone why content.now) }
+    ensures receipt { IfOk result (λ sent. (receipt : List Command) × Describes waiting.now.content.now receipt × Whole receipt
+        × (sent ≡ sent_of (option_map (λ t. t.now) copy.entry) waiting.now.tried receipt)) }
+    ensures refused { IfErr result (λ why. WhyNone why waiting.now.content.now) }
 {
-    let receipt = Receipt::from_json(alloc, content)?;
     match copy {
-        Some(text) if tried > 0 => Ok(with_copy(alloc, text, &receipt)?),
-        _ => Ok(receipt),
+        Some(text) => match CopyText::new(text) {
+            Some(text) => waiting.to_send(alloc, Some(&text)),
+            None => unreachable!(),
+        },
+        None => waiting.to_send(alloc, None),
     }
 }
 
-// How many mark numbers are reserved; if that can't be counted, more than there are.
-fn marks_taken(openings: u32) -> u32
-    ensures { result ≡ min (marks_taken openings) (2 ^ 32 - 1) }
+// Whether the text for the line of a copy, if there is one, is such a text.
+pub fn is_copy(copy: Option<&[u8]>) -> bool
+    ensures { IsTrue result ↔ IsCopy (option_map (λ t. t.now) copy.entry) }
 {
-    openings.max(1).saturating_add(1)
+    match copy {
+        None => true,
+        Some(text) => CopyText::new(text).is_some(),
+    }
 }

@@ -12,9 +12,8 @@ ghost use Rattle.escpos_till_model.specs.Kept.{IsTill};
 ghost use Rattle.escpos_till_model.specs.Parts.{IsDesk, dropped, entries_of};
 ghost use Rattle.escpos_till_model.specs.Steps.{After, GoesOnLine, Refuses, RefusesMark, UsesMark, is_host_call};
 
-use crate::copy::is_copy;
 use crate::desk::Desk;
-use crate::due::{DueReceipt, take_due};
+use crate::due::{DueReceipt, is_copy, take_due};
 use crate::event::{TillEvent, TillRefusal};
 use crate::hand::Hand;
 use escpos_link::{Event, Note, Sim};
