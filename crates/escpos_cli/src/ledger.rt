@@ -9,45 +9,48 @@ use escpos_till_jobs::{
     Delivery, LedgerPath, TillTask, deliver_waiting, list, open_ledger, queue_receipt,
     read_receipt_text, refuse_store,
 };
-use sqlite::{FileFrom, FileStore, Unknown};
+use sqlite::{FileFrom, FileStore, Start};
 
 // A ledger in a file.
-type FileLedger = Ledger<SqliteStore<FileStore<FileFrom<Unknown>>>>;
+type FileLedger<S> = Ledger<SqliteStore<FileStore<FileFrom<S>>>>;
 
-/// Does what a till asks of its ledger, and returns how it went.
-pub fn perform_till<R: ByteIn, W: ByteOut>(
+/// Does what a till asks of its ledger, and returns how it went. `start` stands for what the ledger's file holds before.
+pub fn perform_till<S: Start, R: ByteIn, W: ByteOut>(
     rt: &HostRuntime,
+    start: S,
     task: TillTask<'_>,
     input: &mut R,
     output: &mut W,
 ) -> Status {
     match task {
-        TillTask::Queue { ledger } => queue(rt, &ledger, input, output),
-        TillTask::Deliver { ledger, delivery } => deliver(rt, &ledger, &delivery, output),
-        TillTask::List { ledger, first } => list_ledger(rt, &ledger, first, output),
+        TillTask::Queue { ledger } => queue(rt, start, &ledger, input, output),
+        TillTask::Deliver { ledger, delivery } => deliver(rt, start, &ledger, &delivery, output),
+        TillTask::List { ledger, first } => list_ledger(rt, start, &ledger, first, output),
     }
 }
 
 // Takes a receipt. The ledger is opened once the receipt is read, so that one that is refused leaves no new file.
-fn queue<R: ByteIn, W: ByteOut>(
+fn queue<S: Start, R: ByteIn, W: ByteOut>(
     rt: &HostRuntime,
+    start: S,
     path: &LedgerPath<'_>,
     input: &mut R,
     output: &mut W,
 ) -> Status {
     match read_receipt_text(rt.alloc(), input) {
-        Ok(json) => queue_text(rt, path, &json, output),
+        Ok(json) => queue_text(rt, start, path, &json, output),
         Err(fault) => refuse_input(fault, output),
     }
 }
 
-fn queue_text<W: ByteOut>(
+fn queue_text<S: Start, W: ByteOut>(
     rt: &HostRuntime,
+    start: S,
     path: &LedgerPath<'_>,
     json: &[u8],
     output: &mut W,
 ) -> Status {
-    match open(rt, path) {
+    match open(rt, start, path) {
         Ok(mut ledger) => {
             let status = queue_receipt(rt.alloc(), &mut ledger, json, output);
             close(ledger);
@@ -58,13 +61,14 @@ fn queue_text<W: ByteOut>(
 }
 
 // Delivers the receipts that wait.
-fn deliver<W: ByteOut>(
+fn deliver<S: Start, W: ByteOut>(
     rt: &HostRuntime,
+    start: S,
     path: &LedgerPath<'_>,
     delivery: &Delivery<'_>,
     output: &mut W,
 ) -> Status {
-    match open(rt, path) {
+    match open(rt, start, path) {
         Ok(mut ledger) => {
             let status = deliver_waiting(rt, rt.alloc(), &mut ledger, delivery, output);
             close(ledger);
@@ -75,13 +79,14 @@ fn deliver<W: ByteOut>(
 }
 
 // Lists where the receipts stand.
-fn list_ledger<W: ByteOut>(
+fn list_ledger<S: Start, W: ByteOut>(
     rt: &HostRuntime,
+    start: S,
     path: &LedgerPath<'_>,
     first: Option<u32>,
     output: &mut W,
 ) -> Status {
-    match open(rt, path) {
+    match open(rt, start, path) {
         Ok(mut ledger) => {
             let status = list(&mut ledger, first, output);
             close(ledger);
@@ -92,12 +97,22 @@ fn list_ledger<W: ByteOut>(
 }
 
 // Opens the ledger in this file. A file that isn't there is made.
-fn open(rt: &HostRuntime, path: &LedgerPath<'_>) -> Result<FileLedger, NoStore> {
-    let store = SqliteStore::<FileStore<FileFrom<Unknown>>>::open(rt, path.text(), Unknown)?;
-    open_ledger(rt.alloc(), store)
+fn open<S: Start>(
+    rt: &HostRuntime,
+    start: S,
+    path: &LedgerPath<'_>,
+) -> Result<FileLedger<S>, NoStore> {
+    let store = SqliteStore::<FileStore<FileFrom<S>>>::open(rt, path.text(), start)?;
+    match open_ledger(rt.alloc(), store) {
+        Ok(ledger) => Ok(ledger),
+        Err((why, store)) => {
+            let _ = store.close();
+            Err(why)
+        }
+    }
 }
 
 // Closes the ledger. What it has recorded outlives a crash already, so nothing is lost where this fails.
-fn close(ledger: FileLedger) {
+fn close<S: Start>(ledger: FileLedger<S>) {
     let _ = ledger.into_store().close();
 }

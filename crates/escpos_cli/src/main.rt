@@ -16,6 +16,7 @@ use escpos_jobs::task::NoTask;
 pub use escpos_jobs::{
     check, emulate, encode, loop_link, perform, play, render, send, status, task,
 };
+use sqlite::Unknown;
 use std::process::ExitCode;
 use std::{env, io};
 
@@ -38,7 +39,7 @@ fn perform_words<R: ByteIn, W: ByteOut>(
 ) -> Status {
     match words.first() {
         Some(word) if is_till_word(word.as_str()) => match till_task_of(rt.alloc(), words) {
-            Ok(task) => perform_till(rt, task, input, output),
+            Ok(task) => perform_till(rt, Unknown, task, input, output),
             Err(why) => perform(rt, rt.alloc(), Err(why), input, output),
         },
         _ => perform(rt, rt.alloc(), task_of(rt.alloc(), words), input, output),

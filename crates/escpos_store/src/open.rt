@@ -117,11 +117,12 @@ impl<D: Disk + Drop> SqliteStore<FileStore<D>> {
         }
     }
 
-    /// Copies the log into the database file, and closes both. At `Err` the log holds what the database file lacks.
+    /// Copies the log into the database file, and closes both: what `into_files` says of the files stands. At `Err` the log holds
+    /// what the database file lacks.
     pub fn close(self) -> Result<(), StoreFault> {
-        match self.into_connection().close() {
-            Ok(()) => Ok(()),
-            Err(error) => Err(store_fault(error)),
+        match self.into_files() {
+            Ok(_) => Ok(()),
+            Err((fault, _)) => Err(fault),
         }
     }
 }

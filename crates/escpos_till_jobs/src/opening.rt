@@ -16,18 +16,32 @@ use std::alloc::Global;
 
 /// The ledger of a store; an empty store has a new ledger.
 ///
-/// If there is no store, the error says why; it is `NoLedger` if what the store has is no ledger, `Failed` if the store
-/// failed, and `Memory` if an allocation failed. What the store has stays as it was.
-pub fn open_ledger<S: Store + Drop>(alloc: Global, store: S) -> Result<Ledger<S>, NoStore>
+/// The error is `NoLedger` if what the store has is no ledger, `Failed` if the store failed, and `Memory` if an allocation
+/// failed. It returns the store, which has what it had.
+pub fn open_ledger<S: Store>(alloc: Global, store: S) -> Result<Ledger<S>, (NoStore, S)>
     ensures live { IfOk result (λ ledger. IsLive ledger) }
     ensures found { IfOk result (λ ledger. S.faithful ledger.store → S.faithful store × S.holds store ledger.entries) }
-    ensures never_in_use { IfErr result (λ why. why ≢ NoStore.InUse) }
+    ensures no_ledger { IfErr result (λ refusal. refusal.0 ≡ NoStore.NoLedger → S.faithful refusal.1 → (entries : List Entry)
+        → S.holds store entries → ¬ IsLedger entries) }
+    ensures left { IfErr result (λ refusal. S.faithful refusal.1 → (entries left : List Entry) → S.holds store entries
+        → S.leaves refusal.1 left → left ≡ entries) }
+    ensures never_in_use { IfErr result (λ refusal. refusal.0 ≢ NoStore.InUse) }
 {
     match Ledger::open(alloc, store) {
         Ok(ledger) => Ok(ledger),
-        Err((OpenError::Damaged, _)) => Err(NoStore::NoLedger),
-        Err((OpenError::Store(StoreFault::Failed), _)) => Err(NoStore::Failed),
-        Err((OpenError::Store(StoreFault::Memory) | OpenError::Memory, _)) => Err(NoStore::Memory),
+        Err((why, store)) => Err((no_store(why), store)),
+    }
+}
+
+// The same reason, as it is told.
+fn no_store(why: OpenError) -> NoStore
+    ensures damaged { result ≡ NoStore.NoLedger → why ≡ OpenError.Damaged }
+    ensures never_in_use { result ≢ NoStore.InUse }
+{
+    match why {
+        OpenError::Damaged => NoStore::NoLedger,
+        OpenError::Store(StoreFault::Failed) => NoStore::Failed,
+        OpenError::Store(StoreFault::Memory) | OpenError::Memory => NoStore::Memory,
     }
 }
 

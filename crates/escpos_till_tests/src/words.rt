@@ -210,6 +210,6 @@ fn damaged(rt: HostRuntime) {
     let store = MemoryStore::new(rt.alloc(), entries, Failure::Never);
     match open_ledger(rt.alloc(), store) {
         Ok(_) => panic!(&rt; "a ledger"),
-        Err(why) => assert!(&rt; why == NoStore::NoLedger),
+        Err((why, _)) => assert!(&rt; why == NoStore::NoLedger),
     }
 }
