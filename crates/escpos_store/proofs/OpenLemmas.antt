@@ -1,5 +1,6 @@
 -- What an open finds, and what a close leaves.
-use Rattle.std.proofs.Common.{◌≡◌, inl, inr, [], length, arith, List, Result, Ok, Err, IfOk, sym, ap, subst, ◌∙◌}
+use Rattle.std.proofs.Common.{◌≡◌, inl, inr, [], length, arith, List, Result, Ok, Err, IfOk, IsTrue, sym, ap, subst, ◌∙◌}
+use Rattle.std.proofs.Math.Logic.{∥∥₁_map}
 use Rattle.escpos_till.specs.declared.entry.Entry.{Entry}
 use Rattle.sqlite.specs.Effect.{Database}
 use Rattle.sqlite.specs.Store.{Ghosts}
@@ -16,10 +17,18 @@ use Rattle.sqlite.specs.Steps.{over_memory}
 use Rattle.sqlite.specs.WalFiles.{outcomes}
 use Rattle.sqlite.specs.Closing.{IsCopied}
 use Rattle.sqlite.proofs.Callers.{memory_is_clean}
+use Rattle.sqlite.proofs.Theorems.{opens_again}
+use Rattle.sqlite_catalog.proofs.ReadLemmas.{lists_once}
+use Rattle.sqlite_trees.specs.Tree.{Trees}
+use Rattle.sqlite.specs.Effect.{IsDatabase}
+use Rattle.sqlite.specs.Held.{AreDatabases}
+use Rattle.sqlite_store.specs.FileStore.{recovers, view}
+use Rattle.sqlite_store.specs.FileStore as store
+use Rattle.escpos_store.specs.Laws.{one_list, outlives}
 use Rattle.escpos_store.specs.Table.{ledger_schema, no_schema}
 use Rattle.sqlite.specs.Start.{FindsIn}
 use Rattle.escpos_till.specs.declared.store.NoStore.{NoStore}
-use Rattle.escpos_store.specs.Holds.{FoundIn, HasEntries, HoldsIn, KeptIn, StartsAs, StoreView}
+use Rattle.escpos_store.specs.Holds.{FoundIn, HasEntries, Holds, HoldsIn, KeptIn, Leaves, StartsAs, StoreView}
 
 -- what the connection showed at first is what the files held
 found_in : (s : State) (image : Image) (entries : List Entry) → Opens s → IsLive s → FindsIn image s → StartsAs s.now entries → FoundIn image entries
@@ -66,3 +75,22 @@ pub kept_if_ok : {D : Type 0} {g : disk.Ghosts D} (s : StoreView (FileStore D g)
 kept_if_ok s files copied entries held =
     let has : HasEntries (file_state s.connection).committed.trees entries = subst (λ (d : Database). HasEntries d.trees entries) (sym held.0.committed) held.0.has in
     (record { trees = _; alone = copied.seen; has = has }, λ image may. record { trees = _; alone = copied.left image may; has = has })
+
+-- ## What is found after a crash
+
+-- The entries that an open finds in a database are the only ones that it has.
+only_these : (db : Database) (found : List Entry) → IsDatabase db → StartsAs db found → (entries : List Entry) → HasEntries db.trees entries → found ≡ entries
+only_these db found sound (inl ledger) entries has = one_list db.trees found entries ledger.1 has
+only_these db found sound (inr new) entries has = absurd (never_both db.schema (lists_once _ _ _ sound.lists has.sound.lists) new.0)
+
+-- What a crash may leave of a store, as the next open finds it.
+pub next_found : {D : Type 0} {g : disk.Ghosts D} (it : FileStore D g) → IsTrue (view it).is_numbered → AreDatabases (recovers it)
+    → (image : Image) → (store.state it).may_leave image → (found : List Entry) → FoundIn image found
+    → ∥ ((db : Trees) × recovers it db × ((entries : List Entry) → HasEntries db entries → found ≡ entries)) ∥₁
+next_found it numbered sound image may found f =
+    ∥∥₁_map (opens_again it numbered sound image may) (λ left.
+    let same : f.db.trees ≡ left.0 = f.only left.0 left.2 in
+    (f.db.trees, subst (recovers it) (sym same) left.1, only_these f.db found f.sound f.starts))
+
+pub next_held : (s : State) (entries found : List Entry) → Holds s entries → ∥ Leaves s found ∥₁ → ∥ found ≡ entries ∥₁
+next_held s entries found held leaves = ∥∥₁_map leaves (outlives s entries found held)

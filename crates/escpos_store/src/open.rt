@@ -10,7 +10,7 @@ ghost use Rattle.sqlite.specs.State.{HasCleanDisk};
 ghost use Rattle.sqlite.specs.Held.{state};
 ghost use Rattle.sqlite.specs.Steps.{over_memory};
 ghost use Rattle.sqlite.specs.Files.{file_state, over_files, image_of};
-ghost use Rattle.escpos_store.specs.Holds.{FoundIn, Holds, HoldsIn, KeptIn, StartsAs};
+ghost use Rattle.escpos_store.specs.Holds.{FoundIn, Holds, HoldsIn, KeptIn, Leaves, StartsAs};
 
 use crate::read::read;
 use crate::schema::is_new;
@@ -115,6 +115,18 @@ impl<D: Disk + Drop> SqliteStore<FileStore<D>> {
             Ok(files) => Ok(files),
             Err((error, store)) => Err((store_fault(error), store.close())),
         }
+    }
+
+    /// Ends the store with no further write, as a crash does, and gives the files back, for tests of what comes after one.
+    /// Whatever a crash leaves of the files, an open finds entries that the store has said a crash may leave: those that it
+    /// holds, or after a failed `append` those with the new one or without.
+    pub fn crash(self) -> Files<D>
+        ensures next { AreClean D.Disk result.log result.db → (image : Image) → outcomes D.Disk result.log result.db image
+            → (found : List Entry) → FoundIn image found → ∥ Leaves (file_state self.connection) found ∥₁ }
+        ensures held { AreClean D.Disk result.log result.db → (image : Image) → outcomes D.Disk result.log result.db image
+            → (entries found : List Entry) → HoldsIn over_files self entries → FoundIn image found → ∥ found ≡ entries ∥₁ }
+    {
+        self.into_connection().into_store().close()
     }
 
     /// Copies the log into the database file, and closes both: what `into_files` says of the files stands. At `Err` the log holds
