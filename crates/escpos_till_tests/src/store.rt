@@ -1,4 +1,5 @@
-//! The store in SQLite: entries of each kind come back in order, over memory, and from files that were closed.
+//! The store in SQLite: entries of each kind come back in order, over memory, and from files that were closed, or left as in a
+//! crash.
 
 use crate::support::tills::{S, number};
 use escpos_store::SqliteStore;
@@ -91,5 +92,7 @@ fn in_files(rt: HostRuntime) {
     keeps(&rt, rt.alloc(), &mut store, &wanted);
     let mut again = opened(&rt, rt.alloc(), closed(&rt, store));
     has(&rt, rt.alloc(), &mut again, &wanted);
-    assert!(&rt; again.close() == Ok(()));
+    let mut later = opened(&rt, rt.alloc(), again.crash());
+    has(&rt, rt.alloc(), &mut later, &wanted);
+    assert!(&rt; later.close() == Ok(()));
 }

@@ -2,11 +2,14 @@
 //!
 //! A test makes the ledger and lends it to checks.
 
+use crate::support::asking::printer_address;
 use crate::support::tills::{A, Prepared, S, answered_link, listens, new_ledger, number};
-use escpos_io::MemoryOut;
+use escpos_io::{MemoryIn, MemoryOut};
 use escpos_jobs::status::Status;
-use escpos_till::{Entry, Failure, Ledger, MemoryStore, NoStore};
-use escpos_till_jobs::{Delivery, deliver_waiting, list, open_ledger, queue_receipt, refuse_store};
+use escpos_till::{CopyText, Entry, Failure, Ledger, MemoryStore, NoStore};
+use escpos_till_jobs::{
+    Delivery, deliver_over, deliver_waiting, list, open_ledger, queue_receipt, refuse_store,
+};
 use std::alloc::Global;
 use std::net::{Net, SocketAddrV4, TcpStream};
 use std::process::Abort;
@@ -167,6 +170,69 @@ fn delivered_over_a_link(rt: HostRuntime) {
     let client = &client;
     let mut ledger = new_ledger(&rt, rt.alloc(), Failure::Never);
     delivers_one_of_three(&rt, rt.alloc(), &mut ledger, &Prepared { address, client });
+}
+
+// Delivers the first receipt that waits over memory, with two opening marks and a text for copies: what goes out, what is
+// printed, and how it ends.
+fn delivers_over_memory(
+    rt: &impl Abort,
+    alloc: Global,
+    ledger: &mut Ledger<MemoryStore>,
+    (answers, out): (&[u8], &[u8]),
+    (text, ended): (&str, Result<(), Status>),
+) {
+    let first = match ledger.waiting() {
+        Ok(Some(receipt)) => receipt.number,
+        _ => panic!(rt; "nothing waits"),
+    };
+    let delivery = Delivery {
+        address: printer_address(),
+        openings: 2,
+        copy: CopyText::new(b"AGAIN"),
+    };
+    let (mut sent, mut room) = ([0; 100], [0; 64]);
+    let mut reader = MemoryIn::new(answers, 7);
+    let mut writer = MemoryOut::new(&mut sent);
+    let mut output = MemoryOut::new(&mut room);
+    let delivered = deliver_over(
+        alloc,
+        ledger,
+        first,
+        &delivery,
+        &mut reader,
+        &mut writer,
+        &mut output,
+    );
+    assert!(rt; delivered == ended);
+    assert!(rt; writer.written() == out);
+    assert!(rt; output.written() == text.as_bytes());
+}
+
+// No mark is answered: the receipt waits, with three numbers used. It is sent again as a copy, with numbers of its own.
+fn is_sent_again(rt: &impl Abort, alloc: Global, ledger: &mut Ledger<MemoryStore>) {
+    queues(rt, alloc, ledger, S, ("queued 1\n", Status::Good));
+    let marks = b"\x1D(H\x06\x00000000\x1D(H\x06\x00000001";
+    let ended = ("waiting 1 Ended\n", Err(Status::Device));
+    delivers_over_memory(rt, alloc, ledger, (b"", marks), ended);
+    lists(rt, ledger, None, ("1 tried 1\nnext 3\n", Status::Good));
+    let again =
+        b"\x1D(H\x06\x00000003\x1D(H\x06\x00000004\x1B@\x1Ba\x01\x1BE\x01AGAIN\n\x1BE\x00\x1Ba\x00Hi\n\x1D(H\x06\x00000005";
+    let answers = b"\x37\x220003\x00\x37\x220005\x00";
+    delivers_over_memory(
+        rt,
+        alloc,
+        ledger,
+        (answers, again),
+        ("recorded 1\n", Ok(())),
+    );
+    let recorded = ("1 recorded 0\nnext 6\n", Status::Good);
+    lists(rt, ledger, None, recorded);
+}
+
+#[test]
+fn sent_again_as_a_copy(rt: HostRuntime) {
+    let mut ledger = new_ledger(&rt, rt.alloc(), Failure::Never);
+    is_sent_again(&rt, rt.alloc(), &mut ledger);
 }
 
 // An output that fails is a device that fails; what was taken is taken.

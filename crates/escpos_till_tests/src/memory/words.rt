@@ -42,7 +42,7 @@ fn raised_store(rt: &impl Abort, alloc: Global) -> MemoryStore {
 fn opened_at_last(rt: &impl Abort, alloc: Global) -> Ledger<MemoryStore> {
     match open_ledger(alloc, raised_store(rt, alloc)) {
         Ok(ledger) => ledger,
-        Err(why) => {
+        Err((why, _)) => {
             assert!(rt; why == NoStore::Memory);
             ledger_over(rt, alloc, raised_store(rt, alloc))
         }
