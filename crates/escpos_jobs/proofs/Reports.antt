@@ -19,7 +19,7 @@ use Rattle.escpos_jobs.specs.declared.status.Status.{Status}
 use Rattle.escpos_jobs.specs.declared.status.Status.TheVariants.{Good, Refused, Usage, Device, Memory}
 use Rattle.escpos_jobs.specs.Lines.{fault_line}
 use Rattle.escpos_jobs.specs.Ending.{JobEnd, PrintsText, RefusesInput, StatusFits, memory_line}
-use Rattle.escpos_jobs.specs.Report.{Shape, Reports, Runs, IsOfContent, IsCutShort}
+use Rattle.escpos_jobs.specs.Report.{Shape, Reports, Runs, RunsRaw, IsOfContent, IsCutShort}
 
 -- The call has succeeded.
 pub succeeded : {T E : Type 0} {P : Type 0} (r : Result T E) → false ≡ is_err r → OnOk r P → P
@@ -223,3 +223,17 @@ pub runs_refused : (shape : Shape) (o : JobEnd) (fault : InputFault) (known : Op
     → IfSome known (λ text. Runs shape o text)
 runs_refused shape o fault None long bad s = tt
 runs_refused shape o fault (Some text) long bad s = runs_by shape o fault text (record { too_long = long; not_hexadecimal = bad }) s
+
+-- ## Input as it is
+
+runs_raw_by : (shape : Shape) (o : JobEnd) (fault : InputFault) (input : List ℕ) → (fault ≡ fault_kind.TooLong → INPUT_LIMIT < length input) → (fault ≡ fault_kind.NotHexadecimal → ⊥)
+    → Answers fault o → RunsRaw shape o input
+runs_raw_by shape o fault_kind.TooLong input long never s = record { too_long = λ h. refuses o _ (s.too_long refl); short = λ short. absurd (both_lengths input (long refl) short) }
+runs_raw_by shape o fault_kind.NotHexadecimal input long never s = absurd (never refl)
+runs_raw_by shape o fault_kind.Device input long never s = record { too_long = λ h. refuses_at_device o _ (s.device refl); short = λ short. reports_at_device shape o input (s.device refl) }
+runs_raw_by shape o fault_kind.Memory input long never s = record { too_long = λ h. refuses_at_memory o _ (s.memory refl); short = λ short. reports_at_memory shape o input (s.memory refl) }
+
+pub runs_raw_refused : (shape : Shape) (o : JobEnd) (fault : InputFault) (known : Option (List ℕ)) → (fault ≡ fault_kind.TooLong → IfSome known (λ all. INPUT_LIMIT < length all))
+    → (fault ≡ fault_kind.NotHexadecimal → ⊥) → Answers fault o → IfSome known (λ all. RunsRaw shape o all)
+runs_raw_refused shape o fault None long never s = tt
+runs_raw_refused shape o fault (Some all) long never s = runs_raw_by shape o fault all long never s

@@ -16,14 +16,22 @@ use Rattle.escpos_jobs.specs.Refusal.{refusal_line}
 abbrev pub digits_line : List Command → List ℕ
 digits_line cs = encode_lower (spell cs) ++ LF ∷ []
 
--- What is done with a text: the line of a receipt that it describes is printed, or the line of a reason for which it
--- describes none; or, if an allocation fails, the one that says so.
-pub record EncodesText (o : JobEnd) (text : List ℕ) : Type 0 where
-  pub good : o.status ≡ Good → (cs : List Command) × Describes text cs × Whole cs × Puts o (digits_line cs)
+-- What is done with a text: a receipt that it describes is written, as `written` says, or the line of a reason for which it
+-- describes none is printed; or, if an allocation fails, the one that says so.
+pub record EncodesTextAs (written : List Command → List ℕ) (o : JobEnd) (text : List ℕ) : Type 0 where
+  pub good : o.status ≡ Good → (cs : List Command) × Describes text cs × Whole cs × Puts o (written cs)
   pub refused : o.status ≡ Refused → (why : JsonFault) × IsJsonFault why text × Puts o (refusal_line why)
   pub memory : o.status ≡ Memory → Puts o memory_line
 
--- What `encode` does with its input: too long, or a text.
-pub record Encodes (o : JobEnd) (input : List ℕ) : Type 0 where
+-- What is done with input: too long, or a text.
+pub record EncodesAs (written : List Command → List ℕ) (o : JobEnd) (input : List ℕ) : Type 0 where
   pub too_long : INPUT_LIMIT < length input → RefusesInput o (codes "refused input\n")
-  pub short : length input ≤ INPUT_LIMIT → EncodesText o input
+  pub short : length input ≤ INPUT_LIMIT → EncodesTextAs written o input
+
+-- What `encode` does with its input: a receipt's bytes are written in hexadecimal.
+abbrev pub Encodes : JobEnd → List ℕ → Type 0
+Encodes o input = EncodesAs digits_line o input
+
+-- What `encode_raw` does with its input: a receipt's bytes are written as they are.
+abbrev pub EncodesRaw : JobEnd → List ℕ → Type 0
+EncodesRaw o input = EncodesAs spell o input

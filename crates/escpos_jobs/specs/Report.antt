@@ -47,7 +47,12 @@ pub record Reports (shape : Shape) (o : JobEnd) (bytes : List ℕ) : Type 0 wher
   pub refused : o.status ≡ Refused → IsAllRead bytes → ⊥
   pub memory : o.status ≡ Memory → (text : List ℕ) × IsCutShort shape bytes text × Puts o text
 
--- What a job does with its input: too long, not hexadecimal, or bytes.
+-- What a job does with its input where that is the bytes themselves: too long, or bytes.
+pub record RunsRaw (shape : Shape) (o : JobEnd) (input : List ℕ) : Type 0 where
+  pub too_long : INPUT_LIMIT < length input → RefusesInput o (codes "refused input\n")
+  pub short : length input ≤ INPUT_LIMIT → Reports shape o input
+
+-- What a job does with its input in hexadecimal: too long, not hexadecimal, or bytes.
 pub record Runs (shape : Shape) (o : JobEnd) (input : List ℕ) : Type 0 where
   pub too_long : INPUT_LIMIT < length input → RefusesInput o (codes "refused input\n")
   pub not_hexadecimal : length input ≤ INPUT_LIMIT → IsErr (decode_of (digits_of input)) → RefusesInput o (codes "refused hex\n")

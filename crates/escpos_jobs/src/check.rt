@@ -7,9 +7,9 @@ ghost use Rattle.escpos_jobs.specs.declared.job.Obstacle.TheVariants as obstacle
 ghost use Rattle.escpos_jobs.specs.Lines.{command_lines};
 ghost use Rattle.escpos_jobs.specs.Ending.{IsFair, job_end};
 ghost use Rattle.escpos_jobs.specs.Obstacle.{memory_is_no_device};
-ghost use Rattle.escpos_jobs.specs.Check.{Checks, listing_shape};
+ghost use Rattle.escpos_jobs.specs.Check.{Checks, ChecksRaw, listing_shape};
 
-use crate::job::{Job, Obstacle, run};
+use crate::job::{Job, Obstacle, run, run_raw};
 use crate::lines::{LINE_BYTES, Last, append_character, append_line};
 use crate::status::Status;
 use escpos_command::Command;
@@ -27,6 +27,16 @@ pub fn check<R: ByteIn, W: ByteOut>(alloc: Global, input: &mut R, output: &mut W
     ensures nothing_put { IsTrue (R.failed input.new) → output.new ≡ output.old }
 {
     run::<R, W, Listing>(alloc, input, output)
+}
+
+/// Reads a stream from `input`, as it is, and lists its commands on `output`, as `check` does.
+pub fn check_raw<R: ByteIn, W: ByteOut>(alloc: Global, input: &mut R, output: &mut W) -> Status
+    ensures checks { IfSome (R.to_come input.old) (λ bytes. ChecksRaw (job_end (W.written output.old) (W.written output.new) (W.failed output.new) result) bytes) }
+    ensures fair { IsFair result (R.failed input.new) (W.failed output.old, W.failed output.new)
+        (R.pull_count input.old, R.pull_count input.new) }
+    ensures nothing_put { IsTrue (R.failed input.new) → output.new ≡ output.old }
+{
+    run_raw::<R, W, Listing>(alloc, input, output)
 }
 
 // The lines that aren't printed yet.

@@ -1,23 +1,23 @@
-//! The job `encode`: a receipt in JSON as the bytes of its commands, in hexadecimal.
+//! The job `encode`: a receipt in JSON as the bytes of its commands, in hexadecimal or as they are.
 
 ghost use Rattle.std.specs.Prelude.{◌≡◌, ◌≢◌, ℕ, List, IfOk, IfSome, IsErrOf, IsTrue, flat_map};
-ghost use Rattle.hex.specs.Hex.{encode_lower};
 ghost use Rattle.escpos_command.specs.CommandTable.{row, spell};
 ghost use Rattle.escpos_io.specs.Giving.{IsGiven};
 ghost use Rattle.escpos_io.specs.Putting.{passage};
-ghost use Rattle.escpos_jobs.specs.Encode.{Encodes, EncodesText, digits_line};
+ghost use Rattle.escpos_jobs.specs.Encode.{Encodes, EncodesAs, EncodesRaw, EncodesTextAs};
 ghost use Rattle.escpos_receipt.specs.declared.json.JsonError.{JsonError};
 ghost use Rattle.escpos_receipt.specs.declared.json.JsonFault.{JsonFault};
 ghost use Rattle.escpos_receipt.specs.Describes.{IsJsonFault};
 ghost use Rattle.escpos_receipt.specs.EntryCommands.{IsValueOf, commands_in};
 ghost use Rattle.escpos_jobs.specs.Ending.{IsFair, PrintsText, job_end};
 
+use crate::byte_form::{ByteForm, Hexadecimal, Raw};
 use crate::ending::refuse;
 use crate::input::{INPUT_LIMIT, InputFault};
 use crate::receipt_input::refuse_text;
 use crate::status::Status;
 use escpos_command::{Command, LF};
-use escpos_io::{ByteIn, ByteOut, Device, Gather, laws, put_digits, read_to_end};
+use escpos_io::{ByteIn, ByteOut, Device, Gather, laws, read_to_end};
 use escpos_receipt::{Entry, JsonError, ReceiptText};
 use std::alloc::Global;
 
@@ -33,21 +33,51 @@ pub fn encode<R: ByteIn, W: ByteOut>(alloc: Global, input: &mut R, output: &mut 
         (R.pull_count input.old, R.pull_count input.new) }
     ensures nothing_put { IsTrue (R.failed input.new) → output.new ≡ output.old }
 {
+    encode_as::<Hexadecimal, R, W>(alloc, input, output)
+}
+
+/// Reads a receipt in JSON from `input`, and prints the bytes of its commands on `output`, as they are. What is refused, and
+/// with which line and status, is as for `encode`.
+pub fn encode_raw<R: ByteIn, W: ByteOut>(alloc: Global, input: &mut R, output: &mut W) -> Status
+    ensures encodes { IfSome (R.to_come input.old) (λ text. EncodesRaw (job_end (W.written output.old) (W.written output.new) (W.failed output.new) result) text) }
+    ensures fair { IsFair result (R.failed input.new) (W.failed output.old, W.failed output.new)
+        (R.pull_count input.old, R.pull_count input.new) }
+    ensures nothing_put { IsTrue (R.failed input.new) → output.new ≡ output.old }
+{
+    encode_as::<Raw, R, W>(alloc, input, output)
+}
+
+// The same for either form.
+fn encode_as<F: ByteForm, R: ByteIn, W: ByteOut>(
+    alloc: Global,
+    input: &mut R,
+    output: &mut W,
+) -> Status
+    ensures encodes { IfSome (R.to_come input.old) (λ text.
+        EncodesAs (λ cs. F.written (spell cs)) (job_end (W.written output.old) (W.written output.new) (W.failed output.new) result) text) }
+    ensures fair { IsFair result (R.failed input.new) (W.failed output.old, W.failed output.new)
+        (R.pull_count input.old, R.pull_count input.new) }
+    ensures nothing_put { IsTrue (R.failed input.new) → output.new ≡ output.old }
+{
     match read_to_end(alloc, input, INPUT_LIMIT) {
-        Ok(text) => encode_text(alloc, text, output),
+        Ok(text) => encode_text::<F, W>(alloc, text, output),
         Err(error) => refuse(InputFault::from(error), output),
     }
 }
 
 // Prints the line for a text.
-fn encode_text<W: ByteOut>(alloc: Global, text: Vec<u8>, output: &mut W) -> Status
-    ensures encodes { EncodesText (job_end (W.written output.old) (W.written output.new) (W.failed output.new) result) text.items }
+fn encode_text<F: ByteForm, W: ByteOut>(
+    alloc: Global,
+    text: Vec<u8>,
+    output: &mut W,
+) -> Status
+    ensures encodes { EncodesTextAs (λ cs. F.written (spell cs)) (job_end (W.written output.old) (W.written output.new) (W.failed output.new) result) text.items }
     ensures device { result ≡ Status.Device → IsTrue (W.failed output.new) }
     ensures not_hidden { result ≢ Status.Device → ¬ IsTrue (W.failed output.old) → ¬ IsTrue (W.failed output.new) }
     ensures never_usage { result ≢ Status.Usage }
 {
     match json_of(alloc, text) {
-        Ok(json) => encode_json(alloc, &json, output),
+        Ok(json) => encode_json::<F, W>(alloc, &json, output),
         Err(fault) => refuse_text(fault, output),
     }
 }
@@ -62,30 +92,34 @@ fn json_of(alloc: Global, text: Vec<u8>) -> Result<ReceiptText, JsonError>
 
 // Prints the line for a text with this value. The commands of a receipt aren't listed: its characters go out from where they
 // stand.
-fn encode_json<W: ByteOut>(alloc: Global, json: &ReceiptText, output: &mut W) -> Status
+fn encode_json<F: ByteForm, W: ByteOut>(
+    alloc: Global,
+    json: &ReceiptText,
+    output: &mut W,
+) -> Status
     ensures encodes { (text : List ℕ) → IsValueOf text json.now →
-        EncodesText (job_end (W.written output.old) (W.written output.new) (W.failed output.new) result) text }
+        EncodesTextAs (λ cs. F.written (spell cs)) (job_end (W.written output.old) (W.written output.new) (W.failed output.new) result) text }
     ensures device { result ≡ Status.Device → IsTrue (W.failed output.new) }
     ensures not_hidden { result ≢ Status.Device → ¬ IsTrue (W.failed output.old) → ¬ IsTrue (W.failed output.new) }
     ensures never_usage { result ≢ Status.Usage }
 {
     match json.entries(alloc) {
-        Ok(entries) => put_line(&entries, output),
+        Ok(entries) => put_whole::<F, W>(&entries, output),
         Err(fault) => refuse_text(fault, output),
     }
 }
 
-// Prints the bytes of the entries in hexadecimal, and the end of the line.
-fn put_line<W: ByteOut>(entries: &[Entry<'_>], output: &mut W) -> Status
+// Prints the bytes of the entries, and what is written after them.
+fn put_whole<F: ByteForm, W: ByteOut>(entries: &[Entry<'_>], output: &mut W) -> Status
     ensures says { PrintsText (job_end (W.written output.old) (W.written output.new) (W.failed output.new) result)
-        (digits_line (flat_map commands_in entries.now)) Status.Good }
+        (F.written (spell (flat_map commands_in entries.now))) Status.Good }
     ensures not_hidden { result ≢ Status.Device → ¬ IsTrue (W.failed output.old) → ¬ IsTrue (W.failed output.new) }
 {
     let mut gather = Gather::new();
-    if put_entries(&mut gather, entries, output).is_err() {
+    if put_entries::<F, W>(&mut gather, entries, output).is_err() {
         return Status::Device;
     }
-    if gather.put(&[LF], output).is_err() {
+    if gather.put(F::ending(), output).is_err() {
         return Status::Device;
     }
     match gather.flush(output) {
@@ -95,54 +129,53 @@ fn put_line<W: ByteOut>(entries: &[Entry<'_>], output: &mut W) -> Status
 }
 
 // Gives the bytes of the entries, one after another.
-fn put_entries<W: ByteOut>(
+fn put_entries<F: ByteForm, W: ByteOut>(
     gather: &mut Gather,
     entries: &[Entry<'_>],
     writer: &mut W,
 ) -> Result<(), Device>
     ensures { IsGiven result (passage (W.written writer.old) (W.written writer.new) (W.failed writer.old) (W.failed writer.new))
-        gather.old gather.new (encode_lower (spell (flat_map commands_in entries.now))) }
+        gather.old gather.new (F.of (spell (flat_map commands_in entries.now))) }
 {
-    // Proof only: of no bytes there are no digits, and appended bytes count as given.
-    laws::digits_in_turn();
+    // Proof only: appended bytes count as given.
     laws::given_in_place();
     for entry in entries {
-        put_entry(gather, entry, writer)?;
+        put_entry::<F, W>(gather, entry, writer)?;
     }
     Ok(())
 }
 
 // Gives the bytes of an entry.
-fn put_entry<W: ByteOut>(
+fn put_entry<F: ByteForm, W: ByteOut>(
     gather: &mut Gather,
     entry: &Entry<'_>,
     writer: &mut W,
 ) -> Result<(), Device>
     ensures { IsGiven result (passage (W.written writer.old) (W.written writer.new) (W.failed writer.old) (W.failed writer.new))
-        gather.old gather.new (encode_lower (spell (commands_in entry.now))) }
+        gather.old gather.new (F.of (spell (commands_in entry.now))) }
 {
     match entry {
-        Entry::Text(text) => put_digits(gather, text.bytes(), writer),
+        Entry::Text(text) => F::put(gather, text.bytes(), writer),
         Entry::Line(text) => {
-            put_digits(gather, text.bytes(), writer)?;
-            put_digits(gather, &[LF], writer)
+            F::put(gather, text.bytes(), writer)?;
+            F::put(gather, &[LF], writer)
         }
-        Entry::Command(command) => put_command(gather, command, writer),
+        Entry::Command(command) => put_command::<F, W>(gather, command, writer),
     }
 }
 
 // Gives the bytes of a command, part by part: a barcode's content and a raster's dots aren't copied.
-fn put_command<W: ByteOut>(
+fn put_command<F: ByteForm, W: ByteOut>(
     gather: &mut Gather,
     command: &Command,
     writer: &mut W,
 ) -> Result<(), Device>
     ensures { IsGiven result (passage (W.written writer.old) (W.written writer.new) (W.failed writer.old) (W.failed writer.new))
-        gather.old gather.new (encode_lower (row command.now)) }
+        gather.old gather.new (F.of (row command.now)) }
 {
     let parts = command.parts();
-    put_digits(gather, parts.prefix, writer)?;
-    put_digits(gather, parts.parameters.as_slice(), writer)?;
-    put_digits(gather, parts.content, writer)?;
-    put_digits(gather, parts.suffix, writer)
+    F::put(gather, parts.prefix, writer)?;
+    F::put(gather, parts.parameters.as_slice(), writer)?;
+    F::put(gather, parts.content, writer)?;
+    F::put(gather, parts.suffix, writer)
 }

@@ -1,4 +1,4 @@
-//! Hexadecimal input: all of a source, read to its end and turned into bytes.
+//! Input: all of a source, read to its end, as its bytes or as those that it writes in hexadecimal.
 
 ghost use Rattle.std.specs.Prelude.{◌≡◌, ◌+◌, ◌<◌, ◌≤◌, length, IfOk, OnOk, IfSome, IsErr, IsErrOf, IsTrue};
 ghost use Rattle.hex.specs.Hex.{decode_of};
@@ -52,6 +52,19 @@ impl From<NotHexadecimal> for InputFault {
     fn from(_fault: NotHexadecimal) -> Self {
         InputFault::NotHexadecimal
     }
+}
+
+/// All bytes of `input`, as they are. At most 16,777,217 bytes are pulled, in at most as many calls.
+pub fn raw_input<R: ByteIn>(alloc: Global, input: &mut R) -> Result<Vec<u8>, InputFault>
+    ensures bytes { IfOk result (λ bytes. IfSome (R.to_come input.old) (λ all. (length all ≤ INPUT_LIMIT) × (bytes.items ≡ all))) }
+    ensures too_long { IsErrOf result InputFault.TooLong → IfSome (R.to_come input.old) (λ all. INPUT_LIMIT < length all) }
+    ensures never_hexadecimal { ¬ IsErrOf result InputFault.NotHexadecimal }
+    ensures device { IsErrOf result InputFault.Device → IsTrue (R.failed input.new) }
+    ensures not_failed { OnOk result (¬ IsTrue (R.failed input.new)) }
+    ensures not_hidden { IsTrue (R.failed input.new) → IsErrOf result InputFault.Device }
+    ensures pulls { R.pull_count input.new ≤ R.pull_count input.old + INPUT_LIMIT + 1 }
+{
+    Ok(read_to_end(alloc, input, INPUT_LIMIT)?)
 }
 
 /// The bytes that `input` writes in hexadecimal. At most 16,777,217 bytes are pulled, in at most as many calls.

@@ -1,5 +1,5 @@
-//! What `check` and `render` share: input in hexadecimal is read as a stream of commands, what they give is printed, then a
-//! last line, and a status is returned.
+//! What `check` and `render` share: input, in hexadecimal or as it is, is read as a stream of commands, what they give is
+//! printed, then a last line, and a status is returned.
 //!
 //! What the commands give is left to the job: `check` and `render` are two.
 
@@ -8,10 +8,10 @@ ghost use Rattle.escpos_command.specs.declared.command.Command.{Command};
 ghost use Rattle.escpos_jobs.specs.LastText.{last_text};
 ghost use Rattle.escpos_io.specs.Gather.{Carries, Gathered};
 ghost use Rattle.escpos_jobs.specs.Ending.{IsFair, PrintsText, job_end};
-ghost use Rattle.escpos_jobs.specs.Report.{Shape, Reports, Runs};
+ghost use Rattle.escpos_jobs.specs.Report.{Shape, Reports, Runs, RunsRaw};
 
 use crate::ending::{refuse, status_of};
-use crate::input::hexadecimal_input;
+use crate::input::{hexadecimal_input, raw_input};
 use crate::lines::Last;
 use crate::status::Status;
 use escpos_decode::{Consumer, Decoder, Stop, read_piece};
@@ -79,6 +79,25 @@ pub fn run<R: ByteIn, W: ByteOut, J: Job<W>>(alloc: Global, input: &mut R, outpu
     ensures nothing_put { IsTrue (R.failed input.new) → output.new ≡ output.old }
 {
     match hexadecimal_input(alloc, input) {
+        Ok(bytes) => report::<W, J>(alloc, &bytes, output),
+        Err(fault) => refuse(fault, output),
+    }
+}
+
+/// Reads a stream from `input`, as it is, and prints what the job `J` makes of it on `output`. `run` says which status comes
+/// when; no input is refused as not hexadecimal.
+pub fn run_raw<R: ByteIn, W: ByteOut, J: Job<W>>(
+    alloc: Global,
+    input: &mut R,
+    output: &mut W,
+) -> Status
+    ensures runs { IfSome (R.to_come input.old) (λ bytes.
+        RunsRaw J.shape (job_end (W.written output.old) (W.written output.new) (W.failed output.new) result) bytes) }
+    ensures fair { IsFair result (R.failed input.new) (W.failed output.old, W.failed output.new)
+        (R.pull_count input.old, R.pull_count input.new) }
+    ensures nothing_put { IsTrue (R.failed input.new) → output.new ≡ output.old }
+{
+    match raw_input(alloc, input) {
         Ok(bytes) => report::<W, J>(alloc, &bytes, output),
         Err(fault) => refuse(fault, output),
     }

@@ -4,10 +4,11 @@
 //! `encode` and `play` are the jobs over any source and sink, and `emulate`, `send` and `loop_link` those over TCP. `job`
 //! has what `check` and `render` share, `script` reads the lines of a script and `script_output` has those that `play`
 //! prints, `lines` has the lines of a listing, `notes` the note on a wrong check digit, and `paper_text` keeps the paper of
-//! `emulate`. `input`, `hexadecimal` and `receipt_input` read the input, `refusal` has the line that refuses a receipt,
+//! `emulate`. `input`, `hexadecimal` and `receipt_input` read the input, `byte_form` has the two forms in which `encode` writes, `refusal` has the line that refuses a receipt,
 //! `ending` the line that a job prints in place of everything else, and `status` the exit status of the program.
 #![tactic(auto)]
 
+mod byte_form;
 pub mod check;
 pub mod emulate;
 pub mod encode;

@@ -10,11 +10,11 @@ ghost use Rattle.escpos_paper.specs.Torn.{TornIs, bare};
 ghost use Rattle.escpos_paper.specs.declared.paper.TheConstants.{MOST_ITEMS};
 ghost use Rattle.escpos_jobs.specs.declared.job.Obstacle.TheVariants as obstacle;
 ghost use Rattle.escpos_jobs.specs.Ending.{IsFair, job_end};
-ghost use Rattle.escpos_jobs.specs.Render.{RendersInput, paper_shape};
+ghost use Rattle.escpos_jobs.specs.Render.{RendersInput, RendersRaw, paper_shape};
 ghost use Rattle.escpos_jobs.specs.RenderSteps.{IsRendered};
 ghost use Rattle.escpos_jobs.specs.Obstacle.{device_is_no_memory, memory_is_no_device};
 
-use crate::job::{Job, Obstacle, run};
+use crate::job::{Job, Obstacle, run, run_raw};
 use crate::lines::Last;
 use crate::status::Status;
 use escpos_command::Command;
@@ -35,6 +35,16 @@ pub fn render<R: ByteIn, W: ByteOut>(alloc: Global, input: &mut R, output: &mut 
     ensures nothing_put { IsTrue (R.failed input.new) → output.new ≡ output.old }
 {
     run::<R, W, Rendering>(alloc, input, output)
+}
+
+/// Reads a stream from `input`, as it is, and writes the paper that it prints to `output`, as `render` does.
+pub fn render_raw<R: ByteIn, W: ByteOut>(alloc: Global, input: &mut R, output: &mut W) -> Status
+    ensures renders { IfSome (R.to_come input.old) (λ bytes. RendersRaw (job_end (W.written output.old) (W.written output.new) (W.failed output.new) result) bytes) }
+    ensures fair { IsFair result (R.failed input.new) (W.failed output.old, W.failed output.new)
+        (R.pull_count input.old, R.pull_count input.new) }
+    ensures nothing_put { IsTrue (R.failed input.new) → output.new ≡ output.old }
+{
+    run_raw::<R, W, Rendering>(alloc, input, output)
 }
 
 // The paper that the commands so far have printed on, all of which is torn off, and the text of it that isn't printed yet.
