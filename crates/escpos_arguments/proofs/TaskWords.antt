@@ -3,7 +3,7 @@ use Rattle.std.proofs.Common.{◌≡◌, ◌⊎◌, ◌∙◌, ◌||◌, ◌&&�
 use Rattle.std.specs.Prelude.{if◌then◌else◌, IfOk}
 use Rattle.std.specs.Box.{box_value}
 use Rattle.std.specs.Str.{bytes_eq}
-use Rattle.clap.specs.Words.{App, Row, Rule, Shape, Text, app_of, built, fault_of, is_simple_and_free, is_simple, subcommand_of, subcommand_rows, subcommand_rows_of, subcommand_name_of, FailsBy, HasKind, Kinds, HasMatchesOf, kind_of, IsAmong}
+use Rattle.clap.specs.Words.{App, Row, Rule, Shape, Text, app_of, built, fault_of, first_of, is_simple_and_free, is_simple, subcommand_of, subcommand_rows, subcommand_rows_of, subcommand_name_of, FailsBy, HasKind, Kinds, HasMatchesOf, kind_of, IsAmong}
 use Rattle.clap.specs.Walk.{Held, Names, Outcome, Step, Walk, after_flag, after_step, answers_to, idle, nothing_held, done, waits, plain, refused, short_or_plain, long_or_other, stop_after, subcommand_met, subcommand_or_other, trailing, walk_from, walked}
 use Rattle.clap.specs.Simple.{names_of, entered}
 use Rattle.clap.specs.Lexer.{long_of, short_of}
@@ -15,12 +15,12 @@ use Rattle.clap.specs.declared.builder.command.Command.{Command}
 use Rattle.clap.specs.declared.builder.command.Command.TheViews.{out-Command}
 use Rattle.clap.specs.declared.parser.matches.ArgMatches.{ArgMatches}
 use Rattle.clap.specs.declared.parser.matches.ArgMatches.TheViews.{out-ArgMatches, out-SubCommand}
-use Rattle.escpos_arguments.specs.Arguments.{AsksBy, IsPlain, command_words, help_words, name_of, words_of}
+use Rattle.escpos_arguments.specs.Arguments.{AsksBy, HasRaw, IsPlain, command_words, help_words, name_of, words_of}
 use Rattle.escpos_arguments.specs.ClapAnswers.{no_task_of}
 use Rattle.escpos_jobs.specs.declared.task.NoTask.{NoTask}
 use Rattle.escpos_jobs.specs.declared.task.NoTask.TheVariants.{Help, Memory}
 use Rattle.escpos_jobs.specs.declared.task.Task.{Task}
-use Rattle.escpos_jobs.specs.declared.task.Task.TheVariants.{Check, Render, Encode, Play, Emulate, Send, Loop}
+use Rattle.escpos_jobs.specs.declared.task.Task.TheVariants.{Check, CheckRaw, Render, RenderRaw, Encode, EncodeRaw, Play, Emulate, Send, Loop}
 use Rattle.std.proofs.lemmas.Slice.Eq.{bytes_eq-Decides}
 
 pub is_exact : is_simple_and_free command_words ≡ true
@@ -344,8 +344,11 @@ is_word (word ∷ other ∷ rest) name e one = absurd (omega arith)
 
 pub task_met : (task : Task) → IsPlain task → met_by (words_of task) ≡ Some (name_of task)
 task_met Check alone = check_met
+task_met CheckRaw alone = absurd alone
 task_met Render alone = render_met
+task_met RenderRaw alone = absurd alone
 task_met Encode alone = encode_met
+task_met EncodeRaw alone = absurd alone
 task_met Play alone = play_met
 task_met (Emulate address links) alone = absurd alone
 task_met (Send address first openings) alone = absurd alone
@@ -353,8 +356,11 @@ task_met Loop alone = loop_met
 
 pub task_passes : (task : Task) → IsPlain task → fault_of command_words (words_of task) ≡ []
 task_passes Check alone = check_passes
+task_passes CheckRaw alone = absurd alone
 task_passes Render alone = render_passes
+task_passes RenderRaw alone = absurd alone
 task_passes Encode alone = encode_passes
+task_passes EncodeRaw alone = absurd alone
 task_passes Play alone = play_passes
 task_passes (Emulate address links) alone = absurd alone
 task_passes (Send address first openings) alone = absurd alone
@@ -363,12 +369,68 @@ task_passes Loop alone = loop_passes
 -- a task without values is asked for by its name
 pub plain_name : (task : Task) (name : Text) (rows : List Row) → IsPlain task → AsksBy name rows task → name ≡ name_of task
 plain_name Check name rows alone asks = asks
+plain_name CheckRaw name rows alone asks = absurd alone
 plain_name Render name rows alone asks = asks
+plain_name RenderRaw name rows alone asks = absurd alone
 plain_name Encode name rows alone asks = asks
+plain_name EncodeRaw name rows alone asks = absurd alone
 plain_name Play name rows alone asks = asks
 plain_name (Emulate address links) name rows alone asks = absurd alone
 plain_name (Send address first openings) name rows alone asks = absurd alone
 plain_name Loop name rows alone asks = asks
+
+-- ---- the flag of a task without values
+
+-- the flag that follows the name
+abbrev raw_of : List Text → Option (Option Text)
+raw_of texts = option_map (λ p. first_of (codes "raw") p.1) (subcommand_of command_words texts)
+
+check_flag : raw_of (codes "check" ∷ []) ≡ Some (Some (codes "false"))
+unfolding clap_on_literals
+check_flag = refl
+
+render_flag : raw_of (codes "render" ∷ []) ≡ Some (Some (codes "false"))
+unfolding clap_on_literals
+render_flag = refl
+
+encode_flag : raw_of (codes "encode" ∷ []) ≡ Some (Some (codes "false"))
+unfolding clap_on_literals
+encode_flag = refl
+
+play_flag : raw_of (codes "play" ∷ []) ≡ Some None
+unfolding clap_on_literals
+play_flag = refl
+
+loop_flag : raw_of (codes "loop" ∷ []) ≡ Some None
+unfolding clap_on_literals
+loop_flag = refl
+
+some_other : (o : Option Text) → Some o ≡ Some (Some (codes "false")) → o ≡ Some (codes "true") → ⊥
+some_other o e h = let no : Some (codes "true") ≡ Some (codes "false") = cc in let bad : codes "true" ≡ codes "false" = cc in text_other (ap length bad)
+  where
+    text_other : length (codes "true") ≡ length (codes "false") → ⊥
+    text_other e = omega (arith, e)
+
+none_other : (o : Option Text) → Some o ≡ Some None → o ≡ Some (codes "true") → ⊥
+none_other o e h = let no : None ≡ Some (codes "true") = cc in cc
+
+no_flag : (task : Task) → IsPlain task → (o : Option Text) → Some o ≡ raw_of (words_of task) → o ≡ Some (codes "true") → ⊥
+no_flag Check alone o e = some_other o (e ∙ check_flag)
+no_flag CheckRaw alone o e = absurd alone
+no_flag Render alone o e = some_other o (e ∙ render_flag)
+no_flag RenderRaw alone o e = absurd alone
+no_flag Encode alone o e = some_other o (e ∙ encode_flag)
+no_flag EncodeRaw alone o e = absurd alone
+no_flag Play alone o e = none_other o (e ∙ play_flag)
+no_flag (Emulate address links) alone o e = absurd alone
+no_flag (Send address first openings) alone o e = absurd alone
+no_flag Loop alone o e = none_other o (e ∙ loop_flag)
+
+-- the arguments of a task without values have no such flag
+pub not_raw : (task : Task) (texts : List Text) (name : Text) (rows : List Row) → IsPlain task → Some (name, rows) ≡ subcommand_of command_words texts
+    → texts ≡ words_of task → ¬ HasRaw rows
+not_raw task texts name rows alone found e =
+    no_flag task alone (first_of (codes "raw") rows) (ap (option_map (λ p. first_of (codes "raw") p.1)) found ∙ ap raw_of e)
 
 -- ---- what a parse of the arguments gives
 

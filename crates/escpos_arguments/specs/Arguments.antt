@@ -6,7 +6,7 @@ use Rattle.std.specs.Net.Grammar.{IsSocketV4Text}
 use Rattle.std.specs.Net.Text.{socket_v4_text}
 use Rattle.clap.specs.Words.{App, Row, Rule, Shape, Text, first_of, new_app, new_rule, one_of, with_rule, with_subcommand}
 use Rattle.clap.specs.Simple.{new_shape, on_top}
-use Rattle.clap.specs.declared.builder.action.ArgAction.TheVariants.{Set}
+use Rattle.clap.specs.declared.builder.action.ArgAction.TheVariants.{Set, SetTrue}
 use Rattle.clap.specs.declared.error.kind.ErrorKind.{ErrorKind}
 use Rattle.clap.specs.declared.error.kind.ErrorKind.TheVariants.{DisplayHelp, OutOfMemory}
 use Rattle.escpos_command.specs.Digits.{mark_count}
@@ -14,7 +14,7 @@ use Rattle.escpos_arguments.specs.declared.arguments.TheConstants.{LINKS, MOST_L
 use Rattle.escpos_jobs.specs.declared.task.NoTask.{NoTask}
 use Rattle.escpos_jobs.specs.declared.task.NoTask.TheVariants.{Usage, Help, Memory}
 use Rattle.escpos_jobs.specs.declared.task.Task.{Task}
-use Rattle.escpos_jobs.specs.declared.task.Task.TheVariants.{Check, Render, Encode, Play, Emulate, Send, Loop}
+use Rattle.escpos_jobs.specs.declared.task.Task.TheVariants.{Check, CheckRaw, Render, RenderRaw, Encode, EncodeRaw, Play, Emulate, Send, Loop}
 
 -- ---- what a text says
 
@@ -37,8 +37,11 @@ IsNumberOr fallback (Some text) n = IsNumber text n
 -- the first argument of those that ask for a task
 abbrev pub name_of : Task → Text
 name_of Check = codes "check"
+name_of CheckRaw = codes "check"
 name_of Render = codes "render"
+name_of RenderRaw = codes "render"
 name_of Encode = codes "encode"
+name_of EncodeRaw = codes "encode"
 name_of Play = codes "play"
 name_of (Emulate address links) = codes "emulate"
 name_of (Send address first openings) = codes "send"
@@ -46,6 +49,9 @@ name_of Loop = codes "loop"
 
 -- the task has no values, so that its name is all that asks for it
 abbrev pub IsPlain : Task → Type 0
+IsPlain CheckRaw = ⊥
+IsPlain RenderRaw = ⊥
+IsPlain EncodeRaw = ⊥
 IsPlain (Emulate address links) = ⊥
 IsPlain (Send address first openings) = ⊥
 IsPlain _ = ⊤
@@ -54,11 +60,18 @@ IsPlain _ = ⊤
 abbrev pub words_of : Task → List Text
 words_of task = name_of task ∷ []
 
+-- the flag `--raw` is among the values
+abbrev pub HasRaw : List Row → Type 0
+HasRaw rows = first_of (codes "raw") rows ≡ Some (codes "true")
+
 -- this name, with the values that were given after it, asks for the task
 abbrev pub AsksBy : Text → List Row → Task → Type 0
 AsksBy name rows Check = name ≡ codes "check"
+AsksBy name rows CheckRaw = (name ≡ codes "check") × HasRaw rows
 AsksBy name rows Render = name ≡ codes "render"
+AsksBy name rows RenderRaw = (name ≡ codes "render") × HasRaw rows
 AsksBy name rows Encode = name ≡ codes "encode"
+AsksBy name rows EncodeRaw = (name ≡ codes "encode") × HasRaw rows
 AsksBy name rows Play = name ≡ codes "play"
 AsksBy name rows (Emulate address links) = (name ≡ codes "emulate")
     × IsSomeAnd (first_of (codes "address") rows) (λ text. IsAddress text address)
@@ -100,6 +113,14 @@ address_rule = record (new_rule (codes "address")) { required = true; action = S
 abbrev pub option_rule : Text → Bool → Rule
 option_rule name required = record (new_rule name) { long = Some name; required = required; action = Some Set }
 
+-- a flag: two dashes and this name
+abbrev pub flag_rule : Text → Rule
+flag_rule name = record (new_rule name) { long = Some name; action = Some SetTrue }
+
+-- what may follow `check`, `render` and `encode`
+abbrev pub raw_words : Text → Shape
+raw_words name = (with_rule (new_app name) (flag_rule (codes "raw"))).top
+
 -- what may follow `emulate`
 abbrev pub emulate_words : Shape
 emulate_words = (with_rule (with_rule (new_app (codes "emulate")) address_rule) (option_rule (codes "links") false)).top
@@ -118,7 +139,7 @@ stream_words =
       subcommand_required = true;
     }) (new_app (codes "escpos_cli")) in
     with_subcommand (with_subcommand (with_subcommand (with_subcommand top
-    (new_shape (codes "check"))) (new_shape (codes "render"))) (new_shape (codes "encode"))) (new_shape (codes "play"))
+    (raw_words (codes "check"))) (raw_words (codes "render"))) (raw_words (codes "encode"))) (new_shape (codes "play"))
 
 -- the name of a task with its values, or `help`, and nothing more
 abbrev pub command_words : App

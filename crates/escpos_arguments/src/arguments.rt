@@ -1,11 +1,11 @@
 //! The arguments of the command line: which task they name, and which refusal they get where they name none.
 
-ghost use Rattle.std.specs.Prelude.{◌≡◌, ◌≢◌, ◌⊎◌, ◌≤◌, ◌<◌, ℕ, Option, [], ◌∷◌, false, IfErr, IfOk, IsSomeAnd, Contains, codes, drop, map};
+ghost use Rattle.std.specs.Prelude.{◌≡◌, ◌≢◌, ◌⊎◌, ◌≤◌, ◌<◌, ◌↔◌, ℕ, Option, [], ◌∷◌, false, IfErr, IfOk, IsSomeAnd, IsTrue, Contains, codes, drop, map};
 ghost use Rattle.std.specs.declared.net.socket_addr.SocketAddrV4.{SocketAddrV4};
 ghost use Rattle.clap.specs.Words.{HasKind, IsAmong, app_of, fault_of, first_of, found_of, kind_of, one_of, rows_of, rule_of, subcommand_of, subcommand_rows_of};
 ghost use Rattle.escpos_command.specs.Digits.{mark_count};
 ghost use Rattle.escpos_jobs.specs.declared.task.Task.{Task};
-ghost use Rattle.escpos_arguments.specs.Arguments.{Asks, AsksBy, InRange, IsAddress, IsNumber, IsNumberOr, IsPlain, address_rule, command_words, emulate_words, help_words, name_of, option_rule, send_words, stream_words, words_of};
+ghost use Rattle.escpos_arguments.specs.Arguments.{Asks, AsksBy, HasRaw, InRange, IsAddress, IsNumber, IsNumberOr, IsPlain, address_rule, command_words, emulate_words, flag_rule, help_words, name_of, option_rule, raw_words, send_words, stream_words, words_of};
 ghost use Rattle.escpos_arguments.specs.ClapAnswers.{IsNumberIn, no_task_of};
 
 use clap::error::ErrorKind;
@@ -90,15 +90,18 @@ fn task_asked(alloc: Global, name: &str, given: &ArgMatches, count: usize) -> Re
     ensures asks { IfOk result (AsksBy name.now (rows_of (found_of given.now))) }
     ensures ranges { IfOk result InRange }
     ensures alone { IfOk result (λ task. IsPlain task → count ≡ 1) }
-    ensures named { (task : Task) → IsPlain task → name.now ≡ name_of task → count ≡ 1 → result ≡ Ok task }
+    ensures named { (task : Task) → IsPlain task → name.now ≡ name_of task → count ≡ 1 → ¬ HasRaw (rows_of (found_of given.now)) → result ≡ Ok task }
     ensures taken { (task : Task) → ¬ IsPlain task → AsksBy name.now (rows_of (found_of given.now)) task → InRange task
         → (result ≡ Ok task) ⊎ (result ≡ Err NoTask.Memory) }
     ensures help { name.now ≡ codes "help" → count ≡ 1 → result ≡ Err NoTask.Help }
     ensures help_only { result ≡ Err NoTask.Help → (name.now ≡ codes "help") × (count ≡ 1) }
 {
     match name {
+        "check" if is_raw(given) => Ok(Task::CheckRaw),
         "check" if count == 1 => Ok(Task::Check),
+        "render" if is_raw(given) => Ok(Task::RenderRaw),
         "render" if count == 1 => Ok(Task::Render),
+        "encode" if is_raw(given) => Ok(Task::EncodeRaw),
         "encode" if count == 1 => Ok(Task::Encode),
         "play" if count == 1 => Ok(Task::Play),
         "emulate" => emulate_asked(alloc, given),
@@ -106,6 +109,16 @@ fn task_asked(alloc: Global, name: &str, given: &ArgMatches, count: usize) -> Re
         "loop" if count == 1 => Ok(Task::Loop),
         "help" if count == 1 => Err(NoTask::Help),
         _ => Err(NoTask::Usage),
+    }
+}
+
+// Whether `--raw` is given.
+fn is_raw(given: &ArgMatches) -> bool
+    ensures { IsTrue result ↔ HasRaw (rows_of (found_of given.now)) }
+{
+    match given.get_str("raw") {
+        Some(text) => text == "true",
+        None => false,
     }
 }
 
@@ -247,14 +260,25 @@ fn command_of_all<'a>(alloc: Global) -> Result<Command<'a>, AllocError>
 fn command_of_streams<'a>(alloc: Global) -> Result<Command<'a>, AllocError>
     ensures shape { IfOk result (λ command. app_of command ≡ stream_words) }
 {
+    let check = raw_command(alloc, "check")?;
+    let render = raw_command(alloc, "render")?;
+    let encode = raw_command(alloc, "encode")?;
     let command = Command::new(alloc, "escpos_cli")
         .no_binary_name(true)
         .disable_help_subcommand(true)
         .subcommand_required(true)
-        .subcommand(Command::new(alloc, "check"))?
-        .subcommand(Command::new(alloc, "render"))?
-        .subcommand(Command::new(alloc, "encode"))?
+        .subcommand(check)?
+        .subcommand(render)?
+        .subcommand(encode)?
         .subcommand(Command::new(alloc, "play"))?;
+    Ok(command)
+}
+
+// A subcommand that may be followed by `--raw`.
+fn raw_command<'a>(alloc: Global, name: &'a str) -> Result<Command<'a>, AllocError>
+    ensures shape { IfOk result (λ command. (app_of command).top ≡ raw_words name.entry.now) }
+{
+    let command = Command::new(alloc, name).arg(flag(alloc, "raw"))?;
     Ok(command)
 }
 
@@ -298,4 +322,12 @@ pub(crate) fn option<'a>(alloc: Global, name: &'a str, required: bool) -> Arg<'a
         .long(name)
         .required(required)
         .action(ArgAction::Set)
+}
+
+// A flag: two dashes and this name.
+fn flag<'a>(alloc: Global, name: &'a str) -> Arg<'a>
+    ensures rule { rule_of result ≡ flag_rule name.entry.now }
+    ensures local { result.global ≡ false }
+{
+    Arg::new(alloc, name).long(name).action(ArgAction::SetTrue)
 }

@@ -2,21 +2,21 @@
 
 ghost use Rattle.std.specs.Prelude.{◌≡◌, ◌≢◌, ◌⊎◌, ◌+◌, ◌≤◌, IfSome, IsTrue};
 ghost use Rattle.escpos_jobs.specs.declared.input.TheConstants.{INPUT_LIMIT};
-ghost use Rattle.escpos_jobs.specs.Check.{Checks};
-ghost use Rattle.escpos_jobs.specs.Encode.{Encodes};
-ghost use Rattle.escpos_jobs.specs.Render.{RendersInput};
+ghost use Rattle.escpos_jobs.specs.Check.{Checks, ChecksRaw};
+ghost use Rattle.escpos_jobs.specs.Encode.{Encodes, EncodesRaw};
+ghost use Rattle.escpos_jobs.specs.Render.{RendersInput, RendersRaw};
 ghost use Rattle.escpos_jobs.specs.Ending.{PrintsText, memory_line, job_end};
 ghost use Rattle.escpos_jobs.specs.Play.{Plays};
 ghost use Rattle.escpos_jobs.specs.declared.usage.TheConstants.{HELP, USAGE};
 ghost use Rattle.escpos_jobs.specs.Perform.{ReadsInput, UsesLinks};
 
-use crate::check::check;
+use crate::check::{check, check_raw};
 use crate::emulate::emulate;
-use crate::encode::encode;
+use crate::encode::{encode, encode_raw};
 use crate::ending::{MEMORY, say};
 use crate::loop_link::loop_receipt;
 use crate::play::play;
-use crate::render::render;
+use crate::render::{render, render_raw};
 use crate::send::send_to;
 use crate::status::Status;
 use crate::task::{NoTask, Task};
@@ -43,6 +43,12 @@ pub fn perform<N: Net<Stream = TcpStream, Listener = TcpListener>, R: ByteIn, W:
         IfSome (R.to_come input.old) (λ text. RendersInput (job_end (W.written output.old) (W.written output.new) (W.failed output.new) result) text) }
     ensures encode { asked ≡ Ok Task.Encode →
         IfSome (R.to_come input.old) (λ text. Encodes (job_end (W.written output.old) (W.written output.new) (W.failed output.new) result) text) }
+    ensures check_raw { asked ≡ Ok Task.CheckRaw →
+        IfSome (R.to_come input.old) (λ bytes. ChecksRaw (job_end (W.written output.old) (W.written output.new) (W.failed output.new) result) bytes) }
+    ensures render_raw { asked ≡ Ok Task.RenderRaw →
+        IfSome (R.to_come input.old) (λ bytes. RendersRaw (job_end (W.written output.old) (W.written output.new) (W.failed output.new) result) bytes) }
+    ensures encode_raw { asked ≡ Ok Task.EncodeRaw →
+        IfSome (R.to_come input.old) (λ text. EncodesRaw (job_end (W.written output.old) (W.written output.new) (W.failed output.new) result) text) }
     ensures play { asked ≡ Ok Task.Play →
         IfSome (R.to_come input.old) (λ text. Plays (job_end (W.written output.old) (W.written output.new) (W.failed output.new) result) text) }
     ensures help { asked ≡ Err NoTask.Help →
@@ -61,8 +67,11 @@ pub fn perform<N: Net<Stream = TcpStream, Listener = TcpListener>, R: ByteIn, W:
 {
     match asked {
         Ok(Task::Check) => check(alloc, input, output),
+        Ok(Task::CheckRaw) => check_raw(alloc, input, output),
         Ok(Task::Render) => render(alloc, input, output),
+        Ok(Task::RenderRaw) => render_raw(alloc, input, output),
         Ok(Task::Encode) => encode(alloc, input, output),
+        Ok(Task::EncodeRaw) => encode_raw(alloc, input, output),
         Ok(Task::Play) => play(alloc, input, output),
         Ok(Task::Emulate { address, links }) => emulate(net, alloc, address, links, output),
         Ok(

@@ -6,12 +6,18 @@ use thiserror::Error;
 /// What the program is asked to do.
 #[derive(Clone, Copy, Debug, PartialEq, Eq)]
 pub enum Task {
-    /// List the commands of a byte stream.
+    /// List the commands of a byte stream, which is given in hexadecimal.
     Check,
-    /// Write the paper that a byte stream prints.
+    /// The same of a stream that is given as it is.
+    CheckRaw,
+    /// Write the paper that a byte stream prints, which is given in hexadecimal.
     Render,
-    /// Write the bytes of a receipt's commands.
+    /// The same of a stream that is given as it is.
+    RenderRaw,
+    /// Write the bytes of a receipt's commands in hexadecimal.
     Encode,
+    /// Write the bytes of a receipt's commands as they are.
+    EncodeRaw,
     /// Play a script of what happens on a line.
     Play,
     /// Be a printer at this address for `links` links, and write its paper.
