@@ -2,9 +2,9 @@
 
 /// The text for arguments that name no task.
 pub const USAGE: &str = "\
-usage: escpos_cli check  < HEXADECIMAL
-       escpos_cli render < HEXADECIMAL
-       escpos_cli encode < RECEIPT
+usage: escpos_cli check [--raw] < STREAM
+       escpos_cli render [--raw] < STREAM
+       escpos_cli encode [--raw] < RECEIPT
        escpos_cli play < SCRIPT
        escpos_cli emulate ADDRESS [--links N]
        escpos_cli send ADDRESS --first F [--openings N] < RECEIPT
@@ -22,19 +22,21 @@ exact byte at which the stream is refused, and writes the stream of a receipt.
 Over TCP it is a printer, or sends a receipt to one and learns that it is
 printed. A till's receipts wait in a ledger, a file, until they are printed.
 
-`check` and `render` read the stream from standard input, as hexadecimal digits
-of either case; spaces, tabs and line ends between them are ignored. Input of
-more than 16777216 bytes gives the one line `refused input`, any other that
-isn't hexadecimal `refused hex`. A last line `memory` says that the program ran
-out of memory.
+`check` and `render` read the stream from standard input: with `--raw` all of
+its bytes as they are, otherwise hexadecimal digits of either case; spaces, tabs
+and line ends between these are ignored. Input of more than 16777216 bytes gives
+the one line `refused input`; without `--raw` any other that isn't hexadecimal
+gives `refused hex`: bytes want `--raw`. A last line `memory` says that the
+program ran out of memory.
 
-  escpos_cli check
+  escpos_cli check [--raw]
       Lists the commands. Each gives one line: the number of bytes before it,
       its name, and what it carries. The last line is `end N pending P`, where N
       bytes were read and the last P of them are a command that isn't complete,
       or `fault K NUMBER NAME`, where the byte at place K is refused. A barcode
       with a wrong check digit is followed by a line `note`.
 
+          $ escpos_cli check --raw < capture.bin
           $ echo '1B 40 48 69 0A 1D 56 00' | escpos_cli check
           0 init
           2 char 48
@@ -43,13 +45,14 @@ out of memory.
           5 cut 00
           end 8 pending 0
 
-  escpos_cli render
+  escpos_cli render [--raw]
       Writes the paper that the commands print, an item a line: rows of
       characters with their alignment and styles, barcodes, rasters, feeds of
       lines (`feed`) and of motion units (`units`), and cuts. After a
       refused byte or a command that isn't complete the last line of `check`
       follows.
 
+          $ escpos_cli render --raw < capture.bin
           $ echo '1B 40 48 69 0A 1D 56 00' | escpos_cli render
           row left Hi
           feed 1
@@ -68,10 +71,12 @@ out of memory.
           $ echo '1D 6B 44 07 35 35 31 32 33 34 35' | escpos_cli render
           bars left ean8 162 3 none A 55123457
 
-  escpos_cli encode
+  escpos_cli encode [--raw]
       Reads a receipt in JSON from standard input, and writes the bytes of its
-      commands in hexadecimal, in one line.
+      commands: with `--raw` as they are, with no line end, otherwise in
+      hexadecimal, in one line.
 
+          $ escpos_cli encode --raw < receipt.json > /dev/usb/lp0
           $ echo '[{\"line\":\"Hi\"},{\"cut\":\"full\"}]' | escpos_cli encode
           48690a1d5600
 

@@ -8,4 +8,5 @@ mod examples;
 mod help;
 mod input;
 mod play;
+mod raw;
 mod render;

@@ -9,7 +9,7 @@ use crate::support::refusals::{BARCODE, STREAM, bytes_at_last, is_told};
 use escpos_arguments::task_of;
 use escpos_host::{JsonError, Receipt};
 use escpos_io::{ByteIn, MemoryIn, MemoryOut};
-use escpos_jobs::input::{InputFault, hexadecimal_input};
+use escpos_jobs::input::{InputFault, hexadecimal_input, raw_input};
 use escpos_jobs::receipt_input::{NoReceipt, read_receipt};
 use escpos_jobs::script::{NoEvent, event_of};
 use escpos_jobs::status::Status;
@@ -44,6 +44,15 @@ const ENCODED_LINE: (&[u8], Status) = (
     Status::Good,
 );
 
+// The same stream and the same receipt as bytes.
+const STREAM_BYTES: &[u8] =
+    b"Hi\n\x1Dk\x035512345\x00\x1Dv0\x00\x01\x00\x02\x00\xF0\x0FHi\nHi\nHi\n\x1B";
+
+const ENCODED_BYTES: (&[u8], Status) = (
+    b"Hi\n\x1DkD\x075512345\x1Dv0\x00\x01\x00\x02\x00\xF0\x0F\x1D!\x11\x1DV\x00",
+    Status::Good,
+);
+
 // A script, and what is put of it.
 const SCRIPT: &[u8] =
     b"linkup\nnudge\nmove 99\ndeliver 99\nhandover\nhandover\nanswer 14\nask 1\nsubmit [{\"line\":\"Hi\"}]\n\
@@ -62,6 +71,9 @@ enum Job {
     Check,
     Render,
     Encode,
+    CheckRaw,
+    RenderRaw,
+    EncodeRaw,
     Play,
     Perform(Task),
 }
@@ -71,6 +83,9 @@ fn do_job(alloc: Global, job: Job, source: &mut MemoryIn, sink: &mut MemoryOut) 
         Job::Check => escpos_jobs::check::check(alloc, source, sink),
         Job::Render => escpos_jobs::render::render(alloc, source, sink),
         Job::Encode => escpos_jobs::encode::encode(alloc, source, sink),
+        Job::CheckRaw => escpos_jobs::check::check_raw(alloc, source, sink),
+        Job::RenderRaw => escpos_jobs::render::render_raw(alloc, source, sink),
+        Job::EncodeRaw => escpos_jobs::encode::encode_raw(alloc, source, sink),
         Job::Play => escpos_jobs::play::play(alloc, source, sink),
         Job::Perform(task) => run_job(&NoNetwork, alloc, Ok(task), source, sink),
     }
@@ -108,6 +123,22 @@ fn encode_refused(rt: HostRuntime) {
 }
 
 #[test]
+fn check_raw_refused(rt: HostRuntime) {
+    puts_at_last(&rt, rt.alloc(), Job::CheckRaw, STREAM_BYTES, LISTED_STREAM);
+}
+
+#[test]
+fn render_raw_refused(rt: HostRuntime) {
+    let wanted = RENDERED_STREAM;
+    puts_at_last(&rt, rt.alloc(), Job::RenderRaw, STREAM_BYTES, wanted);
+}
+
+#[test]
+fn encode_raw_refused(rt: HostRuntime) {
+    puts_at_last(&rt, rt.alloc(), Job::EncodeRaw, RECEIPT_TEXT, ENCODED_BYTES);
+}
+
+#[test]
 fn play_refused(rt: HostRuntime) {
     puts_at_last(&rt, rt.alloc(), Job::Play, SCRIPT, PLAYED);
 }
@@ -118,6 +149,9 @@ fn perform_refused(rt: HostRuntime) {
         (Task::Check, STREAM_TEXT, LISTED_STREAM),
         (Task::Render, STREAM_TEXT, RENDERED_STREAM),
         (Task::Encode, RECEIPT_TEXT, ENCODED_LINE),
+        (Task::CheckRaw, STREAM_BYTES, LISTED_STREAM),
+        (Task::RenderRaw, STREAM_BYTES, RENDERED_STREAM),
+        (Task::EncodeRaw, RECEIPT_TEXT, ENCODED_BYTES),
         (Task::Play, SCRIPT, PLAYED),
     ] {
         puts_at_last(&rt, rt.alloc(), Job::Perform(task), text, wanted);
@@ -154,16 +188,25 @@ fn task_of_refused(rt: HostRuntime) {
     asks_at_last(&rt, rt.alloc(), &arguments, Ok(wanted));
 }
 
-// The bytes that an input writes. Where memory is refused the source hasn't failed, and a new one is read.
-fn input_at_last(rt: &impl Abort, alloc: Global, text: &[u8]) -> Vec<u8> {
+// The bytes of an input, as they are or in hexadecimal.
+fn input_of(alloc: Global, source: &mut MemoryIn, raw: bool) -> Result<Vec<u8>, InputFault> {
+    if raw {
+        raw_input(alloc, source)
+    } else {
+        hexadecimal_input(alloc, source)
+    }
+}
+
+// The same. Where memory is refused the source hasn't failed, and a new one is read.
+fn input_at_last(rt: &impl Abort, alloc: Global, text: &[u8], raw: bool) -> Vec<u8> {
     let mut source = MemoryIn::new(text, 7);
-    match hexadecimal_input(alloc, &mut source) {
+    match input_of(alloc, &mut source, raw) {
         Ok(bytes) => bytes,
         Err(fault) => {
             assert!(rt; fault == InputFault::Memory);
             assert!(rt; !source.has_failed());
             let mut source = MemoryIn::new(text, 7);
-            hexadecimal_input(alloc, &mut source).expect(rt, "bytes")
+            input_of(alloc, &mut source, raw).expect(rt, "bytes")
         }
     }
 }
@@ -171,7 +214,13 @@ fn input_at_last(rt: &impl Abort, alloc: Global, text: &[u8]) -> Vec<u8> {
 #[test]
 fn hexadecimal_input_refused(rt: HostRuntime) {
     let text = b"48690A 1d6b0335353132333435 00 1D763000010002 00f00f";
-    let bytes = input_at_last(&rt, rt.alloc(), text);
+    let bytes = input_at_last(&rt, rt.alloc(), text, false);
+    assert!(&rt; bytes.as_slice() == STREAM);
+}
+
+#[test]
+fn raw_input_refused(rt: HostRuntime) {
+    let bytes = input_at_last(&rt, rt.alloc(), STREAM, true);
     assert!(&rt; bytes.as_slice() == STREAM);
 }
 

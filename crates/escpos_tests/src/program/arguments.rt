@@ -10,10 +10,20 @@ use std::process::Abort;
 // Words, and what they ask for.
 type Asked = (&'static [&'static str], Result<Task, NoTask>);
 
-const ASKED: [Asked; 40] = [
+const ASKED: [Asked; 50] = [
     (&["check"], Ok(Task::Check)),
     (&["render"], Ok(Task::Render)),
     (&["encode"], Ok(Task::Encode)),
+    (&["check", "--raw"], Ok(Task::CheckRaw)),
+    (&["render", "--raw"], Ok(Task::RenderRaw)),
+    (&["encode", "--raw"], Ok(Task::EncodeRaw)),
+    (&["check", "--raw", "--help"], Err(NoTask::Help)),
+    (&["--raw", "check"], Err(NoTask::Usage)),
+    (&["check", "--raw", "--raw"], Err(NoTask::Usage)),
+    (&["check", "--raw=true"], Err(NoTask::Usage)),
+    (&["check", "--raw", "extra"], Err(NoTask::Usage)),
+    (&["check", "-raw"], Err(NoTask::Usage)),
+    (&["play", "--raw"], Err(NoTask::Usage)),
     (&["loop"], Ok(Task::Loop)),
     (&["help"], Err(NoTask::Help)),
     (&["--help"], Err(NoTask::Help)),

@@ -14,7 +14,7 @@ use std::process::Abort;
 
 #[test]
 fn each_thing_asked_for(rt: HostRuntime) {
-    let rows: [(Result<Task, NoTask>, &[u8], Status); 6] = [
+    let rows: [(Result<Task, NoTask>, &[u8], Status); 8] = [
         (
             Ok(Task::Check),
             b"0 char 41\n1 lf\nend 2 pending 0\n",
@@ -22,6 +22,12 @@ fn each_thing_asked_for(rt: HostRuntime) {
         ),
         (Ok(Task::Render), b"row left A\nfeed 1\n", Status::Good),
         (Ok(Task::Encode), b"refused 5 NotJson\n", Status::Refused),
+        (
+            Ok(Task::CheckRaw),
+            b"0 char 34\n1 char 31\n2 char 20\n3 char 30\n4 char 41\nend 5 pending 0\n",
+            Status::Good,
+        ),
+        (Ok(Task::EncodeRaw), b"refused 5 NotJson\n", Status::Refused),
         (Err(NoTask::Help), HELP.as_bytes(), Status::Good),
         (Err(NoTask::Usage), USAGE.as_bytes(), Status::Usage),
         (Err(NoTask::Memory), b"memory\n", Status::Memory),
