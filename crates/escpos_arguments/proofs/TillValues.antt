@@ -1,5 +1,5 @@
 -- The values of a till's task.
-use Rattle.std.proofs.Common.{◌≡◌, ◌⊎◌, ◌∙◌, ℕ, List, Option, Some, None, Result, Ok, Err, refl, sym, ap, subst, codes, inl, inr}
+use Rattle.std.proofs.Common.{◌≡◌, ◌⊎◌, ◌∙◌, ℕ, List, Option, Some, Result, Ok, Err, sym, ap, codes, inl, inr}
 use Rattle.std.specs.Prelude.{◌≤◌, IfSome, IsSomeAnd}
 use Rattle.clap.specs.Words.{Row, first_of, one_of}
 use Rattle.escpos_arguments.specs.declared.arguments.TheConstants.{OPENINGS, MOST_OPENINGS}

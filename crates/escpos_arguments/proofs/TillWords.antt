@@ -1,5 +1,5 @@
 -- What `clap` reads in a till's arguments.
-use Rattle.std.proofs.Common.{◌≡◌, ◌∙◌, refl, true, List, Option, Some, None, Result, option_map, sym, ap, ap₂, subst}
+use Rattle.std.proofs.Common.{◌≡◌, ◌∙◌, refl, true, List, Some, None, Result, option_map, sym, ap, subst}
 use Rattle.clap.specs.Words.{App, Row, Text, fault_of, is_simple_and_free, is_simple, subcommand_of, subcommand_rows_of, subcommand_name_of, FailsBy, HasMatchesOf}
 use Rattle.clap.proofs.OnLiterals.{clap_on_literals}
 use Rattle.clap.specs.declared.error.Error.{Error}

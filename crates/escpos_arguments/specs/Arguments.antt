@@ -7,12 +7,8 @@ use Rattle.std.specs.Net.Text.{socket_v4_text}
 use Rattle.clap.specs.Words.{App, Row, Rule, Shape, Text, first_of, new_app, new_rule, one_of, with_rule, with_subcommand}
 use Rattle.clap.specs.Simple.{new_shape, on_top}
 use Rattle.clap.specs.declared.builder.action.ArgAction.TheVariants.{Set, SetTrue}
-use Rattle.clap.specs.declared.error.kind.ErrorKind.{ErrorKind}
-use Rattle.clap.specs.declared.error.kind.ErrorKind.TheVariants.{DisplayHelp, OutOfMemory}
 use Rattle.escpos_command.specs.Digits.{mark_count}
 use Rattle.escpos_arguments.specs.declared.arguments.TheConstants.{LINKS, MOST_LINKS, OPENINGS, MOST_OPENINGS}
-use Rattle.escpos_jobs.specs.declared.task.NoTask.{NoTask}
-use Rattle.escpos_jobs.specs.declared.task.NoTask.TheVariants.{Usage, Help, Memory}
 use Rattle.escpos_jobs.specs.declared.task.Task.{Task}
 use Rattle.escpos_jobs.specs.declared.task.Task.TheVariants.{Check, CheckRaw, Render, RenderRaw, Encode, EncodeRaw, Play, Emulate, Send, Loop}
 

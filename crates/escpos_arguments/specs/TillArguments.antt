@@ -1,11 +1,11 @@
 -- The arguments of a till's words, `queue`, `deliver` and `ledger`, and what they ask for.
-use Rattle.std.specs.Prelude.{◌≡◌, ◌<◌, ◌≤◌, ℕ, ⊤, List, [], ◌∷◌, Option, Some, None, IfSome, IsSomeAnd, codes, length, true, false}
+use Rattle.std.specs.Prelude.{◌≡◌, ◌<◌, ◌≤◌, ⊤, List, [], ◌∷◌, Option, Some, IfSome, IsSomeAnd, codes, true, false}
 use Rattle.clap.specs.Words.{App, Row, Rule, Shape, Text, first_of, new_app, new_rule, one_of, with_rule, with_subcommand}
 use Rattle.clap.specs.Simple.{on_top}
 use Rattle.clap.specs.declared.builder.action.ArgAction.TheVariants.{Set}
 use Rattle.escpos_command.specs.Digits.{mark_count}
 use Rattle.escpos_arguments.specs.declared.arguments.TheConstants.{OPENINGS, MOST_OPENINGS}
-use Rattle.escpos_arguments.specs.Arguments.{IsAddress, IsNumber, IsNumberOr, address_rule, option_rule}
+use Rattle.escpos_arguments.specs.Arguments.{IsAddress, IsNumberOr, address_rule, option_rule}
 use Rattle.escpos_arguments.specs.ClapAnswers.{IsNumberIn}
 use Rattle.escpos_till.specs.Copy.{IsCopyText}
 use Rattle.escpos_till_jobs.specs.declared.task.TillTask.{TillTask}

@@ -66,11 +66,7 @@ fn encode_as<F: ByteForm, R: ByteIn, W: ByteOut>(
 }
 
 // Prints the line for a text.
-fn encode_text<F: ByteForm, W: ByteOut>(
-    alloc: Global,
-    text: Vec<u8>,
-    output: &mut W,
-) -> Status
+fn encode_text<F: ByteForm, W: ByteOut>(alloc: Global, text: Vec<u8>, output: &mut W) -> Status
     ensures encodes { EncodesTextAs (λ cs. F.written (spell cs)) (job_end (W.written output.old) (W.written output.new) (W.failed output.new) result) text.items }
     ensures device { result ≡ Status.Device → IsTrue (W.failed output.new) }
     ensures not_hidden { result ≢ Status.Device → ¬ IsTrue (W.failed output.old) → ¬ IsTrue (W.failed output.new) }
@@ -92,11 +88,7 @@ fn json_of(alloc: Global, text: Vec<u8>) -> Result<ReceiptText, JsonError>
 
 // Prints the line for a text with this value. The commands of a receipt aren't listed: its characters go out from where they
 // stand.
-fn encode_json<F: ByteForm, W: ByteOut>(
-    alloc: Global,
-    json: &ReceiptText,
-    output: &mut W,
-) -> Status
+fn encode_json<F: ByteForm, W: ByteOut>(alloc: Global, json: &ReceiptText, output: &mut W) -> Status
     ensures encodes { (text : List ℕ) → IsValueOf text json.now →
         EncodesTextAs (λ cs. F.written (spell cs)) (job_end (W.written output.old) (W.written output.new) (W.failed output.new) result) text }
     ensures device { result ≡ Status.Device → IsTrue (W.failed output.new) }

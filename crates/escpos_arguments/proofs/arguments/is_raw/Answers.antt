@@ -11,8 +11,7 @@ same_text a b e = cc
 
 pub returns-in-Some : goal.returns-in-Some
 returns-in-Some c =
-    let found = c.in-Some.ensures ∙ first_value-rows (found_of c.args.given.now) (codes "raw") in
-    (
+    let found = c.in-Some.ensures ∙ first_value-rows (found_of c.args.given.now) (codes "raw") in (
       λ is. sym found ∙ ap Some ((bytes_eq-Decides c.in-Some.text.now (codes "true")).0 (sym c.eq.ensures ∙ is)),
       λ h. c.eq.ensures ∙ ap (λ text. bytes_eq text (codes "true")) (same_text c.in-Some.text.now (codes "true") (found ∙ h)),
     )

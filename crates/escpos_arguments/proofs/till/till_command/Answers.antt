@@ -1,5 +1,5 @@
 use Rattle.std.proofs.Common.{◌≡◌, ◌∙◌, ap, ap₂, refl, true}
-use Rattle.clap.specs.Words.{App, Shape, app_of, with_subcommand}
+use Rattle.clap.specs.Words.{app_of, with_subcommand}
 use Rattle.clap.specs.Simple.{app_of_fields, on_top}
 use Rattle.escpos_arguments.specs.TillArguments.{deliver_words, ledger_words, queue_words, till_words}
 use Rattle.escpos_arguments.proofs.TaskWords.{is_local}
