@@ -76,7 +76,7 @@ fn queue_asked<'a>(given: &ArgMatches<'a>) -> Result<TillTask<'a>, NoTask>
     ensures ranges { IfOk result IsTillInRange }
     ensures taken { (task : TillTask) → AsksTillBy (codes "queue") (rows_of (found_of given.now)) task → IsTillInRange task
         → result ≡ Ok task }
-    ensures no_help { result ≢ Err NoTask.Help }
+    ensures usage { IfErr result (λ why. why ≡ NoTask.Usage) }
 {
     let ledger = ledger_path(given)?;
     Ok(TillTask::Queue { ledger })
@@ -113,7 +113,7 @@ fn ledger_asked<'a>(given: &ArgMatches<'a>) -> Result<TillTask<'a>, NoTask>
     ensures ranges { IfOk result IsTillInRange }
     ensures taken { (task : TillTask) → AsksTillBy (codes "ledger") (rows_of (found_of given.now)) task → IsTillInRange task
         → result ≡ Ok task }
-    ensures no_help { result ≢ Err NoTask.Help }
+    ensures usage { IfErr result (λ why. why ≡ NoTask.Usage) }
 {
     let ledger = ledger_path(given)?;
     let first = first_given(given)?;

@@ -1,6 +1,6 @@
 //! Opening a ledger, and closing it.
 
-ghost use Rattle.std.specs.Prelude.{◌≡◌, ◌≤◌, List, [], length, IfOk, IsTrue};
+ghost use Rattle.std.specs.Prelude.{◌≡◌, ◌≢◌, ◌⊎◌, ◌≤◌, List, [], length, IfErr, IfOk, IsTrue};
 ghost use Rattle.escpos_till.specs.declared.entry.Entry.{Entry};
 ghost use Rattle.sqlite.specs.View.{doubt};
 ghost use Rattle.sqlite.specs.Recovery.{Image};
@@ -24,7 +24,12 @@ use sqlite_disk::Disk;
 use std::alloc::Global;
 
 // Why the file isn't opened.
-fn file_fault(error: Error) -> NoStore {
+fn file_fault(error: Error) -> NoStore
+    ensures busy { error ≡ Error.SqliteFailure ErrorCode.DatabaseBusy → result ≡ NoStore.InUse }
+    ensures only_busy { result ≡ NoStore.InUse → error ≡ Error.SqliteFailure ErrorCode.DatabaseBusy }
+    ensures memory { result ≡ NoStore.Memory → error ≡ Error.SqliteFailure ErrorCode.OutOfMemory }
+    ensures no_ledger { result ≡ NoStore.NoLedger → (error ≡ Error.SqliteFailure ErrorCode.NotADatabase) ⊎ (error ≡ Error.SqliteFailure ErrorCode.DatabaseCorrupt) }
+{
     match error {
         Error::SqliteFailure(ErrorCode::DatabaseBusy) => NoStore::InUse,
         Error::SqliteFailure(ErrorCode::NotADatabase | ErrorCode::DatabaseCorrupt) =>
@@ -35,7 +40,10 @@ fn file_fault(error: Error) -> NoStore {
 }
 
 // Why a statement of an open fails.
-fn statement_fault(error: Error) -> NoStore {
+fn statement_fault(error: Error) -> NoStore
+    ensures memory { result ≡ NoStore.Memory → error ≡ Error.SqliteFailure ErrorCode.OutOfMemory }
+    ensures failed { result ≢ NoStore.Memory → result ≡ NoStore.Failed }
+{
     match error {
         Error::SqliteFailure(ErrorCode::OutOfMemory) => NoStore::Memory,
         _ => NoStore::Failed,
@@ -47,6 +55,7 @@ pub fn begin<S: Alter>(alloc: Global, conn: &mut Connection<S>) -> Result<usize,
     ensures clean { doubt (state S.Store conn.old).is_clean ≤ doubt (state S.Store conn.new).is_clean }
     ensures found { IfOk result (λ count. HasCleanDisk (state S.Store conn.new) → (entries : List Entry) × Holds (state S.Store conn.new) entries
         × (count ≡ length entries) × StartsAs (state S.Store conn.old).now entries) }
+    ensures never_in_use { IfErr result (λ why. why ≢ NoStore.InUse) }
 {
     if conn.is_autocommit() && is_new(conn.schema()) {
         return match create(conn) {
@@ -65,6 +74,7 @@ pub fn begin<S: Alter>(alloc: Global, conn: &mut Connection<S>) -> Result<usize,
 fn begun<S: Alter + Drop>(alloc: Global, conn: Connection<S>) -> Result<SqliteStore<S>, NoStore>
     ensures found { IfOk result (λ store. HasCleanDisk (state S.Store store.connection) → HasCleanDisk (state S.Store conn)
         × ((entries : List Entry) × HoldsIn S.Store store entries × StartsAs (state S.Store conn).now entries)) }
+    ensures never_in_use { IfErr result (λ why. why ≢ NoStore.InUse) }
 {
     let mut conn = conn;
     match begin(alloc, &mut conn) {

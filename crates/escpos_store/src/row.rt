@@ -1,6 +1,6 @@
 //! An entry as a row of the table, and back.
 
-ghost use Rattle.std.specs.Prelude.{◌≡◌, ◌+◌, pos, Some, IfOk, IfSome};
+ghost use Rattle.std.specs.Prelude.{◌≡◌, ◌≢◌, ◌+◌, ◌<◌, ◌^◌, pos, None, Some, IfOk, IfSome};
 ghost use Rattle.sqlite.specs.declared.types.Value.TheVariants.{Null, Int};
 ghost use Rattle.sqlite.specs.Order.{column};
 ghost use Rattle.sqlite.specs.Value.{owned};
@@ -14,7 +14,8 @@ use std::alloc::{AllocError, Global};
 
 /// A number as an id; `None` past 2^63.
 pub fn id(number: usize) -> Option<ValueRef<'static>>
-    ensures { IfSome result (λ id. owned id ≡ Int (pos number)) }
+    ensures id { IfSome result (λ id. owned id ≡ Int (pos number)) }
+    ensures given { number < 2 ^ 63 → result ≢ None }
 {
     Some(ValueRef::Int(i64::try_from(number).ok()?))
 }
@@ -33,7 +34,8 @@ pub fn kind(entry: &Entry) -> ValueRef<'static>
 
 /// The receipt's number, and 0 in an entry that has none; `None` past 2^63.
 pub fn number(entry: &Entry) -> Option<ValueRef<'static>>
-    ensures { IfSome result (λ number. owned number ≡ Int (pos (number_of entry.now))) }
+    ensures number { IfSome result (λ number. owned number ≡ Int (pos (number_of entry.now))) }
+    ensures given { number_of entry.now < 2 ^ 63 → result ≢ None }
 {
     let number = match entry {
         Entry::Queued { .. } | Entry::Raised { .. } => 0,
@@ -125,7 +127,8 @@ fn entry_without_content(kind: u64, number: u64, next: u64) -> Option<Entry>
 }
 
 fn receipt_number(number: u64) -> Option<ReceiptNumber>
-    ensures { IfSome result (λ found. found ≡ number) }
+    ensures number { IfSome result (λ found. found ≡ number) }
+    ensures given { 0 < number → result ≢ None }
 {
     ReceiptNumber::new(usize::try_from(number).ok()?)
 }

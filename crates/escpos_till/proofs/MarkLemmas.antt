@@ -15,7 +15,7 @@ use Rattle.escpos_host.specs.declared.send.Sent.{Sent}
 use Rattle.escpos_host.specs.declared.send.Sent.TheVariants as became
 use Rattle.escpos_host.specs.Machine.{HostView}
 use Rattle.escpos_host.specs.Says.{framed, marks_from}
-use Rattle.escpos_host.specs.Sends.{Call, Fails, RefusesSend, Sends, Waits, opening_bytes, receipt_bytes}
+use Rattle.escpos_host.specs.Sends.{Call, Fails, RefusesSend, Sends, Waits, Why, opening_bytes, receipt_bytes}
 use Rattle.escpos_till.specs.declared.deliver.Delivered.{Delivered}
 use Rattle.escpos_till.specs.declared.deliver.Delivered.TheVariants as delivered
 use Rattle.escpos_till.specs.declared.error.LedgerError.{LedgerError}
@@ -215,3 +215,14 @@ puts_marks Held l copy old new (delivered.NotTried w) d = puts_nothing l (next_f
 puts_marks Held l copy old new (delivered.NotRecorded n w) d = puts_tried Held l copy old d.2 new d.0 d.1 (delivered.NotRecorded n w) d.3 d.4
 puts_marks Held l copy old new (delivered.Recorded n) d = puts_tried Held l copy old d.2 new d.0 d.1 (delivered.Recorded n) d.3 d.4
 puts_marks Held l copy old new (delivered.NotNoted n w) d = puts_tried Held l copy old d.2 new d.0 d.1 (delivered.NotNoted n w) d.3 d.4
+
+-- Why a receipt isn't recorded is what the host says.
+pub why_told : {S : Type 0} (mid : LedgerView S) (number n : ℕ) (sent : Sent) (result : Delivered) (new : LedgerView S) (why : SendFault) → Concludes mid number sent result new
+    → result ≡ delivered.NotRecorded n why → Why sent why
+why_told mid number n sent delivered.NothingWaits new why done e = absurd (cc)
+why_told mid number n sent (delivered.NoReceipt m w) new why done e = absurd (cc)
+why_told mid number n sent (delivered.NotTried w) new why done e = absurd (cc)
+why_told mid number n sent (delivered.Recorded m) new why done e = absurd (cc)
+why_told mid number n sent (delivered.NotNoted m w) new why done e = absurd (cc)
+why_told mid number n (became.Recorded place) (delivered.NotRecorded m told) new why done e = absurd done
+why_told mid number n (became.NotRecorded w receipt) (delivered.NotRecorded m told) new why done e = let same : told ≡ why = cc in sym done.1 ∙ same

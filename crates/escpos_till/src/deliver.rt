@@ -5,6 +5,7 @@
 
 ghost use Rattle.std.specs.Prelude.{◌≡◌, ◌≢◌, ◌+◌, ◌-◌, ◌^◌, ◌<◌, ◌≤◌, min, max, ℕ, List, Option, Some, None, [], ◌++◌, length, IsTrue, option_map, MatchOption, IfOk, IfErr, OnOk};
 ghost use Rattle.std.specs.Io.KnownBytes.{Appends, Consumes};
+ghost use Rattle.escpos_host.specs.Sends.{Why};
 ghost use Rattle.escpos_till.specs.Delivers.{Concludes, Delivers, Due, Exchange, PutsMarks, RefusesDue, marks_taken};
 ghost use Rattle.escpos_till.specs.Entries.{next_free, waiting};
 ghost use Rattle.escpos_till.specs.Ledger.{FirstWaits, HasFailed, IsKept, IsLive};
@@ -89,6 +90,9 @@ pub fn deliver_one<S: Store, R: ByteIn, W: ByteOut>(
     })
         (next_free ledger.old.entries) (next_free ledger.new.entries) }
     ensures was_faithful { S.faithful ledger.new.store → S.faithful ledger.old.store }
+    ensures ended { (number : ℕ) → result ≡ Delivered.NotRecorded number SendFault.Ended → IsTrue (R.ended reader.new) }
+    ensures read_fault { (number : ℕ) → result ≡ Delivered.NotRecorded number SendFault.ReadFault → IsTrue (R.failed reader.new) }
+    ensures write_fault { (number : ℕ) → result ≡ Delivered.NotRecorded number SendFault.WriteFault → IsTrue (W.failed writer.new) }
 {
     deliver_first(ledger, alloc, openings, copy, reader, writer, max_bytes)
 }
@@ -113,6 +117,9 @@ fn deliver_first<S: Store, R: ByteIn, W: ByteOut>(
     })
         (option_map (λ t. t.now) copy.entry) ledger.old result ledger.new }
     ensures was_faithful { S.faithful ledger.new.store → S.faithful ledger.old.store }
+    ensures ended { (number : ℕ) → result ≡ Delivered.NotRecorded number SendFault.Ended → IsTrue (R.ended reader.new) }
+    ensures read_fault { (number : ℕ) → result ≡ Delivered.NotRecorded number SendFault.ReadFault → IsTrue (R.failed reader.new) }
+    ensures write_fault { (number : ℕ) → result ≡ Delivered.NotRecorded number SendFault.WriteFault → IsTrue (W.failed writer.new) }
 {
     let DueReceipt { number, receipt } = match next_due(ledger, alloc, copy) {
         Ok(Some(due)) => due,
@@ -139,7 +146,7 @@ fn send_fresh<R: ByteIn, W: ByteOut>(
     writer: &mut W,
     max_bytes: u32,
 ) -> Sent
-    ensures { Exchange (record {
+    ensures exchange { Exchange (record {
       openings = openings;
       most = max_bytes;
       came_before = R.to_come reader.old;
@@ -147,6 +154,9 @@ fn send_fresh<R: ByteIn, W: ByteOut>(
       put_before = W.written writer.old;
       put_after = W.written writer.new;
     }) first receipt result }
+    ensures ended { Why result SendFault.Ended → IsTrue (R.ended reader.new) }
+    ensures read_fault { Why result SendFault.ReadFault → IsTrue (R.failed reader.new) }
+    ensures write_fault { Why result SendFault.WriteFault → IsTrue (W.failed writer.new) }
 {
     let mut host = Host::new(alloc, first);
     send_link(&mut host, receipt, openings, reader, writer, max_bytes)

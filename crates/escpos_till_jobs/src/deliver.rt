@@ -7,6 +7,7 @@ ghost use Rattle.std.specs.Prelude.{◌≡◌, ◌≢◌, ◌+◌, ◌<◌, ◌�
 ghost use Rattle.std.specs.Io.KnownBytes.{Appends};
 ghost use Rattle.escpos_jobs.specs.Ending.{Tells, job_end};
 ghost use Rattle.escpos_jobs.specs.Send.{status_of_fault};
+ghost use Rattle.escpos_till.specs.declared.deliver.Delivered.{Delivered};
 ghost use Rattle.escpos_till.specs.Entries.{recorded, waiting};
 ghost use Rattle.escpos_till.specs.Ledger.{HasFailed, IsKept, IsLive};
 ghost use Rattle.escpos_till_jobs.specs.Lines.{recorded_line, waiting_line};
@@ -158,6 +159,9 @@ pub fn deliver_over<S: Store, R: ByteIn, A: ByteOut, W: ByteOut>(
     ensures not_failed { OnOk result (¬ IsTrue (W.failed output.old) → ¬ IsTrue (W.failed output.new)) }
     ensures ended { IfErr result (λ status. RoundEnds (IsKept S.faithful S.holds S.leaves) delivery.now ledger.old number ledger.new
         (job_end (W.written output.old) (W.written output.new) (W.failed output.new) status)) }
+    ensures over { IfErr result (λ _. (d : Delivered) × IsDeliveredOver (IsKept S.faithful S.holds S.leaves) delivery.now
+        (link_of delivery.now (R.to_come reader.old) (R.to_come reader.new) (A.written writer.old) (A.written writer.new))
+        ledger.old d ledger.new) }
     ensures was_faithful { S.faithful ledger.new.store → S.faithful ledger.old.store }
     ensures not_hidden { IfErr result (λ status. status ≢ Status.Device → ¬ IsTrue (W.failed output.old) → ¬ IsTrue (W.failed output.new)) }
     ensures never_usage { IfErr result (λ status. status ≢ Status.Usage) }

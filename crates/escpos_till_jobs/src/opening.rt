@@ -1,6 +1,6 @@
 //! Opening a ledger, and what is printed if there is none.
 
-ghost use Rattle.std.specs.Prelude.{◌≡◌, ◌≢◌, Err, List, IfErr, IfOk, IsTrue};
+ghost use Rattle.std.specs.Prelude.{◌≡◌, ◌≢◌, ◌↔◌, Err, List, IfErr, IfOk, IsTrue};
 ghost use Rattle.escpos_jobs.specs.Ending.{Tells, job_end};
 ghost use Rattle.escpos_till.specs.declared.entry.Entry.{Entry};
 ghost use Rattle.escpos_till.specs.Entries.{IsLedger};
@@ -35,7 +35,8 @@ pub fn open_ledger<S: Store>(alloc: Global, store: S) -> Result<Ledger<S>, (NoSt
 
 // The same reason, as it is told.
 fn no_store(why: OpenError) -> NoStore
-    ensures damaged { result ≡ NoStore.NoLedger → why ≡ OpenError.Damaged }
+    ensures damaged { result ≡ NoStore.NoLedger ↔ why ≡ OpenError.Damaged }
+    ensures failed { why ≡ OpenError.Store StoreFault.Failed → result ≡ NoStore.Failed }
     ensures never_in_use { result ≢ NoStore.InUse }
 {
     match why {

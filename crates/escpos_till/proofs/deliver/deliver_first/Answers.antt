@@ -6,7 +6,7 @@ use Rattle.escpos_till.specs.Entries.{next_free}
 use Rattle.escpos_command.specs.Digits.{mark_count}
 use Rattle.escpos_till.specs.Ledger.{Adds, IsKept}
 use Rattle.escpos_till.specs.declared.entry.Entry.TheVariants as entry
-use Rattle.escpos_till.proofs.MarkLemmas.{counted, refused_so, sent_delivers}
+use Rattle.escpos_till.proofs.MarkLemmas.{counted, refused_so, sent_delivers, why_told}
 use Rattle.escpos_till.proofs.deliver.deliver_first.Goals as goal
 
 pub returns-in-Err-tried-clause-delivers : goal.returns-in-Err-tried-clause-delivers
@@ -42,6 +42,15 @@ returns-clause-delivers g c =
       reserved = subst (λ (n : ℕ). Adds c.args.ledger.now (entry.Tried c.in-Ok-Some.due.number n) c.tried.new.self) sum c.in-Ok.ensures.added;
       within = subst (λ (n : ℕ). n ≤ mark_count) sum c.in-Ok.ensures.within;
       held = c.is_sound.ensures;
-      exchange = subst (λ (n : ℕ). Exchange link n c.in-Ok-Some.due.receipt c.send_fresh-sent.result) c.in-Ok.ensures.first c.send_fresh-sent.ensures;
+      exchange = subst (λ (n : ℕ). Exchange link n c.in-Ok-Some.due.receipt c.send_fresh-sent.result) c.in-Ok.ensures.first c.send_fresh-sent.ensures.exchange;
     })
     c.conclude.ensures.concludes
+
+pub returns-clause-ended : goal.returns-clause-ended
+returns-clause-ended g c = λ number e. c.send_fresh-sent.ensures.ended (why_told c.tried.new.self c.in-Ok-Some.due.number number c.send_fresh-sent.result c.conclude.result c.conclude.new.ledger _ c.conclude.ensures.concludes e)
+
+pub returns-clause-read_fault : goal.returns-clause-read_fault
+returns-clause-read_fault g c = λ number e. c.send_fresh-sent.ensures.read_fault (why_told c.tried.new.self c.in-Ok-Some.due.number number c.send_fresh-sent.result c.conclude.result c.conclude.new.ledger _ c.conclude.ensures.concludes e)
+
+pub returns-clause-write_fault : goal.returns-clause-write_fault
+returns-clause-write_fault g c = λ number e. c.send_fresh-sent.ensures.write_fault (why_told c.tried.new.self c.in-Ok-Some.due.number number c.send_fresh-sent.result c.conclude.result c.conclude.new.ledger _ c.conclude.ensures.concludes e)

@@ -27,6 +27,7 @@ returns-in_default g c =
         Ends.not_recorded c.args.number d c.requires.first (_, c.delivered_over-delivered.ensures.delivered) (λ r. c.in_default.not-Recorded r.0 r.1),
         c.tell.ensures.tells,
       );
+      over = (d, c.delivered_over-delivered.ensures.delivered);
       was_faithful = c.delivered_over-delivered.ensures.was_faithful;
       not_hidden = c.tell.ensures.not_hidden;
       never_usage = c.tell.ensures.never_usage;
