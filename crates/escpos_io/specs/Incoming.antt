@@ -1,7 +1,7 @@
 -- What the contracts say of an `Incoming`.
 use Rattle.std.specs.Prelude.{ℕ, Bool, List, Option}
 use Rattle.escpos_io.specs.declared.incoming.Incoming.{Incoming}
-use Rattle.escpos_io.specs.Source.{has_failed_of, has_ended_of, bytes_to_come}
+use Rattle.escpos_io.specs.Source.{has_failed_of, has_ended_of, has_timed_out_of, bytes_to_come}
 
 -- the reader inside
 abbrev pub reader_of : {R : Type 0} → Incoming R → R
@@ -14,6 +14,10 @@ to_come_of remaining source = bytes_to_come source.progress (remaining source.re
 -- a call of `pull` has failed
 abbrev pub has_failed : {R : Type 0} → Incoming R → Bool
 has_failed source = has_failed_of source.progress
+
+-- the reader had waited as long as it may
+abbrev pub has_timed_out : {R : Type 0} → Incoming R → Bool
+has_timed_out source = has_timed_out_of source.progress
 
 -- a call of `pull` has found the end
 abbrev pub has_ended : {R : Type 0} → Incoming R → Bool

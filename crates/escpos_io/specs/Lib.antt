@@ -1,3 +1,4 @@
+pub mod Cause
 pub mod Source
 pub mod Incoming
 pub mod Outgoing

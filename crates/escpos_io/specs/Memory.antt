@@ -1,5 +1,5 @@
 -- What the contracts say of a `MemoryIn` and a `MemoryOut`.
-use Rattle.std.specs.Prelude.{ℕ, Bool, ◌-◌, List, take, drop, length, max, Option, Some}
+use Rattle.std.specs.Prelude.{ℕ, Bool, false, ◌-◌, List, take, drop, length, max, Option, Some}
 use Rattle.escpos_io.specs.declared.memory_in.MemoryIn.{MemoryIn}
 use Rattle.escpos_io.specs.declared.memory_out.MemoryOut.{MemoryOut}
 use Rattle.escpos_io.specs.Source.{has_failed_of, has_ended_of, bytes_to_come}
@@ -55,3 +55,7 @@ put_failing_from sink = sink.from_call
 -- how many calls of `put` there were
 abbrev pub put_count : MemoryOut → ℕ
 put_count sink = sink.puts
+
+-- memory never waits
+abbrev pub has_timed_out : {Device : Type 0} → Device → Bool
+has_timed_out device = false

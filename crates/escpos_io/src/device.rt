@@ -22,6 +22,9 @@ pub trait ByteIn {
     // A call has found the end.
     ghost ended: { Self → Bool };
 
+    // A call has failed because the device had waited as long as it may.
+    ghost timed_out: { Self → Bool };
+
     // How often `pull` was called, up to the greatest u64.
     ghost pull_count: { Self → ℕ };
 
@@ -39,11 +42,17 @@ pub trait ByteIn {
         ensures ended { IsTrue (ended self.new) ↔ (IsTrue (ended self.old) ⊎ ((result ≡ Ok 0) × (0 < length piece.old))) }
         ensures stays_ended { IsTrue (ended self.old) → result ≡ Ok 0 }
         ensures at_end { IsTrue (ended self.new) → IsAtEnd (to_come self.new) }
+        ensures timed_out { IsTrue (timed_out self.new) → IsErr result }
+        ensures same_cause { IsTrue (failed self.old) → timed_out self.new ≡ timed_out self.old }
         ensures counted { pull_count self.new ≡ min (pull_count self.old + 1) (2 ^ 64 - 1) };
 
     /// Whether a call of `pull` has failed.
     fn has_failed(&self) -> bool
         ensures { result ≡ failed self.now };
+
+    /// Whether the failure is that the device had waited for a byte as long as it may.
+    fn has_timed_out(&self) -> bool
+        ensures { result ≡ timed_out self.now };
 
     /// Whether a `pull` with a piece that isn't empty has returned 0.
     fn has_ended(&self) -> bool
@@ -62,6 +71,9 @@ pub trait ByteOut {
     // A call has failed.
     ghost failed: { Self → Bool };
 
+    // A call has failed because the device had waited as long as it may.
+    ghost timed_out: { Self → Bool };
+
     /// Takes a prefix of `piece`, and returns how many bytes that is.
     ///
     /// If the piece isn't empty, it takes at least one byte or fails. After `Failed`, which takes no byte, every
@@ -73,9 +85,15 @@ pub trait ByteOut {
             (λ n. Appends (written self.old) (written self.new) (take n piece.now))
             (λ _. Keeps (written self.old) (written self.new)) }
         ensures failed { IsTrue (failed self.new) ↔ IsErr result }
-        ensures stays_failed { IsTrue (failed self.old) → IsErr result };
+        ensures stays_failed { IsTrue (failed self.old) → IsErr result }
+        ensures timed_out { IsTrue (timed_out self.new) → IsErr result }
+        ensures same_cause { IsTrue (failed self.old) → timed_out self.new ≡ timed_out self.old };
 
     /// Whether a call of `put` has failed.
     fn has_failed(&self) -> bool
         ensures { result ≡ failed self.now };
+
+    /// Whether the failure is that the device had waited to take a byte as long as it may.
+    fn has_timed_out(&self) -> bool
+        ensures { result ≡ timed_out self.now };
 }

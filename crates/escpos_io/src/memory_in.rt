@@ -5,8 +5,9 @@
 ghost use Rattle.std.specs.Prelude.{◌≡◌, ◌+◌, ◌-◌, ◌^◌, ◌<◌, ◌≤◌, ◌⊎◌, ◌↔◌, min, max, length, take, drop, ◌++◌, ◌≢◌, false, None, Some, IsTrue, IsErr, IfOk, MatchResult};
 ghost use Rattle.std.specs.Io.KnownBytes.{Keeps, Consumes, IsAtEnd};
 ghost use Rattle.escpos_io.specs.Source.{IsDue};
-ghost use Rattle.escpos_io.specs.Memory.{to_come_of, has_failed, has_ended, pull_count_of, bytes_left, most_per_pull, pull_failing_from};
+ghost use Rattle.escpos_io.specs.Memory.{to_come_of, has_failed, has_ended, has_timed_out, pull_count_of, bytes_left, most_per_pull, pull_failing_from};
 
+use crate::cause::Cause;
 use crate::source::{Progress, is_due};
 use crate::{ByteIn, Failed};
 
@@ -63,7 +64,7 @@ impl<'a> MemoryIn<'a> {
             ≡ min (min (length (bytes_left self.old)) (length piece.old)) (most_per_pull self.old) }
         ensures bytes { bytes_left self.old ≡ take result piece.new ++ bytes_left self.new }
         ensures rest { drop result piece.new ≡ drop result piece.old }
-        ensures not_failed { self.new.progress ≢ Progress.Failed }
+        ensures not_failed { ¬ IsTrue (has_failed self.new) }
         ensures ended { (self.new.progress ≡ Progress.Ended)
             ↔ ((result ≡ 0) × (0 < length piece.old)) }
         ensures same_count { self.new.pulls ≡ self.old.pulls }
@@ -87,6 +88,8 @@ impl ByteIn for MemoryIn<'_> {
 
     ghost ended = { has_ended };
 
+    ghost timed_out = { has_timed_out };
+
     ghost pull_count = { pull_count_of };
 
     fn pull(&mut self, piece: &mut [u8]) -> Result<usize, Failed>
@@ -100,6 +103,8 @@ impl ByteIn for MemoryIn<'_> {
             ↔ (IsTrue (has_ended self.old) ⊎ ((result ≡ Ok 0) × (0 < length piece.old))) }
         ensures stays_ended { IsTrue (has_ended self.old) → result ≡ Ok 0 }
         ensures at_end { IsTrue (has_ended self.new) → IsAtEnd (to_come_of self.new) }
+        ensures timed_out { IsTrue (has_timed_out self.new) → IsErr result }
+        ensures same_cause { IsTrue (has_failed self.old) → has_timed_out self.new ≡ has_timed_out self.old }
         ensures counted { pull_count_of self.new ≡ min (pull_count_of self.old + 1) (2 ^ 64 - 1) }
         ensures fails { IsErr result → IsTrue (has_failed self.old)
             ⊎ IsDue (pull_failing_from self.old) (pull_count_of self.new) }
@@ -114,11 +119,11 @@ impl ByteIn for MemoryIn<'_> {
         self.pulls = self.pulls.saturating_add(1);
         match self.progress {
             Progress::Ended => return Ok(0),
-            Progress::Failed => return Err(Failed),
+            Progress::Failed(_) => return Err(Failed),
             Progress::Open => {}
         }
         if is_due(self.from_call, self.pulls) {
-            self.progress = Progress::Failed;
+            self.progress = Progress::Failed(Cause::Fault);
             return Err(Failed);
         }
         Ok(self.pull_open(piece))
@@ -126,6 +131,11 @@ impl ByteIn for MemoryIn<'_> {
 
     fn has_failed(&self) -> bool {
         self.progress.has_failed()
+    }
+
+    // no read of memory waits
+    fn has_timed_out(&self) -> bool {
+        false
     }
 
     fn has_ended(&self) -> bool {

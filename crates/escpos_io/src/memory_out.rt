@@ -109,11 +109,13 @@ impl<'a> MemoryOut<'a> {
 impl ByteOut for MemoryOut<'_> {
     ghost use Rattle.std.specs.Prelude.{◌≡◌, ◌+◌, ◌-◌, ◌^◌, ◌<◌, ◌≤◌, ◌↔◌, ◌⊎◌, min, length, take, Some, IsTrue, IsErr, IfOk, MatchResult, ◌++◌, drop};
     ghost use Rattle.escpos_io.specs.Source.{IsDue};
-    ghost use Rattle.escpos_io.specs.Memory.{written_bytes, unwritten_bytes, room_left, most_per_put, put_failing_from, put_count};
+    ghost use Rattle.escpos_io.specs.Memory.{written_bytes, unwritten_bytes, room_left, most_per_put, put_failing_from, put_count, has_timed_out};
 
     ghost written = { λ sink. Some (written_bytes sink) };
 
     ghost failed = { λ sink. sink.failed };
+
+    ghost timed_out = { has_timed_out };
 
     fn put(&mut self, piece: &[u8]) -> Result<usize, Failed>
         ensures within { IfOk result (λ n. n ≤ length piece.now) }
@@ -123,6 +125,8 @@ impl ByteOut for MemoryOut<'_> {
             (λ _. written_bytes self.new ≡ written_bytes self.old) }
         ensures failed { IsTrue self.new.failed ↔ IsErr result }
         ensures stays_failed { IsTrue self.old.failed → IsErr result }
+        ensures timed_out { IsTrue (has_timed_out self.new) → IsErr result }
+        ensures same_cause { IsTrue self.old.failed → has_timed_out self.new ≡ has_timed_out self.old }
         ensures fails { IsErr result ↔ (IsTrue self.old.failed
             ⊎ (IsDue (put_failing_from self.old) (put_count self.new)
             ⊎ ((0 < length piece.now) × (room_left self.old ≡ 0)))) }
@@ -148,5 +152,10 @@ impl ByteOut for MemoryOut<'_> {
 
     fn has_failed(&self) -> bool {
         self.failed
+    }
+
+    // no write to memory waits
+    fn has_timed_out(&self) -> bool {
+        false
     }
 }

@@ -3,21 +3,32 @@
 //! Where the bytes come from is left to them.
 
 ghost use Rattle.std.specs.Prelude.{◌≡◌, ◌↔◌, IsTrue};
-ghost use Rattle.escpos_io.specs.Source.{has_failed_of, has_ended_of, IsDue};
+ghost use Rattle.escpos_io.specs.Source.{has_failed_of, has_ended_of, has_timed_out_of, IsDue};
+
+use crate::cause::Cause;
 
 /// Whether a source can still give bytes. An end is permanent, and so is a failure.
 #[derive(Clone, Copy, Debug, PartialEq, Eq)]
 pub(super) enum Progress {
     Open,
     Ended,
-    Failed,
+    Failed(Cause),
 }
 
 impl Progress {
     pub(super) fn has_failed(self) -> bool
         ensures { result ≡ has_failed_of self }
     {
-        matches!(self, Progress::Failed)
+        matches!(self, Progress::Failed(_))
+    }
+
+    pub(super) fn has_timed_out(self) -> bool
+        ensures { result ≡ has_timed_out_of self }
+    {
+        match self {
+            Progress::Failed(cause) => cause.is_time_out(),
+            Progress::Open | Progress::Ended => false,
+        }
     }
 
     pub(super) fn has_ended(self) -> bool
