@@ -16,10 +16,10 @@ use Rattle.escpos_host.specs.declared.host.HostEvent.TheVariants as event
 use Rattle.escpos_host.specs.declared.send.Awaited.{Awaited}
 use Rattle.escpos_host.specs.declared.send.SendFault.{SendFault}
 use Rattle.escpos_host.specs.declared.send.SendFault.TheVariants as fault
-use Rattle.escpos_host.specs.Awaits.{Brought, Closes, HearsOut, IsOverlooked, IsSilence, IsStop, Lost, Opens, Overlooked, RefusesOpening, Silent, Stops, dialled, ready, sending, with_out}
+use Rattle.escpos_host.specs.Awaits.{Brought, Closes, HearsOut, IsBreak, IsOverlooked, IsSilence, IsStop, Lost, Opens, Overlooked, RefusesOpening, Silent, Stops, dialled, ready, sending, with_out}
 use Rattle.escpos_host.specs.Heard.{HearsByte, IsClosing, IsOpeningMark, recorded, opened, with_half}
 use Rattle.escpos_host.specs.Machine.{HostView, InFlight, Phase, Down, Opening, Open, RefusesSubmit, gone_down, handed_out, most_in_flight, submitted}
-use Rattle.escpos_host.specs.Sends.{Call, Closed, Fails, HasMarks, IsCut, IsToClosing, IsToOpening, Opened, RefusesSend, Unclosed, Unopened, Waits, closing, given_up, opening_bytes, receipt_bytes, recorded_by}
+use Rattle.escpos_host.specs.Sends.{Call, CantPut, Closed, Fails, HasMarks, IsCut, IsToClosing, IsToOpening, Opened, RefusesSend, Unclosed, Unopened, Waits, closing, given_up, opening_bytes, receipt_bytes, recorded_by}
 use Rattle.escpos_host.proofs.Passing.{Joined, whole_heard}
 use Rattle.escpos_host.proofs.Waiting.{split_at}
 
@@ -155,9 +155,10 @@ misfit_hoping c after early_half half byte place at (inr (inr (a, spelled, (p, p
 
 -- No answer came before the reader ended or failed, or before this many bytes were read.
 fails_silently : (c : Call) (why : SendFault) (bytes half out : List ℕ) (used : ℕ) → HasMarks c used → IsSilence why → Waits c bytes half out used → (why ≡ fault.TooLong → length bytes ≡ c.most)
-    → ((why ≡ fault.Ended) ⊎ (why ≡ fault.ReadFault) → length bytes < c.most) → Fails c why bytes out (given_up c used)
+    → ((why ≡ fault.Ended) ⊎ (why ≡ fault.ReadFault) ⊎ (why ≡ fault.TimedOut) → length bytes < c.most) → Fails c why bytes out (given_up c used)
 fails_silently c fault.Ended bytes half out used marks silence waits long early = (half, used, waits, early (inl refl), marks, refl)
-fails_silently c fault.ReadFault bytes half out used marks silence waits long early = (half, used, waits, early (inr refl), marks, refl)
+fails_silently c fault.ReadFault bytes half out used marks silence waits long early = (half, used, waits, early (inr (inl refl)), marks, refl)
+fails_silently c fault.TimedOut bytes half out used marks silence waits long early = inl (half, used, waits, early (inr (inr refl)), marks, refl)
 fails_silently c fault.TooLong bytes half out used marks silence waits long early = (half, used, waits, long refl, marks, refl)
 fails_silently c fault.WriteFault bytes half out used marks silence waits long early = absurd silence
 fails_silently c fault.BadAnswer bytes half out used marks silence waits long early = absurd silence
@@ -192,27 +193,38 @@ silent_second c early half before left a b most why after o marks all silence pu
           (λ is. let e = s.early is in omega (arith, e, all, count));
     }
 
+fails_broken : (c : Call) (why : SendFault) (bytes out : List ℕ) (after : HostView) → IsBreak why → CantPut c bytes out after → Fails c why bytes out after
+fails_broken c fault.WriteFault bytes out after is h = h
+fails_broken c fault.TimedOut bytes out after is h = inr h
+fails_broken c fault.Ended bytes out after is h = absurd is
+fails_broken c fault.ReadFault bytes out after is h = absurd is
+fails_broken c fault.TooLong bytes out after is h = absurd is
+fails_broken c fault.BadAnswer bytes out after is h = absurd is
+fails_broken c (fault.Refused other) bytes out after is h = absurd is
+
 -- Bytes went out, and then the writer failed.
-pub cut_first : (c : Call) (before a b : Option (List ℕ)) (most : ℕ) (some : List ℕ) → HasMarks c c.openings → Appends a b some → IsCut (opening_bytes c) some
-    → Stops c [] [] before before a b most fault.WriteFault c.openings
-cut_first c before a b most some marks put cut = record {
+pub cut_first : (c : Call) (why : SendFault) (before a b : Option (List ℕ)) (most : ℕ) (some : List ℕ) → IsBreak why → HasMarks c c.openings → Appends a b some → IsCut (opening_bytes c) some
+    → Stops c [] [] before before a b most why c.openings
+cut_first c why before a b most some is marks put cut = record {
   bytes = [];
   out = some;
   came = Consumes-nil before;
   few = omega arith;
   put = put;
-  fails = (c.openings, inl (refl, cut, refl), marks, refl);
+  fails = fails_broken c why [] some (given_up c c.openings) is (c.openings, inl (refl, cut, refl), marks, refl);
 }
 
-pub cut_second : (c : Call) (early half : List ℕ) (before a b : Option (List ℕ)) (most : ℕ) (some : List ℕ) → Opened c early half → HasMarks c (c.openings + 1) → Appends a b some → IsCut (receipt_bytes c) some
-    → Stops c early (opening_bytes c) before before a b most fault.WriteFault (c.openings + 1)
-cut_second c early half before a b most some o marks put cut = record {
+pub cut_second : (c : Call) (why : SendFault) (early half : List ℕ) (before a b : Option (List ℕ)) (most : ℕ) (some : List ℕ) → IsBreak why → Opened c early half → HasMarks c (c.openings + 1) → Appends a b some → IsCut (receipt_bytes c) some
+    → Stops c early (opening_bytes c) before before a b most why (c.openings + 1)
+cut_second c why early half before a b most some is o marks put cut = record {
   bytes = [];
   out = some;
   came = Consumes-nil before;
   few = omega arith;
   put = put;
-  fails = (c.openings + 1, inr (half, some, subst (λ bs. Opened c bs half) (sym (append-nil early)) o, refl, cut, refl), marks, refl);
+  fails =
+      fails_broken c why (early ++ []) (opening_bytes c ++ some) (given_up c (c.openings + 1)) is
+      (c.openings + 1, inr (half, some, subst (λ bs. Opened c bs half) (sym (append-nil early)) o, refl, cut, refl), marks, refl);
 }
 
 -- ## Bytes that end a wait

@@ -93,15 +93,22 @@ pub record Silent (h : HostView) (before left : Option (List ℕ)) (most : ℕ) 
   pub came : Consumes before left bytes
   pub few : length bytes ≤ most
   pub long : why ≡ fault.TooLong → length bytes ≡ most
-  pub early : (why ≡ fault.Ended) ⊎ (why ≡ fault.ReadFault) → length bytes < most
+  pub early : (why ≡ fault.Ended) ⊎ (why ≡ fault.ReadFault) ⊎ (why ≡ fault.TimedOut) → length bytes < most
   pub overlooked : Overlooked h bytes after.half
   pub same : after ≡ with_half h after.half
 
 abbrev pub IsSilence : SendFault → Type 0
 IsSilence fault.Ended = Unit {0}
 IsSilence fault.ReadFault = Unit {0}
+IsSilence fault.TimedOut = Unit {0}
 IsSilence fault.TooLong = Unit {0}
 IsSilence _ = ⊥
+
+-- Why a writer takes no more.
+abbrev pub IsBreak : SendFault → Type 0
+IsBreak fault.WriteFault = Unit {0}
+IsBreak fault.TimedOut = Unit {0}
+IsBreak _ = ⊥
 
 -- ## Putting out
 

@@ -16,6 +16,7 @@ abbrev pub fault_name : SendFault → List ℕ
 fault_name fault.Ended = codes "Ended"
 fault_name fault.ReadFault = codes "ReadFault"
 fault_name fault.WriteFault = codes "WriteFault"
+fault_name fault.TimedOut = codes "TimedOut"
 fault_name fault.TooLong = codes "TooLong"
 fault_name fault.BadAnswer = codes "BadAnswer"
 fault_name (fault.Refused why) = error_name why

@@ -174,16 +174,25 @@ RefusesSend c error.Memory bytes out after =
     ⊎ ((half : List ℕ) × (c.before.next + c.openings < mark_count) × IsDue c bytes half out c.openings × (after ≡ given_up c c.openings)))
 RefusesSend c _ bytes out after = ⊥
 
+-- A read found no further answer, although more bytes may be read.
+abbrev pub FindsNone : Call → List ℕ → List ℕ → HostView → Type 0
+FindsNone c bytes out after =
+    (half : List ℕ) × (used : ℕ) × Waits c bytes half out used × (length bytes < c.most) × HasMarks c used × (after ≡ given_up c used)
+
+-- The writer failed before all was said.
+abbrev pub CantPut : Call → List ℕ → List ℕ → HostView → Type 0
+CantPut c bytes out after = (used : ℕ) × Breaks c bytes out used × HasMarks c used × (after ≡ given_up c used)
+
 -- Which bytes were read and written if the receipt isn't recorded, and how the host is left. The end of the answers and the
--- reader's failure are found only by a read, and there is no read once as many bytes were read as may be.
+-- reader's failure are found only by a read, and there is no read once as many bytes were read as may be. A time-out is a
+-- failure of the reader or of the writer.
 abbrev pub Fails : Call → SendFault → List ℕ → List ℕ → HostView → Type 0
-Fails c fault.Ended bytes out after =
-    (half : List ℕ) × (used : ℕ) × Waits c bytes half out used × (length bytes < c.most) × HasMarks c used × (after ≡ given_up c used)
-Fails c fault.ReadFault bytes out after =
-    (half : List ℕ) × (used : ℕ) × Waits c bytes half out used × (length bytes < c.most) × HasMarks c used × (after ≡ given_up c used)
+Fails c fault.Ended bytes out after = FindsNone c bytes out after
+Fails c fault.ReadFault bytes out after = FindsNone c bytes out after
 Fails c fault.TooLong bytes out after =
     (half : List ℕ) × (used : ℕ) × Waits c bytes half out used × (length bytes ≡ c.most) × HasMarks c used × (after ≡ given_up c used)
-Fails c fault.WriteFault bytes out after = (used : ℕ) × Breaks c bytes out used × HasMarks c used × (after ≡ given_up c used)
+Fails c fault.WriteFault bytes out after = CantPut c bytes out after
+Fails c fault.TimedOut bytes out after = FindsNone c bytes out after ⊎ CantPut c bytes out after
 Fails c fault.BadAnswer bytes out after = (used : ℕ) × IsBad c bytes out used × HasMarks c used × (after ≡ given_up c used)
 Fails c (fault.Refused why) bytes out after = RefusesSend c why bytes out after
 

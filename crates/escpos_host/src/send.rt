@@ -3,16 +3,16 @@
 //! What is said on the link, and what an answer means, is left to the host. This module decides when bytes are put and when
 //! answers are read. `specs/Sends.antt` defines the results.
 
-ghost use Rattle.std.specs.Prelude.{◌≡◌, ◌≢◌, ◌+◌, ◌<◌, ◌≤◌, max, ℕ, List, [], length, IsTrue, IsErrOf, IfOk, IfErr, OnOk, OnErr};
+ghost use Rattle.std.specs.Prelude.{◌≡◌, ◌≢◌, ◌⊎◌, ◌+◌, ◌<◌, ◌≤◌, max, ℕ, List, [], length, IsTrue, IsErrOf, IfOk, IfErr, OnOk, OnErr};
 ghost use Rattle.std.specs.Io.KnownBytes.{Appends, Consumes};
 ghost use Rattle.escpos_command.specs.Digits.{mark_count};
 ghost use Rattle.escpos_host.specs.declared.send.SendFault.{SendFault};
-ghost use Rattle.escpos_host.specs.Awaits.{Brought, Closes, HearsOut, IsSilence, Lost, Opens, RefusesOpening, Silent, Stops, dialled, sending, with_out};
+ghost use Rattle.escpos_host.specs.Awaits.{Brought, Closes, HearsOut, IsBreak, IsSilence, Lost, Opens, RefusesOpening, Silent, Stops, dialled, sending, with_out};
 ghost use Rattle.escpos_host.specs.Machine.{Down};
 ghost use Rattle.escpos_host.specs.Sends.{Call, HasMarks, IsCut, Opened, Sends, Why, most_in_piece, opening_bytes};
 
 use crate::host::{Heard, Host, HostError, HostEvent};
-use escpos_io::{ByteIn, ByteOut, Device, Failed, put_all};
+use escpos_io::{ByteIn, ByteOut, Failed, put_all};
 use escpos_receipt::Receipt;
 
 /// Why a receipt isn't known to be printed.
@@ -24,6 +24,8 @@ pub enum SendFault {
     ReadFault,
     /// The writer failed.
     WriteFault,
+    /// The reader or the writer had waited as long as it may.
+    TimedOut,
     /// As many bytes of answers were read as may be.
     TooLong,
     /// A byte fits no answer.
@@ -44,20 +46,11 @@ impl SendFault {
             SendFault::Ended => "Ended",
             SendFault::ReadFault => "ReadFault",
             SendFault::WriteFault => "WriteFault",
+            SendFault::TimedOut => "TimedOut",
             SendFault::TooLong => "TooLong",
             SendFault::BadAnswer => "BadAnswer",
             SendFault::Refused(why) => why.name(),
         }
-    }
-}
-
-impl From<Device> for SendFault {
-    ghost use Rattle.escpos_host.specs.declared.send.SendFault.{SendFault};
-
-    ghost from_gives = { λ _ fault. fault ≡ SendFault.WriteFault };
-
-    fn from(_device: Device) -> Self {
-        SendFault::WriteFault
     }
 }
 
@@ -112,10 +105,14 @@ pub fn send_link<R: ByteIn, W: ByteOut>(
         × Appends (W.written writer.old) (W.written writer.new) out × (length bytes ≤ max_bytes)
         × Sends (record { before = host.old; receipt = receipt; openings = max openings 1; most = max_bytes }) bytes out result host.new }
     ensures ended { Why result SendFault.Ended → IsTrue (R.ended reader.new) }
-    ensures read_fault { Why result SendFault.ReadFault → IsTrue (R.failed reader.new) }
-    ensures write_fault { Why result SendFault.WriteFault → IsTrue (W.failed writer.new) }
-    ensures reader_well { ¬ IsTrue (R.failed reader.old) → (Why result SendFault.ReadFault → ⊥) → ¬ IsTrue (R.failed reader.new) }
-    ensures writer_well { ¬ IsTrue (W.failed writer.old) → (Why result SendFault.WriteFault → ⊥) → ¬ IsTrue (W.failed writer.new) }
+    ensures read_fault { Why result SendFault.ReadFault → IsTrue (R.failed reader.new) × (¬ IsTrue (R.timed_out reader.new)) }
+    ensures write_fault { Why result SendFault.WriteFault → IsTrue (W.failed writer.new) × (¬ IsTrue (W.timed_out writer.new)) }
+    ensures timed_out { Why result SendFault.TimedOut
+        → (IsTrue (R.failed reader.new) × IsTrue (R.timed_out reader.new)) ⊎ (IsTrue (W.failed writer.new) × IsTrue (W.timed_out writer.new)) }
+    ensures reader_well { ¬ IsTrue (R.failed reader.old) → (Why result SendFault.ReadFault → ⊥) → (Why result SendFault.TimedOut → ¬ IsTrue (R.timed_out reader.new))
+        → ¬ IsTrue (R.failed reader.new) }
+    ensures writer_well { ¬ IsTrue (W.failed writer.old) → (Why result SendFault.WriteFault → ⊥) → (Why result SendFault.TimedOut → ¬ IsTrue (W.timed_out writer.new))
+        → ¬ IsTrue (W.failed writer.new) }
     ensures pulls { R.pull_count reader.new ≤ R.pull_count reader.old + max_bytes + 1 }
 {
     if let Err(why) = open(host, openings) {
@@ -185,10 +182,14 @@ fn await_opened<R: ByteIn, W: ByteOut>(
     ensures lost { OnErr result ((c : Call) → host.old ≡ dialled c.before c.openings → Lost host.old host.new) }
     ensures pulls_err { OnErr result (R.pull_count reader.new ≤ R.pull_count reader.old + most + 1) }
     ensures ended { IsErrOf result SendFault.Ended → IsTrue (R.ended reader.new) }
-    ensures read_fault { IsErrOf result SendFault.ReadFault → IsTrue (R.failed reader.new) }
-    ensures write_fault { IsErrOf result SendFault.WriteFault → IsTrue (W.failed writer.new) }
-    ensures reader_well { ¬ IsErrOf result SendFault.ReadFault → ¬ IsTrue (R.failed reader.old) → ¬ IsTrue (R.failed reader.new) }
-    ensures writer_well { ¬ IsErrOf result SendFault.WriteFault → ¬ IsTrue (W.failed writer.old) → ¬ IsTrue (W.failed writer.new) }
+    ensures read_fault { IsErrOf result SendFault.ReadFault → IsTrue (R.failed reader.new) × (¬ IsTrue (R.timed_out reader.new)) }
+    ensures write_fault { IsErrOf result SendFault.WriteFault → IsTrue (W.failed writer.new) × (¬ IsTrue (W.timed_out writer.new)) }
+    ensures timed_out { IsErrOf result SendFault.TimedOut
+        → (IsTrue (R.failed reader.new) × IsTrue (R.timed_out reader.new)) ⊎ (IsTrue (W.failed writer.new) × IsTrue (W.timed_out writer.new)) }
+    ensures reader_well { ¬ IsErrOf result SendFault.ReadFault → (IsErrOf result SendFault.TimedOut → ¬ IsTrue (R.timed_out reader.new))
+        → ¬ IsTrue (R.failed reader.old) → ¬ IsTrue (R.failed reader.new) }
+    ensures writer_well { ¬ IsErrOf result SendFault.WriteFault → (IsErrOf result SendFault.TimedOut → ¬ IsTrue (W.timed_out writer.new))
+        → ¬ IsTrue (W.failed writer.old) → ¬ IsTrue (W.failed writer.new) }
 {
     put_out(host, writer)?;
     let mut piece = [0; PIECE_BYTES];
@@ -217,10 +218,14 @@ fn await_recorded<R: ByteIn, W: ByteOut>(
         → Stops c early (opening_bytes c) (R.to_come reader.old) (R.to_come reader.new) (W.written writer.old) (W.written writer.new) most why (c.openings + 1)) }
     ensures lost { OnErr result ((c : Call) (half : List ℕ) → host.old ≡ sending c half → Lost host.old host.new) }
     ensures ended { IsErrOf result SendFault.Ended → IsTrue (R.ended reader.new) }
-    ensures read_fault { IsErrOf result SendFault.ReadFault → IsTrue (R.failed reader.new) }
-    ensures write_fault { IsErrOf result SendFault.WriteFault → IsTrue (W.failed writer.new) }
-    ensures reader_well { ¬ IsErrOf result SendFault.ReadFault → ¬ IsTrue (R.failed reader.old) → ¬ IsTrue (R.failed reader.new) }
-    ensures writer_well { ¬ IsErrOf result SendFault.WriteFault → ¬ IsTrue (W.failed writer.old) → ¬ IsTrue (W.failed writer.new) }
+    ensures read_fault { IsErrOf result SendFault.ReadFault → IsTrue (R.failed reader.new) × (¬ IsTrue (R.timed_out reader.new)) }
+    ensures write_fault { IsErrOf result SendFault.WriteFault → IsTrue (W.failed writer.new) × (¬ IsTrue (W.timed_out writer.new)) }
+    ensures timed_out { IsErrOf result SendFault.TimedOut
+        → (IsTrue (R.failed reader.new) × IsTrue (R.timed_out reader.new)) ⊎ (IsTrue (W.failed writer.new) × IsTrue (W.timed_out writer.new)) }
+    ensures reader_well { ¬ IsErrOf result SendFault.ReadFault → (IsErrOf result SendFault.TimedOut → ¬ IsTrue (R.timed_out reader.new))
+        → ¬ IsTrue (R.failed reader.old) → ¬ IsTrue (R.failed reader.new) }
+    ensures writer_well { ¬ IsErrOf result SendFault.WriteFault → (IsErrOf result SendFault.TimedOut → ¬ IsTrue (W.timed_out writer.new))
+        → ¬ IsTrue (W.failed writer.old) → ¬ IsTrue (W.failed writer.new) }
 {
     put_out(host, writer)?;
     let mut piece = [0; PIECE_BYTES];
@@ -237,16 +242,32 @@ fn put_out<W: ByteOut>(host: &mut Host, writer: &mut W) -> Result<(), SendFault>
     ensures taken { OnOk result (host.new ≡ with_out host.old []) }
     ensures some { OnErr result ((out : List ℕ) × Appends (W.written writer.old) (W.written writer.new) out × IsCut host.old.out out) }
     ensures some_taken { OnErr result (host.new ≡ with_out host.old host.new.out) }
-    ensures why { IfErr result (λ why. why ≡ SendFault.WriteFault) }
+    ensures why { IfErr result IsBreak }
+    ensures write_fault { IsErrOf result SendFault.WriteFault → ¬ IsTrue (W.timed_out writer.new) }
+    ensures timed_out { IsErrOf result SendFault.TimedOut → IsTrue (W.timed_out writer.new) }
     ensures failed { OnErr result (IsTrue (W.failed writer.new)) }
     ensures not_failed { OnOk result (¬ IsTrue (W.failed writer.old) → ¬ IsTrue (W.failed writer.new)) }
 {
     let mut piece = [0; PUT_BYTES];
     while host.has_out() {
         let count = host.take_out(&mut piece);
-        put_all(&piece[..count], writer)?;
+        if let Err(_) = put_all(&piece[..count], writer) {
+            return Err(write_fault(writer));
+        }
     }
     Ok(())
+}
+
+// Why the writer takes no more.
+fn write_fault<W: ByteOut>(writer: &W) -> SendFault
+    ensures timed_out { IsTrue (W.timed_out writer.now) → result ≡ SendFault.TimedOut }
+    ensures other { ¬ IsTrue (W.timed_out writer.now) → result ≡ SendFault.WriteFault }
+{
+    if writer.has_timed_out() {
+        SendFault::TimedOut
+    } else {
+        SendFault::WriteFault
+    }
 }
 
 // Reads answers until one of them brings an event that isn't a status.
@@ -265,8 +286,10 @@ fn await_event<R: ByteIn>(
     ensures silence { IfErr result (λ why. IsSilence why) }
     ensures pulls_err { OnErr result (R.pull_count reader.new ≤ R.pull_count reader.old + most + 1) }
     ensures ended { IsErrOf result SendFault.Ended → IsTrue (R.ended reader.new) }
-    ensures failed { IsErrOf result SendFault.ReadFault → IsTrue (R.failed reader.new) }
-    ensures not_failed { ¬ IsErrOf result SendFault.ReadFault → ¬ IsTrue (R.failed reader.old) → ¬ IsTrue (R.failed reader.new) }
+    ensures failed { IsErrOf result SendFault.ReadFault → IsTrue (R.failed reader.new) × (¬ IsTrue (R.timed_out reader.new)) }
+    ensures timed_out { IsErrOf result SendFault.TimedOut → IsTrue (R.failed reader.new) × IsTrue (R.timed_out reader.new) }
+    ensures not_failed { ¬ IsErrOf result SendFault.ReadFault → ¬ IsErrOf result SendFault.TimedOut
+        → ¬ IsTrue (R.failed reader.old) → ¬ IsTrue (R.failed reader.new) }
 {
     // Proof only: a list of answers is read in one way, wherever it is cut; the host holds nothing or a half answer.
     host.is_sound();
@@ -275,7 +298,7 @@ fn await_event<R: ByteIn>(
         let asked = piece.len().min(most - read);
         let count = match reader.pull(&mut piece[..asked]) {
             Ok(count) => count,
-            Err(Failed) => return Err(SendFault::ReadFault),
+            Err(Failed) => return Err(read_fault(reader)),
         };
         if count == 0 {
             return Err(SendFault::Ended);
@@ -292,6 +315,18 @@ fn await_event<R: ByteIn>(
         };
     }
     Err(SendFault::TooLong)
+}
+
+// Why the reader gives no more.
+fn read_fault<R: ByteIn>(reader: &R) -> SendFault
+    ensures timed_out { IsTrue (R.timed_out reader.now) → result ≡ SendFault.TimedOut }
+    ensures other { ¬ IsTrue (R.timed_out reader.now) → result ≡ SendFault.ReadFault }
+{
+    if reader.has_timed_out() {
+        SendFault::TimedOut
+    } else {
+        SendFault::ReadFault
+    }
 }
 
 // Hears bytes up to the first event that isn't a status.

@@ -14,9 +14,7 @@ returns-in_err-put_out-clause-stops g c =
     let e = c.in_err-put_out.ensures.some in
     if_err _ c.from_residual.result c.in_err-put_out.field-0.0 c.from_residual.ensures.1
     (λ call is marks all.
-    subst (λ w. Stops call [] [] (g.R.ByteIn.to_come c.args.reader.now) (g.R.ByteIn.to_come c.args.reader.now) (g.W.ByteOut.written c.args.writer.now) (g.W.ByteOut.written c.put_out.new.writer) c.args.most w call.openings)
-    (sym c.in_err-put_out.ensures.why)
-    (cut_first call _ _ _ c.args.most e.0 marks e.1 (subst (λ bs. IsCut bs e.0) (ap (λ (v : HostView). v.out) is) e.2)))
+    cut_first call c.in_err-put_out.field-0.0 _ _ _ c.args.most e.0 c.in_err-put_out.ensures.why marks e.1 (subst (λ bs. IsCut bs e.0) (ap (λ (v : HostView). v.out) is) e.2))
 
 pub returns-in_err-awaited-clause-stops : goal.returns-in_err-awaited-clause-stops
 returns-in_err-awaited-clause-stops g c =
@@ -66,7 +64,7 @@ returns-in-None-clause-opens g c = λ call is.
     c.in-None.is c.hear.ensures
 
 pub returns-in-None-clause-reader_well : goal.returns-in-None-clause-reader_well
-returns-in-None-clause-reader_well g c = λ no well. c.in_ok-awaited.ensures.not_failed (λ e. cc e) well
+returns-in-None-clause-reader_well g c = λ no other well. c.in_ok-awaited.ensures.not_failed (λ e. cc e) (λ e. cc e) well
 
 pub returns-in_default-event-clause-stops : goal.returns-in_default-event-clause-stops
 returns-in_default-event-clause-stops g c = λ call is marks all.
@@ -86,4 +84,4 @@ returns-in_default-event-clause-lost g c = λ call is.
     c.in_default-event.not-None c.hear.ensures ∙ ap gone_down (sym is))
 
 pub returns-in_default-event-clause-reader_well : goal.returns-in_default-event-clause-reader_well
-returns-in_default-event-clause-reader_well g c = λ no well. c.in_ok-awaited.ensures.not_failed (λ e. cc e) well
+returns-in_default-event-clause-reader_well g c = λ no other well. c.in_ok-awaited.ensures.not_failed (λ e. cc e) (λ e. cc e) well

@@ -14,9 +14,7 @@ returns-in_err-put_out-clause-stops g c =
     let e = c.in_err-put_out.ensures.some in
     if_err _ c.from_residual.result c.in_err-put_out.field-0.0 c.from_residual.ensures.1
     (λ call early half is opened marks all.
-    subst (λ w. Stops call early (opening_bytes call) (g.R.ByteIn.to_come c.args.reader.now) (g.R.ByteIn.to_come c.args.reader.now) (g.W.ByteOut.written c.args.writer.now) (g.W.ByteOut.written c.put_out.new.writer) c.args.most w (call.openings + 1))
-    (sym c.in_err-put_out.ensures.why)
-    (cut_second call early half _ _ _ c.args.most e.0 opened marks e.1 (subst (λ bs. IsCut bs e.0) (ap (λ (v : HostView). v.out) is) e.2)))
+    cut_second call c.in_err-put_out.field-0.0 early half _ _ _ c.args.most e.0 c.in_err-put_out.ensures.why opened marks e.1 (subst (λ bs. IsCut bs e.0) (ap (λ (v : HostView). v.out) is) e.2))
 
 pub returns-in_err-put_out-clause-lost : goal.returns-in_err-put_out-clause-lost
 returns-in_err-put_out-clause-lost g c =

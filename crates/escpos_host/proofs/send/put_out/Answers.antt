@@ -22,30 +22,30 @@ loop-piece-preserved g c =
     let some : 0 < length (take c.take_out-count.result c.take_out-count.new.out) = omega (arith, count, room, whole, kept, left_some) in
     let more =
     put_more (g.W.ByteOut.written c.args.writer.now) (g.W.ByteOut.written c.loop-piece.writer) (g.W.ByteOut.written c.put_all.new.writer) c.args.host.now.out before.0 c.loop-piece.host.out
-    c.take_out-count.result before.1 before.2 (subst (Appends (g.W.ByteOut.written c.loop-piece.writer) (g.W.ByteOut.written c.put_all.new.writer)) front c.in_ok-put_all.ensures.all) in
+    c.take_out-count.result before.1 before.2 (subst (Appends (g.W.ByteOut.written c.loop-piece.writer) (g.W.ByteOut.written c.put_all.new.writer)) front c.in_default.ensures.all) in
     record {
       room = c.take_out-count.auto.out ∙ c.loop-piece.invariant.room;
       so_far = (more.0, more.1, more.2 ∙ ap (λ v. more.0 ++ v) (sym left));
       same = same ∙ ap (λ v. taken_out v c.take_out-count.result) c.loop-piece.invariant.same ∙ ap (with_out c.args.host.now) (sym left);
-      not_failed = λ well. c.in_ok-put_all.ensures.not_failed some;
+      not_failed = λ well. c.in_default.ensures.not_failed some;
     }
 
-pub returns-in_err-put_all-clause-some : goal.returns-in_err-put_all-clause-some
-returns-in_err-put_all-clause-some g c =
+pub returns-in-Err-clause-some : goal.returns-in-Err-clause-some
+returns-in-Err-clause-some g c =
     let count = c.take_out-count.ensures.count in
     let few : c.take_out-count.result ≤ length c.loop-piece.host.out = omega (arith, count) in
     let front = copied_front c.loop-piece.host.out c.loop-piece.piece c.take_out-count.new.out c.take_out-count.result few c.take_out-count.ensures.copied in
     let before = c.loop-piece.invariant.so_far in
     let cut =
     put_cut (g.W.ByteOut.written c.args.writer.now) (g.W.ByteOut.written c.loop-piece.writer) (g.W.ByteOut.written c.put_all.new.writer) c.args.host.now.out before.0 c.loop-piece.host.out
-    c.take_out-count.result c.in_err-put_all.field-0.0.written before.1 before.2 (rw front at c.in_err-put_all.ensures.fewer) (rw front at c.in_err-put_all.ensures.some) in
-    on_err c.from_residual.result cut
+    c.take_out-count.result c.in-Err.field-0.written before.1 before.2 (rw front at c.in-Err.ensures.fewer) (rw front at c.in-Err.ensures.some) in
+    cut
 
-pub returns-in_err-put_all-clause-some_taken : goal.returns-in_err-put_all-clause-some_taken
-returns-in_err-put_all-clause-some_taken g c =
+pub returns-in-Err-clause-some_taken : goal.returns-in-Err-clause-some_taken
+returns-in-Err-clause-some_taken g c =
     let same = c.take_out-count.ensures.taken in
     let left = ap (λ (v : HostView). v.out) same in
-    on_err c.from_residual.result (same ∙ ap (λ v. taken_out v c.take_out-count.result) c.loop-piece.invariant.same ∙ ap (with_out c.args.host.now) (sym left))
+    same ∙ ap (λ v. taken_out v c.take_out-count.result) c.loop-piece.invariant.same ∙ ap (with_out c.args.host.now) (sym left)
 
 -- nothing is left
 nothing : (g : given.Over) (c : goal.After-loop-piece g) → c.loop-piece.host.out ≡ []
