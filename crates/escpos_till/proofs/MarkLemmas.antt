@@ -15,7 +15,7 @@ use Rattle.escpos_host.specs.declared.send.Sent.{Sent}
 use Rattle.escpos_host.specs.declared.send.Sent.TheVariants as became
 use Rattle.escpos_host.specs.Machine.{HostView}
 use Rattle.escpos_host.specs.Says.{framed, marks_from}
-use Rattle.escpos_host.specs.Sends.{Call, Fails, RefusesSend, Sends, Waits, Why, opening_bytes, receipt_bytes}
+use Rattle.escpos_host.specs.Sends.{Call, CantPut, Fails, RefusesSend, Sends, Waits, Why, opening_bytes, receipt_bytes}
 use Rattle.escpos_till.specs.declared.deliver.Delivered.{Delivered}
 use Rattle.escpos_till.specs.declared.deliver.Delivered.TheVariants as delivered
 use Rattle.escpos_till.specs.declared.error.LedgerError.{LedgerError}
@@ -97,13 +97,20 @@ begins_refused c refusal.Memory bytes out after r = elim r.2 [
 begins_refused c refusal.NotReady bytes out after r = absurd r
 begins_refused c refusal.InFlightFull bytes out after r = absurd r
 
+begins_cut : (c : Call) (bytes out : List ℕ) (after : HostView) → CantPut c bytes out after → Begins c out
+begins_cut c bytes out after f = elim f.1 [
+  | inl early ↦ (early.1.0 ++ receipt_bytes c, ap (λ x. x ++ receipt_bytes c) early.1.2 ∙ append_assoc out early.1.0 (receipt_bytes c))
+  | inr late ↦ begins_by c out (opening_bytes c ++ late.1) late.4.0 late.3 (ap (λ x. opening_bytes c ++ x) late.4.2 ∙ sym (append_assoc (opening_bytes c) late.1 late.4.0))
+]
+
 begins_failed : (c : Call) (why : SendFault) (bytes out : List ℕ) (after : HostView) → Fails c why bytes out after → Begins c out
 begins_failed c fault.Ended bytes out after f = begins_waiting c bytes f.0 out f.1 f.2
 begins_failed c fault.ReadFault bytes out after f = begins_waiting c bytes f.0 out f.1 f.2
 begins_failed c fault.TooLong bytes out after f = begins_waiting c bytes f.0 out f.1 f.2
-begins_failed c fault.WriteFault bytes out after f = elim f.1 [
-  | inl early ↦ (early.1.0 ++ receipt_bytes c, ap (λ x. x ++ receipt_bytes c) early.1.2 ∙ append_assoc out early.1.0 (receipt_bytes c))
-  | inr late ↦ begins_by c out (opening_bytes c ++ late.1) late.4.0 late.3 (ap (λ x. opening_bytes c ++ x) late.4.2 ∙ sym (append_assoc (opening_bytes c) late.1 late.4.0))
+begins_failed c fault.WriteFault bytes out after f = begins_cut c bytes out after f
+begins_failed c fault.TimedOut bytes out after f = elim f [
+  | inl none ↦ begins_waiting c bytes none.0 out none.1 none.2
+  | inr cut ↦ begins_cut c bytes out after cut
 ]
 begins_failed c fault.BadAnswer bytes out after f = elim f.1.stage [
   | inl waits ↦ begins_waiting c f.1.good f.1.half out f.0 waits

@@ -3,7 +3,7 @@
 //! The mark numbers of a link are reserved in the ledger before a byte goes out, so that no number is used twice, whatever
 //! crashes. `specs/Delivers.antt` defines what a call does.
 
-ghost use Rattle.std.specs.Prelude.{◌≡◌, ◌≢◌, ◌+◌, ◌-◌, ◌^◌, ◌<◌, ◌≤◌, min, max, ℕ, List, Option, Some, None, [], ◌++◌, length, IsTrue, option_map, MatchOption, IfOk, IfErr, OnOk};
+ghost use Rattle.std.specs.Prelude.{◌≡◌, ◌≢◌, ◌⊎◌, ◌+◌, ◌-◌, ◌^◌, ◌<◌, ◌≤◌, min, max, ℕ, List, Option, Some, None, [], ◌++◌, length, IsTrue, option_map, MatchOption, IfOk, IfErr, OnOk};
 ghost use Rattle.std.specs.Io.KnownBytes.{Appends, Consumes};
 ghost use Rattle.escpos_host.specs.Sends.{Why};
 ghost use Rattle.escpos_till.specs.Delivers.{Concludes, Delivers, Due, Exchange, PutsMarks, RefusesDue, marks_taken};
@@ -91,8 +91,12 @@ pub fn deliver_one<S: Store, R: ByteIn, W: ByteOut>(
         (next_free ledger.old.entries) (next_free ledger.new.entries) }
     ensures was_faithful { S.faithful ledger.new.store → S.faithful ledger.old.store }
     ensures ended { (number : ℕ) → result ≡ Delivered.NotRecorded number SendFault.Ended → IsTrue (R.ended reader.new) }
-    ensures read_fault { (number : ℕ) → result ≡ Delivered.NotRecorded number SendFault.ReadFault → IsTrue (R.failed reader.new) }
-    ensures write_fault { (number : ℕ) → result ≡ Delivered.NotRecorded number SendFault.WriteFault → IsTrue (W.failed writer.new) }
+    ensures read_fault { (number : ℕ) → result ≡ Delivered.NotRecorded number SendFault.ReadFault
+        → IsTrue (R.failed reader.new) × (¬ IsTrue (R.timed_out reader.new)) }
+    ensures write_fault { (number : ℕ) → result ≡ Delivered.NotRecorded number SendFault.WriteFault
+        → IsTrue (W.failed writer.new) × (¬ IsTrue (W.timed_out writer.new)) }
+    ensures timed_out { (number : ℕ) → result ≡ Delivered.NotRecorded number SendFault.TimedOut
+        → (IsTrue (R.failed reader.new) × IsTrue (R.timed_out reader.new)) ⊎ (IsTrue (W.failed writer.new) × IsTrue (W.timed_out writer.new)) }
 {
     deliver_first(ledger, alloc, openings, copy, reader, writer, max_bytes)
 }
@@ -118,8 +122,12 @@ fn deliver_first<S: Store, R: ByteIn, W: ByteOut>(
         (option_map (λ t. t.now) copy.entry) ledger.old result ledger.new }
     ensures was_faithful { S.faithful ledger.new.store → S.faithful ledger.old.store }
     ensures ended { (number : ℕ) → result ≡ Delivered.NotRecorded number SendFault.Ended → IsTrue (R.ended reader.new) }
-    ensures read_fault { (number : ℕ) → result ≡ Delivered.NotRecorded number SendFault.ReadFault → IsTrue (R.failed reader.new) }
-    ensures write_fault { (number : ℕ) → result ≡ Delivered.NotRecorded number SendFault.WriteFault → IsTrue (W.failed writer.new) }
+    ensures read_fault { (number : ℕ) → result ≡ Delivered.NotRecorded number SendFault.ReadFault
+        → IsTrue (R.failed reader.new) × (¬ IsTrue (R.timed_out reader.new)) }
+    ensures write_fault { (number : ℕ) → result ≡ Delivered.NotRecorded number SendFault.WriteFault
+        → IsTrue (W.failed writer.new) × (¬ IsTrue (W.timed_out writer.new)) }
+    ensures timed_out { (number : ℕ) → result ≡ Delivered.NotRecorded number SendFault.TimedOut
+        → (IsTrue (R.failed reader.new) × IsTrue (R.timed_out reader.new)) ⊎ (IsTrue (W.failed writer.new) × IsTrue (W.timed_out writer.new)) }
 {
     let DueReceipt { number, receipt } = match next_due(ledger, alloc, copy) {
         Ok(Some(due)) => due,
@@ -155,8 +163,10 @@ fn send_fresh<R: ByteIn, W: ByteOut>(
       put_after = W.written writer.new;
     }) first receipt result }
     ensures ended { Why result SendFault.Ended → IsTrue (R.ended reader.new) }
-    ensures read_fault { Why result SendFault.ReadFault → IsTrue (R.failed reader.new) }
-    ensures write_fault { Why result SendFault.WriteFault → IsTrue (W.failed writer.new) }
+    ensures read_fault { Why result SendFault.ReadFault → IsTrue (R.failed reader.new) × (¬ IsTrue (R.timed_out reader.new)) }
+    ensures write_fault { Why result SendFault.WriteFault → IsTrue (W.failed writer.new) × (¬ IsTrue (W.timed_out writer.new)) }
+    ensures timed_out { Why result SendFault.TimedOut
+        → (IsTrue (R.failed reader.new) × IsTrue (R.timed_out reader.new)) ⊎ (IsTrue (W.failed writer.new) × IsTrue (W.timed_out writer.new)) }
 {
     let mut host = Host::new(alloc, first);
     send_link(&mut host, receipt, openings, reader, writer, max_bytes)

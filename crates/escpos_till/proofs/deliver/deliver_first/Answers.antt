@@ -54,3 +54,6 @@ returns-clause-read_fault g c = λ number e. c.send_fresh-sent.ensures.read_faul
 
 pub returns-clause-write_fault : goal.returns-clause-write_fault
 returns-clause-write_fault g c = λ number e. c.send_fresh-sent.ensures.write_fault (why_told c.tried.new.self c.in-Ok-Some.due.number number c.send_fresh-sent.result c.conclude.result c.conclude.new.ledger _ c.conclude.ensures.concludes e)
+
+pub returns-clause-timed_out : goal.returns-clause-timed_out
+returns-clause-timed_out g c = λ number e. c.send_fresh-sent.ensures.timed_out (why_told c.tried.new.self c.in-Ok-Some.due.number number c.send_fresh-sent.result c.conclude.result c.conclude.new.ledger _ c.conclude.ensures.concludes e)
