@@ -1,4 +1,5 @@
-//! The host's side of a receipt line: the host, which says when a receipt is printed, and a call that sends one.
+//! The host's side of a receipt line: the host, which says when a receipt is printed, a call that sends one, and the reader
+//! of a printer's answers.
 //!
 //! `host` has the host: everything that it does with a link. `outbox` keeps what it must still put out, and `answer_reader`
 //! reads answers. `send` sends one receipt over a link. `laws` has what follows from the definitions, which are those of
@@ -13,6 +14,7 @@ pub mod laws;
 mod outbox;
 mod send;
 
+pub use answer_reader::{AnswerReader, NoAnswer};
 pub use escpos_receipt::{JsonError, JsonFault, Receipt, ReceiptFault};
 pub use host::{Heard, Host, HostError, HostEvent, HostState, MOST_IN_FLIGHT};
 pub use send::{SendFault, Sent, send_link};
