@@ -37,6 +37,30 @@ pub enum SendFault {
 impl SendFault {
     ghost use Rattle.escpos_host.specs.Refusals.{fault_name};
 
+    /// Why a reader that has failed gives no more.
+    pub fn of_reader<R: ByteIn>(reader: &R) -> Self
+        ensures timed_out { IsTrue (R.timed_out reader.now) → result ≡ SendFault.TimedOut }
+        ensures other { ¬ IsTrue (R.timed_out reader.now) → result ≡ SendFault.ReadFault }
+    {
+        if reader.has_timed_out() {
+            SendFault::TimedOut
+        } else {
+            SendFault::ReadFault
+        }
+    }
+
+    /// Why a writer that has failed takes no more.
+    pub fn of_writer<W: ByteOut>(writer: &W) -> Self
+        ensures timed_out { IsTrue (W.timed_out writer.now) → result ≡ SendFault.TimedOut }
+        ensures other { ¬ IsTrue (W.timed_out writer.now) → result ≡ SendFault.WriteFault }
+    {
+        if writer.has_timed_out() {
+            SendFault::TimedOut
+        } else {
+            SendFault::WriteFault
+        }
+    }
+
     /// The name that programs print; for `Refused` it is that of the host's reason.
     pub fn name(self) -> &'static str
         ensures value { result.now ≡ fault_name self }
@@ -252,22 +276,10 @@ fn put_out<W: ByteOut>(host: &mut Host, writer: &mut W) -> Result<(), SendFault>
     while host.has_out() {
         let count = host.take_out(&mut piece);
         if let Err(_) = put_all(&piece[..count], writer) {
-            return Err(write_fault(writer));
+            return Err(SendFault::of_writer(writer));
         }
     }
     Ok(())
-}
-
-// Why the writer takes no more.
-fn write_fault<W: ByteOut>(writer: &W) -> SendFault
-    ensures timed_out { IsTrue (W.timed_out writer.now) → result ≡ SendFault.TimedOut }
-    ensures other { ¬ IsTrue (W.timed_out writer.now) → result ≡ SendFault.WriteFault }
-{
-    if writer.has_timed_out() {
-        SendFault::TimedOut
-    } else {
-        SendFault::WriteFault
-    }
 }
 
 // Reads answers until one of them brings an event that isn't a status.
@@ -298,7 +310,7 @@ fn await_event<R: ByteIn>(
         let asked = piece.len().min(most - read);
         let count = match reader.pull(&mut piece[..asked]) {
             Ok(count) => count,
-            Err(Failed) => return Err(read_fault(reader)),
+            Err(Failed) => return Err(SendFault::of_reader(reader)),
         };
         if count == 0 {
             return Err(SendFault::Ended);
@@ -315,18 +327,6 @@ fn await_event<R: ByteIn>(
         };
     }
     Err(SendFault::TooLong)
-}
-
-// Why the reader gives no more.
-fn read_fault<R: ByteIn>(reader: &R) -> SendFault
-    ensures timed_out { IsTrue (R.timed_out reader.now) → result ≡ SendFault.TimedOut }
-    ensures other { ¬ IsTrue (R.timed_out reader.now) → result ≡ SendFault.ReadFault }
-{
-    if reader.has_timed_out() {
-        SendFault::TimedOut
-    } else {
-        SendFault::ReadFault
-    }
 }
 
 // Hears bytes up to the first event that isn't a status.
