@@ -7,8 +7,8 @@ use Rattle.std.specs.Net.Grammar.{IsSocketV4Text}
 use Rattle.std.proofs.NetLemmas.Theorems.{IsSocketV4Text_unique}
 use Rattle.clap.specs.Words.{Text}
 use Rattle.clap.specs.Matches.{TriesOne}
-use Rattle.escpos_arguments.specs.Arguments.{IsAddress, IsNumber, IsNumberOr}
-use Rattle.escpos_arguments.specs.ClapAnswers.{IsNumberIn}
+use Rattle.escpos_arguments.specs.Arguments.{IsAddress, IsNumberOr}
+use Rattle.escpos_arguments.specs.ClapAnswers.{IsNumber, IsNumberIn}
 
 -- what a typed getter gives for a number
 pub reads_number : {E : Type 0} (text : Option Text) (G : List ℕ → Result ℕ E → Type 0) (r : Result (Option ℕ) E)

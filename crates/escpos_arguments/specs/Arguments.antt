@@ -1,6 +1,5 @@
 -- The arguments of the command line, and what they ask for.
-use Rattle.std.specs.Prelude.{◌≡◌, ◌<◌, ◌≤◌, ◌^◌, ℕ, ⊤, List, [], ◌∷◌, Option, Some, None, IsSomeAnd, codes, Bool, true, false}
-use Rattle.std.specs.Str.Parse.{IsNumeral, digits_value, without_leading_plus}
+use Rattle.std.specs.Prelude.{◌≡◌, ◌<◌, ◌≤◌, ℕ, ⊤, List, [], ◌∷◌, Option, Some, None, IfSome, IsSomeAnd, codes, Bool, true, false}
 use Rattle.std.specs.declared.net.socket_addr.SocketAddrV4.{SocketAddrV4}
 use Rattle.std.specs.Net.Grammar.{IsSocketV4Text}
 use Rattle.std.specs.Net.Text.{socket_v4_text}
@@ -9,19 +8,18 @@ use Rattle.clap.specs.Simple.{new_shape, on_top}
 use Rattle.clap.specs.declared.builder.action.ArgAction.TheVariants.{Set, SetTrue}
 use Rattle.escpos_command.specs.Digits.{mark_count}
 use Rattle.escpos_arguments.specs.declared.arguments.TheConstants.{LINKS, MOST_LINKS, OPENINGS, MOST_OPENINGS}
+use Rattle.escpos_printer.specs.declared.condition.Condition.{Condition}
 use Rattle.escpos_jobs.specs.declared.task.Task.{Task}
-use Rattle.escpos_jobs.specs.declared.task.Task.TheVariants.{Check, CheckRaw, Render, RenderRaw, Encode, EncodeRaw, Play, Emulate, Send, Loop}
+use Rattle.escpos_jobs.specs.declared.task.Task.TheVariants.{Check, CheckRaw, Render, RenderRaw, Encode, EncodeRaw, Play, Emulate, EmulateIn, Follow, Send, SendWithin, Status, Loop}
+use Rattle.escpos_jobs.specs.Conditions.{condition_text, online}
+use Rattle.escpos_jobs.specs.Wait.{IsWait}
+use Rattle.escpos_arguments.specs.ClapAnswers.{IsNumber, IsNumberIn}
 
 -- ---- what a text says
 
 -- the text is the one that is printed for the address: `A.B.C.D:P` in decimal, without leading zeros
 abbrev pub IsAddress : Text → SocketAddrV4 → Type 0
 IsAddress text address = IsSocketV4Text text address × (text ≡ socket_v4_text address)
-
--- the text is a number of 32 bits in decimal digits, which may follow a plus sign and begin with zeros
-abbrev pub IsNumber : Text → ℕ → Type 0
-IsNumber text n = IsNumeral 10 (without_leading_plus text) × (digits_value 10 (without_leading_plus text) < 2 ^ 32)
-    × (n ≡ digits_value 10 (without_leading_plus text))
 
 -- the number that a text says, if there is a text, otherwise the fallback
 abbrev pub IsNumberOr : ℕ → Option Text → ℕ → Type 0
@@ -40,7 +38,11 @@ name_of Encode = codes "encode"
 name_of EncodeRaw = codes "encode"
 name_of Play = codes "play"
 name_of (Emulate address links) = codes "emulate"
+name_of (EmulateIn address links condition) = codes "emulate"
+name_of (Follow address condition) = codes "emulate"
 name_of (Send address first openings) = codes "send"
+name_of (SendWithin address first openings wait) = codes "send"
+name_of (Status address wait) = codes "status"
 name_of Loop = codes "loop"
 
 -- the task has no values, so that its name is all that asks for it
@@ -49,16 +51,29 @@ IsPlain CheckRaw = ⊥
 IsPlain RenderRaw = ⊥
 IsPlain EncodeRaw = ⊥
 IsPlain (Emulate address links) = ⊥
+IsPlain (EmulateIn address links condition) = ⊥
+IsPlain (Follow address condition) = ⊥
 IsPlain (Send address first openings) = ⊥
+IsPlain (SendWithin address first openings wait) = ⊥
+IsPlain (Status address wait) = ⊥
 IsPlain _ = ⊤
 
 -- the arguments that ask for a task without values: its name, and nothing more
 abbrev pub words_of : Task → List Text
 words_of task = name_of task ∷ []
 
+-- the flag of this name is among the values
+abbrev pub HasFlag : Text → List Row → Type 0
+HasFlag name rows = first_of name rows ≡ Some (codes "true")
+
 -- the flag `--raw` is among the values
 abbrev pub HasRaw : List Row → Type 0
-HasRaw rows = first_of (codes "raw") rows ≡ Some (codes "true")
+HasRaw rows = HasFlag (codes "raw") rows
+
+-- what the sensors of a printer say, where this text was given for it, if any
+abbrev pub IsConditionOr : Option Text → Condition → Type 0
+IsConditionOr None condition = condition ≡ online
+IsConditionOr (Some text) condition = text ≡ condition_text condition
 
 -- this name, with the values that were given after it, asks for the task
 abbrev pub AsksBy : Text → List Row → Task → Type 0
@@ -72,10 +87,31 @@ AsksBy name rows Play = name ≡ codes "play"
 AsksBy name rows (Emulate address links) = (name ≡ codes "emulate")
     × IsSomeAnd (first_of (codes "address") rows) (λ text. IsAddress text address)
     × IsNumberOr LINKS (one_of (codes "links") rows) links
+    × (first_of (codes "condition") rows ≡ None)
+    × (¬ HasFlag (codes "follow") rows)
+AsksBy name rows (EmulateIn address links condition) = (name ≡ codes "emulate")
+    × IsSomeAnd (first_of (codes "address") rows) (λ text. IsAddress text address)
+    × IsNumberOr LINKS (one_of (codes "links") rows) links
+    × IsSomeAnd (first_of (codes "condition") rows) (λ text. text ≡ condition_text condition)
+    × (¬ HasFlag (codes "follow") rows)
+AsksBy name rows (Follow address condition) = (name ≡ codes "emulate")
+    × IsSomeAnd (first_of (codes "address") rows) (λ text. IsAddress text address)
+    × (one_of (codes "links") rows ≡ None)
+    × IsConditionOr (first_of (codes "condition") rows) condition
+    × HasFlag (codes "follow") rows
 AsksBy name rows (Send address first openings) = (name ≡ codes "send")
     × IsSomeAnd (first_of (codes "address") rows) (λ text. IsAddress text address)
     × IsSomeAnd (one_of (codes "first") rows) (λ text. IsNumber text first)
     × IsNumberOr OPENINGS (one_of (codes "openings") rows) openings
+    × (one_of (codes "wait") rows ≡ None)
+AsksBy name rows (SendWithin address first openings wait) = (name ≡ codes "send")
+    × IsSomeAnd (first_of (codes "address") rows) (λ text. IsAddress text address)
+    × IsSomeAnd (one_of (codes "first") rows) (λ text. IsNumber text first)
+    × IsNumberOr OPENINGS (one_of (codes "openings") rows) openings
+    × IsSomeAnd (one_of (codes "wait") rows) (λ text. IsNumber text wait)
+AsksBy name rows (Status address wait) = (name ≡ codes "status")
+    × IsSomeAnd (first_of (codes "address") rows) (λ text. IsAddress text address)
+    × IsNumberIn (one_of (codes "wait") rows) wait
 AsksBy name rows Loop = name ≡ codes "loop"
 
 -- what `clap` finds in the arguments, a name and the values after it, asks for the task
@@ -85,7 +121,10 @@ Asks found task = IsSomeAnd found (λ p. AsksBy p.0 p.1 task)
 -- the numbers of the task are in range
 abbrev pub InRange : Task → Type 0
 InRange (Emulate address links) = (1 ≤ links) × (links ≤ MOST_LINKS)
+InRange (EmulateIn address links condition) = (1 ≤ links) × (links ≤ MOST_LINKS)
 InRange (Send address first openings) = (first < mark_count) × (1 ≤ openings) × (openings ≤ MOST_OPENINGS)
+InRange (SendWithin address first openings wait) = (first < mark_count) × (1 ≤ openings) × (openings ≤ MOST_OPENINGS) × IsWait wait
+InRange (Status address wait) = IfSome wait IsWait
 InRange _ = ⊤
 
 -- argument lists that ask for help (there are others)
@@ -119,12 +158,17 @@ raw_words name = (with_rule (new_app name) (flag_rule (codes "raw"))).top
 
 -- what may follow `emulate`
 abbrev pub emulate_words : Shape
-emulate_words = (with_rule (with_rule (new_app (codes "emulate")) address_rule) (option_rule (codes "links") false)).top
+emulate_words = (with_rule (with_rule (with_rule (with_rule (new_app (codes "emulate")) address_rule) (option_rule (codes "links") false))
+    (flag_rule (codes "follow"))) (option_rule (codes "condition") false)).top
 
 -- what may follow `send`
 abbrev pub send_words : Shape
-send_words = (with_rule (with_rule (with_rule (new_app (codes "send")) address_rule) (option_rule (codes "first") true))
-    (option_rule (codes "openings") false)).top
+send_words = (with_rule (with_rule (with_rule (with_rule (new_app (codes "send")) address_rule) (option_rule (codes "first") true))
+    (option_rule (codes "openings") false)) (option_rule (codes "wait") false)).top
+
+-- what may follow `status`
+abbrev pub status_words : Shape
+status_words = (with_rule (with_rule (new_app (codes "status")) address_rule) (option_rule (codes "wait") false)).top
 
 -- the names of the tasks that need no network, and nothing more
 abbrev pub stream_words : App
@@ -139,5 +183,5 @@ stream_words =
 
 -- the name of a task with its values, or `help`, and nothing more
 abbrev pub command_words : App
-command_words = with_subcommand (with_subcommand (with_subcommand (with_subcommand stream_words
-    emulate_words) send_words) (new_shape (codes "loop"))) (new_shape (codes "help"))
+command_words = with_subcommand (with_subcommand (with_subcommand (with_subcommand (with_subcommand stream_words
+    emulate_words) send_words) status_words) (new_shape (codes "loop"))) (new_shape (codes "help"))

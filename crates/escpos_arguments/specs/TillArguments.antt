@@ -1,15 +1,16 @@
 -- The arguments of a till's words, `queue`, `deliver` and `ledger`, and what they ask for.
-use Rattle.std.specs.Prelude.{◌≡◌, ◌<◌, ◌≤◌, ⊤, List, [], ◌∷◌, Option, Some, IfSome, IsSomeAnd, codes, true, false}
+use Rattle.std.specs.Prelude.{◌≡◌, ◌<◌, ◌≤◌, ⊤, List, [], ◌∷◌, Option, Some, None, IfSome, IsSomeAnd, codes, true, false}
 use Rattle.clap.specs.Words.{App, Row, Rule, Shape, Text, first_of, new_app, new_rule, one_of, with_rule, with_subcommand}
 use Rattle.clap.specs.Simple.{on_top}
 use Rattle.clap.specs.declared.builder.action.ArgAction.TheVariants.{Set}
 use Rattle.escpos_command.specs.Digits.{mark_count}
 use Rattle.escpos_arguments.specs.declared.arguments.TheConstants.{OPENINGS, MOST_OPENINGS}
 use Rattle.escpos_arguments.specs.Arguments.{IsAddress, IsNumberOr, address_rule, option_rule}
-use Rattle.escpos_arguments.specs.ClapAnswers.{IsNumberIn}
+use Rattle.escpos_arguments.specs.ClapAnswers.{IsNumber, IsNumberIn}
+use Rattle.escpos_jobs.specs.Wait.{IsWait}
 use Rattle.escpos_till.specs.Copy.{IsCopyText}
 use Rattle.escpos_till_jobs.specs.declared.task.TillTask.{TillTask}
-use Rattle.escpos_till_jobs.specs.declared.task.TillTask.TheVariants.{Queue, Deliver, List as listing}
+use Rattle.escpos_till_jobs.specs.declared.task.TillTask.TheVariants.{Queue, Deliver, DeliverWithin, List as listing}
 
 -- ---- what the arguments ask for
 
@@ -25,6 +26,13 @@ AsksTillBy name rows (Deliver ledger delivery) = (name ≡ codes "deliver")
     × IsSomeAnd (first_of (codes "address") rows) (λ text. IsAddress text delivery.address)
     × IsNumberOr OPENINGS (one_of (codes "openings") rows) delivery.openings
     × (first_of (codes "copy") rows ≡ delivery.copy)
+    × (one_of (codes "wait") rows ≡ None)
+AsksTillBy name rows (DeliverWithin ledger delivery wait) = (name ≡ codes "deliver")
+    × (first_of (codes "ledger") rows ≡ Some ledger)
+    × IsSomeAnd (first_of (codes "address") rows) (λ text. IsAddress text delivery.address)
+    × IsNumberOr OPENINGS (one_of (codes "openings") rows) delivery.openings
+    × (first_of (codes "copy") rows ≡ delivery.copy)
+    × IsSomeAnd (one_of (codes "wait") rows) (λ text. IsNumber text wait)
 AsksTillBy name rows (listing ledger first) = (name ≡ codes "ledger")
     × (first_of (codes "ledger") rows ≡ Some ledger)
     × IsNumberIn (one_of (codes "first") rows) first
@@ -37,6 +45,7 @@ AsksTill found task = IsSomeAnd found (λ p. AsksTillBy p.0 p.1 task)
 abbrev pub IsTillInRange : TillTask → Type 0
 IsTillInRange (Queue ledger) = ⊤
 IsTillInRange (Deliver ledger delivery) = (1 ≤ delivery.openings) × (delivery.openings ≤ MOST_OPENINGS) × IfSome delivery.copy IsCopyText
+IsTillInRange (DeliverWithin ledger delivery wait) = (1 ≤ delivery.openings) × (delivery.openings ≤ MOST_OPENINGS) × IfSome delivery.copy IsCopyText × IsWait wait
 IsTillInRange (listing ledger first) = IfSome first (λ n. n < mark_count)
 
 -- ---- the till's arguments, as `clap` reads them
@@ -51,8 +60,8 @@ queue_words = (with_rule (new_app (codes "queue")) ledger_rule).top
 
 -- what may follow `deliver`
 abbrev pub deliver_words : Shape
-deliver_words = (with_rule (with_rule (with_rule (with_rule (new_app (codes "deliver")) ledger_rule) address_rule)
-    (option_rule (codes "openings") false)) (option_rule (codes "copy") false)).top
+deliver_words = (with_rule (with_rule (with_rule (with_rule (with_rule (new_app (codes "deliver")) ledger_rule) address_rule)
+    (option_rule (codes "openings") false)) (option_rule (codes "copy") false)) (option_rule (codes "wait") false)).top
 
 -- what may follow `ledger`
 abbrev pub ledger_words : Shape

@@ -1,17 +1,25 @@
 //! The arguments of the command line: which task they name, and which refusal they get where they name none.
 
-ghost use Rattle.std.specs.Prelude.{◌≡◌, ◌≢◌, ◌⊎◌, ◌≤◌, ◌<◌, ◌↔◌, ℕ, Option, [], ◌∷◌, false, IfErr, IfOk, IsSomeAnd, IsTrue, Contains, codes, drop, map};
+ghost use Rattle.std.specs.Prelude.{◌≡◌, ◌≢◌, ◌⊎◌, ◌≤◌, ◌<◌, ◌↔◌, ℕ, Option, Some, None, [], ◌∷◌, false, IfErr, IfOk, IfSome, IsSomeAnd, unwrap_or, IsTrue, Contains, codes, drop, map};
 ghost use Rattle.std.specs.declared.net.socket_addr.SocketAddrV4.{SocketAddrV4};
 ghost use Rattle.clap.specs.Words.{HasKind, IsAmong, app_of, fault_of, first_of, found_of, kind_of, one_of, rows_of, rule_of, subcommand_of, subcommand_rows_of};
 ghost use Rattle.escpos_command.specs.Digits.{mark_count};
+ghost use Rattle.escpos_printer.specs.declared.condition.Condition.{Condition};
 ghost use Rattle.escpos_jobs.specs.declared.task.Task.{Task};
-ghost use Rattle.escpos_arguments.specs.Arguments.{Asks, AsksBy, HasRaw, InRange, IsAddress, IsNumber, IsNumberOr, IsPlain, address_rule, command_words, emulate_words, flag_rule, help_words, name_of, option_rule, raw_words, send_words, stream_words, words_of};
-ghost use Rattle.escpos_arguments.specs.ClapAnswers.{IsNumberIn, no_task_of};
+ghost use Rattle.escpos_jobs.specs.declared.task.Task.TheVariants.{Follow};
+ghost use Rattle.escpos_jobs.specs.Conditions.{condition_text, online};
+ghost use Rattle.escpos_jobs.specs.Wait.{IsWait};
+ghost use Rattle.escpos_arguments.specs.Arguments.{Asks, AsksBy, HasFlag, HasRaw, InRange, IsAddress, IsConditionOr, IsNumberOr, IsPlain, address_rule, command_words, emulate_words, flag_rule, help_words, name_of, option_rule, raw_words, send_words, status_words, stream_words, words_of};
+ghost use Rattle.escpos_arguments.specs.ClapAnswers.{IsNumber, IsNumberIn, no_task_of};
 
 use clap::error::ErrorKind;
 use clap::{Arg, ArgAction, ArgMatches, Command};
 use escpos_command::MarkId;
+use escpos_jobs::emulate::ONLINE;
+use escpos_jobs::script::condition_of;
 use escpos_jobs::task::{NoTask, Task};
+use escpos_jobs::wait::Wait;
+use escpos_printer::Condition;
 use std::alloc::{AllocError, Global};
 use std::convert::AsStr;
 use std::net::SocketAddrV4;
@@ -43,6 +51,16 @@ pub fn without_name<S>(words: &[S]) -> &[S]
     match words {
         [_, given @ ..] => given,
         [] => words,
+    }
+}
+
+/// Whether the arguments ask for the version: `--version`, and nothing more. The program's own name isn't among them.
+pub fn asks_version<S: AsStr>(words: &[S]) -> bool
+    ensures { IsTrue result ↔ map S.text words.now ≡ codes "--version" ∷ [] }
+{
+    match words {
+        [word] => word.as_str() == "--version",
+        _ => false,
     }
 }
 
@@ -97,26 +115,27 @@ fn task_asked(alloc: Global, name: &str, given: &ArgMatches, count: usize) -> Re
     ensures help_only { result ≡ Err NoTask.Help → (name.now ≡ codes "help") × (count ≡ 1) }
 {
     match name {
-        "check" if is_raw(given) => Ok(Task::CheckRaw),
+        "check" if has_flag(given, "raw") => Ok(Task::CheckRaw),
         "check" if count == 1 => Ok(Task::Check),
-        "render" if is_raw(given) => Ok(Task::RenderRaw),
+        "render" if has_flag(given, "raw") => Ok(Task::RenderRaw),
         "render" if count == 1 => Ok(Task::Render),
-        "encode" if is_raw(given) => Ok(Task::EncodeRaw),
+        "encode" if has_flag(given, "raw") => Ok(Task::EncodeRaw),
         "encode" if count == 1 => Ok(Task::Encode),
         "play" if count == 1 => Ok(Task::Play),
         "emulate" => emulate_asked(alloc, given),
         "send" => send_asked(alloc, given),
+        "status" => status_asked(alloc, given),
         "loop" if count == 1 => Ok(Task::Loop),
         "help" if count == 1 => Err(NoTask::Help),
         _ => Err(NoTask::Usage),
     }
 }
 
-// Whether `--raw` is given.
-fn is_raw(given: &ArgMatches) -> bool
-    ensures { IsTrue result ↔ HasRaw (rows_of (found_of given.now)) }
+// Whether the flag of this name is given.
+fn has_flag(given: &ArgMatches, name: &str) -> bool
+    ensures { IsTrue result ↔ HasFlag name.now (rows_of (found_of given.now)) }
 {
-    match given.get_str("raw") {
+    match given.get_str(name) {
         Some(text) => text == "true",
         None => false,
     }
@@ -132,8 +151,57 @@ fn emulate_asked(alloc: Global, given: &ArgMatches) -> Result<Task, NoTask>
     ensures no_help { result ≢ Err NoTask.Help }
 {
     let address = address_of(alloc, given)?;
+    let condition = condition_given(given)?;
+    if has_flag(given, "follow") {
+        return follow_asked(given, address, condition);
+    }
     let links = count_of(given, "links", LINKS, MOST_LINKS)?;
-    Ok(Task::Emulate { address, links })
+    match condition {
+        Some(condition) => Ok(Task::EmulateIn {
+            address,
+            links,
+            condition,
+        }),
+        None => Ok(Task::Emulate { address, links }),
+    }
+}
+
+// The task of `emulate --follow`, with which no number of links may be given.
+fn follow_asked(
+    given: &ArgMatches,
+    address: SocketAddrV4,
+    condition: Option<Condition>,
+) -> Result<Task, NoTask>
+    ensures follows { IfOk result (λ task. (task ≡ Follow address (unwrap_or condition online)) × (one_of (codes "links") (rows_of (found_of given.now)) ≡ None)) }
+    ensures taken { one_of (codes "links") (rows_of (found_of given.now)) ≡ None → result ≡ Ok (Follow address (unwrap_or condition online)) }
+    ensures usage { IfErr result (λ why. why ≡ NoTask.Usage) }
+{
+    match number_given(given, "links")? {
+        Some(_) => Err(NoTask::Usage),
+        None => Ok(Task::Follow {
+            address,
+            condition: condition.unwrap_or(ONLINE),
+        }),
+    }
+}
+
+// What the sensors say, if that is given.
+fn condition_given(given: &ArgMatches) -> Result<Option<Condition>, NoTask>
+    ensures none { result ≡ Ok None → first_of (codes "condition") (rows_of (found_of given.now)) ≡ None }
+    ensures read { (condition : Condition) → result ≡ Ok (Some condition)
+        → first_of (codes "condition") (rows_of (found_of given.now)) ≡ Some (condition_text condition) }
+    ensures taken_none { first_of (codes "condition") (rows_of (found_of given.now)) ≡ None → result ≡ Ok None }
+    ensures taken { (condition : Condition) → first_of (codes "condition") (rows_of (found_of given.now)) ≡ Some (condition_text condition)
+        → result ≡ Ok (Some condition) }
+    ensures usage { IfErr result (λ why. why ≡ NoTask.Usage) }
+{
+    match given.get_str("condition") {
+        Some(text) => match condition_of(text.as_bytes()) {
+            Some(condition) => Ok(Some(condition)),
+            None => Err(NoTask::Usage),
+        },
+        None => Ok(None),
+    }
 }
 
 // The task of `send` with the arguments that follow it.
@@ -148,11 +216,50 @@ fn send_asked(alloc: Global, given: &ArgMatches) -> Result<Task, NoTask>
     let address = address_of(alloc, given)?;
     let first = first_mark_of(given)?;
     let openings = count_of(given, "openings", OPENINGS, MOST_OPENINGS)?;
-    Ok(Task::Send {
-        address,
-        first,
-        openings,
-    })
+    match wait_given(given)? {
+        Some(wait) => Ok(Task::SendWithin {
+            address,
+            first,
+            openings,
+            wait,
+        }),
+        None => Ok(Task::Send {
+            address,
+            first,
+            openings,
+        }),
+    }
+}
+
+// The task of `status` with the arguments that follow it.
+fn status_asked(alloc: Global, given: &ArgMatches) -> Result<Task, NoTask>
+    ensures asks { IfOk result (AsksBy (codes "status") (rows_of (found_of given.now))) }
+    ensures ranges { IfOk result InRange }
+    ensures values { IfOk result (λ task. ¬ IsPlain task) }
+    ensures taken { (task : Task) → AsksBy (codes "status") (rows_of (found_of given.now)) task → InRange task
+        → (result ≡ Ok task) ⊎ (result ≡ Err NoTask.Memory) }
+    ensures no_help { result ≢ Err NoTask.Help }
+{
+    let address = address_of(alloc, given)?;
+    let wait = wait_given(given)?;
+    Ok(Task::Status { address, wait })
+}
+
+// How long a wait may last, if that is given.
+pub(crate) fn wait_given(given: &ArgMatches) -> Result<Option<Wait>, NoTask>
+    ensures read { IfOk result (IsNumberIn (one_of (codes "wait") (rows_of (found_of given.now)))) }
+    ensures range { IfOk result (λ wait. IfSome wait IsWait) }
+    ensures taken { (wait : Option ℕ) → IsNumberIn (one_of (codes "wait") (rows_of (found_of given.now))) wait → IfSome wait IsWait
+        → result ≡ Ok wait }
+    ensures usage { IfErr result (λ why. why ≡ NoTask.Usage) }
+{
+    match number_given(given, "wait")? {
+        Some(seconds) => match Wait::new(seconds) {
+            Some(wait) => Ok(Some(wait)),
+            None => Err(NoTask::Usage),
+        },
+        None => Ok(None),
+    }
 }
 
 // The address that was given.
@@ -249,8 +356,10 @@ fn command_of_all<'a>(alloc: Global) -> Result<Command<'a>, AllocError>
     let emulate = emulate_command(alloc)?;
     let links = streams.subcommand(emulate)?;
     let send = send_command(alloc)?;
+    let status = status_command(alloc)?;
     let command = links
         .subcommand(send)?
+        .subcommand(status)?
         .subcommand(Command::new(alloc, "loop"))?
         .subcommand(Command::new(alloc, "help"))?;
     Ok(command)
@@ -288,7 +397,9 @@ fn emulate_command<'a>(alloc: Global) -> Result<Command<'a>, AllocError>
 {
     let command = Command::new(alloc, "emulate")
         .arg(address(alloc))?
-        .arg(option(alloc, "links", false))?;
+        .arg(option(alloc, "links", false))?
+        .arg(flag(alloc, "follow"))?
+        .arg(option(alloc, "condition", false))?;
     Ok(command)
 }
 
@@ -299,7 +410,18 @@ fn send_command<'a>(alloc: Global) -> Result<Command<'a>, AllocError>
     let command = Command::new(alloc, "send")
         .arg(address(alloc))?
         .arg(option(alloc, "first", true))?
-        .arg(option(alloc, "openings", false))?;
+        .arg(option(alloc, "openings", false))?
+        .arg(option(alloc, "wait", false))?;
+    Ok(command)
+}
+
+// The subcommand `status` with its arguments.
+fn status_command<'a>(alloc: Global) -> Result<Command<'a>, AllocError>
+    ensures shape { IfOk result (λ command. (app_of command).top ≡ status_words) }
+{
+    let command = Command::new(alloc, "status")
+        .arg(address(alloc))?
+        .arg(option(alloc, "wait", false))?;
     Ok(command)
 }
 

@@ -7,5 +7,5 @@
 mod arguments;
 mod till;
 
-pub use arguments::{LINKS, MOST_LINKS, MOST_OPENINGS, OPENINGS, task_of, without_name};
+pub use arguments::{LINKS, MOST_LINKS, MOST_OPENINGS, OPENINGS, asks_version, task_of, without_name};
 pub use till::{is_till_word, till_task_of};

@@ -9,7 +9,7 @@ ghost use Rattle.escpos_arguments.specs.ClapAnswers.{IsNumberIn};
 ghost use Rattle.escpos_arguments.specs.TillArguments.{AsksTill, AsksTillBy, IsTillInRange, deliver_words, ledger_rule, ledger_words, queue_words, till_names, till_words};
 
 use crate::arguments::{
-    MOST_OPENINGS, OPENINGS, address, address_of, count_of, no_task, number_given, option,
+    MOST_OPENINGS, OPENINGS, address, address_of, count_of, no_task, number_given, option, wait_given,
 };
 use clap::error::ErrorKind;
 use clap::{Arg, ArgAction, ArgMatches, Command};
@@ -97,14 +97,19 @@ fn deliver_asked<'a>(alloc: Global, given: &ArgMatches<'a>) -> Result<TillTask<'
     };
     let openings = count_of(given, "openings", OPENINGS, MOST_OPENINGS)?;
     let copy = copy_given(given)?;
-    Ok(TillTask::Deliver {
-        ledger,
-        delivery: Delivery {
-            address,
-            openings,
-            copy,
-        },
-    })
+    let delivery = Delivery {
+        address,
+        openings,
+        copy,
+    };
+    match wait_given(given)? {
+        Some(wait) => Ok(TillTask::DeliverWithin {
+            ledger,
+            delivery,
+            wait,
+        }),
+        None => Ok(TillTask::Deliver { ledger, delivery }),
+    }
 }
 
 // The task of `ledger` with the arguments that follow it.
@@ -213,7 +218,8 @@ fn deliver_command<'a>(alloc: Global) -> Result<Command<'a>, AllocError>
         .arg(ledger_argument(alloc))?
         .arg(address(alloc))?
         .arg(option(alloc, "openings", false))?
-        .arg(option(alloc, "copy", false))?;
+        .arg(option(alloc, "copy", false))?
+        .arg(option(alloc, "wait", false))?;
     Ok(command)
 }
 

@@ -3,6 +3,7 @@
 use escpos_io::{ByteIn, ByteOut};
 use escpos_jobs::receipt_input::refuse_input;
 use escpos_jobs::status::Status;
+use escpos_jobs::wait::Within;
 use escpos_store::SqliteStore;
 use escpos_till::{Ledger, NoStore};
 use escpos_till_jobs::{
@@ -10,6 +11,7 @@ use escpos_till_jobs::{
     read_receipt_text, refuse_store,
 };
 use sqlite::{FileFrom, FileStore, Start};
+use std::net::{Net, TcpStream};
 
 // A ledger in a file.
 type FileLedger<S> = Ledger<SqliteStore<FileStore<FileFrom<S>>>>;
@@ -24,7 +26,13 @@ pub fn perform_till<S: Start, R: ByteIn, W: ByteOut>(
 ) -> Status {
     match task {
         TillTask::Queue { ledger } => queue(rt, start, &ledger, input, output),
-        TillTask::Deliver { ledger, delivery } => deliver(rt, start, &ledger, &delivery, output),
+        TillTask::Deliver { ledger, delivery } =>
+            deliver(rt, rt, start, &ledger, &delivery, output),
+        TillTask::DeliverWithin {
+            ledger,
+            delivery,
+            wait,
+        } => deliver(rt, &Within::new(rt, wait), start, &ledger, &delivery, output),
         TillTask::List { ledger, first } => list_ledger(rt, start, &ledger, first, output),
     }
 }
@@ -60,9 +68,10 @@ fn queue_text<S: Start, W: ByteOut>(
     }
 }
 
-// Delivers the receipts that wait.
-fn deliver<S: Start, W: ByteOut>(
+// Delivers the receipts that wait, over this network.
+fn deliver<N: Net<Stream = TcpStream>, S: Start, W: ByteOut>(
     rt: &HostRuntime,
+    net: &N,
     start: S,
     path: &LedgerPath<'_>,
     delivery: &Delivery<'_>,
@@ -70,7 +79,7 @@ fn deliver<S: Start, W: ByteOut>(
 ) -> Status {
     match open(rt, start, path) {
         Ok(mut ledger) => {
-            let status = deliver_waiting(rt, rt.alloc(), &mut ledger, delivery, output);
+            let status = deliver_waiting(net, rt.alloc(), &mut ledger, delivery, output);
             close(ledger);
             status
         }

@@ -8,11 +8,13 @@
 mod ledger;
 
 use crate::ledger::perform_till;
-pub use escpos_arguments::{is_till_word, task_of, till_task_of, without_name};
+pub use escpos_arguments::{asks_version, is_till_word, task_of, till_task_of, without_name};
 use escpos_io::{ByteIn, ByteOut, Incoming, Outgoing};
+use escpos_jobs::ending::say;
 use escpos_jobs::perform::perform;
 use escpos_jobs::status::Status;
 use escpos_jobs::task::NoTask;
+use escpos_jobs::usage::{VERSION, say_help};
 pub use escpos_jobs::{
     check, emulate, encode, loop_link, perform, play, render, send, status, task,
 };
@@ -37,12 +39,35 @@ fn perform_words<R: ByteIn, W: ByteOut>(
     input: &mut R,
     output: &mut W,
 ) -> Status {
-    match words.first() {
-        Some(word) if is_till_word(word.as_str()) => match till_task_of(rt.alloc(), words) {
+    let Some(word) = words.first() else {
+        return perform(rt, rt.alloc(), Err(NoTask::Usage), input, output);
+    };
+    if asks_version(words) {
+        return say(VERSION.as_bytes(), output, Status::Good);
+    }
+    if is_till_word(word.as_str()) {
+        return match till_task_of(rt.alloc(), words) {
             Ok(task) => perform_till(rt, Unknown, task, input, output),
-            Err(why) => perform(rt, rt.alloc(), Err(why), input, output),
-        },
-        _ => perform(rt, rt.alloc(), task_of(rt.alloc(), words), input, output),
+            Err(why) => refuse_words(rt, words, why, input, output),
+        };
+    }
+    match task_of(rt.alloc(), words) {
+        Ok(task) => perform(rt, rt.alloc(), Ok(task), input, output),
+        Err(why) => refuse_words(rt, words, why, input, output),
+    }
+}
+
+// Says why these arguments name no task. Help after a word is its part of the help.
+fn refuse_words<R: ByteIn, W: ByteOut>(
+    rt: &HostRuntime,
+    words: &[String],
+    why: NoTask,
+    input: &mut R,
+    output: &mut W,
+) -> Status {
+    match (why, words) {
+        (NoTask::Help, [word, _, ..]) => say_help(word.as_str(), output),
+        (other, _) => perform(rt, rt.alloc(), Err(other), input, output),
     }
 }
 

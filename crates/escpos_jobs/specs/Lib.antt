@@ -13,6 +13,9 @@ pub mod Refusal
 pub mod Encode
 pub mod Links
 pub mod Send
+pub mod Wait
+pub mod Conditions
+pub mod PrinterStatus
 pub mod Broken
 pub mod ScriptOutput
 pub mod Play

@@ -1,4 +1,5 @@
-//! The job `emulate`: a printer that serves links over TCP, one after another, and writes its paper at the end.
+//! The job `emulate`: a printer that serves links over TCP, one after another, and writes its paper at the end; or, where it
+//! serves until it is ended, what each link printed after that link.
 //!
 //! Serving a link is left to `serve_link`, over any source and sink; here it is given sockets, and the end of a link prints
 //! a line. The paper waits for the last link as text (`paper_text`): a link is served in parts, and its paper is torn off
@@ -8,9 +9,10 @@ ghost use Rattle.std.specs.Prelude.{◌≡◌, ◌≢◌, ◌+◌, ◌*◌, ◌�
 ghost use Rattle.std.specs.Io.KnownBytes.{Appends};
 ghost use Rattle.escpos_paper.specs.declared.item.Item.{Item};
 ghost use Rattle.escpos_paper.specs.ItemsText.{items_text};
+ghost use Rattle.escpos_printer.specs.Feeds.{PrinterView};
 ghost use Rattle.escpos_printer.specs.LinkInParts.{under};
 ghost use Rattle.escpos_printer.specs.Serves.{Serves, link};
-ghost use Rattle.escpos_jobs.specs.Links.{link_line};
+ghost use Rattle.escpos_jobs.specs.Links.{link_line, torn};
 
 use crate::ending::{MEMORY, say};
 use crate::lines::SPACE;
@@ -65,8 +67,23 @@ pub fn emulate<N: Net<Stream = TcpStream, Listener = TcpListener>, W: ByteOut>(
     ensures never_usage { result ≢ Status.Usage }
     ensures not_hidden { result ≢ Status.Device → ¬ IsTrue (W.failed output.old) → ¬ IsTrue (W.failed output.new) }
 {
+    emulate_in(net, alloc, address, links, ONLINE, output)
+}
+
+/// The same as a printer whose sensors say this.
+pub fn emulate_in<N: Net<Stream = TcpStream, Listener = TcpListener>, W: ByteOut>(
+    net: &N,
+    alloc: Global,
+    address: SocketAddrV4,
+    links: u32,
+    condition: Condition,
+    output: &mut W,
+) -> Status
+    ensures never_usage { result ≢ Status.Usage }
+    ensures not_hidden { result ≢ Status.Device → ¬ IsTrue (W.failed output.old) → ¬ IsTrue (W.failed output.new) }
+{
     match TcpListener::bind(net, address) {
-        Ok(listener) => emulate_on(alloc, &listener, links, output),
+        Ok(listener) => emulate_in_on(alloc, &listener, links, condition, output),
         Err(_) => Status::Device,
     }
 }
@@ -86,7 +103,21 @@ pub fn emulate_on<W: ByteOut>(
     ensures never_usage { result ≢ Status.Usage }
     ensures not_hidden { result ≢ Status.Device → ¬ IsTrue (W.failed output.old) → ¬ IsTrue (W.failed output.new) }
 {
-    let Ok(mut printer) = Printer::new(alloc, ONLINE) else {
+    emulate_in_on(alloc, listener, links, ONLINE, output)
+}
+
+/// The same as a printer whose sensors say this.
+pub fn emulate_in_on<W: ByteOut>(
+    alloc: Global,
+    listener: &TcpListener,
+    links: u32,
+    condition: Condition,
+    output: &mut W,
+) -> Status
+    ensures never_usage { result ≢ Status.Usage }
+    ensures not_hidden { result ≢ Status.Device → ¬ IsTrue (W.failed output.old) → ¬ IsTrue (W.failed output.new) }
+{
+    let Ok(mut printer) = Printer::new(alloc, condition) else {
         return say(MEMORY, output, Status::Memory);
     };
     let mut paper = PaperText::new(alloc);
@@ -123,6 +154,97 @@ fn serve_links<W: ByteOut>(
         }
     }
     Status::Good
+}
+
+/// Listens at `address`, and serves links as `follow_on` does. The status is also `Device` if it can't listen.
+pub fn follow<N: Net<Stream = TcpStream, Listener = TcpListener>, W: ByteOut>(
+    net: &N,
+    alloc: Global,
+    address: SocketAddrV4,
+    condition: Condition,
+    output: &mut W,
+) -> Status
+    ensures never_usage { result ≢ Status.Usage }
+    ensures not_hidden { result ≢ Status.Device → ¬ IsTrue (W.failed output.old) → ¬ IsTrue (W.failed output.new) }
+{
+    match TcpListener::bind(net, address) {
+        Ok(listener) => follow_on(alloc, &listener, condition, output),
+        Err(_) => Status::Device,
+    }
+}
+
+/// Serves links of `listener`, one after another, as one printer whose sensors say this, until it is ended; no more than
+/// 4,294,967,295. Each is read up to 16,777,216 bytes. When a link has ended, it prints the line of the link and what that
+/// link printed.
+///
+/// The status is `Device` if a link can't be accepted or `output` has failed. If a link ends because memory ran out, no other
+/// is served: the line `memory` follows, and the status is `Memory`.
+pub fn follow_on<W: ByteOut>(
+    alloc: Global,
+    listener: &TcpListener,
+    condition: Condition,
+    output: &mut W,
+) -> Status
+    ensures never_usage { result ≢ Status.Usage }
+    ensures not_hidden { result ≢ Status.Device → ¬ IsTrue (W.failed output.old) → ¬ IsTrue (W.failed output.new) }
+{
+    let Ok(mut printer) = Printer::new(alloc, condition) else {
+        return say(MEMORY, output, Status::Memory);
+    };
+    for number in 1..=u32::MAX {
+        let Ok((stream, _)) = listener.accept() else {
+            return Status::Device;
+        };
+        match follow_stream(alloc, &mut printer, number, &stream, output) {
+            Ok(LinkEnd::Memory) => return say(MEMORY, output, Status::Memory),
+            Ok(_) => {}
+            Err(_) => return Status::Device,
+        }
+    }
+    Status::Good
+}
+
+// Serves the link of a stream, as `serve_stream` does, and prints what it printed.
+fn follow_stream<W: ByteOut>(
+    alloc: Global,
+    printer: &mut Printer,
+    number: u32,
+    stream: &TcpStream,
+    output: &mut W,
+) -> Result<LinkEnd, Device>
+    ensures failed { OnErr result (IsTrue (W.failed output.new)) }
+    ensures not_failed { OnOk result (¬ IsTrue (W.failed output.old) → ¬ IsTrue (W.failed output.new)) }
+{
+    let _ = stream.set_nodelay(true);
+    let mut reader = Incoming::new(buffered(alloc, stream));
+    let mut writer = Outgoing::new(stream);
+    let served = follow_link(alloc, printer, number, &mut reader, &mut writer, output)?;
+    Ok(served.end)
+}
+
+/// Serves a link with no paper above, and prints its line and what it printed. The paper is torn off before it and after it,
+/// so that only the printer's own state goes from a link to the next. `Err` comes only if `output` has failed.
+pub fn follow_link<R: ByteIn, A: ByteOut, W: ByteOut>(
+    alloc: Global,
+    printer: &mut Printer,
+    number: u32,
+    reader: &mut R,
+    writer: &mut A,
+    output: &mut W,
+) -> Result<Served, Device>
+    ensures served { IfOk result (λ served. (after : PrinterView) × Serves (torn printer.old)
+        (link (R.to_come reader.old) (R.to_come reader.new) (A.written writer.old) (A.written writer.new)) LINK_LIMIT served after
+        × (printer.new ≡ torn after)
+        × Appends (W.written output.old) (W.written output.new) (link_line number served ++ items_text after.sheet.items)) }
+    ensures failed { OnErr result (IsTrue (W.failed output.new)) }
+    ensures not_failed { OnOk result (¬ IsTrue (W.failed output.old) → ¬ IsTrue (W.failed output.new)) }
+{
+    printer.tear_off();
+    let mut paper = PaperText::new(alloc);
+    let served = serve_and_tell(printer, &mut paper, number, reader, writer, output)?;
+    paper.put_above(printer.items(), output)?;
+    printer.tear_off();
+    Ok(served)
 }
 
 // Serves the link of a stream. An answer has a few bytes and the host waits for it, so it is sent at once; a stream that

@@ -81,11 +81,13 @@ struct Kept {
 }
 
 impl ByteOut for Kept {
-    ghost use Rattle.std.specs.Prelude.{Some};
+    ghost use Rattle.std.specs.Prelude.{Some, false};
 
     ghost written = { λ kept. Some kept.bytes.items };
 
     ghost failed = { λ kept. kept.failed };
+
+    ghost timed_out = { λ _. false };
 
     fn put(&mut self, piece: &[u8]) -> Result<usize, Failed> {
         if self.failed || self.bytes.extend_from_slice(piece).is_err() {
@@ -97,5 +99,10 @@ impl ByteOut for Kept {
 
     fn has_failed(&self) -> bool {
         self.failed
+    }
+
+    // nothing is waited for
+    fn has_timed_out(&self) -> bool {
+        false
     }
 }

@@ -11,16 +11,18 @@ ghost use Rattle.escpos_jobs.specs.declared.usage.TheConstants.{HELP, USAGE};
 ghost use Rattle.escpos_jobs.specs.Perform.{ReadsInput, UsesLinks};
 
 use crate::check::{check, check_raw};
-use crate::emulate::emulate;
+use crate::emulate::{ONLINE, emulate_in, follow};
 use crate::encode::{encode, encode_raw};
 use crate::ending::{MEMORY, say};
 use crate::loop_link::loop_receipt;
 use crate::play::play;
+use crate::printer_status::show_status;
 use crate::render::{render, render_raw};
 use crate::send::send_to;
 use crate::status::Status;
 use crate::task::{NoTask, Task};
 use crate::usage::{HELP, USAGE};
+use crate::wait::Within;
 use escpos_io::{ByteIn, ByteOut};
 use std::alloc::Global;
 use std::net::{Net, TcpListener, TcpStream};
@@ -73,7 +75,17 @@ pub fn perform<N: Net<Stream = TcpStream, Listener = TcpListener>, R: ByteIn, W:
         Ok(Task::Encode) => encode(alloc, input, output),
         Ok(Task::EncodeRaw) => encode_raw(alloc, input, output),
         Ok(Task::Play) => play(alloc, input, output),
-        Ok(Task::Emulate { address, links }) => emulate(net, alloc, address, links, output),
+        Ok(Task::Emulate { address, links }) =>
+            emulate_in(net, alloc, address, links, ONLINE, output),
+        Ok(
+            Task::EmulateIn {
+                address,
+                links,
+                condition,
+            },
+        ) => emulate_in(net, alloc, address, links, condition, output),
+        Ok(Task::Follow { address, condition }) =>
+            follow(net, alloc, address, condition, output),
         Ok(
             Task::Send {
                 address,
@@ -81,6 +93,26 @@ pub fn perform<N: Net<Stream = TcpStream, Listener = TcpListener>, R: ByteIn, W:
                 openings,
             },
         ) => send_to(net, alloc, address, first, openings, input, output),
+        Ok(
+            Task::SendWithin {
+                address,
+                first,
+                openings,
+                wait,
+            },
+        ) => send_to(&Within::new(net, wait), alloc, address, first, openings, input, output),
+        Ok(
+            Task::Status {
+                address,
+                wait: Some(wait),
+            },
+        ) => show_status(&Within::new(net, wait), address, output),
+        Ok(
+            Task::Status {
+                address,
+                wait: None,
+            },
+        ) => show_status(net, address, output),
         Ok(Task::Loop) => loop_receipt(net, alloc, input, output),
         Err(NoTask::Help) => say(HELP.as_bytes(), output, Status::Good),
         Err(NoTask::Usage) => say(USAGE.as_bytes(), output, Status::Usage),

@@ -1,6 +1,8 @@
 //! Play scripts: a text whose lines each name an event on a line between a host and a printer.
 
-ghost use Rattle.std.specs.Prelude.{◌≡◌, ◌≢◌, ◌<◌, ◌≤◌, [], length, IfSome};
+ghost use Rattle.std.specs.Prelude.{◌≡◌, ◌≢◌, ◌<◌, ◌≤◌, Bool, [], length, Some, IfSome};
+ghost use Rattle.escpos_printer.specs.declared.condition.Condition.{Condition};
+ghost use Rattle.escpos_jobs.specs.Conditions.{condition_text, sensor_digit};
 ghost use Rattle.escpos_jobs.specs.ScriptLines.{IsFirstLine};
 
 use crate::lines::SPACE;
@@ -115,8 +117,11 @@ fn kind_of(text: &[u8]) -> Option<StatusKind> {
     StatusKind::new(number)
 }
 
-// What the sensors say: cover open, near end and paper end, a digit 0 or 1 each.
-fn condition_of(text: &[u8]) -> Option<Condition> {
+/// What the sensors say, in a text: cover open, paper near its end, paper ended; a digit 0 or 1 each. `None` for other texts.
+pub fn condition_of(text: &[u8]) -> Option<Condition>
+    ensures read { IfSome result (λ condition. text.now ≡ condition_text condition) }
+    ensures given { (condition : Condition) → text.now ≡ condition_text condition → result ≡ Some condition }
+{
     let [cover_open, near_end, paper_end] = text else {
         return None;
     };
@@ -128,7 +133,10 @@ fn condition_of(text: &[u8]) -> Option<Condition> {
 }
 
 // A digit 0 or 1.
-fn flag_of(digit: u8) -> Option<bool> {
+fn flag_of(digit: u8) -> Option<bool>
+    ensures read { IfSome result (λ set. digit ≡ sensor_digit set) }
+    ensures given { (set : Bool) → digit ≡ sensor_digit set → result ≡ Some set }
+{
     match digit {
         b'0' => Some(false),
         b'1' => Some(true),

@@ -1,5 +1,7 @@
 //! What the program may be asked to do, and why arguments name no task. `perform` does it.
 
+use crate::wait::Wait;
+use escpos_printer::Condition;
 use std::net::SocketAddrV4;
 use thiserror::Error;
 
@@ -25,11 +27,34 @@ pub enum Task {
         address: SocketAddrV4,
         links: u32,
     },
+    /// The same as a printer whose sensors say this.
+    EmulateIn {
+        address: SocketAddrV4,
+        links: u32,
+        condition: Condition,
+    },
+    /// Be such a printer at this address until it is ended, and write what each link printed once it has ended.
+    Follow {
+        address: SocketAddrV4,
+        condition: Condition,
+    },
     /// Send a receipt to the printer at this address, with `openings` opening marks from the number `first` on.
     Send {
         address: SocketAddrV4,
         first: u32,
         openings: u32,
+    },
+    /// The same, where no wait lasts longer than `wait`.
+    SendWithin {
+        address: SocketAddrV4,
+        first: u32,
+        openings: u32,
+        wait: Wait,
+    },
+    /// Ask the printer at this address for its status, where no wait lasts longer than `wait`, if that is given.
+    Status {
+        address: SocketAddrV4,
+        wait: Option<Wait>,
     },
     /// Send a receipt over a link of which the program is both ends.
     Loop,

@@ -1,4 +1,13 @@
-//! The texts of usage and help.
+//! The texts of usage, help and version.
+
+ghost use Rattle.std.specs.Prelude.{◌≡◌, ◌≢◌, IsTrue};
+
+use crate::ending::say;
+use crate::status::Status;
+use escpos_io::{ByteOut, Device, put_all};
+
+/// The text for arguments that ask for the version: that of the program, and the profile of commands that it knows.
+pub const VERSION: &str = "escpos_cli 1.0.0, profile 2\n";
 
 /// The text for arguments that name no task.
 pub const USAGE: &str = "\
@@ -6,13 +15,16 @@ usage: escpos_cli check [--raw] < STREAM
        escpos_cli render [--raw] < STREAM
        escpos_cli encode [--raw] < RECEIPT
        escpos_cli play < SCRIPT
-       escpos_cli emulate ADDRESS [--links N]
-       escpos_cli send ADDRESS --first F [--openings N] < RECEIPT
+       escpos_cli emulate ADDRESS [--links N | --follow] [--condition CNP]
+       escpos_cli send ADDRESS --first F [--openings N] [--wait S] < RECEIPT
+       escpos_cli status ADDRESS [--wait S]
        escpos_cli loop < RECEIPT
        escpos_cli queue LEDGER < RECEIPT
        escpos_cli deliver LEDGER ADDRESS [--openings N] [--copy TEXT]
+                                         [--wait S]
        escpos_cli ledger LEDGER [--first F]
        escpos_cli help
+       escpos_cli --version
 ";
 
 /// The text for arguments that ask for help.
@@ -185,7 +197,7 @@ program ran out of memory.
                                       feed 1
                                       records 1
 
-  escpos_cli emulate ADDRESS [--links N]
+  escpos_cli emulate ADDRESS [--links N | --follow] [--condition CNP]
       Is a printer that listens at ADDRESS, an IPv4 address and a port as in
       127.0.0.1:9100. It serves N links one after another, 1 to 1000; one
       without --links. When a link has ended it prints `link I read R consumed C
@@ -196,30 +208,52 @@ program ran out of memory.
       paper as `render` does. If it can't listen or accept a link, only exit
       status 3 says so.
 
-          $ escpos_cli emulate 127.0.0.1:9100
+      With --follow it serves links until it is ended, and writes what each link
+      printed after the line of that link. --condition says what its sensors
+      see: cover open, paper near its end, paper ended; a digit 0 or 1 each. It
+      is offline while its cover is open or its paper has ended. Without
+      --condition it is 000.
+
+          $ escpos_cli emulate 127.0.0.1:9100 --follow
           link 1 read 49 consumed 49 written 28 Ended
           row left Hi
           feed 1
 
-  escpos_cli send ADDRESS --first F [--openings N]
+  escpos_cli send ADDRESS --first F [--openings N] [--wait S]
       Reads a receipt in JSON as `encode` does, connects to the printer at
       ADDRESS, sends the receipt, and waits for the answer to the mark after it.
       Then the receipt is on paper, and the first line is `recorded 0`;
       otherwise it is `not recorded WHY`: Ended, ReadFault or WriteFault (the
-      link), TooLong (65536 bytes were read), BadAnswer or MarksUsedUp; or it is
-      `memory`. A receipt that isn't recorded may be on paper or not. A wait
-      lasts as long as the link. Without a connection the one line is `no link`.
-      Input that isn't a receipt is refused as by `encode`, and nothing is
-      connected.
+      link), TimedOut, TooLong (65536 bytes were read), BadAnswer or
+      MarksUsedUp; or it is `memory`. A receipt that isn't recorded may be on
+      paper or not. Without a connection the one line is `no link`. Input that
+      isn't a receipt is refused as by `encode`, and nothing is connected.
+
+      With --wait the connection is made within S seconds, 1 to 3600, or there
+      is none, and a wait of S seconds for a byte, or to put one, gives
+      TimedOut. Otherwise a wait lasts as long as the link.
 
       Each mark has a number of its own, 0 to 1679615. F is the first one that
       this till hasn't used with this printer, and the last line is `next M`
       with the one that comes after; keep M for the next run. A receipt takes
       one number and N more to open the link, 1 to 99; three without --openings.
 
-          $ echo '[{\"line\":\"Hi\"}]' | escpos_cli send 127.0.0.1:9100 --first 0
+          $ echo '[{\"line\":\"Hi\"}]' |
+            escpos_cli send 127.0.0.1:9100 --first 0 --wait 30
           recorded 0
           next 4
+
+  escpos_cli status ADDRESS [--wait S]
+      Asks the printer at ADDRESS what its sensors see. It prints `online` or
+      `offline`; `cover closed` or `cover open`; and `paper there`, `paper near
+      its end` or `paper ended`. No mark is used. If the printer doesn't say,
+      the one line is `no link`, or `no status WHY`, as for `send`; --wait is
+      that of `send`.
+
+          $ escpos_cli status 127.0.0.1:9100 --wait 5
+          online
+          cover closed
+          paper there
 
   escpos_cli loop
       Reads a receipt, is both ends of a link over 127.0.0.1, and prints the
@@ -240,19 +274,19 @@ program ran out of memory.
           $ echo '[{\"line\":\"Hi\"}]' | escpos_cli queue shop.ledger
           queued 1
 
-  escpos_cli deliver LEDGER ADDRESS [--openings N] [--copy TEXT]
+  escpos_cli deliver LEDGER ADDRESS [--openings N] [--copy TEXT] [--wait S]
       Sends each receipt that waits to the printer at ADDRESS, in the order of
       their numbers, each over a link of its own, as `send` does; the ledger
       keeps the mark numbers. `recorded N` says that receipt N is on paper, and
       that the ledger has it so. The first that isn't recorded gives `waiting N
       WHY`, where WHY is `no link` or that of `send`, and ends it. If none
-      waits, nothing is printed.
+      waits, nothing is printed. --wait is that of `send`.
 
       A receipt that was sent before may be on paper already. It is printed
       again as it is; or, with --copy, after a line with TEXT, 1 to 42
       characters, 20 to 7E hexadecimal, centred and emphasised.
 
-          $ escpos_cli deliver shop.ledger 127.0.0.1:9100
+          $ escpos_cli deliver shop.ledger 127.0.0.1:9100 --wait 30
           recorded 1
 
   escpos_cli ledger LEDGER [--first F]
@@ -271,7 +305,56 @@ program ran out of memory.
       ledger`; and if a read or a write failed, `ledger failed`.
 
   escpos_cli help
-      Prints this text; so do --help and -h.
+      Prints this text; so do --help and -h. After a word they print its part of
+      this text, as in `escpos_cli send --help`. --version prints the version of
+      the program, and the profile of commands that it knows.
 
 Exit status: 0 good, 1 refused content, 2 usage, 3 device, 4 memory.
 ";
+
+// What stands before each part of the help, and what follows the last one.
+const BEFORE_PART: &str = "\n  escpos_cli ";
+
+const AFTER_PARTS: &str = "\nExit status: ";
+
+/// Prints the part of the help that is about a word; all of it for a word that has none. The status is `Good`, or `Device` if
+/// `output` has failed.
+pub fn say_help<W: ByteOut>(word: &str, output: &mut W) -> Status
+    ensures never_usage { result ≢ Status.Usage }
+    ensures not_hidden { result ≢ Status.Device → ¬ IsTrue (W.failed output.old) → ¬ IsTrue (W.failed output.new) }
+{
+    let Some(part) = part_on(word) else {
+        return say(HELP.as_bytes(), output, Status::Good);
+    };
+    match put_part(part, output) {
+        Ok(()) => Status::Good,
+        Err(_) => Status::Device,
+    }
+}
+
+// Prints a part of the help, as it stands there.
+fn put_part<W: ByteOut>(part: &str, output: &mut W) -> Result<(), Device> {
+    put_all(b"  escpos_cli ", output)?;
+    put_all(part.as_bytes(), output)
+}
+
+// The part of the help that is about a word, from the word on.
+fn part_on(word: &str) -> Option<&'static str> {
+    for part in HELP.split(BEFORE_PART) {
+        if is_on(part, word) {
+            return match part.split_once(AFTER_PARTS) {
+                Some((own, _)) => Some(own),
+                None => Some(part),
+            };
+        }
+    }
+    None
+}
+
+// Whether a part of the help begins with the whole of this word.
+fn is_on(part: &str, word: &str) -> bool {
+    match part.strip_prefix(word) {
+        Some(rest) => rest.starts_with(' ') || rest.starts_with('\n'),
+        None => false,
+    }
+}

@@ -3,6 +3,7 @@
 ghost use Rattle.std.specs.Prelude.{◌≡◌};
 
 use crate::deliver::Delivery;
+use escpos_jobs::wait::Wait;
 use std::marker::Model;
 
 /// The path of a ledger's file. The model is the list of its bytes.
@@ -46,6 +47,12 @@ pub enum TillTask<'a> {
     Deliver {
         ledger: LedgerPath<'a>,
         delivery: Delivery<'a>,
+    },
+    /// The same, where no wait lasts longer than `wait`.
+    DeliverWithin {
+        ledger: LedgerPath<'a>,
+        delivery: Delivery<'a>,
+        wait: Wait,
     },
     /// List where the receipts of this ledger stand, once its next mark number was raised to `first`, if that is given.
     List {

@@ -1,0 +1,200 @@
+//! The job `status`: a printer is asked what its sensors say, and that is printed. No mark is used.
+
+ghost use Rattle.std.specs.Prelude.{◌≡◌, ◌≢◌, ◌⊎◌, ◌+◌, ◌≤◌, ◌++◌, List, ℕ, length, IsTrue, IsErrOf, IfOk, IfErr, OnOk, OnErr};
+ghost use Rattle.std.specs.Io.KnownBytes.{Appends, Consumes};
+ghost use Rattle.escpos_command.specs.CommandTable.{spell};
+ghost use Rattle.escpos_host.specs.declared.send.SendFault.{SendFault};
+ghost use Rattle.escpos_jobs.specs.Ending.{job_end};
+ghost use Rattle.escpos_jobs.specs.PrinterStatus.{AsksAndTells, TellsNext, TellsStatus, no_status_line, requests, status_text};
+ghost use Rattle.escpos_jobs.specs.Send.{passed};
+
+use crate::ending::say;
+use crate::send::NO_LINK;
+use crate::status::Status;
+use escpos_command::{Answer, LF};
+use escpos_host::{AnswerReader, NoAnswer, SendFault};
+use escpos_io::{
+    ByteIn, ByteOut, Failed, GATHERED_BYTES, Gather, Incoming, Outgoing, laws, put_all,
+};
+use std::net::{Net, SocketAddrV4, TcpStream};
+
+/// The most bytes that are read up to a status byte.
+const STATUS_LIMIT: u32 = 16_384;
+
+const _: () = prove!(STATUS_LIMIT == 16_384);
+
+/// The requests for the four kinds of status. (Reference: DLE EOT.)
+const REQUESTS: &[u8] = b"\x10\x04\x01\x10\x04\x02\x10\x04\x03\x10\x04\x04";
+
+/// What a printer says of itself: its answers to the requests for the four kinds of status. (Reference: DLE EOT.)
+#[derive(Clone, Copy, Debug, PartialEq, Eq)]
+pub struct PrinterStatus {
+    /// The first: bit 3 is set while the printer is offline.
+    pub printer: u8,
+    /// The second, why it is offline: bit 2 is set while the cover is open.
+    pub offline: u8,
+    /// The third, of errors.
+    pub error: u8,
+    /// The fourth: bits 2 and 3 are set once the paper is near its end, bits 5 and 6 at its end.
+    pub paper: u8,
+}
+
+/// Connects to the printer at `address`, and prints what it says of itself as `status_over` does. If there is no connection,
+/// the line is `no link` and the status `Device`.
+pub fn show_status<N: Net<Stream = TcpStream>, W: ByteOut>(
+    net: &N,
+    address: SocketAddrV4,
+    output: &mut W,
+) -> Status
+    ensures never_usage { result ≢ Status.Usage }
+    ensures not_hidden { result ≢ Status.Device → ¬ IsTrue (W.failed output.old) → ¬ IsTrue (W.failed output.new) }
+{
+    match TcpStream::connect(net, address) {
+        Ok(stream) => status_on(&stream, output),
+        Err(_) => say(NO_LINK, output, Status::Device),
+    }
+}
+
+// The same over a stream.
+fn status_on<W: ByteOut>(stream: &TcpStream, output: &mut W) -> Status
+    ensures never_usage { result ≢ Status.Usage }
+    ensures not_hidden { result ≢ Status.Device → ¬ IsTrue (W.failed output.old) → ¬ IsTrue (W.failed output.new) }
+{
+    // the requests go out at once; a stream that can't do so is used as it is
+    let _ = stream.set_nodelay(true);
+    status_over(&mut Incoming::new(stream), &mut Outgoing::new(stream), output)
+}
+
+/// Asks a printer for its status and prints three lines: `online` or `offline`; `cover closed` or `cover open`; and `paper
+/// there`, `paper near its end` or `paper ended`. Answers of marks that come before or between are passed over.
+///
+/// The status is then `Good`. If the printer doesn't say, the line is `no status WHY`, with the name of a `SendFault`, and
+/// the status `Device`, as it is if `output` has failed.
+pub fn status_over<R: ByteIn, A: ByteOut, W: ByteOut>(
+    reader: &mut R,
+    writer: &mut A,
+    output: &mut W,
+) -> Status
+    ensures asks { AsksAndTells (passed (R.to_come reader.old) (R.to_come reader.new) (A.written writer.old) (A.written writer.new))
+        (job_end (W.written output.old) (W.written output.new) (W.failed output.new) result) }
+    ensures never_usage { result ≢ Status.Usage }
+    ensures not_hidden { result ≢ Status.Device → ¬ IsTrue (W.failed output.old) → ¬ IsTrue (W.failed output.new) }
+{
+    // Proof only: appended bytes count as given.
+    laws::given_in_place();
+    let mut gather = Gather::new();
+    let status = match ask_status(reader, writer) {
+        Ok(told) => {
+            append_status(&mut gather, told);
+            Status::Good
+        }
+        Err(why) => {
+            append_fault(&mut gather, why);
+            Status::Device
+        }
+    };
+    match gather.flush(output) {
+        Ok(()) => status,
+        Err(_) => Status::Device,
+    }
+}
+
+/// Puts the four requests out, and reads the four status bytes. Answers of marks are passed over; at most 16,384 bytes are
+/// read for each status byte.
+pub fn ask_status<R: ByteIn, A: ByteOut>(
+    reader: &mut R,
+    writer: &mut A,
+) -> Result<PrinterStatus, SendFault>
+    ensures asked { OnOk result (Appends (A.written writer.old) (A.written writer.new) (spell requests)) }
+    ensures told { IfOk result (λ status. (bytes : List ℕ) × Consumes (R.to_come reader.old) (R.to_come reader.new) bytes × TellsStatus bytes status) }
+    ensures begun { OnErr result ((out : List ℕ) × (rest : List ℕ) × Appends (A.written writer.old) (A.written writer.new) out × (spell requests ≡ out ++ rest)) }
+    ensures read { OnErr result ((bytes : List ℕ) × Consumes (R.to_come reader.old) (R.to_come reader.new) bytes) }
+    ensures ended { IsErrOf result SendFault.Ended → IsTrue (R.ended reader.new) }
+    ensures read_fault { IsErrOf result SendFault.ReadFault → IsTrue (R.failed reader.new) × (¬ IsTrue (R.timed_out reader.new)) }
+    ensures write_fault { IsErrOf result SendFault.WriteFault → IsTrue (A.failed writer.new) × (¬ IsTrue (A.timed_out writer.new)) }
+    ensures timed_out { IsErrOf result SendFault.TimedOut
+        → (IsTrue (R.failed reader.new) × IsTrue (R.timed_out reader.new)) ⊎ (IsTrue (A.failed writer.new) × IsTrue (A.timed_out writer.new)) }
+{
+    if let Err(_) = put_all(REQUESTS, writer) {
+        return Err(SendFault::of_writer(writer));
+    }
+    Ok(PrinterStatus {
+        printer: next_status(reader)?,
+        offline: next_status(reader)?,
+        error: next_status(reader)?,
+        paper: next_status(reader)?,
+    })
+}
+
+// Reads up to the next status byte; answers of marks before it are passed over.
+fn next_status<R: ByteIn>(reader: &mut R) -> Result<u8, SendFault>
+    ensures told { IfOk result (λ byte. (bytes : List ℕ) × Consumes (R.to_come reader.old) (R.to_come reader.new) bytes × TellsNext bytes byte) }
+    ensures read { OnErr result ((bytes : List ℕ) × Consumes (R.to_come reader.old) (R.to_come reader.new) bytes) }
+    ensures ended { IsErrOf result SendFault.Ended → IsTrue (R.ended reader.new) }
+    ensures read_fault { IsErrOf result SendFault.ReadFault → IsTrue (R.failed reader.new) × (¬ IsTrue (R.timed_out reader.new)) }
+    ensures timed_out { IsErrOf result SendFault.TimedOut → IsTrue (R.failed reader.new) × IsTrue (R.timed_out reader.new) }
+    ensures no_write_fault { ¬ IsErrOf result SendFault.WriteFault }
+{
+    let mut answers = AnswerReader::new();
+    let mut piece = [0];
+    let mut read = 0;
+    while read < STATUS_LIMIT {
+        let count = match reader.pull(&mut piece) {
+            Ok(count) => count,
+            Err(Failed) => return Err(SendFault::of_reader(reader)),
+        };
+        if count == 0 {
+            return Err(SendFault::Ended);
+        }
+        match answers.push(piece[0]) {
+            Ok(Some(Answer::Status(byte))) => return Ok(byte),
+            Ok(_) => read += 1,
+            Err(NoAnswer) => return Err(SendFault::BadAnswer),
+        }
+    }
+    Err(SendFault::TooLong)
+}
+
+// Appends what the four bytes say.
+fn append_status(gather: &mut Gather, told: PrinterStatus)
+    requires { length gather.old.kept + 64 ≤ GATHERED_BYTES }
+    ensures kept { gather.new.kept ≡ gather.old.kept ++ status_text told }
+    ensures same_count { gather.new.written ≡ gather.old.written }
+{
+    if has_bit(told.printer, 3) {
+        gather.extend(b"offline\n");
+    } else {
+        gather.extend(b"online\n");
+    }
+    if has_bit(told.offline, 2) {
+        gather.extend(b"cover open\n");
+    } else {
+        gather.extend(b"cover closed\n");
+    }
+    if has_bit(told.paper, 5) || has_bit(told.paper, 6) {
+        gather.extend(b"paper ended\n");
+    } else if has_bit(told.paper, 2) || has_bit(told.paper, 3) {
+        gather.extend(b"paper near its end\n");
+    } else {
+        gather.extend(b"paper there\n");
+    }
+}
+
+// Whether this bit of the byte is set, counted from 0 for the least.
+fn has_bit(byte: u8, bit: u32) -> bool
+    requires { bit < 8 }
+    ensures { result ≡ has_bit byte bit }
+{
+    byte / 2u8.pow(bit) % 2 == 1
+}
+
+// Appends the line that says why the printer doesn't tell its status.
+fn append_fault(gather: &mut Gather, why: SendFault)
+    requires { length gather.old.kept + 64 ≤ GATHERED_BYTES }
+    ensures kept { gather.new.kept ≡ gather.old.kept ++ no_status_line why }
+    ensures same_count { gather.new.written ≡ gather.old.written }
+{
+    gather.extend(b"no status ");
+    gather.extend(why.name().as_bytes());
+    gather.push(LF);
+}
