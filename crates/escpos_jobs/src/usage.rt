@@ -269,7 +269,8 @@ program ran out of memory.
       Reads a receipt in JSON as `encode` does, takes it into the file LEDGER,
       and prints `queued N`: its number, from 1. From then on it is kept,
       whatever is switched off. A file that isn't there is made. A printer has
-      one ledger, and a ledger one printer.
+      one ledger, and a ledger one printer. A ledger that can't be used is told
+      as by `ledger`.
 
           $ echo '[{\"line\":\"Hi\"}]' | escpos_cli queue shop.ledger
           queued 1
@@ -280,7 +281,8 @@ program ran out of memory.
       keeps the mark numbers. `recorded N` says that receipt N is on paper, and
       that the ledger has it so. The first that isn't recorded gives `waiting N
       WHY`, where WHY is `no link` or that of `send`, and ends it. If none
-      waits, nothing is printed. --wait is that of `send`.
+      waits, nothing is printed. --wait is that of `send`. A ledger that can't
+      be used is told as by `ledger`.
 
       A receipt that was sent before may be on paper already. It is printed
       again as it is; or, with --copy, after a line with TEXT, 1 to 42
@@ -300,9 +302,9 @@ program ran out of memory.
           1 recorded 0
           next 4
 
-      If another process has the ledger open, each of these three prints
-      `ledger in use`; if LEDGER is another kind of file, or damaged, `no
-      ledger`; and if a read or a write failed, `ledger failed`.
+      If another process has the ledger open, the one line is `ledger in use`;
+      if LEDGER is another kind of file, or damaged, `no ledger`; and if a read
+      or a write failed, `ledger failed`. So it is for `queue` and `deliver`.
 
   escpos_cli help
       Prints this text; so do --help and -h. After a word they print its part of

@@ -4,3 +4,5 @@
 mod emulating;
 mod round;
 mod sending;
+mod status;
+mod waiting;

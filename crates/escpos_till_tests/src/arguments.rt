@@ -42,6 +42,21 @@ fn deliveries(rt: HostRuntime) {
     }
 }
 
+// The same with `--wait`, and how many seconds a wait may last.
+const WAITING: [(&'static [&'static str], u32, bool, u32); 3] = [
+    (&["--wait", "1"], 3, false, 1),
+    (&["--wait=3600", "--openings", "2"], 2, false, 3_600),
+    (&["--copy", "COPY", "--wait", "30"], 3, true, 30),
+];
+
+#[test]
+fn deliveries_that_wait(rt: HostRuntime) {
+    for (given, openings, has_copy, seconds) in &WAITING {
+        let wanted = Plain::Within("till", printer_address(), *openings, *has_copy, *seconds);
+        asks_for_delivery(&rt, rt.alloc(), given, wanted);
+    }
+}
+
 const ASKED: [(&'static [&'static str], Result<Plain<'static>, NoTask>); 9] = [
     (&["queue", "till"], Ok(Plain::Queue("till"))),
     (&["queue", "a/till.db"], Ok(Plain::Queue("a/till.db"))),
@@ -61,7 +76,7 @@ const ASKED: [(&'static [&'static str], Result<Plain<'static>, NoTask>); 9] = [
 ];
 
 // Words that ask for nothing.
-const USAGE: [&'static [&'static str]; 22] = [
+const USAGE: [&'static [&'static str]; 27] = [
     &[],
     &["check"],
     &["queue"],
@@ -80,6 +95,11 @@ const USAGE: [&'static [&'static str]; 22] = [
     &["deliver", "till", ADDRESS, "--copy", TOO_LONG],
     &["deliver", "till", ADDRESS, "--copy", "Zweitdruck für Sie"],
     &["deliver", "till", ADDRESS, "--first", "1"],
+    &["deliver", "till", ADDRESS, "--wait"],
+    &["deliver", "till", ADDRESS, "--wait", "0"],
+    &["deliver", "till", ADDRESS, "--wait", "3601"],
+    &["deliver", "till", ADDRESS, "--wait", "1", "--wait", "1"],
+    &["ledger", "till", "--wait", "1"],
     &["ledger"],
     &["ledger", "till", "--first", "1679616"],
     &["ledger", "till", "--first", "-1"],

@@ -1,8 +1,11 @@
 //! The arguments of the command line, and what they ask for.
 
 use crate::support::jobs::printer_address;
-use escpos_arguments::task_of;
+use escpos_arguments::{asks_version, task_of};
+use escpos_jobs::emulate::ONLINE;
 use escpos_jobs::task::{NoTask, Task};
+use escpos_jobs::wait::Wait;
+use escpos_printer::Condition;
 use std::alloc::Global;
 use std::net::{Ipv4Addr, SocketAddrV4};
 use std::process::Abort;
@@ -149,8 +152,156 @@ fn arguments_of_send(rt: HostRuntime) {
     }
 }
 
+// The arguments after `emulate` that ask for a printer in a condition, for so many links, or to be followed.
+const CONDITIONS: [(&'static [&'static str], Option<u32>, Condition); 8] = [
+    (&["127.0.0.1:9100", "--condition", "000"], Some(1), ONLINE),
+    (
+        &["127.0.0.1:9100", "--condition=100", "--links", "9"],
+        Some(9),
+        Condition {
+            cover_open: true,
+            ..ONLINE
+        },
+    ),
+    (
+        &["--condition", "010", "127.0.0.1:9100"],
+        Some(1),
+        Condition {
+            near_end: true,
+            ..ONLINE
+        },
+    ),
+    (
+        &["127.0.0.1:9100", "--condition", "001"],
+        Some(1),
+        Condition {
+            paper_end: true,
+            ..ONLINE
+        },
+    ),
+    (&["127.0.0.1:9100", "--follow"], None, ONLINE),
+    (&["--follow", "127.0.0.1:9100"], None, ONLINE),
+    (
+        &["127.0.0.1:9100", "--follow", "--condition", "000"],
+        None,
+        ONLINE,
+    ),
+    (
+        &["127.0.0.1:9100", "--condition", "111", "--follow"],
+        None,
+        Condition {
+            cover_open: true,
+            near_end: true,
+            paper_end: true,
+        },
+    ),
+];
+
+#[test]
+fn conditions_of_emulate(rt: HostRuntime) {
+    let address = printer_address();
+    for (given, links, condition) in &CONDITIONS {
+        let condition = *condition;
+        let asked = match *links {
+            Some(links) => Task::EmulateIn {
+                address,
+                links,
+                condition,
+            },
+            None => Task::Follow { address, condition },
+        };
+        asks_for_command(&rt, rt.alloc(), "emulate", given, Ok(asked));
+    }
+}
+
+// The arguments after `send` with `--wait`, and after `status`: the first mark and how many opening marks, for `send`, and how many
+// seconds a wait may last.
+const WAITS: [(&'static [&'static str], Option<(u32, u32)>, u32); 6] = [
+    (
+        &["127.0.0.1:9100", "--first", "8", "--wait", "30"],
+        Some((8, 3)),
+        30,
+    ),
+    (
+        &["--wait=1", "127.0.0.1:9100", "--openings", "5", "--first=8"],
+        Some((8, 5)),
+        1,
+    ),
+    (
+        &["127.0.0.1:9100", "--first", "8", "--wait", "3600"],
+        Some((8, 3)),
+        3_600,
+    ),
+    (&["127.0.0.1:9100", "--wait", "1"], None, 1),
+    (&["--wait", "+5", "127.0.0.1:9100"], None, 5),
+    (&["127.0.0.1:9100", "--wait=03600"], None, 3_600),
+];
+
+#[test]
+fn waits_of_send_and_status(rt: HostRuntime) {
+    let address = printer_address();
+    for (given, marks, seconds) in &WAITS {
+        let wait = Wait::new(*seconds).expect(&rt, "a wait");
+        let (name, asked) = match *marks {
+            Some((first, openings)) => (
+                "send",
+                Task::SendWithin {
+                    address,
+                    first,
+                    openings,
+                    wait,
+                },
+            ),
+            None => (
+                "status",
+                Task::Status {
+                    address,
+                    wait: Some(wait),
+                },
+            ),
+        };
+        asks_for_command(&rt, rt.alloc(), name, given, Ok(asked));
+    }
+    let asked = Task::Status {
+        address,
+        wait: None,
+    };
+    asks_for_command(&rt, rt.alloc(), "status", &["127.0.0.1:9100"], Ok(asked));
+}
+
+// Words after `status` that ask for nothing.
+const NO_STATUS_ARGUMENTS: [&'static [&'static str]; 9] = [
+    &[],
+    &["printer:9100"],
+    &["127.0.0.1:9100", "127.0.0.1:9100"],
+    &["127.0.0.1:9100", "--wait"],
+    &["127.0.0.1:9100", "--wait", "0"],
+    &["127.0.0.1:9100", "--wait", "3601"],
+    &["127.0.0.1:9100", "--wait", "1.5"],
+    &["127.0.0.1:9100", "--wait", "1", "--wait", "1"],
+    &["127.0.0.1:9100", "--first", "0"],
+];
+
+#[test]
+fn version_is_asked_for_alone(rt: HostRuntime) {
+    assert!(&rt; asks_version(&["--version"]));
+    for words in [[].as_slice(), &["version"], &["-V"], &["--version", "x"], &["check", "--version"]] {
+        assert!(&rt; !asks_version(words));
+    }
+}
+
 // Words after `emulate` that ask for nothing.
-const NO_EMULATE_ARGUMENTS: [&'static [&'static str]; 18] = [
+const NO_EMULATE_ARGUMENTS: [&'static [&'static str]; 28] = [
+    &["127.0.0.1:9100", "--follow", "--links", "3"],
+    &["127.0.0.1:9100", "--follow", "--links", "1"],
+    &["127.0.0.1:9100", "--follow", "--follow"],
+    &["127.0.0.1:9100", "--follow=true"],
+    &["127.0.0.1:9100", "--condition"],
+    &["127.0.0.1:9100", "--condition", ""],
+    &["127.0.0.1:9100", "--condition", "00"],
+    &["127.0.0.1:9100", "--condition", "0000"],
+    &["127.0.0.1:9100", "--condition", "002"],
+    &["127.0.0.1:9100", "--condition", "000", "--condition", "000"],
     &[],
     &["--links", "3"],
     &["127.0.0.1:9100", "--links"],
@@ -172,7 +323,11 @@ const NO_EMULATE_ARGUMENTS: [&'static [&'static str]; 18] = [
 ];
 
 // Words after `send` that ask for nothing.
-const NO_SEND_ARGUMENTS: [&'static [&'static str]; 18] = [
+const NO_SEND_ARGUMENTS: [&'static [&'static str]; 22] = [
+    &["127.0.0.1:9100", "--wait", "5"],
+    &["127.0.0.1:9100", "--first", "8", "--wait", "0"],
+    &["127.0.0.1:9100", "--first", "8", "--wait", "3601"],
+    &["127.0.0.1:9100", "--first", "8", "--wait=5", "--wait=5"],
     &[],
     &["127.0.0.1:9100"],
     &["127.0.0.1:9100", "--openings", "5"],
@@ -197,6 +352,9 @@ const NO_SEND_ARGUMENTS: [&'static [&'static str]; 18] = [
 fn arguments_that_ask_for_nothing(rt: HostRuntime) {
     for given in &NO_EMULATE_ARGUMENTS {
         asks_for_command(&rt, rt.alloc(), "emulate", given, Err(NoTask::Usage));
+    }
+    for given in &NO_STATUS_ARGUMENTS {
+        asks_for_command(&rt, rt.alloc(), "status", given, Err(NoTask::Usage));
     }
     for given in &NO_SEND_ARGUMENTS {
         asks_for_command(&rt, rt.alloc(), "send", given, Err(NoTask::Usage));

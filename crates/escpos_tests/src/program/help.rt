@@ -1,14 +1,14 @@
 //! What no job prints: the help, the usage, and the statuses. What the help shows is what the jobs do.
 
 use crate::support::hosts::read_receipt;
-use crate::support::jobs::{performs, prints};
+use crate::support::jobs::{is_outcome, performs, prints};
 use crate::support::reasons::faults;
 use crate::support::texts::joined;
 use escpos_host::{JsonError, JsonFault, ReceiptFault};
-use escpos_io::{ByteIn, MemoryIn};
+use escpos_io::{ByteIn, MemoryIn, MemoryOut};
 use escpos_jobs::status::Status;
 use escpos_jobs::task::{NoTask, Task};
-use escpos_jobs::usage::{HELP, USAGE};
+use escpos_jobs::usage::{HELP, USAGE, VERSION, say_help};
 use std::alloc::Global;
 use std::process::Abort;
 
@@ -47,8 +47,8 @@ fn each_thing_asked_for(rt: HostRuntime) {
 #[test]
 fn usage_and_help(rt: HostRuntime) {
     for name in [
-        "check", "render", "encode", "emulate", "send", "loop", "queue", "deliver", "ledger",
-        "help",
+        "check", "render", "encode", "emulate", "send", "status", "loop", "queue", "deliver",
+        "ledger", "help",
     ] {
         assert!(rt; USAGE.contains(name));
         assert!(rt; HELP.contains(name));
@@ -146,4 +146,48 @@ fn help_has_an_example_of_each_member(rt: HostRuntime) {
         }
     }
     assert!(rt; count == 22);
+}
+
+#[test]
+fn version(rt: HostRuntime) {
+    assert!(&rt; VERSION == "escpos_cli 1.0.0, profile 2\n");
+}
+
+// Help on a word prints this, and where there is no room for it the status says so.
+fn says_help(rt: &impl Abort, word: &str, wanted: &str) {
+    let mut room = [0; 32768];
+    let mut output = MemoryOut::new(&mut room);
+    let ended = say_help(word, &mut output);
+    is_outcome(rt, (output.written(), ended), (wanted.as_bytes(), Status::Good));
+    let mut few = [0; 3];
+    let mut output = MemoryOut::new(&mut few);
+    assert!(rt; say_help(word, &mut output) == Status::Device);
+}
+
+// The parts of the help, each with its word, are all of it but what stands before and after them.
+#[test]
+fn help_on_each_word(rt: HostRuntime) {
+    let words = [
+        "check", "render", "encode", "play", "emulate", "send", "status", "loop", "queue",
+        "deliver", "ledger", "help",
+    ];
+    let mut rest = HELP.find("  escpos_cli check").expect(&rt, "the first part");
+    for place in 0..words.len() {
+        let next = match words.get(place + 1) {
+            Some(word) => next_part(&rt, rt.alloc(), word),
+            None => HELP.find("\nExit status: ").expect(&rt, "the end"),
+        };
+        let part = HELP.get(rest..next).expect(&rt, "a part");
+        says_help(&rt, words[place], part);
+        rest = next + 1;
+    }
+    for word in ["", "nosuch", "chec", "check ", "--help"] {
+        says_help(&rt, word, HELP);
+    }
+}
+
+// Where the line feed before the part of this word stands.
+fn next_part(rt: &impl Abort, alloc: Global, word: &str) -> usize {
+    let head = format!(in alloc; "\n  escpos_cli {word}").expect(rt, "memory");
+    HELP.find(head.as_str()).expect(rt, "a part")
 }

@@ -4,7 +4,9 @@ use crate::support::jobs::is_outcome;
 use crate::support::sockets::{NEVER, connects_and_says, listens, one_waits, reads_to_end, says};
 use crate::support::texts::joined;
 use escpos_io::{MemoryIn, MemoryOut};
-use escpos_jobs::emulate::{ONLINE, emulate, emulate_on, serve_and_tell};
+use escpos_jobs::emulate::{
+    ONLINE, emulate, emulate_in_on, emulate_on, follow_link, follow_on, serve_and_tell,
+};
 use escpos_jobs::paper_text::PaperText;
 use escpos_jobs::status::Status;
 use escpos_printer::{Condition, Printer};
@@ -278,4 +280,76 @@ fn many_links(rt: HostRuntime) {
     let last = b"\nlink 119 read 0 consumed 0 written 0 Ended\n".as_slice();
     assert!(&rt; output.written().ends_with(last));
     one_waits(&rt, &listener);
+}
+
+// What the sensors say is answered: emulated_condition.
+#[test]
+fn emulated_condition(rt: HostRuntime) {
+    let (listener, address) = listens(&rt);
+    let mut client = TcpStream::connect(&rt, address).expect(&rt, "no link");
+    says(&rt, &mut client, b"\x10\x04\x01\x10\x04\x02\x10\x04\x04Hi\n");
+    let condition = Condition {
+        cover_open: true,
+        near_end: true,
+        paper_end: false,
+    };
+    let mut room = [0; 128];
+    let mut output = MemoryOut::new(&mut room);
+    let ended = emulate_in_on(rt.alloc(), &listener, 1, condition, &mut output);
+    let line = b"link 1 read 12 consumed 9 written 3 Offline\n".as_slice();
+    is_outcome(&rt, (output.written(), ended), (line, Status::Good));
+    reads_to_end(&rt, &mut client, b"\x1A\x16\x1E");
+}
+
+// Two links are followed until the listener accepts no more, and what each printed comes after its line:
+// followed_links, followed_styles.
+#[test]
+fn followed_links(rt: HostRuntime) {
+    let (listener, address) = listens(&rt);
+    let _first = connects_and_says(&rt, address, b"Hi\n\x1BE\x01A\n");
+    let _second = connects_and_says(&rt, address, b"Yo\n");
+    listener.set_nonblocking(true).expect(&rt, "can't set");
+    let mut room = [0; 512];
+    let mut output = MemoryOut::new(&mut room);
+    let ended = follow_on(rt.alloc(), &listener, ONLINE, &mut output);
+    let text = b"link 1 read 8 consumed 8 written 0 Ended\n\
+        row left Hi\nfeed 1\nrow left [A,1,1,1,0,0]A\nfeed 1\n\
+        link 2 read 3 consumed 3 written 0 Ended\n\
+        row left [A,1,1,1,0,0]Yo\nfeed 1\n";
+    is_outcome(&rt, (output.written(), ended), (text, Status::Device));
+}
+
+// A link is followed over memory, and this is printed.
+fn follows(
+    rt: &impl Abort,
+    alloc: Global,
+    (printer, number): (&mut Printer, u32),
+    bytes: &[u8],
+    text: &str,
+) {
+    let (mut room, mut printed) = ([0; 64], [0; 128]);
+    let mut reader = MemoryIn::new(bytes, 12);
+    let mut writer = MemoryOut::new(&mut room);
+    let mut output = MemoryOut::new(&mut printed);
+    let served = follow_link(alloc, printer, number, &mut reader, &mut writer, &mut output);
+    assert!(rt; served.is_ok());
+    assert!(rt; output.written() == text.as_bytes());
+    assert!(rt; printer.items().is_empty());
+}
+
+// A line that a link leaves is ended by the next one; nothing that was printed comes again: followed_line, followed_nothing.
+#[test]
+fn followed_link_by_link(rt: HostRuntime) {
+    let mut printer = Printer::new(rt.alloc(), ONLINE).expect(&rt, "memory");
+    let rows = [
+        (1, b"A\nB".as_slice(), "link 1 read 3 consumed 3 written 0 Ended\nrow left A\nfeed 1\n"),
+        (2, b"C\n", "link 2 read 2 consumed 2 written 0 Ended\nrow left BC\nfeed 1\n"),
+        (3, b"", "link 3 read 0 consumed 0 written 0 Ended\n"),
+        (4, b"\x1B@\x10\x04\x01", "link 4 read 5 consumed 5 written 1 Ended\n"),
+        (5, b"D\x07", "link 5 read 2 consumed 1 written 0 Fault\n"),
+        (6, b"\n", "link 6 read 1 consumed 1 written 0 Ended\nrow left D\nfeed 1\n"),
+    ];
+    for (number, bytes, text) in rows {
+        follows(&rt, rt.alloc(), (&mut printer, number), bytes, text);
+    }
 }

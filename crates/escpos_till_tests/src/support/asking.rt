@@ -6,12 +6,13 @@ use escpos_till_jobs::TillTask;
 use std::alloc::Global;
 use std::net::{Ipv4Addr, SocketAddrV4};
 
-// A task with its ledger's path: the printer's address, how many opening marks, and whether there is a text for copies; or the
-// number that the next mark number is raised to.
+// A task with its ledger's path: the printer's address, how many opening marks, and whether there is a text for copies, with how
+// many seconds a wait may last, if that is given; or the number that the next mark number is raised to.
 #[derive(Clone, Copy, PartialEq)]
 pub enum Plain<'a> {
     Queue(&'a str),
     Deliver(&'a str, SocketAddrV4, u32, bool),
+    Within(&'a str, SocketAddrV4, u32, bool, u32),
     List(&'a str, Option<u32>),
 }
 
@@ -23,6 +24,17 @@ fn plain_of<'a>(task: TillTask<'a>) -> Plain<'a> {
             delivery.address,
             delivery.openings,
             delivery.copy.is_some(),
+        ),
+        TillTask::DeliverWithin {
+            ledger,
+            delivery,
+            wait,
+        } => Plain::Within(
+            ledger.text(),
+            delivery.address,
+            delivery.openings,
+            delivery.copy.is_some(),
+            wait.seconds(),
         ),
         TillTask::List { ledger, first } => Plain::List(ledger.text(), first),
     }

@@ -1,0 +1,123 @@
+//! Waits that end: a device that has waited as long as it may says so, and so does what is printed.
+//!
+//! That a wait doesn't end before its time, and ends soon after it, is left to `bench/waits`: no test here is timed.
+
+use crate::support::hosts::S;
+use crate::support::jobs::{is_outcome, run_job};
+use crate::support::sockets::listens;
+use escpos_io::{ByteIn, ByteOut, Failed, Incoming, MemoryIn, MemoryOut, Outgoing};
+use escpos_jobs::status::Status;
+use escpos_jobs::task::Task;
+use escpos_jobs::wait::Wait;
+use std::alloc::Global;
+use std::io;
+use std::io::{ErrorKind, Read, Write};
+use std::net::{Net, SocketAddrV4, TcpListener, TcpStream};
+use std::process::Abort;
+
+// A reader and writer whose every call ends in this error.
+#[derive(Drop)]
+struct Stuck {
+    kind: ErrorKind,
+}
+
+impl Read for Stuck {
+    fn read(&mut self, _piece: &mut [u8]) -> io::Result<usize> {
+        Err(io::Error::from(self.kind))
+    }
+}
+
+impl Write for Stuck {
+    fn write(&mut self, _piece: &[u8]) -> io::Result<usize> {
+        Err(io::Error::from(self.kind))
+    }
+
+    fn flush(&mut self) -> io::Result<()> {
+        Ok(())
+    }
+}
+
+// A source and a sink over it fail, for good, and say whether they had waited as long as they may.
+fn fails(rt: &impl Abort, kind: ErrorKind, timed_out: bool) {
+    let mut source = Incoming::new(Stuck { kind });
+    let mut sink = Outgoing::new(Stuck { kind });
+    assert!(rt; !source.has_timed_out());
+    assert!(rt; !sink.has_timed_out());
+    for _ in 0..2 {
+        assert!(rt; source.pull(&mut [0; 4]) == Err(Failed));
+        assert!(rt; sink.put(b"Hi") == Err(Failed));
+        assert!(rt; source.has_timed_out() == timed_out);
+        assert!(rt; sink.has_timed_out() == timed_out);
+    }
+    assert!(rt; source.has_failed());
+    assert!(rt; !source.has_ended());
+    assert!(rt; sink.has_failed());
+}
+
+#[test]
+fn time_outs_of_devices(rt: HostRuntime) {
+    fails(&rt, ErrorKind::WouldBlock, true);
+    fails(&rt, ErrorKind::TimedOut, true);
+    fails(&rt, ErrorKind::Interrupted, false);
+    fails(&rt, ErrorKind::ConnectionReset, false);
+    fails(&rt, ErrorKind::Other, false);
+    let ended = MemoryIn::failing(b"", 1, 1);
+    assert!(&rt; !ended.has_timed_out());
+}
+
+#[test]
+fn waits_are_1_to_3600_seconds(rt: HostRuntime) {
+    for seconds in [1, 2, 3_599, 3_600] {
+        let wait = Wait::new(seconds).expect(&rt, "a wait");
+        assert!(&rt; wait.seconds() == seconds);
+        assert!(&rt; wait.duration().as_secs() == u64::from(seconds));
+    }
+    for seconds in [0, 3_601, u32::MAX] {
+        assert!(&rt; Wait::new(seconds).is_none());
+    }
+}
+
+// This is done over TCP, and this is printed.
+fn prints<N: Net<Stream = TcpStream, Listener = TcpListener> + Abort>(
+    rt: &N,
+    alloc: Global,
+    (task, input): (Task, &[u8]),
+    (text, status): (&str, Status),
+) {
+    let mut room = [0; 64];
+    let mut source = MemoryIn::new(input, 100);
+    let mut output = MemoryOut::new(&mut room);
+    let ended = run_job(rt, alloc, Ok(task), &mut source, &mut output);
+    is_outcome(rt, (output.written(), ended), (text.as_bytes(), status));
+}
+
+// The tasks that wait for a printer, a second at most.
+fn waiting(rt: &impl Abort, address: SocketAddrV4) -> (Task, Task) {
+    let wait = Wait::new(1).expect(rt, "a wait");
+    let send = Task::SendWithin {
+        address,
+        first: 0,
+        openings: 3,
+        wait,
+    };
+    let status = Task::Status {
+        address,
+        wait: Some(wait),
+    };
+    (send, status)
+}
+
+// A printer that is connected and silent; one that isn't there.
+#[test]
+fn a_silent_printer(rt: HostRuntime) {
+    let (listener, address) = listens(&rt);
+    let (send, status) = waiting(&rt, address);
+    let timed_out = ("not recorded TimedOut\nnext 3\n", Status::Device);
+    prints(&rt, rt.alloc(), (send, S.0), timed_out);
+    let no_status = ("no status TimedOut\n", Status::Device);
+    prints(&rt, rt.alloc(), (status, b""), no_status);
+    drop(listener);
+    let no_link = ("no link\n", Status::Device);
+    prints(&rt, rt.alloc(), (send, S.0), no_link);
+    prints(&rt, rt.alloc(), (status, b""), no_link);
+}
