@@ -7,12 +7,11 @@ use Rattle.clap.specs.Words.{App, Row, Rule, Shape, Text, first_of, new_app, new
 use Rattle.clap.specs.Simple.{new_shape, on_top}
 use Rattle.clap.specs.declared.builder.action.ArgAction.TheVariants.{Set, SetTrue}
 use Rattle.escpos_command.specs.Digits.{mark_count}
-use Rattle.escpos_arguments.specs.declared.arguments.TheConstants.{LINKS, MOST_LINKS, OPENINGS, MOST_OPENINGS}
+use Rattle.escpos_arguments.specs.declared.arguments.TheConstants.{LINKS, MOST_LINKS, OPENINGS, MOST_OPENINGS, MOST_WAIT}
 use Rattle.escpos_printer.specs.declared.condition.Condition.{Condition}
 use Rattle.escpos_jobs.specs.declared.task.Task.{Task}
 use Rattle.escpos_jobs.specs.declared.task.Task.TheVariants.{Check, CheckRaw, Render, RenderRaw, Encode, EncodeRaw, Play, Emulate, EmulateIn, Follow, Send, SendWithin, Status, Loop}
 use Rattle.escpos_jobs.specs.Conditions.{condition_text, online}
-use Rattle.escpos_jobs.specs.Wait.{IsWait}
 use Rattle.escpos_arguments.specs.ClapAnswers.{IsNumber, IsNumberIn}
 
 -- ---- what a text says
@@ -117,6 +116,10 @@ AsksBy name rows Loop = name ≡ codes "loop"
 -- what `clap` finds in the arguments, a name and the values after it, asks for the task
 abbrev pub Asks : Option (Text × List Row) → Task → Type 0
 Asks found task = IsSomeAnd found (λ p. AsksBy p.0 p.1 task)
+
+-- a number of seconds that a wait may last
+abbrev pub IsWait : ℕ → Type 0
+IsWait n = (1 ≤ n) × (n ≤ MOST_WAIT)
 
 -- the numbers of the task are in range
 abbrev pub InRange : Task → Type 0

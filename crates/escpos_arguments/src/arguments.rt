@@ -8,8 +8,7 @@ ghost use Rattle.escpos_printer.specs.declared.condition.Condition.{Condition};
 ghost use Rattle.escpos_jobs.specs.declared.task.Task.{Task};
 ghost use Rattle.escpos_jobs.specs.declared.task.Task.TheVariants.{Follow};
 ghost use Rattle.escpos_jobs.specs.Conditions.{condition_text, online};
-ghost use Rattle.escpos_jobs.specs.Wait.{IsWait};
-ghost use Rattle.escpos_arguments.specs.Arguments.{Asks, AsksBy, HasFlag, HasRaw, InRange, IsAddress, IsConditionOr, IsNumberOr, IsPlain, address_rule, command_words, emulate_words, flag_rule, help_words, name_of, option_rule, raw_words, send_words, status_words, stream_words, words_of};
+ghost use Rattle.escpos_arguments.specs.Arguments.{Asks, AsksBy, HasFlag, HasRaw, InRange, IsAddress, IsConditionOr, IsNumberOr, IsPlain, IsWait, address_rule, command_words, emulate_words, flag_rule, help_words, name_of, option_rule, raw_words, send_words, status_words, stream_words, words_of};
 ghost use Rattle.escpos_arguments.specs.ClapAnswers.{IsNumber, IsNumberIn, no_task_of};
 
 use clap::error::ErrorKind;
@@ -18,7 +17,6 @@ use escpos_command::MarkId;
 use escpos_jobs::emulate::ONLINE;
 use escpos_jobs::script::condition_of;
 use escpos_jobs::task::{NoTask, Task};
-use escpos_jobs::wait::Wait;
 use escpos_printer::Condition;
 use std::alloc::{AllocError, Global};
 use std::convert::AsStr;
@@ -36,6 +34,9 @@ pub const OPENINGS: u32 = 3;
 /// The most opening marks that `send` sends.
 pub const MOST_OPENINGS: u32 = 99;
 
+/// The longest wait that may be asked for, in seconds.
+pub const MOST_WAIT: u32 = 3_600;
+
 const _: () = prove!(LINKS == 1);
 
 const _: () = prove!(MOST_LINKS == 1_000);
@@ -43,6 +44,8 @@ const _: () = prove!(MOST_LINKS == 1_000);
 const _: () = prove!(OPENINGS == 3);
 
 const _: () = prove!(MOST_OPENINGS == 99);
+
+const _: () = prove!(MOST_WAIT == 3_600);
 
 /// The arguments after the first, which is the program's name. Where there are no arguments, nothing.
 pub fn without_name<S>(words: &[S]) -> &[S]
@@ -245,8 +248,8 @@ fn status_asked(alloc: Global, given: &ArgMatches) -> Result<Task, NoTask>
     Ok(Task::Status { address, wait })
 }
 
-// How long a wait may last, if that is given.
-pub(crate) fn wait_given(given: &ArgMatches) -> Result<Option<Wait>, NoTask>
+// How many seconds a wait may last, if that is given.
+pub(crate) fn wait_given(given: &ArgMatches) -> Result<Option<u32>, NoTask>
     ensures read { IfOk result (IsNumberIn (one_of (codes "wait") (rows_of (found_of given.now)))) }
     ensures range { IfOk result (λ wait. IfSome wait IsWait) }
     ensures taken { (wait : Option ℕ) → IsNumberIn (one_of (codes "wait") (rows_of (found_of given.now))) wait → IfSome wait IsWait
@@ -254,10 +257,12 @@ pub(crate) fn wait_given(given: &ArgMatches) -> Result<Option<Wait>, NoTask>
     ensures usage { IfErr result (λ why. why ≡ NoTask.Usage) }
 {
     match number_given(given, "wait")? {
-        Some(seconds) => match Wait::new(seconds) {
-            Some(wait) => Ok(Some(wait)),
-            None => Err(NoTask::Usage),
-        },
+        Some(seconds) =>
+            if 1 <= seconds && seconds <= MOST_WAIT {
+                Ok(Some(seconds))
+            } else {
+                Err(NoTask::Usage)
+            },
         None => Ok(None),
     }
 }

@@ -7,5 +7,7 @@
 mod arguments;
 mod till;
 
-pub use arguments::{LINKS, MOST_LINKS, MOST_OPENINGS, OPENINGS, asks_version, task_of, without_name};
+pub use arguments::{
+    LINKS, MOST_LINKS, MOST_OPENINGS, MOST_WAIT, OPENINGS, asks_version, task_of, without_name,
+};
 pub use till::{is_till_word, till_task_of};

@@ -10,3 +10,4 @@ pub mod EntrySpellings
 pub mod Quiet
 pub mod TornParts
 pub mod Plays
+mod PrinterStatusLemmas

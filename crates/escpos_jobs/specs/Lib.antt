@@ -13,7 +13,6 @@ pub mod Refusal
 pub mod Encode
 pub mod Links
 pub mod Send
-pub mod Wait
 pub mod Conditions
 pub mod PrinterStatus
 pub mod Broken

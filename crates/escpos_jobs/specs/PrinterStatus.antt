@@ -1,5 +1,5 @@
 -- What `status` asks of a printer, which bytes it speaks of, and what it prints.
-use Rattle.std.specs.Prelude.{ℕ, ◌≡◌, ◌||◌, ◌<◌, ◌≤◌, ⊤, List, [], ◌∷◌, ◌++◌, length, if◌then◌else◌, IsTrue, codes}
+use Rattle.std.specs.Prelude.{ℕ, ◌≡◌, ◌||◌, ◌⊎◌, ⊤, List, [], ◌∷◌, ◌++◌, if◌then◌else◌, IsTrue, codes}
 use Rattle.std.specs.List.{AllByRecursion}
 use Rattle.std.specs.Io.KnownBytes.{Appends, Consumes}
 use Rattle.escpos_command.specs.declared.answer.Answer.{Answer}

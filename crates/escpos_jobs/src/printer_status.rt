@@ -1,11 +1,14 @@
 //! The job `status`: a printer is asked what its sensors say, and that is printed. No mark is used.
 
-ghost use Rattle.std.specs.Prelude.{◌≡◌, ◌≢◌, ◌⊎◌, ◌+◌, ◌≤◌, ◌++◌, List, ℕ, length, IsTrue, IsErrOf, IfOk, IfErr, OnOk, OnErr};
+ghost use Rattle.std.specs.Prelude.{◌≡◌, ◌≢◌, ◌⊎◌, ◌+◌, ◌<◌, ◌≤◌, ◌++◌, List, ℕ, Some, None, [], ◌∷◌, length, IsTrue, IsErrOf, IfOk, IfErr, OnOk, OnErr};
 ghost use Rattle.std.specs.Io.KnownBytes.{Appends, Consumes};
+ghost use Rattle.escpos_command.specs.declared.answer.Answer.{Answer};
+ghost use Rattle.escpos_command.specs.Answers.{AnswerSpells};
 ghost use Rattle.escpos_command.specs.CommandTable.{spell};
+ghost use Rattle.escpos_command.specs.Meanings.{has_bit};
 ghost use Rattle.escpos_host.specs.declared.send.SendFault.{SendFault};
-ghost use Rattle.escpos_jobs.specs.Ending.{job_end};
-ghost use Rattle.escpos_jobs.specs.PrinterStatus.{AsksAndTells, TellsNext, TellsStatus, no_status_line, requests, status_text};
+ghost use Rattle.escpos_jobs.specs.Ending.{Tells, job_end};
+ghost use Rattle.escpos_jobs.specs.PrinterStatus.{AreMarks, AsksAndTells, TellsNext, TellsStatus, no_status_line, requests, status_text};
 ghost use Rattle.escpos_jobs.specs.Send.{passed};
 
 use crate::ending::say;
@@ -80,23 +83,39 @@ pub fn status_over<R: ByteIn, A: ByteOut, W: ByteOut>(
     ensures never_usage { result ≢ Status.Usage }
     ensures not_hidden { result ≢ Status.Device → ¬ IsTrue (W.failed output.old) → ¬ IsTrue (W.failed output.new) }
 {
+    match ask_status(reader, writer) {
+        Ok(told) => tell_status(told, output),
+        Err(why) => tell_fault(why, output),
+    }
+}
+
+// Prints what the four bytes say.
+fn tell_status<W: ByteOut>(told: PrinterStatus, output: &mut W) -> Status
+    ensures tells { Tells (job_end (W.written output.old) (W.written output.new) (W.failed output.new) result) (status_text told) Status.Good }
+    ensures never_usage { result ≢ Status.Usage }
+    ensures not_hidden { result ≢ Status.Device → ¬ IsTrue (W.failed output.old) → ¬ IsTrue (W.failed output.new) }
+{
     // Proof only: appended bytes count as given.
     laws::given_in_place();
     let mut gather = Gather::new();
-    let status = match ask_status(reader, writer) {
-        Ok(told) => {
-            append_status(&mut gather, told);
-            Status::Good
-        }
-        Err(why) => {
-            append_fault(&mut gather, why);
-            Status::Device
-        }
-    };
+    append_status(&mut gather, told);
     match gather.flush(output) {
-        Ok(()) => status,
+        Ok(()) => Status::Good,
         Err(_) => Status::Device,
     }
+}
+
+// Prints why the printer doesn't tell its status.
+fn tell_fault<W: ByteOut>(why: SendFault, output: &mut W) -> Status
+    ensures tells { Tells (job_end (W.written output.old) (W.written output.new) (W.failed output.new) result) (no_status_line why) Status.Device }
+    ensures device { result ≡ Status.Device }
+{
+    // Proof only: appended bytes count as given.
+    laws::given_in_place();
+    let mut gather = Gather::new();
+    append_fault(&mut gather, why);
+    let _ = gather.flush(output);
+    Status::Device
 }
 
 /// Puts the four requests out, and reads the four status bytes. Answers of marks are passed over; at most 16,384 bytes are
@@ -146,13 +165,26 @@ fn next_status<R: ByteIn>(reader: &mut R) -> Result<u8, SendFault>
         if count == 0 {
             return Err(SendFault::Ended);
         }
-        match answers.push(piece[0]) {
-            Ok(Some(Answer::Status(byte))) => return Ok(byte),
-            Ok(_) => read += 1,
-            Err(NoAnswer) => return Err(SendFault::BadAnswer),
+        if let Some(status) = take_byte(&mut answers, piece[0])? {
+            return Ok(status);
         }
+        read += 1;
     }
     Err(SendFault::TooLong)
+}
+
+// Takes one more byte. Returns the status byte, if it is one.
+fn take_byte(answers: &mut AnswerReader, byte: u8) -> Result<Option<u8>, SendFault>
+    ensures status { (status : ℕ) → result ≡ Ok (Some status) → AnswerSpells (Answer.Status status) (answers.old ++ byte ∷ []) }
+    ensures passed { result ≡ Ok None → (marks : List ℕ) × AreMarks marks × (answers.old ++ byte ∷ [] ≡ marks ++ answers.new) }
+    ensures bad { IfErr result (λ why. why ≡ SendFault.BadAnswer) }
+{
+    match answers.push(byte) {
+        Ok(Some(Answer::Status(status))) => Ok(Some(status)),
+        Ok(Some(Answer::Mark(_))) => Ok(None),
+        Ok(None) => Ok(None),
+        Err(NoAnswer) => Err(SendFault::BadAnswer),
+    }
 }
 
 // Appends what the four bytes say.

@@ -1,6 +1,5 @@
 //! What the program may be asked to do, and why arguments name no task. `perform` does it.
 
-use crate::wait::Wait;
 use escpos_printer::Condition;
 use std::net::SocketAddrV4;
 use thiserror::Error;
@@ -44,17 +43,17 @@ pub enum Task {
         first: u32,
         openings: u32,
     },
-    /// The same, where no wait lasts longer than `wait`.
+    /// The same, where no wait lasts longer than `wait` seconds.
     SendWithin {
         address: SocketAddrV4,
         first: u32,
         openings: u32,
-        wait: Wait,
+        wait: u32,
     },
-    /// Ask the printer at this address for its status, where no wait lasts longer than `wait`, if that is given.
+    /// Ask the printer at this address for its status, where no wait lasts longer than `wait` seconds, if that is given.
     Status {
         address: SocketAddrV4,
-        wait: Option<Wait>,
+        wait: Option<u32>,
     },
     /// Send a receipt over a link of which the program is both ends.
     Loop,

@@ -1,6 +1,6 @@
 //! The texts of usage, help and version.
 
-ghost use Rattle.std.specs.Prelude.{◌≡◌, ◌≢◌, IsTrue};
+ghost use Rattle.std.specs.Prelude.{◌≢◌, OnOk, IsTrue};
 
 use crate::ending::say;
 use crate::status::Status;
@@ -335,7 +335,9 @@ pub fn say_help<W: ByteOut>(word: &str, output: &mut W) -> Status
 }
 
 // Prints a part of the help, as it stands there.
-fn put_part<W: ByteOut>(part: &str, output: &mut W) -> Result<(), Device> {
+fn put_part<W: ByteOut>(part: &str, output: &mut W) -> Result<(), Device>
+    ensures not_failed { OnOk result (¬ IsTrue (W.failed output.old) → ¬ IsTrue (W.failed output.new)) }
+{
     put_all(b"  escpos_cli ", output)?;
     put_all(part.as_bytes(), output)
 }

@@ -3,7 +3,6 @@
 ghost use Rattle.std.specs.Prelude.{◌≡◌};
 
 use crate::deliver::Delivery;
-use escpos_jobs::wait::Wait;
 use std::marker::Model;
 
 /// The path of a ledger's file. The model is the list of its bytes.
@@ -48,11 +47,11 @@ pub enum TillTask<'a> {
         ledger: LedgerPath<'a>,
         delivery: Delivery<'a>,
     },
-    /// The same, where no wait lasts longer than `wait`.
+    /// The same, where no wait lasts longer than `wait` seconds.
     DeliverWithin {
         ledger: LedgerPath<'a>,
         delivery: Delivery<'a>,
-        wait: Wait,
+        wait: u32,
     },
     /// List where the receipts of this ledger stand, once its next mark number was raised to `first`, if that is given.
     List {

@@ -4,7 +4,6 @@ use crate::support::jobs::printer_address;
 use escpos_arguments::{asks_version, task_of};
 use escpos_jobs::emulate::ONLINE;
 use escpos_jobs::task::{NoTask, Task};
-use escpos_jobs::wait::Wait;
 use escpos_printer::Condition;
 use std::alloc::Global;
 use std::net::{Ipv4Addr, SocketAddrV4};
@@ -241,7 +240,7 @@ const WAITS: [(&'static [&'static str], Option<(u32, u32)>, u32); 6] = [
 fn waits_of_send_and_status(rt: HostRuntime) {
     let address = printer_address();
     for (given, marks, seconds) in &WAITS {
-        let wait = Wait::new(*seconds).expect(&rt, "a wait");
+        let wait = *seconds;
         let (name, asked) = match *marks {
             Some((first, openings)) => (
                 "send",

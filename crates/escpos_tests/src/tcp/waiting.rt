@@ -8,7 +8,6 @@ use crate::support::sockets::listens;
 use escpos_io::{ByteIn, ByteOut, Failed, Incoming, MemoryIn, MemoryOut, Outgoing};
 use escpos_jobs::status::Status;
 use escpos_jobs::task::Task;
-use escpos_jobs::wait::Wait;
 use std::alloc::Global;
 use std::io;
 use std::io::{ErrorKind, Read, Write};
@@ -65,18 +64,6 @@ fn time_outs_of_devices(rt: HostRuntime) {
     assert!(&rt; !ended.has_timed_out());
 }
 
-#[test]
-fn waits_are_1_to_3600_seconds(rt: HostRuntime) {
-    for seconds in [1, 2, 3_599, 3_600] {
-        let wait = Wait::new(seconds).expect(&rt, "a wait");
-        assert!(&rt; wait.seconds() == seconds);
-        assert!(&rt; wait.duration().as_secs() == u64::from(seconds));
-    }
-    for seconds in [0, 3_601, u32::MAX] {
-        assert!(&rt; Wait::new(seconds).is_none());
-    }
-}
-
 // This is done over TCP, and this is printed.
 fn prints<N: Net<Stream = TcpStream, Listener = TcpListener> + Abort>(
     rt: &N,
@@ -92,17 +79,16 @@ fn prints<N: Net<Stream = TcpStream, Listener = TcpListener> + Abort>(
 }
 
 // The tasks that wait for a printer, a second at most.
-fn waiting(rt: &impl Abort, address: SocketAddrV4) -> (Task, Task) {
-    let wait = Wait::new(1).expect(rt, "a wait");
+fn waiting(address: SocketAddrV4) -> (Task, Task) {
     let send = Task::SendWithin {
         address,
         first: 0,
         openings: 3,
-        wait,
+        wait: 1,
     };
     let status = Task::Status {
         address,
-        wait: Some(wait),
+        wait: Some(1),
     };
     (send, status)
 }
@@ -111,7 +97,7 @@ fn waiting(rt: &impl Abort, address: SocketAddrV4) -> (Task, Task) {
 #[test]
 fn a_silent_printer(rt: HostRuntime) {
     let (listener, address) = listens(&rt);
-    let (send, status) = waiting(&rt, address);
+    let (send, status) = waiting(address);
     let timed_out = ("not recorded TimedOut\nnext 3\n", Status::Device);
     prints(&rt, rt.alloc(), (send, S.0), timed_out);
     let no_status = ("no status TimedOut\n", Status::Device);

@@ -34,7 +34,7 @@ fn plain_of<'a>(task: TillTask<'a>) -> Plain<'a> {
             delivery.address,
             delivery.openings,
             delivery.copy.is_some(),
-            wait.seconds(),
+            wait,
         ),
         TillTask::List { ledger, first } => Plain::List(ledger.text(), first),
     }

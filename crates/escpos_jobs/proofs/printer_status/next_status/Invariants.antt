@@ -1,0 +1,14 @@
+use Rattle.std.proofs.Common.{◌-◌, ◌≡◌, ◌++◌, List, ℕ, length}
+use Rattle.std.specs.Io.KnownBytes.{Consumes}
+use Rattle.escpos_jobs.specs.PrinterStatus.{AreMarks}
+use Rattle.escpos_jobs.proofs.printer_status.next_status.Given as goal
+
+-- what was read so far are answers of marks, and what the reader of answers holds
+abbrev pub invariant-loop-read : goal.invariant-loop-read
+invariant-loop-read g l = record {
+  room : length l.piece ≡ 1;
+  so_far : (before : List ℕ) × AreMarks before × Consumes (g.R.ByteIn.to_come l.fn.reader) (g.R.ByteIn.to_come l.reader) (before ++ l.answers);
+}
+
+abbrev pub decreases-loop-read : goal.decreases-loop-read
+decreases-loop-read g l = 16384 - l.read
