@@ -1,13 +1,17 @@
--- What the values after an argument say: numbers and addresses.
-use Rattle.std.proofs.Common.{◌≡◌, ◌∙◌, ℕ, List, Option, Some, None, Result, Ok, Err, refl, sym, ap, subst}
-use Rattle.std.specs.Prelude.{MatchResult, IsSomeAnd, unwrap_or}
+-- What the values after an argument say: numbers, addresses and waits.
+use Rattle.std.proofs.Common.{◌≡◌, ◌⊎◌, ◌∙◌, ℕ, List, Option, Some, None, Result, Ok, Err, refl, sym, ap, subst, codes, inl, inr}
+use Rattle.std.specs.Prelude.{MatchResult, IfSome, IsSomeAnd, unwrap_or}
 use Rattle.std.specs.Str.Parse.{ParsesUnsigned}
 use Rattle.std.specs.declared.net.socket_addr.SocketAddrV4.{SocketAddrV4}
 use Rattle.std.specs.Net.Grammar.{IsSocketV4Text}
 use Rattle.std.proofs.NetLemmas.Theorems.{IsSocketV4Text_unique}
-use Rattle.clap.specs.Words.{Text}
+use Rattle.clap.specs.Words.{Row, Text, one_of}
 use Rattle.clap.specs.Matches.{TriesOne}
-use Rattle.escpos_arguments.specs.Arguments.{IsAddress, IsNumberOr}
+use Rattle.escpos_arguments.specs.Arguments.{AsksBy, InRange, IsAddress, IsNumberOr, IsWait}
+use Rattle.escpos_jobs.specs.declared.task.NoTask.{NoTask}
+use Rattle.escpos_jobs.specs.declared.task.NoTask.TheVariants.{Memory}
+use Rattle.escpos_jobs.specs.declared.task.Task.{Task}
+use Rattle.escpos_jobs.specs.declared.task.Task.TheVariants.{Check, CheckRaw, Render, RenderRaw, Encode, EncodeRaw, Play, Emulate, EmulateIn, Follow, Send, SendWithin, Status, Loop}
 use Rattle.escpos_arguments.specs.ClapAnswers.{IsNumber, IsNumberIn}
 
 -- what a typed getter gives for a number
@@ -51,3 +55,41 @@ number_in (Some t) n h = h
 
 pub address_unique : (text : Text) (a b : SocketAddrV4) → IsSocketV4Text text a → IsAddress text b → a ≡ b
 address_unique text a b h k = IsSocketV4Text_unique text a b h k.0
+
+-- Results of one call are one.
+pub one_result : {T E : Type 0} (r : Result T E) (x y : T) → r ≡ Ok x → r ≡ Ok y → x ≡ y
+one_result r x y e f = let same : Ok x ≡ Ok y = sym e ∙ f in cc
+
+pub no_error : {T E : Type 0} (r : Result T E) (x : T) (why : E) → r ≡ Ok x → r ≡ Err why → ⊥
+no_error r x why e f = let bad : Ok x ≡ Err why = sym e ∙ f in cc
+
+pub or_memory : {T : Type 0} (r : Result T NoTask) (x y : T) → r ≡ Ok x → (r ≡ Ok y) ⊎ (r ≡ Err Memory) → x ≡ y
+or_memory r x y e (inl f) = one_result r x y e f
+or_memory r x y e (inr f) = absurd (no_error r x Memory e f)
+
+pub only_memory : {T : Type 0} (r : Result T NoTask) (y : T) (why : NoTask) → r ≡ Err why → (r ≡ Ok y) ⊎ (r ≡ Err Memory) → why ≡ Memory
+only_memory r y why e (inl f) = absurd (no_error r y why f e)
+only_memory r y why e (inr f) = let same : Err why ≡ Err Memory = sym e ∙ f in cc
+
+-- A wait that `send` is asked for is taken.
+pub wait_of_send : (rows : List Row) (task : Task) (r : Result (Option ℕ) NoTask) (why : NoTask) → AsksBy (codes "send") rows task → InRange task → r ≡ Err why
+    → ((wait : Option ℕ) → IsNumberIn (one_of (codes "wait") rows) wait → IfSome wait IsWait → r ≡ Ok wait) → ⊥
+wait_of_send rows Check r why asks range is taken = absurd cc
+wait_of_send rows CheckRaw r why asks range is taken = let bad = asks.0 in absurd cc
+wait_of_send rows Render r why asks range is taken = absurd cc
+wait_of_send rows RenderRaw r why asks range is taken = let bad = asks.0 in absurd cc
+wait_of_send rows Encode r why asks range is taken = absurd cc
+wait_of_send rows EncodeRaw r why asks range is taken = let bad = asks.0 in absurd cc
+wait_of_send rows Play r why asks range is taken = absurd cc
+wait_of_send rows (Emulate address links) r why asks range is taken = let bad = asks.0 in absurd cc
+wait_of_send rows (EmulateIn address links condition) r why asks range is taken = let bad = asks.0 in absurd cc
+wait_of_send rows (Follow address condition) r why asks range is taken = let bad = asks.0 in absurd cc
+wait_of_send rows (Send address first openings) r why asks range is taken =
+    let (name, at, from, count, none) = asks in
+    no_error r None why (taken None (subst (λ o. IsNumberIn o None) (sym none) refl) tt) is
+wait_of_send rows (SendWithin address first openings wait) r why asks range is taken =
+    let (name, at, from, count, is_wait) = asks in
+    let (below, low, high, in_range) = range in
+    no_error r (Some wait) why (taken (Some wait) (number_in _ wait is_wait) in_range) is
+wait_of_send rows (Status address wait) r why asks range is taken = let bad = asks.0 in absurd cc
+wait_of_send rows Loop r why asks range is taken = absurd cc

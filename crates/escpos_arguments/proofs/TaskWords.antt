@@ -20,7 +20,7 @@ use Rattle.escpos_arguments.specs.ClapAnswers.{no_task_of}
 use Rattle.escpos_jobs.specs.declared.task.NoTask.{NoTask}
 use Rattle.escpos_jobs.specs.declared.task.NoTask.TheVariants.{Help, Memory}
 use Rattle.escpos_jobs.specs.declared.task.Task.{Task}
-use Rattle.escpos_jobs.specs.declared.task.Task.TheVariants.{Check, CheckRaw, Render, RenderRaw, Encode, EncodeRaw, Play, Emulate, Send, Loop}
+use Rattle.escpos_jobs.specs.declared.task.Task.TheVariants.{Check, CheckRaw, Render, RenderRaw, Encode, EncodeRaw, Play, Emulate, EmulateIn, Follow, Send, SendWithin, Status, Loop}
 use Rattle.std.proofs.lemmas.Slice.Eq.{bytes_eq-Decides}
 
 pub is_exact : is_simple_and_free command_words ≡ true
@@ -271,44 +271,46 @@ first_met word (name ∷ others) = if answers name word then Some name else firs
 
 -- the names of all subcommands
 abbrev own_names : List Text
-own_names = codes "check" ∷ codes "render" ∷ codes "encode" ∷ codes "play" ∷ codes "emulate" ∷ codes "send" ∷ codes "loop" ∷ codes "help" ∷ []
+own_names = codes "check" ∷ codes "render" ∷ codes "encode" ∷ codes "play" ∷ codes "emulate" ∷ codes "send" ∷ codes "status" ∷ codes "loop" ∷ codes "help" ∷ []
 
--- the same for the eight names, by which of them the argument is
-abbrev pub met_if : Bool → Bool → Bool → Bool → Bool → Bool → Bool → Bool → Option Text
-met_if c r e p m s l h =
-    if c then Some (codes "check") else (if r then Some (codes "render") else (if e then Some (codes "encode") else (if p then Some (codes "play") else (if m then Some (codes "emulate") else (if s then Some (codes "send") else (if l then Some (codes "loop") else (if h then Some (codes "help") else None)))))))
+-- the same for the nine names, by which of them the argument is
+abbrev pub met_if : Bool → Bool → Bool → Bool → Bool → Bool → Bool → Bool → Bool → Option Text
+met_if c r e p m s t l h =
+    if c then Some (codes "check") else (if r then Some (codes "render") else (if e then Some (codes "encode") else (if p then Some (codes "play") else (if m then Some (codes "emulate") else (if s then Some (codes "send") else (if t then Some (codes "status") else (if l then Some (codes "loop") else (if h then Some (codes "help") else None))))))))
 
-met_conds : (c r e p m s l h : Bool) → option_map (λ (s : Text × List Text). s.0)
-    (if c then Some (codes "check", []) else (if r then Some (codes "render", []) else (if e then Some (codes "encode", []) else (if p then Some (codes "play", []) else (if m then Some (codes "emulate", []) else (if s then Some (codes "send", []) else (if l then Some (codes "loop", []) else (if h then Some (codes "help", []) else None))))))))
-    ≡ met_if c r e p m s l h
-met_conds true r e p m s l h = refl
-met_conds false true e p m s l h = refl
-met_conds false false true p m s l h = refl
-met_conds false false false true m s l h = refl
-met_conds false false false false true s l h = refl
-met_conds false false false false false true l h = refl
-met_conds false false false false false false true h = refl
-met_conds false false false false false false false true = refl
-met_conds false false false false false false false false = refl
+met_conds : (c r e p m s t l h : Bool) → option_map (λ (s : Text × List Text). s.0)
+    (if c then Some (codes "check", []) else (if r then Some (codes "render", []) else (if e then Some (codes "encode", []) else (if p then Some (codes "play", []) else (if m then Some (codes "emulate", []) else (if s then Some (codes "send", []) else (if t then Some (codes "status", []) else (if l then Some (codes "loop", []) else (if h then Some (codes "help", []) else None)))))))))
+    ≡ met_if c r e p m s t l h
+met_conds true r e p m s t l h = refl
+met_conds false true e p m s t l h = refl
+met_conds false false true p m s t l h = refl
+met_conds false false false true m s t l h = refl
+met_conds false false false false true s t l h = refl
+met_conds false false false false false true t l h = refl
+met_conds false false false false false false true l h = refl
+met_conds false false false false false false false true h = refl
+met_conds false false false false false false false false true = refl
+met_conds false false false false false false false false false = refl
 
 met_word : (word : Text) → subcommand_met names idle word ≡ first_met word own_names
-met_word word = met_conds (answers (codes "check") word) (answers (codes "render") word) (answers (codes "encode") word) (answers (codes "play") word) (answers (codes "emulate") word) (answers (codes "send") word) (answers (codes "loop") word) (answers (codes "help") word)
+met_word word = met_conds (answers (codes "check") word) (answers (codes "render") word) (answers (codes "encode") word) (answers (codes "play") word) (answers (codes "emulate") word) (answers (codes "send") word) (answers (codes "status") word) (answers (codes "loop") word) (answers (codes "help") word)
 
 -- a name that is met is entered
-entered_if : (c r e p m s l h : Bool) → entered_name (met_if c r e p m s l h) ≡ met_if c r e p m s l h
+entered_if : (c r e p m s t l h : Bool) → entered_name (met_if c r e p m s t l h) ≡ met_if c r e p m s t l h
 unfolding clap_on_literals
-entered_if true r e p m s l h = refl
-entered_if false true e p m s l h = refl
-entered_if false false true p m s l h = refl
-entered_if false false false true m s l h = refl
-entered_if false false false false true s l h = refl
-entered_if false false false false false true l h = refl
-entered_if false false false false false false true h = refl
-entered_if false false false false false false false true = refl
-entered_if false false false false false false false false = refl
+entered_if true r e p m s t l h = refl
+entered_if false true e p m s t l h = refl
+entered_if false false true p m s t l h = refl
+entered_if false false false true m s t l h = refl
+entered_if false false false false true s t l h = refl
+entered_if false false false false false true t l h = refl
+entered_if false false false false false false true l h = refl
+entered_if false false false false false false false true h = refl
+entered_if false false false false false false false false true = refl
+entered_if false false false false false false false false false = refl
 
 entered_met : (word : Text) → entered_name (first_met word own_names) ≡ first_met word own_names
-entered_met word = entered_if (answers (codes "check") word) (answers (codes "render") word) (answers (codes "encode") word) (answers (codes "play") word) (answers (codes "emulate") word) (answers (codes "send") word) (answers (codes "loop") word) (answers (codes "help") word)
+entered_met word = entered_if (answers (codes "check") word) (answers (codes "render") word) (answers (codes "encode") word) (answers (codes "play") word) (answers (codes "emulate") word) (answers (codes "send") word) (answers (codes "status") word) (answers (codes "loop") word) (answers (codes "help") word)
 
 or_false : (b : Bool) → (b || false) ≡ true → b ≡ true
 or_false true e = refl
@@ -351,7 +353,11 @@ task_met Encode alone = encode_met
 task_met EncodeRaw alone = absurd alone
 task_met Play alone = play_met
 task_met (Emulate address links) alone = absurd alone
+task_met (EmulateIn address links condition) alone = absurd alone
+task_met (Follow address condition) alone = absurd alone
 task_met (Send address first openings) alone = absurd alone
+task_met (SendWithin address first openings wait) alone = absurd alone
+task_met (Status address wait) alone = absurd alone
 task_met Loop alone = loop_met
 
 pub task_passes : (task : Task) → IsPlain task → fault_of command_words (words_of task) ≡ []
@@ -363,7 +369,11 @@ task_passes Encode alone = encode_passes
 task_passes EncodeRaw alone = absurd alone
 task_passes Play alone = play_passes
 task_passes (Emulate address links) alone = absurd alone
+task_passes (EmulateIn address links condition) alone = absurd alone
+task_passes (Follow address condition) alone = absurd alone
 task_passes (Send address first openings) alone = absurd alone
+task_passes (SendWithin address first openings wait) alone = absurd alone
+task_passes (Status address wait) alone = absurd alone
 task_passes Loop alone = loop_passes
 
 -- a task without values is asked for by its name
@@ -376,7 +386,11 @@ plain_name Encode name rows alone asks = asks
 plain_name EncodeRaw name rows alone asks = absurd alone
 plain_name Play name rows alone asks = asks
 plain_name (Emulate address links) name rows alone asks = absurd alone
+plain_name (EmulateIn address links condition) name rows alone asks = absurd alone
+plain_name (Follow address condition) name rows alone asks = absurd alone
 plain_name (Send address first openings) name rows alone asks = absurd alone
+plain_name (SendWithin address first openings wait) name rows alone asks = absurd alone
+plain_name (Status address wait) name rows alone asks = absurd alone
 plain_name Loop name rows alone asks = asks
 
 -- ---- the flag of a task without values
@@ -423,7 +437,11 @@ no_flag Encode alone o e = some_other o (e ∙ encode_flag)
 no_flag EncodeRaw alone o e = absurd alone
 no_flag Play alone o e = none_other o (e ∙ play_flag)
 no_flag (Emulate address links) alone o e = absurd alone
+no_flag (EmulateIn address links condition) alone o e = absurd alone
+no_flag (Follow address condition) alone o e = absurd alone
 no_flag (Send address first openings) alone o e = absurd alone
+no_flag (SendWithin address first openings wait) alone o e = absurd alone
+no_flag (Status address wait) alone o e = absurd alone
 no_flag Loop alone o e = none_other o (e ∙ loop_flag)
 
 -- the arguments of a task without values have no such flag
