@@ -1,6 +1,6 @@
 -- What the values after an argument say: numbers, addresses and waits.
-use Rattle.std.proofs.Common.{◌≡◌, ◌⊎◌, ◌∙◌, ℕ, List, Option, Some, None, Result, Ok, Err, refl, sym, ap, subst, codes, inl, inr}
-use Rattle.std.specs.Prelude.{MatchResult, IfSome, IsSomeAnd, unwrap_or}
+use Rattle.std.proofs.Common.{◌≡◌, ◌⊎◌, ◌∙◌, ℕ, List, Option, Some, None, Result, Ok, Err, refl, sym, ap, subst, codes, inl, inr, arith}
+use Rattle.std.specs.Prelude.{MatchResult, IfSome, IsSomeAnd, get_or, unwrap_or}
 use Rattle.std.specs.Str.Parse.{ParsesUnsigned}
 use Rattle.std.specs.declared.net.socket_addr.SocketAddrV4.{SocketAddrV4}
 use Rattle.std.specs.Net.Grammar.{IsSocketV4Text}
@@ -71,16 +71,19 @@ pub only_memory : {T : Type 0} (r : Result T NoTask) (y : T) (why : NoTask) → 
 only_memory r y why e (inl f) = absurd (no_error r y why f e)
 only_memory r y why e (inr f) = let same : Err why ≡ Err Memory = sym e ∙ f in cc
 
+abbrev head : List ℕ → ℕ
+head bytes = get_or bytes 0 0
+
 -- A wait that `send` is asked for is taken.
 pub wait_of_send : (rows : List Row) (task : Task) (r : Result (Option ℕ) NoTask) (why : NoTask) → AsksBy (codes "send") rows task → InRange task → r ≡ Err why
     → ((wait : Option ℕ) → IsNumberIn (one_of (codes "wait") rows) wait → IfSome wait IsWait → r ≡ Ok wait) → ⊥
-wait_of_send rows Check r why asks range is taken = absurd cc
+wait_of_send rows Check r why asks range is taken = let e = ap head asks in absurd (omega (arith, e))
 wait_of_send rows CheckRaw r why asks range is taken = let bad = asks.0 in absurd cc
-wait_of_send rows Render r why asks range is taken = absurd cc
+wait_of_send rows Render r why asks range is taken = let e = ap head asks in absurd (omega (arith, e))
 wait_of_send rows RenderRaw r why asks range is taken = let bad = asks.0 in absurd cc
-wait_of_send rows Encode r why asks range is taken = absurd cc
+wait_of_send rows Encode r why asks range is taken = let e = ap head asks in absurd (omega (arith, e))
 wait_of_send rows EncodeRaw r why asks range is taken = let bad = asks.0 in absurd cc
-wait_of_send rows Play r why asks range is taken = absurd cc
+wait_of_send rows Play r why asks range is taken = let e = ap head asks in absurd (omega (arith, e))
 wait_of_send rows (Emulate address links) r why asks range is taken = let bad = asks.0 in absurd cc
 wait_of_send rows (EmulateIn address links condition) r why asks range is taken = let bad = asks.0 in absurd cc
 wait_of_send rows (Follow address condition) r why asks range is taken = let bad = asks.0 in absurd cc
@@ -92,4 +95,4 @@ wait_of_send rows (SendWithin address first openings wait) r why asks range is t
     let (below, low, high, in_range) = range in
     no_error r (Some wait) why (taken (Some wait) (number_in _ wait is_wait) in_range) is
 wait_of_send rows (Status address wait) r why asks range is taken = let bad = asks.0 in absurd cc
-wait_of_send rows Loop r why asks range is taken = absurd cc
+wait_of_send rows Loop r why asks range is taken = let e = ap head asks in absurd (omega (arith, e))

@@ -41,7 +41,7 @@ taken_wait rows (DeliverWithin ledger d wait) r why asks range is taken =
 taken_wait rows (listing ledger first) r why asks range is taken = let bad = asks.0 in absurd cc
 
 -- The task with the values that were read.
-pub delivery_task : List ℕ → Delivery → Option ℕ → TillTask
+abbrev pub delivery_task : List ℕ → Delivery → Option ℕ → TillTask
 delivery_task ledger d None = Deliver ledger d
 delivery_task ledger d (Some wait) = DeliverWithin ledger d wait
 
