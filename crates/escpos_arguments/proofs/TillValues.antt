@@ -5,7 +5,7 @@ use Rattle.clap.specs.Words.{Row, first_of, one_of}
 use Rattle.escpos_arguments.specs.declared.arguments.TheConstants.{OPENINGS, MOST_OPENINGS}
 use Rattle.escpos_arguments.specs.Arguments.{IsAddress, IsNumberOr, IsWait}
 use Rattle.escpos_arguments.specs.ClapAnswers.{IsNumberIn}
-use Rattle.escpos_arguments.proofs.TaskValues.{no_error, number_in, one_result, only_memory}
+use Rattle.escpos_arguments.proofs.TaskValues.{no_error, number_in, only_memory}
 use Rattle.escpos_arguments.specs.TillArguments.{AsksTillBy, IsTillInRange}
 use Rattle.escpos_till.specs.Copy.{IsCopyText}
 use Rattle.std.specs.declared.net.socket_addr.SocketAddrV4.{SocketAddrV4}

@@ -257,12 +257,11 @@ pub(crate) fn wait_given(given: &ArgMatches) -> Result<Option<u32>, NoTask>
     ensures usage { IfErr result (λ why. why ≡ NoTask.Usage) }
 {
     match number_given(given, "wait")? {
-        Some(seconds) =>
-            if 1 <= seconds && seconds <= MOST_WAIT {
-                Ok(Some(seconds))
-            } else {
-                Err(NoTask::Usage)
-            },
+        Some(seconds) => if 1 <= seconds && seconds <= MOST_WAIT {
+            Ok(Some(seconds))
+        } else {
+            Err(NoTask::Usage)
+        },
         None => Ok(None),
     }
 }

@@ -9,7 +9,8 @@ ghost use Rattle.escpos_arguments.specs.ClapAnswers.{IsNumberIn};
 ghost use Rattle.escpos_arguments.specs.TillArguments.{AsksTill, AsksTillBy, IsTillInRange, deliver_words, ledger_rule, ledger_words, queue_words, till_names, till_words};
 
 use crate::arguments::{
-    MOST_OPENINGS, OPENINGS, address, address_of, count_of, no_task, number_given, option, wait_given,
+    MOST_OPENINGS, OPENINGS, address, address_of, count_of, no_task, number_given, option,
+    wait_given,
 };
 use clap::error::ErrorKind;
 use clap::{Arg, ArgAction, ArgMatches, Command};

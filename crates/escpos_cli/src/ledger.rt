@@ -26,13 +26,21 @@ pub fn perform_till<S: Start, R: ByteIn, W: ByteOut>(
 ) -> Status {
     match task {
         TillTask::Queue { ledger } => queue(rt, start, &ledger, input, output),
-        TillTask::Deliver { ledger, delivery } =>
-            deliver(rt, rt, start, &ledger, &delivery, output),
+        TillTask::Deliver { ledger, delivery } => deliver(
+            rt, rt, start, &ledger, &delivery, output,
+        ),
         TillTask::DeliverWithin {
             ledger,
             delivery,
             wait,
-        } => deliver(rt, &Within::new(rt, wait), start, &ledger, &delivery, output),
+        } => deliver(
+            rt,
+            &Within::new(rt, wait),
+            start,
+            &ledger,
+            &delivery,
+            output,
+        ),
         TillTask::List { ledger, first } => list_ledger(rt, start, &ledger, first, output),
     }
 }

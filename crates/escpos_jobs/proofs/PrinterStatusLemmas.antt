@@ -1,5 +1,5 @@
 -- Asking for a status: answers of marks before a status byte, and the four bytes.
-use Rattle.std.proofs.Common.{◌≡◌, ◌∙◌, ◌++◌, ◌∷◌, [], ℕ, List, IsTrue, refl, sym, ap, ap₂, append_assoc, append-nil, Result, Ok, Err, Option, inl, inr, length, take, drop, ◌≤◌, ◌<◌, arith}
+use Rattle.std.proofs.Common.{◌≡◌, ◌∙◌, ◌++◌, ◌∷◌, [], ℕ, List, IsTrue, refl, sym, ap, ap₂, append_assoc, append-nil, Result, Ok, Err, Option, inl, inr, length, take, drop, ◌≤◌, arith}
 use Rattle.std.specs.Prelude.{OnErr, get_or}
 use Rattle.std.specs.List.{AllByRecursion}
 use Rattle.std.proofs.lemmas.List.{take-append-drop, take_more}

@@ -27,7 +27,7 @@ status_text s =
     (if has_bit s.printer 3 then codes "offline\n" else codes "online\n")
     ++ (if has_bit s.offline 2 then codes "cover open\n" else codes "cover closed\n")
     ++ (if has_bit s.paper 5 || has_bit s.paper 6 then codes "paper ended\n"
-        else if has_bit s.paper 2 || has_bit s.paper 3 then codes "paper near its end\n" else codes "paper there\n")
+    else if has_bit s.paper 2 || has_bit s.paper 3 then codes "paper near its end\n" else codes "paper there\n")
 
 abbrev pub no_status_line : SendFault → List ℕ
 no_status_line why = codes "no status " ++ fault_name why ++ LF ∷ []

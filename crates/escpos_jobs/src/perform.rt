@@ -75,8 +75,9 @@ pub fn perform<N: Net<Stream = TcpStream, Listener = TcpListener>, R: ByteIn, W:
         Ok(Task::Encode) => encode(alloc, input, output),
         Ok(Task::EncodeRaw) => encode_raw(alloc, input, output),
         Ok(Task::Play) => play(alloc, input, output),
-        Ok(Task::Emulate { address, links }) =>
-            emulate_in(net, alloc, address, links, ONLINE, output),
+        Ok(Task::Emulate { address, links }) => emulate_in(
+            net, alloc, address, links, ONLINE, output,
+        ),
         Ok(
             Task::EmulateIn {
                 address,
@@ -84,8 +85,7 @@ pub fn perform<N: Net<Stream = TcpStream, Listener = TcpListener>, R: ByteIn, W:
                 condition,
             },
         ) => emulate_in(net, alloc, address, links, condition, output),
-        Ok(Task::Follow { address, condition }) =>
-            follow(net, alloc, address, condition, output),
+        Ok(Task::Follow { address, condition }) => follow(net, alloc, address, condition, output),
         Ok(
             Task::Send {
                 address,
@@ -100,7 +100,15 @@ pub fn perform<N: Net<Stream = TcpStream, Listener = TcpListener>, R: ByteIn, W:
                 openings,
                 wait,
             },
-        ) => send_to(&Within::new(net, wait), alloc, address, first, openings, input, output),
+        ) => send_to(
+            &Within::new(net, wait),
+            alloc,
+            address,
+            first,
+            openings,
+            input,
+            output,
+        ),
         Ok(
             Task::Status {
                 address,

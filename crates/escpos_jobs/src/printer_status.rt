@@ -65,7 +65,11 @@ fn status_on<W: ByteOut>(stream: &TcpStream, output: &mut W) -> Status
 {
     // the requests go out at once; a stream that can't do so is used as it is
     let _ = stream.set_nodelay(true);
-    status_over(&mut Incoming::new(stream), &mut Outgoing::new(stream), output)
+    status_over(
+        &mut Incoming::new(stream),
+        &mut Outgoing::new(stream),
+        output,
+    )
 }
 
 /// Asks a printer for its status and prints three lines: `online` or `offline`; `cover closed` or `cover open`; and `paper

@@ -284,7 +284,13 @@ const NO_STATUS_ARGUMENTS: [&'static [&'static str]; 9] = [
 #[test]
 fn version_is_asked_for_alone(rt: HostRuntime) {
     assert!(&rt; asks_version(&["--version"]));
-    for words in [[].as_slice(), &["version"], &["-V"], &["--version", "x"], &["check", "--version"]] {
+    for words in [
+        [].as_slice(),
+        &["version"],
+        &["-V"],
+        &["--version", "x"],
+        &["check", "--version"],
+    ] {
         assert!(&rt; !asks_version(words));
     }
 }

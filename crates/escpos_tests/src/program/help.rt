@@ -158,7 +158,11 @@ fn says_help(rt: &impl Abort, word: &str, wanted: &str) {
     let mut room = [0; 32768];
     let mut output = MemoryOut::new(&mut room);
     let ended = say_help(word, &mut output);
-    is_outcome(rt, (output.written(), ended), (wanted.as_bytes(), Status::Good));
+    is_outcome(
+        rt,
+        (output.written(), ended),
+        (wanted.as_bytes(), Status::Good),
+    );
     let mut few = [0; 3];
     let mut output = MemoryOut::new(&mut few);
     assert!(rt; say_help(word, &mut output) == Status::Device);
@@ -171,7 +175,9 @@ fn help_on_each_word(rt: HostRuntime) {
         "check", "render", "encode", "play", "emulate", "send", "status", "loop", "queue",
         "deliver", "ledger", "help",
     ];
-    let mut rest = HELP.find("  escpos_cli check").expect(&rt, "the first part");
+    let mut rest = HELP
+        .find("  escpos_cli check")
+        .expect(&rt, "the first part");
     for place in 0..words.len() {
         let next = match words.get(place + 1) {
             Some(word) => next_part(&rt, rt.alloc(), word),

@@ -287,7 +287,11 @@ fn many_links(rt: HostRuntime) {
 fn emulated_condition(rt: HostRuntime) {
     let (listener, address) = listens(&rt);
     let mut client = TcpStream::connect(&rt, address).expect(&rt, "no link");
-    says(&rt, &mut client, b"\x10\x04\x01\x10\x04\x02\x10\x04\x04Hi\n");
+    says(
+        &rt,
+        &mut client,
+        b"\x10\x04\x01\x10\x04\x02\x10\x04\x04Hi\n",
+    );
     let condition = Condition {
         cover_open: true,
         near_end: true,
@@ -331,7 +335,14 @@ fn follows(
     let mut reader = MemoryIn::new(bytes, 12);
     let mut writer = MemoryOut::new(&mut room);
     let mut output = MemoryOut::new(&mut printed);
-    let served = follow_link(alloc, printer, number, &mut reader, &mut writer, &mut output);
+    let served = follow_link(
+        alloc,
+        printer,
+        number,
+        &mut reader,
+        &mut writer,
+        &mut output,
+    );
     assert!(rt; served.is_ok());
     assert!(rt; output.written() == text.as_bytes());
     assert!(rt; printer.items().is_empty());
@@ -342,12 +353,28 @@ fn follows(
 fn followed_link_by_link(rt: HostRuntime) {
     let mut printer = Printer::new(rt.alloc(), ONLINE).expect(&rt, "memory");
     let rows = [
-        (1, b"A\nB".as_slice(), "link 1 read 3 consumed 3 written 0 Ended\nrow left A\nfeed 1\n"),
-        (2, b"C\n", "link 2 read 2 consumed 2 written 0 Ended\nrow left BC\nfeed 1\n"),
+        (
+            1,
+            b"A\nB".as_slice(),
+            "link 1 read 3 consumed 3 written 0 Ended\nrow left A\nfeed 1\n",
+        ),
+        (
+            2,
+            b"C\n",
+            "link 2 read 2 consumed 2 written 0 Ended\nrow left BC\nfeed 1\n",
+        ),
         (3, b"", "link 3 read 0 consumed 0 written 0 Ended\n"),
-        (4, b"\x1B@\x10\x04\x01", "link 4 read 5 consumed 5 written 1 Ended\n"),
+        (
+            4,
+            b"\x1B@\x10\x04\x01",
+            "link 4 read 5 consumed 5 written 1 Ended\n",
+        ),
         (5, b"D\x07", "link 5 read 2 consumed 1 written 0 Fault\n"),
-        (6, b"\n", "link 6 read 1 consumed 1 written 0 Ended\nrow left D\nfeed 1\n"),
+        (
+            6,
+            b"\n",
+            "link 6 read 1 consumed 1 written 0 Ended\nrow left D\nfeed 1\n",
+        ),
     ];
     for (number, bytes, text) in rows {
         follows(&rt, rt.alloc(), (&mut printer, number), bytes, text);

@@ -67,21 +67,37 @@ const TOLD: [(&'static [u8], &'static str, Status); 17] = [
         Status::Good,
     ),
     // status_after_marks
-    (b"\x37\x220000\x00\x37\x22ZZZZ\x00\x12\x12\x12\x12", ONLINE, Status::Good),
+    (
+        b"\x37\x220000\x00\x37\x22ZZZZ\x00\x12\x12\x12\x12",
+        ONLINE,
+        Status::Good,
+    ),
     // status_between_marks
-    (b"\x12\x37\x220000\x00\x12\x12\x37\x220001\x00\x12", ONLINE, Status::Good),
+    (
+        b"\x12\x37\x220000\x00\x12\x12\x37\x220001\x00\x12",
+        ONLINE,
+        Status::Good,
+    ),
     // status_more_than_four
     (b"\x12\x12\x12\x12\x7E\xFF", ONLINE, Status::Good),
     // status_ended
     (b"\x12\x12\x12", "no status Ended\n", Status::Device),
     // status_ended_in_a_mark
-    (b"\x12\x12\x12\x37\x2200", "no status Ended\n", Status::Device),
+    (
+        b"\x12\x12\x12\x37\x2200",
+        "no status Ended\n",
+        Status::Device,
+    ),
     // status_no_answer
     (b"", "no status Ended\n", Status::Device),
     // status_bad_answer
     (b"\x12\xFF\x12\x12", "no status BadAnswer\n", Status::Device),
     // status_bad_mark
-    (b"\x12\x37\x22000 \x12", "no status BadAnswer\n", Status::Device),
+    (
+        b"\x12\x37\x22000 \x12",
+        "no status BadAnswer\n",
+        Status::Device,
+    ),
 ];
 
 // A printer answers so, with reads and writes that fail from these calls on, and this is printed.
@@ -117,7 +133,12 @@ fn status_that_is_not_told(rt: HostRuntime) {
     tells(&rt, (four, 4, NEVER), read);
     let write = ("no status WriteFault\n", Status::Device);
     tells(&rt, (four, NEVER, 1), write);
-    let marks = joined(&rt, rt.alloc(), ["7\"0000\x00", "7\"0001\x00", "7\"0002\x00"], 800);
+    let marks = joined(
+        &rt,
+        rt.alloc(),
+        ["7\"0000\x00", "7\"0001\x00", "7\"0002\x00"],
+        2_400,
+    );
     let long = ("no status TooLong\n", Status::Device);
     tells(&rt, (marks.as_slice(), NEVER, NEVER), long);
 }

@@ -2,7 +2,6 @@
 use Rattle.std.proofs.Common.{◌≡◌, ◌∙◌, Some, None, Ok, ap, sym, codes}
 use Rattle.clap.specs.Words.{found_of}
 use Rattle.clap.proofs.WalkLemmas.{first_value-rows}
-use Rattle.escpos_printer.specs.declared.condition.Condition.{Condition}
 use Rattle.escpos_jobs.specs.Conditions.{condition_text}
 use Rattle.escpos_arguments.proofs.arguments.condition_given.Goals as goal
 

@@ -1,4 +1,4 @@
-use Rattle.std.proofs.Common.{◌≡◌, ◌∙◌, Ok, Err, Some, None, Option, ℕ, ap, inl, inr}
+use Rattle.std.proofs.Common.{◌∙◌, Ok, Err, Some, None, ap, inl, inr}
 use Rattle.clap.specs.Words.{found_of, rows_of}
 use Rattle.escpos_arguments.proofs.TaskValues.{one_result, or_memory}
 use Rattle.escpos_arguments.proofs.TillValues.{taken_address, taken_task, taken_wait}

@@ -1,12 +1,11 @@
 -- What the link printed is what was torn off and what still stands on the paper.
-use Rattle.std.proofs.Common.{◌≡◌, ◌∙◌, ◌++◌, [], refl, sym, ap, subst}
+use Rattle.std.proofs.Common.{◌∙◌, ◌++◌, sym, ap, subst}
 use Rattle.std.proofs.lemmas.Grind.{flat_map-append}
 use Rattle.std.specs.Io.KnownBytes.{Appends}
 use Rattle.std.proofs.KnownBytes.{Appends-trans}
 use Rattle.escpos_paper.specs.ItemsText.{item_text, items_text}
 use Rattle.escpos_printer.specs.LinkInParts.{under}
 use Rattle.escpos_printer.specs.Serves.{Serves, link}
-use Rattle.escpos_jobs.specs.Links.{link_line, torn}
 use Rattle.escpos_jobs.specs.declared.emulate.TheConstants.{LINK_LIMIT}
 use Rattle.escpos_jobs.proofs.emulate.follow_link.Goals as goal
 

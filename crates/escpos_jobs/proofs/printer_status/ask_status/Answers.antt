@@ -1,6 +1,5 @@
 -- The requests go out, and four status bytes come.
 use Rattle.escpos_jobs.proofs.PrinterStatusLemmas.{all_begun, all_told, begun, both_read, on_err}
-use Rattle.escpos_jobs.proofs.printer_status.ask_status.Given as given
 use Rattle.escpos_jobs.proofs.printer_status.ask_status.Goals as goal
 
 pub returns-in-Err-clause-begun : goal.returns-in-Err-clause-begun

@@ -1,5 +1,4 @@
 -- What the printer says, or why it doesn't, is printed.
-use Rattle.std.proofs.Common.{[], sym, append-nil, inl, inr}
 use Rattle.escpos_jobs.proofs.PrinterStatusLemmas.{asked, asked_in_vain}
 use Rattle.escpos_jobs.proofs.printer_status.status_over.Goals as goal
 

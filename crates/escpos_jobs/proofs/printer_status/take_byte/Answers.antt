@@ -1,5 +1,5 @@
 -- A byte completes an answer, or is one more of it.
-use Rattle.std.proofs.Common.{◌≡◌, ◌∙◌, ◌++◌, ◌∷◌, [], ℕ, List, Ok, Some, append-nil, refl, sym, ap, subst}
+use Rattle.std.proofs.Common.{◌≡◌, ◌∙◌, ◌++◌, ◌∷◌, [], ℕ, List, append-nil, sym, ap, subst}
 use Rattle.escpos_command.specs.declared.answer.Answer.TheVariants as answer
 use Rattle.escpos_command.specs.Answers.{AnswerSpells}
 use Rattle.escpos_jobs.proofs.PrinterStatusLemmas.{no_marks, one_mark}
