@@ -70,8 +70,8 @@ pub fn emulate<N: Net<Stream = TcpStream, Listener = TcpListener>, W: ByteOut>(
     emulate_in(net, alloc, address, links, ONLINE, output)
 }
 
-/// The same as a printer whose sensors say this.
-pub fn emulate_in<N: Net<Stream = TcpStream, Listener = TcpListener>, W: ByteOut>(
+// The same as a printer whose sensors say this.
+pub(crate) fn emulate_in<N: Net<Stream = TcpStream, Listener = TcpListener>, W: ByteOut>(
     net: &N,
     alloc: Global,
     address: SocketAddrV4,
@@ -106,8 +106,8 @@ pub fn emulate_on<W: ByteOut>(
     emulate_in_on(alloc, listener, links, ONLINE, output)
 }
 
-/// The same as a printer whose sensors say this.
-pub fn emulate_in_on<W: ByteOut>(
+// The same as a printer whose sensors say this.
+fn emulate_in_on<W: ByteOut>(
     alloc: Global,
     listener: &TcpListener,
     links: u32,
@@ -156,8 +156,8 @@ fn serve_links<W: ByteOut>(
     Status::Good
 }
 
-/// Listens at `address`, and serves links as `follow_on` does. The status is also `Device` if it can't listen.
-pub fn follow<N: Net<Stream = TcpStream, Listener = TcpListener>, W: ByteOut>(
+// Listens at `address`, and serves links as `follow_on` does. The status is also `Device` if it can't listen.
+pub(crate) fn follow<N: Net<Stream = TcpStream, Listener = TcpListener>, W: ByteOut>(
     net: &N,
     alloc: Global,
     address: SocketAddrV4,

@@ -235,6 +235,26 @@ fn sent_again_as_a_copy(rt: HostRuntime) {
     is_sent_again(&rt, rt.alloc(), &mut ledger);
 }
 
+// However often a receipt was tried, it is sent once more.
+fn is_sent_after_twelve_tries(rt: &impl Abort, alloc: Global, ledger: &mut Ledger<MemoryStore>) {
+    queues(rt, alloc, ledger, S, ("queued 1\n", Status::Good));
+    for first in 0..12 {
+        assert!(rt; ledger.tried(number(rt, 1), 1) == Ok(first));
+    }
+    let tried = ("1 tried 12\nnext 12\n", Status::Good);
+    lists(rt, ledger, None, tried);
+    let marks = b"\x1D(H\x06\x0000000C\x1D(H\x06\x0000000D";
+    let ended = ("waiting 1 Ended\n", Err(Status::Device));
+    delivers_over_memory(rt, alloc, ledger, (b"", marks), ended);
+    lists(rt, ledger, None, ("1 tried 13\nnext 15\n", Status::Good));
+}
+
+#[test]
+fn sent_after_twelve_tries(rt: HostRuntime) {
+    let mut ledger = new_ledger(&rt, rt.alloc(), Failure::Never);
+    is_sent_after_twelve_tries(&rt, rt.alloc(), &mut ledger);
+}
+
 // An output that fails is a device that fails; what was taken is taken.
 fn output_fails(rt: &impl Abort, alloc: Global, ledger: &mut Ledger<MemoryStore>) {
     let mut room = [0; 64];

@@ -7,6 +7,7 @@ use crate::support::refusals::{is_told, printer_at_last, receipt_at_last};
 use crate::support::sockets::{Prepared, answered_link, connects_and_says, listens};
 use escpos_host::Receipt;
 use escpos_io::{MemoryIn, MemoryOut};
+use escpos_jobs::emulate::ONLINE;
 use escpos_jobs::ending::MEMORY;
 use escpos_jobs::paper_text::PaperText;
 use escpos_jobs::send::Marks;
@@ -77,6 +78,65 @@ fn serve_and_tell_refused(rt: HostRuntime) {
         let mut printer = printer_at_last(&rt, rt.alloc());
         let mut paper = PaperText::new(rt.alloc());
         assert!(&rt; serves_and_tells(&rt, &mut printer, &mut paper));
+    }
+}
+
+// A link is followed over memory. Answers no where memory is refused. What it printed is put all the same.
+fn follows_link(rt: &impl Abort, alloc: Global, printer: &mut Printer) -> bool {
+    let (mut room, mut printed) = ([0; 4], [0; 256]);
+    let mut reader = MemoryIn::new(EMULATED_BYTES, 512);
+    let mut writer = MemoryOut::new(&mut room);
+    let mut output = MemoryOut::new(&mut printed);
+    let served = escpos_jobs::emulate::follow_link(
+        alloc,
+        printer,
+        1,
+        &mut reader,
+        &mut writer,
+        &mut output,
+    );
+    let served = served.expect(rt, "a line");
+    assert!(rt; printer.items().is_empty());
+    if served.end == LinkEnd::Memory {
+        assert!(rt; served.consumed < EMULATED_BYTES.len());
+        assert!(rt; output.written().starts_with(b"link 1 read 27 consumed "));
+        return false;
+    }
+    assert!(rt; output.written() == EMULATED_LINK);
+    true
+}
+
+#[test]
+fn follow_link_refused(rt: HostRuntime) {
+    let mut printer = printer_at_last(&rt, rt.alloc());
+    if !follows_link(&rt, rt.alloc(), &mut printer) {
+        let mut printer = printer_at_last(&rt, rt.alloc());
+        assert!(&rt; follows_link(&rt, rt.alloc(), &mut printer));
+    }
+}
+
+// Links are followed up to the first that can't be accepted. Answers no where memory is refused: the last line says so.
+fn follows_on(rt: &impl Abort, alloc: Global, listener: &TcpListener) -> bool {
+    let mut room = [0; 256];
+    let mut output = MemoryOut::new(&mut room);
+    let status = escpos_jobs::emulate::follow_on(alloc, listener, ONLINE, &mut output);
+    if status == Status::Memory {
+        assert!(rt; output.written().ends_with(MEMORY));
+        return false;
+    }
+    assert!(rt; output.written() == EMULATED_LINK);
+    assert!(rt; status == Status::Device);
+    true
+}
+
+#[test]
+fn follow_on_refused(rt: HostRuntime) {
+    let (listener, address) = listens(&rt);
+    let _first = client_of_link(&rt, address);
+    listener.set_nonblocking(true).expect(&rt, "can't set");
+    if !follows_on(&rt, rt.alloc(), &listener) {
+        let _second = client_of_link(&rt, address);
+        assert!(&rt; follows_on(&rt, rt.alloc(), &listener));
     }
 }
 

@@ -1,14 +1,15 @@
 //! The job `emulate`, and a link of it over memory.
 
-use crate::support::jobs::is_outcome;
-use crate::support::sockets::{NEVER, connects_and_says, listens, one_waits, reads_to_end, says};
+use crate::support::jobs::{is_outcome, run_job};
+use crate::support::sockets::{
+    NEVER, Prepared, connects_and_says, listens, one_waits, reads_to_end, says,
+};
 use crate::support::texts::joined;
 use escpos_io::{MemoryIn, MemoryOut};
-use escpos_jobs::emulate::{
-    ONLINE, emulate, emulate_in_on, emulate_on, follow_link, follow_on, serve_and_tell,
-};
+use escpos_jobs::emulate::{ONLINE, emulate, emulate_on, follow_link, follow_on, serve_and_tell};
 use escpos_jobs::paper_text::PaperText;
 use escpos_jobs::status::Status;
+use escpos_jobs::task::Task;
 use escpos_printer::{Condition, Printer};
 use std::alloc::Global;
 use std::io::Write;
@@ -297,9 +298,20 @@ fn emulated_condition(rt: HostRuntime) {
         near_end: true,
         paper_end: false,
     };
+    let net = Prepared {
+        address,
+        listener: &listener,
+        client: &client,
+    };
+    let task = Task::EmulateIn {
+        address,
+        links: 1,
+        condition,
+    };
     let mut room = [0; 128];
+    let mut source = MemoryIn::new(b"", 1);
     let mut output = MemoryOut::new(&mut room);
-    let ended = emulate_in_on(rt.alloc(), &listener, 1, condition, &mut output);
+    let ended = run_job(&net, rt.alloc(), Ok(task), &mut source, &mut output);
     let line = b"link 1 read 12 consumed 9 written 3 Offline\n".as_slice();
     is_outcome(&rt, (output.written(), ended), (line, Status::Good));
     reads_to_end(&rt, &mut client, b"\x1A\x16\x1E");
