@@ -14,8 +14,8 @@ use std::io::Read;
 
 /// A source over a standard reader, such as a socket or standard input.
 ///
-/// Any error of the reader, an interruption too, is a failure; one of the kinds `WouldBlock` and `TimedOut` is a time-out. After a failure, and after the end, the reader is
-/// never called again.
+/// Any error of the reader, an interruption too, is a failure; one of the kinds `WouldBlock` and `TimedOut` is a time-out.
+/// After a failure, and after the end, the reader is never called again.
 #[derive(Drop)]
 pub struct Incoming<R: Read> {
     reader: R,

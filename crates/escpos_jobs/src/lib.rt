@@ -1,12 +1,12 @@
 //! What the program does, over any source, sink and network: a job for each task. escpos_arguments reads the command line.
 //!
 //! `task` has what may be asked for, and `perform` does it; `usage` has the texts of usage and help. `check`, `render`,
-//! `encode` and `play` are the jobs over any source and sink, and `emulate`, `send`, `printer_status` and
-//! `loop_link` those over TCP; over the network of `wait` no wait lasts longer than a given time. `job`
-//! has what `check` and `render` share, `script` reads the lines of a script and `script_output` has those that `play`
-//! prints, `lines` has the lines of a listing, `notes` the note on a wrong check digit, and `paper_text` keeps the paper of
-//! `emulate`. `input`, `hexadecimal` and `receipt_input` read the input, `byte_form` has the two forms in which `encode` writes, `refusal` has the line that refuses a receipt,
-//! `ending` the line that a job prints in place of everything else, and `status` the exit status of the program.
+//! `encode` and `play` are the jobs over any source and sink, and `emulate`, `send`, `printer_status` and `loop_link` those
+//! over TCP; over the network of `wait` no wait lasts longer than a given time. `job` has what `check` and `render` share,
+//! `script` reads the lines of a script and `script_output` has those that `play` prints, `lines` has the lines of a listing,
+//! `notes` the note on a wrong check digit, and `paper_text` keeps the paper of `emulate`. `input`, `hexadecimal` and
+//! `receipt_input` read the input, `byte_form` has the two forms in which `encode` writes, `refusal` has the line that refuses
+//! a receipt, `ending` the line that a job prints in place of everything else, and `status` the exit status of the program.
 #![tactic(auto)]
 
 mod byte_form;
