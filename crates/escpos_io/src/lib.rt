@@ -2,10 +2,10 @@
 //!
 //! `device` has the two traits that every core of this repository is written over, and says what they promise.
 //! `incoming` and `outgoing` are the devices of a program, standard readers and writers; `memory_in` and
-//! `memory_out` are slices, for tests; `source` has the state that the two sources share, and `cause` why a device fails. `reading` and `putting` move a
-//! whole run of bytes, `gather` joins small pieces to large ones, `pieces` puts a list of values, each as its bytes,
-//! `hexadecimal` puts bytes as digits, and `numbers` appends a number as text. `laws` has what follows for a gather.
-//! Nothing here knows a command.
+//! `memory_out` are slices, for tests; `source` has the state that the two sources share, and `cause` why a device fails.
+//! `reading` and `putting` move a whole run of bytes, `gather` joins small pieces to large ones, `pieces` puts a list of
+//! values, each as its bytes, `hexadecimal` puts bytes as digits, and `numbers` appends a number as text. `laws` has what
+//! follows for a gather. Nothing here knows a command.
 #![tactic(auto)]
 
 mod cause;

@@ -14,7 +14,8 @@ use std::io::Write;
 /// A sink over a standard writer, such as a socket or standard output.
 ///
 /// Any error of the writer, an interruption too, is a failure, and so is a write that takes no byte of a piece that isn't
-/// empty; an error of the kinds `WouldBlock` and `TimedOut` is a time-out. After a failure the writer is never called again. Nothing is flushed.
+/// empty; an error of the kinds `WouldBlock` and `TimedOut` is a time-out. After a failure the writer is never called again.
+/// Nothing is flushed.
 #[derive(Drop)]
 pub struct Outgoing<W: Write> {
     writer: W,
