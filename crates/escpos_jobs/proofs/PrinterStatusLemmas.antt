@@ -1,26 +1,22 @@
 -- Asking for a status: answers of marks before a status byte, and the four bytes.
-use Rattle.std.proofs.Common.{◌≡◌, ◌∙◌, ◌++◌, ◌∷◌, [], ℕ, List, IsTrue, refl, sym, ap, ap₂, append_assoc, append-nil, Result, Ok, Err, Option, inl, inr, length, take, drop, ◌≤◌, arith}
-use Rattle.std.specs.Prelude.{OnErr, get_or}
+use Rattle.std.proofs.Common.{◌≡◌, ◌∙◌, ◌++◌, ◌∷◌, [], ℕ, List, IsTrue, refl, sym, ap, ap₂, subst, absurd, append_assoc, append-nil, Option, inl, inr, length, take, drop, ◌≤◌, arith}
+use Rattle.std.specs.Prelude.{◌≢◌, ◌<◌, ◌+◌, Bool, true, false, get_or}
 use Rattle.std.specs.List.{AllByRecursion}
 use Rattle.std.proofs.lemmas.List.{take-append-drop, take_more}
 use Rattle.std.specs.Io.KnownBytes.{Appends, Consumes}
-use Rattle.std.proofs.KnownBytes.{Consumes-trans}
+use Rattle.std.proofs.KnownBytes.{Consumes-nil, Consumes-trans}
 use Rattle.std.proofs.lemmas.Grind.{flat_map-append}
 use Rattle.escpos_command.specs.declared.answer.Answer.{Answer}
 use Rattle.escpos_command.specs.declared.answer.Answer.TheVariants as answer
 use Rattle.escpos_command.specs.Answers.{AnswerSpells, answer_bytes, is_answer}
 use Rattle.escpos_command.specs.CommandTable.{spell}
 use Rattle.escpos_host.specs.declared.send.SendFault.{SendFault}
+use Rattle.escpos_host.specs.declared.send.SendFault.TheVariants as fault
 use Rattle.escpos_jobs.specs.declared.printer_status.PrinterStatus.{PrinterStatus}
 use Rattle.escpos_jobs.specs.declared.status.Status.TheVariants.{Good, Device}
 use Rattle.escpos_jobs.specs.Ending.{JobEnd, Tells}
-use Rattle.escpos_jobs.specs.PrinterStatus.{AreMarks, AsksAndTells, IsMark, TellsNext, TellsStatus, no_status_line, requests, status_text}
-use Rattle.escpos_jobs.specs.Send.{Passed}
-
--- What `?` returns.
-pub on_err : {A E P : Type 0} (r : Result A E) → P → OnErr r P
-on_err (Ok a) p = tt
-on_err (Err e) p = p
+use Rattle.escpos_jobs.specs.PrinterStatus.{AreMarks, AsksAndTells, FailsNext, FailsToAsk, FindsNone, IsMark, IsOfSink, TellsEach, TellsNext, TellsStatus, no_status_line, requests, status_text}
+use Rattle.escpos_jobs.specs.Send.{Devices, DevicesSay, Passed, devices}
 
 -- One byte is read at a time.
 pub one_byte : (piece : List ℕ) (count d : ℕ) → length piece ≡ 1 → count ≤ 1 → (count ≡ 0 → ⊥) → take count piece ≡ get_or piece 0 d ∷ []
@@ -56,12 +52,12 @@ pub told_next : (before half : List ℕ) (byte status : ℕ) → AreMarks before
 told_next before half byte status m s = (before, m, append_assoc before half (byte ∷ []) ∙ ap (λ bs. before ++ bs) s.in_table, s.in_range)
 
 -- The printer said so.
-pub asked : (p : Passed) (o : JobEnd) (s : PrinterStatus) → Appends p.before p.after (spell requests) → (bytes : List ℕ) × Consumes p.came p.rest bytes × TellsStatus bytes s
-    → Tells o (status_text s) Good → AsksAndTells p o
-asked p o s put (bytes, came, told) tells = record {
+pub asked : (p : Passed) (d : Devices) (o : JobEnd) (s : PrinterStatus) → Appends p.before p.after (spell requests) → (bytes : List ℕ) × Consumes p.came p.rest bytes × TellsStatus bytes s
+    → Tells o (status_text s) Good → AsksAndTells p d o
+asked p d o s put (bytes, came, told) tells = record {
   bytes = bytes;
   out = spell requests;
-  rest = [];
+  unsent = [];
   consumes = came;
   appends = put;
   asks = sym (append-nil (spell requests));
@@ -69,30 +65,91 @@ asked p o s put (bytes, came, told) tells = record {
 }
 
 -- It didn't.
-pub asked_in_vain : (p : Passed) (o : JobEnd) (why : SendFault) → (out : List ℕ) × (rest : List ℕ) × Appends p.before p.after out × (spell requests ≡ out ++ rest)
-    → (bytes : List ℕ) × Consumes p.came p.rest bytes → Tells o (no_status_line why) Device → AsksAndTells p o
-asked_in_vain p o why (out, rest, put, asks) (bytes, came) tells = record {
+pub asked_in_vain : (p : Passed) (d : Devices) (o : JobEnd) (why : SendFault)
+    → (out : List ℕ) × (unsent : List ℕ) × (bytes : List ℕ) × Appends p.before p.after out × (spell requests ≡ out ++ unsent) × Consumes p.came p.rest bytes
+    × FailsToAsk why unsent bytes → DevicesSay d why → Tells o (no_status_line why) Device → AsksAndTells p d o
+asked_in_vain p d o why (out, unsent, bytes, put, asks, came, fails) cause tells = record {
   bytes = bytes;
   out = out;
-  rest = rest;
+  unsent = unsent;
   consumes = came;
   appends = put;
   asks = asks;
-  tells = inr (why, tells);
+  tells = inr (why, fails, cause, tells);
 }
 
--- A prefix of the requests, and what is left of them.
-pub begun : (before after : Option (List ℕ)) (all : List ℕ) (n : ℕ) → Appends before after (take n all)
-    → (out : List ℕ) × (rest : List ℕ) × Appends before after out × (all ≡ out ++ rest)
-begun before after all n put = (take n all, drop n all, put, sym (take-append-drop n all))
+-- ## Why no status byte comes
 
--- All of them.
-pub all_begun : (before after : Option (List ℕ)) (all : List ℕ) → Appends before after all → (out : List ℕ) × (rest : List ℕ) × Appends before after out × (all ≡ out ++ rest)
-all_begun before after all put = (all, [], put, sym (append-nil all))
+-- What a device that has failed is told as.
+pub source_says : (why : SendFault) (ended failed timed_out : Bool) → IsTrue failed → (IsTrue timed_out → why ≡ fault.TimedOut) → (¬ IsTrue timed_out → why ≡ fault.ReadFault)
+    → DevicesSay (devices ended failed timed_out false false) why
+source_says why ended failed true h late other = subst (DevicesSay (devices ended failed true false false)) (sym (late tt)) (inl (h, tt))
+source_says why ended failed false h late other = subst (DevicesSay (devices ended failed false false false)) (sym (other (λ p. p))) (h, λ p. p)
 
--- Two parts of what was read are one.
-pub both_read : (a b d : Option (List ℕ)) → (x : List ℕ) × Consumes a b x → (y : List ℕ) × Consumes b d y → (z : List ℕ) × Consumes a d z
-both_read a b d (x, h) (y, k) = (x ++ y, Consumes-trans a b d x y h k)
+pub source_fails : (why : SendFault) (timed_out : Bool) (bytes : List ℕ) → (IsTrue timed_out → why ≡ fault.TimedOut) → (¬ IsTrue timed_out → why ≡ fault.ReadFault)
+    → FindsNone bytes → FailsNext why bytes
+source_fails why true bytes late other none = subst (λ w. FailsNext w bytes) (sym (late tt)) none
+source_fails why false bytes late other none = subst (λ w. FailsNext w bytes) (sym (other (λ p. p))) none
+
+pub sink_says : (why : SendFault) (ended read_failed read_timed_out failed timed_out : Bool) → IsTrue failed → (IsTrue timed_out → why ≡ fault.TimedOut)
+    → (¬ IsTrue timed_out → why ≡ fault.WriteFault) → DevicesSay (devices ended read_failed read_timed_out failed timed_out) why
+sink_says why ended read_failed read_timed_out failed true h late other =
+    subst (DevicesSay (devices ended read_failed read_timed_out failed true)) (sym (late tt)) (inr (h, tt))
+sink_says why ended read_failed read_timed_out failed false h late other =
+    subst (DevicesSay (devices ended read_failed read_timed_out failed false)) (sym (other (λ p. p))) (h, λ p. p)
+
+-- What the source alone says, whatever the sink does.
+pub any_sink : (why : SendFault) (ended failed timed_out write_failed write_timed_out : Bool) → DevicesSay (devices ended failed timed_out false false) why
+    → DevicesSay (devices ended failed timed_out write_failed write_timed_out) why
+any_sink fault.Ended ended failed timed_out write_failed write_timed_out says = says
+any_sink fault.ReadFault ended failed timed_out write_failed write_timed_out says = says
+any_sink fault.WriteFault ended failed timed_out write_failed write_timed_out (no, _) = absurd no
+any_sink fault.TimedOut ended failed timed_out write_failed write_timed_out (inl says) = inl says
+any_sink fault.TimedOut ended failed timed_out write_failed write_timed_out (inr (no, _)) = absurd no
+any_sink fault.TooLong ended failed timed_out write_failed write_timed_out says = tt
+any_sink fault.BadAnswer ended failed timed_out write_failed write_timed_out says = tt
+any_sink (fault.Refused e) ended failed timed_out write_failed write_timed_out says = tt
+
+some_left : (xs : List ℕ) (n : ℕ) → n < length xs → drop n xs ≢ []
+some_left [] n few = absurd (omega (arith, few))
+some_left (x ∷ xs) 0 few = λ e. cc
+some_left (x ∷ xs) (n + 1) few = some_left xs n (omega (arith, few))
+
+of_sink : (why : SendFault) (timed_out : Bool) → (IsTrue timed_out → why ≡ fault.TimedOut) → (¬ IsTrue timed_out → why ≡ fault.WriteFault) → IsOfSink why
+of_sink why true late other = subst IsOfSink (sym (late tt)) tt
+of_sink why false late other = subst IsOfSink (sym (other (λ p. p))) tt
+
+-- Not all requests went out.
+pub begun : (why : SendFault) (timed_out : Bool) (came before after : Option (List ℕ)) (all : List ℕ) (n : ℕ) → n < length all → Appends before after (take n all)
+    → (IsTrue timed_out → why ≡ fault.TimedOut) → (¬ IsTrue timed_out → why ≡ fault.WriteFault)
+    → (out : List ℕ) × (unsent : List ℕ) × (bytes : List ℕ) × Appends before after out × (all ≡ out ++ unsent) × Consumes came came bytes × FailsToAsk why unsent bytes
+begun why timed_out came before after all n few put late other =
+    (take n all, drop n all, [], put, sym (take-append-drop n all), Consumes-nil came, inl (some_left all n few, refl, of_sink why timed_out late other))
+
+-- ## The four status bytes, one after another
+
+-- These status bytes were told so far.
+abbrev pub ToldSoFar : Option (List ℕ) → Option (List ℕ) → List ℕ → Type 0
+ToldSoFar came rest told = (early : List ℕ) × Consumes came rest early × TellsEach early told
+
+pub none_told : (a : Option (List ℕ)) → ToldSoFar a a []
+none_told a = ([], Consumes-nil a, refl)
+
+told_one_more : (early more told : List ℕ) (status : ℕ) → TellsEach early told → TellsNext more status → TellsEach (early ++ more) (told ++ status ∷ [])
+told_one_more early more [] status e next = (more, [], ap (λ bs. bs ++ more) e ∙ sym (append-nil more), next, refl)
+told_one_more early more (s ∷ told) status (first, rest, e, tells, on) next =
+    (first, rest ++ more, ap (λ bs. bs ++ more) e ∙ append_assoc first rest more, tells, told_one_more rest more told status on next)
+
+pub one_more : (a b c : Option (List ℕ)) (told : List ℕ) (status : ℕ) → ToldSoFar a b told → (bytes : List ℕ) × Consumes b c bytes × TellsNext bytes status
+    → ToldSoFar a c (told ++ status ∷ [])
+one_more a b c told status (early, h, tells) (more, k, next) = (early ++ more, Consumes-trans a b c early more h k, told_one_more early more told status tells next)
+
+-- No further one came.
+pub no_further : (why : SendFault) (a b c before after : Option (List ℕ)) (all told : List ℕ) → Appends before after all → ToldSoFar a b told → length told < 4
+    → (late : List ℕ) × Consumes b c late × FailsNext why late
+    → (out : List ℕ) × (unsent : List ℕ) × (bytes : List ℕ) × Appends before after out × (all ≡ out ++ unsent) × Consumes a c bytes × FailsToAsk why unsent bytes
+no_further why a b c before after all told put (early, h, tells) few (late, k, fails) =
+    (all, [], early ++ late, put, sym (append-nil all), Consumes-trans a b c early late h k, inr (refl, told, early, late, refl, tells, few, fails))
 
 -- The four status bytes.
 pub all_told : (a b c d e : Option (List ℕ)) (first second third fourth : ℕ) → (x : List ℕ) × Consumes a b x × TellsNext x first → (x : List ℕ) × Consumes b c x × TellsNext x second

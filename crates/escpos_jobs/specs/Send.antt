@@ -1,5 +1,5 @@
 -- What `send` prints for a receipt that was sent, and its exit status.
-use Rattle.std.specs.Prelude.{ℕ, Bool, true, false, if◌then◌else◌, ◌≤◌, List, [], ◌∷◌, ◌++◌, length, Option, codes, decimal}
+use Rattle.std.specs.Prelude.{ℕ, Bool, true, false, if◌then◌else◌, ◌≤◌, ◌⊎◌, ⊤, List, [], ◌∷◌, ◌++◌, length, Option, IsTrue, codes, decimal}
 use Rattle.std.specs.Io.KnownBytes.{Appends, Consumes}
 use Rattle.escpos_command.specs.declared.bytes.TheConstants.{LF}
 use Rattle.escpos_host.specs.declared.host.HostError.TheVariants as error
@@ -9,7 +9,7 @@ use Rattle.escpos_host.specs.declared.send.Sent.{Sent}
 use Rattle.escpos_host.specs.declared.send.Sent.TheVariants as became
 use Rattle.escpos_host.specs.Machine.{HostView}
 use Rattle.escpos_host.specs.Refusals.{fault_name}
-use Rattle.escpos_host.specs.Sends.{Call, Sends}
+use Rattle.escpos_host.specs.Sends.{Call, Sends, Why}
 use Rattle.escpos_jobs.specs.declared.status.Status.{Status}
 use Rattle.escpos_jobs.specs.declared.status.Status.TheVariants.{Good, Refused, Device, Memory}
 use Rattle.escpos_jobs.specs.Ending.{JobEnd, Tells, memory_line}
@@ -53,8 +53,34 @@ pub record Passed : Type 0 where
 abbrev pub passed : Option (List ℕ) → Option (List ℕ) → Option (List ℕ) → Option (List ℕ) → Passed
 passed came rest before after = record { came = came; rest = rest; before = before; after = after }
 
+-- What a link's source and sink say of themselves in the end: whether the source has ended, whether it has failed and that by
+-- a time-out, and the same of the sink.
+pub record Devices : Type 0 where
+  pub ended : Bool
+  pub read_failed : Bool
+  pub read_timed_out : Bool
+  pub write_failed : Bool
+  pub write_timed_out : Bool
+
+abbrev pub devices : Bool → Bool → Bool → Bool → Bool → Devices
+devices ended read_failed read_timed_out write_failed write_timed_out = record {
+  ended = ended;
+  read_failed = read_failed;
+  read_timed_out = read_timed_out;
+  write_failed = write_failed;
+  write_timed_out = write_timed_out;
+}
+
+-- A cause that is the devices' own is what they say.
+abbrev pub DevicesSay : Devices → SendFault → Type 0
+DevicesSay d fault.Ended = IsTrue d.ended
+DevicesSay d fault.ReadFault = IsTrue d.read_failed × (¬ IsTrue d.read_timed_out)
+DevicesSay d fault.WriteFault = IsTrue d.write_failed × (¬ IsTrue d.write_timed_out)
+DevicesSay d fault.TimedOut = (IsTrue d.read_failed × IsTrue d.read_timed_out) ⊎ (IsTrue d.write_failed × IsTrue d.write_timed_out)
+DevicesSay d why = ⊤
+
 -- A receipt was sent, with these bytes read and these written, and what became of it is printed.
-pub record SendsAndTells (c : Call) (p : Passed) (o : JobEnd) : Type 0 where
+pub record SendsAndTells (c : Call) (p : Passed) (d : Devices) (o : JobEnd) : Type 0 where
   pub bytes : List ℕ
   pub out : List ℕ
   pub became : Sent
@@ -63,4 +89,5 @@ pub record SendsAndTells (c : Call) (p : Passed) (o : JobEnd) : Type 0 where
   pub appends : Appends p.before p.after out
   pub few : length bytes ≤ c.most
   pub sends : Sends c bytes out became host
+  pub cause : (why : SendFault) → Why became why → DevicesSay d why
   pub tells : Tells o (sent_text became host.next) (status_of_sent became)

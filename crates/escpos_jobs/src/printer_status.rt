@@ -1,15 +1,15 @@
 //! The job `status`: a printer is asked what its sensors say, and that is printed. No mark is used.
 
-ghost use Rattle.std.specs.Prelude.{◌≡◌, ◌≢◌, ◌⊎◌, ◌+◌, ◌<◌, ◌≤◌, ◌++◌, List, ℕ, Some, None, [], ◌∷◌, length, IsTrue, IsErrOf, IfOk, IfErr, OnOk, OnErr};
+ghost use Rattle.std.specs.Prelude.{◌≡◌, ◌≢◌, ◌⊎◌, ◌+◌, ◌<◌, ◌≤◌, ◌++◌, List, ℕ, Some, None, [], ◌∷◌, false, length, IsTrue, IfOk, IfErr, OnOk};
 ghost use Rattle.std.specs.Io.KnownBytes.{Appends, Consumes};
 ghost use Rattle.escpos_command.specs.declared.answer.Answer.{Answer};
-ghost use Rattle.escpos_command.specs.Answers.{AnswerSpells};
+ghost use Rattle.escpos_command.specs.Answers.{AnswerSpells, HalfAnswer, ViableAnswer};
 ghost use Rattle.escpos_command.specs.CommandTable.{spell};
 ghost use Rattle.escpos_command.specs.Meanings.{has_bit};
 ghost use Rattle.escpos_host.specs.declared.send.SendFault.{SendFault};
 ghost use Rattle.escpos_jobs.specs.Ending.{Tells, job_end};
-ghost use Rattle.escpos_jobs.specs.PrinterStatus.{AreMarks, AsksAndTells, TellsNext, TellsStatus, no_status_line, requests, status_text};
-ghost use Rattle.escpos_jobs.specs.Send.{passed};
+ghost use Rattle.escpos_jobs.specs.PrinterStatus.{AreMarks, AsksAndTells, FailsNext, FailsToAsk, TellsNext, TellsStatus, no_status_line, requests, status_text};
+ghost use Rattle.escpos_jobs.specs.Send.{DevicesSay, devices, passed};
 
 use crate::ending::say;
 use crate::send::NO_LINK;
@@ -83,6 +83,7 @@ pub fn status_over<R: ByteIn, A: ByteOut, W: ByteOut>(
     output: &mut W,
 ) -> Status
     ensures asks { AsksAndTells (passed (R.to_come reader.old) (R.to_come reader.new) (A.written writer.old) (A.written writer.new))
+        (devices (R.ended reader.new) (R.failed reader.new) (R.timed_out reader.new) (A.failed writer.new) (A.timed_out writer.new))
         (job_end (W.written output.old) (W.written output.new) (W.failed output.new) result) }
     ensures never_usage { result ≢ Status.Usage }
     ensures not_hidden { result ≢ Status.Device → ¬ IsTrue (W.failed output.old) → ¬ IsTrue (W.failed output.new) }
@@ -130,13 +131,10 @@ pub fn ask_status<R: ByteIn, A: ByteOut>(
 ) -> Result<PrinterStatus, SendFault>
     ensures asked { OnOk result (Appends (A.written writer.old) (A.written writer.new) (spell requests)) }
     ensures told { IfOk result (λ status. (bytes : List ℕ) × Consumes (R.to_come reader.old) (R.to_come reader.new) bytes × TellsStatus bytes status) }
-    ensures begun { OnErr result ((out : List ℕ) × (rest : List ℕ) × Appends (A.written writer.old) (A.written writer.new) out × (spell requests ≡ out ++ rest)) }
-    ensures read { OnErr result ((bytes : List ℕ) × Consumes (R.to_come reader.old) (R.to_come reader.new) bytes) }
-    ensures ended { IsErrOf result SendFault.Ended → IsTrue (R.ended reader.new) }
-    ensures read_fault { IsErrOf result SendFault.ReadFault → IsTrue (R.failed reader.new) × (¬ IsTrue (R.timed_out reader.new)) }
-    ensures write_fault { IsErrOf result SendFault.WriteFault → IsTrue (A.failed writer.new) × (¬ IsTrue (A.timed_out writer.new)) }
-    ensures timed_out { IsErrOf result SendFault.TimedOut
-        → (IsTrue (R.failed reader.new) × IsTrue (R.timed_out reader.new)) ⊎ (IsTrue (A.failed writer.new) × IsTrue (A.timed_out writer.new)) }
+    ensures fails { IfErr result (λ why. (out : List ℕ) × (unsent : List ℕ) × (bytes : List ℕ) × Appends (A.written writer.old) (A.written writer.new) out
+        × (spell requests ≡ out ++ unsent) × Consumes (R.to_come reader.old) (R.to_come reader.new) bytes × FailsToAsk why unsent bytes) }
+    ensures cause { IfErr result (λ why. DevicesSay
+        (devices (R.ended reader.new) (R.failed reader.new) (R.timed_out reader.new) (A.failed writer.new) (A.timed_out writer.new)) why) }
 {
     if let Err(_) = put_all(REQUESTS, writer) {
         return Err(SendFault::of_writer(writer));
@@ -152,11 +150,8 @@ pub fn ask_status<R: ByteIn, A: ByteOut>(
 // Reads up to the next status byte; answers of marks before it are passed over.
 fn next_status<R: ByteIn>(reader: &mut R) -> Result<u8, SendFault>
     ensures told { IfOk result (λ byte. (bytes : List ℕ) × Consumes (R.to_come reader.old) (R.to_come reader.new) bytes × TellsNext bytes byte) }
-    ensures read { OnErr result ((bytes : List ℕ) × Consumes (R.to_come reader.old) (R.to_come reader.new) bytes) }
-    ensures ended { IsErrOf result SendFault.Ended → IsTrue (R.ended reader.new) }
-    ensures read_fault { IsErrOf result SendFault.ReadFault → IsTrue (R.failed reader.new) × (¬ IsTrue (R.timed_out reader.new)) }
-    ensures timed_out { IsErrOf result SendFault.TimedOut → IsTrue (R.failed reader.new) × IsTrue (R.timed_out reader.new) }
-    ensures no_write_fault { ¬ IsErrOf result SendFault.WriteFault }
+    ensures fails { IfErr result (λ why. (bytes : List ℕ) × Consumes (R.to_come reader.old) (R.to_come reader.new) bytes × FailsNext why bytes) }
+    ensures cause { IfErr result (λ why. DevicesSay (devices (R.ended reader.new) (R.failed reader.new) (R.timed_out reader.new) false false) why) }
 {
     let mut answers = AnswerReader::new();
     let mut piece = [0];
@@ -181,7 +176,8 @@ fn next_status<R: ByteIn>(reader: &mut R) -> Result<u8, SendFault>
 fn take_byte(answers: &mut AnswerReader, byte: u8) -> Result<Option<u8>, SendFault>
     ensures status { (status : ℕ) → result ≡ Ok (Some status) → AnswerSpells (Answer.Status status) (answers.old ++ byte ∷ []) }
     ensures passed { result ≡ Ok None → (marks : List ℕ) × AreMarks marks × (answers.old ++ byte ∷ [] ≡ marks ++ answers.new) }
-    ensures bad { IfErr result (λ why. why ≡ SendFault.BadAnswer) }
+    ensures half { result ≡ Ok None → (answers.new ≡ []) ⊎ HalfAnswer answers.new }
+    ensures bad { IfErr result (λ why. (why ≡ SendFault.BadAnswer) × (ViableAnswer (answers.old ++ byte ∷ []) → ⊥)) }
 {
     match answers.push(byte) {
         Ok(Some(Answer::Status(status))) => Ok(Some(status)),

@@ -6,7 +6,7 @@ ghost use Rattle.std.specs.Prelude.{◌≡◌, ◌≢◌, ◌+◌, ◌≤◌, �
 ghost use Rattle.escpos_host.specs.Machine.{Down};
 ghost use Rattle.escpos_jobs.specs.declared.input.TheConstants.{INPUT_LIMIT};
 ghost use Rattle.escpos_jobs.specs.Ending.{job_end};
-ghost use Rattle.escpos_jobs.specs.Send.{SendsAndTells, not_recorded_line, is_memory_fault, passed, recorded_line, sent_text, status_of_fault, status_of_sent};
+ghost use Rattle.escpos_jobs.specs.Send.{SendsAndTells, devices, not_recorded_line, is_memory_fault, passed, recorded_line, sent_text, status_of_fault, status_of_sent};
 
 use crate::ending::{MEMORY, say};
 use crate::receipt_input::{read_receipt, refuse_input};
@@ -104,6 +104,7 @@ pub fn send_over<R: ByteIn, A: ByteOut, W: ByteOut>(
 ) -> Status
     ensures sends { SendsAndTells (record { before = record { phase = Down; out = []; half = []; next = marks.first; records = []; left = [] }; receipt = receipt; openings = max marks.openings 1; most = ANSWERS_LIMIT })
         (passed (R.to_come reader.old) (R.to_come reader.new) (A.written writer.old) (A.written writer.new))
+        (devices (R.ended reader.new) (R.failed reader.new) (R.timed_out reader.new) (A.failed writer.new) (A.timed_out writer.new))
         (job_end (W.written output.old) (W.written output.new) (W.failed output.new) result) }
     ensures never_usage { result ≢ Status.Usage }
     ensures not_hidden { result ≢ Status.Device → ¬ IsTrue (W.failed output.old) → ¬ IsTrue (W.failed output.new) }

@@ -344,8 +344,9 @@ fn put_part<W: ByteOut>(part: &str, output: &mut W) -> Result<(), Device>
 
 // The part of the help that is about a word, from the word on.
 fn part_on(word: &str) -> Option<&'static str> {
-    for part in HELP.split(BEFORE_PART) {
-        if is_on(part, word) {
+    let (_, parts) = HELP.split_once(BEFORE_PART)?;
+    for part in parts.split(BEFORE_PART) {
+        if part.split_whitespace().next() == Some(word) {
             return match part.split_once(AFTER_PARTS) {
                 Some((own, _)) => Some(own),
                 None => Some(part),
@@ -353,12 +354,4 @@ fn part_on(word: &str) -> Option<&'static str> {
         }
     }
     None
-}
-
-// Whether a part of the help begins with the whole of this word.
-fn is_on(part: &str, word: &str) -> bool {
-    match part.strip_prefix(word) {
-        Some(rest) => rest.starts_with(' ') || rest.starts_with('\n'),
-        None => false,
-    }
 }

@@ -7,17 +7,19 @@ use Rattle.std.proofs.lemmas.List.Elements.{filter_map-append}
 use Rattle.std.specs.Prelude.{◌==◌, IsTrue, MatchOption, flat_map, is_none, slice_get}
 use Rattle.std.specs.List.{position_from}
 use Rattle.std.specs.Io.KnownBytes.{Appends}
+use Rattle.escpos_host.specs.declared.send.SendFault.TheVariants as fault
 use Rattle.escpos_host.specs.declared.send.Sent.{Sent}
 use Rattle.escpos_host.specs.declared.send.Sent.TheVariants as became
 use Rattle.escpos_jobs.specs.declared.status.Status.{Status}
-use Rattle.escpos_jobs.specs.Ending.{Tells, job_end}
+use Rattle.escpos_jobs.specs.Ending.{JobEnd, Tells, job_end}
+use Rattle.escpos_jobs.specs.Send.{Devices, DevicesSay}
 use Rattle.escpos_till.specs.declared.deliver.Delivered.TheVariants as delivered
 use Rattle.escpos_till.specs.declared.entry.Entry.{Entry}
 use Rattle.escpos_till.specs.declared.entry.Entry.TheVariants as entry
 use Rattle.escpos_till.specs.Delivers.{Concludes, Delivers, Link}
 use Rattle.escpos_till.specs.Entries.{Taken, content_of, contents, numbered_from, record_of, recorded, waiting}
 use Rattle.escpos_till.specs.Ledger.{Adds, LedgerView}
-use Rattle.escpos_till_jobs.specs.Delivering.{DeliversAndTells, Ends, IsDelivered, IsDeliveredOver, IsFirst, RoundEnds, Rounds}
+use Rattle.escpos_till_jobs.specs.Delivering.{CauseIsSaid, DeliversAndTells, Ends, EndsOver, IsDelivered, IsDeliveredOver, IsFirst, RoundEnds, Rounds, delivered_line, delivered_status}
 use Rattle.escpos_till_jobs.specs.declared.deliver.Delivery.{Delivery}
 use Rattle.escpos_till_jobs.specs.Lines.{recorded_line}
 
@@ -216,3 +218,31 @@ if_some P Q (Some y) x q is = let same : y ≡ x = cc in subst Q same q
 pub any_ok : {T E : Type 0} {P : Type 0} (r : Result T E) → P → OnOk r P
 any_ok (Ok x) p = p
 any_ok (Err e) p = tt
+
+-- ## The devices of a link
+
+-- What is said over one link is said over some link.
+pub ends_round : {S : Type 0} (Held : LedgerView S → Type 0) (delivery : Delivery) (l : Link) (d : Devices) (old new : LedgerView S) (number : ℕ) (o : JobEnd)
+    → IsFirst old.entries number → EndsOver Held delivery l d old number new o → RoundEnds Held delivery old number new o
+ends_round Held delivery l d old new number o first (inl (done, unheard)) = inl ((l, done), unheard)
+ends_round Held delivery l d old new number o first (inr (became, over, not, cause, tells)) =
+    inr (delivered_line number became, delivered_status became, Ends.not_recorded number became first (l, over) not, tells)
+
+-- Each cause of the devices' own is said of them.
+pub cause_is_said : (d : Devices) (r : Delivered)
+    → ((number : ℕ) → r ≡ delivered.NotRecorded number fault.Ended → DevicesSay d fault.Ended)
+    → ((number : ℕ) → r ≡ delivered.NotRecorded number fault.ReadFault → DevicesSay d fault.ReadFault)
+    → ((number : ℕ) → r ≡ delivered.NotRecorded number fault.WriteFault → DevicesSay d fault.WriteFault)
+    → ((number : ℕ) → r ≡ delivered.NotRecorded number fault.TimedOut → DevicesSay d fault.TimedOut) → CauseIsSaid d r
+cause_is_said d delivered.NothingWaits a b c e = tt
+cause_is_said d (delivered.NoReceipt number why) a b c e = tt
+cause_is_said d (delivered.NotTried why) a b c e = tt
+cause_is_said d (delivered.NotRecorded number fault.Ended) a b c e = a number refl
+cause_is_said d (delivered.NotRecorded number fault.ReadFault) a b c e = b number refl
+cause_is_said d (delivered.NotRecorded number fault.WriteFault) a b c e = c number refl
+cause_is_said d (delivered.NotRecorded number fault.TimedOut) a b c e = e number refl
+cause_is_said d (delivered.NotRecorded number fault.TooLong) a b c e = tt
+cause_is_said d (delivered.NotRecorded number fault.BadAnswer) a b c e = tt
+cause_is_said d (delivered.NotRecorded number (fault.Refused why)) a b c e = tt
+cause_is_said d (delivered.Recorded number) a b c e = tt
+cause_is_said d (delivered.NotNoted number why) a b c e = tt

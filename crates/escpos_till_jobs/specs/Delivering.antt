@@ -1,11 +1,11 @@
 -- What `deliver` does with the receipts that wait, and what it prints of them.
-use Rattle.std.specs.Prelude.{ℕ, ◌≡◌, ◌⊎◌, if◌then◌else◌, Option, List, [], ◌∷◌, ◌++◌, codes, flat_map, IsTrue}
+use Rattle.std.specs.Prelude.{ℕ, ◌≡◌, ◌⊎◌, ⊤, if◌then◌else◌, Option, List, [], ◌∷◌, ◌++◌, codes, flat_map, IsTrue}
 use Rattle.escpos_host.specs.declared.send.SendFault.{SendFault}
 use Rattle.escpos_host.specs.Refusals.{fault_name}
 use Rattle.escpos_jobs.specs.declared.status.Status.{Status}
 use Rattle.escpos_jobs.specs.declared.status.Status.TheVariants.{Good, Refused, Device, Memory}
 use Rattle.escpos_jobs.specs.Ending.{JobEnd, Tells, memory_line}
-use Rattle.escpos_jobs.specs.Send.{is_memory_fault, status_of_fault}
+use Rattle.escpos_jobs.specs.Send.{Devices, DevicesSay, is_memory_fault, status_of_fault}
 use Rattle.escpos_receipt.specs.declared.json.JsonError.TheVariants as json
 use Rattle.escpos_receipt.specs.Refusals.{json_name}
 use Rattle.escpos_till.specs.declared.deliver.Delivered.{Delivered}
@@ -94,6 +94,18 @@ pub data Ends {S : Type 0} (Held : LedgerView S → Type 0) (delivery : Delivery
 -- The output failed, and so nothing more is sent.
 abbrev pub IsUnheard : JobEnd → Type 0
 IsUnheard o = (o.status ≡ Device) × IsTrue o.failed
+
+-- A cause that is the devices' own is what they say of themselves.
+abbrev pub CauseIsSaid : Devices → Delivered → Type 0
+CauseIsSaid devices (delivered.NotRecorded number why) = DevicesSay devices why
+CauseIsSaid devices d = ⊤
+
+-- Over this link one receipt is recorded, which the output didn't take; or it isn't, and the line says why.
+abbrev pub EndsOver : {S : Type 0} → (LedgerView S → Type 0) → Delivery → Link → Devices → LedgerView S → ℕ → LedgerView S → JobEnd → Type 0
+EndsOver Held delivery l devices old number new o =
+    (IsDeliveredOver Held delivery l old (delivered.Recorded number) new × IsUnheard o)
+    ⊎ ((d : Delivered) × IsDeliveredOver Held delivery l old d new × (¬ IsRecorded d) × CauseIsSaid devices d
+    × Tells o (delivered_line number d) (delivered_status d))
 
 -- One receipt is recorded, which the output didn't take; or none is, and the line says why.
 abbrev pub RoundEnds : {S : Type 0} → (LedgerView S → Type 0) → Delivery → LedgerView S → ℕ → LedgerView S → JobEnd → Type 0

@@ -6,12 +6,12 @@
 ghost use Rattle.std.specs.Prelude.{◌≡◌, ◌≢◌, ◌+◌, ◌<◌, ◌≤◌, ◌++◌, MatchOption, IfErr, IfOk, OnOk, [], ◌∷◌, codes, length, IsTrue};
 ghost use Rattle.std.specs.Io.KnownBytes.{Appends};
 ghost use Rattle.escpos_jobs.specs.Ending.{Tells, job_end};
-ghost use Rattle.escpos_jobs.specs.Send.{status_of_fault};
+ghost use Rattle.escpos_jobs.specs.Send.{devices, status_of_fault};
 ghost use Rattle.escpos_till.specs.declared.deliver.Delivered.{Delivered};
 ghost use Rattle.escpos_till.specs.Entries.{recorded, waiting};
 ghost use Rattle.escpos_till.specs.Ledger.{HasFailed, IsKept, IsLive};
 ghost use Rattle.escpos_till_jobs.specs.Lines.{recorded_line, waiting_line};
-ghost use Rattle.escpos_till_jobs.specs.Delivering.{DeliversAndTells, IsDelivered, IsDeliveredOver, IsFirst, IsRecorded, RoundEnds, delivered_line, delivered_status, link_of};
+ghost use Rattle.escpos_till_jobs.specs.Delivering.{CauseIsSaid, DeliversAndTells, EndsOver, IsDelivered, IsDeliveredOver, IsFirst, IsRecorded, RoundEnds, delivered_line, delivered_status, link_of};
 
 use crate::refusal::{refuse_call, tell_text};
 use escpos_command::LF;
@@ -157,11 +157,10 @@ pub fn deliver_over<S: Store, R: ByteIn, A: ByteOut, W: ByteOut>(
         ledger.old (Delivered.Recorded number) ledger.new) }
     ensures told { OnOk result (Appends (W.written output.old) (W.written output.new) (recorded_line number)) }
     ensures not_failed { OnOk result (¬ IsTrue (W.failed output.old) → ¬ IsTrue (W.failed output.new)) }
-    ensures ended { IfErr result (λ status. RoundEnds (IsKept S.faithful S.holds S.leaves) delivery.now ledger.old number ledger.new
-        (job_end (W.written output.old) (W.written output.new) (W.failed output.new) status)) }
-    ensures over { IfErr result (λ _. (d : Delivered) × IsDeliveredOver (IsKept S.faithful S.holds S.leaves) delivery.now
+    ensures ended { IfErr result (λ status. EndsOver (IsKept S.faithful S.holds S.leaves) delivery.now
         (link_of delivery.now (R.to_come reader.old) (R.to_come reader.new) (A.written writer.old) (A.written writer.new))
-        ledger.old d ledger.new) }
+        (devices (R.ended reader.new) (R.failed reader.new) (R.timed_out reader.new) (A.failed writer.new) (A.timed_out writer.new))
+        ledger.old number ledger.new (job_end (W.written output.old) (W.written output.new) (W.failed output.new) status)) }
     ensures was_faithful { S.faithful ledger.new.store → S.faithful ledger.old.store }
     ensures not_hidden { IfErr result (λ status. status ≢ Status.Device → ¬ IsTrue (W.failed output.old) → ¬ IsTrue (W.failed output.new)) }
     ensures never_usage { IfErr result (λ status. status ≢ Status.Usage) }
@@ -184,6 +183,8 @@ fn delivered_over<S: Store, R: ByteIn, A: ByteOut>(
     ensures delivered { IsDeliveredOver (IsKept S.faithful S.holds S.leaves) delivery.now
         (link_of delivery.now (R.to_come reader.old) (R.to_come reader.new) (A.written writer.old) (A.written writer.new))
         ledger.old result ledger.new }
+    ensures cause { CauseIsSaid
+        (devices (R.ended reader.new) (R.failed reader.new) (R.timed_out reader.new) (A.failed writer.new) (A.timed_out writer.new)) result }
     ensures was_faithful { S.faithful ledger.new.store → S.faithful ledger.old.store }
 {
     deliver_one(

@@ -12,7 +12,7 @@ use std::process::Abort;
 // Words, and what they ask for.
 type Asked = (&'static [&'static str], Result<Task, NoTask>);
 
-const ASKED: [Asked; 50] = [
+const ASKED: [Asked; 53] = [
     (&["check"], Ok(Task::Check)),
     (&["render"], Ok(Task::Render)),
     (&["encode"], Ok(Task::Encode)),
@@ -40,6 +40,9 @@ const ASKED: [Asked; 50] = [
     (&["send", "--help"], Err(NoTask::Help)),
     (&["send", "-h"], Err(NoTask::Help)),
     (&["send", "--first", "0", "--help"], Err(NoTask::Help)),
+    (&["status", "--help"], Err(NoTask::Help)),
+    (&["status", "-h"], Err(NoTask::Help)),
+    (&["status", "127.0.0.1:80", "-h"], Err(NoTask::Help)),
     (&["loop", "--help"], Err(NoTask::Help)),
     (&["loop", "-h"], Err(NoTask::Help)),
     (&[], Err(NoTask::Usage)),

@@ -187,7 +187,15 @@ fn help_on_each_word(rt: HostRuntime) {
         says_help(&rt, words[place], part);
         rest = next + 1;
     }
-    for word in ["", "nosuch", "chec", "check ", "--help"] {
+    for word in [
+        "",
+        "nosuch",
+        "chec",
+        "check ",
+        "check [--raw]",
+        "--help",
+        "escpos_cli",
+    ] {
         says_help(&rt, word, HELP);
     }
 }

@@ -283,7 +283,7 @@ fn many_links(rt: HostRuntime) {
     one_waits(&rt, &listener);
 }
 
-// What the sensors say is answered: emulated_condition.
+// What the sensors say is answered, on each link: emulated_condition.
 #[test]
 fn emulated_condition(rt: HostRuntime) {
     let (listener, address) = listens(&rt);
@@ -293,6 +293,7 @@ fn emulated_condition(rt: HostRuntime) {
         &mut client,
         b"\x10\x04\x01\x10\x04\x02\x10\x04\x04Hi\n",
     );
+    let _second = connects_and_says(&rt, address, b"\x10\x04\x02");
     let condition = Condition {
         cover_open: true,
         near_end: true,
@@ -305,15 +306,17 @@ fn emulated_condition(rt: HostRuntime) {
     };
     let task = Task::EmulateIn {
         address,
-        links: 1,
+        links: 2,
         condition,
     };
     let mut room = [0; 128];
     let mut source = MemoryIn::new(b"", 1);
     let mut output = MemoryOut::new(&mut room);
     let ended = run_job(&net, rt.alloc(), Ok(task), &mut source, &mut output);
-    let line = b"link 1 read 12 consumed 9 written 3 Offline\n".as_slice();
-    is_outcome(&rt, (output.written(), ended), (line, Status::Good));
+    let lines = b"link 1 read 12 consumed 9 written 3 Offline\n\
+        link 2 read 3 consumed 3 written 1 Ended\n"
+        .as_slice();
+    is_outcome(&rt, (output.written(), ended), (lines, Status::Good));
     reads_to_end(&rt, &mut client, b"\x1A\x16\x1E");
 }
 
@@ -333,6 +336,49 @@ fn followed_links(rt: HostRuntime) {
         link 2 read 3 consumed 3 written 0 Ended\n\
         row left [A,1,1,1,0,0]Yo\nfeed 1\n";
     is_outcome(&rt, (output.written(), ended), (text, Status::Device));
+}
+
+// What was asked for is done over this network, and prints this.
+fn ends_in<N: Net<Stream = TcpStream, Listener = TcpListener>>(
+    rt: &impl Abort,
+    alloc: Global,
+    net: &N,
+    task: Task,
+    (text, status): (&[u8], Status),
+) {
+    let mut room = [0; 256];
+    let mut source = MemoryIn::new(b"", 1);
+    let mut output = MemoryOut::new(&mut room);
+    let ended = run_job(net, alloc, Ok(task), &mut source, &mut output);
+    is_outcome(rt, (output.written(), ended), (text, status));
+}
+
+// Links are followed by a printer whose paper is near its end, one of them after a byte that is refused; and none at a port
+// that is in use: followed_condition, followed_fault, followed_nowhere.
+#[test]
+fn followed_condition(rt: HostRuntime) {
+    let (listener, address) = listens(&rt);
+    let mut first = connects_and_says(&rt, address, b"\x10\x04\x04Hi\n");
+    let _second = connects_and_says(&rt, address, b"A\n\x07");
+    let _third = connects_and_says(&rt, address, b"Yo\n");
+    listener.set_nonblocking(true).expect(&rt, "can't set");
+    let net = Prepared {
+        address,
+        listener: &listener,
+        client: &first,
+    };
+    let condition = Condition {
+        near_end: true,
+        ..ONLINE
+    };
+    let task = Task::Follow { address, condition };
+    let text = b"link 1 read 6 consumed 6 written 1 Ended\nrow left Hi\nfeed 1\n\
+        link 2 read 3 consumed 2 written 0 Fault\nrow left A\nfeed 1\n\
+        link 3 read 3 consumed 3 written 0 Ended\nrow left Yo\nfeed 1\n"
+        .as_slice();
+    ends_in(&rt, rt.alloc(), &net, task, (text, Status::Device));
+    ends_in(&rt, rt.alloc(), &rt, task, (b"", Status::Device));
+    reads_to_end(&rt, &mut first, b"\x1E");
 }
 
 // A link is followed over memory, and this is printed.

@@ -124,7 +124,7 @@ fn status_rows(rt: HostRuntime) {
     }
 }
 
-// status_read_fault, status_write_fault, status_too_long
+// status_read_fault, status_write_fault, status_too_long, status_one_byte_less
 #[test]
 fn status_that_is_not_told(rt: HostRuntime) {
     let four = b"\x12\x12\x12\x12".as_slice();
@@ -141,6 +141,11 @@ fn status_that_is_not_told(rt: HostRuntime) {
     );
     let long = ("no status TooLong\n", Status::Device);
     tells(&rt, (marks.as_slice(), NEVER, NEVER), long);
+    // no byte is read after the 16,384th
+    let most = marks.get(..16_383).expect(&rt, "enough");
+    tells(&rt, (most, NEVER, NEVER), ("no status Ended\n", Status::Device));
+    let over = marks.get(..16_384).expect(&rt, "enough");
+    tells(&rt, (over, NEVER, NEVER), long);
 }
 
 // An output that fails is a device that fails.
@@ -189,6 +194,7 @@ fn status_over_a_link(rt: HostRuntime) {
     let ended = show_status(&net, address, &mut output);
     let text = b"offline\ncover open\npaper there\n".as_slice();
     is_outcome(&rt, (output.written(), ended), (text, Status::Good));
+    assert!(&rt; client.nodelay().expect(&rt, "no word"));
     drop(client);
     reads_to_end(&rt, &mut printer, REQUESTS);
     drop(listener);

@@ -1,7 +1,6 @@
 -- A receipt that is recorded was the first that waited; for any other the line says why.
 use Rattle.std.proofs.Common.{inl, inr}
 use Rattle.std.proofs.lemmas.Result.{IfErr-weaker}
-use Rattle.escpos_till_jobs.specs.Delivering.{Ends, delivered_line, delivered_status}
 use Rattle.escpos_till_jobs.proofs.Rounds.{any_ok, over_its_number}
 use Rattle.escpos_till_jobs.proofs.deliver.deliver_over.Goals as goal
 
@@ -12,23 +11,17 @@ returns-in-Recorded-clause-delivered g c =
 pub returns-in-Recorded-clause-ended : goal.returns-in-Recorded-clause-ended
 returns-in-Recorded-clause-ended g c =
     let done = over_its_number _ _ _ _ _ c.args.number c.in-Recorded.field-0 c.requires.first c.in-Recorded.ensures.delivered in
-    IfErr-weaker c.tell_recorded.result _ _ (λ status unheard. inl ((_, done), unheard)) c.tell_recorded.ensures.failed
+    IfErr-weaker c.tell_recorded.result _ _ (λ status unheard. inl (done, unheard)) c.tell_recorded.ensures.failed
 
 pub returns-in_default : goal.returns-in_default
 returns-in_default g c =
-    let d = c.delivered_over-delivered.result in
+    let became = c.delivered_over-delivered in
     record {
       delivered = tt;
       told = tt;
       not_failed = tt;
-      ended = inr (
-        delivered_line c.args.number d,
-        delivered_status d,
-        Ends.not_recorded c.args.number d c.requires.first (_, c.delivered_over-delivered.ensures.delivered) (λ r. c.in_default.not-Recorded r.0 r.1),
-        c.tell.ensures.tells,
-      );
-      over = (d, c.delivered_over-delivered.ensures.delivered);
-      was_faithful = c.delivered_over-delivered.ensures.was_faithful;
+      ended = inr (became.result, became.ensures.delivered, λ r. c.in_default.not-Recorded r.0 r.1, became.ensures.cause, c.tell.ensures.tells);
+      was_faithful = became.ensures.was_faithful;
       not_hidden = c.tell.ensures.not_hidden;
       never_usage = c.tell.ensures.never_usage;
     }
