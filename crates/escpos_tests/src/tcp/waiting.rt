@@ -132,6 +132,7 @@ fn a_silent_printer(rt: HostRuntime) {
 }
 
 // A network that connects this stream to this address, if it is to be done within an hour.
+#[derive(Drop)]
 struct InAnHour<'a> {
     address: SocketAddrV4,
     client: &'a TcpStream,
