@@ -1,22 +1,27 @@
 -- Asking for a status: answers of marks before a status byte, and the four bytes.
-use Rattle.std.proofs.Common.{◌≡◌, ◌∙◌, ◌++◌, ◌∷◌, [], ℕ, List, IsTrue, refl, sym, ap, ap₂, subst, absurd, append_assoc, append-nil, Option, inl, inr, length, take, drop, ◌≤◌, arith}
-use Rattle.std.specs.Prelude.{◌≢◌, ◌<◌, ◌+◌, Bool, true, false, get_or}
+use Rattle.std.proofs.Common.{◌≡◌, ◌∙◌, ◌++◌, ◌∷◌, [], ℕ, zero, suc, List, IsTrue, refl, sym, ap, ap₂, subst, append_assoc, append-nil, Result, Ok, Err, IfErr, IsErrAnd, Option, inl, inr, length, take, drop, ◌≤◌, arith}
+use Rattle.std.specs.Prelude.{◌≢◌, ◌<◌, ◌⊎◌, ◌+◌, Bool, true, false, get_or}
 use Rattle.std.specs.List.{AllByRecursion}
-use Rattle.std.proofs.lemmas.List.{take-append-drop, take_more}
+use Rattle.std.proofs.lemmas.List.{length-append, take-append-drop, take_more}
 use Rattle.std.specs.Io.KnownBytes.{Appends, Consumes}
 use Rattle.std.proofs.KnownBytes.{Consumes-nil, Consumes-trans}
 use Rattle.std.proofs.lemmas.Grind.{flat_map-append}
 use Rattle.escpos_command.specs.declared.answer.Answer.{Answer}
 use Rattle.escpos_command.specs.declared.answer.Answer.TheVariants as answer
-use Rattle.escpos_command.specs.Answers.{AnswerSpells, answer_bytes, is_answer}
+use Rattle.escpos_command.specs.Answers.{AnswerSpells, HalfAnswer, ViableAnswer, answer_bytes, is_answer}
 use Rattle.escpos_command.specs.CommandTable.{spell}
 use Rattle.escpos_host.specs.declared.send.SendFault.{SendFault}
 use Rattle.escpos_host.specs.declared.send.SendFault.TheVariants as fault
 use Rattle.escpos_jobs.specs.declared.printer_status.PrinterStatus.{PrinterStatus}
 use Rattle.escpos_jobs.specs.declared.status.Status.TheVariants.{Good, Device}
 use Rattle.escpos_jobs.specs.Ending.{JobEnd, Tells}
-use Rattle.escpos_jobs.specs.PrinterStatus.{AreMarks, AsksAndTells, FailsNext, FailsToAsk, FindsNone, IsMark, IsOfSink, TellsEach, TellsNext, TellsStatus, no_status_line, requests, status_text}
+use Rattle.escpos_jobs.specs.PrinterStatus.{AreMarks, AsksAndTells, FailsNext, FailsToAsk, FindsNone, IsMark, NoneYet, IsOfSink, TellsEach, TellsNext, TellsStatus, no_status_line, requests, status_text}
 use Rattle.escpos_jobs.specs.Send.{Devices, DevicesSay, Passed, devices}
+
+-- What `?` passes on.
+pub passed_on : {A E : Type 0} (P : E → Type 0) (r : Result A E) (e : E) → IsErrAnd r (λ x. x ≡ e) → P e → IfErr r P
+passed_on P (Ok a) e same h = tt
+passed_on P (Err x) e same h = subst P (sym same) h
 
 -- One byte is read at a time.
 pub one_byte : (piece : List ℕ) (count d : ℕ) → length piece ≡ 1 → count ≤ 1 → (count ≡ 0 → ⊥) → take count piece ≡ get_or piece 0 d ∷ []
@@ -80,44 +85,47 @@ asked_in_vain p d o why (out, unsent, bytes, put, asks, came, fails) cause tells
 
 -- ## Why no status byte comes
 
+not_false : ¬ IsTrue false
+not_false p = let it : false ≡ true = p in absurd cc
+
 -- What a device that has failed is told as.
 pub source_says : (why : SendFault) (ended failed timed_out : Bool) → IsTrue failed → (IsTrue timed_out → why ≡ fault.TimedOut) → (¬ IsTrue timed_out → why ≡ fault.ReadFault)
     → DevicesSay (devices ended failed timed_out false false) why
-source_says why ended failed true h late other = subst (DevicesSay (devices ended failed true false false)) (sym (late tt)) (inl (h, tt))
-source_says why ended failed false h late other = subst (DevicesSay (devices ended failed false false false)) (sym (other (λ p. p))) (h, λ p. p)
+source_says why ended failed true h late other = subst (DevicesSay (devices ended failed true false false)) (sym (late refl)) (inl (h, refl))
+source_says why ended failed false h late other = subst (DevicesSay (devices ended failed false false false)) (sym (other not_false)) (h, not_false)
 
 pub source_fails : (why : SendFault) (timed_out : Bool) (bytes : List ℕ) → (IsTrue timed_out → why ≡ fault.TimedOut) → (¬ IsTrue timed_out → why ≡ fault.ReadFault)
     → FindsNone bytes → FailsNext why bytes
-source_fails why true bytes late other none = subst (λ w. FailsNext w bytes) (sym (late tt)) none
-source_fails why false bytes late other none = subst (λ w. FailsNext w bytes) (sym (other (λ p. p))) none
+source_fails why true bytes late other none = subst (λ w. FailsNext w bytes) (sym (late refl)) none
+source_fails why false bytes late other none = subst (λ w. FailsNext w bytes) (sym (other not_false)) none
 
 pub sink_says : (why : SendFault) (ended read_failed read_timed_out failed timed_out : Bool) → IsTrue failed → (IsTrue timed_out → why ≡ fault.TimedOut)
     → (¬ IsTrue timed_out → why ≡ fault.WriteFault) → DevicesSay (devices ended read_failed read_timed_out failed timed_out) why
 sink_says why ended read_failed read_timed_out failed true h late other =
-    subst (DevicesSay (devices ended read_failed read_timed_out failed true)) (sym (late tt)) (inr (h, tt))
+    subst (DevicesSay (devices ended read_failed read_timed_out failed true)) (sym (late refl)) (inr (h, refl))
 sink_says why ended read_failed read_timed_out failed false h late other =
-    subst (DevicesSay (devices ended read_failed read_timed_out failed false)) (sym (other (λ p. p))) (h, λ p. p)
+    subst (DevicesSay (devices ended read_failed read_timed_out failed false)) (sym (other not_false)) (h, not_false)
 
 -- What the source alone says, whatever the sink does.
 pub any_sink : (why : SendFault) (ended failed timed_out write_failed write_timed_out : Bool) → DevicesSay (devices ended failed timed_out false false) why
     → DevicesSay (devices ended failed timed_out write_failed write_timed_out) why
 any_sink fault.Ended ended failed timed_out write_failed write_timed_out says = says
 any_sink fault.ReadFault ended failed timed_out write_failed write_timed_out says = says
-any_sink fault.WriteFault ended failed timed_out write_failed write_timed_out (no, _) = absurd no
+any_sink fault.WriteFault ended failed timed_out write_failed write_timed_out (it, _) = absurd (not_false it)
 any_sink fault.TimedOut ended failed timed_out write_failed write_timed_out (inl says) = inl says
-any_sink fault.TimedOut ended failed timed_out write_failed write_timed_out (inr (no, _)) = absurd no
+any_sink fault.TimedOut ended failed timed_out write_failed write_timed_out (inr (it, _)) = absurd (not_false it)
 any_sink fault.TooLong ended failed timed_out write_failed write_timed_out says = tt
 any_sink fault.BadAnswer ended failed timed_out write_failed write_timed_out says = tt
 any_sink (fault.Refused e) ended failed timed_out write_failed write_timed_out says = tt
 
 some_left : (xs : List ℕ) (n : ℕ) → n < length xs → drop n xs ≢ []
 some_left [] n few = absurd (omega (arith, few))
-some_left (x ∷ xs) 0 few = λ e. cc
-some_left (x ∷ xs) (n + 1) few = some_left xs n (omega (arith, few))
+some_left (x ∷ xs) zero few = λ e. cc
+some_left (x ∷ xs) (suc n) few = some_left xs n (omega (arith, few))
 
 of_sink : (why : SendFault) (timed_out : Bool) → (IsTrue timed_out → why ≡ fault.TimedOut) → (¬ IsTrue timed_out → why ≡ fault.WriteFault) → IsOfSink why
-of_sink why true late other = subst IsOfSink (sym (late tt)) tt
-of_sink why false late other = subst IsOfSink (sym (other (λ p. p))) tt
+of_sink why true late other = subst IsOfSink (sym (late refl)) tt
+of_sink why false late other = subst IsOfSink (sym (other not_false)) tt
 
 -- Not all requests went out.
 pub begun : (why : SendFault) (timed_out : Bool) (came before after : Option (List ℕ)) (all : List ℕ) (n : ℕ) → n < length all → Appends before after (take n all)
@@ -125,6 +133,22 @@ pub begun : (why : SendFault) (timed_out : Bool) (came before after : Option (Li
     → (out : List ℕ) × (unsent : List ℕ) × (bytes : List ℕ) × Appends before after out × (all ≡ out ++ unsent) × Consumes came came bytes × FailsToAsk why unsent bytes
 begun why timed_out came before after all n few put late other =
     (take n all, drop n all, [], put, sym (take-append-drop n all), Consumes-nil came, inl (some_left all n few, refl, of_sink why timed_out late other))
+
+-- ## The next status byte
+
+-- So far nothing but answers of marks was read, and a half answer.
+pub none_yet : (before half : List ℕ) → AreMarks before → (half ≡ []) ⊎ HalfAnswer half → NoneYet (before ++ half) half
+none_yet before half m h = (before, m, refl, h)
+
+-- A byte that continues no answer.
+pub bad_next : (why : SendFault) (before half : List ℕ) (byte : ℕ) → why ≡ fault.BadAnswer → AreMarks before → (half ≡ []) ⊎ HalfAnswer half
+    → length (before ++ half) < 16384 → (ViableAnswer (half ++ byte ∷ []) → ⊥) → FailsNext why ((before ++ half) ++ byte ∷ [])
+bad_next why before half byte is m h few misfit =
+    subst (λ w. FailsNext w ((before ++ half) ++ byte ∷ [])) (sym is) (before ++ half, half, byte, none_yet before half m h, few, refl, misfit)
+
+-- The length of what was read with one more byte.
+pub one_longer : (before half : List ℕ) (byte : ℕ) → length ((before ++ half) ++ byte ∷ []) ≡ length (before ++ half) + 1
+one_longer before half byte = length-append (before ++ half) (byte ∷ [])
 
 -- ## The four status bytes, one after another
 
@@ -149,7 +173,7 @@ pub no_further : (why : SendFault) (a b c before after : Option (List ℕ)) (all
     → (late : List ℕ) × Consumes b c late × FailsNext why late
     → (out : List ℕ) × (unsent : List ℕ) × (bytes : List ℕ) × Appends before after out × (all ≡ out ++ unsent) × Consumes a c bytes × FailsToAsk why unsent bytes
 no_further why a b c before after all told put (early, h, tells) few (late, k, fails) =
-    (all, [], early ++ late, put, sym (append-nil all), Consumes-trans a b c early late h k, inr (refl, told, early, late, refl, tells, few, fails))
+    (all, [], early ++ late, put, sym (append-nil all), Consumes-trans a b c early late h k, inr (refl, (told, early, late, refl, tells, few, fails)))
 
 -- The four status bytes.
 pub all_told : (a b c d e : Option (List ℕ)) (first second third fourth : ℕ) → (x : List ℕ) × Consumes a b x × TellsNext x first → (x : List ℕ) × Consumes b c x × TellsNext x second

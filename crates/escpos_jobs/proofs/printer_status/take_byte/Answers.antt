@@ -1,5 +1,5 @@
 -- A byte completes an answer, or is one more of it.
-use Rattle.std.proofs.Common.{◌≡◌, ◌∙◌, ◌++◌, ◌∷◌, [], ℕ, List, append-nil, sym, ap, subst}
+use Rattle.std.proofs.Common.{◌≡◌, ◌∙◌, ◌++◌, ◌∷◌, [], ℕ, List, inl, append-nil, sym, ap, subst}
 use Rattle.escpos_command.specs.declared.answer.Answer.TheVariants as answer
 use Rattle.escpos_command.specs.Answers.{AnswerSpells}
 use Rattle.escpos_jobs.proofs.PrinterStatusLemmas.{no_marks, one_mark}
@@ -14,6 +14,9 @@ pub returns-in-Ok-Some-Mark-clause-passed : goal.returns-in-Ok-Some-Mark-clause-
 returns-in-Ok-Some-Mark-clause-passed c = λ e.
     let whole = c.push.ensures.whole (answer.Mark c.in-Ok-Some-Mark.field-0-0-0) (cc) in
     let bytes : List ℕ = c.args.answers.now ++ c.args.byte ∷ [] in (bytes, one_mark bytes c.in-Ok-Some-Mark.field-0-0-0 whole.1, sym (append-nil bytes) ∙ ap (λ v. bytes ++ v) (sym whole.0))
+
+pub returns-in-Ok-Some-Mark-clause-half : goal.returns-in-Ok-Some-Mark-clause-half
+returns-in-Ok-Some-Mark-clause-half c = λ e. inl (c.push.ensures.whole (answer.Mark c.in-Ok-Some-Mark.field-0-0-0) (cc)).0
 
 pub returns-in-Ok-None-clause-passed : goal.returns-in-Ok-None-clause-passed
 returns-in-Ok-None-clause-passed c = λ e. ([], no_marks, sym (c.push.ensures.half (cc)).0)
