@@ -106,18 +106,6 @@ sink_says why ended read_failed read_timed_out failed true h late other =
 sink_says why ended read_failed read_timed_out failed false h late other =
     subst (DevicesSay (devices ended read_failed read_timed_out failed false)) (sym (other not_false)) (h, not_false)
 
--- What the source alone says, whatever the sink does.
-pub any_sink : (why : SendFault) (ended failed timed_out write_failed write_timed_out : Bool) → DevicesSay (devices ended failed timed_out false false) why
-    → DevicesSay (devices ended failed timed_out write_failed write_timed_out) why
-any_sink fault.Ended ended failed timed_out write_failed write_timed_out says = says
-any_sink fault.ReadFault ended failed timed_out write_failed write_timed_out says = says
-any_sink fault.WriteFault ended failed timed_out write_failed write_timed_out (it, _) = absurd (not_false it)
-any_sink fault.TimedOut ended failed timed_out write_failed write_timed_out (inl says) = inl says
-any_sink fault.TimedOut ended failed timed_out write_failed write_timed_out (inr (it, _)) = absurd (not_false it)
-any_sink fault.TooLong ended failed timed_out write_failed write_timed_out says = tt
-any_sink fault.BadAnswer ended failed timed_out write_failed write_timed_out says = tt
-any_sink (fault.Refused e) ended failed timed_out write_failed write_timed_out says = tt
-
 some_left : (xs : List ℕ) (n : ℕ) → n < length xs → drop n xs ≢ []
 some_left [] n few = absurd (omega (arith, few))
 some_left (x ∷ xs) zero few = λ e. cc
