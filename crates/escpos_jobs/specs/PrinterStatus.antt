@@ -111,5 +111,5 @@ pub record AsksAndTells (p : Passed) (d : Devices) (o : JobEnd) : Type 0 where
   pub appends : Appends p.before p.after out
   pub asks : spell requests ≡ out ++ unsent
   pub tells :
-    ((s : PrinterStatus) × (unsent ≡ []) × TellsStatus bytes s × Tells o (status_text s) Good)
-    ⊎ ((why : SendFault) × FailsToAsk why unsent bytes × DevicesSay d why × Tells o (no_status_line why) Device)
+      ((s : PrinterStatus) × (unsent ≡ []) × TellsStatus bytes s × Tells o (status_text s) Good)
+      ⊎ ((why : SendFault) × FailsToAsk why unsent bytes × DevicesSay d why × Tells o (no_status_line why) Device)
