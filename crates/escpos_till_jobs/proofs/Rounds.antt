@@ -13,6 +13,7 @@ use Rattle.escpos_host.specs.declared.send.Sent.TheVariants as became
 use Rattle.escpos_jobs.specs.declared.status.Status.{Status}
 use Rattle.escpos_jobs.specs.Ending.{JobEnd, Tells, job_end}
 use Rattle.escpos_jobs.specs.Send.{Devices, DevicesSay}
+use Rattle.escpos_till.specs.declared.deliver.Delivered.{Delivered}
 use Rattle.escpos_till.specs.declared.deliver.Delivered.TheVariants as delivered
 use Rattle.escpos_till.specs.declared.entry.Entry.{Entry}
 use Rattle.escpos_till.specs.declared.entry.Entry.TheVariants as entry
