@@ -191,7 +191,9 @@ fn status_of_sent(sent: &Sent) -> Status
     }
 }
 
-fn status_of_fault(why: SendFault) -> Status
+/// The status for a receipt that isn't recorded for this reason: `Refused` if the mark numbers are used up, `Memory` if an
+/// allocation failed, and otherwise `Device`.
+pub fn status_of_fault(why: SendFault) -> Status
     ensures { result ≡ status_of_fault why }
 {
     match why {

@@ -6,7 +6,7 @@
 ghost use Rattle.std.specs.Prelude.{◌≡◌, ◌≢◌, ◌+◌, ◌<◌, ◌≤◌, ◌++◌, MatchOption, IfErr, IfOk, OnOk, [], ◌∷◌, codes, length, IsTrue};
 ghost use Rattle.std.specs.Io.KnownBytes.{Appends};
 ghost use Rattle.escpos_jobs.specs.Ending.{Tells, job_end};
-ghost use Rattle.escpos_jobs.specs.Send.{devices, status_of_fault};
+ghost use Rattle.escpos_jobs.specs.Send.{devices};
 ghost use Rattle.escpos_till.specs.declared.deliver.Delivered.{Delivered};
 ghost use Rattle.escpos_till.specs.Entries.{recorded, waiting};
 ghost use Rattle.escpos_till.specs.Ledger.{HasFailed, IsKept, IsLive};
@@ -15,10 +15,10 @@ ghost use Rattle.escpos_till_jobs.specs.Delivering.{CauseIsSaid, DeliversAndTell
 
 use crate::refusal::{refuse_call, tell_text};
 use escpos_command::LF;
-use escpos_host::{HostError, JsonError, SendFault};
+use escpos_host::JsonError;
 use escpos_io::{ByteIn, ByteOut, Gather, Incoming, Outgoing, append_number, laws};
 use escpos_jobs::ending::MEMORY;
-use escpos_jobs::send::{ANSWERS_LIMIT, is_memory_fault};
+use escpos_jobs::send::{ANSWERS_LIMIT, is_memory_fault, status_of_fault};
 use escpos_jobs::status::Status;
 use escpos_till::{CopyText, Delivered, Ledger, LedgerError, ReceiptNumber, Store, deliver_one};
 use std::alloc::Global;
@@ -270,16 +270,5 @@ fn tell_waiting<W: ByteOut>(
     match gather.flush(output) {
         Ok(()) => status,
         Err(_) => Status::Device,
-    }
-}
-
-// The status of a receipt that isn't recorded for this reason.
-fn status_of_fault(why: SendFault) -> Status
-    ensures { result ≡ status_of_fault why }
-{
-    match why {
-        SendFault::Refused(HostError::MarksUsedUp) => Status::Refused,
-        SendFault::Refused(HostError::Memory) => Status::Memory,
-        _ => Status::Device,
     }
 }

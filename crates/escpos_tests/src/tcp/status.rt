@@ -143,7 +143,11 @@ fn status_that_is_not_told(rt: HostRuntime) {
     tells(&rt, (marks.as_slice(), NEVER, NEVER), long);
     // no byte is read after the 16,384th
     let most = marks.get(..16_383).expect(&rt, "enough");
-    tells(&rt, (most, NEVER, NEVER), ("no status Ended\n", Status::Device));
+    tells(
+        &rt,
+        (most, NEVER, NEVER),
+        ("no status Ended\n", Status::Device),
+    );
     let over = marks.get(..16_384).expect(&rt, "enough");
     tells(&rt, (over, NEVER, NEVER), long);
 }
