@@ -124,7 +124,7 @@ fn status_rows(rt: HostRuntime) {
     }
 }
 
-// status_read_fault, status_write_fault, status_too_long, status_one_byte_less
+// status_read_fault, status_write_fault
 #[test]
 fn status_that_is_not_told(rt: HostRuntime) {
     let four = b"\x12\x12\x12\x12".as_slice();
@@ -133,23 +133,26 @@ fn status_that_is_not_told(rt: HostRuntime) {
     tells(&rt, (four, 4, NEVER), read);
     let write = ("no status WriteFault\n", Status::Device);
     tells(&rt, (four, NEVER, 1), write);
+}
+
+// So many of these bytes come, and this is printed.
+fn tells_of_the_first(rt: &impl Abort, answers: &[u8], count: usize, text: &str) {
+    let first = answers.get(..count).expect(rt, "enough");
+    tells(rt, (first, NEVER, NEVER), (text, Status::Device));
+}
+
+// No byte is read after the 16,384th: status_one_byte_less, status_too_long.
+#[test]
+fn status_too_long(rt: HostRuntime) {
     let marks = joined(
         &rt,
         rt.alloc(),
         ["7\"0000\x00", "7\"0001\x00", "7\"0002\x00"],
         2_400,
     );
-    let long = ("no status TooLong\n", Status::Device);
-    tells(&rt, (marks.as_slice(), NEVER, NEVER), long);
-    // no byte is read after the 16,384th
-    let most = marks.get(..16_383).expect(&rt, "enough");
-    tells(
-        &rt,
-        (most, NEVER, NEVER),
-        ("no status Ended\n", Status::Device),
-    );
-    let over = marks.get(..16_384).expect(&rt, "enough");
-    tells(&rt, (over, NEVER, NEVER), long);
+    tells_of_the_first(&rt, &marks, 16_383, "no status Ended\n");
+    tells_of_the_first(&rt, &marks, 16_384, "no status TooLong\n");
+    tells_of_the_first(&rt, &marks, 16_814, "no status TooLong\n");
 }
 
 // An output that fails is a device that fails.
