@@ -164,8 +164,8 @@ def fixed(word, name, text, status, says):
 def long_texts():
     """Returns the cases of inputs that are as long as one may be, and of those that have a byte more."""
     found = []
-    for word in "check", "render", "encode", "play", "loop":
-        make = {"check": times(b"4"), "render": times(b"4"), "play": times(b"0", b"drop\nmove ")}.get(word, lambda size: padded(b'[{"feed":1}]', size))
+    for word in "check", "render", "draw", "encode", "play", "loop":
+        make = {"check": times(b"4"), "render": times(b"4"), "draw": times(b"4"), "play": times(b"0", b"drop\nmove ")}.get(word, lambda size: padded(b'[{"feed":1}]', size))
         found.append(Case([word], "as long as may be", make, (LIMIT,), 0, b""))
         found.append(Case([word], "a byte too long", make, (LIMIT + 1,), 1, b"refused input\n"))
     return found
@@ -291,7 +291,7 @@ PEERS = [
 def cases():
     """Returns all cases."""
     found = long_texts() + LIMITS
-    for word in "check", "render":
+    for word in "check", "render", "draw":
         blanks = Case([word], "blanks", times(b" \t\r\n"), (SIZE // 4, SIZE), 0, b"end 0 pending 0\n" if word == "check" else b"")
         letters = Case([word], "letters", times(b"xyz"), (SIZE // 4, SIZE), 1, b"refused hex\n")
         spaced = Case([word], "a blank between all digits", times(b"4 "), (SIZE // 4, SIZE), 0, b"")

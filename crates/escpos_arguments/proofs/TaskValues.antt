@@ -11,7 +11,7 @@ use Rattle.escpos_arguments.specs.Arguments.{AsksBy, InRange, IsAddress, IsNumbe
 use Rattle.escpos_jobs.specs.declared.task.NoTask.{NoTask}
 use Rattle.escpos_jobs.specs.declared.task.NoTask.TheVariants.{Memory}
 use Rattle.escpos_jobs.specs.declared.task.Task.{Task}
-use Rattle.escpos_jobs.specs.declared.task.Task.TheVariants.{Check, CheckRaw, Render, RenderRaw, Encode, EncodeRaw, Play, Emulate, EmulateIn, Follow, Send, SendWithin, Status, Loop}
+use Rattle.escpos_jobs.specs.declared.task.Task.TheVariants.{Check, CheckRaw, Render, RenderRaw, Draw, DrawRaw, Encode, EncodeRaw, Play, Emulate, EmulateIn, Follow, Send, SendWithin, Status, Loop}
 use Rattle.escpos_arguments.specs.ClapAnswers.{IsNumber, IsNumberIn}
 
 -- what a typed getter gives for a number
@@ -81,6 +81,8 @@ wait_of_send rows Check r why asks range is taken = let e = ap head asks in absu
 wait_of_send rows CheckRaw r why asks range is taken = let bad = asks.0 in absurd cc
 wait_of_send rows Render r why asks range is taken = let e = ap head asks in absurd (omega (arith, e))
 wait_of_send rows RenderRaw r why asks range is taken = let bad = asks.0 in absurd cc
+wait_of_send rows Draw r why asks range is taken = let e = ap head asks in absurd (omega (arith, e))
+wait_of_send rows DrawRaw r why asks range is taken = let e = ap head asks.0 in absurd (omega (arith, e))
 wait_of_send rows Encode r why asks range is taken = let e = ap head asks in absurd (omega (arith, e))
 wait_of_send rows EncodeRaw r why asks range is taken = let bad = asks.0 in absurd cc
 wait_of_send rows Play r why asks range is taken = let e = ap head asks in absurd (omega (arith, e))

@@ -20,7 +20,7 @@ use Rattle.escpos_arguments.specs.ClapAnswers.{no_task_of}
 use Rattle.escpos_jobs.specs.declared.task.NoTask.{NoTask}
 use Rattle.escpos_jobs.specs.declared.task.NoTask.TheVariants.{Help, Memory}
 use Rattle.escpos_jobs.specs.declared.task.Task.{Task}
-use Rattle.escpos_jobs.specs.declared.task.Task.TheVariants.{Check, CheckRaw, Render, RenderRaw, Encode, EncodeRaw, Play, Emulate, EmulateIn, Follow, Send, SendWithin, Status, Loop}
+use Rattle.escpos_jobs.specs.declared.task.Task.TheVariants.{Check, CheckRaw, Render, RenderRaw, Draw, DrawRaw, Encode, EncodeRaw, Play, Emulate, EmulateIn, Follow, Send, SendWithin, Status, Loop}
 use Rattle.std.proofs.lemmas.Slice.Eq.{bytes_eq-Decides}
 
 pub is_exact : is_simple_and_free command_words ≡ true
@@ -50,6 +50,14 @@ render_passes = refl
 pub render_met : met_by (codes "render" ∷ []) ≡ Some (codes "render")
 unfolding clap_on_literals
 render_met = refl
+
+pub draw_passes : fault_of command_words (codes "draw" ∷ []) ≡ []
+unfolding clap_on_literals
+draw_passes = refl
+
+pub draw_met : met_by (codes "draw" ∷ []) ≡ Some (codes "draw")
+unfolding clap_on_literals
+draw_met = refl
 
 pub encode_passes : fault_of command_words (codes "encode" ∷ []) ≡ []
 unfolding clap_on_literals
@@ -113,45 +121,53 @@ is_help-6 : IsHelp (codes "render" ∷ codes "-h" ∷ [])
 unfolding clap_on_literals
 is_help-6 = inl refl
 
-is_help-7 : IsHelp (codes "encode" ∷ codes "--help" ∷ [])
+is_help-7 : IsHelp (codes "draw" ∷ codes "--help" ∷ [])
 unfolding clap_on_literals
 is_help-7 = inl refl
 
-is_help-8 : IsHelp (codes "encode" ∷ codes "-h" ∷ [])
+is_help-8 : IsHelp (codes "draw" ∷ codes "-h" ∷ [])
 unfolding clap_on_literals
 is_help-8 = inl refl
 
-is_help-9 : IsHelp (codes "play" ∷ codes "--help" ∷ [])
+is_help-9 : IsHelp (codes "encode" ∷ codes "--help" ∷ [])
 unfolding clap_on_literals
 is_help-9 = inl refl
 
-is_help-10 : IsHelp (codes "play" ∷ codes "-h" ∷ [])
+is_help-10 : IsHelp (codes "encode" ∷ codes "-h" ∷ [])
 unfolding clap_on_literals
 is_help-10 = inl refl
 
-is_help-11 : IsHelp (codes "emulate" ∷ codes "--help" ∷ [])
+is_help-11 : IsHelp (codes "play" ∷ codes "--help" ∷ [])
 unfolding clap_on_literals
 is_help-11 = inl refl
 
-is_help-12 : IsHelp (codes "emulate" ∷ codes "-h" ∷ [])
+is_help-12 : IsHelp (codes "play" ∷ codes "-h" ∷ [])
 unfolding clap_on_literals
 is_help-12 = inl refl
 
-is_help-13 : IsHelp (codes "send" ∷ codes "--help" ∷ [])
+is_help-13 : IsHelp (codes "emulate" ∷ codes "--help" ∷ [])
 unfolding clap_on_literals
 is_help-13 = inl refl
 
-is_help-14 : IsHelp (codes "send" ∷ codes "-h" ∷ [])
+is_help-14 : IsHelp (codes "emulate" ∷ codes "-h" ∷ [])
 unfolding clap_on_literals
 is_help-14 = inl refl
 
-is_help-15 : IsHelp (codes "loop" ∷ codes "--help" ∷ [])
+is_help-15 : IsHelp (codes "send" ∷ codes "--help" ∷ [])
 unfolding clap_on_literals
 is_help-15 = inl refl
 
-is_help-16 : IsHelp (codes "loop" ∷ codes "-h" ∷ [])
+is_help-16 : IsHelp (codes "send" ∷ codes "-h" ∷ [])
 unfolding clap_on_literals
 is_help-16 = inl refl
+
+is_help-17 : IsHelp (codes "loop" ∷ codes "--help" ∷ [])
+unfolding clap_on_literals
+is_help-17 = inl refl
+
+is_help-18 : IsHelp (codes "loop" ∷ codes "-h" ∷ [])
+unfolding clap_on_literals
+is_help-18 = inl refl
 
 pub is_help : (texts : List Text) → Contains help_words texts → IsHelp texts
 is_help texts (zero, below, at) = inr (sym at)
@@ -171,7 +187,9 @@ is_help texts (suc (suc (suc (suc (suc (suc (suc (suc (suc (suc (suc (suc (suc z
 is_help texts (suc (suc (suc (suc (suc (suc (suc (suc (suc (suc (suc (suc (suc (suc zero))))))))))))), below, at) = subst IsHelp at is_help-14
 is_help texts (suc (suc (suc (suc (suc (suc (suc (suc (suc (suc (suc (suc (suc (suc (suc zero)))))))))))))), below, at) = subst IsHelp at is_help-15
 is_help texts (suc (suc (suc (suc (suc (suc (suc (suc (suc (suc (suc (suc (suc (suc (suc (suc zero))))))))))))))), below, at) = subst IsHelp at is_help-16
-is_help texts (suc (suc (suc (suc (suc (suc (suc (suc (suc (suc (suc (suc (suc (suc (suc (suc (suc k)))))))))))))))), below, at) = absurd (omega arith)
+is_help texts (suc (suc (suc (suc (suc (suc (suc (suc (suc (suc (suc (suc (suc (suc (suc (suc (suc zero)))))))))))))))), below, at) = subst IsHelp at is_help-17
+is_help texts (suc (suc (suc (suc (suc (suc (suc (suc (suc (suc (suc (suc (suc (suc (suc (suc (suc (suc zero))))))))))))))))), below, at) = subst IsHelp at is_help-18
+is_help texts (suc (suc (suc (suc (suc (suc (suc (suc (suc (suc (suc (suc (suc (suc (suc (suc (suc (suc (suc k)))))))))))))))))), below, at) = absurd (omega arith)
 
 -- ---- what an error says
 
@@ -271,46 +289,48 @@ first_met word (name ∷ others) = if answers name word then Some name else firs
 
 -- the names of all subcommands
 abbrev own_names : List Text
-own_names = codes "check" ∷ codes "render" ∷ codes "encode" ∷ codes "play" ∷ codes "emulate" ∷ codes "send" ∷ codes "status" ∷ codes "loop" ∷ codes "help" ∷ []
+own_names = codes "check" ∷ codes "render" ∷ codes "draw" ∷ codes "encode" ∷ codes "play" ∷ codes "emulate" ∷ codes "send" ∷ codes "status" ∷ codes "loop" ∷ codes "help" ∷ []
 
--- the same for the nine names, by which of them the argument is
-abbrev pub met_if : Bool → Bool → Bool → Bool → Bool → Bool → Bool → Bool → Bool → Option Text
-met_if c r e p m s t l h =
-    if c then Some (codes "check") else (if r then Some (codes "render") else (if e then Some (codes "encode") else (if p then Some (codes "play") else (if m then Some (codes "emulate") else (if s then Some (codes "send") else (if t then Some (codes "status") else (if l then Some (codes "loop") else (if h then Some (codes "help") else None))))))))
+-- the same for the ten names, by which of them the argument is
+abbrev pub met_if : Bool → Bool → Bool → Bool → Bool → Bool → Bool → Bool → Bool → Bool → Option Text
+met_if c r d e p m s t l h =
+    if c then Some (codes "check") else (if r then Some (codes "render") else (if d then Some (codes "draw") else (if e then Some (codes "encode") else (if p then Some (codes "play") else (if m then Some (codes "emulate") else (if s then Some (codes "send") else (if t then Some (codes "status") else (if l then Some (codes "loop") else (if h then Some (codes "help") else None)))))))))
 
-met_conds : (c r e p m s t l h : Bool) → option_map (λ (s : Text × List Text). s.0)
-    (if c then Some (codes "check", []) else (if r then Some (codes "render", []) else (if e then Some (codes "encode", []) else (if p then Some (codes "play", []) else (if m then Some (codes "emulate", []) else (if s then Some (codes "send", []) else (if t then Some (codes "status", []) else (if l then Some (codes "loop", []) else (if h then Some (codes "help", []) else None)))))))))
-    ≡ met_if c r e p m s t l h
-met_conds true r e p m s t l h = refl
-met_conds false true e p m s t l h = refl
-met_conds false false true p m s t l h = refl
-met_conds false false false true m s t l h = refl
-met_conds false false false false true s t l h = refl
-met_conds false false false false false true t l h = refl
-met_conds false false false false false false true l h = refl
-met_conds false false false false false false false true h = refl
-met_conds false false false false false false false false true = refl
-met_conds false false false false false false false false false = refl
+met_conds : (c r d e p m s t l h : Bool) → option_map (λ (s : Text × List Text). s.0)
+    (if c then Some (codes "check", []) else (if r then Some (codes "render", []) else (if d then Some (codes "draw", []) else (if e then Some (codes "encode", []) else (if p then Some (codes "play", []) else (if m then Some (codes "emulate", []) else (if s then Some (codes "send", []) else (if t then Some (codes "status", []) else (if l then Some (codes "loop", []) else (if h then Some (codes "help", []) else None))))))))))
+    ≡ met_if c r d e p m s t l h
+met_conds true r d e p m s t l h = refl
+met_conds false true d e p m s t l h = refl
+met_conds false false true e p m s t l h = refl
+met_conds false false false true p m s t l h = refl
+met_conds false false false false true m s t l h = refl
+met_conds false false false false false true s t l h = refl
+met_conds false false false false false false true t l h = refl
+met_conds false false false false false false false true l h = refl
+met_conds false false false false false false false false true h = refl
+met_conds false false false false false false false false false true = refl
+met_conds false false false false false false false false false false = refl
 
 met_word : (word : Text) → subcommand_met names idle word ≡ first_met word own_names
-met_word word = met_conds (answers (codes "check") word) (answers (codes "render") word) (answers (codes "encode") word) (answers (codes "play") word) (answers (codes "emulate") word) (answers (codes "send") word) (answers (codes "status") word) (answers (codes "loop") word) (answers (codes "help") word)
+met_word word = met_conds (answers (codes "check") word) (answers (codes "render") word) (answers (codes "draw") word) (answers (codes "encode") word) (answers (codes "play") word) (answers (codes "emulate") word) (answers (codes "send") word) (answers (codes "status") word) (answers (codes "loop") word) (answers (codes "help") word)
 
 -- a name that is met is entered
-entered_if : (c r e p m s t l h : Bool) → entered_name (met_if c r e p m s t l h) ≡ met_if c r e p m s t l h
+entered_if : (c r d e p m s t l h : Bool) → entered_name (met_if c r d e p m s t l h) ≡ met_if c r d e p m s t l h
 unfolding clap_on_literals
-entered_if true r e p m s t l h = refl
-entered_if false true e p m s t l h = refl
-entered_if false false true p m s t l h = refl
-entered_if false false false true m s t l h = refl
-entered_if false false false false true s t l h = refl
-entered_if false false false false false true t l h = refl
-entered_if false false false false false false true l h = refl
-entered_if false false false false false false false true h = refl
-entered_if false false false false false false false false true = refl
-entered_if false false false false false false false false false = refl
+entered_if true r d e p m s t l h = refl
+entered_if false true d e p m s t l h = refl
+entered_if false false true e p m s t l h = refl
+entered_if false false false true p m s t l h = refl
+entered_if false false false false true m s t l h = refl
+entered_if false false false false false true s t l h = refl
+entered_if false false false false false false true t l h = refl
+entered_if false false false false false false false true l h = refl
+entered_if false false false false false false false false true h = refl
+entered_if false false false false false false false false false true = refl
+entered_if false false false false false false false false false false = refl
 
 entered_met : (word : Text) → entered_name (first_met word own_names) ≡ first_met word own_names
-entered_met word = entered_if (answers (codes "check") word) (answers (codes "render") word) (answers (codes "encode") word) (answers (codes "play") word) (answers (codes "emulate") word) (answers (codes "send") word) (answers (codes "status") word) (answers (codes "loop") word) (answers (codes "help") word)
+entered_met word = entered_if (answers (codes "check") word) (answers (codes "render") word) (answers (codes "draw") word) (answers (codes "encode") word) (answers (codes "play") word) (answers (codes "emulate") word) (answers (codes "send") word) (answers (codes "status") word) (answers (codes "loop") word) (answers (codes "help") word)
 
 or_false : (b : Bool) → (b || false) ≡ true → b ≡ true
 or_false true e = refl
@@ -349,6 +369,8 @@ task_met Check alone = check_met
 task_met CheckRaw alone = absurd alone
 task_met Render alone = render_met
 task_met RenderRaw alone = absurd alone
+task_met Draw alone = draw_met
+task_met DrawRaw alone = absurd alone
 task_met Encode alone = encode_met
 task_met EncodeRaw alone = absurd alone
 task_met Play alone = play_met
@@ -365,6 +387,8 @@ task_passes Check alone = check_passes
 task_passes CheckRaw alone = absurd alone
 task_passes Render alone = render_passes
 task_passes RenderRaw alone = absurd alone
+task_passes Draw alone = draw_passes
+task_passes DrawRaw alone = absurd alone
 task_passes Encode alone = encode_passes
 task_passes EncodeRaw alone = absurd alone
 task_passes Play alone = play_passes
@@ -382,6 +406,8 @@ plain_name Check name rows alone asks = asks
 plain_name CheckRaw name rows alone asks = absurd alone
 plain_name Render name rows alone asks = asks
 plain_name RenderRaw name rows alone asks = absurd alone
+plain_name Draw name rows alone asks = asks
+plain_name DrawRaw name rows alone asks = absurd alone
 plain_name Encode name rows alone asks = asks
 plain_name EncodeRaw name rows alone asks = absurd alone
 plain_name Play name rows alone asks = asks
@@ -406,6 +432,10 @@ check_flag = refl
 render_flag : raw_of (codes "render" ∷ []) ≡ Some (Some (codes "false"))
 unfolding clap_on_literals
 render_flag = refl
+
+draw_flag : raw_of (codes "draw" ∷ []) ≡ Some (Some (codes "false"))
+unfolding clap_on_literals
+draw_flag = refl
 
 encode_flag : raw_of (codes "encode" ∷ []) ≡ Some (Some (codes "false"))
 unfolding clap_on_literals
@@ -433,6 +463,8 @@ no_flag Check alone o e = some_other o (e ∙ check_flag)
 no_flag CheckRaw alone o e = absurd alone
 no_flag Render alone o e = some_other o (e ∙ render_flag)
 no_flag RenderRaw alone o e = absurd alone
+no_flag Draw alone o e = some_other o (e ∙ draw_flag)
+no_flag DrawRaw alone o e = absurd alone
 no_flag Encode alone o e = some_other o (e ∙ encode_flag)
 no_flag EncodeRaw alone o e = absurd alone
 no_flag Play alone o e = none_other o (e ∙ play_flag)

@@ -10,7 +10,7 @@ use Rattle.escpos_command.specs.Digits.{mark_count}
 use Rattle.escpos_arguments.specs.declared.arguments.TheConstants.{LINKS, MOST_LINKS, OPENINGS, MOST_OPENINGS, MOST_WAIT}
 use Rattle.escpos_printer.specs.declared.condition.Condition.{Condition}
 use Rattle.escpos_jobs.specs.declared.task.Task.{Task}
-use Rattle.escpos_jobs.specs.declared.task.Task.TheVariants.{Check, CheckRaw, Render, RenderRaw, Encode, EncodeRaw, Play, Emulate, EmulateIn, Follow, Send, SendWithin, Status, Loop}
+use Rattle.escpos_jobs.specs.declared.task.Task.TheVariants.{Check, CheckRaw, Render, RenderRaw, Draw, DrawRaw, Encode, EncodeRaw, Play, Emulate, EmulateIn, Follow, Send, SendWithin, Status, Loop}
 use Rattle.escpos_jobs.specs.Conditions.{condition_text, online}
 use Rattle.escpos_arguments.specs.ClapAnswers.{IsNumber, IsNumberIn}
 
@@ -33,6 +33,8 @@ name_of Check = codes "check"
 name_of CheckRaw = codes "check"
 name_of Render = codes "render"
 name_of RenderRaw = codes "render"
+name_of Draw = codes "draw"
+name_of DrawRaw = codes "draw"
 name_of Encode = codes "encode"
 name_of EncodeRaw = codes "encode"
 name_of Play = codes "play"
@@ -48,6 +50,7 @@ name_of Loop = codes "loop"
 abbrev pub IsPlain : Task → Type 0
 IsPlain CheckRaw = ⊥
 IsPlain RenderRaw = ⊥
+IsPlain DrawRaw = ⊥
 IsPlain EncodeRaw = ⊥
 IsPlain (Emulate address links) = ⊥
 IsPlain (EmulateIn address links condition) = ⊥
@@ -80,6 +83,8 @@ AsksBy name rows Check = name ≡ codes "check"
 AsksBy name rows CheckRaw = (name ≡ codes "check") × HasRaw rows
 AsksBy name rows Render = name ≡ codes "render"
 AsksBy name rows RenderRaw = (name ≡ codes "render") × HasRaw rows
+AsksBy name rows Draw = name ≡ codes "draw"
+AsksBy name rows DrawRaw = (name ≡ codes "draw") × HasRaw rows
 AsksBy name rows Encode = name ≡ codes "encode"
 AsksBy name rows EncodeRaw = (name ≡ codes "encode") × HasRaw rows
 AsksBy name rows Play = name ≡ codes "play"
@@ -135,6 +140,7 @@ abbrev pub help_words : List (List Text)
 help_words = (codes "help" ∷ []) ∷ (codes "--help" ∷ []) ∷ (codes "-h" ∷ [])
     ∷ (codes "check" ∷ codes "--help" ∷ []) ∷ (codes "check" ∷ codes "-h" ∷ [])
     ∷ (codes "render" ∷ codes "--help" ∷ []) ∷ (codes "render" ∷ codes "-h" ∷ [])
+    ∷ (codes "draw" ∷ codes "--help" ∷ []) ∷ (codes "draw" ∷ codes "-h" ∷ [])
     ∷ (codes "encode" ∷ codes "--help" ∷ []) ∷ (codes "encode" ∷ codes "-h" ∷ [])
     ∷ (codes "play" ∷ codes "--help" ∷ []) ∷ (codes "play" ∷ codes "-h" ∷ [])
     ∷ (codes "emulate" ∷ codes "--help" ∷ []) ∷ (codes "emulate" ∷ codes "-h" ∷ [])
@@ -155,7 +161,7 @@ option_rule name required = record (new_rule name) { long = Some name; required 
 abbrev pub flag_rule : Text → Rule
 flag_rule name = record (new_rule name) { long = Some name; action = Some SetTrue }
 
--- what may follow `check`, `render` and `encode`
+-- what may follow `check`, `render`, `draw` and `encode`
 abbrev pub raw_words : Text → Shape
 raw_words name = (with_rule (new_app name) (flag_rule (codes "raw"))).top
 
@@ -181,8 +187,8 @@ stream_words =
       disable_help_subcommand = true;
       subcommand_required = true;
     }) (new_app (codes "escpos_cli")) in
-    with_subcommand (with_subcommand (with_subcommand (with_subcommand top
-    (raw_words (codes "check"))) (raw_words (codes "render"))) (raw_words (codes "encode"))) (new_shape (codes "play"))
+    with_subcommand (with_subcommand (with_subcommand (with_subcommand (with_subcommand top
+    (raw_words (codes "check"))) (raw_words (codes "render"))) (raw_words (codes "draw"))) (raw_words (codes "encode"))) (new_shape (codes "play"))
 
 -- the name of a task with its values, or `help`, and nothing more
 abbrev pub command_words : App

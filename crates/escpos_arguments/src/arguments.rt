@@ -122,6 +122,8 @@ fn task_asked(alloc: Global, name: &str, given: &ArgMatches, count: usize) -> Re
         "check" if count == 1 => Ok(Task::Check),
         "render" if has_flag(given, "raw") => Ok(Task::RenderRaw),
         "render" if count == 1 => Ok(Task::Render),
+        "draw" if has_flag(given, "raw") => Ok(Task::DrawRaw),
+        "draw" if count == 1 => Ok(Task::Draw),
         "encode" if has_flag(given, "raw") => Ok(Task::EncodeRaw),
         "encode" if count == 1 => Ok(Task::Encode),
         "play" if count == 1 => Ok(Task::Play),
@@ -375,6 +377,7 @@ fn command_of_streams<'a>(alloc: Global) -> Result<Command<'a>, AllocError>
 {
     let check = raw_command(alloc, "check")?;
     let render = raw_command(alloc, "render")?;
+    let draw = raw_command(alloc, "draw")?;
     let encode = raw_command(alloc, "encode")?;
     let command = Command::new(alloc, "escpos_cli")
         .no_binary_name(true)
@@ -382,6 +385,7 @@ fn command_of_streams<'a>(alloc: Global) -> Result<Command<'a>, AllocError>
         .subcommand_required(true)
         .subcommand(check)?
         .subcommand(render)?
+        .subcommand(draw)?
         .subcommand(encode)?
         .subcommand(Command::new(alloc, "play"))?;
     Ok(command)

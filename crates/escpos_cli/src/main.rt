@@ -16,7 +16,7 @@ use escpos_jobs::status::Status;
 use escpos_jobs::task::NoTask;
 use escpos_jobs::usage::{VERSION, say_help};
 pub use escpos_jobs::{
-    check, emulate, encode, loop_link, perform, play, render, send, status, task,
+    check, draw, emulate, encode, loop_link, perform, play, render, send, status, task,
 };
 use sqlite::Unknown;
 use std::process::ExitCode;

@@ -3,6 +3,8 @@ pub mod CheckDigits
 pub mod Mapped
 pub mod Listings
 pub mod Renderings
+pub mod Drawings
+pub mod PlainLines
 pub mod Reports
 pub mod Spellings
 pub mod Encodings

@@ -2,7 +2,6 @@
 use Rattle.std.proofs.Common.{◌≡◌, ◌≢◌, ℕ, refl, inl, inr, List, [], ◌∷◌, ◌++◌, length, take, drop, append_assoc, append-nil, sym, ◌∙◌, ap, subst, arith, Result, Ok, Err, OnOk, false}
 use Rattle.std.specs.Prelude.{is_err, IsTrue, IsErr, IfSome, Option, Some, None, codes, ◌<◌, ◌≤◌}
 use Rattle.hex.specs.Hex.{decode_of}
-use Rattle.std.specs.Io.KnownBytes.{Appends}
 use Rattle.std.specs.List.{AllByRecursion}
 use Rattle.std.proofs.lemmas.Grind.{flat_map-append}
 use Rattle.std.proofs.lemmas.List.{nil_from_length, take-append-le, take-append-drop, take_all}
@@ -19,7 +18,7 @@ use Rattle.escpos_jobs.specs.declared.status.Status.{Status}
 use Rattle.escpos_jobs.specs.declared.status.Status.TheVariants.{Good, Refused, Usage, Device, Memory}
 use Rattle.escpos_jobs.specs.Lines.{fault_line}
 use Rattle.escpos_jobs.specs.Ending.{JobEnd, PrintsText, RefusesInput, StatusFits, memory_line}
-use Rattle.escpos_jobs.specs.Report.{Shape, Reports, Runs, RunsRaw, IsOfContent, IsCutShort}
+use Rattle.escpos_jobs.specs.Report.{Shape, ReportsAs, Reports, RunsAs, Runs, RunsRawAs, RunsRaw, IsOfContent, IsText, IsCutShort}
 
 -- The call has succeeded.
 pub succeeded : {T E : Type 0} {P : Type 0} (r : Result T E) → false ≡ is_err r → OnOk r P → P
@@ -76,11 +75,11 @@ refused_fits status half (inr e) h = e.1
 -- ## Reports
 
 -- All bytes were read.
-pub reports_read : ((bs : List ℕ) (cs ds : List Command) (x y : List ℕ) → Reads bs cs x → Reads bs ds y → (cs ≡ ds) × (x ≡ y))
-    → (shape : Shape) (o : JobEnd) (bytes half line : List ℕ) (cs : List Command) (status : Status) → Reads bytes cs half
-    → line ≡ shape.last (length bytes) (length half) → StatusFits status (length half) → PrintsText o (shape.gives cs ++ line) status → Reports shape o bytes
-reports_read one shape o bytes half line cs status r l fits s = record {
-  text = λ content. (shape.gives cs ++ line, inl (cs, half, r, ap (λ v. shape.gives cs ++ v) l), s.out (no_device o content));
+pub read_as : ((bs : List ℕ) (cs ds : List Command) (x y : List ℕ) → Reads bs cs x → Reads bs ds y → (cs ≡ ds) × (x ≡ y))
+    → (is_text is_short : List ℕ → List ℕ → Type 0) (o : JobEnd) (bytes half text : List ℕ) (cs : List Command) (status : Status) → Reads bytes cs half
+    → is_text bytes text → StatusFits status (length half) → PrintsText o text status → ReportsAs is_text is_short o bytes
+read_as one is_text is_short o bytes half text cs status r is fits s = record {
+  text = λ content. (text, is, s.out (no_device o content));
   good = λ e.
       let none = good_fits status (length half) fits (sym (as_wanted o _ status s (no_device o (inl e))) ∙ e) in
       (cs, subst (λ v. Reads bytes cs v) (nil_from_length half none) r);
@@ -91,26 +90,44 @@ reports_read one shape o bytes half line cs status r l fits s = record {
   memory = λ e. absurd (memory_never_fits status (length half) fits (sym (as_wanted o _ status s (memory_no_device o e)) ∙ e));
 }
 
+pub reports_read : ((bs : List ℕ) (cs ds : List Command) (x y : List ℕ) → Reads bs cs x → Reads bs ds y → (cs ≡ ds) × (x ≡ y))
+    → (shape : Shape) (o : JobEnd) (bytes half line : List ℕ) (cs : List Command) (status : Status) → Reads bytes cs half
+    → line ≡ shape.last (length bytes) (length half) → StatusFits status (length half) → PrintsText o (shape.gives cs ++ line) status → Reports shape o bytes
+reports_read one shape o bytes half line cs status r l fits s =
+    read_as one (IsText shape) (IsCutShort shape) o bytes half (shape.gives cs ++ line) cs status r (inl (cs, half, r, ap (λ v. shape.gives cs ++ v) l)) fits s
+
 -- A byte was refused.
-pub reports_refused : ((bs : List ℕ) → IsRead bs → IsRefused bs → ⊥)
-    → (shape : Shape) (o : JobEnd) (bytes rest line : List ℕ) (cs : List Command) (place : ℕ) (why : FaultReason) → FaultAt bytes cs rest place why
-    → line ≡ fault_line place why → PrintsText o (shape.gives cs ++ line) Refused → Reports shape o bytes
-reports_refused not_both shape o bytes rest line cs place why f l s = record {
-  text = λ content. (shape.gives cs ++ line, inr (cs, rest, place, why, f, ap (λ v. shape.gives cs ++ v) l), s.out (no_device o content));
+pub refused_as : ((bs : List ℕ) → IsRead bs → IsRefused bs → ⊥)
+    → (is_text is_short : List ℕ → List ℕ → Type 0) (o : JobEnd) (bytes text : List ℕ) → IsRefused bytes
+    → is_text bytes text → PrintsText o text Refused → ReportsAs is_text is_short o bytes
+refused_as not_both is_text is_short o bytes text f is s = record {
+  text = λ content. (text, is, s.out (no_device o content));
   good = λ e. let k = sym e ∙ as_wanted o _ Refused s (no_device o (inl e)) in absurd cc;
-  refused = λ e all. not_both bytes (all.0, [], all.1) (cs, rest, place, why, f);
+  refused = λ e all. not_both bytes (all.0, [], all.1) f;
   memory = λ e. let k = sym e ∙ as_wanted o _ Refused s (memory_no_device o e) in absurd cc;
 }
 
+pub reports_refused : ((bs : List ℕ) → IsRead bs → IsRefused bs → ⊥)
+    → (shape : Shape) (o : JobEnd) (bytes rest line : List ℕ) (cs : List Command) (place : ℕ) (why : FaultReason) → FaultAt bytes cs rest place why
+    → line ≡ fault_line place why → PrintsText o (shape.gives cs ++ line) Refused → Reports shape o bytes
+reports_refused not_both shape o bytes rest line cs place why f l s =
+    refused_as not_both (IsText shape) (IsCutShort shape) o bytes (shape.gives cs ++ line) (cs, rest, place, why, f)
+    (inr (cs, rest, place, why, f, ap (λ v. shape.gives cs ++ v) l)) s
+
 -- Memory ran out after a prefix of the bytes.
-pub reports_cut_short : (shape : Shape) (o : JobEnd) (bytes half : List ℕ) (k : ℕ) (cs : List Command) → Reads (take k bytes) cs half
-    → PrintsText o (shape.gives cs ++ memory_line) Memory → Reports shape o bytes
-reports_cut_short shape o bytes half k cs r s = record {
+pub short_as : (is_text is_short : List ℕ → List ℕ → Type 0) (o : JobEnd) (bytes text : List ℕ) → is_short bytes text
+    → PrintsText o text Memory → ReportsAs is_text is_short o bytes
+short_as is_text is_short o bytes text is s = record {
   text = λ content. absurd (content_no_memory o content (as_wanted o _ Memory s (no_device o content)));
   good = λ e. let h = sym e ∙ as_wanted o _ Memory s (no_device o (inl e)) in absurd cc;
   refused = λ e all. let h = sym e ∙ as_wanted o _ Memory s (no_device o (inr e)) in cc;
-  memory = λ e. (shape.gives cs ++ memory_line, (k, cs, half, r, refl), s.out (memory_no_device o e));
+  memory = λ e. (text, is, s.out (memory_no_device o e));
 }
+
+pub reports_cut_short : (shape : Shape) (o : JobEnd) (bytes half : List ℕ) (k : ℕ) (cs : List Command) → Reads (take k bytes) cs half
+    → PrintsText o (shape.gives cs ++ memory_line) Memory → Reports shape o bytes
+reports_cut_short shape o bytes half k cs r s =
+    short_as (IsText shape) (IsCutShort shape) o bytes (shape.gives cs ++ memory_line) (k, cs, half, r, refl) s
 
 all_front : (cs ds : List Command) → AllByRecursion IsCommand (cs ++ ds) → AllByRecursion IsCommand cs
 all_front [] ds h = tt
@@ -133,10 +150,8 @@ reads_nothing : Reads [] [] []
 reads_nothing = record { commands = tt; whole = refl; rest_is = inl refl }
 
 -- The bytes couldn't even be read, because an allocation failed.
-pub cut_short_at_once : (shape : Shape) (before after : Option (List ℕ)) (bytes : List ℕ) → Appends before after memory_line
-    → (text : List ℕ) × IsCutShort shape bytes text × Appends before after text
-cut_short_at_once shape before after bytes out =
-    (memory_line, (0, [], [], reads_nothing, ap (λ v. v ++ memory_line) (sym shape.starts_empty)), out)
+short_at_once : (shape : Shape) (bytes : List ℕ) → IsCutShort shape bytes memory_line
+short_at_once shape bytes = (0, [], [], reads_nothing, ap (λ v. v ++ memory_line) (sym shape.starts_empty))
 
 -- ## Input that gives no bytes
 
@@ -173,20 +188,12 @@ refuses_at_memory o line s = record {
   memory = λ e. s.out (memory_no_device o e);
 }
 
-reports_at_device : (shape : Shape) (o : JobEnd) (bytes : List ℕ) → o.status ≡ Device → Reports shape o bytes
-reports_at_device shape o bytes d = record {
+pub reports_at_device : (is_text is_short : List ℕ → List ℕ → Type 0) (o : JobEnd) (bytes : List ℕ) → o.status ≡ Device → ReportsAs is_text is_short o bytes
+reports_at_device is_text is_short o bytes d = record {
   text = λ content. absurd (no_device o content d);
   good = λ e. absurd (no_device o (inl e) d);
   refused = λ e all. no_device o (inr e) d;
   memory = λ e. absurd (memory_no_device o e d);
-}
-
-reports_at_memory : (shape : Shape) (o : JobEnd) (bytes : List ℕ) → PrintsText o memory_line Memory → Reports shape o bytes
-reports_at_memory shape o bytes s = record {
-  text = λ content. absurd (content_no_memory o content (as_wanted o memory_line Memory s (no_device o content)));
-  good = λ e. absurd (content_no_memory o (inl e) (as_wanted o memory_line Memory s (no_device o (inl e))));
-  refused = λ e all. content_no_memory o (inr e) (as_wanted o memory_line Memory s (no_device o (inr e)));
-  memory = λ e. cut_short_at_once shape o.before o.after bytes (s.out (memory_no_device o e));
 }
 
 both_lengths : (input : List ℕ) → INPUT_LIMIT < length input → length input ≤ INPUT_LIMIT → ⊥
@@ -195,45 +202,74 @@ both_lengths input h k = omega arith
 decoded_or_not : (input bytes : List ℕ) → IsErr (decode_of (digits_of input)) → IsHexadecimal input bytes → ⊥
 decoded_or_not input bytes h e = let clash = subst (λ r. IsErr r) e h in absurd cc
 
-runs_by : (shape : Shape) (o : JobEnd) (fault : InputFault) (input : List ℕ) → Shows fault input → Answers fault o → Runs shape o input
-runs_by shape o fault_kind.TooLong input h s = record {
+-- `AtDevice` and `AtMemory` are what is to be shown of any bytes where the status is that of a failed device, and where only the
+-- line is printed that says that an allocation failed.
+abbrev AtDevice : (JobEnd → List ℕ → Type 0) → Type 0
+AtDevice reports = (o : JobEnd) (bytes : List ℕ) → o.status ≡ Device → reports o bytes
+
+abbrev AtMemory : (JobEnd → List ℕ → Type 0) → Type 0
+AtMemory reports = (o : JobEnd) (bytes : List ℕ) → PrintsText o memory_line Memory → reports o bytes
+
+runs_by : (reports : JobEnd → List ℕ → Type 0) → AtDevice reports → AtMemory reports
+    → (o : JobEnd) (fault : InputFault) (input : List ℕ) → Shows fault input → Answers fault o → RunsAs reports o input
+runs_by reports at_device at_memory o fault_kind.TooLong input h s = record {
   too_long = λ long. refuses o _ (s.too_long refl);
   not_hexadecimal = λ short e. absurd (both_lengths input (h.too_long refl) short);
   hexadecimal = λ bytes short e. absurd (both_lengths input (h.too_long refl) short);
 }
-runs_by shape o fault_kind.NotHexadecimal input h s = record {
+runs_by reports at_device at_memory o fault_kind.NotHexadecimal input h s = record {
   too_long = λ long. absurd (both_lengths input long (h.not_hexadecimal refl).0);
   not_hexadecimal = λ short e. refuses o _ (s.not_hexadecimal refl);
   hexadecimal = λ bytes short e. absurd (decoded_or_not input bytes (h.not_hexadecimal refl).1 e);
 }
-runs_by shape o fault_kind.Device input h s = record {
+runs_by reports at_device at_memory o fault_kind.Device input h s = record {
   too_long = λ long. refuses_at_device o _ (s.device refl);
   not_hexadecimal = λ short e. refuses_at_device o _ (s.device refl);
-  hexadecimal = λ bytes short e. reports_at_device shape o bytes (s.device refl);
+  hexadecimal = λ bytes short e. at_device o bytes (s.device refl);
 }
-runs_by shape o fault_kind.Memory input h s = record {
+runs_by reports at_device at_memory o fault_kind.Memory input h s = record {
   too_long = λ long. refuses_at_memory o _ (s.memory refl);
   not_hexadecimal = λ short e. refuses_at_memory o _ (s.memory refl);
-  hexadecimal = λ bytes short e. reports_at_memory shape o bytes (s.memory refl);
+  hexadecimal = λ bytes short e. at_memory o bytes (s.memory refl);
 }
 
 -- Where the source can name its bytes.
+pub runs_as : (reports : JobEnd → List ℕ → Type 0) → AtDevice reports → AtMemory reports
+    → (o : JobEnd) (fault : InputFault) (known : Option (List ℕ)) → (fault ≡ fault_kind.TooLong → IfSome known (λ text. INPUT_LIMIT < length text))
+    → (fault ≡ fault_kind.NotHexadecimal → IfSome known (λ text. (length text ≤ INPUT_LIMIT) × IsErr (decode_of (digits_of text)))) → Answers fault o
+    → IfSome known (λ text. RunsAs reports o text)
+runs_as reports at_device at_memory o fault None long bad s = tt
+runs_as reports at_device at_memory o fault (Some text) long bad s = runs_by reports at_device at_memory o fault text (record { too_long = long; not_hexadecimal = bad }) s
+
+at_memory : (shape : Shape) → AtMemory (Reports shape)
+at_memory shape o bytes s = short_as (IsText shape) (IsCutShort shape) o bytes memory_line (short_at_once shape bytes) s
+
 pub runs_refused : (shape : Shape) (o : JobEnd) (fault : InputFault) (known : Option (List ℕ)) → (fault ≡ fault_kind.TooLong → IfSome known (λ text. INPUT_LIMIT < length text))
     → (fault ≡ fault_kind.NotHexadecimal → IfSome known (λ text. (length text ≤ INPUT_LIMIT) × IsErr (decode_of (digits_of text)))) → Answers fault o
     → IfSome known (λ text. Runs shape o text)
-runs_refused shape o fault None long bad s = tt
-runs_refused shape o fault (Some text) long bad s = runs_by shape o fault text (record { too_long = long; not_hexadecimal = bad }) s
+runs_refused shape o fault known long bad s =
+    runs_as (Reports shape) (reports_at_device (IsText shape) (IsCutShort shape)) (at_memory shape) o fault known long bad s
 
 -- ## Input as it is
 
-runs_raw_by : (shape : Shape) (o : JobEnd) (fault : InputFault) (input : List ℕ) → (fault ≡ fault_kind.TooLong → INPUT_LIMIT < length input) → (fault ≡ fault_kind.NotHexadecimal → ⊥)
-    → Answers fault o → RunsRaw shape o input
-runs_raw_by shape o fault_kind.TooLong input long never s = record { too_long = λ h. refuses o _ (s.too_long refl); short = λ short. absurd (both_lengths input (long refl) short) }
-runs_raw_by shape o fault_kind.NotHexadecimal input long never s = absurd (never refl)
-runs_raw_by shape o fault_kind.Device input long never s = record { too_long = λ h. refuses_at_device o _ (s.device refl); short = λ short. reports_at_device shape o input (s.device refl) }
-runs_raw_by shape o fault_kind.Memory input long never s = record { too_long = λ h. refuses_at_memory o _ (s.memory refl); short = λ short. reports_at_memory shape o input (s.memory refl) }
+runs_raw_by : (reports : JobEnd → List ℕ → Type 0) → AtDevice reports → AtMemory reports
+    → (o : JobEnd) (fault : InputFault) (input : List ℕ) → (fault ≡ fault_kind.TooLong → INPUT_LIMIT < length input) → (fault ≡ fault_kind.NotHexadecimal → ⊥)
+    → Answers fault o → RunsRawAs reports o input
+runs_raw_by reports at_device at_memory o fault_kind.TooLong input long never s =
+    record { too_long = λ h. refuses o _ (s.too_long refl); short = λ short. absurd (both_lengths input (long refl) short) }
+runs_raw_by reports at_device at_memory o fault_kind.NotHexadecimal input long never s = absurd (never refl)
+runs_raw_by reports at_device at_memory o fault_kind.Device input long never s =
+    record { too_long = λ h. refuses_at_device o _ (s.device refl); short = λ short. at_device o input (s.device refl) }
+runs_raw_by reports at_device at_memory o fault_kind.Memory input long never s =
+    record { too_long = λ h. refuses_at_memory o _ (s.memory refl); short = λ short. at_memory o input (s.memory refl) }
+
+pub runs_raw_as : (reports : JobEnd → List ℕ → Type 0) → AtDevice reports → AtMemory reports
+    → (o : JobEnd) (fault : InputFault) (known : Option (List ℕ)) → (fault ≡ fault_kind.TooLong → IfSome known (λ all. INPUT_LIMIT < length all))
+    → (fault ≡ fault_kind.NotHexadecimal → ⊥) → Answers fault o → IfSome known (λ all. RunsRawAs reports o all)
+runs_raw_as reports at_device at_memory o fault None long never s = tt
+runs_raw_as reports at_device at_memory o fault (Some all) long never s = runs_raw_by reports at_device at_memory o fault all long never s
 
 pub runs_raw_refused : (shape : Shape) (o : JobEnd) (fault : InputFault) (known : Option (List ℕ)) → (fault ≡ fault_kind.TooLong → IfSome known (λ all. INPUT_LIMIT < length all))
     → (fault ≡ fault_kind.NotHexadecimal → ⊥) → Answers fault o → IfSome known (λ all. RunsRaw shape o all)
-runs_raw_refused shape o fault None long never s = tt
-runs_raw_refused shape o fault (Some all) long never s = runs_raw_by shape o fault all long never s
+runs_raw_refused shape o fault known long never s =
+    runs_raw_as (Reports shape) (reports_at_device (IsText shape) (IsCutShort shape)) (at_memory shape) o fault known long never s

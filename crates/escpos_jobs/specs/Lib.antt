@@ -21,5 +21,7 @@ pub mod Play
 pub mod Perform
 pub mod ScriptSteps
 pub mod RenderSteps
+pub mod Draw
+pub mod DrawSteps
 pub mod LastText
 pub mod ScriptLines

@@ -39,21 +39,31 @@ IsAllRead bytes = (cs : List Command) × Reads bytes cs []
 abbrev pub IsOfContent : Status → Type 0
 IsOfContent status = (status ≡ Good) ⊎ (status ≡ Refused)
 
--- What a job does with these bytes: their text is printed, and the status is good exactly if all is read. If an allocation
--- fails, the text is cut short.
-pub record Reports (shape : Shape) (o : JobEnd) (bytes : List ℕ) : Type 0 where
-  pub text : IsOfContent o.status → (text : List ℕ) × IsText shape bytes text × Puts o text
+-- What a job does with these bytes, of which `is_text` tells the text, and `is_short` what is printed where an allocation fails:
+-- their text is printed, and the status is good exactly if all is read.
+pub record ReportsAs (is_text is_short : List ℕ → List ℕ → Type 0) (o : JobEnd) (bytes : List ℕ) : Type 0 where
+  pub text : IsOfContent o.status → (text : List ℕ) × is_text bytes text × Puts o text
   pub good : o.status ≡ Good → IsAllRead bytes
   pub refused : o.status ≡ Refused → IsAllRead bytes → ⊥
-  pub memory : o.status ≡ Memory → (text : List ℕ) × IsCutShort shape bytes text × Puts o text
+  pub memory : o.status ≡ Memory → (text : List ℕ) × is_short bytes text × Puts o text
 
--- What a job does with its input where that is the bytes themselves: too long, or bytes.
-pub record RunsRaw (shape : Shape) (o : JobEnd) (input : List ℕ) : Type 0 where
+-- The same for a job of this shape.
+abbrev pub Reports : Shape → JobEnd → List ℕ → Type 0
+Reports shape o bytes = ReportsAs (IsText shape) (IsCutShort shape) o bytes
+
+-- What a job does with its input where that is the bytes themselves: too long, or bytes, of which `reports` tells the rest.
+pub record RunsRawAs (reports : JobEnd → List ℕ → Type 0) (o : JobEnd) (input : List ℕ) : Type 0 where
   pub too_long : INPUT_LIMIT < length input → RefusesInput o (codes "refused input\n")
-  pub short : length input ≤ INPUT_LIMIT → Reports shape o input
+  pub short : length input ≤ INPUT_LIMIT → reports o input
+
+abbrev pub RunsRaw : Shape → JobEnd → List ℕ → Type 0
+RunsRaw shape o input = RunsRawAs (Reports shape) o input
 
 -- What a job does with its input in hexadecimal: too long, not hexadecimal, or bytes.
-pub record Runs (shape : Shape) (o : JobEnd) (input : List ℕ) : Type 0 where
+pub record RunsAs (reports : JobEnd → List ℕ → Type 0) (o : JobEnd) (input : List ℕ) : Type 0 where
   pub too_long : INPUT_LIMIT < length input → RefusesInput o (codes "refused input\n")
   pub not_hexadecimal : length input ≤ INPUT_LIMIT → IsErr (decode_of (digits_of input)) → RefusesInput o (codes "refused hex\n")
-  pub hexadecimal : (bytes : List ℕ) → length input ≤ INPUT_LIMIT → IsHexadecimal input bytes → Reports shape o bytes
+  pub hexadecimal : (bytes : List ℕ) → length input ≤ INPUT_LIMIT → IsHexadecimal input bytes → reports o bytes
+
+abbrev pub Runs : Shape → JobEnd → List ℕ → Type 0
+Runs shape o input = RunsAs (Reports shape) o input

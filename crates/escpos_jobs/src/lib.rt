@@ -7,16 +7,19 @@
 //! `notes` the note on a wrong check digit, and `paper_text` keeps the paper of `emulate`. `input`, `hexadecimal` and
 //! `receipt_input` read the input, `byte_form` has the two forms in which `encode` writes, `refusal` has the line that refuses
 //! a receipt, `ending` the line that a job prints in place of everything else, and `status` the exit status of the program.
+//! `laws` has why the last line can stand in a picture as it is.
 #![tactic(auto)]
 
 mod byte_form;
 pub mod check;
+pub mod draw;
 pub mod emulate;
 pub mod encode;
 pub mod ending;
 pub mod hexadecimal;
 pub mod input;
 mod job;
+pub mod laws;
 mod lines;
 pub mod loop_link;
 mod notes;

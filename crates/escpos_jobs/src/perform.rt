@@ -3,6 +3,7 @@
 ghost use Rattle.std.specs.Prelude.{◌≡◌, ◌≢◌, ◌⊎◌, ◌+◌, ◌≤◌, IfSome, IsTrue};
 ghost use Rattle.escpos_jobs.specs.declared.input.TheConstants.{INPUT_LIMIT};
 ghost use Rattle.escpos_jobs.specs.Check.{Checks, ChecksRaw};
+ghost use Rattle.escpos_jobs.specs.Draw.{DrawsInput, DrawsRaw};
 ghost use Rattle.escpos_jobs.specs.Encode.{Encodes, EncodesRaw};
 ghost use Rattle.escpos_jobs.specs.Render.{RendersInput, RendersRaw};
 ghost use Rattle.escpos_jobs.specs.Ending.{PrintsText, memory_line, job_end};
@@ -11,6 +12,7 @@ ghost use Rattle.escpos_jobs.specs.declared.usage.TheConstants.{HELP, USAGE};
 ghost use Rattle.escpos_jobs.specs.Perform.{ReadsInput, UsesLinks};
 
 use crate::check::{check, check_raw};
+use crate::draw::{draw, draw_raw};
 use crate::emulate::{ONLINE, emulate_in, follow};
 use crate::encode::{encode, encode_raw};
 use crate::ending::{MEMORY, say};
@@ -43,12 +45,16 @@ pub fn perform<N: Net<Stream = TcpStream, Listener = TcpListener>, R: ByteIn, W:
         IfSome (R.to_come input.old) (λ text. Checks (job_end (W.written output.old) (W.written output.new) (W.failed output.new) result) text) }
     ensures render { asked ≡ Ok Task.Render →
         IfSome (R.to_come input.old) (λ text. RendersInput (job_end (W.written output.old) (W.written output.new) (W.failed output.new) result) text) }
+    ensures draw { asked ≡ Ok Task.Draw →
+        IfSome (R.to_come input.old) (λ text. DrawsInput (job_end (W.written output.old) (W.written output.new) (W.failed output.new) result) text) }
     ensures encode { asked ≡ Ok Task.Encode →
         IfSome (R.to_come input.old) (λ text. Encodes (job_end (W.written output.old) (W.written output.new) (W.failed output.new) result) text) }
     ensures check_raw { asked ≡ Ok Task.CheckRaw →
         IfSome (R.to_come input.old) (λ bytes. ChecksRaw (job_end (W.written output.old) (W.written output.new) (W.failed output.new) result) bytes) }
     ensures render_raw { asked ≡ Ok Task.RenderRaw →
         IfSome (R.to_come input.old) (λ bytes. RendersRaw (job_end (W.written output.old) (W.written output.new) (W.failed output.new) result) bytes) }
+    ensures draw_raw { asked ≡ Ok Task.DrawRaw →
+        IfSome (R.to_come input.old) (λ bytes. DrawsRaw (job_end (W.written output.old) (W.written output.new) (W.failed output.new) result) bytes) }
     ensures encode_raw { asked ≡ Ok Task.EncodeRaw →
         IfSome (R.to_come input.old) (λ text. EncodesRaw (job_end (W.written output.old) (W.written output.new) (W.failed output.new) result) text) }
     ensures play { asked ≡ Ok Task.Play →
@@ -72,6 +78,8 @@ pub fn perform<N: Net<Stream = TcpStream, Listener = TcpListener>, R: ByteIn, W:
         Ok(Task::CheckRaw) => check_raw(alloc, input, output),
         Ok(Task::Render) => render(alloc, input, output),
         Ok(Task::RenderRaw) => render_raw(alloc, input, output),
+        Ok(Task::Draw) => draw(alloc, input, output),
+        Ok(Task::DrawRaw) => draw_raw(alloc, input, output),
         Ok(Task::Encode) => encode(alloc, input, output),
         Ok(Task::EncodeRaw) => encode_raw(alloc, input, output),
         Ok(Task::Play) => play(alloc, input, output),

@@ -15,6 +15,10 @@ pub enum Task {
     Render,
     /// The same of a stream that is given as it is.
     RenderRaw,
+    /// Draw the paper that a byte stream prints, which is given in hexadecimal.
+    Draw,
+    /// The same of a stream that is given as it is.
+    DrawRaw,
     /// Write the bytes of a receipt's commands in hexadecimal.
     Encode,
     /// Write the bytes of a receipt's commands as they are.

@@ -13,6 +13,7 @@ pub const VERSION: &str = "escpos_cli 1.0.0, profile 2\n";
 pub const USAGE: &str = "\
 usage: escpos_cli check [--raw] < STREAM
        escpos_cli render [--raw] < STREAM
+       escpos_cli draw [--raw] < STREAM
        escpos_cli encode [--raw] < RECEIPT
        escpos_cli play < SCRIPT
        escpos_cli emulate ADDRESS [--links N | --follow] [--condition CNP]
@@ -34,12 +35,12 @@ exact byte at which the stream is refused, and writes the stream of a receipt.
 Over TCP it is a printer, or sends a receipt to one and learns that it is
 printed. A till's receipts wait in a ledger, a file, until they are printed.
 
-`check` and `render` read the stream from standard input: with `--raw` all of
-its bytes as they are, otherwise hexadecimal digits of either case; spaces, tabs
-and line ends between these are ignored. Input of more than 16777216 bytes gives
-the one line `refused input`; without `--raw` any other that isn't hexadecimal
-gives `refused hex`: bytes want `--raw`. A last line `memory` says that the
-program ran out of memory.
+`check`, `render` and `draw` read the stream from standard input: with `--raw`
+all of its bytes as they are, otherwise hexadecimal digits of either case;
+spaces, tabs and line ends between these are ignored. Input of more
+than 16777216 bytes gives the one line `refused input`; without `--raw` any
+other that isn't hexadecimal gives `refused hex`: bytes want `--raw`. A last
+line `memory` says that the program ran out of memory.
 
   escpos_cli check [--raw]
       Lists the commands. Each gives one line: the number of bytes before it,
@@ -82,6 +83,17 @@ program ran out of memory.
 
           $ echo '1D 6B 44 07 35 35 31 32 33 34 35' | escpos_cli render
           bars left ean8 162 3 none A 55123457
+
+  escpos_cli draw [--raw]
+      Draws the same paper as a picture, an SVG document that any browser shows:
+      text that can be selected, the dots of rasters, and barcodes that a
+      scanner reads. One that doesn't fit on the line, or that its symbology
+      can't spell, is a box with the words `not scannable`. After a refused byte
+      or a command that isn't complete the last line of `check` stands under the
+      paper.
+
+          $ escpos_cli draw --raw < capture.bin > receipt.svg
+          $ echo '1B 40 48 69 0A 1D 56 00' | escpos_cli draw > receipt.svg
 
   escpos_cli encode [--raw]
       Reads a receipt in JSON from standard input, and writes the bytes of its

@@ -2,6 +2,7 @@
 
 mod arguments;
 mod check;
+mod draw;
 mod encode;
 mod encode_sizes;
 mod examples;

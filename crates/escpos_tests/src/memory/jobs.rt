@@ -34,6 +34,42 @@ const RENDERED_STREAM: (&[u8], Status) = (
     Status::Refused,
 );
 
+// A line, a raster and a half command, in hexadecimal and as bytes, and what is drawn of them: 64 dots of margins, 30 of the line
+// with its feed and 2 of the raster, and 40 for the line under the paper.
+const DRAWN_TEXT: &[u8] = b"48690A 1D763000010002 00f00f 1B";
+
+const DRAWN_BYTES: &[u8] = b"Hi\n\x1Dv0\x00\x01\x00\x02\x00\xF0\x0F\x1B";
+
+const DRAWN_STREAM: (&[u8], Status) = (
+    b"\
+<svg xmlns=\"http://www.w3.org/2000/svg\" version=\"1.1\" width=\"576\" height=\"136\" viewBox=\"0 0 576 136\" xml:space=\"preserve\">
+<style type=\"text/css\">
+.paper{fill:#fff}
+text{font-family:\"DejaVu Sans Mono\",Menlo,Consolas,monospace;font-size:20px;white-space:pre}
+.B{font-size:15px}
+.bold{font-weight:bold}
+.middle{text-anchor:middle}
+.bars path,.raster path{stroke:#000;shape-rendering:crispEdges}
+.raster{clip-path:url(#line)}
+.box,.cut circle,.cut path{fill:none;stroke:#000;stroke-width:2}
+.dashes{stroke-dasharray:8 6}
+.last{fill:#a00}
+</style>
+<clipPath id=\"line\"><path d=\"M0 0h512v8190H0z\"/></clipPath>
+<rect class=\"paper\" width=\"576\" height=\"96\"/>
+<g class=\"row\" transform=\"translate(32,50)\"><text x=\"0\" textLength=\"24\">Hi</text></g>
+<g class=\"feed\"/>
+<g class=\"raster\" transform=\"translate(32,62)\"><g transform=\"scale(1,1)\">
+<path d=\"M0 0.5h4m4 0\"/>
+<path d=\"M0 1.5m4 0h4\"/>
+</g></g>
+<text class=\"last\" x=\"32\" y=\"122\">end 14 pending 1
+</text>
+</svg>
+",
+    Status::Refused,
+);
+
 // A receipt in JSON, and the bytes of its commands in hexadecimal.
 const RECEIPT_TEXT: &[u8] =
     b"[{\"line\":\"Hi\"},{\"bars\":{\"kind\":\"ean8\",\"content\":\"5512345\"}},\
@@ -70,9 +106,11 @@ const PLAYED: (&[u8], Status) = (
 enum Job {
     Check,
     Render,
+    Draw,
     Encode,
     CheckRaw,
     RenderRaw,
+    DrawRaw,
     EncodeRaw,
     Play,
     Perform(Task),
@@ -82,9 +120,11 @@ fn do_job(alloc: Global, job: Job, source: &mut MemoryIn, sink: &mut MemoryOut) 
     match job {
         Job::Check => escpos_jobs::check::check(alloc, source, sink),
         Job::Render => escpos_jobs::render::render(alloc, source, sink),
+        Job::Draw => escpos_jobs::draw::draw(alloc, source, sink),
         Job::Encode => escpos_jobs::encode::encode(alloc, source, sink),
         Job::CheckRaw => escpos_jobs::check::check_raw(alloc, source, sink),
         Job::RenderRaw => escpos_jobs::render::render_raw(alloc, source, sink),
+        Job::DrawRaw => escpos_jobs::draw::draw_raw(alloc, source, sink),
         Job::EncodeRaw => escpos_jobs::encode::encode_raw(alloc, source, sink),
         Job::Play => escpos_jobs::play::play(alloc, source, sink),
         Job::Perform(task) => run_job(&NoNetwork, alloc, Ok(task), source, sink),
@@ -93,7 +133,7 @@ fn do_job(alloc: Global, job: Job, source: &mut MemoryIn, sink: &mut MemoryOut) 
 
 // A job over this text puts this. Answers no where memory is refused.
 fn puts(rt: &impl Abort, alloc: Global, job: Job, text: &[u8], wanted: (&[u8], Status)) -> bool {
-    let mut room = [0; 512];
+    let mut room = [0; 2048];
     let mut source = MemoryIn::new(text, 16);
     let mut sink = MemoryOut::new(&mut room);
     let status = do_job(alloc, job, &mut source, &mut sink);
@@ -115,6 +155,16 @@ fn check_refused(rt: HostRuntime) {
 #[test]
 fn render_refused(rt: HostRuntime) {
     puts_at_last(&rt, rt.alloc(), Job::Render, STREAM_TEXT, RENDERED_STREAM);
+}
+
+#[test]
+fn draw_refused(rt: HostRuntime) {
+    puts_at_last(&rt, rt.alloc(), Job::Draw, DRAWN_TEXT, DRAWN_STREAM);
+}
+
+#[test]
+fn draw_raw_refused(rt: HostRuntime) {
+    puts_at_last(&rt, rt.alloc(), Job::DrawRaw, DRAWN_BYTES, DRAWN_STREAM);
 }
 
 #[test]
@@ -148,6 +198,7 @@ fn perform_refused(rt: HostRuntime) {
     for (task, text, wanted) in [
         (Task::Check, STREAM_TEXT, LISTED_STREAM),
         (Task::Render, STREAM_TEXT, RENDERED_STREAM),
+        (Task::Draw, DRAWN_TEXT, DRAWN_STREAM),
         (Task::Encode, RECEIPT_TEXT, ENCODED_LINE),
         (Task::CheckRaw, STREAM_BYTES, LISTED_STREAM),
         (Task::RenderRaw, STREAM_BYTES, RENDERED_STREAM),

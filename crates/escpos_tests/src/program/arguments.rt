@@ -12,12 +12,14 @@ use std::process::Abort;
 // Words, and what they ask for.
 type Asked = (&'static [&'static str], Result<Task, NoTask>);
 
-const ASKED: [Asked; 53] = [
+const ASKED: [Asked; 57] = [
     (&["check"], Ok(Task::Check)),
     (&["render"], Ok(Task::Render)),
+    (&["draw"], Ok(Task::Draw)),
     (&["encode"], Ok(Task::Encode)),
     (&["check", "--raw"], Ok(Task::CheckRaw)),
     (&["render", "--raw"], Ok(Task::RenderRaw)),
+    (&["draw", "--raw"], Ok(Task::DrawRaw)),
     (&["encode", "--raw"], Ok(Task::EncodeRaw)),
     (&["check", "--raw", "--help"], Err(NoTask::Help)),
     (&["--raw", "check"], Err(NoTask::Usage)),
@@ -32,6 +34,8 @@ const ASKED: [Asked; 53] = [
     (&["-h"], Err(NoTask::Help)),
     (&["check", "--help"], Err(NoTask::Help)),
     (&["render", "--help"], Err(NoTask::Help)),
+    (&["draw", "--help"], Err(NoTask::Help)),
+    (&["draw", "extra"], Err(NoTask::Usage)),
     (&["encode", "--help"], Err(NoTask::Help)),
     (&["encode", "-h"], Err(NoTask::Help)),
     (&["emulate", "--help"], Err(NoTask::Help)),

@@ -47,8 +47,8 @@ fn each_thing_asked_for(rt: HostRuntime) {
 #[test]
 fn usage_and_help(rt: HostRuntime) {
     for name in [
-        "check", "render", "encode", "emulate", "send", "status", "loop", "queue", "deliver",
-        "ledger", "help",
+        "check", "render", "draw", "encode", "emulate", "send", "status", "loop", "queue",
+        "deliver", "ledger", "help",
     ] {
         assert!(rt; USAGE.contains(name));
         assert!(rt; HELP.contains(name));
@@ -172,7 +172,7 @@ fn says_help(rt: &impl Abort, word: &str, wanted: &str) {
 #[test]
 fn help_on_each_word(rt: HostRuntime) {
     let words = [
-        "check", "render", "encode", "play", "emulate", "send", "status", "loop", "queue",
+        "check", "render", "draw", "encode", "play", "emulate", "send", "status", "loop", "queue",
         "deliver", "ledger", "help",
     ];
     let mut rest = HELP

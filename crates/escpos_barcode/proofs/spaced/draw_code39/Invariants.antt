@@ -1,0 +1,9 @@
+-- What is drawn so far, and then the characters that are left, make the whole.
+use Rattle.std.proofs.Common.{◌≡◌, ◌∷◌, drop}
+use Rattle.std.specs.Prelude.{flat_map}
+use Rattle.escpos_barcode.specs.Pen.{draw}
+use Rattle.escpos_barcode.specs.Tables.{row, code39_table}
+use Rattle.escpos_barcode.proofs.spaced.draw_code39.Given as goal
+
+abbrev pub invariant-loop-byte : goal.invariant-loop-byte
+invariant-loop-byte l = draw l.initial.pen (flat_map (λ t. 1 ∷ row code39_table t) l.content) ≡ draw l.pen (flat_map (λ t. 1 ∷ row code39_table t) (drop l.byte-index l.content))

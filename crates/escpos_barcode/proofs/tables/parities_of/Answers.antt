@@ -1,0 +1,8 @@
+use Rattle.std.proofs.Common.{[], arith}
+use Rattle.escpos_barcode.specs.Tables.{parity_rows, parities}
+use Rattle.escpos_barcode.proofs.Rows.{row_at, digit_range}
+use Rattle.escpos_barcode.proofs.tables.parities_of.Goals as goal
+
+pub returns-clause-row : goal.returns-clause-row
+unfolding parity_rows parities
+returns-clause-row c = let d = digit_range c.args.digit c.requires in rw c.from.ensures (row_at parity_rows 0x30 c.args.digit [] d.0 (omega arith))

@@ -1,0 +1,41 @@
+-- The human readable interpretation: what stands as text beside the bars. (Reference: GS H.)
+use Rattle.std.specs.Prelude.{ℕ, ◌+◌, ◌/◌, ◌%◌, ◌&&◌, nat_le, Bool, List, [], ◌∷◌, ◌++◌, map, Option, None, Some, if◌then◌else◌}
+use Rattle.escpos_command.specs.declared.bars.Symbology.{Symbology}
+use Rattle.escpos_command.specs.declared.bars.Symbology.TheVariants.{Code128}
+use Rattle.escpos_barcode.specs.declared.code128.CodeSet.{CodeSet}
+use Rattle.escpos_barcode.specs.declared.code128.CodeSet.TheVariants.{A, B, C}
+use Rattle.escpos_barcode.specs.declared.code128.Character.{Character}
+use Rattle.escpos_barcode.specs.declared.code128.Character.TheVariants.{Byte}
+use Rattle.escpos_barcode.specs.Code128.{characters, set_after}
+
+abbrev pub is_printable : ℕ → Bool
+is_printable b = nat_le 0x20 b && nat_le b 0x7E
+
+-- A byte 20 to 7E stands as itself, and any other as a space.
+abbrev pub printable : ℕ → ℕ
+printable b = if is_printable b then b else 0x20
+
+-- A byte of data; in code set C two digits.
+abbrev pub shown_byte : CodeSet → ℕ → List ℕ
+shown_byte A b = printable b ∷ []
+shown_byte B b = printable b ∷ []
+shown_byte C b = (0x30 + b / 10 % 10) ∷ (0x30 + b % 10) ∷ []
+
+-- Only data is shown.
+abbrev pub shown_character : CodeSet → Character → List ℕ
+shown_character set (Byte b) = shown_byte set b
+shown_character set c = []
+
+abbrev pub shown_characters : CodeSet → List Character → List ℕ
+shown_characters set [] = []
+shown_characters set (c ∷ cs) = shown_character set c ++ shown_characters (set_after set c) cs
+
+-- The set before the first character doesn't matter, which should name one.
+abbrev pub shown_code128 : Option (List Character) → List ℕ
+shown_code128 None = []
+shown_code128 (Some cs) = shown_characters B cs
+
+-- A content that can't be spelled is shown by the same rule: nothing, where a content of CODE128 has a brace with no meaning.
+abbrev pub shown : Symbology → List ℕ → List ℕ
+shown Code128 content = shown_code128 (characters content)
+shown symbology content = map printable content

@@ -1,0 +1,66 @@
+-- The first run of some cells, and the runs after it.
+use Rattle.std.proofs.Common.{arith, ◌≡◌, ℕ, suc, ◌+◌, ◌-◌, ◌*◌, ◌<◌, ◌≤◌, List, [], ◌∷◌, ◌++◌, length, get_or, refl, sym, subst, ◌∙◌, ap, take, drop, append_assoc, append-nil, true, false, cond}
+use Rattle.std.specs.Prelude.{◌==◌}
+use Rattle.std.proofs.Math.Nat.{mul-le-mul_right}
+use Rattle.std.proofs.Math.Seq.{take-length}
+use Rattle.std.proofs.lemmas.List.{length-map}
+use Rattle.std.proofs.lemmas.Bool.Decides.{nat_tests}
+use Rattle.escpos_paper.specs.declared.cell.Cell.{Cell}
+use Rattle.escpos_paper.specs.declared.style.Style.{Style}
+use Rattle.escpos_paper.specs.Styles.{same_style}
+use Rattle.escpos_paper.specs.Cells.{face_dots}
+use Rattle.escpos_picture.specs.Rows.{Run, run, runs, run_drawing, runs_drawing, bytes_of, same_count, with_before}
+
+-- The first cell and those that are counted after it are the first run.
+pub first_run : (x : Cell) (xs : List Cell)
+    → runs (x ∷ xs) ≡ run x.style (x.byte ∷ bytes_of (take (same_count x.style xs) xs)) ∷ runs (drop (same_count x.style xs) xs)
+unfolding runs
+first_run x [] = refl
+first_run x (y ∷ ys) =
+    let count = same_count y.style ys in
+    let tail = runs (drop count ys) in
+    let joined = run x.style (x.byte ∷ y.byte ∷ bytes_of (take count ys)) ∷ tail in
+    let apart = run x.style (x.byte ∷ []) ∷ run y.style (y.byte ∷ bytes_of (take count ys)) ∷ tail in
+    ap (with_before x) (first_run y ys)
+    ∙ elim (same_style x.style y.style) as (λ v. cond v joined apart
+    ≡ run x.style (x.byte ∷ bytes_of (take (cond v (suc count) 0) (y ∷ ys))) ∷ runs (drop (cond v (suc count) 0) (y ∷ ys))) [
+      | true ↦ refl
+      | false ↦ ap (λ rs. run x.style (x.byte ∷ []) ∷ rs) (sym (first_run y ys))
+    ]
+
+-- The same for any cells of which there is one.
+pub first_run_of : (cells : List Cell) (d : Cell) → 0 < length cells
+    → let count = same_count (get_or cells 0 d).style (take (length cells - 1) (drop 1 cells)) in
+    runs cells ≡ run (get_or cells 0 d).style (bytes_of (take (1 + count) cells)) ∷ runs (drop (1 + count) cells)
+first_run_of [] d some = elim some [ ]
+first_run_of (x ∷ xs) d some =
+    let others : take (length (x ∷ xs) - 1) (drop 1 (x ∷ xs)) ≡ xs = ap (λ n. take n xs) (omega arith) ∙ take-length xs in
+    let next : suc (same_count x.style xs) ≡ 1 + same_count x.style xs = omega arith in
+    subst (λ ys. runs (x ∷ xs) ≡ run x.style (bytes_of (take (1 + same_count x.style ys) (x ∷ xs))) ∷ runs (drop (1 + same_count x.style ys) (x ∷ xs)))
+    (sym others)
+    (subst (λ n. runs (x ∷ xs) ≡ run x.style (bytes_of (take n (x ∷ xs))) ∷ runs (drop n (x ∷ xs))) next (first_run x xs))
+
+-- What is drawn after one more run: the runs after it stand so many dots further on.
+pub drawn_on : (kept : List ℕ) (x : ℕ) (s : Style) (cells : List Cell) (rs : List Run)
+    → kept ++ runs_drawing x (run s (bytes_of cells) ∷ rs)
+    ≡ (kept ++ run_drawing x (run s (bytes_of cells))) ++ runs_drawing (x + face_dots s.font * s.width * length cells) rs
+unfolding runs_drawing
+drawn_on kept x s cells rs =
+    let count : length (bytes_of cells) ≡ length cells = length-map cells (λ (c : Cell). c.byte) in
+    sym (append_assoc kept (run_drawing x (run s (bytes_of cells))) (runs_drawing (x + face_dots s.font * s.width * length (bytes_of cells)) rs))
+    ∙ ap (λ n. (kept ++ run_drawing x (run s (bytes_of cells))) ++ runs_drawing (x + face_dots s.font * s.width * n) rs) count
+
+some_left : (n : ℕ) → (suc n == 0) ≡ true → ⊥
+some_left n e = grind (arith, nat_tests)
+
+-- Once no cell is left, nothing is drawn any more.
+pub nothing_left : (kept : List ℕ) (x : ℕ) (cells : List Cell) → (length cells == 0) ≡ true → kept ++ runs_drawing x (runs cells) ≡ kept
+unfolding runs runs_drawing
+nothing_left kept x [] none = append-nil kept
+nothing_left kept x (y ∷ ys) none = absurd (some_left (length ys) none)
+
+-- A run is at most 3060 dots wide for each of its cells.
+pub wide_on : (x dots n left rest all : ℕ) → dots ≤ 3060 → left + n ≡ rest → x + 3060 * rest ≤ 3060 * all → x + dots * n + 3060 * left ≤ 3060 * all
+wide_on x dots n left rest all narrow back was =
+    let grown : dots * n ≤ 3060 * n = mul-le-mul_right n narrow in
+    omega (arith, grown, back, was)

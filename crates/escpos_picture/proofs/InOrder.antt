@@ -1,0 +1,113 @@
+-- Places down the paper are sums of what the items before them take.
+use Rattle.std.proofs.Common.{◌≡◌, ℕ, ◌+◌, ◌*◌, ◌^◌, ◌<◌, ◌≤◌, List, [], ◌∷◌, ◌++◌, length, sym, ◌∙◌, ap, arith, None, Some}
+use Rattle.std.specs.Prelude.{min}
+use Rattle.std.specs.List.{AllByRecursion}
+use Rattle.std.proofs.lemmas.Bool.Decides.{nat_tests}
+use Rattle.escpos_command.specs.declared.parameter.choices.FontFace.{FontFace}
+use Rattle.escpos_command.specs.declared.parameter.choices.FontFace.TheVariants.{A, B}
+use Rattle.escpos_command.specs.declared.parameter.choices.HriPosition.{HriPosition}
+use Rattle.escpos_command.specs.declared.parameter.choices.HriPosition.TheVariants as place
+use Rattle.escpos_command.specs.declared.parameter.choices.Scale.{Scale}
+use Rattle.escpos_command.specs.declared.parameter.choices.Scale.TheVariants as scale
+use Rattle.escpos_paper.specs.declared.cell.Cell.{Cell}
+use Rattle.escpos_paper.specs.declared.item.Item.{Item}
+use Rattle.escpos_paper.specs.declared.item.Item.TheVariants.{Row, Feed, FeedUnits, Bars, Raster, Cut}
+use Rattle.escpos_picture.specs.declared.pen.TheConstants.{DEEPEST, MARGIN}
+use Rattle.escpos_picture.specs.Places.{top, place_after, place_after_all, depth, row_above, face_height, cell_height, tallest, text_lines, downwards, feed_dots}
+use Rattle.escpos_picture.specs.Depths.{depths, row_above_next, HasSizes}
+use Rattle.escpos_picture.specs.Document.{paper_height}
+use Rattle.escpos_picture.specs.Groups.{drawing, drawing_at, drawings}
+use Rattle.escpos_picture.proofs.Turns.{places_in_turn, drawings_in_turn}
+
+-- ## Sums
+
+place_is : (down above : ℕ) (items : List Item) → down + depths above items ≤ DEEPEST
+    → (place_after_all (record { down = down; above = above }) items).down ≡ down + depths above items
+place_is down above [] fits = omega arith
+place_is down above (item ∷ items) fits =
+    let near : min (down + depth above item) DEEPEST ≡ down + depth above item = omega arith in
+    let rest : down + depth above item + depths (row_above item) items ≤ DEEPEST = omega arith in
+    let sums : down + depth above item + depths (row_above item) items ≡ down + (depth above item + depths (row_above item) items) = omega arith in
+    ap (λ n. (place_after_all (record { down = n; above = row_above item }) items).down) near
+    ∙ place_is (down + depth above item) (row_above item) items rest ∙ sums
+
+pub places_are_sums : (items : List Item) → depths 0 items ≤ DEEPEST → (place_after_all top items).down ≡ depths 0 items
+places_are_sums items fits =
+    let plain : 0 + depths 0 items ≤ DEEPEST = omega arith in
+    let same : 0 + depths 0 items ≡ depths 0 items = omega arith in
+    place_is 0 0 items plain ∙ same
+
+pub depths_in_turn : (above : ℕ) (front : List Item) (item : Item)
+    → depths above (front ++ item ∷ []) ≡ depths above front + depth (row_above_next above front) item
+depths_in_turn above [] item = omega arith
+depths_in_turn above (x ∷ xs) item =
+    let rest = depths_in_turn (row_above x) xs item in
+    omega arith
+
+pub drawn_at_sum : (front : List Item) (item : Item) (more : List Item) → depths 0 front ≤ DEEPEST
+    → drawings top (front ++ item ∷ more)
+    ≡ drawings top front ++ (drawing_at (depths 0 front) item ++ drawings (place_after_all top (front ++ item ∷ [])) more)
+unfolding drawings drawing
+drawn_at_sum front item more fits =
+    drawings_in_turn top front (item ∷ more)
+    ∙ ap (λ n. drawings top front ++ (drawing_at n item ++ drawings (place_after (place_after_all top front) item) more)) (places_are_sums front fits)
+    ∙ ap (λ p. drawings top front ++ (drawing_at (depths 0 front) item ++ drawings p more)) (sym (places_in_turn top front (item ∷ [])))
+
+pub height_is_sum : (items : List Item) → depths 0 items ≤ DEEPEST
+    → paper_height (place_after_all top items).down ≡ 4 * MARGIN + depths 0 items + 4 * MARGIN
+height_is_sum items fits =
+    let is = places_are_sums items fits in
+    omega arith
+
+-- ## Few items
+
+face_small : (face : FontFace) (height : ℕ) → height < 256 → face_height face * height ≤ 6120
+face_small A height small = omega arith
+face_small B height small = omega arith
+
+tallest_small : (cells : List Cell) → AllByRecursion (λ (x : Cell). x.style.height < 256) cells → tallest cells ≤ 6120
+tallest_small [] small = omega arith
+tallest_small (x ∷ xs) small =
+    let first : cell_height x ≤ 6120 = face_small x.style.font x.style.height small.0 in
+    let others = tallest_small xs small.1 in
+    omega arith
+
+texts_small : (place : HriPosition) (face : FontFace) → text_lines place * face_height face ≤ 48
+texts_small place.Nowhere A = omega arith
+texts_small place.Nowhere B = omega arith
+texts_small place.Above A = omega arith
+texts_small place.Above B = omega arith
+texts_small place.Below A = omega arith
+texts_small place.Below B = omega arith
+texts_small place.Both A = omega arith
+texts_small place.Both B = omega arith
+
+rows_small : (s : Scale) (y : ℕ) → y < 65536 → downwards s * y ≤ 131070
+rows_small scale.Normal y small = omega arith
+rows_small scale.Wide y small = omega arith
+rows_small scale.Tall y small = omega arith
+rows_small scale.Both y small = omega arith
+
+feed_small : (above n : ℕ) → n < 256 → feed_dots above n ≤ 7650
+feed_small above n small = grind (arith, nat_tests)
+
+depth_small : (above : ℕ) (item : Item) → HasSizes item → depth above item ≤ 524280
+depth_small above (Row align cells) small = let row = tallest_small cells small in omega arith
+depth_small above (Feed n) small = let feed = feed_small above n small in omega arith
+depth_small above (FeedUnits n) small = omega arith
+depth_small above (Bars align symbology height width place face content added) small = let texts = texts_small place face in omega arith
+depth_small above (Raster align s x y dots) small = let rows = rows_small s y small in omega arith
+depth_small above (Cut partial None) small = omega arith
+depth_small above (Cut partial (Some n)) small = omega arith
+
+depths_small : (above : ℕ) (items : List Item) → AllByRecursion HasSizes items → depths above items ≤ 524280 * length items
+depths_small above [] small = omega arith
+depths_small above (item ∷ items) small =
+    let first = depth_small above item small.0 in
+    let others = depths_small (row_above item) items small.1 in
+    omega arith
+
+pub few_fit : (items : List Item) → AllByRecursion HasSizes items → length items ≤ 2 ^ 40 → depths 0 items ≤ DEEPEST
+few_fit items small few =
+    let sum = depths_small 0 items small in
+    omega arith

@@ -1,0 +1,12 @@
+pub mod ByteTexts
+pub mod GivenSteps
+pub mod RasterRows
+pub mod Boxes
+pub mod Turns
+pub mod InOrder
+pub mod Moving
+pub mod Within
+pub mod Worked
+pub mod Covered
+pub mod Escaping
+pub mod FirstRun

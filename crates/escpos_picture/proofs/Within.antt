@@ -1,0 +1,77 @@
+-- What is drawn of an item stays within its depth.
+use Rattle.std.proofs.Common.{◌≡◌, ℕ, zero, suc, ◌+◌, ◌-◌, ◌*◌, ◌≤◌, List, [], ◌∷◌, length, refl, ap, arith, Bool, Option, None, Some, cond}
+use Rattle.std.specs.Prelude.{IsTrue, drop}
+use Rattle.std.specs.List.{AllByRecursion}
+use Rattle.escpos_command.specs.declared.bars.Symbology.{Symbology}
+use Rattle.escpos_command.specs.declared.parameter.choices.Alignment.{Alignment}
+use Rattle.escpos_command.specs.declared.parameter.choices.Alignment.TheVariants.{Left, Center, Right}
+use Rattle.escpos_command.specs.declared.parameter.choices.FontFace.{FontFace}
+use Rattle.escpos_command.specs.declared.parameter.choices.FontFace.TheVariants.{A, B}
+use Rattle.escpos_command.specs.declared.parameter.choices.HriPosition.{HriPosition}
+use Rattle.escpos_command.specs.declared.parameter.choices.HriPosition.TheVariants as place
+use Rattle.escpos_command.specs.declared.parameter.choices.Scale.{Scale}
+use Rattle.escpos_paper.specs.declared.cell.Cell.{Cell}
+use Rattle.escpos_paper.specs.declared.cell.TheConstants.{LINE_DOTS}
+use Rattle.escpos_paper.specs.declared.item.Item.TheVariants.{Row, Bars, Raster, Cut}
+use Rattle.escpos_paper.specs.declared.style.BarStyle.{BarStyle}
+use Rattle.escpos_picture.specs.BarItems.{stands_above, stands_below, bars_top}
+use Rattle.escpos_picture.specs.Depths.{bars_bottom}
+use Rattle.escpos_picture.specs.Groups.{cut_place}
+use Rattle.escpos_picture.specs.Places.{face_height, cell_height, tallest, text_lines, downwards, depth, indent}
+use Rattle.escpos_picture.specs.Rasters.{rows_of}
+
+none_taller : (row : ℕ) (cells : List Cell) → tallest cells ≤ row
+    → AllByRecursion (λ (x : Cell). (3 * cell_height x ≤ 3 * row) × (3 * row + cell_height x ≤ 4 * row)) cells
+none_taller row [] most = tt
+none_taller row (x ∷ xs) most =
+    let first : cell_height x ≤ row = omega arith in
+    let others : tallest xs ≤ row = omega arith in
+    ((omega arith, omega arith), none_taller row xs others)
+
+pub rows_within : (above : ℕ) (align : Alignment) (cells : List Cell)
+    → AllByRecursion (λ (x : Cell). (3 * cell_height x ≤ 3 * tallest cells) × (3 * tallest cells + cell_height x ≤ depth above (Row align cells))) cells
+rows_within above align cells = none_taller (tallest cells) cells (omega arith)
+
+underline_within : (face : FontFace) (height underline : ℕ) → 1 ≤ height → underline ≤ 2
+    → face_height face * height - 4 * underline + 4 * underline ≡ face_height face * height
+underline_within A height underline some thin = omega arith
+underline_within B height underline some thin = omega arith
+
+pub underlines_within : (x : Cell) → 1 ≤ x.style.height → x.style.underline ≤ 2
+    → cell_height x - 4 * x.style.underline + 4 * x.style.underline ≡ cell_height x
+underlines_within x some thin = underline_within x.style.font x.style.height x.style.underline some thin
+
+row_count : (x y : ℕ) (dots : List ℕ) → length (rows_of x y dots) ≡ y
+row_count x zero dots = refl
+row_count x (suc y) dots = ap suc (row_count x y (drop x dots))
+
+pub rasters_within : (above : ℕ) (align : Alignment) (scale : Scale) (x y : ℕ) (dots : List ℕ)
+    → 4 * (downwards scale * length (rows_of x y dots)) ≡ depth above (Raster align scale x y dots)
+rasters_within above align scale x y dots = ap (λ n. 4 * (downwards scale * n)) (row_count x y dots)
+
+texts : (height : ℕ) (place : HriPosition) (face : FontFace)
+    → 4 * (cond (stands_above place) (face_height face) 0 + height + cond (stands_below place) (face_height face) 0)
+    ≡ 4 * (height + text_lines place * face_height face)
+texts height place.Nowhere face = omega arith
+texts height place.Above face = omega arith
+texts height place.Below face = omega arith
+texts height place.Both face = omega arith
+
+pub bars_within : (above : ℕ) (align : Alignment) (symbology : Symbology) (style : BarStyle) (content : List ℕ) (added : Option ℕ)
+    → 4 * (bars_top style + style.height + bars_bottom style)
+    ≡ depth above (Bars align symbology style.height style.module_width style.place style.hri_font content added)
+bars_within above align symbology style content added = texts style.height style.place style.hri_font
+
+pub labels_within : (style : BarStyle) → (IsTrue (stands_above style.place) → bars_top style ≡ face_height style.hri_font)
+    × (IsTrue (stands_below style.place) → bars_bottom style ≡ face_height style.hri_font)
+labels_within style =
+    (λ above. ap (λ v. cond v (face_height style.hri_font) 0) above, λ below. ap (λ v. cond v (face_height style.hri_font) 0) below)
+
+pub cuts_within : (above : ℕ) (partial : Bool) (feed : Option ℕ) → cut_place feed + 4 * 24 ≡ depth above (Cut partial feed)
+cuts_within above partial None = refl
+cuts_within above partial (Some n) = refl
+
+pub across : (align : Alignment) (width : ℕ) → width ≤ LINE_DOTS → indent align width + width ≤ LINE_DOTS
+across Left width fits = omega arith
+across Center width fits = omega arith
+across Right width fits = omega arith

@@ -1,0 +1,8 @@
+use Rattle.std.proofs.Common.{append_assoc}
+use Rattle.escpos_picture.specs.Document.{paper_tag}
+use Rattle.escpos_picture.proofs.document.append_paper_tag.Goals as goal
+
+pub returns-clause-kept : goal.returns-clause-kept
+unfolding paper_tag
+returns-clause-kept c =
+    rw (c.extend-2.ensures.kept, c.append_quarters.ensures.kept, c.extend.ensures.kept) simp append_assoc

@@ -1,0 +1,73 @@
+-- Each item as a group of the document, whose class is its kind, moved to its place: across by the margin and by what is left
+-- free of the line, down by the margin and by what the items above take.
+use Rattle.std.specs.Prelude.{ℕ, ◌+◌, ◌*◌, Bool, List, [], ◌∷◌, ◌++◌, Option, None, Some, codes, decimal, if◌then◌else◌}
+use Rattle.escpos_command.specs.declared.parameter.choices.Alignment.{Alignment}
+use Rattle.escpos_command.specs.declared.parameter.choices.Scale.{Scale}
+use Rattle.escpos_paper.specs.declared.cell.Cell.{Cell}
+use Rattle.escpos_paper.specs.declared.item.Item.{Item}
+use Rattle.escpos_paper.specs.declared.item.Item.TheVariants.{Row, Feed, FeedUnits, Bars, Raster, Cut}
+use Rattle.escpos_paper.specs.Cells.{dots}
+use Rattle.escpos_picture.specs.Numbers.{quarters}
+use Rattle.escpos_picture.specs.Places.{Place, tallest, indent, across, downwards, place_after, moved}
+use Rattle.escpos_picture.specs.Rows.{runs, runs_drawing}
+use Rattle.escpos_picture.specs.Rasters.{rows_of, rows_text}
+use Rattle.escpos_picture.specs.BarItems.{bars_drawing}
+use Rattle.escpos_picture.specs.declared.pen.TheConstants.{MARGIN}
+
+-- A row. Its place is the left end of its base line, three quarters of its height down.
+abbrev pub row_drawing : ℕ → Alignment → List Cell → List ℕ
+row_drawing down align cells =
+    codes "<g class=\"row\" transform=\"translate(" ++ moved (indent align (dots cells)) (down + 3 * tallest cells) ++ codes ")\">"
+    ++ runs_drawing 0 (runs cells) ++ codes "</g>\n"
+
+abbrev pub feed_drawing : List ℕ
+feed_drawing = codes "<g class=\"feed\"/>\n"
+
+abbrev pub units_drawing : List ℕ
+units_drawing = codes "<g class=\"units\"/>\n"
+
+-- A raster, clipped to the line. Each of its dots is one unit of the inner group, which its scale makes one or two dots of paper;
+-- the outer group, which is what is clipped, is in dots.
+unfoldable pub scale_text : Scale → List ℕ
+scale_text scale = codes ")\"><g transform=\"scale(" ++ decimal (across scale) ++ codes "," ++ decimal (downwards scale) ++ codes ")\">\n"
+
+unfoldable pub raster_start : ℕ → Alignment → Scale → ℕ → List ℕ
+raster_start down align scale x =
+    codes "<g class=\"raster\" transform=\"translate(" ++ moved (indent align (8 * x * across scale)) down ++ scale_text scale
+
+abbrev pub raster_drawing : ℕ → Alignment → Scale → ℕ → ℕ → List ℕ → List ℕ
+raster_drawing down align scale x y dots = raster_start down align scale x ++ rows_text 0 (rows_of x y dots) ++ codes "</g></g>\n"
+
+-- A cut: a pair of scissors at the left edge of the paper, and a dashed line across it, 12 dots under the feed that comes before.
+-- A partial cut leaves the middle whole.
+abbrev pub cut_place : Option ℕ → ℕ
+cut_place None = 0
+cut_place (Some n) = 2 * n
+
+abbrev pub cut_line : Bool → List ℕ
+cut_line partial = if partial then codes "M32 12H272M304 12H576" else codes "M32 12H576"
+
+abbrev pub cut_drawing : ℕ → Bool → Option ℕ → List ℕ
+cut_drawing down partial feed =
+    codes "<g class=\"cut\" transform=\"translate(0," ++ quarters (4 * MARGIN + down + cut_place feed)
+    ++ codes ")\"><circle cx=\"8\" cy=\"6\" r=\"4\"/><circle cx=\"8\" cy=\"18\" r=\"4\"/><path d=\"M11 9L28 18M11 15L28 6\"/><path class=\"dashes\" d=\""
+    ++ cut_line partial ++ codes "\"/></g>\n"
+
+-- The drawing of an item that begins this many quarters of a dot under the first.
+abbrev pub drawing_at : ℕ → Item → List ℕ
+drawing_at down (Row align cells) = row_drawing down align cells
+drawing_at down (Feed n) = feed_drawing
+drawing_at down (FeedUnits n) = units_drawing
+drawing_at down (Bars align symbology height width hri_place face content added) =
+    bars_drawing down align symbology (record { height = height; module_width = width; place = hri_place; hri_font = face }) content added
+drawing_at down (Raster align scale x y dots) = raster_drawing down align scale x y dots
+drawing_at down (Cut partial feed) = cut_drawing down partial feed
+
+-- The drawing of an item at a place.
+unfoldable pub drawing : Place → Item → List ℕ
+drawing place item = drawing_at place.down item
+
+-- Items one under another, the first at this place.
+unfoldable pub drawings : Place → List Item → List ℕ
+drawings place [] = []
+drawings place (item ∷ items) = drawing place item ++ drawings (place_after place item) items

@@ -1,0 +1,14 @@
+pub mod Numbers
+pub mod CodeTables
+pub mod Characters
+pub mod Escaping
+pub mod Places
+pub mod Rows
+pub mod Spans
+pub mod ByteSpans
+pub mod Rasters
+pub mod BarItems
+pub mod Moves
+pub mod Depths
+pub mod Groups
+pub mod Document

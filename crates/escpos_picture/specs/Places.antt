@@ -1,0 +1,95 @@
+-- How far down the paper an item goes, and where it begins. Widths and heights are dots, places down the paper quarters of a dot.
+use Rattle.std.specs.Prelude.{ℕ, ◌+◌, ◌-◌, ◌*◌, ◌/◌, ◌==◌, min, max, List, [], ◌∷◌, ◌++◌, None, Some, codes, decimal, if◌then◌else◌}
+use Rattle.escpos_command.specs.declared.parameter.choices.Alignment.{Alignment}
+use Rattle.escpos_command.specs.declared.parameter.choices.Alignment.TheVariants.{Left, Center, Right}
+use Rattle.escpos_command.specs.declared.parameter.choices.FontFace.{FontFace}
+use Rattle.escpos_command.specs.declared.parameter.choices.FontFace.TheVariants.{A, B}
+use Rattle.escpos_command.specs.declared.parameter.choices.HriPosition.{HriPosition}
+use Rattle.escpos_command.specs.declared.parameter.choices.HriPosition.TheVariants as place
+use Rattle.escpos_command.specs.declared.parameter.choices.Scale.{Scale}
+use Rattle.escpos_command.specs.declared.parameter.choices.Scale.TheVariants as scale
+use Rattle.escpos_paper.specs.declared.cell.Cell.{Cell}
+use Rattle.escpos_paper.specs.declared.cell.TheConstants.{LINE_DOTS}
+use Rattle.escpos_paper.specs.declared.item.Item.{Item}
+use Rattle.escpos_paper.specs.declared.item.Item.TheVariants.{Row, Feed, FeedUnits, Bars, Raster, Cut}
+use Rattle.escpos_picture.specs.declared.pen.TheConstants.{DEEPEST, MARGIN}
+use Rattle.escpos_picture.specs.Numbers.{quarters}
+
+-- Font A is 24 dots high and font B 17.
+abbrev pub face_height : FontFace → ℕ
+face_height A = 24
+face_height B = 17
+
+abbrev pub cell_height : Cell → ℕ
+cell_height x = face_height x.style.font * x.style.height
+
+-- The height of a row: that of its tallest cell.
+abbrev pub tallest : List Cell → ℕ
+tallest [] = 0
+tallest (x ∷ xs) = max (cell_height x) (tallest xs)
+
+-- How many lines of text stand beside a barcode.
+abbrev pub text_lines : HriPosition → ℕ
+text_lines place.Nowhere = 0
+text_lines place.Above = 1
+text_lines place.Below = 1
+text_lines place.Both = 2
+
+-- How many dots of paper a dot of a raster takes across and down.
+abbrev pub across : Scale → ℕ
+across scale.Normal = 1
+across scale.Wide = 2
+across scale.Tall = 1
+across scale.Both = 2
+
+abbrev pub downwards : Scale → ℕ
+downwards scale.Normal = 1
+downwards scale.Wide = 1
+downwards scale.Tall = 2
+downwards scale.Both = 2
+
+-- A feed of n lines, each 30 dots (a sixth of an inch, of 180 dots to the inch): the first is counted from the top of the row
+-- right above, `above` dots tall, or 0 where none stands there. (Reference: ESC 2, ESC d.)
+abbrev pub feed_dots : ℕ → ℕ → ℕ
+feed_dots above n = if n == 0 then 0 else (30 - above) + 30 * (n - 1)
+
+-- What an item takes down the paper, in quarters of a dot. A motion unit is half a dot.
+abbrev pub depth : ℕ → Item → ℕ
+depth above (Row align cells) = 4 * tallest cells
+depth above (Feed n) = 4 * feed_dots above n
+depth above (FeedUnits n) = 2 * n
+depth above (Bars align symbology height width place face content added) = 4 * (height + text_lines place * face_height face)
+depth above (Raster align scale x y dots) = 4 * (downwards scale * y)
+depth above (Cut partial None) = 96
+depth above (Cut partial (Some n)) = 2 * n + 96
+
+-- The height of an item if it is a row, otherwise 0.
+abbrev pub row_above : Item → ℕ
+row_above (Row align cells) = tallest cells
+row_above item = 0
+
+-- Where the next item begins: the quarters of a dot from the first item down to it, and the height of the row right above it, or
+-- 0. Quarters are counted up to 2 ^ 62, which no paper comes near.
+pub record Place : Type 0 where
+  pub down : ℕ
+  pub above : ℕ
+
+abbrev pub top : Place
+top = record { down = 0; above = 0 }
+
+abbrev pub place_after : Place → Item → Place
+place_after place item = record { down = min (place.down + depth place.above item) DEEPEST; above = row_above item }
+
+abbrev pub place_after_all : Place → List Item → Place
+place_after_all place [] = place
+place_after_all place (item ∷ items) = place_after_all (place_after place item) items
+
+-- How many dots of the line are left free to the left of something this wide.
+abbrev pub indent : Alignment → ℕ → ℕ
+indent Left width = 0
+indent Center width = (LINE_DOTS - width) / 2
+indent Right width = LINE_DOTS - width
+
+-- The place of a group: this many dots from the left end of the line, and this many quarters of a dot under the first item.
+abbrev pub moved : ℕ → ℕ → List ℕ
+moved x down = decimal (MARGIN + x) ++ codes "," ++ quarters (4 * MARGIN + down)

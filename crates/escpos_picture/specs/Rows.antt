@@ -1,0 +1,94 @@
+-- A row in the document: its cells, neighbours of one style as one text.
+use Rattle.std.specs.Prelude.{ℕ, suc, ◌+◌, ◌-◌, ◌*◌, ◌==◌, ◌&&◌, Bool, List, [], ◌∷◌, ◌++◌, length, codes, decimal, flat_map, map, if◌then◌else◌}
+use Rattle.escpos_command.specs.declared.parameter.choices.FontFace.TheVariants.{A, B}
+use Rattle.escpos_command.specs.declared.parameter.choices.FontFace.{FontFace}
+use Rattle.escpos_paper.specs.declared.cell.Cell.{Cell}
+use Rattle.escpos_paper.specs.declared.style.Style.{Style}
+use Rattle.escpos_paper.specs.Styles.{same_style}
+use Rattle.escpos_paper.specs.Cells.{face_dots}
+use Rattle.escpos_picture.specs.Characters.{byte_text}
+use Rattle.escpos_picture.specs.Numbers.{quarters}
+use Rattle.escpos_picture.specs.Places.{face_height}
+
+-- Neighbouring cells of one style.
+pub record Run : Type 0 where
+  pub style : Style
+  pub bytes : List ℕ
+
+abbrev pub run : Style → List ℕ → Run
+run style bytes = record { style = style; bytes = bytes }
+
+-- The runs with one more cell before them, which joins the first run where that has its style.
+abbrev pub with_before : Cell → List Run → List Run
+with_before x [] = run x.style (x.byte ∷ []) ∷ []
+with_before x (r ∷ rs) =
+    if same_style x.style r.style then run x.style (x.byte ∷ r.bytes) ∷ rs else run x.style (x.byte ∷ []) ∷ r ∷ rs
+
+unfoldable pub runs : List Cell → List Run
+runs [] = []
+runs (x ∷ xs) = with_before x (runs xs)
+
+abbrev pub bytes_of : List Cell → List ℕ
+bytes_of cells = map (λ (x : Cell). x.byte) cells
+
+-- How wide a run is.
+abbrev pub run_dots : Run → ℕ
+run_dots r = face_dots r.style.font * r.style.width * length r.bytes
+
+-- A style that isn't scaled.
+abbrev pub is_plain_size : Style → Bool
+is_plain_size s = s.width == 1 && s.height == 1
+
+-- Where a run's text begins, this many dots from the left end of the row, on the base line; the factors of its style scale it.
+abbrev pub scaled_place : ℕ → Style → List ℕ
+scaled_place x s =
+    codes " transform=\"matrix(" ++ decimal s.width ++ codes " 0 0 " ++ decimal s.height ++ codes " " ++ decimal x ++ codes " 0)\""
+
+unfoldable pub text_place : ℕ → Style → List ℕ
+text_place x s = if is_plain_size s then codes " x=\"" ++ decimal x ++ codes "\"" else scaled_place x s
+
+abbrev pub plain_class : FontFace → List ℕ
+plain_class A = []
+plain_class B = codes " class=\"B\""
+
+abbrev pub bold_class : FontFace → List ℕ
+bold_class A = codes " class=\"bold\""
+bold_class B = codes " class=\"B bold\""
+
+unfoldable pub text_class : Style → List ℕ
+text_class s = if s.bold then bold_class s.font else plain_class s.font
+
+-- The characters of a run, printed with the code table of its style.
+abbrev pub characters_text : ℕ → List ℕ → List ℕ
+characters_text table bytes = flat_map (byte_text table) bytes
+
+-- The tag before a run's characters. As wide as the run they are, whatever font the viewer has.
+unfoldable pub text_start : ℕ → Style → List ℕ
+text_start x s = codes "<text" ++ text_place x s ++ text_class s
+
+unfoldable pub run_tag : ℕ → Run → List ℕ
+run_tag x r = text_start x r.style ++ codes " textLength=\"" ++ decimal (face_dots r.style.font * length r.bytes) ++ codes "\">"
+
+abbrev pub run_text : ℕ → Run → List ℕ
+run_text x r = run_tag x r ++ characters_text r.style.table r.bytes ++ codes "</text>"
+
+-- A line at the lower end of the run's cells, a quarter of their height below the base line.
+unfoldable pub underline_text : ℕ → Run → List ℕ
+underline_text x r =
+    if r.style.underline == 0 then []
+    else codes "<path d=\"M" ++ decimal x ++ codes " " ++ quarters (face_height r.style.font * r.style.height - 4 * r.style.underline)
+    ++ codes "h" ++ decimal (run_dots r) ++ codes "v" ++ decimal r.style.underline ++ codes "h-" ++ decimal (run_dots r) ++ codes "z\"/>"
+
+unfoldable pub run_drawing : ℕ → Run → List ℕ
+run_drawing x r = run_text x r ++ underline_text x r
+
+-- Runs from left to right, the first this many dots from the left end of the row.
+unfoldable pub runs_drawing : ℕ → List Run → List ℕ
+runs_drawing x [] = []
+runs_drawing x (r ∷ rs) = run_drawing x r ++ runs_drawing (x + run_dots r) rs
+
+-- How many cells that follow one of this style come before the first whose style isn't that of the cell before it. Only private
+-- clauses and proofs use it: the first run of cells has the first of them and so many more.
+abbrev pub same_count : Style → List Cell → ℕ
+same_count s [] = 0
+same_count s (x ∷ xs) = if same_style s x.style then suc (same_count x.style xs) else 0

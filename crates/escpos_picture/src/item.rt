@@ -1,0 +1,149 @@
+//! An item as a group of the document.
+
+ghost use Rattle.std.specs.Prelude.{◌≡◌, ◌≤◌, OnOk, OnErr};
+ghost use Rattle.escpos_io.specs.Giving.{IsGiven};
+ghost use Rattle.escpos_io.specs.Putting.{passage};
+ghost use Rattle.escpos_picture.specs.Places.{place_after, place_after_all};
+ghost use Rattle.escpos_picture.specs.Groups.{drawing, drawings, drawing_at, row_drawing, cut_drawing};
+
+use crate::bars::{Symbol, put_bars};
+use crate::cut::{CUT_BYTES, append_cut};
+use crate::pen::{DEEPEST, Pen};
+use crate::raster::{Frame, put_raster};
+use crate::row::{CELL_BYTES, ROW_BYTES, append_row};
+use escpos_command::Alignment;
+use escpos_io::{ByteOut, Device, Gather};
+use escpos_paper::{BarStyle, Cells, Item};
+
+/// Gives the drawings of items one under another, the first at the place of the pen, and goes on to the place under the last.
+///
+/// On `Err` the sink has failed, and took exactly the first `written` of all bytes ever given to the gather, as long as these are
+/// few enough to be counted; the pen is at the item that wasn't given.
+pub fn put_items<W: ByteOut>(
+    gather: &mut Gather,
+    pen: &mut Pen,
+    items: &[Item],
+    writer: &mut W,
+) -> Result<(), Device>
+    ensures given { IsGiven result (passage (W.written writer.old) (W.written writer.new) (W.failed writer.old) (W.failed writer.new))
+        gather.old gather.new (drawings pen.old items.now) }
+    ensures place { OnOk result (pen.new ≡ place_after_all pen.old items.now) }
+{
+    for item in items {
+        put_item(gather, pen, item, writer)?;
+    }
+    Ok(())
+}
+
+/// Gives the drawing of an item at the place of the pen, and goes on to the place under it.
+///
+/// On `Err` the sink has failed, and took exactly the first `written` of all bytes ever given to the gather, as long as these are
+/// few enough to be counted; the pen is where it was.
+#[tactic(auto, unfolding(crate::specs::Groups::drawing))]
+pub fn put_item<W: ByteOut>(
+    gather: &mut Gather,
+    pen: &mut Pen,
+    item: &Item,
+    writer: &mut W,
+) -> Result<(), Device>
+    ensures given { IsGiven result (passage (W.written writer.old) (W.written writer.new) (W.failed writer.old) (W.failed writer.new))
+        gather.old gather.new (drawing pen.old item.now) }
+    ensures place { OnOk result (pen.new ≡ place_after pen.old item.now) }
+    ensures stays { OnErr result (pen.new ≡ pen.old) }
+{
+    put_drawing(gather, pen.down(), item, writer)?;
+    pen.pass(item);
+    Ok(())
+}
+
+// Gives the drawing of an item that begins this many quarters of a dot down the paper.
+fn put_drawing<W: ByteOut>(
+    gather: &mut Gather,
+    down: usize,
+    item: &Item,
+    writer: &mut W,
+) -> Result<(), Device>
+    requires { down ≤ DEEPEST }
+    ensures { IsGiven result (passage (W.written writer.old) (W.written writer.new) (W.failed writer.old) (W.failed writer.new))
+        gather.old gather.new (drawing_at down item.now) }
+{
+    match item {
+        Item::Row { align, cells } => put_row(gather, *align, cells, down, writer),
+        Item::Feed(_) => gather.put(b"<g class=\"feed\"/>\n", writer),
+        Item::FeedUnits(_) => gather.put(b"<g class=\"units\"/>\n", writer),
+        Item::Bars {
+            align,
+            symbology,
+            height,
+            module: width,
+            place,
+            hri_font,
+            content,
+            added,
+        } => {
+            let symbol = Symbol {
+                align: *align,
+                symbology: *symbology,
+                style: BarStyle {
+                    height: *height,
+                    module_width: *width,
+                    place: *place,
+                    hri_font: *hri_font,
+                },
+                added: *added,
+            };
+            put_bars(gather, &symbol, content.as_slice(), down, writer)
+        }
+        Item::Raster {
+            align,
+            scale,
+            x,
+            y,
+            dots,
+        } => {
+            let frame = Frame {
+                align: *align,
+                scale: *scale,
+                x: *x,
+                y: *y,
+            };
+            put_raster(gather, &frame, dots, down, writer)
+        }
+        Item::Cut { partial, feed } => put_cut(gather, *partial, *feed, down, writer),
+    }
+}
+
+// Gives a row.
+fn put_row<W: ByteOut>(
+    gather: &mut Gather,
+    align: Alignment,
+    cells: &Cells,
+    down: usize,
+    writer: &mut W,
+) -> Result<(), Device>
+    requires { down ≤ DEEPEST }
+    ensures { IsGiven result (passage (W.written writer.old) (W.written writer.new) (W.failed writer.old) (W.failed writer.new))
+        gather.old gather.new (row_drawing down align cells.now) }
+{
+    let row = cells.as_slice();
+    gather.room(ROW_BYTES + CELL_BYTES * row.len(), writer)?;
+    append_row(gather, align, row, down);
+    Ok(())
+}
+
+// Gives a cut.
+fn put_cut<W: ByteOut>(
+    gather: &mut Gather,
+    partial: bool,
+    feed: Option<u8>,
+    down: usize,
+    writer: &mut W,
+) -> Result<(), Device>
+    requires { down ≤ DEEPEST }
+    ensures { IsGiven result (passage (W.written writer.old) (W.written writer.new) (W.failed writer.old) (W.failed writer.new))
+        gather.old gather.new (cut_drawing down partial feed) }
+{
+    gather.room(CUT_BYTES, writer)?;
+    append_cut(gather, partial, feed, down);
+    Ok(())
+}

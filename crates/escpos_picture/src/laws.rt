@@ -1,0 +1,92 @@
+//! Proof only: the laws of pictures. The contract of each function is the law; when run, it does nothing. A law is proved with
+//! this crate, and another crate cites it by calling the function.
+
+ghost use Rattle.std.specs.Prelude.{◌≡◌, ◌≤◌, ◌+◌, ◌-◌, ◌*◌, ◌^◌, ℕ, Bool, Option, IsTrue, true, List, [], ◌∷◌, ◌++◌, length};
+ghost use Rattle.std.specs.List.{AllByRecursion};
+ghost use Rattle.escpos_command.specs.declared.bars.Symbology.{Symbology};
+ghost use Rattle.escpos_command.specs.declared.parameter.choices.Alignment.{Alignment};
+ghost use Rattle.escpos_command.specs.declared.parameter.choices.Scale.{Scale};
+ghost use Rattle.escpos_paper.specs.declared.cell.Cell.{Cell};
+ghost use Rattle.escpos_paper.specs.declared.cell.TheConstants.{LINE_DOTS};
+ghost use Rattle.escpos_paper.specs.declared.item.Item.{Item};
+ghost use Rattle.escpos_paper.specs.declared.item.Item.TheVariants.{Row, Bars, Raster, Cut};
+ghost use Rattle.escpos_paper.specs.declared.style.BarStyle.{BarStyle};
+ghost use Rattle.escpos_picture.specs.declared.pen.TheConstants.{DEEPEST, MARGIN};
+ghost use Rattle.escpos_picture.specs.BarItems.{stands_above, stands_below, bars_top, bar_dots, bar_spans};
+ghost use Rattle.escpos_picture.specs.Depths.{depths, row_above_next, bars_bottom, HasSizes};
+ghost use Rattle.escpos_picture.specs.Document.{paper_height};
+ghost use Rattle.escpos_picture.specs.Places.{Place, top, place_after_all, depth, face_height, cell_height, tallest, downwards, indent};
+ghost use Rattle.escpos_picture.specs.Escaping.{IsEscaped, utf8_of};
+ghost use Rattle.escpos_picture.specs.Groups.{drawings, drawing_at, cut_place};
+ghost use Rattle.escpos_picture.specs.Moves.{MovesDown};
+ghost use Rattle.escpos_picture.specs.Rasters.{rows_of};
+ghost use Rattle.escpos_picture.specs.Rows.{characters_text};
+ghost use Rattle.escpos_picture.specs.Spans.{row_spans, covered, black_columns, row_dots};
+
+/// Items in turn: further items are drawn after those before them, from the place that these lead to.
+pub fn drawings_in_turn()
+    ensures drawn { (place : Place) (front more : List Item) →
+        drawings place (front ++ more) ≡ drawings place front ++ drawings (place_after_all place front) more }
+    ensures places { (place : Place) (front more : List Item) →
+        place_after_all place (front ++ more) ≡ place_after_all (place_after_all place front) more }
+{}
+
+/// Order: nothing overlaps. An item begins where the depth of the items before it ends, and its own depth is added to theirs; the
+/// paper is as high as the depth of all items and the two margins. So it is as long as the sum stays within the places that are
+/// counted, from which 2^40 items are far: a printer that prints a thousand a second takes 34 years to print so many.
+pub fn items_stand_in_order()
+    ensures places { (items : List Item) → depths 0 items ≤ DEEPEST → (place_after_all top items).down ≡ depths 0 items }
+    ensures drawn { (front : List Item) (item : Item) (more : List Item) → depths 0 front ≤ DEEPEST →
+        drawings top (front ++ item ∷ more) ≡
+        drawings top front ++ (drawing_at (depths 0 front) item ++ drawings (place_after_all top (front ++ item ∷ [])) more) }
+    ensures next { (front : List Item) (item : Item) →
+        depths 0 (front ++ item ∷ []) ≡ depths 0 front + depth (row_above_next 0 front) item }
+    ensures height { (items : List Item) → depths 0 items ≤ DEEPEST →
+        paper_height (place_after_all top items).down ≡ 4 * MARGIN + depths 0 items + 4 * MARGIN }
+    ensures few { (items : List Item) → AllByRecursion HasSizes items → length items ≤ 2 ^ 40 → depths 0 items ≤ DEEPEST }
+{}
+
+/// Depth: what is drawn of an item stays within its depth, so that no item is drawn over the one above it or below. The base line of
+/// a row is three quarters of its height down: each cell reaches above it by three quarters of its own height and below it by a
+/// quarter, where its underline, at most 2 dots thick, ends too. The lines of a raster, the bars of a barcode with its lines of text,
+/// and a cut fill their depth exactly. And what is no wider than the line ends within it.
+pub fn items_stay_within()
+    ensures rows_within { (above : ℕ) (align : Alignment) (cells : List Cell) → AllByRecursion (λ (x : Cell).
+        (3 * cell_height x ≤ 3 * tallest cells) × (3 * tallest cells + cell_height x ≤ depth above (Row align cells))) cells }
+    ensures underlines_within { (x : Cell) → 1 ≤ x.style.height → x.style.underline ≤ 2 →
+        cell_height x - 4 * x.style.underline + 4 * x.style.underline ≡ cell_height x }
+    ensures rasters_within { (above : ℕ) (align : Alignment) (scale : Scale) (x y : ℕ) (dots : List ℕ) →
+        4 * (downwards scale * length (rows_of x y dots)) ≡ depth above (Raster align scale x y dots) }
+    ensures bars_within { (above : ℕ) (align : Alignment) (symbology : Symbology) (style : BarStyle) (content : List ℕ) (added : Option ℕ) →
+        4 * (bars_top style + style.height + bars_bottom style) ≡
+        depth above (Bars align symbology style.height style.module_width style.place style.hri_font content added) }
+    ensures labels_within { (style : BarStyle) → (IsTrue (stands_above style.place) → bars_top style ≡ face_height style.hri_font)
+        × (IsTrue (stands_below style.place) → bars_bottom style ≡ face_height style.hri_font) }
+    ensures cuts_within { (above : ℕ) (partial : Bool) (feed : Option ℕ) → cut_place feed + 4 * 24 ≡ depth above (Cut partial feed) }
+    ensures across { (align : Alignment) (width : ℕ) → width ≤ LINE_DOTS → indent align width + width ≤ LINE_DOTS }
+{}
+
+/// Dots: what a path draws is exactly the black dots, each once, from left to right: the dots that are 1 of a row of a raster, and
+/// the dots of a barcode's bars.
+pub fn spans_cover_dots()
+    ensures rows { (column : ℕ) (bytes : List ℕ) → covered column (row_spans 0 bytes) ≡ black_columns column (row_dots bytes) }
+    ensures bars { (column : ℕ) (widths : List ℕ) → covered column (bar_spans true widths) ≡ black_columns column (bar_dots true widths) }
+{}
+
+/// Text: whatever bytes were printed, and with whatever code table, a reader of the document takes their text for exactly their
+/// characters: the text has no control character and none of & < > " ' but in the five entities, each for its character. All that
+/// stands between a tag `<text ..>` of an item and its `</text>` is such text, in a row, beside a barcode and in a box, but for the
+/// words "not scannable". So nothing that was printed ends a text or begins a tag.
+pub fn text_is_escaped()
+    ensures { (table : ℕ) (bytes : List ℕ) → IsEscaped (utf8_of table bytes) (characters_text table bytes) }
+{}
+
+/// Place: an item is drawn the same wherever it stands. All that tells how far down the paper that is is one number in its group: the
+/// margin, the place of the item, and the way from there to the base line of a row or the end of the feed of a cut.
+pub fn items_move()
+    ensures rows { (align : Alignment) (cells : List Cell) → MovesDown (3 * tallest cells) (λ down. drawing_at down (Row align cells)) }
+    ensures bars { (align : Alignment) (symbology : Symbology) (style : BarStyle) (content : List ℕ) (added : Option ℕ) →
+        MovesDown 0 (λ down. drawing_at down (Bars align symbology style.height style.module_width style.place style.hri_font content added)) }
+    ensures rasters { (align : Alignment) (scale : Scale) (x y : ℕ) (dots : List ℕ) → MovesDown 0 (λ down. drawing_at down (Raster align scale x y dots)) }
+    ensures cuts { (partial : Bool) (feed : Option ℕ) → MovesDown (cut_place feed) (λ down. drawing_at down (Cut partial feed)) }
+{}

@@ -1,0 +1,36 @@
+//! The paper as a picture: an SVG document in which the items of a paper are drawn one under another. A dot of the printer is one
+//! unit of the document. Places down the paper are counted in quarters of a dot.
+//!
+//! The height of the paper stands at the head of the document. So a caller goes over the items twice: once with a `Pen`, which
+//! adds up what they take, and then, after `append_head`, with `put_items`, which draws them. `append_last_tag` begins a line under
+//! the paper. The bytes go through a `Gather`, and nothing is allocated.
+//!
+//! `document` has what comes before the items and after them, `item` draws an item as a group of the document, and `pen` has its
+//! place and its size. `row` draws rows, `raster` rasters, `cut` cuts, and `bars` barcodes, with their lines of text from `label`.
+//! `span` appends dots of one colour in a line, of rasters and bars, and `byte_spans` has the text of each byte's dots. `characters`
+//! turns printed bytes into text, by the tables of `code_tables`, and `numbers` appends numbers of dots. `laws` has what follows from
+//! the definitions: nothing overlaps, text is escaped, and spans cover exactly the black dots.
+//!
+//! Of the definitions begin with `picture_text` of `specs/Document.antt`, the whole document. Then come `drawing_at` of
+//! `specs/Groups.antt`, what is drawn of each kind of item, and `depth` of `specs/Places.antt`, how much paper it takes.
+//! `proofs/Worked.antt` shows small papers with their documents.
+#![tactic(auto)]
+
+mod bars;
+mod byte_spans;
+mod characters;
+mod code_tables;
+mod cut;
+mod document;
+mod item;
+mod label;
+pub mod laws;
+mod numbers;
+mod pen;
+mod raster;
+mod row;
+mod span;
+
+pub use document::{HEAD_BYTES, LAST_TAG_BYTES, append_head, append_last_tag};
+pub use item::{put_item, put_items};
+pub use pen::Pen;

@@ -1,0 +1,214 @@
+//! Where the next item is drawn: how far down the paper each item goes.
+
+ghost use Rattle.std.specs.Prelude.{◌≡◌, ◌*◌, ◌≤◌};
+ghost use Rattle.escpos_paper.specs.Cells.{face_dots};
+ghost use Rattle.escpos_picture.specs.Places.{Place, top, place_after, place_after_all, depth, row_above, face_height, cell_height, tallest, text_lines, across, downwards, feed_dots, indent};
+
+use escpos_command::{Alignment, FontFace, HriPosition, Scale};
+use escpos_paper::{Cell, Item, LINE_DOTS};
+use std::marker::Model;
+
+/// As far down as places are counted, in quarters of a dot: no paper comes near.
+pub const DEEPEST: usize = 1 << 62;
+
+const _: () = prove!(DEEPEST == 4_611_686_018_427_387_904);
+
+/// The default line spacing, in dots: a sixth of an inch, of 180 dots to the inch. (Reference: ESC 2.)
+const LINE_SPACING: usize = 30;
+
+const _: () = prove!(LINE_SPACING == 30);
+
+/// The margin on each side of the paper's lines, and above and below them, in dots.
+pub const MARGIN: usize = 32;
+
+const _: () = prove!(MARGIN == 32);
+
+/// The place where the next item is drawn.
+#[derive(Drop)]
+pub struct Pen {
+    down: usize,
+    above: usize,
+}
+
+impl Model for Pen {
+    ghost use Rattle.std.specs.Prelude.{◌≤◌};
+    ghost use Rattle.escpos_picture.specs.Places.{Place};
+    ghost use Rattle.escpos_picture.specs.declared.pen.TheConstants.{DEEPEST};
+
+    ghost Value = { Place };
+
+    ghost view = { λ p. record { down = p.down; above = p.above } };
+
+    ghost invariant = { λ p. p.down ≤ DEEPEST };
+}
+
+impl Pen {
+    /// The place of the first item.
+    pub fn new() -> Self
+        ensures { result ≡ top }
+    {
+        Pen { down: 0, above: 0 }
+    }
+
+    /// How far down the paper the place is, in quarters of a dot, counted from the first item.
+    pub fn down(&self) -> usize
+        ensures value { result ≡ self.now.down }
+        ensures small { result ≤ DEEPEST }
+    {
+        self.down
+    }
+
+    /// Goes on to the place of what comes after these items.
+    pub fn pass_all(&mut self, items: &[Item])
+        ensures { self.new ≡ place_after_all self.old items.now }
+    {
+        for item in items {
+            self.pass(item);
+        }
+    }
+
+    /// Goes on to the place of what comes after `item`.
+    pub fn pass(&mut self, item: &Item)
+        ensures { self.new ≡ place_after self.old item.now }
+    {
+        let above = row_above(item);
+        self.down = (self.down + depth(self.above, item)).min(DEEPEST);
+        self.above = above;
+    }
+}
+
+// What an item takes down the paper, in quarters of a dot, under a row that is this tall.
+fn depth(above: usize, item: &Item) -> usize
+    ensures value { result ≡ depth above item.now }
+    ensures small { result ≤ 524280 }
+{
+    match item {
+        Item::Row { cells, .. } => 4 * tallest(cells.as_slice()),
+        Item::Feed(lines) => 4 * feed_dots(above, *lines),
+        Item::FeedUnits(units) => 2 * usize::from(*units),
+        Item::Bars {
+            height,
+            place,
+            hri_font,
+            ..
+        } => 4 * (usize::from(*height) + text_lines(*place) * face_height(*hri_font)),
+        Item::Raster { scale, y, .. } => 4 * (downwards(*scale) * usize::from(*y)),
+        Item::Cut { feed, .. } => {
+            if let Some(units) = feed {
+                2 * usize::from(*units) + 96
+            } else {
+                96
+            }
+        }
+    }
+}
+
+// The height of an item if it is a row, otherwise 0.
+fn row_above(item: &Item) -> usize
+    ensures { result ≡ row_above item.now }
+{
+    match item {
+        Item::Row { cells, .. } => tallest(cells.as_slice()),
+        _ => 0,
+    }
+}
+
+// A feed of this many lines under a row that is this tall, in dots.
+fn feed_dots(above: usize, lines: u8) -> usize
+    ensures value { result ≡ feed_dots above lines }
+    ensures small { result ≤ 7650 }
+{
+    if lines == 0 {
+        return 0;
+    }
+    LINE_SPACING.saturating_sub(above) + LINE_SPACING * (usize::from(lines) - 1)
+}
+
+/// How wide a character of the font is at width 1, in dots.
+pub fn face_width(face: FontFace) -> usize
+    ensures value { result ≡ face_dots face }
+    ensures small { result ≤ 12 }
+{
+    match face {
+        FontFace::A => 12,
+        FontFace::B => 9,
+    }
+}
+
+/// How high a character of the font is at height 1, in dots.
+pub fn face_height(face: FontFace) -> usize
+    ensures value { result ≡ face_height face }
+    ensures small { result ≤ 24 }
+{
+    match face {
+        FontFace::A => 24,
+        FontFace::B => 17,
+    }
+}
+
+/// How tall the tallest of these cells is, in dots.
+pub fn tallest(cells: &[Cell]) -> usize
+    ensures value { result ≡ tallest cells.now }
+    ensures small { result ≤ 6120 }
+{
+    let mut height = 0;
+    for cell in cells {
+        height = cell_height(cell).max(height);
+    }
+    height
+}
+
+// How tall a cell is, in dots.
+fn cell_height(cell: &Cell) -> usize
+    ensures value { result ≡ cell_height cell.now }
+    ensures small { result ≤ 6120 }
+{
+    face_height(cell.style.font) * usize::from(cell.style.height)
+}
+
+/// How many lines of text stand beside a barcode.
+pub fn text_lines(place: HriPosition) -> usize
+    ensures value { result ≡ text_lines place }
+    ensures small { result ≤ 2 }
+{
+    match place {
+        HriPosition::Nowhere => 0,
+        HriPosition::Above | HriPosition::Below => 1,
+        HriPosition::Both => 2,
+    }
+}
+
+/// How many dots a dot of a raster takes across the paper.
+pub fn across(scale: Scale) -> usize
+    ensures value { result ≡ across scale }
+    ensures small { result ≤ 2 }
+{
+    match scale {
+        Scale::Normal | Scale::Tall => 1,
+        Scale::Wide | Scale::Both => 2,
+    }
+}
+
+/// How many dots a dot of a raster takes down the paper.
+pub fn downwards(scale: Scale) -> usize
+    ensures value { result ≡ downwards scale }
+    ensures small { result ≤ 2 }
+{
+    match scale {
+        Scale::Normal | Scale::Wide => 1,
+        Scale::Tall | Scale::Both => 2,
+    }
+}
+
+/// How many dots of the line are left free to the left of something this wide.
+pub fn indent(align: Alignment, width: usize) -> usize
+    ensures value { result ≡ indent align width }
+    ensures small { result ≤ LINE_DOTS }
+{
+    let free = LINE_DOTS.saturating_sub(width);
+    match align {
+        Alignment::Left => 0,
+        Alignment::Center => free / 2,
+        Alignment::Right => free,
+    }
+}

@@ -1,0 +1,242 @@
+//! A row: its cells, neighbours of one style as one text.
+
+ghost use Rattle.std.specs.Prelude.{◌≡◌, ◌+◌, ◌*◌, ◌<◌, ◌≤◌, ◌∷◌, ◌++◌, length, take, drop};
+ghost use Rattle.escpos_paper.specs.Cells.{dots, face_dots};
+ghost use Rattle.escpos_picture.specs.Rows.{run, runs, bytes_of, same_count, is_plain_size, scaled_place, text_place, text_class, characters_text, underline_text, text_start, run_tag, run_drawing, runs_drawing};
+ghost use Rattle.escpos_picture.specs.Groups.{row_drawing};
+
+use crate::characters::append_byte;
+use crate::numbers::{append_between, append_place, append_quarters};
+use crate::pen::{DEEPEST, face_height, face_width, indent, tallest};
+use escpos_command::{Alignment, FontFace};
+use escpos_io::{GATHERED_BYTES, Gather, append_number, append_small_number};
+use escpos_paper::{Cell, LINE_CELLS, Style};
+
+/// The most bytes that a row of no cells takes, and each cell more.
+pub const ROW_BYTES: usize = 128;
+
+pub const CELL_BYTES: usize = 256;
+
+const _: () = prove!(ROW_BYTES == 128);
+
+const _: () = prove!(CELL_BYTES == 256);
+
+/// Appends a row of these cells whose upper edge is this many quarters of a dot down the paper.
+pub fn append_row(gather: &mut Gather, align: Alignment, cells: &[Cell], down: usize)
+    requires few { length cells.now ≤ LINE_CELLS }
+    requires small { down ≤ DEEPEST }
+    requires room { length gather.old.kept + ROW_BYTES + CELL_BYTES * length cells.now ≤ GATHERED_BYTES }
+    ensures kept { gather.new.kept ≡ gather.old.kept ++ row_drawing down align cells.now }
+    ensures same_count { gather.new.written ≡ gather.old.written }
+{
+    gather.extend(b"<g class=\"row\" transform=\"translate(");
+    append_place(
+        gather,
+        indent(align, dots(cells)),
+        down + 3 * tallest(cells),
+    );
+    gather.extend(b")\">");
+    append_runs(gather, cells);
+    gather.extend(b"</g>\n");
+}
+
+// How wide these cells are, in dots.
+fn dots(cells: &[Cell]) -> usize
+    requires few { length cells.now ≤ LINE_CELLS }
+    ensures value { result ≡ dots cells.now }
+{
+    let mut sum = 0;
+    for cell in cells {
+        sum += style_dots(&cell.style);
+    }
+    sum
+}
+
+// Appends the runs of these cells.
+fn append_runs(gather: &mut Gather, cells: &[Cell])
+    requires few { length cells.now ≤ LINE_CELLS }
+    requires room { length gather.old.kept + CELL_BYTES * length cells.now ≤ GATHERED_BYTES }
+    ensures kept { gather.new.kept ≡ gather.old.kept ++ runs_drawing 0 (runs cells.now) }
+    ensures same_count { gather.new.written ≡ gather.old.written }
+    ensures short { length gather.new.kept ≤ length gather.old.kept + CELL_BYTES * length cells.now }
+{
+    let mut rest = cells;
+    let mut x = 0;
+    while !rest.is_empty() {
+        let (style, count) = first_run(rest);
+        let (run, following) = rest.split_at(count);
+        append_run(gather, x, &style, run);
+        x += style_dots(&style) * count;
+        rest = following;
+    }
+}
+
+// The style of the first run of these cells, and how many cells it has.
+fn first_run(cells: &[Cell]) -> (Style, usize)
+    requires { 0 < length cells.now }
+    ensures run { runs cells.now ≡ run result.0 (bytes_of (take result.1 cells.now)) ∷ runs (drop result.1 cells.now) }
+    ensures some { 0 < result.1 }
+    ensures inside { result.1 ≤ length cells.now }
+{
+    let style = cells[0].style;
+    (style, 1 + same_count(&style, &cells[1..]))
+}
+
+// How many of these cells, which follow one of a style, come before the first whose style isn't that of the cell before it.
+fn same_count(style: &Style, cells: &[Cell]) -> usize
+    ensures value { result ≡ same_count style.now cells.now }
+    ensures inside { result ≤ length cells.now }
+{
+    let mut before = *style;
+    let mut count = 0;
+    for cell in cells {
+        if !before.is_same(&cell.style) {
+            return count;
+        }
+        before = cell.style;
+        count += 1;
+    }
+    count
+}
+
+// Appends cells of one style as a text, this many dots from the left end of the row, and their underline.
+#[tactic(auto, unfolding(crate::specs::Rows::run_drawing))]
+fn append_run(gather: &mut Gather, x: usize, style: &Style, cells: &[Cell])
+    requires few { length cells.now ≤ LINE_CELLS }
+    requires room { length gather.old.kept + 250 + 6 * length cells.now ≤ GATHERED_BYTES }
+    ensures kept { gather.new.kept ≡ gather.old.kept ++ run_drawing x (run style.now (bytes_of cells.now)) }
+    ensures same_count { gather.new.written ≡ gather.old.written }
+    ensures short { length gather.new.kept ≤ length gather.old.kept + 250 + 6 * length cells.now }
+{
+    append_run_tag(gather, x, style, cells);
+    append_cells(gather, style.table, cells);
+    gather.extend(b"</text>");
+    append_underline(gather, x, style, cells);
+}
+
+// Appends the tag before the characters of these cells.
+#[tactic(auto, unfolding(crate::specs::Rows::run_tag))]
+fn append_run_tag(gather: &mut Gather, x: usize, style: &Style, cells: &[Cell])
+    requires few { length cells.now ≤ LINE_CELLS }
+    requires room { length gather.old.kept + 115 ≤ GATHERED_BYTES }
+    ensures kept { gather.new.kept ≡ gather.old.kept ++ run_tag x (run style.now (bytes_of cells.now)) }
+    ensures same_count { gather.new.written ≡ gather.old.written }
+    ensures short { length gather.new.kept ≤ length gather.old.kept + 115 }
+{
+    append_text_start(gather, x, style);
+    append_between(
+        gather,
+        b" textLength=\"",
+        face_width(style.font) * cells.len(),
+        b"\">",
+    );
+}
+
+// Appends the beginning of that tag.
+#[tactic(auto, unfolding(crate::specs::Rows::text_start))]
+fn append_text_start(gather: &mut Gather, x: usize, style: &Style)
+    requires { length gather.old.kept + 80 ≤ GATHERED_BYTES }
+    ensures kept { gather.new.kept ≡ gather.old.kept ++ text_start x style.now }
+    ensures same_count { gather.new.written ≡ gather.old.written }
+    ensures short { length gather.new.kept ≤ length gather.old.kept + 80 }
+{
+    gather.extend(b"<text");
+    append_text_place(gather, x, style);
+    gather.extend(text_class(style));
+}
+
+// Appends where the text of a style begins.
+#[tactic(auto, unfolding(crate::specs::Rows::text_place))]
+fn append_text_place(gather: &mut Gather, x: usize, style: &Style)
+    requires { length gather.old.kept + 60 ≤ GATHERED_BYTES }
+    ensures kept { gather.new.kept ≡ gather.old.kept ++ text_place x style.now }
+    ensures same_count { gather.new.written ≡ gather.old.written }
+    ensures short { length gather.new.kept ≤ length gather.old.kept + 60 }
+{
+    if is_plain_size(style) {
+        append_between(gather, b" x=\"", x, b"\"");
+    } else {
+        append_scaled_place(gather, x, style);
+    }
+}
+
+// Appends where the text of a style begins, and how it is scaled.
+fn append_scaled_place(gather: &mut Gather, x: usize, style: &Style)
+    requires { length gather.old.kept + 60 ≤ GATHERED_BYTES }
+    ensures kept { gather.new.kept ≡ gather.old.kept ++ scaled_place x style.now }
+    ensures same_count { gather.new.written ≡ gather.old.written }
+    ensures short { length gather.new.kept ≤ length gather.old.kept + 60 }
+{
+    gather.extend(b" transform=\"matrix(");
+    append_small_number(gather, style.width);
+    gather.extend(b" 0 0 ");
+    append_small_number(gather, style.height);
+    append_between(gather, b" ", x, b" 0)\"");
+}
+
+// Whether a style isn't scaled.
+fn is_plain_size(style: &Style) -> bool
+    ensures { result ≡ is_plain_size style.now }
+{
+    style.width == 1 && style.height == 1
+}
+
+// The class of a style.
+#[tactic(auto, unfolding(crate::specs::Rows::text_class))]
+fn text_class(style: &Style) -> &'static [u8]
+    ensures text { result.now ≡ text_class style.now }
+    ensures short { length result.now ≤ 15 }
+{
+    match (style.font, style.bold) {
+        (FontFace::A, false) => b"",
+        (FontFace::A, true) => b" class=\"bold\"",
+        (FontFace::B, false) => b" class=\"B\"",
+        (FontFace::B, true) => b" class=\"B bold\"",
+    }
+}
+
+// Appends the characters of these cells, printed with a code table.
+fn append_cells(gather: &mut Gather, table: u8, cells: &[Cell])
+    requires { length gather.old.kept + 6 * length cells.now ≤ GATHERED_BYTES }
+    ensures kept { gather.new.kept ≡ gather.old.kept ++ characters_text table (bytes_of cells.now) }
+    ensures same_count { gather.new.written ≡ gather.old.written }
+    ensures short { length gather.new.kept ≤ length gather.old.kept + 6 * length cells.now }
+{
+    for cell in cells {
+        append_byte(gather, table, cell.byte);
+    }
+}
+
+// Appends the underline of cells of one style, if that has one.
+#[tactic(auto, unfolding(crate::specs::Rows::underline_text))]
+fn append_underline(gather: &mut Gather, x: usize, style: &Style, cells: &[Cell])
+    requires few { length cells.now ≤ LINE_CELLS }
+    requires room { length gather.old.kept + 128 ≤ GATHERED_BYTES }
+    ensures kept { gather.new.kept ≡ gather.old.kept ++ underline_text x (run style.now (bytes_of cells.now)) }
+    ensures same_count { gather.new.written ≡ gather.old.written }
+    ensures short { length gather.new.kept ≤ length gather.old.kept + 128 }
+{
+    if style.underline == 0 {
+        return;
+    }
+    let width = style_dots(style) * cells.len();
+    let height = face_height(style.font) * usize::from(style.height);
+    gather.extend(b"<path d=\"M");
+    append_number(gather, x);
+    gather.push(b' ');
+    append_quarters(
+        gather,
+        height.saturating_sub(4 * usize::from(style.underline)),
+    );
+    append_between(gather, b"h", width, b"v");
+    append_small_number(gather, style.underline);
+    append_between(gather, b"h-", width, b"z\"/>");
+}
+
+// How wide a cell of this style is, in dots.
+fn style_dots(style: &Style) -> usize
+    ensures value { result ≡ face_dots style.now.font * style.now.width }
+    ensures small { result ≤ 3060 }
+{
+    face_width(style.font) * usize::from(style.width)
+}
