@@ -48,10 +48,10 @@ in_turn front b rest =
     ∙ ap (λ t. t ++ spans_text rest) (flat_map-append (λ (s : Span). span_text s) front (spans (byte_dots b)))
 
 -- A byte with a black dot
-put_together : (white own rest end : List ℕ) → (white ++ own ++ rest) ++ end ≡ ([] ++ white ++ own) ++ (rest ++ end)
+put_together : (white own rest end : List ℕ) → (white ++ own ++ rest) ++ end ≡ (([] ++ white) ++ own) ++ (rest ++ end)
 put_together white own rest end = simp append_assoc
 
-with_start : (start white own rest : List ℕ) → start ++ (([] ++ white ++ own) ++ rest) ≡ (start ++ white ++ own) ++ rest
+with_start : (start white own rest : List ℕ) → start ++ ((([] ++ white) ++ own) ++ rest) ≡ ((start ++ white) ++ own) ++ rest
 with_start start white own rest = simp append_assoc
 
 begun_step : (line white b : ℕ) (bytes : List ℕ)
@@ -90,6 +90,23 @@ pub next_white : (line : ℕ) (is_begun : Bool) (white b : ℕ) (bytes : List �
     → left_text line is_begun white (b ∷ bytes) ≡ left_text line is_begun (white + 8) bytes
 next_white line is_begun white b bytes none =
     ap (λ n. left_text line is_begun white (n ∷ bytes)) none ∙ of_zero line is_begun white bytes
+
+-- ## A row, with what waits in the buffer
+
+regrouped : (done waiting before own left : List ℕ) → done ++ (waiting ++ ((before ++ own) ++ left)) ≡ ((done ++ waiting) ++ before) ++ (own ++ left)
+regrouped done waiting before own left = simp append_assoc
+
+-- What waits was given, and the byte waits by itself.
+pub after_giving : (done waiting before own left whole waits : List ℕ) → whole ≡ done ++ (waiting ++ ((before ++ own) ++ left)) → waits ≡ own
+    → whole ≡ ((done ++ waiting) ++ before) ++ (waits ++ left)
+after_giving done waiting before own left whole waits is alone =
+    is ∙ regrouped done waiting before own left ∙ ap (λ t. ((done ++ waiting) ++ before) ++ (t ++ left)) (sym alone)
+
+-- Nothing comes before the byte, and it waits with the others.
+pub with_others : (done waiting before own left whole waits : List ℕ) → whole ≡ done ++ (waiting ++ ((before ++ own) ++ left)) → before ≡ [] → waits ≡ waiting ++ own
+    → whole ≡ done ++ (waits ++ left)
+with_others done waiting before own left whole waits is none all =
+    is ∙ ap (λ t. done ++ (waiting ++ ((t ++ own) ++ left))) none ∙ ap (λ t. done ++ t) (sym (append_assoc waiting own left)) ∙ ap (λ t. done ++ (t ++ left)) (sym all)
 
 -- ## The rows of a raster
 

@@ -2,9 +2,12 @@
 use Rattle.std.specs.Prelude.{ℕ, zero, suc, ◌+◌, Bool, List, [], ◌++◌, take, replicate, length, ◌∷◌, codes, if◌then◌else◌}
 use Rattle.escpos_picture.specs.Spans.{white_span, row_spans, spans_text, byte_spans_text, line_start, line_text}
 
--- A byte with a black dot after so many white dots, and before it the beginning of the path, where none is begun.
+-- What comes before a byte with a black dot: the beginning of the path, where none is begun, and so many white dots.
+abbrev pub before_byte : ℕ → Bool → ℕ → List ℕ
+before_byte line is_begun white = (if is_begun then [] else line_start line) ++ spans_text (white_span white)
+
 abbrev pub byte_step : ℕ → Bool → ℕ → ℕ → List ℕ
-byte_step line is_begun white b = (if is_begun then [] else line_start line) ++ spans_text (white_span white) ++ byte_spans_text b
+byte_step line is_begun white b = before_byte line is_begun white ++ byte_spans_text b
 
 -- What is left of a row after so many white dots: of its path, or the whole of it, where none is begun.
 abbrev pub left_text : ℕ → Bool → ℕ → List ℕ → List ℕ

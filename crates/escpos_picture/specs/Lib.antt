@@ -4,6 +4,7 @@ pub mod Characters
 pub mod Escaping
 pub mod Places
 pub mod Rows
+pub mod SpanBuffer
 pub mod Spans
 pub mod ByteSpans
 pub mod Rasters

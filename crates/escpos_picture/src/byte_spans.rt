@@ -1,6 +1,6 @@
 //! The text of each byte's dots, looked up: rasters are long.
 
-ghost use Rattle.std.specs.Prelude.{◌≡◌, ◌*◌, ◌≤◌, length};
+ghost use Rattle.std.specs.Prelude.{◌≡◌, ◌*◌, ◌≤◌, length, take};
 ghost use Rattle.escpos_picture.specs.Spans.{byte_spans_text};
 ghost use Rattle.escpos_picture.specs.ByteSpans.{texts_from, lengths_from};
 
@@ -284,19 +284,19 @@ h7m1 0                  \
 h8                      \
 ";
 
-/// The spans of a byte's dots as the data of a path.
+/// Places whose first hold the spans of a byte's dots, as the data of a path: so many as `length_of` says.
 #[inline]
-pub fn byte_spans(byte: u8) -> &'static [u8]
-    ensures text { result.now ≡ byte_spans_text byte }
-    ensures short { length result.now ≤ BYTE_SPANS_BYTES }
+pub fn byte_places(byte: u8) -> &'static [u8]
+    ensures text { take (length (byte_spans_text byte)) result.now ≡ byte_spans_text byte }
+    ensures len { length result.now ≡ BYTE_SPANS_BYTES }
 {
     let start = BYTE_SPANS_BYTES * usize::from(byte);
-    &texts()[start..start + length_of(byte)]
+    &texts()[start..start + BYTE_SPANS_BYTES]
 }
 
-// How many bytes the text of a byte has.
+/// How many bytes the text of a byte has.
 #[inline]
-fn length_of(byte: u8) -> usize
+pub fn length_of(byte: u8) -> usize
     ensures value { result ≡ length (byte_spans_text byte) }
     ensures short { result ≤ BYTE_SPANS_BYTES }
 {

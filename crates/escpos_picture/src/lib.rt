@@ -7,9 +7,10 @@
 //!
 //! `document` has what comes before the items and after them, `item` draws an item as a group of the document, and `pen` has its
 //! place and its size. `row` draws rows, `raster` rasters, `cut` cuts, and `bars` barcodes, with their lines of text from `label`.
-//! `span` appends dots of one colour in a line, of rasters and bars, and `byte_spans` has the text of each byte's dots. `characters`
-//! turns printed bytes into text, by the tables of `code_tables`, and `numbers` appends numbers of dots. `laws` has what follows from
-//! the definitions: nothing overlaps, text is escaped, and spans cover exactly the black dots.
+//! `span` appends dots of one colour in a line, of rasters and bars; `byte_spans` has the text of each byte's dots, and `span_buffer`
+//! puts those of a row together. `characters` turns printed bytes into text, by the tables of `code_tables`, and `numbers` appends
+//! numbers of dots. `laws` has what follows from the definitions: nothing overlaps, text is escaped, and spans cover exactly the black
+//! dots.
 //!
 //! Of the definitions begin with `picture_text` of `specs/Document.antt`, the whole document. Then come `drawing_at` of
 //! `specs/Groups.antt`, what is drawn of each kind of item, and `depth` of `specs/Places.antt`, how much paper it takes.
@@ -30,6 +31,7 @@ mod pen;
 mod raster;
 mod row;
 mod span;
+mod span_buffer;
 
 pub use document::{HEAD_BYTES, LAST_TAG_BYTES, append_head, append_last_tag};
 pub use item::{put_item, put_items};

@@ -1,16 +1,16 @@
 //! Rasters: each row that has a black dot as a path.
 
-ghost use Rattle.std.specs.Prelude.{◌≡◌, ◌*◌, ◌+◌, ◌≤◌, ◌<◌, ◌++◌, length, take, drop};
+ghost use Rattle.std.specs.Prelude.{◌≡◌, ◌*◌, ◌+◌, ◌≤◌, ◌<◌, ◌++◌, [], length, take, drop, OnOk};
 ghost use Rattle.escpos_io.specs.Giving.{IsGiven};
 ghost use Rattle.escpos_io.specs.Putting.{passage};
-ghost use Rattle.escpos_picture.specs.ByteSpans.{byte_step};
+ghost use Rattle.escpos_picture.specs.ByteSpans.{before_byte};
 ghost use Rattle.escpos_picture.specs.Rasters.{rows_of, row_text, rows_text};
 ghost use Rattle.escpos_picture.specs.Groups.{scale_text, raster_start, raster_drawing};
 
-use crate::byte_spans::byte_spans;
 use crate::numbers::{append_between, append_place};
 use crate::pen::{DEEPEST, across, downwards, indent};
 use crate::span::{append_line_start, append_span};
+use crate::span_buffer::SpanBuffer;
 use escpos_command::{Alignment, Scale};
 use escpos_io::{ByteOut, Device, GATHERED_BYTES, Gather};
 use escpos_paper::{DOT_BYTES, Dots};
@@ -97,10 +97,11 @@ fn put_rows<W: ByteOut>(
     ensures { IsGiven result (passage (W.written writer.old) (W.written writer.new) (W.failed writer.old) (W.failed writer.new))
         gather.old gather.new (rows_text 0 (rows_of x y dots.now)) }
 {
+    let mut spans = SpanBuffer::new();
     let mut rest = dots;
     for line in 0..y {
         let (row, below) = row_and_rest(rest, x);
-        put_row(gather, line, row, writer)?;
+        put_row(gather, &mut spans, line, row, writer)?;
         rest = below;
     }
     Ok(())
@@ -118,16 +119,19 @@ fn row_and_rest(dots: &[u8], x: usize) -> (&[u8], &[u8])
     }
 }
 
-// Gives a row.
+// Gives a row. Nothing waits in the buffer before it and, as long as the sink takes what is put, after it.
 fn put_row<W: ByteOut>(
     gather: &mut Gather,
+    spans: &mut SpanBuffer,
     line: usize,
     row: &[u8],
     writer: &mut W,
 ) -> Result<(), Device>
     requires few { length row.now ≤ DOT_BYTES }
-    ensures { IsGiven result (passage (W.written writer.old) (W.written writer.new) (W.failed writer.old) (W.failed writer.new))
+    requires nothing_waits { spans.old.text ≡ [] }
+    ensures given { IsGiven result (passage (W.written writer.old) (W.written writer.new) (W.failed writer.old) (W.failed writer.new))
         gather.old gather.new (row_text line row.now) }
+    ensures nothing_waits { OnOk result (spans.new.text ≡ []) }
 {
     let mut is_begun = false;
     let mut white = 0;
@@ -136,27 +140,46 @@ fn put_row<W: ByteOut>(
             white += 8;
             continue;
         }
-        gather.room(ROW_STEP_BYTES, writer)?;
-        append_byte(gather, line, is_begun, white, *byte);
+        if white > 0 || !is_begun || spans.is_full() {
+            put_spans(gather, spans, writer)?;
+            gather.room(BEFORE_BYTES, writer)?;
+            append_before(gather, line, is_begun, white);
+        }
+        spans.append(*byte);
         is_begun = true;
         white = 0;
     }
+    put_spans(gather, spans, writer)?;
     if is_begun {
         gather.put(b"\"/>\n", writer)?;
     }
     Ok(())
 }
 
-// The most bytes that one byte of a row takes: the beginning of its path, the white dots before it, and its own.
-const ROW_STEP_BYTES: usize = 81;
+// Gives what waits in the buffer.
+fn put_spans<W: ByteOut>(
+    gather: &mut Gather,
+    spans: &mut SpanBuffer,
+    writer: &mut W,
+) -> Result<(), Device>
+    ensures given { IsGiven result (passage (W.written writer.old) (W.written writer.new) (W.failed writer.old) (W.failed writer.new))
+        gather.old gather.new spans.old.text }
+    ensures nothing_waits { OnOk result (spans.new.text ≡ []) }
+{
+    gather.put(spans.as_slice(), writer)?;
+    spans.clear();
+    Ok(())
+}
 
-const _: () = prove!(ROW_STEP_BYTES == 81);
+// The most bytes that come before the spans of a byte: the beginning of its path, and the white dots before it.
+const BEFORE_BYTES: usize = 57;
 
-// Appends the spans of a byte after so many white dots, and before it the beginning of the path, where none is begun.
-#[inline]
-fn append_byte(gather: &mut Gather, line: usize, is_begun: bool, white: usize, byte: u8)
-    requires { length gather.old.kept + ROW_STEP_BYTES ≤ GATHERED_BYTES }
-    ensures kept { gather.new.kept ≡ gather.old.kept ++ byte_step line is_begun white byte }
+const _: () = prove!(BEFORE_BYTES == 57);
+
+// Appends what comes before the spans of a byte: the beginning of the path, where none is begun, and so many white dots.
+fn append_before(gather: &mut Gather, line: usize, is_begun: bool, white: usize)
+    requires { length gather.old.kept + BEFORE_BYTES ≤ GATHERED_BYTES }
+    ensures kept { gather.new.kept ≡ gather.old.kept ++ before_byte line is_begun white }
     ensures same_count { gather.new.written ≡ gather.old.written }
 {
     if !is_begun {
@@ -165,5 +188,4 @@ fn append_byte(gather: &mut Gather, line: usize, is_begun: bool, white: usize, b
     if white > 0 {
         append_span(gather, false, white);
     }
-    gather.extend(byte_spans(byte));
 }

@@ -1,5 +1,5 @@
--- The rows above are drawn, and those from this one on are left.
-use Rattle.std.proofs.Common.{◌-◌, ◌≤◌, length}
+-- The rows above are drawn, and those from this one on are left; nothing waits in the buffer.
+use Rattle.std.proofs.Common.{◌≡◌, ◌-◌, ◌≤◌, length, []}
 use Rattle.escpos_io.specs.Putting.{passage}
 use Rattle.escpos_paper.specs.declared.content.TheConstants.{DOT_BYTES}
 use Rattle.escpos_picture.specs.Rasters.{rows_of, rows_text}
@@ -12,4 +12,5 @@ invariant-loop-line g l = record {
       l.fn.gather l.gather (rows_text l.line (rows_of l.x (l.y - l.line) l.rest)) (rows_text 0 (rows_of l.x l.y l.dots));
   few : length l.rest ≤ DOT_BYTES;
   inside : l.line ≤ l.y;
+  nothing_waits : l.spans.text ≡ [];
 }

@@ -1,0 +1,109 @@
+"""Says which bars `bench/scan` and `bench/pictures` must find: a model of the barcodes of docs/PROFILE.md.
+
+It is written on its own, from what the standards say, and shares nothing with the program. A content is the one that is printed, with
+its check digit. A pattern is the widths of bars and spaces in turn, in modules, or in CODE39, ITF and CODABAR 1 for narrow and 2 for
+wide.
+"""
+import re
+
+WIDE = {2: 5, 3: 8, 4: 10, 5: 13, 6: 16}
+
+
+def interleaved(bars, spaces):
+    return "".join(bar + space for bar, space in zip(bars, spaces))
+
+
+# UPC-A, EAN-13 and EAN-8: the digits in the number sets, and the sets of the left half by the first digit of EAN-13. The right half
+# begins with a bar, so that its set C has the widths of set A.
+SET_A = "3211 2221 2122 1411 1132 1231 1114 1312 1213 3112".split()
+SETS = {"A": SET_A, "B": [pattern[::-1] for pattern in SET_A]}
+LEFT = "AAAAAA AABABB AABBAB AABBBA ABAABB ABBAAB ABBBAA ABABAB ABABBA ABBABA".split()
+
+# Two wide ones in five: the digits of ITF, and the bars of CODE39. There the spaces tell which ten characters are meant, and the last
+# one stands between two characters.
+FIVES = "11221 21112 12112 22111 11212 21211 12211 11122 21121 12121".split()
+CODE39_SPACES = {"0123456789": "12111", "JABCDEFGHI": "11211", "TKLMNOPQRS": "11121", "*UVWXYZ-. ": "21111"}
+CODE39 = {character: interleaved(FIVES[place], spaces) for ten, spaces in CODE39_SPACES.items() for place, character in enumerate(ten)}
+CODE39 |= {"$": "1212121111", "/": "1212111211", "+": "1211121211", "%": "1112121211"}
+
+CODABAR = dict(zip("0123456789-$:/.+ABCD", """
+1111122 1111221 1112112 2211111 1121121 2111121 1211112 1211211 1221111 2112111
+1112211 1122111 2111212 2121112 2121211 1121212 1122121 1212112 1112122 1112221
+""".split()))
+
+# By value; 103 to 105 start in set A, B or C, and the last one is the stop character.
+CODE128 = """
+212222 222122 222221 121223 121322 131222 122213 122312 132212 221213 221312 231212 112232 122132 122231 113222 123122 123221
+223211 221132 221231 213212 223112 312131 311222 321122 321221 312212 322112 322211 212123 212321 232121 111323 131123 131321
+112313 132113 132311 211313 231113 231311 112133 112331 132131 113123 113321 133121 313121 211331 231131 213113 213311 213131
+311123 311321 331121 312113 312311 332111 314111 221411 431111 111224 111422 121124 121421 141122 141221 112214 112412 122114
+122411 142112 142211 241211 221114 413111 241112 134111 111242 121142 121241 114212 124112 124211 411212 421112 421211 212141
+214121 412121 111143 111341 131141 114113 114311 411113 411311 113141 114131 311141 411131 211412 211214 211232 2331112
+""".split()
+DATA = {
+    "A": {chr(byte): (byte - 32) % 96 for byte in range(0x60)},
+    "B": {chr(byte).replace("{", "{{"): byte - 32 for byte in range(0x20, 0x80)},
+    "C": {chr(byte): byte for byte in range(100)},
+}
+OTHERS = {
+    "A": {"{S": 98, "{B": 100, "{C": 99, "{1": 102, "{2": 97, "{3": 96, "{4": 101},
+    "B": {"{S": 98, "{A": 101, "{C": 99, "{1": 102, "{2": 97, "{3": 96, "{4": 100},
+    "C": {"{A": 101, "{B": 100, "{1": 102},
+}
+
+# The patterns of data in each symbology.
+PATTERNS = {
+    "upca": SET_A,
+    "ean13": SETS["A"] + SETS["B"],
+    "ean8": SET_A,
+    "code39": [CODE39[character] for character in CODE39 if character != "*"],
+    "itf": [interleaved(one, other) for one in FIVES for other in FIVES],
+    "codabar": list(CODABAR.values()),
+    "code128": CODE128[:103],
+}
+
+
+def code128(content):
+    """Returns the values of a content of CODE128 from the start on, and its data as text; nothing if its code sets don't have it."""
+    words = re.findall(r"\{.|[^{]", content, re.DOTALL)
+    current, values, text, is_shifted = words[0][1], [103 + "ABC".index(words[0][1])], "", False
+    for word in words[1:]:
+        table = {"A": "B", "B": "A"}[current] if is_shifted else current
+        if word in DATA[table]:
+            values.append(DATA[table][word])
+            text += "%02d" % ord(word) if table == "C" else word[0] if " " <= word[0] <= "~" else " "
+        elif word in OTHERS[table] and not is_shifted:
+            values.append(OTHERS[table][word])
+            current = word[1] if word[1] in "ABC" else current
+        else:
+            return None
+        is_shifted = word == "{S"
+    return (values, text) if text and not is_shifted and "".join(words) == content else None
+
+
+def patterns(kind, content):
+    """Returns the patterns of a barcode from left to right, or nothing if the symbology doesn't have the content."""
+    if kind in ("upca", "ean13", "ean8"):
+        sets, digits = (LEFT[int(content[0])], content[1:]) if kind == "ean13" else ("A" * (len(content) // 2), content)
+        found = [SETS[name][int(digit)] for name, digit in zip(sets + "A" * len(sets), digits)]
+        return ["111", *found[: len(sets)], "11111", *found[len(sets) :], "111"]
+    if kind == "code39":
+        return None if "*" in content else [CODE39[character] for character in "*" + content] + [CODE39["*"][:-1]]
+    if kind == "itf":
+        return ["1111", *(interleaved(FIVES[int(one)], FIVES[int(other)]) for one, other in zip(content[::2], content[1::2])), "211"]
+    if kind == "codabar":
+        return " 1 ".join(CODABAR[character] for character in content.upper()).split()
+    values = (code128(content) or [None])[0]
+    return values and [CODE128[value] for value in (*values, sum(max(place, 1) * value for place, value in enumerate(values)) % 103, 106)]
+
+
+def widths(kind, content, module):
+    """Returns the dots of bars and spaces in turn, bar first, or nothing if the barcode isn't scannable."""
+    wide = WIDE[module] if kind in ("code39", "itf", "codabar") else 2 * module
+    dots = [wide if width == "2" else int(width) * module for pattern in patterns(kind, content) or [] for width in pattern]
+    return dots if 0 < sum(dots) <= 512 else None
+
+
+def interpretation(kind, content):
+    """Returns the text beside the bars of a scannable barcode."""
+    return code128(content)[1] if kind == "code128" else content
