@@ -1,5 +1,5 @@
 -- What was drawn so far of a line, and of the rows of a raster, and what is left.
-use Rattle.std.proofs.Common.{◌≡◌, ℕ, zero, suc, ◌+◌, ◌-◌, ◌<◌, ◌≤◌, take, drop, arith, List, [], ◌∷◌, ◌++◌, Ok, refl, ◌∙◌, ap, append_assoc, Bool, true, false, cond}
+use Rattle.std.proofs.Common.{◌≡◌, ℕ, zero, suc, ◌+◌, ◌-◌, ◌<◌, ◌≤◌, take, drop, arith, List, [], ◌∷◌, ◌++◌, Ok, refl, sym, ◌∙◌, ap, append_assoc, Bool, true, false, cond}
 use Rattle.std.specs.Prelude.{◌==◌, codes}
 use Rattle.std.proofs.lemmas.Grind.{flat_map-append}
 use Rattle.std.proofs.lemmas.Bool.Decides.{nat_tests}
@@ -7,7 +7,7 @@ use Rattle.escpos_io.specs.Gather.{Gathered}
 use Rattle.escpos_io.specs.Giving.{IsGiven}
 use Rattle.escpos_io.specs.Putting.{Passage}
 use Rattle.escpos_picture.specs.Spans.{Span, with_dot, spans, span_text, spans_text, byte_dots, byte_spans_text, white_span, row_spans, line_start, line_text}
-use Rattle.escpos_picture.specs.ByteSpans.{byte_step, left_text}
+use Rattle.escpos_picture.specs.ByteSpans.{before_byte, byte_step, left_text}
 use Rattle.escpos_picture.specs.Rasters.{row_text, rows_of, rows_text}
 
 -- Of a text so much was given, and this is left.
@@ -107,6 +107,12 @@ pub with_others : (done waiting before own left whole waits : List ℕ) → whol
     → whole ≡ done ++ (waits ++ left)
 with_others done waiting before own left whole waits is none all =
     is ∙ ap (λ t. done ++ (waiting ++ ((t ++ own) ++ left))) none ∙ ap (λ t. done ++ t) (sym (append_assoc waiting own left)) ∙ ap (λ t. done ++ (t ++ left)) (sym all)
+
+-- Nothing comes before a byte right after another.
+pub nothing_before : (line : ℕ) (is_begun : Bool) (white : ℕ) → is_begun ≡ true → white ≤ 0 → before_byte line is_begun white ≡ []
+nothing_before line true zero begun none = refl
+nothing_before line true (suc n) begun none = absurd (omega (arith, none))
+nothing_before line false white begun none = absurd (grind (arith, begun))
 
 -- ## The rows of a raster
 

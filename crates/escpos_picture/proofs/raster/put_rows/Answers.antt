@@ -18,12 +18,13 @@ loop-line-init g c =
       };
       few = c.requires.few;
       inside = omega arith;
+      nothing_waits = c.new-spans.ensures;
     }
 
 pub put_row-requires : goal.put_row-requires
 put_row-requires g c =
     let few = c.loop-line.invariant.few in
-    record { few = omega (arith, ap length c.row_and_rest.ensures.row, length-take c.args.x c.loop-line.rest.now, few) }
+    record { few = omega (arith, ap length c.row_and_rest.ensures.row, length-take c.args.x c.loop-line.rest.now, few); nothing_waits = c.loop-line.invariant.nothing_waits }
 
 pub returns-in_err-put_row : goal.returns-in_err-put_row
 returns-in_err-put_row g c =
@@ -31,7 +32,7 @@ returns-in_err-put_row g c =
     let far = l.invariant.so_far in
     let row = row_text l.line c.row_and_rest.result.0.now in
     let below = rows_text (l.line + 1) (rows_of c.args.x (c.args.y - (l.line + 1)) (drop c.args.x l.rest.now)) in
-    let stopped = given_in_turn (Err c.in_err-put_row.field-0.0) _ _ _ _ _ _ _ _ _ far.done row (far.done ++ row) far.given c.in_err-put_row.ensures refl in
+    let stopped = given_in_turn (Err c.in_err-put_row.field-0.0) _ _ _ _ _ _ _ _ _ far.done row (far.done ++ row) far.given c.in_err-put_row.ensures.given refl in
     given_in_the_front c.from_residual.result c.in_err-put_row.field-0.0 _ _ _ (far.done ++ row) below _ c.from_residual.ensures.1 stopped
     (far.whole_is ∙ ap (λ t. far.done ++ t) (next_row l.line c.args.x c.args.y l.rest.now c.loop-line-test.true)
     ∙ ap (λ r. far.done ++ (row_text l.line r ++ below)) (sym c.row_and_rest.ensures.row) ∙ sym (append_assoc far.done row below))
@@ -47,7 +48,7 @@ loop-line-preserved g c =
     record {
       so_far = record {
         done = far.done ++ row;
-        given = given_in_turn (Ok tt) _ _ _ _ _ _ _ _ _ far.done row (far.done ++ row) far.given c.in_ok-put_row.ensures refl;
+        given = given_in_turn (Ok tt) _ _ _ _ _ _ _ _ _ far.done row (far.done ++ row) far.given c.in_ok-put_row.ensures.given refl;
         whole_is = far.whole_is ∙ ap (λ t. far.done ++ t) (next_row l.line c.args.x c.args.y l.rest.now more)
             ∙ ap (λ r. far.done ++ (row_text l.line r ++ below (drop c.args.x l.rest.now))) (sym c.row_and_rest.ensures.row)
             ∙ ap (λ r. far.done ++ (row ++ below r)) (sym c.row_and_rest.ensures.rest)
@@ -55,6 +56,7 @@ loop-line-preserved g c =
       };
       few = omega (arith, ap length c.row_and_rest.ensures.rest, length-drop c.args.x l.rest.now, few);
       inside = omega (arith, more);
+      nothing_waits = c.in_ok-put_row.ensures.nothing_waits;
     }
 
 pub returns : goal.returns
