@@ -96,23 +96,20 @@ next_white line is_begun white b bytes none =
 regrouped : (done waiting before own left : List ℕ) → done ++ (waiting ++ ((before ++ own) ++ left)) ≡ ((done ++ waiting) ++ before) ++ (own ++ left)
 regrouped done waiting before own left = simp append_assoc
 
+all_wait : (waiting before own left : List ℕ) → waiting ++ ((before ++ own) ++ left) ≡ ((waiting ++ before) ++ own) ++ left
+all_wait waiting before own left = simp append_assoc
+
 -- What waits was given, and the byte waits by itself.
 pub after_giving : (done waiting before own left whole waits : List ℕ) → whole ≡ done ++ (waiting ++ ((before ++ own) ++ left)) → waits ≡ own
     → whole ≡ ((done ++ waiting) ++ before) ++ (waits ++ left)
 after_giving done waiting before own left whole waits is alone =
     is ∙ regrouped done waiting before own left ∙ ap (λ t. ((done ++ waiting) ++ before) ++ (t ++ left)) (sym alone)
 
--- Nothing comes before the byte, and it waits with the others.
-pub with_others : (done waiting before own left whole waits : List ℕ) → whole ≡ done ++ (waiting ++ ((before ++ own) ++ left)) → before ≡ [] → waits ≡ waiting ++ own
+-- The byte waits with the others, and what comes before it, too.
+pub with_others : (done waiting before own left whole waits : List ℕ) → whole ≡ done ++ (waiting ++ ((before ++ own) ++ left)) → waits ≡ (waiting ++ before) ++ own
     → whole ≡ done ++ (waits ++ left)
-with_others done waiting before own left whole waits is none all =
-    is ∙ ap (λ t. done ++ (waiting ++ ((t ++ own) ++ left))) none ∙ ap (λ t. done ++ t) (sym (append_assoc waiting own left)) ∙ ap (λ t. done ++ (t ++ left)) (sym all)
-
--- Nothing comes before a byte right after another.
-pub nothing_before : (line : ℕ) (is_begun : Bool) (white : ℕ) → is_begun ≡ true → white ≤ 0 → before_byte line is_begun white ≡ []
-nothing_before line true zero begun none = refl
-nothing_before line true (suc n) begun none = absurd (omega (arith, none))
-nothing_before line false white begun none = absurd (grind (arith, begun))
+with_others done waiting before own left whole waits is all =
+    is ∙ ap (λ t. done ++ t) (all_wait waiting before own left) ∙ ap (λ t. done ++ (t ++ left)) (sym all)
 
 -- ## The rows of a raster
 

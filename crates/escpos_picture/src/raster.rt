@@ -3,6 +3,7 @@
 ghost use Rattle.std.specs.Prelude.{◌≡◌, ◌*◌, ◌+◌, ◌≤◌, ◌<◌, ◌++◌, [], length, take, drop, OnOk};
 ghost use Rattle.escpos_io.specs.Giving.{IsGiven};
 ghost use Rattle.escpos_io.specs.Putting.{passage};
+ghost use Rattle.escpos_picture.specs.Spans.{spans_text, white_span};
 ghost use Rattle.escpos_picture.specs.ByteSpans.{before_byte};
 ghost use Rattle.escpos_picture.specs.Rasters.{rows_of, row_text, rows_text};
 ghost use Rattle.escpos_picture.specs.Groups.{scale_text, raster_start, raster_drawing};
@@ -10,7 +11,7 @@ ghost use Rattle.escpos_picture.specs.Groups.{scale_text, raster_start, raster_d
 use crate::numbers::{append_between, append_place};
 use crate::pen::{DEEPEST, across, downwards, indent};
 use crate::span::{append_line_start, append_span};
-use crate::span_buffer::SpanBuffer;
+use crate::span_buffer::{SHORT_SPAN_BYTES, SPAN_BUFFER_BYTES, SpanBuffer};
 use escpos_command::{Alignment, Scale};
 use escpos_io::{ByteOut, Device, GATHERED_BYTES, Gather};
 use escpos_paper::{DOT_BYTES, Dots};
@@ -119,6 +120,11 @@ fn row_and_rest(dots: &[u8], x: usize) -> (&[u8], &[u8])
     }
 }
 
+// So many white dots don't wait in the buffer.
+const LONG_WHITE_DOTS: usize = 100;
+
+const _: () = prove!(LONG_WHITE_DOTS == 100);
+
 // Gives a row. Nothing waits in the buffer before it and, as long as the sink takes what is put, after it.
 fn put_row<W: ByteOut>(
     gather: &mut Gather,
@@ -140,7 +146,9 @@ fn put_row<W: ByteOut>(
             white += 8;
             continue;
         }
-        if white > 0 || !is_begun || spans.is_full() {
+        if is_begun && white < LONG_WHITE_DOTS && !spans.is_full() {
+            append_short_white(spans, white);
+        } else {
             put_spans(gather, spans, writer)?;
             gather.room(BEFORE_BYTES, writer)?;
             append_before(gather, line, is_begun, white);
@@ -154,6 +162,19 @@ fn put_row<W: ByteOut>(
         gather.put(b"\"/>\n", writer)?;
     }
     Ok(())
+}
+
+// Appends so many white dots to the buffer, if there are any.
+#[inline]
+fn append_short_white(spans: &mut SpanBuffer, white: usize)
+    requires few { white < LONG_WHITE_DOTS }
+    requires room { length spans.old.text + SHORT_SPAN_BYTES ≤ SPAN_BUFFER_BYTES }
+    ensures text { spans.new.text ≡ spans.old.text ++ spans_text (white_span white) }
+    ensures short { length spans.new.text ≤ length spans.old.text + SHORT_SPAN_BYTES }
+{
+    if white > 0 {
+        spans.append_white(white as u8);
+    }
 }
 
 // Gives what waits in the buffer.

@@ -4,7 +4,7 @@
 //! byte's text are copied, and only those that it takes are counted; the next text is written over the others.
 
 ghost use Rattle.std.specs.Prelude.{◌≡◌, ◌+◌, ◌≤◌, ◌<◌, ◌++◌, [], length, take, false};
-ghost use Rattle.escpos_picture.specs.Spans.{byte_spans_text};
+ghost use Rattle.escpos_picture.specs.Spans.{span, span_text, byte_spans_text};
 
 use crate::byte_spans::{BYTE_SPANS_BYTES, byte_places, length_of};
 use std::marker::Model;
@@ -13,6 +13,11 @@ use std::marker::Model;
 pub const SPAN_BUFFER_BYTES: usize = 512;
 
 const _: () = prove!(SPAN_BUFFER_BYTES == 512);
+
+/// The most bytes that a span of fewer than a hundred white dots takes.
+pub const SHORT_SPAN_BYTES: usize = 5;
+
+const _: () = prove!(SHORT_SPAN_BYTES == 5);
 
 /// Texts of spans that wait for a gather. Its model is what waits.
 #[derive(Drop)]
@@ -43,12 +48,34 @@ impl SpanBuffer {
         }
     }
 
-    /// Whether there may be no room for the spans of a byte.
+    /// Whether there may be no room for a short span of white dots and the spans of a byte.
     #[inline]
     pub fn is_full(&self) -> bool
-        ensures { result ≡ false → length self.now.text + BYTE_SPANS_BYTES ≤ SPAN_BUFFER_BYTES }
+        ensures { result ≡ false → length self.now.text + SHORT_SPAN_BYTES + BYTE_SPANS_BYTES ≤ SPAN_BUFFER_BYTES }
     {
-        self.len > SPAN_BUFFER_BYTES - BYTE_SPANS_BYTES
+        self.len > SPAN_BUFFER_BYTES - SHORT_SPAN_BYTES - BYTE_SPANS_BYTES
+    }
+
+    /// Appends a span of white dots, fewer than a hundred.
+    #[inline]
+    pub fn append_white(&mut self, dots: u8)
+        requires few { dots < 100 }
+        requires room { length self.old.text + SHORT_SPAN_BYTES ≤ SPAN_BUFFER_BYTES }
+        ensures text { self.new.text ≡ self.old.text ++ span_text (span false dots) }
+        ensures short { length self.new.text ≤ length self.old.text + SHORT_SPAN_BYTES }
+    {
+        let ones = b'0' + dots % 10;
+        if dots < 10 {
+            copy_in(&mut self.bytes, self.len, &[b'm', ones, b' ', b'0']);
+            self.len += 4;
+        } else {
+            copy_in(
+                &mut self.bytes,
+                self.len,
+                &[b'm', b'0' + dots / 10, ones, b' ', b'0'],
+            );
+            self.len += 5;
+        }
     }
 
     /// Appends the spans of a byte.

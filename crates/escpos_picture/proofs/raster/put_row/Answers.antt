@@ -7,8 +7,8 @@ use Rattle.escpos_io.proofs.Giving.{given_appended, given_in_turn, given_in_the_
 use Rattle.escpos_picture.specs.Spans.{byte_spans_text}
 use Rattle.escpos_picture.specs.ByteSpans.{left_text, before_byte}
 use Rattle.escpos_picture.proofs.GivenSteps.{stopped_at, appended_at}
-use Rattle.escpos_picture.proofs.RasterRows.{row_begins, next_byte, after_giving, nothing_before, with_others}
-use Rattle.escpos_picture.proofs.raster.put_row.Goals.{then-white-gt0+in_ok-put_spans+in_ok-room, else-white-gt0+else-not-is_begun+else-is_full}
+use Rattle.escpos_picture.proofs.RasterRows.{row_begins, next_byte, after_giving, with_others}
+use Rattle.escpos_picture.proofs.raster.put_row.Goals.{else-is_begun+in_ok-put_spans+in_ok-room, then-is_begun+then-white-lt-LONG_WHITE_DOTS+then-not-is_full}
 use Rattle.escpos_picture.proofs.raster.put_row.Goals as goal
 
 pub loop-byte-init : goal.loop-byte-init
@@ -51,31 +51,32 @@ loop-byte-preserved g c =
     let next = at_drop_more (left_text c.args.line l.is_begun l.white) c.args.row.now l.byte-index 0 c.loop-byte-test.true
     ∙ next_byte c.args.line l.is_begun l.white byte rest c.if-byte-eq0.false in
     let whole = far.whole_is ∙ ap (λ t. far.done ++ (l.spans.text ++ t)) next in
-    elim c.if-white-gt0.branch [
-      then-white-gt0+in_ok-put_spans+in_ok-room w ↦ (
-        let waits = given_in_turn (Ok tt) _ _ _ _ _ _ _ _ _ far.done l.spans.text _ far.given w.in_ok-put_spans.ensures.given refl in
-        let given = appended_at _ _ _ _ _ _ _ _ _ _ (far.done ++ l.spans.text) before waits w.in_ok-room.ensures.given w.append_before.ensures.kept w.append_before.ensures.same_count in
-        record {
-          so_far = record {
-            done = (far.done ++ l.spans.text) ++ before;
-            given = subst (λ gather. IsGiven (Ok tt) (passage (g.W.ByteOut.written c.args.writer.now) (g.W.ByteOut.written c.if-white-gt0.writer) (g.W.ByteOut.failed c.args.writer.now) (g.W.ByteOut.failed c.if-white-gt0.writer))
-                c.args.gather.now gather ((far.done ++ l.spans.text) ++ before)) (sym w.gather-is)
-                (subst (λ writer. IsGiven (Ok tt) (passage (g.W.ByteOut.written c.args.writer.now) (g.W.ByteOut.written writer) (g.W.ByteOut.failed c.args.writer.now) (g.W.ByteOut.failed writer))
-                c.args.gather.now w.append_before.new.gather ((far.done ++ l.spans.text) ++ before)) (sym w.writer-is) given);
-            whole_is = after_giving far.done l.spans.text before own left _ _ whole
-                (c.append.ensures ∙ ap (λ s. s.text ++ own) w.spans-is ∙ ap (λ t. t ++ own) w.in_ok-put_spans.ensures.nothing_waits);
-          };
-          near = omega arith;
-        })
-    | else-white-gt0+else-not-is_begun+else-is_full w ↦ (record {
+    elim c.if-is_begun.branch [
+      | else-is_begun+in_ok-put_spans+in_ok-room w ↦ (
+          let waits = given_in_turn (Ok tt) _ _ _ _ _ _ _ _ _ far.done l.spans.text _ far.given w.in_ok-put_spans.ensures.given refl in
+          let given = appended_at _ _ _ _ _ _ _ _ _ _ (far.done ++ l.spans.text) before waits w.in_ok-room.ensures.given w.append_before.ensures.kept w.append_before.ensures.same_count in
+          record {
+            so_far = record {
+              done = (far.done ++ l.spans.text) ++ before;
+              given = subst (λ gather. IsGiven (Ok tt) (passage (g.W.ByteOut.written c.args.writer.now) (g.W.ByteOut.written c.if-is_begun.writer) (g.W.ByteOut.failed c.args.writer.now) (g.W.ByteOut.failed c.if-is_begun.writer))
+                  c.args.gather.now gather ((far.done ++ l.spans.text) ++ before)) (sym w.gather-is)
+                  (subst (λ writer. IsGiven (Ok tt) (passage (g.W.ByteOut.written c.args.writer.now) (g.W.ByteOut.written writer) (g.W.ByteOut.failed c.args.writer.now) (g.W.ByteOut.failed writer))
+                  c.args.gather.now w.append_before.new.gather ((far.done ++ l.spans.text) ++ before)) (sym w.writer-is) given);
+              whole_is = after_giving far.done l.spans.text before own left _ _ whole
+                  (c.append.ensures ∙ ap (λ s. s.text ++ own) w.spans-is ∙ ap (λ t. t ++ own) w.in_ok-put_spans.ensures.nothing_waits);
+            };
+            near = omega arith;
+          })
+      | then-is_begun+then-white-lt-LONG_WHITE_DOTS+then-not-is_full w ↦ (record {
         so_far = record {
           done = far.done;
-          given = subst (λ gather. IsGiven (Ok tt) (passage (g.W.ByteOut.written c.args.writer.now) (g.W.ByteOut.written c.if-white-gt0.writer) (g.W.ByteOut.failed c.args.writer.now) (g.W.ByteOut.failed c.if-white-gt0.writer))
+          given = subst (λ gather. IsGiven (Ok tt) (passage (g.W.ByteOut.written c.args.writer.now) (g.W.ByteOut.written c.if-is_begun.writer) (g.W.ByteOut.failed c.args.writer.now) (g.W.ByteOut.failed c.if-is_begun.writer))
               c.args.gather.now gather far.done) (sym w.gather-is)
               (subst (λ writer. IsGiven (Ok tt) (passage (g.W.ByteOut.written c.args.writer.now) (g.W.ByteOut.written writer) (g.W.ByteOut.failed c.args.writer.now) (g.W.ByteOut.failed writer))
               c.args.gather.now l.gather far.done) (sym w.writer-is) far.given);
-          whole_is = with_others far.done l.spans.text before own left _ _ whole (nothing_before c.args.line l.is_begun l.white w.if-not-is_begun.false w.if-white-gt0.false)
-              (c.append.ensures ∙ ap (λ s. s.text ++ own) w.spans-is);
+          whole_is = with_others far.done l.spans.text before own left _ _ whole
+              (c.append.ensures ∙ ap (λ s. s.text ++ own) w.spans-is ∙ ap (λ t. t ++ own) w.append_short_white.ensures.text
+              ∙ ap (λ b. (l.spans.text ++ before_byte c.args.line b l.white) ++ own) (sym w.if-is_begun.true));
         };
         near = omega arith;
       })
@@ -97,7 +98,7 @@ returns-in_err-put-clause-given g c =
     let far = l.invariant.so_far in
     let end = codes "\"/>\n" in
     let none : drop l.byte-index c.args.row.now ≡ [] = drop_all l.byte-index c.args.row.now (omega (arith, c.loop-byte-test.false)) in
-    let whole = far.whole_is ∙ ap (λ b. far.done ++ (l.spans.text ++ left_text c.args.line b l.white (drop l.byte-index c.args.row.now))) c.if-is_begun.true
+    let whole = far.whole_is ∙ ap (λ b. far.done ++ (l.spans.text ++ left_text c.args.line b l.white (drop l.byte-index c.args.row.now))) c.if-is_begun-2.true
     ∙ ap (λ bytes. far.done ++ (l.spans.text ++ left_text c.args.line true l.white bytes)) none ∙ sym (append_assoc far.done l.spans.text end) in
     let waits = given_in_turn (Ok tt) _ _ _ _ _ _ _ _ _ far.done l.spans.text _ far.given c.in_ok-put_spans-2.ensures.given refl in
     given_in_the_front c.from_residual-in_err-put.result c.in_err-put.field-0.0 _ _ _ ((far.done ++ l.spans.text) ++ end) [] _ c.from_residual-in_err-put.ensures.1
