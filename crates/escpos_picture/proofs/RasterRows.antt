@@ -7,7 +7,7 @@ use Rattle.escpos_io.specs.Gather.{Gathered}
 use Rattle.escpos_io.specs.Giving.{IsGiven}
 use Rattle.escpos_io.specs.Putting.{Passage}
 use Rattle.escpos_picture.specs.Spans.{Span, with_dot, spans, span_text, spans_text, byte_dots, byte_spans_text, white_span, row_spans, line_start, line_text}
-use Rattle.escpos_picture.specs.ByteSpans.{before_byte, byte_step, left_text}
+use Rattle.escpos_picture.specs.ByteSpans.{byte_step, left_text}
 use Rattle.escpos_picture.specs.Rasters.{row_text, rows_of, rows_text}
 
 -- Of a text so much was given, and this is left.

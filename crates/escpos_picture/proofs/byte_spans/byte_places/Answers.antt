@@ -1,4 +1,4 @@
-use Rattle.std.proofs.Common.{◌≡◌, ◌+◌, ◌-◌, ◌*◌, ◌≤◌, take, drop, length, arith, ◌∙◌, ap}
+use Rattle.std.proofs.Common.{◌≡◌, ◌+◌, ◌-◌, ◌*◌, take, drop, length, arith, ◌∙◌, ap}
 use Rattle.std.proofs.lemmas.List.{take-take}
 use Rattle.escpos_picture.specs.Spans.{byte_spans_text}
 use Rattle.escpos_picture.specs.ByteSpans.{texts_from}
