@@ -1,5 +1,5 @@
 -- A document ends with a line and its end, or with its end alone.
-use Rattle.std.proofs.Common.{◌++◌, sym, ◌∙◌, ap, subst}
+use Rattle.std.proofs.Common.{◌++◌, sym, ◌∙◌, subst}
 use Rattle.escpos_io.specs.Gather.{Carries}
 use Rattle.escpos_jobs.specs.LastText.{last_text}
 use Rattle.escpos_jobs.proofs.Drawings.{on_given, foot_with, foot_without}

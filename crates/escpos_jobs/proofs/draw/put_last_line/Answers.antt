@@ -1,5 +1,5 @@
 -- The tag, the line and the end of the document are given one after another.
-use Rattle.std.proofs.Common.{◌≡◌, ◌++◌, [], sym, ◌∙◌, ap, subst, append-nil, append_assoc}
+use Rattle.std.proofs.Common.{◌≡◌, ◌++◌, [], ◌∙◌, ap, subst, append-nil, append_assoc}
 use Rattle.std.specs.Prelude.{codes}
 use Rattle.escpos_io.specs.Gather.{Carries}
 use Rattle.escpos_io.proofs.Carrying.{carries_appended}

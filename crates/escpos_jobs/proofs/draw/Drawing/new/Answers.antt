@@ -1,5 +1,5 @@
 -- Nothing is printed, and the head is all that is drawn.
-use Rattle.std.proofs.Common.{◌≡◌, ◌++◌, [], ap, sym, ◌∙◌, subst, append-nil}
+use Rattle.std.proofs.Common.{[], ap, sym, subst, append-nil}
 use Rattle.escpos_io.proofs.Carrying.{carries_appended}
 use Rattle.escpos_io.specs.Gather.{Carries}
 use Rattle.escpos_paper.specs.Page.{Sheet}
