@@ -27,7 +27,7 @@ text{font-family:\"DejaVu Sans Mono\",Menlo,Consolas,monospace;font-size:20px;wh
 // A stream in hexadecimal, the height of its paper and of its document in dots, and what stands between head and end.
 type Drawn = (&'static str, &'static str, &'static str, &'static str);
 
-const DRAWN: [Drawn; 26] = [
+const DRAWN: [Drawn; 27] = [
     // an empty paper: its margins alone
     ("", "64", "64", ""),
     // a row, 24 dots high, with its base line three quarters down, and a feed of 30 dots from its upper edge
