@@ -5,10 +5,11 @@ pub mod BarcodeTree
 pub mod RasterTree
 pub mod TableTree
 pub mod Readings
+pub mod Profiles
+pub mod SecondProfile
 pub mod FirstProfile
 pub mod Ids
 pub mod Copied
 pub mod Resynchronisation
 pub mod AnswerReadings
-pub mod FirstReading
 pub mod Texts

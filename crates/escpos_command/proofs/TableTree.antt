@@ -7,7 +7,7 @@ use Rattle.std.proofs.lemmas.Bool.Decides.{nat_tests}
 use Rattle.escpos_command.specs.declared.bytes.TheConstants.{LF, DLE, ESC, GS, EOT}
 use Rattle.escpos_command.specs.declared.command.Command.{Command}
 use Rattle.escpos_command.specs.declared.command.Command.TheVariants as kind
-use Rattle.escpos_command.specs.Parameters.{is_character, is_one_of_two, is_one_of_three, is_one_of_four, is_size, is_bar_height, is_bar_width, is_status_kind, is_feed_cut_mode, is_byte, is_cut, is_pulse, is_mark_byte, is_mark_id}
+use Rattle.escpos_command.specs.Parameters.{is_character, is_character_set, is_one_of_two, is_one_of_three, is_one_of_four, is_size, is_bar_height, is_bar_width, is_status_kind, is_feed_cut_mode, is_byte, is_cut, is_pulse, is_mark_byte, is_mark_id}
 use Rattle.escpos_command.specs.CommandTable.{Spells, IsCommand, row}
 use Rattle.escpos_command.specs.Tree.{leaf, dead, walk, branch, none, one, passing, first, character, after_esc, after_gs, after_dle, cut, mark, pulse, grammar, counted}
 use Rattle.escpos_command.proofs.BarcodeTree.{leads_barcode, good_barcodes}
@@ -61,10 +61,17 @@ leads kind.Return h = refl
 leads kind.Init h = refl
 leads (kind.Mode n) h = walk-one is_byte kind.Mode n h
 leads (kind.Emphasis n) h = walk-one is_byte kind.Emphasis n h
+leads (kind.DoubleStrike n) h = walk-one is_byte kind.DoubleStrike n h
 leads (kind.Underline n) h = walk-one is_one_of_three kind.Underline n h
 leads (kind.Font n) h = walk-one is_one_of_two kind.Font n h
 leads (kind.Table n) h = walk-one is_byte kind.Table n h
+leads (kind.CharacterSet n) h = walk-one is_character_set kind.CharacterSet n h
+leads (kind.Reverse n) h = walk-one is_byte kind.Reverse n h
+leads (kind.Smoothing n) h = walk-one is_byte kind.Smoothing n h
+leads (kind.UpsideDown n) h = walk-one is_byte kind.UpsideDown n h
 leads (kind.Align n) h = walk-one is_one_of_three kind.Align n h
+leads (kind.LineSpacing n) h = walk-one is_byte kind.LineSpacing n h
+leads kind.DefaultSpacing h = refl
 leads (kind.FeedLines n) h = walk-one is_byte kind.FeedLines n h
 leads (kind.FeedUnits n) h = walk-one is_byte kind.FeedUnits n h
 leads (kind.Pulse p) h = leads_pulse p.0 p.1 p.2 h
@@ -107,69 +114,12 @@ good_pulse =
 
 good_after_esc : (b : ℕ) → Good (ESC ∷ b ∷ []) (branch after_esc none b)
 good_after_esc =
-    good_branch (ESC ∷ []) after_esc none (
-      good_one (ESC ∷ 0x21 ∷ []) is_byte kind.Mode 0 refl (λ n h. at_row (kind.Mode n) h),
-      (
-        good_one (ESC ∷ 0x2D ∷ []) is_one_of_three kind.Underline 0 refl (λ n h. at_row (kind.Underline n) h),
-        (
-          at_row kind.Init refl,
-          (
-            good_one (ESC ∷ 0x45 ∷ []) is_byte kind.Emphasis 0 refl (λ n h. at_row (kind.Emphasis n) h),
-            (
-              good_one (ESC ∷ 0x4A ∷ []) is_byte kind.FeedUnits 0 refl (λ n h. at_row (kind.FeedUnits n) h),
-              (
-                good_one (ESC ∷ 0x4D ∷ []) is_one_of_two kind.Font 0 refl (λ n h. at_row (kind.Font n) h),
-                (
-                  good_one (ESC ∷ 0x61 ∷ []) is_one_of_three kind.Align 0 refl (λ n h. at_row (kind.Align n) h),
-                  (
-                    good_one (ESC ∷ 0x64 ∷ []) is_byte kind.FeedLines 0 refl (λ n h. at_row (kind.FeedLines n) h),
-                    (
-                      good_pulse,
-                      (
-                        good_one (ESC ∷ 0x74 ∷ []) is_byte kind.Table 0 refl (λ n h. at_row (kind.Table n) h),
-                        tt,
-                      ),
-                    ),
-                  ),
-                ),
-              ),
-            ),
-          ),
-        ),
-      ),
-    )
+    good_branch (ESC ∷ []) after_esc none (good_one (ESC ∷ 0x21 ∷ []) is_byte kind.Mode 0 refl (λ n h. at_row (kind.Mode n) h), (good_one (ESC ∷ 0x2D ∷ []) is_one_of_three kind.Underline 0 refl (λ n h. at_row (kind.Underline n) h), (at_row kind.DefaultSpacing refl, (good_one (ESC ∷ 0x33 ∷ []) is_byte kind.LineSpacing 0 refl (λ n h. at_row (kind.LineSpacing n) h), (at_row kind.Init refl, (good_one (ESC ∷ 0x45 ∷ []) is_byte kind.Emphasis 0 refl (λ n h. at_row (kind.Emphasis n) h), (good_one (ESC ∷ 0x47 ∷ []) is_byte kind.DoubleStrike 0 refl (λ n h. at_row (kind.DoubleStrike n) h), (good_one (ESC ∷ 0x4A ∷ []) is_byte kind.FeedUnits 0 refl (λ n h. at_row (kind.FeedUnits n) h), (good_one (ESC ∷ 0x4D ∷ []) is_one_of_two kind.Font 0 refl (λ n h. at_row (kind.Font n) h), (good_one (ESC ∷ 0x52 ∷ []) is_character_set kind.CharacterSet 0 refl (λ n h. at_row (kind.CharacterSet n) h), (good_one (ESC ∷ 0x61 ∷ []) is_one_of_three kind.Align 0 refl (λ n h. at_row (kind.Align n) h), (good_one (ESC ∷ 0x64 ∷ []) is_byte kind.FeedLines 0 refl (λ n h. at_row (kind.FeedLines n) h), (good_pulse, (good_one (ESC ∷ 0x74 ∷ []) is_byte kind.Table 0 refl (λ n h. at_row (kind.Table n) h), (good_one (ESC ∷ 0x7B ∷ []) is_byte kind.UpsideDown 0 refl (λ n h. at_row (kind.UpsideDown n) h), tt)))))))))))))))
     (λ _. tt)
 
 good_after_gs : (b : ℕ) → Good (GS ∷ b ∷ []) (branch after_gs none b)
 good_after_gs =
-    good_branch (GS ∷ []) after_gs none (
-      good_one (GS ∷ 0x21 ∷ []) is_size kind.Size 0 refl (λ n h. at_row (kind.Size n) h),
-      (
-        good_mark,
-        (
-          good_one (GS ∷ 0x48 ∷ []) is_one_of_four kind.HriPlace 0 refl (λ n h. at_row (kind.HriPlace n) h),
-          (
-            ((0, tt), good_cut),
-            (
-              good_one (GS ∷ 0x66 ∷ []) is_one_of_two kind.HriFont 0 refl (λ n h. at_row (kind.HriFont n) h),
-              (
-                good_one (GS ∷ 0x68 ∷ []) is_bar_height kind.BarHeight 1 refl (λ n h. at_row (kind.BarHeight n) h),
-                (
-                  ((65, tt), good_barcodes),
-                  (
-                    good_raster,
-                    (
-                      good_one (GS ∷ 0x77 ∷ []) is_bar_width kind.BarWidth 2 refl (λ n h. at_row (kind.BarWidth n) h),
-                      tt,
-                    ),
-                  ),
-                ),
-              ),
-            ),
-          ),
-        ),
-      ),
-    )
+    good_branch (GS ∷ []) after_gs none (good_one (GS ∷ 0x21 ∷ []) is_size kind.Size 0 refl (λ n h. at_row (kind.Size n) h), (good_mark, (good_one (GS ∷ 0x42 ∷ []) is_byte kind.Reverse 0 refl (λ n h. at_row (kind.Reverse n) h), (good_one (GS ∷ 0x48 ∷ []) is_one_of_four kind.HriPlace 0 refl (λ n h. at_row (kind.HriPlace n) h), (((0, tt), good_cut), (good_one (GS ∷ 0x62 ∷ []) is_byte kind.Smoothing 0 refl (λ n h. at_row (kind.Smoothing n) h), (good_one (GS ∷ 0x66 ∷ []) is_one_of_two kind.HriFont 0 refl (λ n h. at_row (kind.HriFont n) h), (good_one (GS ∷ 0x68 ∷ []) is_bar_height kind.BarHeight 1 refl (λ n h. at_row (kind.BarHeight n) h), (((65, tt), good_barcodes), (good_raster, (good_one (GS ∷ 0x77 ∷ []) is_bar_width kind.BarWidth 2 refl (λ n h. at_row (kind.BarWidth n) h), tt)))))))))))
     (λ _. tt)
 
 good_after_dle : (b : ℕ) → Good (DLE ∷ b ∷ []) (branch after_dle none b)

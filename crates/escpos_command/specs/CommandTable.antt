@@ -8,7 +8,7 @@ use Rattle.escpos_command.specs.declared.command.Command.{Command}
 use Rattle.escpos_command.specs.declared.command.Command.TheVariants as kind
 use Rattle.escpos_command.specs.declared.bars.Form.{Form}
 use Rattle.escpos_command.specs.declared.bars.Form.TheVariants.{A, B}
-use Rattle.escpos_command.specs.Parameters.{is_byte, is_character, is_one_of_two, is_one_of_three, is_one_of_four, is_size, is_bar_height, is_bar_width, is_status_kind, is_cut, is_pulse, is_mark_id}
+use Rattle.escpos_command.specs.Parameters.{is_byte, is_character, is_character_set, is_one_of_two, is_one_of_three, is_one_of_four, is_size, is_bar_height, is_bar_width, is_status_kind, is_cut, is_pulse, is_mark_id}
 use Rattle.escpos_command.specs.Barcodes.{Barcode, barcode_mode, is_barcode}
 use Rattle.escpos_command.specs.Rasters.{Picture, is_raster}
 
@@ -62,10 +62,17 @@ entry_of kind.Return = entry (CR ∷ []) [] true  -- CR
 entry_of kind.Init = entry (ESC ∷ 0x40 ∷ []) [] true  -- ESC @
 entry_of (kind.Mode n) = entry (ESC ∷ 0x21 ∷ []) (n ∷ []) (is_byte n)  -- ESC !
 entry_of (kind.Emphasis n) = entry (ESC ∷ 0x45 ∷ []) (n ∷ []) (is_byte n)  -- ESC E
+entry_of (kind.DoubleStrike n) = entry (ESC ∷ 0x47 ∷ []) (n ∷ []) (is_byte n)  -- ESC G
 entry_of (kind.Underline n) = entry (ESC ∷ 0x2D ∷ []) (n ∷ []) (is_one_of_three n)  -- ESC -
 entry_of (kind.Font n) = entry (ESC ∷ 0x4D ∷ []) (n ∷ []) (is_one_of_two n)  -- ESC M
 entry_of (kind.Table n) = entry (ESC ∷ 0x74 ∷ []) (n ∷ []) (is_byte n)  -- ESC t
+entry_of (kind.CharacterSet n) = entry (ESC ∷ 0x52 ∷ []) (n ∷ []) (is_character_set n)  -- ESC R
+entry_of (kind.Reverse n) = entry (GS ∷ 0x42 ∷ []) (n ∷ []) (is_byte n)  -- GS B
+entry_of (kind.Smoothing n) = entry (GS ∷ 0x62 ∷ []) (n ∷ []) (is_byte n)  -- GS b
+entry_of (kind.UpsideDown n) = entry (ESC ∷ 0x7B ∷ []) (n ∷ []) (is_byte n)  -- ESC {
 entry_of (kind.Align n) = entry (ESC ∷ 0x61 ∷ []) (n ∷ []) (is_one_of_three n)  -- ESC a
+entry_of (kind.LineSpacing n) = entry (ESC ∷ 0x33 ∷ []) (n ∷ []) (is_byte n)  -- ESC 3
+entry_of kind.DefaultSpacing = entry (ESC ∷ 0x32 ∷ []) [] true  -- ESC 2
 entry_of (kind.FeedLines n) = entry (ESC ∷ 0x64 ∷ []) (n ∷ []) (is_byte n)  -- ESC d
 entry_of (kind.FeedUnits n) = entry (ESC ∷ 0x4A ∷ []) (n ∷ []) (is_byte n)  -- ESC J
 entry_of (kind.Pulse pulse) = entry (ESC ∷ 0x70 ∷ []) (pulse.0 ∷ pulse.1 ∷ pulse.2 ∷ []) (is_pulse pulse)  -- ESC p

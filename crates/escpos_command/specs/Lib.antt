@@ -7,6 +7,8 @@ pub mod CommandTable
 pub mod Places
 pub mod Grammar
 pub mod Tree
+pub mod Profiles
+pub mod SecondProfile
 pub mod FirstProfile
 pub mod Laws
 pub mod Text

@@ -20,6 +20,10 @@ is_one_of_three n = n == 0 || n == 1 || n == 2 || n == 48 || n == 49 || n == 50
 abbrev pub is_one_of_four : ℕ → Bool
 is_one_of_four n = nat_le n 3 || (nat_le 48 n && nat_le n 51)
 
+-- The number of an international character set, 0 to 17.
+abbrev pub is_character_set : ℕ → Bool
+is_character_set n = nat_le n 17
+
 -- A size: bits 3 and 7 are clear.
 abbrev pub is_size : ℕ → Bool
 is_size n = nat_lt n 128 && nat_lt (n % 16) 8

@@ -8,7 +8,7 @@ use Rattle.escpos_command.specs.declared.command.Command.TheVariants as kind
 use Rattle.escpos_command.specs.declared.bars.Form.TheVariants.{A, B}
 use Rattle.escpos_command.specs.declared.bars.Symbology.{Symbology}
 use Rattle.escpos_command.specs.declared.bars.Symbology.TheVariants.{UpcA, Ean13, Ean8, Code39, Itf, Codabar, Code128}
-use Rattle.escpos_command.specs.Parameters.{is_character, is_one_of_two, is_one_of_three, is_one_of_four, is_size, is_bar_height, is_bar_width, is_status_kind, is_feed_cut_mode, is_byte, is_mark_byte}
+use Rattle.escpos_command.specs.Parameters.{is_character, is_character_set, is_one_of_two, is_one_of_three, is_one_of_four, is_size, is_bar_height, is_bar_width, is_status_kind, is_feed_cut_mode, is_byte, is_mark_byte}
 use Rattle.escpos_command.specs.Barcodes.{barcode, has_length, allows, is_digit, is_code39, is_codabar, is_codabar_end}
 use Rattle.escpos_command.specs.Rasters.{picture, is_width, is_height}
 
@@ -83,14 +83,19 @@ abbrev pub after_esc : List (ℕ × Tree)
 after_esc =
     (0x21, one is_byte kind.Mode)
     ∷ (0x2D, one is_one_of_three kind.Underline)
+    ∷ (0x32, leaf kind.DefaultSpacing)
+    ∷ (0x33, one is_byte kind.LineSpacing)
     ∷ (0x40, leaf kind.Init)
     ∷ (0x45, one is_byte kind.Emphasis)
+    ∷ (0x47, one is_byte kind.DoubleStrike)
     ∷ (0x4A, one is_byte kind.FeedUnits)
     ∷ (0x4D, one is_one_of_two kind.Font)
+    ∷ (0x52, one is_character_set kind.CharacterSet)
     ∷ (0x61, one is_one_of_three kind.Align)
     ∷ (0x64, one is_byte kind.FeedLines)
     ∷ (0x70, pulse)
     ∷ (0x74, one is_byte kind.Table)
+    ∷ (0x7B, one is_byte kind.UpsideDown)
     ∷ []
 
 -- GS V takes a mode alone, or a mode and a feed.
@@ -171,8 +176,10 @@ abbrev pub after_gs : List (ℕ × Tree)
 after_gs =
     (0x21, one is_size kind.Size)
     ∷ (0x28, mark)
+    ∷ (0x42, one is_byte kind.Reverse)
     ∷ (0x48, one is_one_of_four kind.HriPlace)
     ∷ (0x56, node cut)
+    ∷ (0x62, one is_byte kind.Smoothing)
     ∷ (0x66, one is_one_of_two kind.HriFont)
     ∷ (0x68, one is_bar_height kind.BarHeight)
     ∷ (0x6B, node (branch barcodes none))

@@ -12,8 +12,8 @@ use crate::bars::{Bars, Form};
 use crate::bytes::{CR, DLE, EOT, ESC, GS, LF};
 use crate::mark::MarkId;
 use crate::parameter::{
-    Align, BarHeight, BarWidth, Character, Cut, Emphasis, FeedLines, FeedUnits, Font, HriFont,
-    HriPlace, Mode, Pulse, Size, StatusKind, Table, Underline,
+    Align, BarHeight, BarWidth, Character, CharacterSet, Cut, Emphasis, FeedLines, FeedUnits, Font,
+    HriFont, HriPlace, LineSpacing, Mode, Pulse, Size, StatusKind, Switch, Table, Underline,
 };
 use crate::raster::Raster;
 use arrayvec::ArrayVec;
@@ -33,14 +33,28 @@ pub enum Command {
     Mode(Mode),
     /// ESC E: sets emphasis. (Reference: ESC E.)
     Emphasis(Emphasis),
+    /// ESC G: sets double strike. (Reference: ESC G.)
+    DoubleStrike(Switch),
     /// ESC -: sets the underline. (Reference: ESC -.)
     Underline(Underline),
     /// ESC M: sets the font. (Reference: ESC M.)
     Font(Font),
     /// ESC t: sets the character code table. (Reference: ESC t.)
     Table(Table),
+    /// ESC R: sets the international character set. (Reference: ESC R.)
+    CharacterSet(CharacterSet),
+    /// GS B: sets white on black. (Reference: GS B.)
+    Reverse(Switch),
+    /// GS b: sets smoothing, which has no effect. (Reference: GS b.)
+    Smoothing(Switch),
+    /// ESC {: sets whether lines are printed upside down. (Reference: ESC {.)
+    UpsideDown(Switch),
     /// ESC a: sets the alignment of lines. (Reference: ESC a.)
     Align(Align),
+    /// ESC 3: sets the line spacing. (Reference: ESC 3.)
+    LineSpacing(LineSpacing),
+    /// ESC 2: sets the default line spacing. (Reference: ESC 2.)
+    DefaultSpacing,
     /// ESC d: prints the line and feeds some lines. (Reference: ESC d.)
     FeedLines(FeedLines),
     /// ESC J: prints the line and feeds some motion units. (Reference: ESC J.)
@@ -108,10 +122,17 @@ impl Command {
             Command::Init => alone(&[ESC, b'@']),
             Command::Mode(mode) => with(&[ESC, b'!'], mode.byte()),
             Command::Emphasis(emphasis) => with(&[ESC, b'E'], emphasis.byte()),
+            Command::DoubleStrike(switch) => with(&[ESC, b'G'], switch.byte()),
             Command::Underline(underline) => with(&[ESC, b'-'], underline.byte()),
             Command::Font(font) => with(&[ESC, b'M'], font.byte()),
             Command::Table(table) => with(&[ESC, b't'], table.byte()),
+            Command::CharacterSet(set) => with(&[ESC, b'R'], set.byte()),
+            Command::Reverse(switch) => with(&[GS, b'B'], switch.byte()),
+            Command::Smoothing(switch) => with(&[GS, b'b'], switch.byte()),
+            Command::UpsideDown(switch) => with(&[ESC, b'{'], switch.byte()),
             Command::Align(align) => with(&[ESC, b'a'], align.byte()),
+            Command::LineSpacing(spacing) => with(&[ESC, b'3'], spacing.byte()),
+            Command::DefaultSpacing => alone(&[ESC, b'2']),
             Command::FeedLines(feed) => with(&[ESC, b'd'], feed.byte()),
             Command::FeedUnits(feed) => with(&[ESC, b'J'], feed.byte()),
             Command::Pulse(pulse) => {

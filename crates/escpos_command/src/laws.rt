@@ -9,7 +9,9 @@ ghost use Rattle.escpos_command.specs.Grammar.{Viable, Half, Reads, FaultAt};
 ghost use Rattle.escpos_command.specs.Parameters.{is_mark_id};
 ghost use Rattle.escpos_command.specs.Digits.{mark_count, mark_of};
 ghost use Rattle.escpos_command.specs.Tree.{Tree, dead, leaf, node, walk, grammar};
-ghost use Rattle.escpos_command.specs.FirstProfile.{ReadsFirst, FaultAtFirst, IsNew};
+ghost use Rattle.escpos_command.specs.Profiles.{ReadsIn, FaultAtIn, IsReadIn, IsRefusedIn};
+ghost use Rattle.escpos_command.specs.FirstProfile.{in_first_profile, IsNew};
+ghost use Rattle.escpos_command.specs.SecondProfile.{in_second_profile, IsNewLetter};
 ghost use Rattle.escpos_command.specs.Marks.{IsMarkOrNone};
 ghost use Rattle.escpos_command.specs.Answers.{AnswerSpells, Hears};
 ghost use Rattle.escpos_command.specs.declared.answer.Answer.{Answer};
@@ -51,15 +53,24 @@ pub fn joined_readings()
         → (others : List Command) × (all ≡ some ++ others) × Reads (r ++ b) others [] }
 {}
 
-/// The first profile, which had no ESC J, no ESC p and no raster of more than 2,047 rows: it reads or refuses each byte list;
-/// what it read is read so by the whole table; and where it refused a byte, that byte is refused for the same reason, unless
-/// it is one of these.
+/// The first profile, which had no ESC J, no ESC p, no raster of more than 2,047 rows and nothing that is new since the second
+/// profile: it reads or refuses each byte list; what it read is read so by the whole table; and where it refused a byte, that
+/// byte is refused for the same reason, unless it is one of these.
 pub fn first_profile()
-    ensures read_or_refused { (bs : List ℕ) → ((cs : List Command) × (rest : List ℕ) × ReadsFirst bs cs rest)
-        ⊎ ((cs : List Command) × (rest : List ℕ) × (k : ℕ) × (why : FaultReason) × FaultAtFirst bs cs rest k why) }
-    ensures read { (bs : List ℕ) (cs : List Command) (rest : List ℕ) → ReadsFirst bs cs rest → Reads bs cs rest }
+    ensures read_or_refused { (bs : List ℕ) → IsReadIn in_first_profile bs ⊎ IsRefusedIn in_first_profile bs }
+    ensures read { (bs : List ℕ) (cs : List Command) (rest : List ℕ) → ReadsIn in_first_profile bs cs rest → Reads bs cs rest }
     ensures refused { (bs : List ℕ) (cs : List Command) (rest : List ℕ) (k : ℕ) (why : FaultReason) →
-        FaultAtFirst bs cs rest k why → FaultAt bs cs rest k why ⊎ IsNew rest (slice_index bs k) }
+        FaultAtIn in_first_profile bs cs rest k why → FaultAt bs cs rest k why ⊎ IsNew rest (slice_index bs k) }
+{}
+
+/// The second profile, which had no double strike, white on black, lines upside down, smoothing, line spacing and character
+/// sets: it reads or refuses each byte list; what it read is read so by the whole table; and where it refused a byte, that byte
+/// is refused for the same reason, unless it is the letter of one of these.
+pub fn second_profile()
+    ensures read_or_refused { (bs : List ℕ) → IsReadIn in_second_profile bs ⊎ IsRefusedIn in_second_profile bs }
+    ensures read { (bs : List ℕ) (cs : List Command) (rest : List ℕ) → ReadsIn in_second_profile bs cs rest → Reads bs cs rest }
+    ensures refused { (bs : List ℕ) (cs : List Command) (rest : List ℕ) (k : ℕ) (why : FaultReason) →
+        FaultAtIn in_second_profile bs cs rest k why → FaultAt bs cs rest k why ⊎ IsNewLetter rest (slice_index bs k) }
 {}
 
 /// Mark numbers: each has an id of its own.

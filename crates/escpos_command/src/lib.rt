@@ -32,9 +32,9 @@ pub use content::Bytes;
 pub use fault::FaultReason;
 pub use mark::{MarkId, is_mark_byte};
 pub use parameter::{
-    Align, Alignment, BarHeight, BarWidth, Character, Cut, Emphasis, FeedLines, FeedUnits, Font,
-    FontFace, HriFont, HriPlace, HriPosition, Mode, Pulse, Scale, Size, StatusKind, Table,
-    Underline,
+    Align, Alignment, BarHeight, BarWidth, Character, CharacterSet, Cut, Emphasis, FeedLines,
+    FeedUnits, Font, FontFace, HriFont, HriPlace, HriPosition, LineSpacing, Mode, Pulse, Scale,
+    Size, StatusKind, Switch, Table, Underline,
 };
 pub use raster::{HIGHEST, Raster, RasterFault, WIDEST, is_height, is_scale, is_width};
 pub use spelling::LONGEST_SPELLING;

@@ -8,9 +8,11 @@
 mod barcode;
 mod choices;
 mod line;
+mod switch;
 mod text;
 
 pub use barcode::{BarHeight, BarWidth, HriFont, HriPlace};
 pub use choices::{Alignment, FontFace, HriPosition, Scale, choice, scale_of};
-pub use line::{Align, Cut, FeedLines, FeedUnits, Pulse, StatusKind};
-pub use text::{Character, Emphasis, Font, Mode, Size, Table, Underline};
+pub use line::{Align, Cut, FeedLines, FeedUnits, LineSpacing, Pulse, StatusKind};
+pub use switch::Switch;
+pub use text::{Character, CharacterSet, Emphasis, Font, Mode, Size, Table, Underline};

@@ -85,6 +85,39 @@ impl FeedLines {
     }
 }
 
+/// How far the paper is fed for each line, in motion units. (Reference: ESC 3.)
+#[derive(Clone, Copy, Debug, PartialEq, Eq)]
+pub struct LineSpacing {
+    byte: u8,
+}
+
+impl Model for LineSpacing {
+    ghost Value = { ℕ };
+
+    ghost view = { λ p. p.byte };
+
+    ghost invariant = { λ p. IsTrue (is_byte p.byte) };
+
+    ghost inverse = { λ n. record { byte = n } };
+}
+
+impl LineSpacing {
+    /// The spacing of this many motion units. Every byte is one.
+    pub fn new(byte: u8) -> Option<Self>
+        ensures { SomeIff result (IsTrue (is_byte byte)) byte }
+    {
+        Some(LineSpacing { byte })
+    }
+
+    /// The number of motion units, 0 to 255.
+    pub fn byte(self) -> u8
+        ensures kept { result ≡ self }
+        ensures range { IsTrue (is_byte result) }
+    {
+        self.byte
+    }
+}
+
 /// How many motion units the paper is fed after the line. (Reference: ESC J.)
 #[derive(Clone, Copy, Debug, PartialEq, Eq)]
 pub struct FeedUnits {

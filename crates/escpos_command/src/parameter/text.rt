@@ -2,7 +2,7 @@
 
 ghost use Rattle.std.specs.Prelude.{◌≡◌, ℕ, IsTrue};
 ghost use Rattle.std.specs.Option.{SomeIff};
-ghost use Rattle.escpos_command.specs.Parameters.{is_byte, is_character, is_one_of_two, is_one_of_three, is_size};
+ghost use Rattle.escpos_command.specs.Parameters.{is_byte, is_character, is_character_set, is_one_of_two, is_one_of_three, is_size};
 ghost use Rattle.escpos_command.specs.Meanings.{has_bit, choice, face_of, magnified, size_width, size_height, face_of_mode, underline_of_mode};
 
 use super::choices::{FontFace, choice, face_of, has_bit};
@@ -274,6 +274,44 @@ impl Table {
     pub fn byte(self) -> u8
         ensures kept { result ≡ self }
         ensures range { IsTrue (is_byte result) }
+    {
+        self.byte
+    }
+}
+
+/// The number of an international character set, 0 to 17. It is kept with each character and never translated.
+/// (Reference: ESC R.)
+#[derive(Clone, Copy, Debug, PartialEq, Eq)]
+pub struct CharacterSet {
+    byte: u8,
+}
+
+impl Model for CharacterSet {
+    ghost Value = { ℕ };
+
+    ghost view = { λ p. p.byte };
+
+    ghost invariant = { λ p. IsTrue (is_character_set p.byte) };
+
+    ghost inverse = { λ n. record { byte = n } };
+}
+
+impl CharacterSet {
+    /// The set of this number; `None` above 17.
+    pub fn new(byte: u8) -> Option<Self>
+        ensures { SomeIff result (IsTrue (is_character_set byte)) byte }
+    {
+        if byte <= 17 {
+            Some(CharacterSet { byte })
+        } else {
+            None
+        }
+    }
+
+    /// The number, 0 to 17.
+    pub fn byte(self) -> u8
+        ensures kept { result ≡ self }
+        ensures range { IsTrue (is_character_set result) }
     {
         self.byte
     }

@@ -1,0 +1,13 @@
+use Rattle.escpos_command.specs.SecondProfile.{in_second_profile, IsNewLetter}
+use Rattle.escpos_command.proofs.SecondProfile.{second_parts}
+use Rattle.escpos_command.proofs.Profiles.{read, read_or_refused, refused}
+use Rattle.escpos_command.proofs.laws.second_profile.Goals as goal
+
+pub returns-clause-read_or_refused : goal.returns-clause-read_or_refused
+returns-clause-read_or_refused c = read_or_refused in_second_profile IsNewLetter second_parts
+
+pub returns-clause-read : goal.returns-clause-read
+returns-clause-read c = read in_second_profile
+
+pub returns-clause-refused : goal.returns-clause-refused
+returns-clause-refused c = refused in_second_profile IsNewLetter second_parts
