@@ -5,8 +5,8 @@ ghost use Rattle.std.specs.Option.{SomeIff};
 ghost use Rattle.escpos_decode.specs.OneParameter.{parameter_allows, parameter_command};
 
 use escpos_command::{
-    Align, BarHeight, BarWidth, Command, Emphasis, FeedLines, FeedUnits, Font, HriFont, HriPlace,
-    Mode, Size, StatusKind, Table, Underline,
+    Align, BarHeight, BarWidth, CharacterSet, Command, Emphasis, FeedLines, FeedUnits, Font,
+    HriFont, HriPlace, LineSpacing, Mode, Size, StatusKind, Switch, Table, Underline,
 };
 
 /// A letter with one parameter byte, named after its command. (EOT after DLE is one too.)
@@ -14,14 +14,20 @@ use escpos_command::{
 pub enum OneParameter {
     Mode,
     Underline,
+    LineSpacing,
     Emphasis,
+    DoubleStrike,
     FeedUnits,
     Font,
+    CharacterSet,
     Align,
     FeedLines,
     Table,
+    UpsideDown,
     Size,
+    Reverse,
     HriPlace,
+    Smoothing,
     HriFont,
     BarHeight,
     BarWidth,
@@ -36,14 +42,20 @@ impl OneParameter {
         match self {
             OneParameter::Mode => Mode::new(byte).map(Command::Mode),
             OneParameter::Underline => Underline::new(byte).map(Command::Underline),
+            OneParameter::LineSpacing => LineSpacing::new(byte).map(Command::LineSpacing),
             OneParameter::Emphasis => Emphasis::new(byte).map(Command::Emphasis),
+            OneParameter::DoubleStrike => Switch::new(byte).map(Command::DoubleStrike),
             OneParameter::FeedUnits => FeedUnits::new(byte).map(Command::FeedUnits),
             OneParameter::Font => Font::new(byte).map(Command::Font),
+            OneParameter::CharacterSet => CharacterSet::new(byte).map(Command::CharacterSet),
             OneParameter::Align => Align::new(byte).map(Command::Align),
             OneParameter::FeedLines => FeedLines::new(byte).map(Command::FeedLines),
             OneParameter::Table => Table::new(byte).map(Command::Table),
+            OneParameter::UpsideDown => Switch::new(byte).map(Command::UpsideDown),
             OneParameter::Size => Size::new(byte).map(Command::Size),
+            OneParameter::Reverse => Switch::new(byte).map(Command::Reverse),
             OneParameter::HriPlace => HriPlace::new(byte).map(Command::HriPlace),
+            OneParameter::Smoothing => Switch::new(byte).map(Command::Smoothing),
             OneParameter::HriFont => HriFont::new(byte).map(Command::HriFont),
             OneParameter::BarHeight => BarHeight::new(byte).map(Command::BarHeight),
             OneParameter::BarWidth => BarWidth::new(byte).map(Command::BarWidth),

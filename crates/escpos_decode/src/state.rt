@@ -347,14 +347,19 @@ fn after_esc(byte: u8) -> Next
     match byte {
         b'!' => Next::To(State::Parameter(OneParameter::Mode)),
         b'-' => Next::To(State::Parameter(OneParameter::Underline)),
+        b'2' => Next::Done(Command::DefaultSpacing),
+        b'3' => Next::To(State::Parameter(OneParameter::LineSpacing)),
         b'@' => Next::Done(Command::Init),
         b'E' => Next::To(State::Parameter(OneParameter::Emphasis)),
+        b'G' => Next::To(State::Parameter(OneParameter::DoubleStrike)),
         b'J' => Next::To(State::Parameter(OneParameter::FeedUnits)),
         b'M' => Next::To(State::Parameter(OneParameter::Font)),
+        b'R' => Next::To(State::Parameter(OneParameter::CharacterSet)),
         b'a' => Next::To(State::Parameter(OneParameter::Align)),
         b'd' => Next::To(State::Parameter(OneParameter::FeedLines)),
         b'p' => Next::To(State::PulsePin),
         b't' => Next::To(State::Parameter(OneParameter::Table)),
+        b'{' => Next::To(State::Parameter(OneParameter::UpsideDown)),
         _ => Next::Refused,
     }
 }
@@ -365,8 +370,10 @@ fn after_gs(byte: u8) -> Next
     match byte {
         b'!' => Next::To(State::Parameter(OneParameter::Size)),
         b'(' => Next::To(State::MarkLetter),
+        b'B' => Next::To(State::Parameter(OneParameter::Reverse)),
         b'H' => Next::To(State::Parameter(OneParameter::HriPlace)),
         b'V' => Next::To(State::CutMode),
+        b'b' => Next::To(State::Parameter(OneParameter::Smoothing)),
         b'f' => Next::To(State::Parameter(OneParameter::HriFont)),
         b'h' => Next::To(State::Parameter(OneParameter::BarHeight)),
         b'k' => Next::To(State::BarsMode),
