@@ -6,7 +6,7 @@ use Rattle.std.specs.Prelude.{ℕ, ◌+◌, ◌-◌, ◌*◌, ◌==◌, ◌&&◌
 use Rattle.std.specs.Str.{bytes_eq}
 use Rattle.hex.specs.Hex.{decode_of}
 use Rattle.hex.specs.declared.error.FromHexError.{FromHexError}
-use Rattle.serde_json.specs.Data.{Data, array, object, no_items, item, no_members, member}
+use Rattle.serde_json.specs.Data.{Data, string, array, object, no_items, item, no_members, member}
 use Rattle.serde_json.specs.Events.{members_len}
 use Rattle.serde_json.specs.Find.{as_bool, as_number, as_str, as_u64, get_member}
 use Rattle.escpos_command.specs.declared.bars.Form.TheVariants as form
@@ -36,8 +36,10 @@ named table name = option_map (λ row. row.1) (find (λ row. bytes_eq row.0 name
 abbrev pub members : List (List ℕ × Member)
 members =
     (codes "text", has.Text) ∷ (codes "line", has.Line) ∷ (codes "feed", has.Feed) ∷ (codes "units", has.Units)
-    ∷ (codes "pulse", has.Pulse) ∷ (codes "mode", has.Mode) ∷ (codes "bold", has.Bold) ∷ (codes "underline", has.Underline)
-    ∷ (codes "font", has.Font) ∷ (codes "table", has.Table) ∷ (codes "align", has.Align) ∷ (codes "size", has.Size)
+    ∷ (codes "spacing", has.Spacing) ∷ (codes "pulse", has.Pulse) ∷ (codes "mode", has.Mode) ∷ (codes "bold", has.Bold)
+    ∷ (codes "strike", has.Strike) ∷ (codes "reverse", has.Reverse) ∷ (codes "underline", has.Underline)
+    ∷ (codes "font", has.Font) ∷ (codes "table", has.Table) ∷ (codes "charset", has.CharacterSet)
+    ∷ (codes "align", has.Align) ∷ (codes "upside", has.Upside) ∷ (codes "size", has.Size)
     ∷ (codes "bar_height", has.BarHeight) ∷ (codes "bar_width", has.BarWidth) ∷ (codes "hri", has.Hri)
     ∷ (codes "hri_font", has.HriFont) ∷ (codes "bars", has.Bars) ∷ (codes "raster", has.Raster) ∷ (codes "cut", has.Cut)
     ∷ (codes "feed_cut", has.FeedCut) ∷ []
@@ -75,6 +77,10 @@ number_in least most v = as_number v >>= as_u64 >>= within least most
 abbrev pub choice_in : {X : Type 0} → List (List ℕ × X) → Data → Option X
 choice_in table v = as_str v >>= named table
 
+-- On for true and off for false, by bit 0.
+abbrev pub switch_in : Data → Option ℕ
+switch_in v = option_map (λ on. if on then 1 else 0) (as_bool v)
+
 -- A member of an object that has this many members.
 abbrev pub field : ℕ → List ℕ → Data → Option Data
 field count name (object ms) = if members_len ms == count then get_member name ms else None
@@ -87,6 +93,11 @@ size_in (array (item w (item h no_items))) = do
   height ← number_in 1 8 h
   Some (16 * (width - 1) + (height - 1))
 size_in _ = None
+
+-- A line spacing: the string "default", or a number of motion units.
+abbrev pub spacing_in : Data → Option Command
+spacing_in (string name) = if bytes_eq name (codes "default") then Some kind.DefaultSpacing else None
+spacing_in v = option_map kind.LineSpacing (number_in 0 255 v)
 
 abbrev pub pulse_in : Data → Option (ℕ × ℕ × ℕ)
 pulse_in v = do
@@ -174,13 +185,18 @@ one (Some c) = Ok (c ∷ [])
 abbrev pub command_of : Member → Data → Option Command
 command_of has.Feed v = option_map kind.FeedLines (number_in 0 255 v)
 command_of has.Units v = option_map kind.FeedUnits (number_in 0 255 v)
+command_of has.Spacing v = spacing_in v
 command_of has.Pulse v = option_map kind.Pulse (pulse_in v)
 command_of has.Mode v = option_map kind.Mode (number_in 0 255 v)
 command_of has.Bold v = option_map (λ on. kind.Emphasis (if on then 1 else 0)) (as_bool v)
+command_of has.Strike v = option_map kind.DoubleStrike (switch_in v)
+command_of has.Reverse v = option_map kind.Reverse (switch_in v)
 command_of has.Underline v = option_map kind.Underline (number_in 0 2 v)
 command_of has.Font v = option_map kind.Font (choice_in fonts v)
 command_of has.Table v = option_map kind.Table (number_in 0 255 v)
+command_of has.CharacterSet v = option_map kind.CharacterSet (number_in 0 17 v)
 command_of has.Align v = option_map kind.Align (choice_in alignments v)
+command_of has.Upside v = option_map kind.UpsideDown (switch_in v)
 command_of has.Size v = option_map kind.Size (size_in v)
 command_of has.BarHeight v = option_map kind.BarHeight (number_in 1 255 v)
 command_of has.BarWidth v = option_map kind.BarWidth (number_in 2 6 v)

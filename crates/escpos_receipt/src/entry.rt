@@ -11,13 +11,13 @@ ghost use Rattle.escpos_receipt.specs.EntryCommands.{commands_in};
 ghost use Rattle.escpos_receipt.specs.Entries.{command_of, meaning, only_member, text_in};
 
 use crate::json_names::{ALIGNMENTS, CUTS, FONTS, HRI_POSITIONS};
-use crate::json_object::{bars_in, feed_cut_in, pulse_in, raster_in, size_in};
-use crate::json_value::{byte_in, choice_in, named};
+use crate::json_object::{bars_in, feed_cut_in, pulse_in, raster_in, size_in, spacing_in};
+use crate::json_value::{byte_in, choice_in, named, switch_in};
 use crate::member::{MEMBERS, Member};
 use crate::plain_text::PlainText;
 use escpos_command::{
-    Align, BarHeight, BarWidth, Command, Cut, Emphasis, FeedLines, FeedUnits, Font, HriFont,
-    HriPlace, Mode, Size, Table, Underline,
+    Align, BarHeight, BarWidth, CharacterSet, Command, Cut, Emphasis, FeedLines, FeedUnits, Font,
+    HriFont, HriPlace, Mode, Size, Table, Underline,
 };
 use serde_json::Value;
 use std::alloc::{AllocError, Global};
@@ -131,13 +131,18 @@ fn short_command_of(member: Member, value: &Value) -> Option<Command>
     Some(match member {
         Member::Feed => Command::FeedLines(FeedLines::new(byte_in(value, 0, 255)?)?),
         Member::Units => Command::FeedUnits(FeedUnits::new(byte_in(value, 0, 255)?)?),
+        Member::Spacing => spacing_in(value)?,
         Member::Pulse => Command::Pulse(pulse_in(value)?),
         Member::Mode => Command::Mode(Mode::new(byte_in(value, 0, 255)?)?),
         Member::Bold => Command::Emphasis(Emphasis::new(value.as_bool()? as u8)?),
+        Member::Strike => Command::DoubleStrike(switch_in(value)?),
+        Member::Reverse => Command::Reverse(switch_in(value)?),
         Member::Underline => Command::Underline(Underline::new(byte_in(value, 0, 2)?)?),
         Member::Font => Command::Font(Font::new(choice_in(value, &FONTS)?)?),
         Member::Table => Command::Table(Table::new(byte_in(value, 0, 255)?)?),
+        Member::CharacterSet => Command::CharacterSet(CharacterSet::new(byte_in(value, 0, 17)?)?),
         Member::Align => Command::Align(Align::new(choice_in(value, &ALIGNMENTS)?)?),
+        Member::Upside => Command::UpsideDown(switch_in(value)?),
         Member::Size => Command::Size(Size::new(size_in(value)?)?),
         Member::BarHeight => Command::BarHeight(BarHeight::new(byte_in(value, 1, 255)?)?),
         Member::BarWidth => Command::BarWidth(BarWidth::new(byte_in(value, 2, 6)?)?),

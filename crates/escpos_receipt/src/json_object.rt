@@ -1,15 +1,17 @@
-//! Members whose value has several parts: sizes, pulses, cuts after a feed, barcodes and rasters.
+//! Members whose value has several parts or forms: sizes, line spacings, pulses, cuts after a feed, barcodes and rasters.
 //!
 //! Each function returns what the definition of the same name in `specs/Entries.antt` gives.
 
 ghost use Rattle.std.specs.Prelude.{◌≡◌, ◌≢◌, Some, None, IfOk, IfErr, option_map};
 ghost use Rattle.serde_json.specs.View.{view};
-ghost use Rattle.escpos_receipt.specs.Entries.{bars_in, feed_cut_in, pulse_in, raster_in, size_and_digits, size_in, symbology_and_content};
+ghost use Rattle.escpos_receipt.specs.Entries.{bars_in, feed_cut_in, pulse_in, raster_in, size_and_digits, size_in, spacing_in, symbology_and_content};
 
 use crate::entry::EntryFault;
 use crate::json_names::{CUTS, SCALES, SYMBOLOGIES};
 use crate::json_value::{byte_in, choice_in, field, number_in};
-use escpos_command::{Bars, Command, Cut, Form, HIGHEST, Pulse, Raster, Symbology, WIDEST};
+use escpos_command::{
+    Bars, Command, Cut, Form, HIGHEST, LineSpacing, Pulse, Raster, Symbology, WIDEST,
+};
 use hex::FromHexError;
 use serde_json::Value;
 use std::alloc::Global;
@@ -24,6 +26,16 @@ pub fn size_in(value: &Value) -> Option<u8>
     let width = byte_in(width, 1, 8)?;
     let height = byte_in(height, 1, 8)?;
     Some(16 * (width - 1) + (height - 1))
+}
+
+/// A line spacing: 0 to 255 motion units, or the default.
+pub fn spacing_in(value: &Value) -> Option<Command>
+    ensures { result ≡ spacing_in (view value.now) }
+{
+    if let Some(name) = value.as_str() {
+        return (name == "default").then_some(Command::DefaultSpacing);
+    }
+    Some(Command::LineSpacing(LineSpacing::new(byte_in(value, 0, 255)?)?))
 }
 
 /// A pulse: its pin, and how long it is on and off.

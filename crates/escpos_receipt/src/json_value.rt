@@ -1,11 +1,12 @@
-//! What a member of an entry may hold: numbers within bounds, names of a table, members of an inner object.
+//! What a member of an entry may hold: numbers within bounds, names of a table, true or false, members of an inner object.
 //!
 //! Each function returns what the definition of the same name in `specs/Entries.antt` gives.
 
 ghost use Rattle.std.specs.Prelude.{◌≡◌, ◌≤◌, IfSome, map, option_map};
 ghost use Rattle.serde_json.specs.View.{view};
-ghost use Rattle.escpos_receipt.specs.Entries.{choice_in, field, named, number_in};
+ghost use Rattle.escpos_receipt.specs.Entries.{choice_in, field, named, number_in, switch_in};
 
+use escpos_command::Switch;
 use serde_json::Value;
 
 /// The number that the value is; `None` unless it is one from `least` to `most`.
@@ -27,6 +28,13 @@ pub fn byte_in(value: &Value, least: u8, most: u8) -> Option<u8>
 {
     let number = number_in(value, least as u16, most as u16)?;
     Some(number as u8)
+}
+
+/// On for true and off for false; `None` for any other value.
+pub fn switch_in(value: &Value) -> Option<Switch>
+    ensures { result ≡ switch_in (view value.now) }
+{
+    Switch::new(value.as_bool()? as u8)
 }
 
 /// What the table has for the name that the value is; `None` unless it is a name of the table.

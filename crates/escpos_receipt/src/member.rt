@@ -14,20 +14,30 @@ pub enum Member {
     Feed,
     /// `units`: a feed of 0 to 255 motion units.
     Units,
+    /// `spacing`: how far a line is fed, 0 to 255 motion units or `"default"`.
+    Spacing,
     /// `pulse`: a pulse to the cash drawer, with its pin and how long it is on and off.
     Pulse,
     /// `mode`: the byte of ESC !, 0 to 255.
     Mode,
     /// `bold`: emphasis, true or false.
     Bold,
+    /// `strike`: double strike, true or false.
+    Strike,
+    /// `reverse`: white on black, true or false.
+    Reverse,
     /// `underline`: 0 to 2 dots.
     Underline,
     /// `font`: `"A"` or `"B"`.
     Font,
     /// `table`: the character code table, 0 to 255.
     Table,
+    /// `charset`: the international character set, 0 to 17.
+    CharacterSet,
     /// `align`: `"left"`, `"center"` or `"right"`.
     Align,
+    /// `upside`: lines upside down, true or false.
+    Upside,
     /// `size`: width and height of characters, each 1 to 8.
     Size,
     /// `bar_height`: the height of barcodes in dots, 1 to 255.
@@ -49,18 +59,23 @@ pub enum Member {
 }
 
 /// The members' names.
-pub const MEMBERS: [(&str, Member); 20] = [
+pub const MEMBERS: [(&str, Member); 25] = [
     ("text", Member::Text),
     ("line", Member::Line),
     ("feed", Member::Feed),
     ("units", Member::Units),
+    ("spacing", Member::Spacing),
     ("pulse", Member::Pulse),
     ("mode", Member::Mode),
     ("bold", Member::Bold),
+    ("strike", Member::Strike),
+    ("reverse", Member::Reverse),
     ("underline", Member::Underline),
     ("font", Member::Font),
     ("table", Member::Table),
+    ("charset", Member::CharacterSet),
     ("align", Member::Align),
+    ("upside", Member::Upside),
     ("size", Member::Size),
     ("bar_height", Member::BarHeight),
     ("bar_width", Member::BarWidth),
