@@ -135,7 +135,7 @@ fn append_fault(gather: &mut Gather, place: usize, why: FaultReason)
 // The name of a command.
 fn word(command: &Command) -> &'static [u8]
     ensures value { result.now ≡ word_of command.now }
-    ensures short { length result.now ≤ 9 }
+    ensures short { length result.now ≤ 15 }
 {
     match command {
         Command::Char(_) => b"char",
@@ -144,10 +144,17 @@ fn word(command: &Command) -> &'static [u8]
         Command::Init => b"init",
         Command::Mode(_) => b"mode",
         Command::Emphasis(_) => b"emphasis",
+        Command::DoubleStrike(_) => b"strike",
         Command::Underline(_) => b"underline",
         Command::Font(_) => b"font",
         Command::Table(_) => b"table",
+        Command::CharacterSet(_) => b"charset",
+        Command::Reverse(_) => b"reverse",
+        Command::Smoothing(_) => b"smooth",
+        Command::UpsideDown(_) => b"upside",
         Command::Align(_) => b"align",
+        Command::LineSpacing(_) => b"spacing",
+        Command::DefaultSpacing => b"spacing default",
         Command::FeedLines(_) => b"feed",
         Command::FeedUnits(_) => b"units",
         Command::Pulse(_) => b"pulse",
