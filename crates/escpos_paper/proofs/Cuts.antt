@@ -2,9 +2,9 @@
 use Rattle.std.proofs.Common.{◌≡◌, ℕ, List, [], ◌∷◌, ◌++◌, length, refl, ◌∙◌, ap, arith, Bool, true, false, cond, suc}
 use Rattle.std.specs.Prelude.{nat_lt}
 use Rattle.std.proofs.lemmas.Bool.Decides.{nat_tests}
-use Rattle.escpos_command.specs.declared.parameter.choices.Alignment.{Alignment}
 use Rattle.escpos_paper.specs.declared.cell.Cell.{Cell}
 use Rattle.escpos_paper.specs.declared.item.Item.{Item}
+use Rattle.escpos_paper.specs.declared.style.LineStyle.{LineStyle}
 use Rattle.escpos_paper.specs.Styles.{is_empty, last_or}
 use Rattle.escpos_paper.specs.Rows.{fits}
 use Rattle.escpos_paper.proofs.Filled.{filled_from, filled}
@@ -77,13 +77,13 @@ nothing_twice true = refl
 nothing_twice false = refl
 
 -- So whether a character prints the row before it depends on whether it fits.
-pub begins_row : (align : Alignment) (xs : List Cell) (x : Cell)
-    → cond (nat_lt (length (filled xs)) (length (filled (xs ++ x ∷ [])))) (row_and_feed align (last_or [] (filled xs))) []
-    ≡ cond (fits (last_or [] (filled xs) ++ x ∷ [])) [] (row_and_feed align (last_or [] (filled xs)))
-begins_row align [] x = nothing_twice (fits (x ∷ []))
-begins_row align (y ∷ xs) x =
-    ap (λ n. cond (nat_lt (length (filled (y ∷ xs))) n) (row_and_feed align (last_or [] (filled (y ∷ xs)))) []) (count_from (y ∷ []) xs x)
-    ∙ prints_or_not (fits (last_or [] (filled (y ∷ xs)) ++ x ∷ [])) (length (filled (y ∷ xs))) (row_and_feed align (last_or [] (filled (y ∷ xs))))
+pub begins_row : (lines : LineStyle) (xs : List Cell) (x : Cell)
+    → cond (nat_lt (length (filled xs)) (length (filled (xs ++ x ∷ [])))) (row_and_feed lines (last_or [] (filled xs))) []
+    ≡ cond (fits (last_or [] (filled xs) ++ x ∷ [])) [] (row_and_feed lines (last_or [] (filled xs)))
+begins_row lines [] x = nothing_twice (fits (x ∷ []))
+begins_row lines (y ∷ xs) x =
+    ap (λ n. cond (nat_lt (length (filled (y ∷ xs))) n) (row_and_feed lines (last_or [] (filled (y ∷ xs)))) []) (count_from (y ∷ []) xs x)
+    ∙ prints_or_not (fits (last_or [] (filled (y ∷ xs)) ++ x ∷ [])) (length (filled (y ∷ xs))) (row_and_feed lines (last_or [] (filled (y ∷ xs))))
 
 -- The last row is empty exactly where there is no cell.
 not_empty : (row : List Cell) (x : Cell) → is_empty (row ++ x ∷ []) ≡ false

@@ -5,15 +5,15 @@ use Rattle.std.specs.List.{AllByRecursion}
 use Rattle.std.proofs.lemmas.Bool.Decides.{nat_tests}
 use Rattle.escpos_command.specs.declared.command.Command.{Command}
 use Rattle.escpos_command.specs.declared.command.Command.TheVariants as kind
-use Rattle.escpos_command.specs.declared.parameter.choices.Alignment.{Alignment}
 use Rattle.escpos_command.specs.FirstProfile.{in_first_profile}
 use Rattle.escpos_paper.specs.declared.cell.Cell.{Cell}
 use Rattle.escpos_paper.specs.declared.item.Item.{Item}
+use Rattle.escpos_paper.specs.declared.style.LineStyle.{LineStyle}
 use Rattle.escpos_paper.specs.FirstPaper.{IsFirstItem}
 use Rattle.escpos_paper.specs.OverPlaces.{over_places}
 use Rattle.escpos_paper.specs.Printed.{printed, prints, row_and_feed, row_of}
 use Rattle.escpos_paper.specs.Rows.{line, rows}
-use Rattle.escpos_paper.specs.Styles.{alignment}
+use Rattle.escpos_paper.specs.Styles.{line_style}
 
 abbrev AreFirst : List Item → Type 0
 AreFirst items = AllByRecursion IsFirstItem items
@@ -22,13 +22,13 @@ both : (some others : List Item) → AreFirst some → AreFirst others → AreFi
 both [] others h k = k
 both (x ∷ some) others h k = (h.0, both some others h.1 k)
 
-row_is : (align : Alignment) (xs : List Cell) → AreFirst (row_of align xs)
-row_is align [] = tt
-row_is align (x ∷ xs) = (tt, tt)
+row_is : (lines : LineStyle) (xs : List Cell) → AreFirst (row_of lines xs)
+row_is lines [] = tt
+row_is lines (x ∷ xs) = (tt, tt)
 
-row_with_feed : (align : Alignment) (xs : List Cell) → AreFirst (row_and_feed align xs)
-row_with_feed align [] = tt
-row_with_feed align (x ∷ xs) = (tt, (tt, tt))
+row_with_feed : (lines : LineStyle) (xs : List Cell) → AreFirst (row_and_feed lines xs)
+row_with_feed lines [] = tt
+row_with_feed lines (x ∷ xs) = (tt, (tt, tt))
 
 chosen : (b : Bool) (items : List Item) → AreFirst items → AreFirst (cond b items [])
 chosen true items h = h
@@ -38,13 +38,13 @@ few_rows : (n : ℕ) → nat_le n 2047 ≡ true → n ≤ 2047
 few_rows n h = grind (arith, nat_tests)
 
 prints_first : (before : List Command) (c : Command) → IsTrue (in_first_profile c) → AreFirst (prints before c)
-prints_first before (kind.Char b) h = chosen (nat_lt (length (rows before)) (length (rows (before ++ kind.Char b ∷ [])))) (row_and_feed (alignment before) (line before)) (row_with_feed (alignment before) (line before))
-prints_first before kind.LineFeed h = both (row_of (alignment before) (line before)) _ (row_is (alignment before) (line before)) (tt, tt)
-prints_first before (kind.FeedLines n) h = both (row_of (alignment before) (line before)) _ (row_is (alignment before) (line before)) (tt, tt)
+prints_first before (kind.Char b) h = chosen (nat_lt (length (rows before)) (length (rows (before ++ kind.Char b ∷ [])))) (row_and_feed (line_style before) (line before)) (row_with_feed (line_style before) (line before))
+prints_first before kind.LineFeed h = both (row_of (line_style before) (line before)) _ (row_is (line_style before) (line before)) (tt, tt)
+prints_first before (kind.FeedLines n) h = both (row_of (line_style before) (line before)) _ (row_is (line_style before) (line before)) (tt, tt)
 prints_first before (kind.FeedUnits n) h = absurd cc
-prints_first before (kind.Bars bars) h = both (row_and_feed (alignment before) (line before)) _ (row_with_feed (alignment before) (line before)) (tt, tt)
-prints_first before (kind.Raster raster) h = both (row_and_feed (alignment before) (line before)) _ (row_with_feed (alignment before) (line before)) (few_rows raster.height h, tt)
-prints_first before (kind.Cut cut) h = both (row_and_feed (alignment before) (line before)) _ (row_with_feed (alignment before) (line before)) (tt, tt)
+prints_first before (kind.Bars bars) h = both (row_and_feed (line_style before) (line before)) _ (row_with_feed (line_style before) (line before)) (tt, tt)
+prints_first before (kind.Raster raster) h = both (row_and_feed (line_style before) (line before)) _ (row_with_feed (line_style before) (line before)) (few_rows raster.height h, tt)
+prints_first before (kind.Cut cut) h = both (row_and_feed (line_style before) (line before)) _ (row_with_feed (line_style before) (line before)) (tt, tt)
 prints_first before kind.Return h = tt
 prints_first before kind.Init h = tt
 prints_first before (kind.Mode n) h = tt
@@ -53,6 +53,13 @@ prints_first before (kind.Underline n) h = tt
 prints_first before (kind.Font n) h = tt
 prints_first before (kind.Table n) h = tt
 prints_first before (kind.Align n) h = tt
+prints_first before (kind.DoubleStrike n) h = absurd cc
+prints_first before (kind.CharacterSet n) h = absurd cc
+prints_first before (kind.Reverse n) h = absurd cc
+prints_first before (kind.Smoothing n) h = absurd cc
+prints_first before (kind.UpsideDown n) h = absurd cc
+prints_first before (kind.LineSpacing n) h = absurd cc
+prints_first before kind.DefaultSpacing h = absurd cc
 prints_first before (kind.Size n) h = tt
 prints_first before (kind.BarHeight n) h = tt
 prints_first before (kind.BarWidth n) h = tt

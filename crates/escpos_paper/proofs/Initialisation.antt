@@ -3,14 +3,14 @@ use Rattle.std.proofs.Common.{◌≡◌, List, [], ◌∷◌, ◌++◌, refl, sy
 use Rattle.std.proofs.Math.Seq.{append_snoc}
 use Rattle.escpos_command.specs.declared.command.Command.{Command}
 use Rattle.escpos_command.specs.declared.command.Command.TheVariants.{Init}
-use Rattle.escpos_command.specs.declared.parameter.choices.Alignment.TheVariants.{Left}
-use Rattle.escpos_paper.specs.Styles.{is_empty}
+use Rattle.escpos_paper.specs.declared.style.LineStyle.{LineStyle}
+use Rattle.escpos_paper.specs.Styles.{is_empty, line_style, power_on_lines}
 use Rattle.escpos_paper.specs.Rows.{line}
 use Rattle.escpos_paper.specs.declared.item.Item.{Item}
 use Rattle.escpos_paper.specs.OverPlaces.{over_places}
 use Rattle.escpos_paper.specs.Printed.{prints, printed}
 use Rattle.escpos_paper.specs.Page.{Sheet}
-use Rattle.escpos_paper.specs.Steps.{sheet_after}
+use Rattle.escpos_paper.specs.Steps.{line_style_after, sheet_after}
 use Rattle.escpos_paper.proofs.Sheets.{sheet_of, sheet-snoc}
 
 -- Where two lists of commands leave the same sheet, they do so with the same further commands too.
@@ -24,13 +24,13 @@ same_after kept also cs ds (c ∷ more) e =
     (sheet-snoc kept cs c ∙ ap (λ s. sheet_after s c) e ∙ sym (sheet-snoc also ds c))
     ∙ ap (sheet_of also) (append_snoc ds c more)
 
-left_twice : (b : Bool) → cond b Left Left ≡ Left
-left_twice true = refl
-left_twice false = refl
+initial_lines : (is_line_empty : Bool) (lines : LineStyle) → line_style_after is_line_empty lines Init ≡ power_on_lines
+initial_lines true lines = refl
+initial_lines false lines = refl
 
 -- After an Init all that is left is what was printed before it.
 sheet_of_init : (cs : List Command) → sheet_of [] (cs ++ Init ∷ []) ≡ sheet_of (printed cs) []
-sheet_of_init cs = sheet-snoc [] cs Init ∙ cc (left_twice (is_empty (line cs)))
+sheet_of_init cs = sheet-snoc [] cs Init ∙ cc (initial_lines (is_empty (line cs)) (line_style cs))
 
 pub initialisation : (a b : List Command) → printed (a ++ Init ∷ [] ++ b) ≡ printed a ++ printed b
 initialisation a b = ap (λ (s : Sheet). s.items) (same_after [] (printed a) (a ++ Init ∷ []) [] b (sheet_of_init a))

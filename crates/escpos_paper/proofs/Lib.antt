@@ -14,3 +14,4 @@ pub mod Above
 pub mod Worked
 pub mod ItemParts
 pub mod FirstItems
+pub mod SecondItems

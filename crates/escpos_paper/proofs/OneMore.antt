@@ -15,9 +15,9 @@ use Rattle.escpos_command.specs.Text.{text, ends_text, characters}
 use Rattle.escpos_paper.specs.declared.cell.Cell.{Cell}
 use Rattle.escpos_paper.specs.declared.style.Style.{Style}
 use Rattle.escpos_paper.specs.OverPlaces.{over_places}
-use Rattle.escpos_paper.specs.Styles.{is_init, is_align, is_empty, after_init, last_or, setting, style, bar_style, if_it_counts, commands_that_count, alignment, sets_alignment, sets_table, sets_font, sets_width, sets_height, sets_bold, sets_underline, sets_bar_height, sets_module_width, sets_hri_place, sets_hri_font}
+use Rattle.escpos_paper.specs.Styles.{is_init, acts_at_line_start, is_empty, after_init, last_or, setting, style, bar_style, line_style, if_it_counts, commands_that_count, sets_alignment, sets_upside_down, sets_spacing, sets_table, sets_font, sets_width, sets_height, sets_bold, sets_underline, sets_strike, sets_reverse, sets_character_set, sets_bar_height, sets_module_width, sets_hri_place, sets_hri_font}
 use Rattle.escpos_paper.specs.Cells.{cell, cell_at, cells}
-use Rattle.escpos_paper.specs.Steps.{set_after, style_after, bar_style_after, alignment_after}
+use Rattle.escpos_paper.specs.Steps.{set_after, set_at_start, style_after, bar_style_after, line_style_after}
 
 -- ## Tests of a list with one more element
 
@@ -83,6 +83,9 @@ style-snoc cs c =
       setting-snoc sets_height 1 cs c,
       setting-snoc sets_bold false cs c,
       setting-snoc sets_underline 0 cs c,
+      setting-snoc sets_strike false cs c,
+      setting-snoc sets_reverse false cs c,
+      setting-snoc sets_character_set 0 cs c,
     )
 
 pub bar_style-snoc : (cs : List Command) (c : Command) → bar_style (cs ++ c ∷ []) ≡ bar_style_after (bar_style cs) c
@@ -150,17 +153,24 @@ empty_map f (x ∷ xs) = refl
 pub empty_text : (cs : List Command) → is_empty (text cs) ≡ is_empty (cells cs)
 empty_text cs = ap is_empty (sym (bytes_of_cells cs)) ∙ empty_map (λ (x : Cell). x.byte) (cells cs)
 
--- ## The alignment
+-- ## Lines
 
-alignment_by : (cs : List Command) (c : Command) (empty align : Bool)
-    → setting sets_alignment Left (commands_that_count cs ++ cond (align && not empty) [] (c ∷ []))
-    ≡ cond empty (set_after sets_alignment Left (alignment cs) c) (cond align (alignment cs) (set_after sets_alignment Left (alignment cs) c))
-alignment_by cs c true true = setting-snoc sets_alignment Left (commands_that_count cs) c
-alignment_by cs c true false = setting-snoc sets_alignment Left (commands_that_count cs) c
-alignment_by cs c false true = ap (setting sets_alignment Left) (append-nil (commands_that_count cs))
-alignment_by cs c false false = setting-snoc sets_alignment Left (commands_that_count cs) c
+-- An attribute that is set only at the beginning of a line.
+at_start_by : {X : Type 0} (sets : Command → Option X) (start : X) (cs : List Command) (c : Command) (empty acts : Bool)
+    → setting sets start (commands_that_count cs ++ cond (acts && not empty) [] (c ∷ []))
+    ≡ cond empty (set_after sets start (setting sets start (commands_that_count cs)) c)
+    (cond acts (setting sets start (commands_that_count cs)) (set_after sets start (setting sets start (commands_that_count cs)) c))
+at_start_by sets start cs c true true = setting-snoc sets start (commands_that_count cs) c
+at_start_by sets start cs c true false = setting-snoc sets start (commands_that_count cs) c
+at_start_by sets start cs c false true = ap (setting sets start) (append-nil (commands_that_count cs))
+at_start_by sets start cs c false false = setting-snoc sets start (commands_that_count cs) c
 
-pub alignment-snoc : (cs : List Command) (c : Command) → alignment (cs ++ c ∷ []) ≡ alignment_after (is_empty (text cs)) (alignment cs) c
-alignment-snoc cs c =
-    ap (setting sets_alignment Left) (over-snoc if_it_counts if_it_counts [] cs c (λ b d following. refl))
-    ∙ alignment_by cs c (is_empty (text cs)) (is_align c)
+at_start-snoc : {X : Type 0} (sets : Command → Option X) (start : X) (cs : List Command) (c : Command)
+    → setting sets start (commands_that_count (cs ++ c ∷ [])) ≡ set_at_start (is_empty (text cs)) sets start (setting sets start (commands_that_count cs)) c
+at_start-snoc sets start cs c =
+    ap (setting sets start) (over-snoc if_it_counts if_it_counts [] cs c (λ b d following. refl))
+    ∙ at_start_by sets start cs c (is_empty (text cs)) (acts_at_line_start c)
+
+pub line_style-snoc : (cs : List Command) (c : Command) → line_style (cs ++ c ∷ []) ≡ line_style_after (is_empty (text cs)) (line_style cs) c
+line_style-snoc cs c =
+    cc (at_start-snoc sets_alignment Left cs c, at_start-snoc sets_upside_down false cs c, setting-snoc sets_spacing None cs c)

@@ -6,13 +6,13 @@ use Rattle.escpos_command.specs.declared.command.Command.TheVariants.{Char, Line
 use Rattle.escpos_command.specs.Text.{text, ends_text, characters}
 use Rattle.escpos_paper.specs.declared.cell.Cell.{Cell}
 use Rattle.escpos_paper.specs.declared.item.Item.{Item}
-use Rattle.escpos_paper.specs.Styles.{is_empty, last_or, style, bar_style, alignment}
+use Rattle.escpos_paper.specs.Styles.{is_empty, last_or, style, bar_style, line_style}
 use Rattle.escpos_paper.specs.Cells.{cell, cells}
 use Rattle.escpos_paper.specs.Rows.{fits, is_at_width, cuts, rows, line}
 use Rattle.escpos_paper.specs.Printed.{prints, printed, row_and_feed}
 use Rattle.escpos_paper.specs.Page.{Sheet}
-use Rattle.escpos_paper.specs.Steps.{with_cell, alignment_after, line_after, step_prints, sheet_after}
-use Rattle.escpos_paper.proofs.OneMore.{style-snoc, bar_style-snoc, cells-snoc, empty_text, alignment-snoc, over-snoc}
+use Rattle.escpos_paper.specs.Steps.{with_cell, line_style_after, line_after, step_prints, sheet_after}
+use Rattle.escpos_paper.proofs.OneMore.{style-snoc, bar_style-snoc, cells-snoc, empty_text, line_style-snoc, over-snoc}
 use Rattle.escpos_paper.proofs.Filled.{filled}
 use Rattle.escpos_paper.proofs.Cuts.{last-snoc, begins_row, empty_last}
 use Rattle.escpos_paper.proofs.AllCuts.{rows_filled}
@@ -50,13 +50,13 @@ line-snoc cs c = line_kept cs c refl refl
 
 -- ## The paper
 
-pub prints_step : (cs : List Command) (c : Command) → prints cs c ≡ step_prints (style cs) (bar_style cs) (alignment cs) (line cs) c
+pub prints_step : (cs : List Command) (c : Command) → prints cs c ≡ step_prints (style cs) (bar_style cs) (line_style cs) (line cs) c
 prints_step cs (Char b) =
-    ap (λ found. cond (nat_lt (length (rows cs)) (length found)) (row_and_feed (alignment cs) (line cs)) [])
+    ap (λ found. cond (nat_lt (length (rows cs)) (length found)) (row_and_feed (line_style cs) (line cs)) [])
     (rows_filled (cs ++ Char b ∷ []) ∙ ap filled (cells-snoc cs (Char b)))
-    ∙ ap (λ found. cond (nat_lt (length found) (length (filled (cells cs ++ cell (style cs) b ∷ [])))) (row_and_feed (alignment cs) (last_or [] found)) []) (rows_filled cs)
-    ∙ begins_row (alignment cs) (cells cs) (cell (style cs) b)
-    ∙ ap (λ row. cond (fits (row ++ cell (style cs) b ∷ [])) [] (row_and_feed (alignment cs) row)) (sym (line_filled cs))
+    ∙ ap (λ found. cond (nat_lt (length found) (length (filled (cells cs ++ cell (style cs) b ∷ [])))) (row_and_feed (line_style cs) (last_or [] found)) []) (rows_filled cs)
+    ∙ begins_row (line_style cs) (cells cs) (cell (style cs) b)
+    ∙ ap (λ row. cond (fits (row ++ cell (style cs) b ∷ [])) [] (row_and_feed (line_style cs) row)) (sym (line_filled cs))
 prints_step cs LineFeed = refl
 prints_step cs (FeedLines n) = refl
 prints_step cs (FeedUnits n) = refl
@@ -65,27 +65,27 @@ prints_step cs (Raster raster) = refl
 prints_step cs (Cut how) = refl
 prints_step cs c = refl
 
-pub printed-snoc : (cs : List Command) (c : Command) → printed (cs ++ c ∷ []) ≡ printed cs ++ step_prints (style cs) (bar_style cs) (alignment cs) (line cs) c
+pub printed-snoc : (cs : List Command) (c : Command) → printed (cs ++ c ∷ []) ≡ printed cs ++ step_prints (style cs) (bar_style cs) (line_style cs) (line cs) c
 printed-snoc cs c =
     over-snoc (λ before d following. prints before d) (λ before d following. prints before d) [] cs c (λ b d following. refl)
     ∙ ap (λ t. printed cs ++ t) (prints_step cs c)
 
 -- ## The sheet
 
-alignment_step : (cs : List Command) (c : Command) → alignment (cs ++ c ∷ []) ≡ alignment_after (is_empty (line cs)) (alignment cs) c
-alignment_step cs c = alignment-snoc cs c ∙ ap (λ b. alignment_after b (alignment cs) c) (sym (empty_line cs))
+pub line_style_step : (cs : List Command) (c : Command) → line_style (cs ++ c ∷ []) ≡ line_style_after (is_empty (line cs)) (line_style cs) c
+line_style_step cs c = line_style-snoc cs c ∙ ap (λ b. line_style_after b (line_style cs) c) (sym (empty_line cs))
 
 items_step : (kept : List Item) (cs : List Command) (c : Command)
-    → kept ++ printed (cs ++ c ∷ []) ≡ (kept ++ printed cs) ++ step_prints (style cs) (bar_style cs) (alignment cs) (line cs) c
+    → kept ++ printed (cs ++ c ∷ []) ≡ (kept ++ printed cs) ++ step_prints (style cs) (bar_style cs) (line_style cs) (line cs) c
 items_step kept cs c =
-    ap (λ t. kept ++ t) (printed-snoc cs c) ∙ sym (append_assoc kept (printed cs) (step_prints (style cs) (bar_style cs) (alignment cs) (line cs) c))
+    ap (λ t. kept ++ t) (printed-snoc cs c) ∙ sym (append_assoc kept (printed cs) (step_prints (style cs) (bar_style cs) (line_style cs) (line cs) c))
 
 -- The sheet of a list of commands.
 abbrev pub sheet_of : List Item → List Command → Sheet
-sheet_of kept cs = record { items = kept ++ printed cs; style = style cs; bar_style = bar_style cs; alignment = alignment cs; line = line cs }
+sheet_of kept cs = record { items = kept ++ printed cs; style = style cs; bar_style = bar_style cs; line_style = line_style cs; line = line cs }
 
 pub sheet-snoc : (kept : List Item) (cs : List Command) (c : Command) → sheet_of kept (cs ++ c ∷ []) ≡ sheet_after (sheet_of kept cs) c
-sheet-snoc kept cs c = cc (items_step kept cs c, style-snoc cs c, bar_style-snoc cs c, alignment_step cs c, line-snoc cs c)
+sheet-snoc kept cs c = cc (items_step kept cs c, style-snoc cs c, bar_style-snoc cs c, line_style_step cs c, line-snoc cs c)
 
 -- So a step from the sheet of some commands leads to the sheet of one more.
 pub sheet_step : (old new : Sheet) (kept : List Item) (cs : List Command) (c : Command)

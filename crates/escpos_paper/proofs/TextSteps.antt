@@ -4,28 +4,28 @@ use Rattle.std.specs.Prelude.{IsTrue}
 use Rattle.std.proofs.lemmas.Bool.{leb-true, le-leb}
 use Rattle.std.proofs.lemmas.List.Sums.{sum_by-append, sum_by-cons}
 use Rattle.escpos_command.specs.declared.command.Command.TheVariants.{Char}
-use Rattle.escpos_command.specs.declared.parameter.choices.Alignment.{Alignment}
 use Rattle.escpos_paper.specs.declared.cell.Cell.{Cell}
 use Rattle.escpos_paper.specs.declared.item.Item.{Item}
+use Rattle.escpos_paper.specs.declared.style.LineStyle.{LineStyle}
 use Rattle.escpos_paper.specs.Cells.{cell, cell_dots}
 use Rattle.escpos_paper.specs.Page.{Sheet}
 use Rattle.escpos_paper.specs.Printed.{row_and_feed}
 use Rattle.escpos_paper.specs.Rows.{fits}
-use Rattle.escpos_paper.specs.Steps.{alignment_after, sheet_after, sheet_after_all}
+use Rattle.escpos_paper.specs.Steps.{line_style_after, sheet_after, sheet_after_all}
 
 -- The sheet with these items and this line.
 abbrev pub with_text : Sheet → List Item → List Cell → Sheet
-with_text sheet items row = record { items = items; style = sheet.style; bar_style = sheet.bar_style; alignment = sheet.alignment; line = row }
+with_text sheet items row = record { items = items; style = sheet.style; bar_style = sheet.bar_style; line_style = sheet.line_style; line = row }
 
-same_alignment : (is_line_empty : Bool) (align : Alignment) (b : ℕ) → alignment_after is_line_empty align (Char b) ≡ align
-same_alignment true align b = refl
-same_alignment false align b = refl
+same_lines : (is_line_empty : Bool) (lines : LineStyle) (b : ℕ) → line_style_after is_line_empty lines (Char b) ≡ lines
+same_lines true lines b = refl
+same_lines false lines b = refl
 
 -- A character goes into the line, or begins the next.
 char_step : (sheet : Sheet) (b : ℕ) (there : Bool) → fits (sheet.line ++ cell sheet.style b ∷ []) ≡ there
-    → sheet_after sheet (Char b) ≡ with_text sheet (sheet.items ++ (if there then [] else row_and_feed sheet.alignment sheet.line)) ((if there then sheet.line else []) ++ cell sheet.style b ∷ [])
-char_step sheet b true e = cc (e, same_alignment _ sheet.alignment b)
-char_step sheet b false e = cc (e, same_alignment _ sheet.alignment b)
+    → sheet_after sheet (Char b) ≡ with_text sheet (sheet.items ++ (if there then [] else row_and_feed sheet.line_style sheet.line)) ((if there then sheet.line else []) ++ cell sheet.style b ∷ [])
+char_step sheet b true e = cc (e, same_lines _ sheet.line_style b)
+char_step sheet b false e = cc (e, same_lines _ sheet.line_style b)
 
 -- A prefix of a row that fits, fits.
 prefix_fits : (row : List Cell) (x : Cell) (more : List Cell) → IsTrue (fits (row ++ x ∷ more)) → IsTrue (fits (row ++ x ∷ []))
@@ -49,7 +49,7 @@ in_line sheet (b ∷ bs) fit =
 
 -- The same where the line is ended before them, unless the first fits.
 pub text_steps : (sheet : Sheet) (items : List Item) (row : List Cell) (bs : List ℕ) → 1 ≤ length bs
-    → ((b : ℕ) → items ≡ sheet.items ++ (if fits (sheet.line ++ cell sheet.style b ∷ []) then [] else row_and_feed sheet.alignment sheet.line))
+    → ((b : ℕ) → items ≡ sheet.items ++ (if fits (sheet.line ++ cell sheet.style b ∷ []) then [] else row_and_feed sheet.line_style sheet.line))
     → ((b : ℕ) → row ≡ (if fits (sheet.line ++ cell sheet.style b ∷ []) then sheet.line else []))
     → IsTrue (fits (row ++ map (cell sheet.style) bs))
     → with_text sheet items (row ++ map (cell sheet.style) bs) ≡ sheet_after_all sheet (map Char bs)

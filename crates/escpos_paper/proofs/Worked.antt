@@ -1,7 +1,7 @@
 -- Worked rows, computed from the definitions alone.
 use Rattle.std.proofs.Common.{◌≡◌, [], ◌∷◌, ◌++◌, refl, ap, true, false}
 use Rattle.std.specs.Prelude.{None, Some, replicate, map, length}
-use Rattle.escpos_command.specs.declared.command.Command.TheVariants.{Char, LineFeed, Init, Mode, Emphasis, Font, Align, FeedLines, FeedUnits, Pulse, Size, BarHeight, BarWidth, HriPlace, HriFont, Bars, Raster, Cut}
+use Rattle.escpos_command.specs.declared.command.Command.TheVariants.{Char, LineFeed, Init, Mode, Emphasis, DoubleStrike, CharacterSet, Reverse, UpsideDown, LineSpacing, DefaultSpacing, Font, Align, FeedLines, FeedUnits, Pulse, Size, BarHeight, BarWidth, HriPlace, HriFont, Bars, Raster, Cut}
 use Rattle.escpos_command.specs.declared.parameter.choices.FontFace.TheVariants.{A, B}
 use Rattle.escpos_command.specs.declared.parameter.choices.HriPosition.TheVariants.{Nowhere, Below}
 use Rattle.escpos_command.specs.declared.parameter.choices.Scale.TheVariants.{Normal}
@@ -24,40 +24,59 @@ use Rattle.hex.specs.Hex.{encode_with}
 
 -- Init, H, i, LF, a cut
 five_commands : printed (Init ∷ Char 0x48 ∷ Char 0x69 ∷ LineFeed ∷ Cut (0, None) ∷ [])
-    ≡ Row Left (cell power_on 0x48 ∷ cell power_on 0x69 ∷ []) ∷ Feed 1 ∷ Cutting false None ∷ []
+    ≡ Row Left false (cell power_on 0x48 ∷ cell power_on 0x69 ∷ []) ∷ Feed 1 None ∷ Cutting false None ∷ []
 five_commands = refl
 
 -- an Align in mid-line has no effect, one on an empty line has one
 align_in_mid_line : printed (Char 0x41 ∷ Char 0x42 ∷ Align 1 ∷ Char 0x43 ∷ LineFeed ∷ Align 1 ∷ Char 0x44 ∷ LineFeed ∷ [])
-    ≡ Row Left (cell power_on 0x41 ∷ cell power_on 0x42 ∷ cell power_on 0x43 ∷ []) ∷ Feed 1 ∷ Row Center (cell power_on 0x44 ∷ []) ∷ Feed 1 ∷ []
+    ≡ Row Left false (cell power_on 0x41 ∷ cell power_on 0x42 ∷ cell power_on 0x43 ∷ []) ∷ Feed 1 None ∷ Row Center false (cell power_on 0x44 ∷ []) ∷ Feed 1 None ∷ []
 align_in_mid_line = refl
 
 -- emphasis set in mid-line is that of the characters after it
 emphasis_in_mid_line : printed (Emphasis 1 ∷ Char 0x41 ∷ Emphasis 0 ∷ Char 0x42 ∷ LineFeed ∷ [])
-    ≡ Row Left (cell (record power_on { bold = true }) 0x41 ∷ cell power_on 0x42 ∷ []) ∷ Feed 1 ∷ []
+    ≡ Row Left false (cell (record power_on { bold = true }) 0x41 ∷ cell power_on 0x42 ∷ []) ∷ Feed 1 None ∷ []
 emphasis_in_mid_line = refl
 
 -- ESC ! B9: font B, emphasis, double height and width, underline
 mode : printed (Mode 0xB9 ∷ Char 0x41 ∷ LineFeed ∷ [])
-    ≡ Row Left (cell (record { table = 0; font = B; width = 2; height = 2; bold = true; underline = 1 }) 0x41 ∷ []) ∷ Feed 1 ∷ []
+    ≡ Row Left false (cell (record power_on { font = B; width = 2; height = 2; bold = true; underline = 1 }) 0x41 ∷ []) ∷ Feed 1 None ∷ []
 mode = refl
 
+-- strike, reverse and a character set are those of the characters after them, beside emphasis
+strike_in_mid_line : printed (Emphasis 1 ∷ DoubleStrike 1 ∷ Char 0x41 ∷ DoubleStrike 2 ∷ Char 0x42 ∷ LineFeed ∷ [])
+    ≡ Row Left false (cell (record power_on { bold = true; strike = true }) 0x41 ∷ cell (record power_on { bold = true }) 0x42 ∷ []) ∷ Feed 1 None ∷ []
+strike_in_mid_line = refl
+
+reverse_and_set : printed (Reverse 0xFF ∷ CharacterSet 8 ∷ Char 0x41 ∷ Init ∷ Char 0x42 ∷ LineFeed ∷ [])
+    ≡ Row Left false (cell power_on 0x42 ∷ []) ∷ Feed 1 None ∷ []
+reverse_and_set = refl
+
+-- lines are turned upside down at their beginning alone
+upside_down : printed (Char 0x41 ∷ UpsideDown 1 ∷ LineFeed ∷ UpsideDown 1 ∷ Char 0x42 ∷ UpsideDown 0 ∷ LineFeed ∷ [])
+    ≡ Row Left false (cell power_on 0x41 ∷ []) ∷ Feed 1 None ∷ Row Left true (cell power_on 0x42 ∷ []) ∷ Feed 1 None ∷ []
+upside_down = refl
+
+-- a spacing is that of the feeds after it, also in mid-line, until ESC 2 or Init
+spacing : printed (Char 0x41 ∷ LineSpacing 60 ∷ LineFeed ∷ FeedLines 3 ∷ DefaultSpacing ∷ LineFeed ∷ LineSpacing 0 ∷ LineFeed ∷ Init ∷ LineFeed ∷ [])
+    ≡ Row Left false (cell power_on 0x41 ∷ []) ∷ Feed 1 (Some 60) ∷ Feed 3 (Some 60) ∷ Feed 1 None ∷ Feed 1 (Some 0) ∷ Feed 1 None ∷ []
+spacing = refl
+
 -- Init drops the line
-init_drops_line : printed (Char 0x41 ∷ Init ∷ Char 0x42 ∷ LineFeed ∷ []) ≡ Row Left (cell power_on 0x42 ∷ []) ∷ Feed 1 ∷ []
+init_drops_line : printed (Char 0x41 ∷ Init ∷ Char 0x42 ∷ LineFeed ∷ []) ≡ Row Left false (cell power_on 0x42 ∷ []) ∷ Feed 1 None ∷ []
 init_drops_line = refl
 
 -- feeds of 0 and of an empty line, and a cut after text
-feed_zero : printed (FeedLines 0 ∷ []) ≡ Feed 0 ∷ []
+feed_zero : printed (FeedLines 0 ∷ []) ≡ Feed 0 None ∷ []
 feed_zero = refl
 
-feed_one : printed (LineFeed ∷ []) ≡ Feed 1 ∷ []
+feed_one : printed (LineFeed ∷ []) ≡ Feed 1 None ∷ []
 feed_one = refl
 
-cut_after_text : printed (Char 0x41 ∷ Cut (0x41, Some 5) ∷ []) ≡ Row Left (cell power_on 0x41 ∷ []) ∷ Feed 1 ∷ Cutting false (Some 5) ∷ []
+cut_after_text : printed (Char 0x41 ∷ Cut (0x41, Some 5) ∷ []) ≡ Row Left false (cell power_on 0x41 ∷ []) ∷ Feed 1 None ∷ Cutting false (Some 5) ∷ []
 cut_after_text = refl
 
 -- ESC J prints the line and feeds motion units, and a pulse prints nothing
-units_and_pulse : printed (Char 0x41 ∷ FeedUnits 5 ∷ Pulse (0, 0x19, 0xFA) ∷ []) ≡ Row Left (cell power_on 0x41 ∷ []) ∷ Units 5 ∷ []
+units_and_pulse : printed (Char 0x41 ∷ FeedUnits 5 ∷ Pulse (0, 0x19, 0xFA) ∷ []) ≡ Row Left false (cell power_on 0x41 ∷ []) ∷ Units 5 ∷ []
 units_and_pulse = refl
 
 -- the check digits of two public examples, and that of no digits
@@ -82,13 +101,13 @@ bar_settings = refl
 
 -- a raster ends the line before it
 raster_after_text : printed (Char 0x41 ∷ Raster (picture 0 1 1 (0xFF ∷ [])) ∷ [])
-    ≡ Row Left (cell power_on 0x41 ∷ []) ∷ Feed 1 ∷ Dotted Left Normal 1 1 (0xFF ∷ []) ∷ []
+    ≡ Row Left false (cell power_on 0x41 ∷ []) ∷ Feed 1 None ∷ Dotted Left Normal 1 1 (0xFF ∷ []) ∷ []
 raster_after_text = refl
 
 -- at width 8 five characters of font A fit, and the sixth begins a row
 wide : printed (Size 0x70 ∷ replicate 6 (Char 0x61) ++ LineFeed ∷ [])
     ≡ (let x = cell (record power_on { width = 8 }) 0x61 in
-    Row Left (x ∷ x ∷ x ∷ x ∷ x ∷ []) ∷ Feed 1 ∷ Row Left (x ∷ []) ∷ Feed 1 ∷ [])
+    Row Left false (x ∷ x ∷ x ∷ x ∷ x ∷ []) ∷ Feed 1 None ∷ Row Left false (x ∷ []) ∷ Feed 1 None ∷ [])
 wide = refl
 
 -- 42 characters of font A fill a line, and 56 of font B. There are too many ways to cut so many cells; the plain program
@@ -109,6 +128,16 @@ emphasis_text : items_text (printed (Emphasis 1 ∷ Char 0x41 ∷ Emphasis 0 ∷
     ≡ codes "row left [A,1,1,1,0,0]A[A,1,1,0,0,0]B" ++ 10 ∷ [] ++ codes "feed 1" ++ 10 ∷ []
 unfolding digits
 emphasis_text = refl
+
+strike_text : items_text (printed (DoubleStrike 1 ∷ Char 0x41 ∷ DoubleStrike 0 ∷ Char 0x42 ∷ Reverse 1 ∷ CharacterSet 17 ∷ Char 0x43 ∷ LineFeed ∷ []))
+    ≡ codes "row left [A,1,1,0,0,0,1,0,0]A[A,1,1,0,0,0]B[A,1,1,0,0,0,0,1,17]C" ++ 10 ∷ [] ++ codes "feed 1" ++ 10 ∷ []
+unfolding digits
+strike_text = refl
+
+upside_down_text : items_text (printed (UpsideDown 1 ∷ LineSpacing 40 ∷ Char 0x41 ∷ LineFeed ∷ []))
+    ≡ codes "row left upside A" ++ 10 ∷ [] ++ codes "feed 1 spacing 40" ++ 10 ∷ []
+unfolding digits
+upside_down_text = refl
 
 mode_text : items_text (printed (Mode 0xB9 ∷ Char 0x41 ∷ LineFeed ∷ []))
     ≡ codes "row left [B,2,2,1,1,0]A" ++ 10 ∷ [] ++ codes "feed 1" ++ 10 ∷ []

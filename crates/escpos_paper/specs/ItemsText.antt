@@ -25,18 +25,32 @@ is_plain b = nat_le 0x20 b && nat_le b 0x7E && not (b == 0x5B) && not (b == 0x5C
 abbrev pub byte_text : ℕ → List ℕ
 byte_text b = if is_plain b then b ∷ [] else 0x5C ∷ encode_lower (b ∷ [])
 
--- A style: [F,W,H,B,U,T] with the font A or B, width, height, emphasis as 1 or 0, underline and table.
 abbrev pub face_name : FontFace → List ℕ
 face_name A = codes "A"
 face_name B = codes "B"
 
-abbrev pub bold_text : Bool → List ℕ
-bold_text b = if b then codes "1" else codes "0"
+-- 1 or 0.
+abbrev pub flag_text : Bool → List ℕ
+flag_text b = if b then codes "1" else codes "0"
 
+-- Strike, reverse and character set are as at power on.
+abbrev pub has_six_fields : Style → Bool
+has_six_fields s = not s.strike && not s.reverse && s.character_set == 0
+
+-- Otherwise they are fields, too.
+abbrev pub further_fields : Style → List ℕ
+further_fields s =
+    if has_six_fields s then [] else codes "," ++ flag_text s.strike ++ codes "," ++ flag_text s.reverse ++ codes "," ++ decimal s.character_set
+
+abbrev pub six_fields : Style → List ℕ
+six_fields s =
+    face_name s.font ++ codes "," ++ decimal s.width ++ codes "," ++ decimal s.height ++ codes "," ++ flag_text s.bold
+    ++ codes "," ++ decimal s.underline ++ codes "," ++ decimal s.table
+
+-- A style: [F,W,H,B,U,T] with the font A or B, width, height, emphasis as 1 or 0, underline and table; or
+-- [F,W,H,B,U,T,S,R,C], with strike and reverse as 1 or 0, and character set.
 abbrev pub style_text : Style → List ℕ
-style_text s =
-    codes "[" ++ face_name s.font ++ codes "," ++ decimal s.width ++ codes "," ++ decimal s.height ++ codes "," ++ bold_text s.bold
-    ++ codes "," ++ decimal s.underline ++ codes "," ++ decimal s.table ++ codes "]"
+style_text s = codes "[" ++ six_fields s ++ further_fields s ++ codes "]"
 
 -- A cell after one of the style `before`: its style, where that differs, and its byte.
 abbrev pub cell_text : Style → Cell → List ℕ
@@ -94,10 +108,19 @@ abbrev pub feed_text : Option ℕ → List ℕ
 feed_text None = []
 feed_text (Some n) = codes " " ++ decimal n
 
+-- A row that is printed upside down says so.
+abbrev pub upside_text : Bool → List ℕ
+upside_text upside_down = if upside_down then codes "upside " else []
+
+-- The spacing of a feed, if it isn't the default.
+abbrev pub spacing_text : Option ℕ → List ℕ
+spacing_text None = []
+spacing_text (Some n) = codes " spacing " ++ decimal n
+
 -- The line of an item, without its end. The first cell of a row is compared with the power-on style.
 abbrev pub words : Item → List ℕ
-words (Row align cells) = codes "row " ++ align_name align ++ codes " " ++ cells_text power_on cells
-words (Feed n) = codes "feed " ++ decimal n
+words (Row align upside_down cells) = codes "row " ++ align_name align ++ codes " " ++ upside_text upside_down ++ cells_text power_on cells
+words (Feed n spacing) = codes "feed " ++ decimal n ++ spacing_text spacing
 words (FeedUnits n) = codes "units " ++ decimal n
 words (Bars align symbology height width place face content added) =
     codes "bars " ++ align_name align ++ codes " " ++ symbology_name symbology ++ codes " " ++ settings_text height width place face

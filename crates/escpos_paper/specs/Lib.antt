@@ -10,3 +10,4 @@ pub mod Steps
 pub mod ItemsText
 pub mod ItemParts
 pub mod FirstPaper
+pub mod SecondPaper

@@ -2,22 +2,22 @@
 use Rattle.std.specs.Prelude.{ℕ, ◌≡◌, List, ◌++◌}
 use Rattle.escpos_command.specs.declared.command.Command.{Command}
 use Rattle.escpos_command.specs.CommandTable.{AreCommands}
-use Rattle.escpos_command.specs.declared.parameter.choices.Alignment.{Alignment}
 use Rattle.escpos_paper.specs.declared.cell.Cell.{Cell}
 use Rattle.escpos_paper.specs.declared.item.Item.{Item}
 use Rattle.escpos_paper.specs.declared.style.BarStyle.{BarStyle}
+use Rattle.escpos_paper.specs.declared.style.LineStyle.{LineStyle}
 use Rattle.escpos_paper.specs.declared.style.Style.{Style}
-use Rattle.escpos_paper.specs.Styles.{style, bar_style, alignment}
+use Rattle.escpos_paper.specs.Styles.{style, bar_style, line_style}
 use Rattle.escpos_paper.specs.Rows.{line}
 use Rattle.escpos_paper.specs.Printed.{printed}
 
--- What commands leave: the items on paper, the style, the settings of barcodes and the alignment that are set, and the
--- line that isn't printed yet.
+-- What commands leave: the items on paper, the style, the settings of barcodes and of lines, and the line that isn't printed
+-- yet.
 pub record Sheet : Type 0 where
   pub items : List Item
   pub style : Style
   pub bar_style : BarStyle
-  pub alignment : Alignment
+  pub line_style : LineStyle
   pub line : List Cell
 
 -- The model of a page: its sheet, and for how many more items it has room.
@@ -32,7 +32,7 @@ SheetIs sheet kept cs = sheet ≡ record {
   items = kept ++ printed cs;
   style = style cs;
   bar_style = bar_style cs;
-  alignment = alignment cs;
+  line_style = line_style cs;
   line = line cs;
 }
 

@@ -11,19 +11,20 @@ use Rattle.escpos_paper.specs.declared.item.Item.{Item}
 use Rattle.escpos_paper.specs.declared.item.Item.TheVariants.{Row, Feed, FeedUnits, Bars, Raster, Cut}
 use Rattle.escpos_paper.specs.OverPlaces.{over_places}
 use Rattle.escpos_paper.specs.declared.style.BarStyle.{BarStyle}
-use Rattle.escpos_paper.specs.Styles.{alignment, bar_style}
+use Rattle.escpos_paper.specs.declared.style.LineStyle.{LineStyle}
+use Rattle.escpos_paper.specs.Styles.{line_style, bar_style}
 use Rattle.escpos_paper.specs.CheckDigit.{added_digit}
 use Rattle.escpos_paper.specs.Rows.{rows, line}
 
 -- A line as an item, if it has a cell.
-abbrev pub row_of : Alignment → List Cell → List Item
-row_of align [] = []
-row_of align (x ∷ xs) = Row align (x ∷ xs) ∷ []
+abbrev pub row_of : LineStyle → List Cell → List Item
+row_of style [] = []
+row_of style (x ∷ xs) = Row style.alignment style.upside_down (x ∷ xs) ∷ []
 
 -- The same, with a feed of one line after it.
-abbrev pub row_and_feed : Alignment → List Cell → List Item
-row_and_feed align [] = []
-row_and_feed align (x ∷ xs) = Row align (x ∷ xs) ∷ Feed 1 ∷ []
+abbrev pub row_and_feed : LineStyle → List Cell → List Item
+row_and_feed style [] = []
+row_and_feed style (x ∷ xs) = Row style.alignment style.upside_down (x ∷ xs) ∷ Feed 1 style.spacing ∷ []
 
 -- A barcode as an item, in the settings of barcodes, with the check digit that its content lacks.
 abbrev pub bars_item : Alignment → BarStyle → Barcode → Item
@@ -40,14 +41,14 @@ raster_item align raster = Raster align (scale_of (choice raster.scale)) raster.
 -- one.
 abbrev pub prints : List Command → Command → List Item
 prints before (kind.Char b) =
-    if nat_lt (length (rows before)) (length (rows (before ++ kind.Char b ∷ []))) then row_and_feed (alignment before) (line before) else []
-prints before kind.LineFeed = row_of (alignment before) (line before) ++ Feed 1 ∷ []
-prints before (kind.FeedLines n) = row_of (alignment before) (line before) ++ Feed n ∷ []
-prints before (kind.FeedUnits n) = row_of (alignment before) (line before) ++ FeedUnits n ∷ []
+    if nat_lt (length (rows before)) (length (rows (before ++ kind.Char b ∷ []))) then row_and_feed (line_style before) (line before) else []
+prints before kind.LineFeed = row_of (line_style before) (line before) ++ Feed 1 (line_style before).spacing ∷ []
+prints before (kind.FeedLines n) = row_of (line_style before) (line before) ++ Feed n (line_style before).spacing ∷ []
+prints before (kind.FeedUnits n) = row_of (line_style before) (line before) ++ FeedUnits n ∷ []
 prints before (kind.Bars bars) =
-    row_and_feed (alignment before) (line before) ++ bars_item (alignment before) (bar_style before) bars ∷ []
-prints before (kind.Raster raster) = row_and_feed (alignment before) (line before) ++ raster_item (alignment before) raster ∷ []
-prints before (kind.Cut cut) = row_and_feed (alignment before) (line before) ++ Cut (leaves_a_point cut.0) cut.1 ∷ []
+    row_and_feed (line_style before) (line before) ++ bars_item ((line_style before).alignment) (bar_style before) bars ∷ []
+prints before (kind.Raster raster) = row_and_feed (line_style before) (line before) ++ raster_item ((line_style before).alignment) raster ∷ []
+prints before (kind.Cut cut) = row_and_feed (line_style before) (line before) ++ Cut (leaves_a_point cut.0) cut.1 ∷ []
 prints before kind.Return = []
 prints before kind.Init = []
 prints before (kind.Mode n) = []
@@ -56,6 +57,13 @@ prints before (kind.Underline n) = []
 prints before (kind.Font n) = []
 prints before (kind.Table n) = []
 prints before (kind.Align n) = []
+prints before (kind.DoubleStrike n) = []
+prints before (kind.CharacterSet n) = []
+prints before (kind.Reverse n) = []
+prints before (kind.Smoothing n) = []
+prints before (kind.UpsideDown n) = []
+prints before (kind.LineSpacing n) = []
+prints before kind.DefaultSpacing = []
 prints before (kind.Size n) = []
 prints before (kind.BarHeight n) = []
 prints before (kind.BarWidth n) = []

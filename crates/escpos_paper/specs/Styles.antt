@@ -1,6 +1,6 @@
 -- The styles after a list of commands. For each attribute the last command that sets it decides, of those
 -- after the last Init; where none sets it, it has its power-on value. (Reference: ESC !, ESC -, ESC E,
--- ESC M, ESC a, ESC t, GS !, GS h, GS w, GS H, GS f, ESC @.)
+-- ESC G, ESC M, ESC R, ESC a, ESC t, ESC {, ESC 2, ESC 3, GS !, GS B, GS h, GS w, GS H, GS f, ESC @.)
 use Rattle.std.specs.Prelude.{ℕ, ◌==◌, ◌&&◌, not, Bool, true, false, List, [], ◌∷◌, ◌++◌, Option, None, Some, filter_map, if◌then◌else◌}
 use Rattle.std.specs.List.{list_any}
 use Rattle.escpos_command.specs.declared.command.Command.{Command}
@@ -15,6 +15,7 @@ use Rattle.escpos_command.specs.Meanings.{has_bit, choice, face_of, alignment_of
 use Rattle.escpos_command.specs.Text.{text}
 use Rattle.escpos_paper.specs.declared.style.Style.{Style}
 use Rattle.escpos_paper.specs.declared.style.BarStyle.{BarStyle}
+use Rattle.escpos_paper.specs.declared.style.LineStyle.{LineStyle}
 use Rattle.escpos_paper.specs.OverPlaces.{over_places}
 
 -- Which commands set an attribute, and to what. ESC ! sets attributes that each have a command of their own, too.
@@ -47,9 +48,31 @@ sets_underline (kind.Mode n) = Some (underline_of_mode n)
 sets_underline (kind.Underline n) = Some (choice n)
 sets_underline _ = None
 
+abbrev pub sets_strike : Command → Option Bool
+sets_strike (kind.DoubleStrike n) = Some (has_bit n 0)
+sets_strike _ = None
+
+abbrev pub sets_reverse : Command → Option Bool
+sets_reverse (kind.Reverse n) = Some (has_bit n 0)
+sets_reverse _ = None
+
+abbrev pub sets_character_set : Command → Option ℕ
+sets_character_set (kind.CharacterSet n) = Some n
+sets_character_set _ = None
+
 abbrev pub sets_alignment : Command → Option Alignment
 sets_alignment (kind.Align n) = Some (alignment_of (choice n))
 sets_alignment _ = None
+
+abbrev pub sets_upside_down : Command → Option Bool
+sets_upside_down (kind.UpsideDown n) = Some (has_bit n 0)
+sets_upside_down _ = None
+
+-- A line spacing in motion units, or none for the default.
+abbrev pub sets_spacing : Command → Option (Option ℕ)
+sets_spacing (kind.LineSpacing n) = Some (Some n)
+sets_spacing kind.DefaultSpacing = Some None
+sets_spacing _ = None
 
 abbrev pub sets_bar_height : Command → Option ℕ
 sets_bar_height (kind.BarHeight n) = Some n
@@ -87,11 +110,25 @@ setting sets power_on cs = last_or power_on (filter_map sets (after_init cs))
 
 -- The style of a printer just switched on.
 abbrev pub power_on : Style
-power_on = record { table = 0; font = A; width = 1; height = 1; bold = false; underline = 0 }
+power_on = record {
+  table = 0;
+  font = A;
+  width = 1;
+  height = 1;
+  bold = false;
+  underline = 0;
+  strike = false;
+  reverse = false;
+  character_set = 0;
+}
 
 -- The settings of barcodes of such a printer.
 abbrev pub power_on_bars : BarStyle
 power_on_bars = record { height = 162; module_width = 3; place = Nowhere; hri_font = A }
+
+-- How such a printer prints and feeds lines.
+abbrev pub power_on_lines : LineStyle
+power_on_lines = record { alignment = Left; upside_down = false; spacing = None }
 
 -- Whether two styles are the same.
 abbrev pub same_face : FontFace → FontFace → Bool
@@ -107,7 +144,7 @@ same_flag false b = not b
 abbrev pub same_style : Style → Style → Bool
 same_style s t =
     s.table == t.table && same_face s.font t.font && s.width == t.width && s.height == t.height && same_flag s.bold t.bold
-    && s.underline == t.underline
+    && s.underline == t.underline && same_flag s.strike t.strike && same_flag s.reverse t.reverse && s.character_set == t.character_set
 
 -- The style that a character after the commands gets.
 abbrev pub style : List Command → Style
@@ -118,6 +155,9 @@ style cs = record {
   height = setting sets_height 1 cs;
   bold = setting sets_bold false cs;
   underline = setting sets_underline 0 cs;
+  strike = setting sets_strike false cs;
+  reverse = setting sets_reverse false cs;
+  character_set = setting sets_character_set 0 cs;
 }
 
 -- The settings that a barcode after the commands gets.
@@ -133,17 +173,24 @@ abbrev pub is_empty : {X : Type 0} → List X → Bool
 is_empty [] = true
 is_empty (x ∷ xs) = false
 
-abbrev pub is_align : Command → Bool
-is_align (kind.Align n) = true
-is_align _ = false
+-- An alignment, and whether lines are upside down, count only at the beginning of a line.
+abbrev pub acts_at_line_start : Command → Bool
+acts_at_line_start (kind.Align n) = true
+acts_at_line_start (kind.UpsideDown n) = true
+acts_at_line_start _ = false
 
--- The command as a list of one, or nothing if it is an Align with text before it in its line: such an Align doesn't count.
+-- The command as a list of one, or nothing if it is one of these with text before it in its line: then it doesn't count.
 abbrev pub if_it_counts : List Command → Command → List Command → List Command
-if_it_counts before c following = if is_align c && not (is_empty (text before)) then [] else c ∷ []
+if_it_counts before c following = if acts_at_line_start c && not (is_empty (text before)) then [] else c ∷ []
 
--- The commands without each Align that doesn't count.
+-- The commands without those that don't count.
 abbrev pub commands_that_count : List Command → List Command
 commands_that_count cs = over_places if_it_counts [] cs
 
-abbrev pub alignment : List Command → Alignment
-alignment cs = setting sets_alignment Left (commands_that_count cs)
+-- How a line after the commands is printed and fed.
+abbrev pub line_style : List Command → LineStyle
+line_style cs = record {
+  alignment = setting sets_alignment Left (commands_that_count cs);
+  upside_down = setting sets_upside_down false (commands_that_count cs);
+  spacing = setting sets_spacing None cs;
+}

@@ -10,7 +10,7 @@ bare sheet = record {
   items = [];
   style = sheet.style;
   bar_style = sheet.bar_style;
-  alignment = sheet.alignment;
+  line_style = sheet.line_style;
   line = sheet.line;
 }
 
@@ -20,7 +20,7 @@ below gone sheet = record {
   items = gone ++ sheet.items;
   style = sheet.style;
   bar_style = sheet.bar_style;
-  alignment = sheet.alignment;
+  line_style = sheet.line_style;
   line = sheet.line;
 }
 

@@ -10,10 +10,14 @@ pub enum Item {
     /// A printed line.
     Row {
         align: Alignment,
+        upside_down: bool,
         cells: Cells,
     },
-    /// A feed of this many lines.
-    Feed(u8),
+    /// A feed of this many lines, of a spacing in motion units; `None` is the default.
+    Feed {
+        lines: u8,
+        spacing: Option<u8>,
+    },
     /// A feed of this many motion units.
     FeedUnits(u8),
     /// A barcode.

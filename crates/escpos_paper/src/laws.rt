@@ -8,8 +8,10 @@ ghost use Rattle.escpos_paper.specs.declared.cell.Cell.{Cell};
 ghost use Rattle.escpos_paper.specs.declared.item.Item.{Item};
 ghost use Rattle.std.specs.List.{AllByRecursion};
 ghost use Rattle.escpos_command.specs.FirstProfile.{in_first_profile};
+ghost use Rattle.escpos_command.specs.SecondProfile.{in_second_profile};
 ghost use Rattle.escpos_command.specs.Text.{text};
 ghost use Rattle.escpos_paper.specs.FirstPaper.{IsFirstItem};
+ghost use Rattle.escpos_paper.specs.SecondPaper.{IsSecondItem};
 ghost use Rattle.escpos_paper.specs.Styles.{is_empty};
 ghost use Rattle.escpos_paper.specs.Cells.{cells};
 ghost use Rattle.escpos_paper.specs.Rows.{IsCut, rows, line};
@@ -64,4 +66,10 @@ pub fn one_check_digit()
 /// The first profile prints nothing that it hasn't: no feed of motion units, and no raster of more than 2,047 rows.
 pub fn first_profile()
     ensures { (cs : List Command) → AllByRecursion (λ c. IsTrue (in_first_profile c)) cs → AllByRecursion IsFirstItem (printed cs) }
+{}
+
+/// The second profile prints nothing that it hasn't: no line upside down, no feed with a spacing, and only characters whose
+/// strike, reverse and character set are as at power on.
+pub fn second_profile()
+    ensures { (cs : List Command) → AllByRecursion (λ c. IsTrue (in_second_profile c)) cs → AllByRecursion IsSecondItem (printed cs) }
 {}

@@ -29,5 +29,5 @@ pub use digits::{all_digits, check_digit};
 pub use item::Item;
 pub use page::Page;
 pub use paper::MOST_ITEMS;
-pub use style::{BarStyle, Style};
+pub use style::{BarStyle, LineStyle, Style};
 pub use write::write_items;

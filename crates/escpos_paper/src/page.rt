@@ -40,7 +40,7 @@ impl Model for Page {
         items = p.paper.items.items;
         style = p.paper.style;
         bar_style = p.paper.bar_style;
-        alignment = p.paper.alignment;
+        line_style = p.paper.line_style;
         line = p.paper.line;
       };
       room = vec_capacity p.paper.items - vec_len p.paper.items;
@@ -51,7 +51,7 @@ impl Model for Page {
         items = p.paper.items.items;
         style = p.paper.style;
         bar_style = p.paper.bar_style;
-        alignment = p.paper.alignment;
+        line_style = p.paper.line_style;
         line = p.paper.line;
       };
       room = vec_capacity p.paper.items - vec_len p.paper.items;

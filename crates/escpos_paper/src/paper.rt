@@ -6,20 +6,19 @@
 ghost use Rattle.std.specs.Prelude.{◌≡◌, ◌+◌, ◌≤◌, ℕ, IsTrue, [], ◌∷◌, ◌++◌, length, map, take, if◌then◌else◌, vec_len, vec_capacity};
 ghost use Rattle.escpos_command.specs.declared.command.Command.TheVariants as kind;
 ghost use Rattle.escpos_command.specs.Meanings.{leaves_a_point};
-ghost use Rattle.escpos_command.specs.declared.parameter.choices.Alignment.TheVariants.{Left};
 ghost use Rattle.escpos_paper.specs.Printed.{row_of, row_and_feed};
 ghost use Rattle.escpos_paper.specs.declared.item.Item.TheVariants as item;
 ghost use Rattle.escpos_paper.specs.Rows.{fits};
-ghost use Rattle.escpos_paper.specs.Styles.{power_on, power_on_bars, is_empty};
+ghost use Rattle.escpos_paper.specs.Styles.{power_on, power_on_bars, power_on_lines, is_empty};
 ghost use Rattle.escpos_paper.specs.Cells.{cell};
-ghost use Rattle.escpos_paper.specs.Steps.{sheet_on, sheet_after_all, step_prints, style_after, bar_style_after, alignment_after, line_after, with_cell};
+ghost use Rattle.escpos_paper.specs.Steps.{sheet_on, sheet_after_all, step_prints, style_after, bar_style_after, line_style_after, line_after, with_cell};
 
 use crate::barcode::{bars_item, raster_item};
 use crate::cell::Cell;
 use crate::item::Item;
 use crate::print_buffer::PrintBuffer;
-use crate::style::{BarStyle, Style};
-use escpos_command::{Align, Alignment, Command, Cut};
+use crate::style::{BarStyle, LineStyle, Style};
+use escpos_command::{Command, Cut};
 use std::alloc::Global;
 
 /// The most items that one command prints: a row, a feed and a barcode, a raster or a cut.
@@ -27,14 +26,14 @@ pub const MOST_ITEMS: usize = 3;
 
 const _: () = prove!(MOST_ITEMS == 3);
 
-/// What commands leave: the items on paper, the style, the settings of barcodes and the alignment that are set, and the
-/// line that isn't printed yet.
+/// What commands leave: the items on paper, the style, the settings of barcodes and of lines, and the line that isn't printed
+/// yet.
 #[derive(Drop)]
 pub struct Paper {
     pub items: Vec<Item>,
     pub style: Style,
     pub bar_style: BarStyle,
-    pub alignment: Alignment,
+    pub line_style: LineStyle,
     pub line: PrintBuffer,
 }
 
@@ -44,14 +43,14 @@ impl Paper {
         ensures items { result.items.items ≡ [] }
         ensures style { result.style ≡ power_on }
         ensures bar_style { result.bar_style ≡ power_on_bars }
-        ensures alignment { result.alignment ≡ Left }
+        ensures line_style { result.line_style ≡ power_on_lines }
         ensures line { result.line ≡ [] }
     {
         Paper {
             items: Vec::new(alloc),
             style: Style::power_on(),
             bar_style: BarStyle::power_on(),
-            alignment: Alignment::Left,
+            line_style: LineStyle::power_on(),
             line: PrintBuffer::new(),
         }
     }
@@ -61,12 +60,12 @@ impl Paper {
         ensures items { self.new.items ≡ self.old.items }
         ensures style { self.new.style ≡ power_on }
         ensures bar_style { self.new.bar_style ≡ power_on_bars }
-        ensures alignment { self.new.alignment ≡ Left }
+        ensures line_style { self.new.line_style ≡ power_on_lines }
         ensures line { self.new.line ≡ [] }
     {
         self.style = Style::power_on();
         self.bar_style = BarStyle::power_on();
-        self.alignment = Alignment::Left;
+        self.line_style = LineStyle::power_on();
         self.line = PrintBuffer::new();
     }
 
@@ -76,22 +75,26 @@ impl Paper {
         requires visible { 1 ≤ self.old.style.width }
         requires narrow { self.old.style.width ≤ 8 }
         ensures items { self.new.items.items
-            ≡ self.old.items.items ++ step_prints self.old.style self.old.bar_style self.old.alignment self.old.line command }
+            ≡ self.old.items.items ++ step_prints self.old.style self.old.bar_style self.old.line_style self.old.line command }
         ensures style { self.new.style ≡ style_after self.old.style command }
         ensures bar_style { self.new.bar_style ≡ bar_style_after self.old.bar_style command }
-        ensures alignment { self.new.alignment ≡ alignment_after (is_empty self.old.line) self.old.alignment command }
+        ensures line_style { self.new.line_style ≡ line_style_after (is_empty self.old.line) self.old.line_style command }
         ensures line { self.new.line ≡ line_after self.old.style self.old.line command }
     {
         match command {
             Command::Char(character) => {
                 let cell = self.style.cell(character.byte());
-                put_cell(&mut self.items, &mut self.line, self.alignment, cell);
+                put_cell(&mut self.items, &mut self.line, self.line_style, cell);
             }
-            Command::LineFeed => self.feed(Item::Feed(1)),
-            Command::FeedLines(lines) => self.feed(Item::Feed(lines.byte())),
+            Command::LineFeed => self.feed(self.feed_of(1)),
+            Command::FeedLines(lines) => self.feed(self.feed_of(lines.byte())),
             Command::FeedUnits(units) => self.feed(Item::FeedUnits(units.byte())),
-            Command::Bars(bars) => self.print(bars_item(self.alignment, self.bar_style, bars)),
-            Command::Raster(raster) => self.print(raster_item(self.alignment, raster)),
+            Command::Bars(bars) => self.print(bars_item(
+                self.line_style.alignment,
+                self.bar_style,
+                bars,
+            )),
+            Command::Raster(raster) => self.print(raster_item(self.line_style.alignment, raster)),
             Command::Cut(cut) => self.print(cut_item(cut)),
             Command::Init => self.initialise(),
             Command::Mode(mode) => self.style = self.style.in_mode(mode),
@@ -100,14 +103,26 @@ impl Paper {
             Command::Font(font) => self.style.font = font.face(),
             Command::Emphasis(emphasis) => self.style.bold = emphasis.is_on(),
             Command::Underline(underline) => self.style.underline = underline.dots(),
+            Command::DoubleStrike(strike) => self.style.strike = strike.is_on(),
+            Command::Reverse(reverse) => self.style.reverse = reverse.is_on(),
+            Command::CharacterSet(set) => self.style.character_set = set.byte(),
             Command::Align(align) => {
-                self.alignment = alignment_after(self.line.is_empty(), self.alignment, align);
+                self.line_style = self.line_style.aligned(self.line.is_empty(), align);
             }
+            Command::UpsideDown(upside_down) => {
+                self.line_style = self.line_style.turned(self.line.is_empty(), upside_down);
+            }
+            Command::LineSpacing(spacing) => self.line_style.spacing = Some(spacing.byte()),
+            Command::DefaultSpacing => self.line_style.spacing = None,
             Command::BarHeight(height) => self.bar_style.height = height.byte(),
             Command::BarWidth(width) => self.bar_style.module_width = width.byte(),
             Command::HriPlace(place) => self.bar_style.place = place.position(),
             Command::HriFont(font) => self.bar_style.hri_font = font.face(),
-            Command::Return | Command::Pulse(_) | Command::Status(_) | Command::Mark(_) => {}
+            Command::Return
+            | Command::Smoothing(_)
+            | Command::Pulse(_)
+            | Command::Status(_)
+            | Command::Mark(_) => {}
         }
     }
 
@@ -121,23 +136,38 @@ impl Paper {
         ensures count { (1 ≤ result) × (result ≤ length text.now) }
         ensures sheet { sheet_on self.new ≡ sheet_after_all (sheet_on self.old) (map kind.Char (take result text.now)) }
     {
-        make_room(&mut self.items, &mut self.line, self.alignment, &self.style);
+        make_room(
+            &mut self.items,
+            &mut self.line,
+            self.line_style,
+            &self.style,
+        );
         let count = text.len().min(self.line.room_for(&self.style));
         self.line.extend(self.style, &text[..count]);
         count
+    }
+
+    // A feed of this many lines, in the spacing that is set.
+    fn feed_of(&self, lines: u8) -> Item
+        ensures { result ≡ item.Feed lines self.now.line_style.spacing }
+    {
+        Item::Feed {
+            lines,
+            spacing: self.line_style.spacing,
+        }
     }
 
     // Prints the line and then a feed.
     fn feed(&mut self, feed: Item)
         requires { vec_len self.old.items + 2 ≤ vec_capacity self.old.items }
         ensures items { self.new.items.items
-            ≡ self.old.items.items ++ row_of self.old.alignment self.old.line ++ feed ∷ [] }
+            ≡ self.old.items.items ++ row_of self.old.line_style self.old.line ++ feed ∷ [] }
         ensures style { self.new.style ≡ self.old.style }
         ensures bar_style { self.new.bar_style ≡ self.old.bar_style }
-        ensures alignment { self.new.alignment ≡ self.old.alignment }
+        ensures line_style { self.new.line_style ≡ self.old.line_style }
         ensures line { self.new.line ≡ [] }
     {
-        print_line(&mut self.items, &mut self.line, self.alignment);
+        print_line(&mut self.items, &mut self.line, self.line_style);
         self.items.push_reserved(feed);
     }
 
@@ -145,43 +175,43 @@ impl Paper {
     fn print(&mut self, item: Item)
         requires { vec_len self.old.items + MOST_ITEMS ≤ vec_capacity self.old.items }
         ensures items { self.new.items.items
-            ≡ self.old.items.items ++ row_and_feed self.old.alignment self.old.line ++ item ∷ [] }
+            ≡ self.old.items.items ++ row_and_feed self.old.line_style self.old.line ++ item ∷ [] }
         ensures style { self.new.style ≡ self.old.style }
         ensures bar_style { self.new.bar_style ≡ self.old.bar_style }
-        ensures alignment { self.new.alignment ≡ self.old.alignment }
+        ensures line_style { self.new.line_style ≡ self.old.line_style }
         ensures line { self.new.line ≡ [] }
     {
-        end_line(&mut self.items, &mut self.line, self.alignment);
+        end_line(&mut self.items, &mut self.line, self.line_style);
         self.items.push_reserved(item);
     }
 }
 
 // Ends the line if no further character of the style fits.
-fn make_room(items: &mut Vec<Item>, line: &mut PrintBuffer, alignment: Alignment, style: &Style)
+fn make_room(items: &mut Vec<Item>, line: &mut PrintBuffer, lines: LineStyle, style: &Style)
     requires room { vec_len items.old + 2 ≤ vec_capacity items.old }
     requires visible { 1 ≤ style.now.width }
     requires narrow { style.now.width ≤ 8 }
     ensures printed { (byte : ℕ) → items.new.items ≡ items.old.items
-        ++ (if fits (line.old ++ cell style.now byte ∷ []) then [] else row_and_feed alignment line.old) }
+        ++ (if fits (line.old ++ cell style.now byte ∷ []) then [] else row_and_feed lines line.old) }
     ensures left { (byte : ℕ) → line.new ≡ (if fits (line.old ++ cell style.now byte ∷ []) then line.old else []) }
     ensures fits { (byte : ℕ) → IsTrue (fits (line.new ++ cell style.now byte ∷ [])) }
 {
     if line.room_for(style) == 0 {
-        end_line(items, line, alignment);
+        end_line(items, line, lines);
     }
 }
 
 // Puts a cell into the line; if it doesn't fit, ends the line before it.
-fn put_cell(items: &mut Vec<Item>, line: &mut PrintBuffer, alignment: Alignment, cell: Cell)
+fn put_cell(items: &mut Vec<Item>, line: &mut PrintBuffer, lines: LineStyle, cell: Cell)
     requires room { vec_len items.old + 2 ≤ vec_capacity items.old }
     requires visible { 1 ≤ cell.style.width }
     requires narrow { cell.style.width ≤ 8 }
     ensures printed { items.new.items ≡ items.old.items
-        ++ (if fits (line.old ++ cell ∷ []) then [] else row_and_feed alignment line.old) }
+        ++ (if fits (line.old ++ cell ∷ []) then [] else row_and_feed lines line.old) }
     ensures left { line.new ≡ with_cell line.old cell }
 {
     if !line.has_room_for(&cell) {
-        end_line(items, line, alignment);
+        end_line(items, line, lines);
     }
     line.push(cell);
 }
@@ -196,29 +226,19 @@ fn cut_item(cut: Cut) -> Item
     }
 }
 
-// The alignment after ESC a, which is ignored if the line has text.
-fn alignment_after(is_line_empty: bool, alignment: Alignment, align: Align) -> Alignment
-    ensures { result ≡ alignment_after is_line_empty alignment (kind.Align align) }
-{
-    if is_line_empty {
-        align.alignment()
-    } else {
-        alignment
-    }
-}
-
 // Prints the line as a row, if it has a cell.
 #[inline(never)]
-fn print_line(items: &mut Vec<Item>, line: &mut PrintBuffer, alignment: Alignment)
+fn print_line(items: &mut Vec<Item>, line: &mut PrintBuffer, lines: LineStyle)
     requires { vec_len items.old + 1 ≤ vec_capacity items.old }
-    ensures printed { items.new.items ≡ items.old.items ++ row_of alignment line.old }
+    ensures printed { items.new.items ≡ items.old.items ++ row_of lines line.old }
     ensures left { line.new ≡ [] }
     ensures room { vec_capacity items.new ≡ vec_capacity items.old }
     ensures more { vec_len items.new ≤ vec_len items.old + 1 }
 {
     if !line.is_empty() {
         items.push_reserved(Item::Row {
-            align: alignment,
+            align: lines.alignment,
+            upside_down: lines.upside_down,
             cells: line.take(),
         });
     }
@@ -226,15 +246,18 @@ fn print_line(items: &mut Vec<Item>, line: &mut PrintBuffer, alignment: Alignmen
 
 // The same; if the line has a cell, also feeds one line.
 #[inline(never)]
-fn end_line(items: &mut Vec<Item>, line: &mut PrintBuffer, alignment: Alignment)
+fn end_line(items: &mut Vec<Item>, line: &mut PrintBuffer, lines: LineStyle)
     requires { vec_len items.old + 2 ≤ vec_capacity items.old }
-    ensures printed { items.new.items ≡ items.old.items ++ row_and_feed alignment line.old }
+    ensures printed { items.new.items ≡ items.old.items ++ row_and_feed lines line.old }
     ensures left { line.new ≡ [] }
     ensures room { vec_capacity items.new ≡ vec_capacity items.old }
     ensures more { vec_len items.new ≤ vec_len items.old + 2 }
 {
     if !line.is_empty() {
-        print_line(items, line, alignment);
-        items.push_reserved(Item::Feed(1));
+        print_line(items, line, lines);
+        items.push_reserved(Item::Feed {
+            lines: 1,
+            spacing: lines.spacing,
+        });
     }
 }

@@ -1,14 +1,14 @@
-//! How characters and barcodes are printed. What each command does to the styles is left to `paper`, but for the two
+//! How characters, lines and barcodes are printed. What each command does to the styles is left to `paper`, but for the two
 //! commands that set more than one attribute.
 
 ghost use Rattle.std.specs.Prelude.{◌≡◌, ◌↔◌, ◌*◌, IsTrue};
 ghost use Rattle.escpos_command.specs.declared.command.Command.TheVariants as kind;
-ghost use Rattle.escpos_paper.specs.Styles.{power_on, power_on_bars, same_style};
+ghost use Rattle.escpos_paper.specs.Styles.{power_on, power_on_bars, power_on_lines, same_style};
 ghost use Rattle.escpos_paper.specs.Cells.{cell, face_dots};
-ghost use Rattle.escpos_paper.specs.Steps.{style_after};
+ghost use Rattle.escpos_paper.specs.Steps.{style_after, line_style_after};
 
 use crate::cell::{Cell, face_dots};
-use escpos_command::{FontFace, HriPosition, Mode, Size};
+use escpos_command::{Align, Alignment, FontFace, HriPosition, Mode, Size, Switch};
 
 /// How a character is printed.
 #[derive(Clone, Copy, Debug, PartialEq, Eq)]
@@ -23,10 +23,17 @@ pub struct Style {
     pub bold: bool,
     /// The thickness of the underline in dots, 0 to 2.
     pub underline: u8,
+    /// Whether each dot is struck twice.
+    pub strike: bool,
+    /// Whether characters are white on black.
+    pub reverse: bool,
+    /// The number of the international character set, 0 to 17.
+    pub character_set: u8,
 }
 
 impl Style {
-    /// The style of a printer just switched on: table 0, font A, size 1 by 1, no emphasis, no underline.
+    /// The style of a printer just switched on: table 0, font A, size 1 by 1, no emphasis, no underline, no
+    /// double strike, black on white, character set 0.
     pub fn power_on() -> Self
         ensures { result ≡ power_on }
     {
@@ -37,6 +44,9 @@ impl Style {
             height: 1,
             bold: false,
             underline: 0,
+            strike: false,
+            reverse: false,
+            character_set: 0,
         }
     }
 
@@ -66,19 +76,22 @@ impl Style {
             && self.height == other.height
             && self.bold == other.bold
             && self.underline == other.underline
+            && self.strike == other.strike
+            && self.reverse == other.reverse
+            && self.character_set == other.character_set
     }
 
-    // The style after ESC !, which sets all but the table.
+    // The style after ESC !, which sets font, size, emphasis and underline.
     pub(crate) fn in_mode(self, mode: Mode) -> Self
         ensures { result ≡ style_after self (kind.Mode mode) }
     {
         Style {
-            table: self.table,
             font: mode.face(),
             width: mode.width(),
             height: mode.height(),
             bold: mode.is_emphasised(),
             underline: mode.underline(),
+            ..self
         }
     }
 
@@ -90,6 +103,58 @@ impl Style {
             width: size.width(),
             height: size.height(),
             ..self
+        }
+    }
+}
+
+/// How a line is printed and fed.
+#[derive(Clone, Copy, Debug, PartialEq, Eq)]
+pub struct LineStyle {
+    /// Where it stands, and where a barcode or a raster does.
+    pub alignment: Alignment,
+    /// Whether it is printed upside down.
+    pub upside_down: bool,
+    /// How far the paper is fed for a line, in motion units; `None` for the default.
+    pub spacing: Option<u8>,
+}
+
+impl LineStyle {
+    /// The lines of a printer just switched on: left, upright, with the default spacing.
+    pub fn power_on() -> Self
+        ensures { result ≡ power_on_lines }
+    {
+        LineStyle {
+            alignment: Alignment::Left,
+            upside_down: false,
+            spacing: None,
+        }
+    }
+
+    // After ESC a, which is ignored if the line has text.
+    pub(crate) fn aligned(self, is_line_empty: bool, align: Align) -> Self
+        ensures { result ≡ line_style_after is_line_empty self (kind.Align align) }
+    {
+        if is_line_empty {
+            LineStyle {
+                alignment: align.alignment(),
+                ..self
+            }
+        } else {
+            self
+        }
+    }
+
+    // After ESC {, which is ignored if the line has text.
+    pub(crate) fn turned(self, is_line_empty: bool, upside_down: Switch) -> Self
+        ensures { result ≡ line_style_after is_line_empty self (kind.UpsideDown upside_down) }
+    {
+        if is_line_empty {
+            LineStyle {
+                upside_down: upside_down.is_on(),
+                ..self
+            }
+        } else {
+            self
         }
     }
 }

@@ -8,7 +8,7 @@ ghost use Rattle.hex.specs.Hex.{encode_lower};
 ghost use Rattle.escpos_io.specs.Giving.{IsGiven};
 ghost use Rattle.escpos_io.specs.Putting.{passage};
 ghost use Rattle.escpos_paper.specs.Styles.{power_on};
-ghost use Rattle.escpos_paper.specs.ItemsText.{byte_text, style_text, face_name, bold_text, cell_text, cells_text, align_name, symbology_name, place_name, scale_name, settings_text, content_text, cut_name, item_text};
+ghost use Rattle.escpos_paper.specs.ItemsText.{byte_text, style_text, face_name, flag_text, six_fields, has_six_fields, further_fields, cell_text, cells_text, align_name, symbology_name, place_name, scale_name, settings_text, content_text, cut_name, upside_text, spacing_text, item_text};
 ghost use Rattle.escpos_paper.specs.ItemParts.{front, dots_of};
 
 use crate::cell::{Cell, Cells};
@@ -23,7 +23,7 @@ use escpos_io::{
 use itoa::Buffer;
 
 /// The most bytes of a line that are appended to a gather at once: all but the dots of a raster. (A row has at most 56
-/// cells of at most 24 bytes, a barcode a content of at most 255 characters of at most 3 bytes.)
+/// cells of at most 32 bytes, a barcode a content of at most 255 characters of at most 3 bytes.)
 const LINE_BYTES: usize = 2048;
 
 const _: () = prove!(LINE_BYTES == 2048);
@@ -61,14 +61,20 @@ fn append_front(gather: &mut Gather, item: &Item)
     ensures short { length (front item.now) < LINE_BYTES }
 {
     match item {
-        Item::Row { align, cells } => {
+        Item::Row {
+            align,
+            upside_down,
+            cells,
+        } => {
             gather.extend(b"row ");
             append_word(gather, align_name(*align));
+            gather.extend(upside_text(*upside_down));
             append_cells(gather, cells);
         }
-        Item::Feed(lines) => {
+        Item::Feed { lines, spacing } => {
             gather.extend(b"feed ");
             append_small_number(gather, *lines);
+            append_spacing(gather, *spacing);
         }
         Item::FeedUnits(units) => {
             gather.extend(b"units ");
@@ -238,12 +244,32 @@ fn cut_name(partial: bool) -> &'static [u8]
     if partial { b"partial" } else { b"full" }
 }
 
+fn upside_text(upside_down: bool) -> &'static [u8]
+    ensures text { result.now ≡ upside_text upside_down }
+    ensures short { length result.now ≤ 7 }
+{
+    if upside_down { b"upside " } else { b"" }
+}
+
+// Appends the spacing of a feed, if it isn't the default.
+fn append_spacing(gather: &mut Gather, spacing: Option<u8>)
+    requires { length gather.old.kept + 12 ≤ GATHERED_BYTES }
+    ensures kept { gather.new.kept ≡ gather.old.kept ++ spacing_text spacing }
+    ensures same_count { gather.new.written ≡ gather.old.written }
+    ensures short { length (spacing_text spacing) ≤ 12 }
+{
+    if let Some(units) = spacing {
+        gather.extend(b" spacing ");
+        append_small_number(gather, units);
+    }
+}
+
 // Appends the cells of a row.
 fn append_cells(gather: &mut Gather, cells: &Cells)
-    requires { length gather.old.kept + 1344 ≤ GATHERED_BYTES }
+    requires { length gather.old.kept + 1792 ≤ GATHERED_BYTES }
     ensures kept { gather.new.kept ≡ gather.old.kept ++ cells_text power_on cells.now }
     ensures same_count { gather.new.written ≡ gather.old.written }
-    ensures short { length (cells_text power_on cells.now) ≤ 1344 }
+    ensures short { length (cells_text power_on cells.now) ≤ 1792 }
 {
     let row = cells.as_slice();
     let mut before = Style::power_on();
@@ -256,10 +282,10 @@ fn append_cells(gather: &mut Gather, cells: &Cells)
 // Appends a cell that follows one of the style `before`.
 #[inline]
 fn append_cell(gather: &mut Gather, before: &Style, cell: &Cell)
-    requires { length gather.old.kept + 24 ≤ GATHERED_BYTES }
+    requires { length gather.old.kept + 32 ≤ GATHERED_BYTES }
     ensures kept { gather.new.kept ≡ gather.old.kept ++ cell_text before.now cell.now }
     ensures same_count { gather.new.written ≡ gather.old.written }
-    ensures short { length (cell_text before.now cell.now) ≤ 24 }
+    ensures short { length (cell_text before.now cell.now) ≤ 32 }
 {
     if !before.is_same(&cell.style) {
         append_style(gather, &cell.style);
@@ -269,20 +295,54 @@ fn append_cell(gather: &mut Gather, before: &Style, cell: &Cell)
 
 #[inline(never)]
 fn append_style(gather: &mut Gather, style: &Style)
-    requires { length gather.old.kept + 21 ≤ GATHERED_BYTES }
+    requires { length gather.old.kept + 29 ≤ GATHERED_BYTES }
     ensures kept { gather.new.kept ≡ gather.old.kept ++ style_text style.now }
     ensures same_count { gather.new.written ≡ gather.old.written }
-    ensures short { length (style_text style.now) ≤ 21 }
+    ensures short { length (style_text style.now) ≤ 29 }
 {
     gather.push(b'[');
+    append_six_fields(gather, style);
+    append_further_fields(gather, style);
+    gather.push(b']');
+}
+
+fn append_six_fields(gather: &mut Gather, style: &Style)
+    requires { length gather.old.kept + 19 ≤ GATHERED_BYTES }
+    ensures kept { gather.new.kept ≡ gather.old.kept ++ six_fields style.now }
+    ensures same_count { gather.new.written ≡ gather.old.written }
+    ensures short { length (six_fields style.now) ≤ 19 }
+{
     gather.extend(face_name(style.font));
     append_attribute(gather, style.width);
     append_attribute(gather, style.height);
     gather.push(b',');
-    gather.extend(bold_text(style.bold));
+    gather.extend(flag_text(style.bold));
     append_attribute(gather, style.underline);
     append_attribute(gather, style.table);
-    gather.push(b']');
+}
+
+// Appends the fields for strike, reverse and character set, unless these are as at power on.
+fn append_further_fields(gather: &mut Gather, style: &Style)
+    requires { length gather.old.kept + 8 ≤ GATHERED_BYTES }
+    ensures kept { gather.new.kept ≡ gather.old.kept ++ further_fields style.now }
+    ensures same_count { gather.new.written ≡ gather.old.written }
+    ensures short { length (further_fields style.now) ≤ 8 }
+{
+    if has_six_fields(style) {
+        return;
+    }
+    gather.push(b',');
+    gather.extend(flag_text(style.strike));
+    gather.push(b',');
+    gather.extend(flag_text(style.reverse));
+    append_attribute(gather, style.character_set);
+}
+
+// Whether strike, reverse and character set are as at power on.
+fn has_six_fields(style: &Style) -> bool
+    ensures { result ≡ has_six_fields style.now }
+{
+    !style.strike && !style.reverse && style.character_set == 0
 }
 
 fn face_name(face: FontFace) -> &'static [u8]
@@ -295,11 +355,12 @@ fn face_name(face: FontFace) -> &'static [u8]
     }
 }
 
-fn bold_text(bold: bool) -> &'static [u8]
-    ensures text { result.now ≡ bold_text bold }
+// 1 or 0.
+fn flag_text(flag: bool) -> &'static [u8]
+    ensures text { result.now ≡ flag_text flag }
     ensures short { length result.now ≡ 1 }
 {
-    if bold { b"1" } else { b"0" }
+    if flag { b"1" } else { b"0" }
 }
 
 // Appends a comma and a number.

@@ -1,0 +1,125 @@
+-- Commands of the second profile print items of the second profile.
+use Rattle.std.proofs.Common.{◌≡◌, ℕ, List, [], ◌∷◌, ◌++◌, length, sym, ◌∙◌, ap, subst, refl, Bool, true, false, cond, IsTrue}
+use Rattle.std.specs.Prelude.{nat_lt, None}
+use Rattle.std.specs.List.{AllByRecursion}
+use Rattle.escpos_command.specs.declared.command.Command.{Command}
+use Rattle.escpos_command.specs.declared.command.Command.TheVariants as kind
+use Rattle.escpos_command.specs.SecondProfile.{in_second_profile}
+use Rattle.escpos_paper.specs.declared.cell.Cell.{Cell}
+use Rattle.escpos_paper.specs.declared.item.Item.{Item}
+use Rattle.escpos_paper.specs.declared.style.LineStyle.{LineStyle}
+use Rattle.escpos_paper.specs.declared.style.Style.{Style}
+use Rattle.escpos_paper.specs.Cells.{cell}
+use Rattle.escpos_paper.specs.ItemsText.{has_six_fields}
+use Rattle.escpos_paper.specs.OverPlaces.{over_places}
+use Rattle.escpos_paper.specs.Printed.{printed, prints, row_and_feed, row_of}
+use Rattle.escpos_paper.specs.Rows.{fits, line, rows}
+use Rattle.escpos_paper.specs.SecondPaper.{IsSecondCell, IsSecondItem}
+use Rattle.escpos_paper.specs.Steps.{line_after, line_style_after, style_after, with_cell}
+use Rattle.escpos_paper.specs.Styles.{is_empty, line_style, style}
+use Rattle.escpos_paper.proofs.OneMore.{style-snoc}
+use Rattle.escpos_paper.proofs.Sheets.{line-snoc, line_style_step}
+
+abbrev AreSecond : List Item → Type 0
+AreSecond items = AllByRecursion IsSecondItem items
+
+abbrev AreCells : List Cell → Type 0
+AreCells cells = AllByRecursion IsSecondCell cells
+
+-- ## What the commands so far leave
+
+record IsPlain (lines : LineStyle) : Type 0 where
+  upright : lines.upside_down ≡ false
+  default : lines.spacing ≡ None
+
+record IsSecond (cs : List Command) : Type 0 where
+  six : IsTrue (has_six_fields (style cs))
+  cells : AreCells (line cs)
+  plain : IsPlain (line_style cs)
+
+style_stays : (s : Style) (c : Command) → IsTrue (in_second_profile c) → IsTrue (has_six_fields s) → IsTrue (has_six_fields (style_after s c))
+style_stays s (kind.DoubleStrike n) k h = absurd cc
+style_stays s (kind.CharacterSet n) k h = absurd cc
+style_stays s (kind.Reverse n) k h = absurd cc
+style_stays s (kind.Smoothing n) k h = absurd cc
+style_stays s (kind.UpsideDown n) k h = absurd cc
+style_stays s (kind.LineSpacing n) k h = absurd cc
+style_stays s kind.DefaultSpacing k h = absurd cc
+style_stays s kind.Init k h = refl
+style_stays s c k h = h
+
+and_one : (row : List Cell) (x : Cell) → AreCells row → IsSecondCell x → AreCells (row ++ x ∷ [])
+and_one [] x h k = (k, tt)
+and_one (y ∷ row) x h k = (h.0, and_one row x h.1 k)
+
+with_one : (row : List Cell) (x : Cell) (there : Bool) → AreCells row → IsSecondCell x → AreCells (cond there (row ++ x ∷ []) (x ∷ []))
+with_one row x true h k = and_one row x h k
+with_one row x false h k = (k, tt)
+
+line_stays : (s : Style) (row : List Cell) (c : Command) → IsTrue (has_six_fields s) → AreCells row → AreCells (line_after s row c)
+line_stays s row (kind.Char b) h k = with_one row (cell s b) (fits (row ++ cell s b ∷ [])) k h
+line_stays s row kind.LineFeed h k = tt
+line_stays s row (kind.FeedLines n) h k = tt
+line_stays s row (kind.FeedUnits n) h k = tt
+line_stays s row kind.Init h k = tt
+line_stays s row (kind.Bars bars) h k = tt
+line_stays s row (kind.Raster raster) h k = tt
+line_stays s row (kind.Cut how) h k = tt
+line_stays s row c h k = k
+
+lines_stay : (is_line_empty : Bool) (lines : LineStyle) (c : Command) → IsTrue (in_second_profile c) → IsPlain lines → IsPlain (line_style_after is_line_empty lines c)
+lines_stay e lines (kind.DoubleStrike n) k h = absurd cc
+lines_stay e lines (kind.CharacterSet n) k h = absurd cc
+lines_stay e lines (kind.Reverse n) k h = absurd cc
+lines_stay e lines (kind.Smoothing n) k h = absurd cc
+lines_stay e lines (kind.UpsideDown n) k h = absurd cc
+lines_stay e lines (kind.LineSpacing n) k h = absurd cc
+lines_stay e lines kind.DefaultSpacing k h = absurd cc
+lines_stay true lines kind.Init k h = record { upright = refl; default = refl }
+lines_stay false lines kind.Init k h = record { upright = refl; default = refl }
+lines_stay true lines c k h = record { upright = h.upright; default = h.default }
+lines_stay false lines c k h = record { upright = h.upright; default = h.default }
+
+one_further : (cs : List Command) (c : Command) → IsTrue (in_second_profile c) → IsSecond cs → IsSecond (cs ++ c ∷ [])
+one_further cs c k h = record {
+  six = subst (λ s. IsTrue (has_six_fields s)) (sym (style-snoc cs c)) (style_stays (style cs) c k h.six);
+  cells = subst AreCells (sym (line-snoc cs c)) (line_stays (style cs) (line cs) c h.six h.cells);
+  plain = subst IsPlain (sym (line_style_step cs c)) (lines_stay (is_empty (line cs)) (line_style cs) c k h.plain);
+}
+
+-- ## What each prints
+
+both : (some others : List Item) → AreSecond some → AreSecond others → AreSecond (some ++ others)
+both [] others h k = k
+both (x ∷ some) others h k = (h.0, both some others h.1 k)
+
+row_is : (lines : LineStyle) (xs : List Cell) → IsPlain lines → AreCells xs → AreSecond (row_of lines xs)
+row_is lines [] p h = tt
+row_is lines (x ∷ xs) p h = ((p.upright, h), tt)
+
+row_with_feed : (lines : LineStyle) (xs : List Cell) → IsPlain lines → AreCells xs → AreSecond (row_and_feed lines xs)
+row_with_feed lines [] p h = tt
+row_with_feed lines (x ∷ xs) p h = ((p.upright, h), (p.default, tt))
+
+chosen : (b : Bool) (items : List Item) → AreSecond items → AreSecond (cond b items [])
+chosen true items h = h
+chosen false items h = tt
+
+prints_second : (before : List Command) (c : Command) → IsTrue (in_second_profile c) → IsSecond before → AreSecond (prints before c)
+prints_second before (kind.Char b) h s =
+    chosen (nat_lt (length (rows before)) (length (rows (before ++ kind.Char b ∷ [])))) (row_and_feed (line_style before) (line before))
+    (row_with_feed (line_style before) (line before) s.plain s.cells)
+prints_second before kind.LineFeed h s = both (row_of (line_style before) (line before)) _ (row_is (line_style before) (line before) s.plain s.cells) (s.plain.default, tt)
+prints_second before (kind.FeedLines n) h s = both (row_of (line_style before) (line before)) _ (row_is (line_style before) (line before) s.plain s.cells) (s.plain.default, tt)
+prints_second before (kind.FeedUnits n) h s = both (row_of (line_style before) (line before)) _ (row_is (line_style before) (line before) s.plain s.cells) (tt, tt)
+prints_second before (kind.Bars bars) h s = both (row_and_feed (line_style before) (line before)) _ (row_with_feed (line_style before) (line before) s.plain s.cells) (tt, tt)
+prints_second before (kind.Raster raster) h s = both (row_and_feed (line_style before) (line before)) _ (row_with_feed (line_style before) (line before) s.plain s.cells) (tt, tt)
+prints_second before (kind.Cut cut) h s = both (row_and_feed (line_style before) (line before)) _ (row_with_feed (line_style before) (line before) s.plain s.cells) (tt, tt)
+prints_second before c h s = tt
+
+after : (before cs : List Command) → AllByRecursion (λ c. IsTrue (in_second_profile c)) cs → IsSecond before → AreSecond (over_places (λ b c following. prints b c) before cs)
+after before [] h s = tt
+after before (c ∷ cs) h s = both (prints before c) _ (prints_second before c h.0 s) (after (before ++ c ∷ []) cs h.1 (one_further before c h.0 s))
+
+pub second_items : (cs : List Command) → AllByRecursion (λ c. IsTrue (in_second_profile c)) cs → AllByRecursion IsSecondItem (printed cs)
+second_items cs h = after [] cs h (record { six = refl; cells = tt; plain = record { upright = refl; default = refl } })
