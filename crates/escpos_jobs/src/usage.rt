@@ -49,6 +49,10 @@ line `memory` says that the program ran out of memory.
       or `fault K NUMBER NAME`, where the byte at place K is refused. A barcode
       with a wrong check digit is followed by a line `note`.
 
+      Taken are characters, LF, CR, DLE EOT, ESC with ! - 2 3 @ E G J M R a d p
+      t or {, GS with ! B H V b f h k or w, GS ( H, function 48, and GS v 0. Any
+      other command is refused.
+
           $ escpos_cli check --raw < capture.bin
           $ echo '1B 40 48 69 0A 1D 56 00' | escpos_cli check
           0 init
@@ -74,7 +78,11 @@ line `memory` says that the program ran out of memory.
       A style is [F,W,H,B,U,T]: font A or B, width, height, emphasis 1 or 0,
       underline 0 to 2, code table. It stands before a character whose style
       differs from that of the one before it, or, for the first of a row, from
-      the style at power-on, [A,1,1,0,0,0].
+      the style at power-on, [A,1,1,0,0,0]. With double strike, white on black
+      or a character set other than 0 it is [F,W,H,B,U,T,S,R,C]: 1 or 0 for each
+      of the first two, and the number of the set. A row that is upside down is
+      `row ALIGN upside CELLS`, and a feed with a line spacing of M motion units
+      is `feed N spacing M`.
 
       A barcode is `bars ALIGN SYMBOLOGY HEIGHT MODULE PLACE FONT CONTENT`: its
       height and module width in dots, where its text stands and in which font,
@@ -111,16 +119,22 @@ line `memory` says that the program ran out of memory.
           {\"line\":\"Total\"}           the same, and a line feed
           {\"feed\":3}                 a feed of 0 to 255 lines
           {\"units\":40}               a feed of 0 to 255 motion units
+          {\"spacing\":40}             a line spacing of 0 to 255 motion units, or
+                                     \"default\"
           {\"pulse\":{\"pin\":0,\"on\":25,\"off\":250}}
                                      a pulse at pin 0 or 1, 0 to 255 units of
                                      2 ms on and off
           {\"mode\":8}                 font, emphasis, height, width and underline
                                      at once, 0 to 255 (ESC !)
           {\"bold\":true}              emphasis, true or false
+          {\"strike\":true}            double strike, true or false
+          {\"reverse\":true}           white on black, true or false
           {\"underline\":1}            underline of 0 to 2 dots
           {\"font\":\"B\"}               font, \"A\" or \"B\"
           {\"table\":16}               code table, 0 to 255
+          {\"charset\":2}              international character set, 0 to 17
           {\"align\":\"center\"}         \"left\", \"center\" or \"right\"
+          {\"upside\":true}            lines upside down, true or false
           {\"size\":[2,1]}             width and height of characters, 1 to 8 each
           {\"bar_height\":80}          height of barcodes, 1 to 255 dots
           {\"bar_width\":2}            module width of barcodes, 2 to 6 dots
