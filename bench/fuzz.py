@@ -7,20 +7,26 @@ import json, math, re
 MARKS = 36**4
 
 # Commands of one spelling; and those of fixed bytes with one parameter byte, with what that may be.
-PLAIN = {"lf": b"\n", "cr": b"\r", "init": b"\x1b@"}
+PLAIN = {"lf": b"\n", "cr": b"\r", "init": b"\x1b@", "spacing default": b"\x1b2"}
 WITH_BYTE = {
     "char": (b"", range(32, 256)),
     "mode": (b"\x1b!", range(256)),
     "underline": (b"\x1b-", (0, 1, 2, 48, 49, 50)),
+    "spacing": (b"\x1b3", range(256)),
     "emphasis": (b"\x1bE", range(256)),
+    "strike": (b"\x1bG", range(256)),
     "font": (b"\x1bM", (0, 1, 48, 49)),
+    "charset": (b"\x1bR", range(18)),
     "align": (b"\x1ba", (0, 1, 2, 48, 49, 50)),
     "units": (b"\x1bJ", range(256)),
     "feed": (b"\x1bd", range(256)),
     "table": (b"\x1bt", range(256)),
+    "upside": (b"\x1b{", range(256)),
     "size": (b"\x1d!", [n for n in range(256) if not n & 0x88]),
+    "reverse": (b"\x1dB", range(256)),
     "hriplace": (b"\x1dH", (0, 1, 2, 3, 48, 49, 50, 51)),
     "cut": (b"\x1dV", (0, 1, 48, 49)),
+    "smooth": (b"\x1db", range(256)),
     "hrifont": (b"\x1df", (0, 1, 48, 49)),
     "barheight": (b"\x1dh", range(1, 256)),
     "barwidth": (b"\x1dw", range(2, 7)),
@@ -106,8 +112,9 @@ def respelled(line, stream):
     """Returns the bytes of the command that a line of a listing shows; the dots of a raster are those of the stream."""
     place, name, values = (line + " ").split(" ", 2)
     values = values[:-1]
-    if name in PLAIN:
-        return PLAIN[name]
+    words = line.split(" ", 1)[1]
+    if words in PLAIN:
+        return PLAIN[words]
     if name == "mark":
         return WITH_BYTES[name] + values.encode("latin-1")
     if name == "bars":
@@ -178,9 +185,9 @@ def note_of(line):
 
 
 def width_of(cells):
-    """Returns how many dots wide the cells of a row are."""
+    """Returns how many dots wide the cells of a row are, from what stands after its alignment."""
     dots, width = 0, 12
-    for style, _ in re.findall(r"\[(.*?)\]|(\\..|.)", cells):
+    for style, _ in re.findall(r"\[(.*?)\]|(\\..|.)", cells.removeprefix("upside ")):
         if style:
             font, times = style.split(",")[:2]
             width = (12 if font == "A" else 9) * int(times)
@@ -192,7 +199,15 @@ def width_of(cells):
 # Receipts
 
 FEEDS = {"feed": b"\x1bd", "units": b"\x1bJ"}
-WITH_NUMBER = {"mode": (b"\x1b!", 0, 255), "table": (b"\x1bt", 0, 255), "underline": (b"\x1b-", 0, 2), "bar_height": (b"\x1dh", 1, 255), "bar_width": (b"\x1dw", 2, 6)}
+SWITCHES = {"bold": b"\x1bE", "strike": b"\x1bG", "reverse": b"\x1dB", "upside": b"\x1b{"}
+WITH_NUMBER = {
+    "mode": (b"\x1b!", 0, 255),
+    "table": (b"\x1bt", 0, 255),
+    "charset": (b"\x1bR", 0, 17),
+    "underline": (b"\x1b-", 0, 2),
+    "bar_height": (b"\x1dh", 1, 255),
+    "bar_width": (b"\x1dw", 2, 6),
+}
 WITH_WORD = {
     "font": (b"\x1bM", "A B"),
     "align": (b"\x1ba", "left center right"),
@@ -244,8 +259,10 @@ def entry_commands(entry):
     if name in WITH_WORD:
         front, words = WITH_WORD[name]
         return [("block" if name == "cut" else "other", front + bytes([word_in(value, words)]))]
-    if name == "bold" and type(value) is bool:
-        return [("other", b"\x1bE" + bytes([value]))]
+    if name in SWITCHES and type(value) is bool:
+        return [("other", SWITCHES[name] + bytes([value]))]
+    if name == "spacing":
+        return [("other", b"\x1b2" if value == "default" else b"\x1b3" + bytes([number_in(value, 0, 255)]))]
     if name == "size" and type(value) is list and len(value) == 2:
         return [("other", b"\x1d!" + bytes([16 * number_in(value[0], 1, 8) + number_in(value[1], 1, 8) - 17]))]
     if name == "pulse":
@@ -308,6 +325,10 @@ def some_entry(pick, name):
         return pick.randint(*WITH_NUMBER[name][1:])
     if name in WITH_WORD:
         return word(WITH_WORD[name][1])
+    if name in SWITCHES:
+        return byte > 99
+    if name == "spacing":
+        return pick.choice((byte, byte, "default"))
     if name == "bars":
         kind = pick.choice(list(KINDS))
         return {"kind": kind, "content": some_content(pick, KINDS[kind]).decode()}
@@ -316,12 +337,12 @@ def some_entry(pick, name):
         return {"scale": word(SCALE_WORDS), "x": x, "y": y, "dots": pick.choice((pick.randbytes(x * y), mark(byte) * x * y))[: x * y].hex()}
     size = [pick.randint(1, 8), pick.randint(1, 8)]
     pulse = {"pin": pick.randrange(2), "on": byte, "off": pick.randrange(256)}
-    return {"feed": byte, "units": byte, "bold": byte > 99, "size": size, "pulse": pulse, "feed_cut": {"kind": word("full partial"), "feed": byte}}[name]
+    return {"feed": byte, "units": byte, "size": size, "pulse": pulse, "feed_cut": {"kind": word("full partial"), "feed": byte}}[name]
 
 
 def some_receipt(pick):
     """Returns a receipt, as a value; some aren't one, because of a character or of text that is left in the line."""
-    names = ("line",) * 5 + ("text", *FEEDS, *WITH_NUMBER, *WITH_WORD, "bold", "size", "pulse", "bars", "raster", "feed_cut")
+    names = ("line",) * 5 + ("text", *FEEDS, *WITH_NUMBER, *WITH_WORD, *SWITCHES, "spacing", "size", "pulse", "bars", "raster", "feed_cut")
     entries = []
     for name in pick.choices(names, k=pick.choice((1, 2, 4, 12))):
         if name == "line" and pick.randrange(3) == 0:
