@@ -6,7 +6,10 @@
 use crate::support::commands::{FIVE, MARK_35, append, five_commands_of};
 use crate::support::comparison::agrees;
 use crate::support::decoders::{BAD, decodes, holds, push_half, reads, refuses_last, steps_to};
-use escpos_command::{Align, Character, Command, Cut, FaultReason, FeedUnits, MarkId, Pulse, Size};
+use escpos_command::{
+    Align, Character, CharacterSet, Command, Cut, FaultReason, FeedUnits, LineSpacing, MarkId,
+    Pulse, Size, Switch,
+};
 use escpos_decode::{DecodeFault, Decoder, End, Step};
 use std::alloc::Global;
 use std::process::Abort;
@@ -88,6 +91,32 @@ fn unknown_bytes(rt: HostRuntime) {
     agrees(&rt, rt.alloc(), &[0x1B, 0x40, 0x1B, 0x24]);
 }
 
+// Letters after ESC and GS that the command table doesn't have.
+#[test]
+fn letters_of_no_command(rt: HostRuntime) {
+    let why = FaultReason::UnknownCommand;
+    for bytes in [
+        [0x1B, 0x20],
+        [0x1B, 0x56],
+        [0x1D, 0x4C],
+        [0x1D, 0x57],
+        [0x1D, 0x7C],
+    ] {
+        refuses_last(&rt, rt.alloc(), &bytes, why);
+    }
+}
+
+#[test]
+fn character_set_range(rt: HostRuntime) {
+    let why = BAD;
+    refuses_last(&rt, rt.alloc(), &[0x1B, 0x52, 0x12], why);
+    let end = End::Fault { at: 2, why };
+    decodes(&rt, rt.alloc(), &[&[0x1B, 0x52, 0x12]], &[], end);
+    let set = CharacterSet::new(0x11).expect(&rt, "set");
+    let bytes = [0x1B, 0x52, 0x11];
+    reads(&rt, rt.alloc(), &bytes, &Command::CharacterSet(set));
+}
+
 #[test]
 fn size_bits(rt: HostRuntime) {
     refuses_last(&rt, rt.alloc(), &[0x1D, 0x21, 0x08], BAD);
@@ -135,6 +164,43 @@ fn units_and_pulse(rt: HostRuntime) {
         Command::Char(a),
         Command::FeedUnits(units),
         Command::Pulse(pulse),
+    ];
+    let end = End::Read { half: 0 };
+    decodes(&rt, rt.alloc(), &[&bytes], &commands, end);
+    agrees(&rt, rt.alloc(), &bytes);
+}
+
+// A switch keeps its byte as sent, though only bit 0 counts.
+#[test]
+fn switches(rt: HostRuntime) {
+    let bytes = [
+        0x1B, 0x47, 0x03, 0x1D, 0x42, 0x01, 0x1B, 0x7B, 0x30, 0x1D, 0x62, 0xFF,
+    ];
+    let strike = Switch::new(0x03).expect(&rt, "switch");
+    let reverse = Switch::new(0x01).expect(&rt, "switch");
+    let upside_down = Switch::new(0x30).expect(&rt, "switch");
+    let smoothing = Switch::new(0xFF).expect(&rt, "switch");
+    let commands = [
+        Command::DoubleStrike(strike),
+        Command::Reverse(reverse),
+        Command::UpsideDown(upside_down),
+        Command::Smoothing(smoothing),
+    ];
+    let end = End::Read { half: 0 };
+    decodes(&rt, rt.alloc(), &[&bytes], &commands, end);
+    agrees(&rt, rt.alloc(), &bytes);
+}
+
+// ESC 2 is whole without a parameter: the byte after it begins a command.
+#[test]
+fn line_spacing(rt: HostRuntime) {
+    let bytes = [0x1B, 0x33, 0x18, 0x1B, 0x32, 0x41];
+    let spacing = LineSpacing::new(0x18).expect(&rt, "spacing");
+    let a = Character::new(0x41).expect(&rt, "A");
+    let commands = [
+        Command::LineSpacing(spacing),
+        Command::DefaultSpacing,
+        Command::Char(a),
     ];
     let end = End::Read { half: 0 };
     decodes(&rt, rt.alloc(), &[&bytes], &commands, end);

@@ -100,25 +100,32 @@ pub fn reads(rt: &impl Abort, alloc: Global, bytes: &[u8], wanted: &Command) {
 }
 
 // A spelling of each row of the command table, with a barcode of each symbology in each form.
-const SPELLINGS: [&[u8]; 37] = [
+const SPELLINGS: [&[u8]; 44] = [
     b"A",
     b"\x0A",
     b"\x0D",
     b"\x1B@",
     b"\x1B!\x00",
     b"\x1B-\x01",
+    b"\x1B2",
+    b"\x1B3\x1E",
     b"\x1BE\x01",
+    b"\x1BG\x01",
     b"\x1BM\x01",
+    b"\x1BR\x11",
     b"\x1Ba\x02",
     b"\x1BJ\x00",
     b"\x1Bd\x00",
     b"\x1Bp\x31\x19\xFA",
     b"\x1Bt\x00",
+    b"\x1B{\x01",
     b"\x1D!\x11",
     b"\x1D(H\x06\x0000ABCD",
+    b"\x1DB\x01",
     b"\x1DH\x02",
     b"\x1DV\x01",
     b"\x1DV\x42\x00",
+    b"\x1Db\x01",
     b"\x1Df\x30",
     b"\x1Dh\x01",
     b"\x1Dk\x00036000291452\x00",

@@ -4,9 +4,10 @@
 //! decoder. The tests compare the two.
 
 use escpos_command::{
-    Align, BarHeight, BarWidth, Bars, CR, Character, Command, Cut, DLE, EOT, ESC, Emphasis,
-    FaultReason, FeedLines, FeedUnits, Font, Form, GS, HriFont, HriPlace, LF, MarkId, Mode, Pulse,
-    Raster, Size, StatusKind, Symbology, Table, Underline,
+    Align, BarHeight, BarWidth, Bars, CR, Character, CharacterSet, Command, Cut, DLE, EOT, ESC,
+    Emphasis, FaultReason, FeedLines, FeedUnits, Font, Form, GS, HriFont, HriPlace, LF,
+    LineSpacing, MarkId, Mode, Pulse, Raster, Size, StatusKind, Switch, Symbology, Table,
+    Underline,
 };
 use std::alloc::Global;
 use std::process::Abort;
@@ -58,8 +59,15 @@ fn spelled_by_escape(rt: &impl Abort, rest: &[u8]) -> Option<Command> {
             rt,
             "a parameter",
         )),
+        b"2" => Command::DefaultSpacing,
+        [b'3', n] => Command::LineSpacing(LineSpacing::new(*n).expect(rt, "a parameter")),
         [b'E', n] => Command::Emphasis(Emphasis::new(*n).expect(rt, "a parameter")),
+        [b'G', n] => Command::DoubleStrike(Switch::new(*n).expect(rt, "a parameter")),
         [b'M', n @ (0 | 1 | 48 | 49)] => Command::Font(Font::new(*n).expect(rt, "a parameter")),
+        [b'R', n @ 0..=17] => Command::CharacterSet(CharacterSet::new(*n).expect(
+            rt,
+            "a parameter",
+        )),
         [b'a', n @ (0..=2 | 48..=50)] => Command::Align(Align::new(*n).expect(rt, "a parameter")),
         [b'J', n] => Command::FeedUnits(FeedUnits::new(*n).expect(rt, "a parameter")),
         [b'd', n] => Command::FeedLines(FeedLines::new(*n).expect(rt, "a parameter")),
@@ -68,6 +76,7 @@ fn spelled_by_escape(rt: &impl Abort, rest: &[u8]) -> Option<Command> {
             "a parameter",
         )),
         [b't', n] => Command::Table(Table::new(*n).expect(rt, "a parameter")),
+        [b'{', n] => Command::UpsideDown(Switch::new(*n).expect(rt, "a parameter")),
         _ => return None,
     })
 }
@@ -80,12 +89,14 @@ fn spelled_by_group(rt: &impl Abort, rest: &[u8]) -> Option<Command> {
             "a parameter",
         )),
         [b'(', rest @ ..] => return mark_spelled(rt, rest),
+        [b'B', n] => Command::Reverse(Switch::new(*n).expect(rt, "a parameter")),
         [b'H', n @ (0..=3 | 48..=51)] => Command::HriPlace(HriPlace::new(*n).expect(
             rt,
             "a parameter",
         )),
         [b'V', m @ (0 | 1 | 48 | 49)] => Command::Cut(Cut::new(*m).expect(rt, "a parameter")),
         [b'V', m @ (65 | 66), n] => Command::Cut(Cut::with_feed(*m, *n).expect(rt, "a parameter")),
+        [b'b', n] => Command::Smoothing(Switch::new(*n).expect(rt, "a parameter")),
         [b'f', n @ (0 | 1 | 48 | 49)] => Command::HriFont(HriFont::new(*n).expect(
             rt,
             "a parameter",
@@ -126,7 +137,8 @@ fn begins_spelling(bytes: &[u8]) -> bool {
 fn begins_after_escape(rest: &[u8]) -> bool {
     match rest {
         [] => true,
-        [b'!' | b'-' | b'E' | b'M' | b'a' | b'J' | b'd' | b'p' | b't'] => true,
+        [b'!' | b'-' | b'3' | b'E' | b'G' | b'M' | b'R'] => true,
+        [b'a' | b'J' | b'd' | b'p' | b't' | b'{'] => true,
         [b'p', 0 | 1 | 48 | 49] => true,
         [b'p', 0 | 1 | 48 | 49, _] => true,
         _ => false,
@@ -137,7 +149,7 @@ fn begins_after_escape(rest: &[u8]) -> bool {
 fn begins_after_group(rest: &[u8]) -> bool {
     match rest {
         [] => true,
-        [b'!' | b'(' | b'H' | b'V' | b'f' | b'h' | b'k' | b'v' | b'w'] => true,
+        [b'!' | b'(' | b'B' | b'H' | b'V' | b'b' | b'f' | b'h' | b'k' | b'v' | b'w'] => true,
         [b'(', b'H'] => true,
         [b'(', b'H', 6] => true,
         [b'(', b'H', 6, 0] => true,
