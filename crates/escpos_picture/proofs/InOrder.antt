@@ -1,8 +1,9 @@
 -- Places down the paper are sums of what the items before them take.
-use Rattle.std.proofs.Common.{◌≡◌, ℕ, ◌+◌, ◌*◌, ◌^◌, ◌<◌, ◌≤◌, List, [], ◌∷◌, ◌++◌, length, sym, ◌∙◌, ap, arith, None, Some}
-use Rattle.std.specs.Prelude.{min}
+use Rattle.std.proofs.Common.{◌≡◌, ℕ, zero, suc, ◌+◌, ◌-◌, ◌*◌, ◌^◌, ◌<◌, ◌≤◌, List, [], ◌∷◌, ◌++◌, length, refl, sym, ◌∙◌, ap, arith, None, Some, false, cond}
+use Rattle.std.specs.Prelude.{◌==◌, min}
 use Rattle.std.specs.List.{AllByRecursion}
 use Rattle.std.proofs.lemmas.Bool.Decides.{nat_tests}
+use Rattle.std.proofs.Math.Nat.{mul-le-mul}
 use Rattle.escpos_command.specs.declared.parameter.choices.FontFace.{FontFace}
 use Rattle.escpos_command.specs.declared.parameter.choices.FontFace.TheVariants.{A, B}
 use Rattle.escpos_command.specs.declared.parameter.choices.HriPosition.{HriPosition}
@@ -13,7 +14,7 @@ use Rattle.escpos_paper.specs.declared.cell.Cell.{Cell}
 use Rattle.escpos_paper.specs.declared.item.Item.{Item}
 use Rattle.escpos_paper.specs.declared.item.Item.TheVariants.{Row, Feed, FeedUnits, Bars, Raster, Cut}
 use Rattle.escpos_picture.specs.declared.pen.TheConstants.{DEEPEST, MARGIN}
-use Rattle.escpos_picture.specs.Places.{top, place_after, place_after_all, depth, row_above, face_height, cell_height, tallest, text_lines, downwards, feed_dots}
+use Rattle.escpos_picture.specs.Places.{top, place_after, place_after_all, depth, row_above, face_height, cell_height, tallest, text_lines, downwards, line_depth, feed_depth}
 use Rattle.escpos_picture.specs.Depths.{depths, row_above_next, HasSizes}
 use Rattle.escpos_picture.specs.Document.{paper_height}
 use Rattle.escpos_picture.specs.Groups.{drawing, drawing_at, drawings}
@@ -88,12 +89,24 @@ rows_small scale.Wide y small = omega arith
 rows_small scale.Tall y small = omega arith
 rows_small scale.Both y small = omega arith
 
-feed_small : (above n : ℕ) → n < 256 → feed_dots above n ≤ 7650
-feed_small above n small = grind (arith, nat_tests)
+lines_small : (line n : ℕ) → line ≤ 510 → n ≤ 254 → line * n ≤ 129540
+lines_small line n shallow few = let most = mul-le-mul shallow few in omega arith
+
+not_zero : (n : ℕ) → (suc n == 0) ≡ false
+not_zero n = grind (arith, nat_tests)
+
+feed_small : (line above n : ℕ) → line ≤ 510 → n < 256 → feed_depth line above n ≤ 130050
+feed_small line above zero shallow few = let none : feed_depth line above zero ≡ 0 = refl in omega arith
+feed_small line above (suc n) shallow few =
+    let sum : feed_depth line above (suc n) ≡ (line - 4 * above) + line * (suc n - 1) =
+    ap (λ v. cond v 0 ((line - 4 * above) + line * (suc n - 1))) (not_zero n) in
+    let others = lines_small line (suc n - 1) shallow (omega arith) in
+    omega arith
 
 depth_small : (above : ℕ) (item : Item) → HasSizes item → depth above item ≤ 524280
-depth_small above (Row align cells) small = let row = tallest_small cells small in omega arith
-depth_small above (Feed n) small = let feed = feed_small above n small in omega arith
+depth_small above (Row align upside_down cells) small = let row = tallest_small cells small in omega arith
+depth_small above (Feed n None) small = let feed = feed_small 120 above n (omega arith) small in omega arith
+depth_small above (Feed n (Some units)) small = let feed = feed_small (2 * units) above n (let few = small.1 in omega arith) small.0 in omega arith
 depth_small above (FeedUnits n) small = omega arith
 depth_small above (Bars align symbology height width place face content added) small = let texts = texts_small place face in omega arith
 depth_small above (Raster align s x y dots) small = let rows = rows_small s y small in omega arith

@@ -17,7 +17,7 @@ use Rattle.escpos_picture.specs.Rows.{runs, runs_drawing, characters_text}
 use Rattle.escpos_picture.specs.Spans.{line_text}
 use Rattle.escpos_picture.specs.Rasters.{rows_of, rows_text}
 use Rattle.escpos_picture.specs.BarItems.{bars_group, bars_frame, bars_end, label_above, bar_spans, bars_top, box_frame, box_text, bars_or_box}
-use Rattle.escpos_picture.specs.Groups.{scale_text, raster_start, drawing_at, cut_place, cut_line}
+use Rattle.escpos_picture.specs.Groups.{base_line, row_start, row_turn, scale_text, raster_start, drawing_at, cut_place, cut_line}
 use Rattle.escpos_picture.specs.Moves.{MovesDown}
 use Rattle.escpos_picture.specs.declared.pen.TheConstants.{MARGIN}
 
@@ -49,11 +49,12 @@ further more text rest moves = record {
   is = λ down. rw (moves.is down) simp append_assoc;
 }
 
-pub rows_move : (align : Alignment) (cells : List Cell) → MovesDown (3 * tallest cells) (λ down. drawing_at down (Row align cells))
-rows_move align cells =
-    let more = 3 * tallest cells in
-    further more _ (codes "</g>\n") (further more _ (runs_drawing 0 (runs cells)) (further more _ (codes ")\">")
-    (placed (codes "<g class=\"row\" transform=\"translate(") (indent align (dots cells)) more)))
+pub rows_move : (align : Alignment) (upside_down : Bool) (cells : List Cell)
+    → MovesDown (base_line upside_down (tallest cells)) (λ down. drawing_at down (Row align upside_down cells))
+rows_move align upside_down cells =
+    let more = base_line upside_down (tallest cells) in
+    further more _ (codes "</g>\n") (further more _ (runs_drawing 0 (runs cells)) (further more _ (row_turn upside_down)
+    (placed (codes "<g class=\"row\" transform=\"translate(") (row_start upside_down (indent align (dots cells))) more)))
 
 bars_group_moves : (align : Alignment) (width : ℕ) → MovesDown 0 (λ down. bars_group down align width)
 unfolding bars_group

@@ -1,6 +1,6 @@
 -- What is drawn of an item stays within its depth.
-use Rattle.std.proofs.Common.{◌≡◌, ℕ, zero, suc, ◌+◌, ◌-◌, ◌*◌, ◌≤◌, List, [], ◌∷◌, length, refl, ap, arith, Bool, Option, None, Some, cond}
-use Rattle.std.specs.Prelude.{IsTrue, drop}
+use Rattle.std.proofs.Common.{◌≡◌, ℕ, zero, suc, ◌+◌, ◌-◌, ◌*◌, ◌≤◌, List, [], ◌∷◌, length, refl, ap, arith, Bool, true, false, Option, None, Some, cond}
+use Rattle.std.specs.Prelude.{IsTrue, drop, not}
 use Rattle.std.specs.List.{AllByRecursion}
 use Rattle.escpos_command.specs.declared.bars.Symbology.{Symbology}
 use Rattle.escpos_command.specs.declared.parameter.choices.Alignment.{Alignment}
@@ -16,21 +16,27 @@ use Rattle.escpos_paper.specs.declared.item.Item.TheVariants.{Row, Bars, Raster,
 use Rattle.escpos_paper.specs.declared.style.BarStyle.{BarStyle}
 use Rattle.escpos_picture.specs.BarItems.{stands_above, stands_below, bars_top}
 use Rattle.escpos_picture.specs.Depths.{bars_bottom}
-use Rattle.escpos_picture.specs.Groups.{cut_place}
+use Rattle.escpos_picture.specs.Groups.{base_line, row_start, cut_place}
 use Rattle.escpos_picture.specs.Places.{face_height, cell_height, tallest, text_lines, downwards, depth, indent}
 use Rattle.escpos_picture.specs.Rasters.{rows_of}
 
-none_taller : (row : ℕ) (cells : List Cell) → tallest cells ≤ row
-    → AllByRecursion (λ (x : Cell). (3 * cell_height x ≤ 3 * row) × (3 * row + cell_height x ≤ 4 * row)) cells
-none_taller row [] most = tt
-none_taller row (x ∷ xs) most =
+none_taller : (upside_down : Bool) (row : ℕ) (cells : List Cell) → tallest cells ≤ row
+    → AllByRecursion (λ (x : Cell). (base_line upside_down (cell_height x) ≤ base_line upside_down row)
+    × (base_line upside_down row + base_line (not upside_down) (cell_height x) ≤ 4 * row)) cells
+none_taller upside_down row [] most = tt
+none_taller true row (x ∷ xs) most =
     let first : cell_height x ≤ row = omega arith in
     let others : tallest xs ≤ row = omega arith in
-    ((omega arith, omega arith), none_taller row xs others)
+    ((omega arith, omega arith), none_taller true row xs others)
+none_taller false row (x ∷ xs) most =
+    let first : cell_height x ≤ row = omega arith in
+    let others : tallest xs ≤ row = omega arith in
+    ((omega arith, omega arith), none_taller false row xs others)
 
-pub rows_within : (above : ℕ) (align : Alignment) (cells : List Cell)
-    → AllByRecursion (λ (x : Cell). (3 * cell_height x ≤ 3 * tallest cells) × (3 * tallest cells + cell_height x ≤ depth above (Row align cells))) cells
-rows_within above align cells = none_taller (tallest cells) cells (omega arith)
+pub rows_within : (above : ℕ) (align : Alignment) (upside_down : Bool) (cells : List Cell)
+    → AllByRecursion (λ (x : Cell). (base_line upside_down (cell_height x) ≤ base_line upside_down (tallest cells))
+    × (base_line upside_down (tallest cells) + base_line (not upside_down) (cell_height x) ≤ depth above (Row align upside_down cells))) cells
+rows_within above align upside_down cells = none_taller upside_down (tallest cells) cells (omega arith)
 
 underline_within : (face : FontFace) (height underline : ℕ) → 1 ≤ height → underline ≤ 2
     → face_height face * height - 4 * underline + 4 * underline ≡ face_height face * height
@@ -75,3 +81,6 @@ pub across : (align : Alignment) (width : ℕ) → width ≤ LINE_DOTS → inden
 across Left width fits = omega arith
 across Center width fits = omega arith
 across Right width fits = omega arith
+
+pub turned : (align : Alignment) (width : ℕ) → width ≤ LINE_DOTS → width ≤ row_start true (indent align width)
+turned align width fits = let free = across align width fits in omega arith

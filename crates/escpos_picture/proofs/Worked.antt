@@ -18,10 +18,10 @@ use Rattle.escpos_paper.specs.Styles.{power_on}
 use Rattle.escpos_barcode.specs.Tables.{set_a, set_b, right_digits, left_digits, parity_rows, parities, code39_data, code39_star, itf_rows, itf_digits, codabar_table, code128_rows, code128_table}
 use Rattle.escpos_picture.specs.Numbers.{quarters}
 use Rattle.escpos_picture.specs.Characters.{byte_text}
-use Rattle.escpos_picture.specs.Places.{top, place_after_all, feed_dots}
+use Rattle.escpos_picture.specs.Places.{top, place_after_all, feed_depth}
 use Rattle.escpos_picture.specs.Spans.{span, spans, byte_dots}
 use Rattle.escpos_picture.specs.Rasters.{rows_of, row_text, rows_text}
-use Rattle.escpos_picture.specs.Rows.{runs, text_place, text_class, characters_text, text_start, run_tag, underline_text, run_drawing, runs_drawing}
+use Rattle.escpos_picture.specs.Rows.{runs, text_place, text_class, characters_text, text_start, run_tag, underline_text, ground_text, run_drawing, runs_drawing}
 use Rattle.escpos_picture.specs.BarItems.{label_place, label_tag, label, label_above, label_below, bars_frame, bars_group, scannable, box_frame, box_text, box}
 use Rattle.escpos_picture.specs.Groups.{scale_text, raster_start, drawing, drawings, drawing_at}
 use Rattle.escpos_picture.specs.Document.{style_sheet, root_tag, paper_tag, head, last_tag, picture_text}
@@ -48,7 +48,7 @@ text : Style → List ℕ → List Cell
 text style bytes = map (cell style) bytes
 
 receipt : List Item
-receipt = Row Left (text power_on (codes "Hi")) ∷ Feed 1 ∷ Cut false None ∷ []
+receipt = Row Left false (text power_on (codes "Hi")) ∷ Feed 1 None ∷ Cut false None ∷ []
 
 receipt_end : place_after_all top receipt ≡ record { down = 4 * 54; above = 0 }
 unfolding receipt text
@@ -70,37 +70,66 @@ receipt_height = refl
 -- ## Rows, each as the first item of a paper
 
 -- Font B: 9 by 17 dots, the base line 12.75 down.
-font_b : drawing_at 0 (Row Left (text (record power_on { font = B }) (codes "Hi"))) ≡
+font_b : drawing_at 0 (Row Left false (text (record power_on { font = B }) (codes "Hi"))) ≡
     codes "<g class=\"row\" transform=\"translate(32,44.75)\"><text x=\"0\" class=\"B\" textLength=\"18\">Hi</text></g>\n"
 unfolding text digits encode_utf8 runs text_place text_class text_start run_tag underline_text run_drawing runs_drawing
 font_b = refl
 
 -- Twice as wide and high, in the middle: 48 by 48 dots, (512 - 48) / 2 dots free on the left.
-double : drawing_at 0 (Row Center (text (record power_on { width = 2; height = 2 }) (codes "Hi"))) ≡
+double : drawing_at 0 (Row Center false (text (record power_on { width = 2; height = 2 }) (codes "Hi"))) ≡
     codes "<g class=\"row\" transform=\"translate(264,68)\"><text transform=\"matrix(2 0 0 2 0 0)\" textLength=\"24\">Hi</text></g>\n"
 unfolding text digits encode_utf8 runs text_place text_class text_start run_tag underline_text run_drawing runs_drawing
 double = refl
 
 -- Bold at the right end, 512 - 24 dots free on the left.
-bold : drawing_at 0 (Row Right (text (record power_on { bold = true }) (codes "Hi"))) ≡
+bold : drawing_at 0 (Row Right false (text (record power_on { bold = true }) (codes "Hi"))) ≡
     codes "<g class=\"row\" transform=\"translate(520,50)\"><text x=\"0\" class=\"bold\" textLength=\"24\">Hi</text></g>\n"
 unfolding text digits encode_utf8 runs text_place text_class text_start run_tag underline_text run_drawing runs_drawing
 bold = refl
 
+-- Double strike is bold, too, beside emphasis and alone; a character set changes nothing.
+strike : drawing_at 0 (Row Left false (text (record power_on { font = B; strike = true; character_set = 8 }) (codes "Hi"))) ≡
+    codes "<g class=\"row\" transform=\"translate(32,44.75)\"><text x=\"0\" class=\"B bold\" textLength=\"18\">Hi</text></g>\n"
+unfolding text digits encode_utf8 runs text_place text_class text_start run_tag underline_text run_drawing runs_drawing
+strike = refl
+
+-- White on black: the ground is as wide and high as the cells, across blanks, too; no underline.
+reverse : drawing_at 0 (Row Left false (text (record power_on { reverse = true; underline = 2; bold = true }) (codes "a b"))) ≡
+    codes "<g class=\"row\" transform=\"translate(32,50)\"><path d=\"M0 -18h36v24h-36z\"/><text x=\"0\" class=\"bold white\" textLength=\"36\">a b</text></g>\n"
+unfolding text digits encode_utf8 runs text_place text_class text_start run_tag ground_text run_drawing runs_drawing
+reverse = refl
+
+reverse_high : drawing_at 0 (Row Left false (text power_on (codes "A") ++ text (record power_on { font = B; width = 2; height = 3; reverse = true }) (codes "b"))) ≡
+    codes "<g class=\"row\" transform=\"translate(32,70.25)\"><text x=\"0\" textLength=\"12\">A</text>"
+    ++ codes "<path d=\"M12 -38.25h18v51h-18z\"/><text transform=\"matrix(2 0 0 3 12 0)\" class=\"B white\" textLength=\"9\">b</text></g>\n"
+unfolding text digits encode_utf8 runs text_place text_class text_start run_tag underline_text ground_text run_drawing runs_drawing
+reverse_high = refl
+
+-- A row upside down is turned with its line: what stands left stands right then, and its base line is a quarter of its height down.
+upside_down : drawing_at 0 (Row Left true (text power_on (codes "Hi"))) ≡
+    codes "<g class=\"row\" transform=\"translate(544,38) rotate(180)\"><text x=\"0\" textLength=\"24\">Hi</text></g>\n"
+unfolding text digits encode_utf8 runs text_place text_class text_start run_tag underline_text run_drawing runs_drawing
+upside_down = refl
+
+upside_down_right : drawing_at 120 (Row Right true (text (record power_on { height = 2 }) (codes "Hi"))) ≡
+    codes "<g class=\"row\" transform=\"translate(56,74) rotate(180)\"><text transform=\"matrix(1 0 0 2 0 0)\" textLength=\"24\">Hi</text></g>\n"
+unfolding text digits encode_utf8 runs text_place text_class text_start run_tag underline_text run_drawing runs_drawing
+upside_down_right = refl
+
 -- Underlines go across blanks, and end where the cells do, a quarter of 24 and of 17 dots under the base line.
-underline : drawing_at 0 (Row Left (text (record power_on { underline = 1 }) (codes "a b"))) ≡
+underline : drawing_at 0 (Row Left false (text (record power_on { underline = 1 }) (codes "a b"))) ≡
     codes "<g class=\"row\" transform=\"translate(32,50)\"><text x=\"0\" textLength=\"36\">a b</text><path d=\"M0 5h36v1h-36z\"/></g>\n"
 unfolding text digits encode_utf8 runs text_place text_class text_start run_tag underline_text run_drawing runs_drawing
 underline = refl
 
-thick_underline : drawing_at 0 (Row Left (text (record power_on { font = B; bold = true; underline = 2 }) (codes "a b"))) ≡
+thick_underline : drawing_at 0 (Row Left false (text (record power_on { font = B; bold = true; underline = 2 }) (codes "a b"))) ≡
     codes "<g class=\"row\" transform=\"translate(32,44.75)\"><text x=\"0\" class=\"B bold\" textLength=\"27\">a b</text>"
     ++ codes "<path d=\"M0 2.25h27v2h-27z\"/></g>\n"
 unfolding text digits encode_utf8 runs text_place text_class text_start run_tag underline_text run_drawing runs_drawing
 thick_underline = refl
 
 -- Two styles: the second text begins where the first ends, and both stand on the base line of the taller.
-two_styles : drawing_at 0 (Row Left (text power_on (codes "A&") ++ text (record power_on { height = 2 }) (codes "b"))) ≡
+two_styles : drawing_at 0 (Row Left false (text power_on (codes "A&") ++ text (record power_on { height = 2 }) (codes "b"))) ≡
     codes "<g class=\"row\" transform=\"translate(32,68)\"><text x=\"0\" textLength=\"24\">A&amp;</text>"
     ++ codes "<text transform=\"matrix(1 0 0 2 24 0)\" textLength=\"12\">b</text></g>\n"
 unfolding text digits encode_utf8 runs text_place text_class text_start run_tag underline_text run_drawing runs_drawing
@@ -181,13 +210,20 @@ raster_depth = (refl, refl, refl, refl)
 -- ## Feeds and cuts
 
 -- The first line of a feed is counted from the top of the row right above; with no lines it is none.
-feeds : (feed_dots 24 0 ≡ 0) × (feed_dots 24 1 ≡ 6) × (feed_dots 24 3 ≡ 66) × (feed_dots 48 1 ≡ 0) × (feed_dots 48 2 ≡ 30) × (feed_dots 0 3 ≡ 90)
+feeds : (feed_depth 120 24 0 ≡ 4 * 0) × (feed_depth 120 24 1 ≡ 4 * 6) × (feed_depth 120 24 3 ≡ 4 * 66) × (feed_depth 120 48 1 ≡ 4 * 0)
+    × (feed_depth 120 48 2 ≡ 4 * 30) × (feed_depth 120 0 3 ≡ 4 * 90)
 feeds = (refl, refl, refl, refl, refl, refl)
 
 -- Only the row right above counts: two feeds of one line are 36 dots under the row's lower edge.
-two_feeds : place_after_all top (Row Left (text power_on (codes "Hi")) ∷ Feed 1 ∷ Feed 1 ∷ []) ≡ record { down = 4 * 60; above = 0 }
+two_feeds : place_after_all top (Row Left false (text power_on (codes "Hi")) ∷ Feed 1 None ∷ Feed 1 None ∷ []) ≡ record { down = 4 * 60; above = 0 }
 unfolding text
 two_feeds = refl
+
+-- A spacing of 61 motion units is 30.5 dots: half a dot and a line more under a row of 30 dots; one of 0 adds nothing.
+spaced_feeds : (place_after_all top (Row Left false (text power_on (codes "Hi")) ∷ Feed 2 (Some 61) ∷ []) ≡ record { down = 4 * 61; above = 0 })
+    × (place_after_all top (Row Left false (text power_on (codes "Hi")) ∷ Feed 200 (Some 0) ∷ []) ≡ record { down = 4 * 24; above = 0 })
+unfolding text
+spaced_feeds = (refl, refl)
 
 -- Three motion units are 1.5 dots.
 units : (place_after_all top (FeedUnits 3 ∷ []) ≡ record { down = 6; above = 0 }) × (quarters 6 ≡ codes "1.5")
@@ -259,20 +295,20 @@ too_long = refl
 -- ## Parts together
 
 -- Ten dots down the paper: twice as wide alone, underlined as wide as it is, and then a plain character 48 dots from the left.
-wide_alone : drawing_at 40 (Row Left (text (record power_on { width = 2; underline = 1 }) (codes "ab") ++ text power_on (codes "c"))) ≡
+wide_alone : drawing_at 40 (Row Left false (text (record power_on { width = 2; underline = 1 }) (codes "ab") ++ text power_on (codes "c"))) ≡
     codes "<g class=\"row\" transform=\"translate(32,60)\"><text transform=\"matrix(2 0 0 1 0 0)\" textLength=\"24\">ab</text><path d=\"M0 5h48v1h-48z\"/>"
     ++ codes "<text x=\"48\" textLength=\"12\">c</text></g>\n"
 unfolding text digits encode_utf8 runs text_place text_class text_start run_tag underline_text run_drawing runs_drawing
 wide_alone = refl
 
 -- Twice as high: the underline ends 12 dots under the base line, where the cell does.
-tall_underline : drawing_at 0 (Row Left (text (record power_on { height = 2; underline = 2 }) (codes "a"))) ≡
+tall_underline : drawing_at 0 (Row Left false (text (record power_on { height = 2; underline = 2 }) (codes "a"))) ≡
     codes "<g class=\"row\" transform=\"translate(32,68)\"><text transform=\"matrix(1 0 0 2 0 0)\" textLength=\"12\">a</text><path d=\"M0 10h12v2h-12z\"/></g>\n"
 unfolding text digits encode_utf8 runs text_place text_class text_start run_tag underline_text run_drawing runs_drawing
 tall_underline = refl
 
 -- A row has the code table of its style: D5 in table 19 is the euro sign.
-table_19 : drawing_at 0 (Row Left (text (record power_on { table = 19 }) (0xD5 ∷ []))) ≡
+table_19 : drawing_at 0 (Row Left false (text (record power_on { table = 19 }) (0xD5 ∷ []))) ≡
     codes "<g class=\"row\" transform=\"translate(32,50)\"><text x=\"0\" textLength=\"12\">" ++ 0xE2 ∷ 0x82 ∷ 0xAC ∷ codes "</text></g>\n"
 unfolding text digits encode_utf8 runs text_place text_class text_start run_tag underline_text run_drawing runs_drawing
 table_19 = refl

@@ -25,8 +25,9 @@ bars_bottom style = if stands_below style.place then face_height style.hri_font 
 
 -- The sizes of an item are numbers that its fields can hold: two bytes for the rows of a raster, one byte for all others.
 abbrev pub HasSizes : Item → Type 0
-HasSizes (Row align cells) = AllByRecursion (λ (x : Cell). x.style.height < 256) cells
-HasSizes (Feed n) = n < 256
+HasSizes (Row align upside_down cells) = AllByRecursion (λ (x : Cell). x.style.height < 256) cells
+HasSizes (Feed n None) = n < 256
+HasSizes (Feed n (Some units)) = (n < 256) × (units < 256)
 HasSizes (FeedUnits n) = n < 256
 HasSizes (Bars align symbology height width place face content added) = height < 256
 HasSizes (Raster align scale x y dots) = y < 65536

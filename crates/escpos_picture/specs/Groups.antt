@@ -1,9 +1,10 @@
 -- Each item as a group of the document, whose class is its kind, moved to its place: across by the margin and by what is left
 -- free of the line, down by the margin and by what the items above take.
-use Rattle.std.specs.Prelude.{ℕ, ◌+◌, ◌*◌, Bool, List, [], ◌∷◌, ◌++◌, Option, None, Some, codes, decimal, if◌then◌else◌}
+use Rattle.std.specs.Prelude.{ℕ, ◌+◌, ◌-◌, ◌*◌, Bool, List, [], ◌∷◌, ◌++◌, Option, None, Some, codes, decimal, if◌then◌else◌}
 use Rattle.escpos_command.specs.declared.parameter.choices.Alignment.{Alignment}
 use Rattle.escpos_command.specs.declared.parameter.choices.Scale.{Scale}
 use Rattle.escpos_paper.specs.declared.cell.Cell.{Cell}
+use Rattle.escpos_paper.specs.declared.cell.TheConstants.{LINE_DOTS}
 use Rattle.escpos_paper.specs.declared.item.Item.{Item}
 use Rattle.escpos_paper.specs.declared.item.Item.TheVariants.{Row, Feed, FeedUnits, Bars, Raster, Cut}
 use Rattle.escpos_paper.specs.Cells.{dots}
@@ -14,11 +15,21 @@ use Rattle.escpos_picture.specs.Rasters.{rows_of, rows_text}
 use Rattle.escpos_picture.specs.BarItems.{bars_drawing}
 use Rattle.escpos_picture.specs.declared.pen.TheConstants.{MARGIN}
 
--- A row. Its place is the left end of its base line, three quarters of its height down.
-abbrev pub row_drawing : ℕ → Alignment → List Cell → List ℕ
-row_drawing down align cells =
-    codes "<g class=\"row\" transform=\"translate(" ++ moved (indent align (dots cells)) (down + 3 * tallest cells) ++ codes ")\">"
-    ++ runs_drawing 0 (runs cells) ++ codes "</g>\n"
+-- A row. Its place is the left end of its base line, three quarters of its height down. A row that is upside down is turned with
+-- its line, as a printer does: its place is the end of its base line that is then the right one, a quarter of its height down.
+abbrev pub base_line : Bool → ℕ → ℕ
+base_line upside_down height = if upside_down then height else 3 * height
+
+abbrev pub row_start : Bool → ℕ → ℕ
+row_start upside_down free = if upside_down then LINE_DOTS - free else free
+
+abbrev pub row_turn : Bool → List ℕ
+row_turn upside_down = if upside_down then codes ") rotate(180)\">" else codes ")\">"
+
+abbrev pub row_drawing : ℕ → Alignment → Bool → List Cell → List ℕ
+row_drawing down align upside_down cells =
+    codes "<g class=\"row\" transform=\"translate(" ++ moved (row_start upside_down (indent align (dots cells))) (down + base_line upside_down (tallest cells))
+    ++ row_turn upside_down ++ runs_drawing 0 (runs cells) ++ codes "</g>\n"
 
 abbrev pub feed_drawing : List ℕ
 feed_drawing = codes "<g class=\"feed\"/>\n"
@@ -55,8 +66,8 @@ cut_drawing down partial feed =
 
 -- The drawing of an item that begins this many quarters of a dot under the first.
 abbrev pub drawing_at : ℕ → Item → List ℕ
-drawing_at down (Row align cells) = row_drawing down align cells
-drawing_at down (Feed n) = feed_drawing
+drawing_at down (Row align upside_down cells) = row_drawing down align upside_down cells
+drawing_at down (Feed n spacing) = feed_drawing
 drawing_at down (FeedUnits n) = units_drawing
 drawing_at down (Bars align symbology height width hri_place face content added) =
     bars_drawing down align symbology (record { height = height; module_width = width; place = hri_place; hri_font = face }) content added

@@ -1,5 +1,5 @@
 -- How far down the paper an item goes, and where it begins. Widths and heights are dots, places down the paper quarters of a dot.
-use Rattle.std.specs.Prelude.{ℕ, ◌+◌, ◌-◌, ◌*◌, ◌/◌, ◌==◌, min, max, List, [], ◌∷◌, ◌++◌, None, Some, codes, decimal, if◌then◌else◌}
+use Rattle.std.specs.Prelude.{ℕ, ◌+◌, ◌-◌, ◌*◌, ◌/◌, ◌==◌, min, max, List, [], ◌∷◌, ◌++◌, Option, None, Some, codes, decimal, if◌then◌else◌}
 use Rattle.escpos_command.specs.declared.parameter.choices.Alignment.{Alignment}
 use Rattle.escpos_command.specs.declared.parameter.choices.Alignment.TheVariants.{Left, Center, Right}
 use Rattle.escpos_command.specs.declared.parameter.choices.FontFace.{FontFace}
@@ -48,15 +48,21 @@ downwards scale.Wide = 1
 downwards scale.Tall = 2
 downwards scale.Both = 2
 
--- A feed of n lines, each 30 dots (a sixth of an inch, of 180 dots to the inch): the first is counted from the top of the row
--- right above, `above` dots tall, or 0 where none stands there. (Reference: ESC 2, ESC d.)
-abbrev pub feed_dots : ℕ → ℕ → ℕ
-feed_dots above n = if n == 0 then 0 else (30 - above) + 30 * (n - 1)
+-- The height of a line, in quarters of a dot: 30 dots (a sixth of an inch, of 180 dots to the inch), or so many motion units,
+-- each half a dot. (Reference: ESC 2, ESC 3.)
+abbrev pub line_depth : Option ℕ → ℕ
+line_depth None = 120
+line_depth (Some units) = 2 * units
+
+-- A feed of n lines, each this deep, in quarters of a dot: the first is counted from the top of the row right above, `above` dots
+-- tall, or 0 where none stands there. (Reference: ESC d.)
+abbrev pub feed_depth : ℕ → ℕ → ℕ → ℕ
+feed_depth line above n = if n == 0 then 0 else (line - 4 * above) + line * (n - 1)
 
 -- What an item takes down the paper, in quarters of a dot. A motion unit is half a dot.
 abbrev pub depth : ℕ → Item → ℕ
-depth above (Row align cells) = 4 * tallest cells
-depth above (Feed n) = 4 * feed_dots above n
+depth above (Row align upside_down cells) = 4 * tallest cells
+depth above (Feed n spacing) = feed_depth (line_depth spacing) above n
 depth above (FeedUnits n) = 2 * n
 depth above (Bars align symbology height width place face content added) = 4 * (height + text_lines place * face_height face)
 depth above (Raster align scale x y dots) = 4 * (downwards scale * y)
@@ -65,7 +71,7 @@ depth above (Cut partial (Some n)) = 2 * n + 96
 
 -- The height of an item if it is a row, otherwise 0.
 abbrev pub row_above : Item → ℕ
-row_above (Row align cells) = tallest cells
+row_above (Row align upside_down cells) = tallest cells
 row_above item = 0
 
 -- Where the next item begins: the quarters of a dot from the first item down to it, and the height of the row right above it, or

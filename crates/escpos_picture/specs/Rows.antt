@@ -1,5 +1,5 @@
 -- A row in the document: its cells, neighbours of one style as one text.
-use Rattle.std.specs.Prelude.{ℕ, suc, ◌+◌, ◌-◌, ◌*◌, ◌==◌, ◌&&◌, Bool, List, [], ◌∷◌, ◌++◌, length, codes, decimal, flat_map, map, if◌then◌else◌}
+use Rattle.std.specs.Prelude.{ℕ, suc, ◌+◌, ◌-◌, ◌*◌, ◌==◌, ◌&&◌, ◌||◌, Bool, true, false, List, [], ◌∷◌, ◌++◌, length, codes, decimal, flat_map, map, if◌then◌else◌}
 use Rattle.escpos_command.specs.declared.parameter.choices.FontFace.TheVariants.{A, B}
 use Rattle.escpos_command.specs.declared.parameter.choices.FontFace.{FontFace}
 use Rattle.escpos_paper.specs.declared.cell.Cell.{Cell}
@@ -47,16 +47,20 @@ scaled_place x s =
 unfoldable pub text_place : ℕ → Style → List ℕ
 text_place x s = if is_plain_size s then codes " x=\"" ++ decimal x ++ codes "\"" else scaled_place x s
 
-abbrev pub plain_class : FontFace → List ℕ
-plain_class A = []
-plain_class B = codes " class=\"B\""
+-- The classes of a font, bold or not, white or not.
+abbrev pub class_of : FontFace → Bool → Bool → List ℕ
+class_of A false false = []
+class_of A false true = codes " class=\"white\""
+class_of A true false = codes " class=\"bold\""
+class_of A true true = codes " class=\"bold white\""
+class_of B false false = codes " class=\"B\""
+class_of B false true = codes " class=\"B white\""
+class_of B true false = codes " class=\"B bold\""
+class_of B true true = codes " class=\"B bold white\""
 
-abbrev pub bold_class : FontFace → List ℕ
-bold_class A = codes " class=\"bold\""
-bold_class B = codes " class=\"B bold\""
-
+-- Emphasis and double strike both print bold.
 unfoldable pub text_class : Style → List ℕ
-text_class s = if s.bold then bold_class s.font else plain_class s.font
+text_class s = class_of s.font (s.bold || s.strike) s.reverse
 
 -- The characters of a run, printed with the code table of its style.
 abbrev pub characters_text : ℕ → List ℕ → List ℕ
@@ -79,8 +83,15 @@ underline_text x r =
     else codes "<path d=\"M" ++ decimal x ++ codes " " ++ quarters (face_height r.style.font * r.style.height - 4 * r.style.underline)
     ++ codes "h" ++ decimal (run_dots r) ++ codes "v" ++ decimal r.style.underline ++ codes "h-" ++ decimal (run_dots r) ++ codes "z\"/>"
 
+-- Black ground as wide and as high as the run's cells, which reach three quarters of their height above the base line.
+unfoldable pub ground_text : ℕ → Run → List ℕ
+ground_text x r =
+    codes "<path d=\"M" ++ decimal x ++ codes " -" ++ quarters (3 * (face_height r.style.font * r.style.height)) ++ codes "h" ++ decimal (run_dots r)
+    ++ codes "v" ++ decimal (face_height r.style.font * r.style.height) ++ codes "h-" ++ decimal (run_dots r) ++ codes "z\"/>"
+
+-- White characters stand on black ground, and aren't underlined. (Reference: GS B.)
 unfoldable pub run_drawing : ℕ → Run → List ℕ
-run_drawing x r = run_text x r ++ underline_text x r
+run_drawing x r = if r.style.reverse then ground_text x r ++ run_text x r else run_text x r ++ underline_text x r
 
 -- Runs from left to right, the first this many dots from the left end of the row.
 unfoldable pub runs_drawing : ℕ → List Run → List ℕ

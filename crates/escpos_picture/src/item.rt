@@ -68,8 +68,12 @@ fn put_drawing<W: ByteOut>(
         gather.old gather.new (drawing_at down item.now) }
 {
     match item {
-        Item::Row { align, cells } => put_row(gather, *align, cells, down, writer),
-        Item::Feed(_) => gather.put(b"<g class=\"feed\"/>\n", writer),
+        Item::Row {
+            align,
+            upside_down,
+            cells,
+        } => put_row(gather, *align, *upside_down, cells, down, writer),
+        Item::Feed { .. } => gather.put(b"<g class=\"feed\"/>\n", writer),
         Item::FeedUnits(_) => gather.put(b"<g class=\"units\"/>\n", writer),
         Item::Bars {
             align,
@@ -117,17 +121,18 @@ fn put_drawing<W: ByteOut>(
 fn put_row<W: ByteOut>(
     gather: &mut Gather,
     align: Alignment,
+    upside_down: bool,
     cells: &Cells,
     down: usize,
     writer: &mut W,
 ) -> Result<(), Device>
     requires { down ≤ DEEPEST }
     ensures { IsGiven result (passage (W.written writer.old) (W.written writer.new) (W.failed writer.old) (W.failed writer.new))
-        gather.old gather.new (row_drawing down align cells.now) }
+        gather.old gather.new (row_drawing down align upside_down cells.now) }
 {
     let row = cells.as_slice();
     gather.room(ROW_BYTES + CELL_BYTES * row.len(), writer)?;
-    append_row(gather, align, row, down);
+    append_row(gather, align, upside_down, row, down);
     Ok(())
 }
 

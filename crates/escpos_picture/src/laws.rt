@@ -1,7 +1,7 @@
 //! Proof only: the laws of pictures. The contract of each function is the law; when run, it does nothing. A law is proved with
 //! this crate, and another crate cites it by calling the function.
 
-ghost use Rattle.std.specs.Prelude.{◌≡◌, ◌≤◌, ◌+◌, ◌-◌, ◌*◌, ◌^◌, ℕ, Bool, Option, IsTrue, true, List, [], ◌∷◌, ◌++◌, length};
+ghost use Rattle.std.specs.Prelude.{◌≡◌, ◌≤◌, ◌+◌, ◌-◌, ◌*◌, ◌^◌, ℕ, Bool, Option, IsTrue, not, true, List, [], ◌∷◌, ◌++◌, length};
 ghost use Rattle.std.specs.List.{AllByRecursion};
 ghost use Rattle.escpos_command.specs.declared.bars.Symbology.{Symbology};
 ghost use Rattle.escpos_command.specs.declared.parameter.choices.Alignment.{Alignment};
@@ -17,7 +17,7 @@ ghost use Rattle.escpos_picture.specs.Depths.{depths, row_above_next, bars_botto
 ghost use Rattle.escpos_picture.specs.Document.{paper_height};
 ghost use Rattle.escpos_picture.specs.Places.{Place, top, place_after_all, depth, face_height, cell_height, tallest, downwards, indent};
 ghost use Rattle.escpos_picture.specs.Escaping.{IsEscaped, utf8_of};
-ghost use Rattle.escpos_picture.specs.Groups.{drawings, drawing_at, cut_place};
+ghost use Rattle.escpos_picture.specs.Groups.{drawings, drawing_at, base_line, row_start, cut_place};
 ghost use Rattle.escpos_picture.specs.Moves.{MovesDown};
 ghost use Rattle.escpos_picture.specs.Rasters.{rows_of};
 ghost use Rattle.escpos_picture.specs.Rows.{characters_text};
@@ -48,11 +48,13 @@ pub fn items_stand_in_order()
 
 /// Depth: what is drawn of an item stays within its depth, so that no item is drawn over the one above it or below. The base line of
 /// a row is three quarters of its height down: each cell reaches above it by three quarters of its own height and below it by a
-/// quarter, where its underline, at most 2 dots thick, ends too. The lines of a raster, the bars of a barcode with its lines of text,
+/// quarter, where its underline, at most 2 dots thick, ends too. In a row that is upside down the base line is a quarter down, each
+/// cell reaches above it by a quarter and below it by three, and the row goes from its start to the left. The lines of a raster, the bars of a barcode with its lines of text,
 /// and a cut fill their depth exactly. And what is no wider than the line ends within it.
 pub fn items_stay_within()
-    ensures rows_within { (above : ℕ) (align : Alignment) (cells : List Cell) → AllByRecursion (λ (x : Cell).
-        (3 * cell_height x ≤ 3 * tallest cells) × (3 * tallest cells + cell_height x ≤ depth above (Row align cells))) cells }
+    ensures rows_within { (above : ℕ) (align : Alignment) (upside_down : Bool) (cells : List Cell) → AllByRecursion (λ (x : Cell).
+        (base_line upside_down (cell_height x) ≤ base_line upside_down (tallest cells))
+        × (base_line upside_down (tallest cells) + base_line (not upside_down) (cell_height x) ≤ depth above (Row align upside_down cells))) cells }
     ensures underlines_within { (x : Cell) → 1 ≤ x.style.height → x.style.underline ≤ 2 →
         cell_height x - 4 * x.style.underline + 4 * x.style.underline ≡ cell_height x }
     ensures rasters_within { (above : ℕ) (align : Alignment) (scale : Scale) (x y : ℕ) (dots : List ℕ) →
@@ -64,6 +66,7 @@ pub fn items_stay_within()
         × (IsTrue (stands_below style.place) → bars_bottom style ≡ face_height style.hri_font) }
     ensures cuts_within { (above : ℕ) (partial : Bool) (feed : Option ℕ) → cut_place feed + 4 * 24 ≡ depth above (Cut partial feed) }
     ensures across { (align : Alignment) (width : ℕ) → width ≤ LINE_DOTS → indent align width + width ≤ LINE_DOTS }
+    ensures turned { (align : Alignment) (width : ℕ) → width ≤ LINE_DOTS → width ≤ row_start true (indent align width) }
 {}
 
 /// Dots: what a path draws is exactly the black dots, each once, from left to right: the dots that are 1 of a row of a raster, and
@@ -84,7 +87,8 @@ pub fn text_is_escaped()
 /// Place: an item is drawn the same wherever it stands. All that tells how far down the paper that is is one number in its group: the
 /// margin, the place of the item, and the way from there to the base line of a row or the end of the feed of a cut.
 pub fn items_move()
-    ensures rows { (align : Alignment) (cells : List Cell) → MovesDown (3 * tallest cells) (λ down. drawing_at down (Row align cells)) }
+    ensures rows { (align : Alignment) (upside_down : Bool) (cells : List Cell) →
+        MovesDown (base_line upside_down (tallest cells)) (λ down. drawing_at down (Row align upside_down cells)) }
     ensures bars { (align : Alignment) (symbology : Symbology) (style : BarStyle) (content : List ℕ) (added : Option ℕ) →
         MovesDown 0 (λ down. drawing_at down (Bars align symbology style.height style.module_width style.place style.hri_font content added)) }
     ensures rasters { (align : Alignment) (scale : Scale) (x y : ℕ) (dots : List ℕ) → MovesDown 0 (λ down. drawing_at down (Raster align scale x y dots)) }

@@ -2,7 +2,7 @@
 
 ghost use Rattle.std.specs.Prelude.{◌≡◌, ◌*◌, ◌≤◌};
 ghost use Rattle.escpos_paper.specs.Cells.{face_dots};
-ghost use Rattle.escpos_picture.specs.Places.{Place, top, place_after, place_after_all, depth, row_above, face_height, cell_height, tallest, text_lines, across, downwards, feed_dots, indent};
+ghost use Rattle.escpos_picture.specs.Places.{Place, top, place_after, place_after_all, depth, row_above, face_height, cell_height, tallest, text_lines, across, downwards, line_depth, feed_depth, indent};
 
 use escpos_command::{Alignment, FontFace, HriPosition, Scale};
 use escpos_paper::{Cell, Item, LINE_DOTS};
@@ -13,10 +13,10 @@ pub const DEEPEST: usize = 1 << 62;
 
 const _: () = prove!(DEEPEST == 4_611_686_018_427_387_904);
 
-/// The default line spacing, in dots: a sixth of an inch, of 180 dots to the inch. (Reference: ESC 2.)
-const LINE_SPACING: usize = 30;
+/// The default line spacing, in quarters of a dot: a sixth of an inch, of 180 dots to the inch. (Reference: ESC 2.)
+const LINE_SPACING: usize = 4 * 30;
 
-const _: () = prove!(LINE_SPACING == 30);
+const _: () = prove!(LINE_SPACING == 120);
 
 /// The margin on each side of the paper's lines, and above and below them, in dots.
 pub const MARGIN: usize = 32;
@@ -39,7 +39,7 @@ impl Model for Pen {
 
     ghost view = { λ p. record { down = p.down; above = p.above } };
 
-    ghost invariant = { λ p. p.down ≤ DEEPEST };
+    ghost invariant = { λ p. (p.down ≤ DEEPEST) × (p.above ≤ 6120) };
 }
 
 impl Pen {
@@ -79,12 +79,13 @@ impl Pen {
 
 // What an item takes down the paper, in quarters of a dot, under a row that is this tall.
 fn depth(above: usize, item: &Item) -> usize
+    requires { above ≤ 6120 }
     ensures value { result ≡ depth above item.now }
     ensures small { result ≤ 524280 }
 {
     match item {
         Item::Row { cells, .. } => 4 * tallest(cells.as_slice()),
-        Item::Feed(lines) => 4 * feed_dots(above, *lines),
+        Item::Feed { lines, spacing } => feed_depth(line_depth(*spacing), above, *lines),
         Item::FeedUnits(units) => 2 * usize::from(*units),
         Item::Bars {
             height,
@@ -105,7 +106,8 @@ fn depth(above: usize, item: &Item) -> usize
 
 // The height of an item if it is a row, otherwise 0.
 fn row_above(item: &Item) -> usize
-    ensures { result ≡ row_above item.now }
+    ensures value { result ≡ row_above item.now }
+    ensures small { result ≤ 6120 }
 {
     match item {
         Item::Row { cells, .. } => tallest(cells.as_slice()),
@@ -113,15 +115,28 @@ fn row_above(item: &Item) -> usize
     }
 }
 
-// A feed of this many lines under a row that is this tall, in dots.
-fn feed_dots(above: usize, lines: u8) -> usize
-    ensures value { result ≡ feed_dots above lines }
-    ensures small { result ≤ 7650 }
+// How deep a line of this spacing is, in quarters of a dot. A motion unit is half a dot.
+fn line_depth(spacing: Option<u8>) -> usize
+    ensures value { result ≡ line_depth spacing }
+    ensures small { result ≤ 510 }
+{
+    match spacing {
+        None => LINE_SPACING,
+        Some(units) => 2 * usize::from(units),
+    }
+}
+
+// A feed of this many lines, each this deep, under a row that is this tall: in quarters of a dot.
+fn feed_depth(line: usize, above: usize, lines: u8) -> usize
+    requires shallow { line ≤ 510 }
+    requires small { above ≤ 6120 }
+    ensures value { result ≡ feed_depth line above lines }
+    ensures small { result ≤ 130050 }
 {
     if lines == 0 {
         return 0;
     }
-    LINE_SPACING.saturating_sub(above) + LINE_SPACING * (usize::from(lines) - 1)
+    line.saturating_sub(4 * above) + line * (usize::from(lines) - 1)
 }
 
 /// How wide a character of the font is at width 1, in dots.

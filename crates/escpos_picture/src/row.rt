@@ -2,42 +2,77 @@
 
 ghost use Rattle.std.specs.Prelude.{◌≡◌, ◌+◌, ◌*◌, ◌<◌, ◌≤◌, ◌∷◌, ◌++◌, length, take, drop};
 ghost use Rattle.escpos_paper.specs.Cells.{dots, face_dots};
-ghost use Rattle.escpos_picture.specs.Rows.{run, runs, bytes_of, same_count, is_plain_size, scaled_place, text_place, text_class, characters_text, underline_text, text_start, run_tag, run_drawing, runs_drawing};
-ghost use Rattle.escpos_picture.specs.Groups.{row_drawing};
+ghost use Rattle.escpos_picture.specs.Rows.{run, runs, bytes_of, same_count, is_plain_size, scaled_place, text_place, text_class, characters_text, underline_text, text_start, run_tag, run_text, ground_text, run_drawing, runs_drawing};
+ghost use Rattle.escpos_picture.specs.Groups.{row_drawing, base_line, row_start, row_turn};
 
 use crate::characters::append_byte;
 use crate::numbers::{append_between, append_place, append_quarters};
 use crate::pen::{DEEPEST, face_height, face_width, indent, tallest};
 use escpos_command::{Alignment, FontFace};
 use escpos_io::{GATHERED_BYTES, Gather, append_number, append_small_number};
-use escpos_paper::{Cell, LINE_CELLS, Style};
+use escpos_paper::{Cell, LINE_CELLS, LINE_DOTS, Style};
 
 /// The most bytes that a row of no cells takes, and each cell more.
 pub const ROW_BYTES: usize = 128;
 
-pub const CELL_BYTES: usize = 256;
+pub const CELL_BYTES: usize = 264;
 
 const _: () = prove!(ROW_BYTES == 128);
 
-const _: () = prove!(CELL_BYTES == 256);
+const _: () = prove!(CELL_BYTES == 264);
 
 /// Appends a row of these cells whose upper edge is this many quarters of a dot down the paper.
-pub fn append_row(gather: &mut Gather, align: Alignment, cells: &[Cell], down: usize)
+pub fn append_row(
+    gather: &mut Gather,
+    align: Alignment,
+    upside_down: bool,
+    cells: &[Cell],
+    down: usize,
+)
     requires few { length cells.now ≤ LINE_CELLS }
     requires small { down ≤ DEEPEST }
     requires room { length gather.old.kept + ROW_BYTES + CELL_BYTES * length cells.now ≤ GATHERED_BYTES }
-    ensures kept { gather.new.kept ≡ gather.old.kept ++ row_drawing down align cells.now }
+    ensures kept { gather.new.kept ≡ gather.old.kept ++ row_drawing down align upside_down cells.now }
     ensures same_count { gather.new.written ≡ gather.old.written }
 {
     gather.extend(b"<g class=\"row\" transform=\"translate(");
     append_place(
         gather,
-        indent(align, dots(cells)),
-        down + 3 * tallest(cells),
+        row_start(upside_down, indent(align, dots(cells))),
+        down + base_line(upside_down, tallest(cells)),
     );
-    gather.extend(b")\">");
+    gather.extend(row_turn(upside_down));
     append_runs(gather, cells);
     gather.extend(b"</g>\n");
+}
+
+// How far the base line of a row this tall is under its upper edge, in quarters of a dot.
+fn base_line(upside_down: bool, height: usize) -> usize
+    requires { height ≤ 6120 }
+    ensures value { result ≡ base_line upside_down height }
+    ensures small { result ≤ 18360 }
+{
+    if upside_down { height } else { 3 * height }
+}
+
+// Where a row begins that leaves so many dots of its line free before it.
+fn row_start(upside_down: bool, free: usize) -> usize
+    requires { free ≤ LINE_DOTS }
+    ensures value { result ≡ row_start upside_down free }
+    ensures small { result ≤ LINE_DOTS }
+{
+    if upside_down { LINE_DOTS - free } else { free }
+}
+
+fn row_turn(upside_down: bool) -> &'static [u8]
+    ensures text { result.now ≡ row_turn upside_down }
+    ensures short { length result.now ≤ 15 }
+{
+    if upside_down {
+        b") rotate(180)\">"
+    } else {
+        b")\">"
+    }
 }
 
 // How wide these cells are, in dots.
@@ -99,29 +134,64 @@ fn same_count(style: &Style, cells: &[Cell]) -> usize
     count
 }
 
-// Appends cells of one style as a text, this many dots from the left end of the row, and their underline.
+// Appends cells of one style, this many dots from the left end of the row: white on black, or with their underline.
 #[tactic(auto, unfolding(crate::specs::Rows::run_drawing))]
 fn append_run(gather: &mut Gather, x: usize, style: &Style, cells: &[Cell])
     requires few { length cells.now ≤ LINE_CELLS }
-    requires room { length gather.old.kept + 250 + 6 * length cells.now ≤ GATHERED_BYTES }
+    requires room { length gather.old.kept + 256 + 6 * length cells.now ≤ GATHERED_BYTES }
     ensures kept { gather.new.kept ≡ gather.old.kept ++ run_drawing x (run style.now (bytes_of cells.now)) }
     ensures same_count { gather.new.written ≡ gather.old.written }
-    ensures short { length gather.new.kept ≤ length gather.old.kept + 250 + 6 * length cells.now }
+    ensures short { length gather.new.kept ≤ length gather.old.kept + 256 + 6 * length cells.now }
+{
+    if style.reverse {
+        append_ground(gather, x, style, cells);
+        append_run_text(gather, x, style, cells);
+    } else {
+        append_run_text(gather, x, style, cells);
+        append_underline(gather, x, style, cells);
+    }
+}
+
+// Appends the characters of cells of one style as a text.
+fn append_run_text(gather: &mut Gather, x: usize, style: &Style, cells: &[Cell])
+    requires few { length cells.now ≤ LINE_CELLS }
+    requires room { length gather.old.kept + 128 + 6 * length cells.now ≤ GATHERED_BYTES }
+    ensures kept { gather.new.kept ≡ gather.old.kept ++ run_text x (run style.now (bytes_of cells.now)) }
+    ensures same_count { gather.new.written ≡ gather.old.written }
+    ensures short { length gather.new.kept ≤ length gather.old.kept + 128 + 6 * length cells.now }
 {
     append_run_tag(gather, x, style, cells);
     append_cells(gather, style.table, cells);
     gather.extend(b"</text>");
-    append_underline(gather, x, style, cells);
+}
+
+// Appends the black ground of cells of one style.
+#[tactic(auto, unfolding(crate::specs::Rows::ground_text))]
+fn append_ground(gather: &mut Gather, x: usize, style: &Style, cells: &[Cell])
+    requires few { length cells.now ≤ LINE_CELLS }
+    requires room { length gather.old.kept + 128 ≤ GATHERED_BYTES }
+    ensures kept { gather.new.kept ≡ gather.old.kept ++ ground_text x (run style.now (bytes_of cells.now)) }
+    ensures same_count { gather.new.written ≡ gather.old.written }
+    ensures short { length gather.new.kept ≤ length gather.old.kept + 128 }
+{
+    let width = style_dots(style) * cells.len();
+    let height = face_height(style.font) * usize::from(style.height);
+    gather.extend(b"<path d=\"M");
+    append_between(gather, b"", x, b" -");
+    append_quarters(gather, 3 * height);
+    append_between(gather, b"h", width, b"v");
+    append_between(gather, b"", height, b"h-");
+    append_between(gather, b"", width, b"z\"/>");
 }
 
 // Appends the tag before the characters of these cells.
 #[tactic(auto, unfolding(crate::specs::Rows::run_tag))]
 fn append_run_tag(gather: &mut Gather, x: usize, style: &Style, cells: &[Cell])
     requires few { length cells.now ≤ LINE_CELLS }
-    requires room { length gather.old.kept + 115 ≤ GATHERED_BYTES }
+    requires room { length gather.old.kept + 121 ≤ GATHERED_BYTES }
     ensures kept { gather.new.kept ≡ gather.old.kept ++ run_tag x (run style.now (bytes_of cells.now)) }
     ensures same_count { gather.new.written ≡ gather.old.written }
-    ensures short { length gather.new.kept ≤ length gather.old.kept + 115 }
+    ensures short { length gather.new.kept ≤ length gather.old.kept + 121 }
 {
     append_text_start(gather, x, style);
     append_between(
@@ -135,10 +205,10 @@ fn append_run_tag(gather: &mut Gather, x: usize, style: &Style, cells: &[Cell])
 // Appends the beginning of that tag.
 #[tactic(auto, unfolding(crate::specs::Rows::text_start))]
 fn append_text_start(gather: &mut Gather, x: usize, style: &Style)
-    requires { length gather.old.kept + 80 ≤ GATHERED_BYTES }
+    requires { length gather.old.kept + 86 ≤ GATHERED_BYTES }
     ensures kept { gather.new.kept ≡ gather.old.kept ++ text_start x style.now }
     ensures same_count { gather.new.written ≡ gather.old.written }
-    ensures short { length gather.new.kept ≤ length gather.old.kept + 80 }
+    ensures short { length gather.new.kept ≤ length gather.old.kept + 86 }
 {
     gather.extend(b"<text");
     append_text_place(gather, x, style);
@@ -185,13 +255,17 @@ fn is_plain_size(style: &Style) -> bool
 #[tactic(auto, unfolding(crate::specs::Rows::text_class))]
 fn text_class(style: &Style) -> &'static [u8]
     ensures text { result.now ≡ text_class style.now }
-    ensures short { length result.now ≤ 15 }
+    ensures short { length result.now ≤ 21 }
 {
-    match (style.font, style.bold) {
-        (FontFace::A, false) => b"",
-        (FontFace::A, true) => b" class=\"bold\"",
-        (FontFace::B, false) => b" class=\"B\"",
-        (FontFace::B, true) => b" class=\"B bold\"",
+    match (style.font, style.bold || style.strike, style.reverse) {
+        (FontFace::A, false, false) => b"",
+        (FontFace::A, false, true) => b" class=\"white\"",
+        (FontFace::A, true, false) => b" class=\"bold\"",
+        (FontFace::A, true, true) => b" class=\"bold white\"",
+        (FontFace::B, false, false) => b" class=\"B\"",
+        (FontFace::B, false, true) => b" class=\"B white\"",
+        (FontFace::B, true, false) => b" class=\"B bold\"",
+        (FontFace::B, true, true) => b" class=\"B bold white\"",
     }
 }
 

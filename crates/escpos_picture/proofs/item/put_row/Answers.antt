@@ -10,6 +10,6 @@ returns-in_err-room g c =
 
 pub returns : goal.returns
 returns g c =
-    let row = row_drawing c.args.down c.args.align c.args.cells.now in
+    let row = row_drawing c.args.down c.args.align c.args.upside_down c.args.cells.now in
     appended_at _ _ _ _ _ _ _ _ _ c.append_row.new.gather [] row (nothing_given _ _ _) c.in_ok-room.ensures.given
-    (c.append_row.ensures.kept ∙ ap (λ cells. c.room.new.self.kept ++ row_drawing c.args.down c.args.align cells) c.as_slice-row.ensures.cells) c.append_row.ensures.same_count
+    (c.append_row.ensures.kept ∙ ap (λ cells. c.room.new.self.kept ++ row_drawing c.args.down c.args.align c.args.upside_down cells) c.as_slice-row.ensures.cells) c.append_row.ensures.same_count

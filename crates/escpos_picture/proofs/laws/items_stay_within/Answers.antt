@@ -1,4 +1,4 @@
-use Rattle.escpos_picture.proofs.Within.{rows_within, underlines_within, rasters_within, bars_within, labels_within, cuts_within, across}
+use Rattle.escpos_picture.proofs.Within.{rows_within, underlines_within, rasters_within, bars_within, labels_within, cuts_within, across, turned}
 use Rattle.escpos_picture.proofs.laws.items_stay_within.Goals as goal
 
 pub returns-clause-rows_within : goal.returns-clause-rows_within
@@ -21,3 +21,6 @@ returns-clause-cuts_within c = cuts_within
 
 pub returns-clause-across : goal.returns-clause-across
 returns-clause-across c = across
+
+pub returns-clause-turned : goal.returns-clause-turned
+returns-clause-turned c = turned
