@@ -1,12 +1,12 @@
 -- Where the commands that the first profile lacked part from those that it had.
-use Rattle.std.proofs.Common.{◌≡◌, ◌<◌, ◌≤◌, zero, suc, ℕ, ◌+◌, ◌*◌, ◌/◌, ◌%◌, List, [], ◌∷◌, ◌++◌, length, refl, sym, ◌∙◌, ap, subst, append-nil, arith, Bool, true, false}
+use Rattle.std.proofs.Common.{◌≡◌, ◌<◌, ◌≤◌, zero, suc, ℕ, ◌+◌, ◌*◌, ◌/◌, ◌%◌, List, [], ◌∷◌, ◌++◌, length, refl, ◌∙◌, ap, append-nil, arith, Bool, true, false}
 use Rattle.std.specs.Prelude.{nat_le}
 use Rattle.std.specs.List.{list_all}
 use Rattle.std.proofs.lemmas.Bool.Decides.{nat_tests}
 use Rattle.escpos_command.specs.declared.bytes.TheConstants.{ESC, GS}
 use Rattle.escpos_command.specs.declared.command.Command.{Command}
 use Rattle.escpos_command.specs.declared.command.Command.TheVariants as kind
-use Rattle.escpos_command.specs.CommandTable.{Spells, IsCommand, row}
+use Rattle.escpos_command.specs.CommandTable.{IsCommand, row}
 use Rattle.escpos_command.specs.FirstProfile.{in_first_profile, IsNew, units, pulse, rows, later}
 use Rattle.escpos_command.specs.Parameters.{is_byte, is_one_of_two, is_one_of_four}
 use Rattle.escpos_command.specs.Profiles.{ViableIn}

@@ -1,11 +1,11 @@
 -- Where the commands that are new since the second profile part from those of an earlier profile: at their letter. A kind of
 -- command adds a case to `later_parts`.
-use Rattle.std.proofs.Common.{◌≡◌, ℕ, List, [], ◌∷◌, ◌++◌, refl, Bool, true, false, IsTrue}
+use Rattle.std.proofs.Common.{◌≡◌, ℕ, List, [], ◌∷◌, refl, Bool, true, false}
 use Rattle.escpos_command.specs.declared.bytes.TheConstants.{ESC, GS}
 use Rattle.escpos_command.specs.declared.command.Command.{Command}
 use Rattle.escpos_command.specs.declared.command.Command.TheVariants as kind
 use Rattle.escpos_command.specs.Parameters.{is_byte, is_character_set}
-use Rattle.escpos_command.specs.CommandTable.{IsCommand, row}
+use Rattle.escpos_command.specs.CommandTable.{row}
 use Rattle.escpos_command.specs.SecondProfile.{in_second_profile, IsNewLetter, after_esc, after_gs}
 use Rattle.escpos_command.specs.Profiles.{ViableIn}
 use Rattle.escpos_command.specs.Tree.{leaf, walk, grammar}

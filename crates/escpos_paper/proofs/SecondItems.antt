@@ -1,5 +1,5 @@
 -- Commands of the second profile print items of the second profile.
-use Rattle.std.proofs.Common.{◌≡◌, ℕ, List, [], ◌∷◌, ◌++◌, length, sym, ◌∙◌, ap, subst, refl, Bool, true, false, cond, IsTrue}
+use Rattle.std.proofs.Common.{◌≡◌, List, [], ◌∷◌, ◌++◌, length, sym, subst, refl, Bool, true, false, cond, IsTrue}
 use Rattle.std.specs.Prelude.{nat_lt, None}
 use Rattle.std.specs.List.{AllByRecursion}
 use Rattle.escpos_command.specs.declared.command.Command.{Command}
@@ -15,7 +15,7 @@ use Rattle.escpos_paper.specs.OverPlaces.{over_places}
 use Rattle.escpos_paper.specs.Printed.{printed, prints, row_and_feed, row_of}
 use Rattle.escpos_paper.specs.Rows.{fits, line, rows}
 use Rattle.escpos_paper.specs.SecondPaper.{IsSecondCell, IsSecondItem}
-use Rattle.escpos_paper.specs.Steps.{line_after, line_style_after, style_after, with_cell}
+use Rattle.escpos_paper.specs.Steps.{line_after, line_style_after, style_after}
 use Rattle.escpos_paper.specs.Styles.{is_empty, line_style, style}
 use Rattle.escpos_paper.proofs.OneMore.{style-snoc}
 use Rattle.escpos_paper.proofs.Sheets.{line-snoc, line_style_step}

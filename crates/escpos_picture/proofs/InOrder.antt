@@ -14,7 +14,7 @@ use Rattle.escpos_paper.specs.declared.cell.Cell.{Cell}
 use Rattle.escpos_paper.specs.declared.item.Item.{Item}
 use Rattle.escpos_paper.specs.declared.item.Item.TheVariants.{Row, Feed, FeedUnits, Bars, Raster, Cut}
 use Rattle.escpos_picture.specs.declared.pen.TheConstants.{DEEPEST, MARGIN}
-use Rattle.escpos_picture.specs.Places.{top, place_after, place_after_all, depth, row_above, face_height, cell_height, tallest, text_lines, downwards, line_depth, feed_depth}
+use Rattle.escpos_picture.specs.Places.{top, place_after, place_after_all, depth, row_above, face_height, cell_height, tallest, text_lines, downwards, feed_depth}
 use Rattle.escpos_picture.specs.Depths.{depths, row_above_next, HasSizes}
 use Rattle.escpos_picture.specs.Document.{paper_height}
 use Rattle.escpos_picture.specs.Groups.{drawing, drawing_at, drawings}
