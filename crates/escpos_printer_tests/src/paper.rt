@@ -133,6 +133,8 @@ fn laws_hold() {
     laws::initialisation();
     laws::paper_grows();
     laws::one_check_digit();
+    laws::first_profile();
+    laws::second_profile();
 }
 
 #[test]

@@ -88,8 +88,8 @@ fn takes_marks_for_dots(
 
 fn is_raster_and_text(items: &[Item], text: &[u8]) -> bool {
     match items {
-        [Item::Raster { .. }, Item::Feed(1)] => text.is_empty(),
-        [Item::Raster { .. }, Item::Row { cells, .. }, Item::Feed(1)] => {
+        [Item::Raster { .. }, Item::Feed { lines: 1, .. }] => text.is_empty(),
+        [Item::Raster { .. }, Item::Row { cells, .. }, Item::Feed { lines: 1, .. }] => {
             has_bytes(cells.as_slice(), text)
         }
         _ => false,
@@ -172,7 +172,7 @@ fn drops_at_restart(rt: &impl Abort, printer: &mut Printer, mark: &[u8]) {
     printer.restart();
     assert!(rt; printer.waiting() == 0);
     feed_all(rt, printer, b"\n");
-    assert!(rt; matches!(printer.items(), [Item::Feed(1)]));
+    assert!(rt; matches!(printer.items(), [Item::Feed { lines: 1, .. }]));
 }
 
 #[test]

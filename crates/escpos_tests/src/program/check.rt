@@ -186,6 +186,82 @@ fn contents_in_check(rt: HostRuntime) {
     performs_rows(&rt, rt.alloc(), Task::Check, &CHECKED_CONTENTS, &[1, 4096]);
 }
 
+// What is new since the second profile.
+const CHECKED_STYLES: [Row; 23] = [
+    // strike, on, off and with bits that have no effect
+    (
+        b"1B 47 01 1B 47 00 1B 47 FF",
+        b"0 strike 01\n3 strike 00\n6 strike ff\nend 9 pending 0\n",
+        Status::Good,
+    ),
+    // reverse
+    (
+        b"1D 42 01 1D 42 FE",
+        b"0 reverse 01\n3 reverse fe\nend 6 pending 0\n",
+        Status::Good,
+    ),
+    // upside_down
+    (
+        b"1B 7B 01 1B 7B 80",
+        b"0 upside 01\n3 upside 80\nend 6 pending 0\n",
+        Status::Good,
+    ),
+    // smoothing
+    (
+        b"1D 62 01 1D 62 00",
+        b"0 smooth 01\n3 smooth 00\nend 6 pending 0\n",
+        Status::Good,
+    ),
+    // spacing, from nothing to the most, and the default
+    (
+        b"1B 33 00 1B 33 FF 1B 32",
+        b"0 spacing 00\n3 spacing ff\n6 spacing default\nend 8 pending 0\n",
+        Status::Good,
+    ),
+    // character_set, to the last one and past it
+    (
+        b"1B 52 00 1B 52 11",
+        b"0 charset 00\n3 charset 11\nend 6 pending 0\n",
+        Status::Good,
+    ),
+    (b"1B 52 12", b"fault 2 3 BadParameter\n", Status::Refused),
+    (
+        b"41 1B 52 FF",
+        b"0 char 41\nfault 3 3 BadParameter\n",
+        Status::Refused,
+    ),
+    // each without its parameter
+    (b"1B 47", b"end 2 pending 2\n", Status::Refused),
+    (b"1D 42", b"end 2 pending 2\n", Status::Refused),
+    (b"1B 7B", b"end 2 pending 2\n", Status::Refused),
+    (b"1D 62", b"end 2 pending 2\n", Status::Refused),
+    (b"1B 33", b"end 2 pending 2\n", Status::Refused),
+    (b"1B 52", b"end 2 pending 2\n", Status::Refused),
+    // letters beside those that are taken
+    (b"1B 31", b"fault 1 2 UnknownCommand\n", Status::Refused),
+    (b"1B 34", b"fault 1 2 UnknownCommand\n", Status::Refused),
+    (b"1B 56 01", b"fault 1 2 UnknownCommand\n", Status::Refused),
+    (b"1B 20 01", b"fault 1 2 UnknownCommand\n", Status::Refused),
+    (b"1B 72 01", b"fault 1 2 UnknownCommand\n", Status::Refused),
+    (
+        b"1D 4C 00 00",
+        b"fault 1 2 UnknownCommand\n",
+        Status::Refused,
+    ),
+    (
+        b"1D 57 00 02",
+        b"fault 1 2 UnknownCommand\n",
+        Status::Refused,
+    ),
+    (b"1D 7C 00", b"fault 1 2 UnknownCommand\n", Status::Refused),
+    (b"09", b"fault 0 1 UnknownByte\n", Status::Refused),
+];
+
+#[test]
+fn styles_in_check(rt: HostRuntime) {
+    performs_rows(&rt, rt.alloc(), Task::Check, &CHECKED_STYLES, &[1, 4096]);
+}
+
 // Row ean13's first stream.
 const EAN13: &[u8] = b"1D6B0234303036333831333333393300";
 

@@ -14,6 +14,7 @@ const STYLES: &str = "\
 text{font-family:\"DejaVu Sans Mono\",Menlo,Consolas,monospace;font-size:20px;white-space:pre}
 .B{font-size:15px}
 .bold{font-weight:bold}
+.white{fill:#fff}
 .middle{text-anchor:middle}
 .bars path,.raster path{stroke:#000;shape-rendering:crispEdges}
 .raster{clip-path:url(#line)}
@@ -27,7 +28,7 @@ text{font-family:\"DejaVu Sans Mono\",Menlo,Consolas,monospace;font-size:20px;wh
 // A stream in hexadecimal, the height of its paper and of its document in dots, and what stands between head and end.
 type Drawn = (&'static str, &'static str, &'static str, &'static str);
 
-const DRAWN: [Drawn; 27] = [
+const DRAWN: [Drawn; 33] = [
     // an empty paper: its margins alone
     ("", "64", "64", ""),
     // a row, 24 dots high, with its base line three quarters down, and a feed of 30 dots from its upper edge
@@ -102,6 +103,55 @@ const DRAWN: [Drawn; 27] = [
         "124",
         "<g class=\"row\" transform=\"translate(32,50)\"><text x=\"0\" textLength=\"24\">A </text><path d=\"M0 5h24v1h-24z\"/></g>\n<g class=\"feed\"/>\n\
          <g class=\"row\" transform=\"translate(32,80)\"><text x=\"0\" textLength=\"12\">B</text><path d=\"M0 4h12v2h-12z\"/></g>\n<g class=\"feed\"/>\n",
+    ),
+    // double strike is bold, beside emphasis and alone
+    (
+        "1B 47 01 41 1B 45 01 42 0A",
+        "94",
+        "94",
+        "<g class=\"row\" transform=\"translate(32,50)\"><text x=\"0\" class=\"bold\" textLength=\"12\">A</text>\
+         <text x=\"12\" class=\"bold\" textLength=\"12\">B</text></g>\n<g class=\"feed\"/>\n",
+    ),
+    // white on black, across a blank: 18 dots above the base line and 6 below it; the underline isn't drawn
+    (
+        "41 1D 42 01 1B 2D 02 42 20 1D 42 00 43 0A",
+        "94",
+        "94",
+        "<g class=\"row\" transform=\"translate(32,50)\"><text x=\"0\" textLength=\"12\">A</text>\
+         <path d=\"M12 -18h24v24h-24z\"/><text x=\"12\" class=\"white\" textLength=\"24\">B </text>\
+         <text x=\"36\" textLength=\"12\">C</text><path d=\"M36 4h12v2h-12z\"/></g>\n<g class=\"feed\"/>\n",
+    ),
+    // twice as wide and three times as high in font B, bold: 18 by 51 dots, 38.25 of them above the base line
+    (
+        "1D 42 01 1B 45 01 1B 4D 01 1D 21 12 41 0A",
+        "115",
+        "115",
+        "<g class=\"row\" transform=\"translate(32,70.25)\"><path d=\"M0 -38.25h18v51h-18z\"/>\
+         <text transform=\"matrix(2 0 0 3 0 0)\" class=\"B bold white\" textLength=\"9\">A</text></g>\n<g class=\"feed\"/>\n",
+    ),
+    // a line that is turned: what stands at its left end begins 32 + 512 dots from the left, 6 dots under its upper edge
+    (
+        "1B 7B 01 41 42 0A 1B 61 02 43 0A",
+        "124",
+        "124",
+        "<g class=\"row\" transform=\"translate(544,38) rotate(180)\"><text x=\"0\" textLength=\"24\">AB</text></g>\n<g class=\"feed\"/>\n\
+         <g class=\"row\" transform=\"translate(44,68) rotate(180)\"><text x=\"0\" textLength=\"12\">C</text></g>\n<g class=\"feed\"/>\n",
+    ),
+    // 61 motion units are 30.5 dots: 6.5 under a row, and 30.5 for each further line; after ESC 2 it is 30 again
+    (
+        "1B 33 3D 41 1B 64 02 0A 1B 32 0A",
+        "185.5",
+        "185.5",
+        "<g class=\"row\" transform=\"translate(32,50)\"><text x=\"0\" textLength=\"12\">A</text></g>\n<g class=\"feed\"/>\n\
+         <g class=\"feed\"/>\n<g class=\"feed\"/>\n",
+    ),
+    // a spacing less than a row is high adds nothing under it
+    (
+        "1B 33 00 41 0A 42 0A",
+        "112",
+        "112",
+        "<g class=\"row\" transform=\"translate(32,50)\"><text x=\"0\" textLength=\"12\">A</text></g>\n<g class=\"feed\"/>\n\
+         <g class=\"row\" transform=\"translate(32,74)\"><text x=\"0\" textLength=\"12\">B</text></g>\n<g class=\"feed\"/>\n",
     ),
     // three styles in one row: on one base line, the second 12 dots from the left and 2 x 12 wide
     (

@@ -12,7 +12,7 @@ use std::alloc::Global;
 use std::process::Abort;
 
 // Texts of receipts, and their line.
-const ENCODED: [Row; 7] = [
+const ENCODED: [Row; 10] = [
     // encode
     (
         b"[{\"line\":\"Hi\"},{\"cut\":\"full\"}]",
@@ -42,6 +42,23 @@ const ENCODED: [Row; 7] = [
         b"410a1b4a051b700019fa\n",
         Status::Good,
     ),
+    // styles_in_receipt
+    (
+        b"[{\"strike\":true},{\"reverse\":true},{\"upside\":true},{\"charset\":8},{\"line\":\"A\"},{\"strike\":false},{\"reverse\":false},{\"upside\":false}]",
+        b"1b47011d42011b7b011b5208410a1b47001d42001b7b00\n",
+        Status::Good,
+    ),
+    (
+        b"[{\"spacing\":40},{\"line\":\"A\"},{\"spacing\":\"default\"},{\"feed\":2}]",
+        b"1b3328410a1b321b6402\n",
+        Status::Good,
+    ),
+    // in mid-line, where it has no effect
+    (
+        b"[{\"text\":\"A\"},{\"upside\":true},{\"feed\":2}]",
+        b"411b7b011b6402\n",
+        Status::Good,
+    ),
     // a member that comes twice has its last value, and a key may have escapes
     (
         b"[{\"f\\u0065ed\":256,\"feed\":1}]",
@@ -52,7 +69,7 @@ const ENCODED: [Row; 7] = [
 ];
 
 // Texts that give no receipt, and why.
-const REFUSED_TEXTS: [Row; 42] = [
+const REFUSED_TEXTS: [Row; 45] = [
     // receipt_refusals
     (b"[]", b"refused 1 Empty\n", Status::Refused),
     (
@@ -92,6 +109,22 @@ const REFUSED_TEXTS: [Row; 42] = [
     (b"1", b"refused 6 BadShape 0\n", Status::Refused),
     (b"null", b"refused 6 BadShape 0\n", Status::Refused),
     (b"\"line\"", b"refused 6 BadShape 0\n", Status::Refused),
+    // a character set past the last, and spacings past both ends
+    (
+        b"[{\"charset\":17},{\"charset\":18}]",
+        b"refused 6 BadShape 1\n",
+        Status::Refused,
+    ),
+    (
+        b"[{\"spacing\":255},{\"spacing\":256}]",
+        b"refused 6 BadShape 1\n",
+        Status::Refused,
+    ),
+    (
+        b"[{\"spacing\":\"default\"},{\"spacing\":\"Default\"}]",
+        b"refused 6 BadShape 1\n",
+        Status::Refused,
+    ),
     // numbers
     (
         b"[{\"feed\":1},{\"feed\":-0}]",

@@ -149,11 +149,12 @@ fn a_long_line_has_memory(rt: HostRuntime) {
 // The least number of a member, what stands before and after a number in an entry, and what does so in its bytes.
 type Numbered = (u8, [&'static str; 2], [&'static str; 2]);
 
-const NUMBERED: [Numbered; 8] = [
+const NUMBERED: [Numbered; 9] = [
     (0, ["{\"feed\":", "}"], ["1b64", ""]),
     (0, ["{\"units\":", "}"], ["1b4a", ""]),
     (0, ["{\"mode\":", "}"], ["1b21", ""]),
     (0, ["{\"table\":", "}"], ["1b74", ""]),
+    (0, ["{\"spacing\":", "}"], ["1b33", ""]),
     (1, ["{\"bar_height\":", "}"], ["1d68", ""]),
     (
         0,
@@ -210,7 +211,7 @@ fn each_number_has_memory(rt: HostRuntime) {
 }
 
 // An entry of each member with a value of the wrong kind, and parts of inner objects of the wrong kind.
-const WRONG_KINDS: [&str; 27] = [
+const WRONG_KINDS: [&str; 33] = [
     "[{\"text\":1}]",
     "[{\"line\":null}]",
     "[{\"feed\":\"1\"}]",
@@ -231,6 +232,12 @@ const WRONG_KINDS: [&str; 27] = [
     "[{\"raster\":\"f00f\"}]",
     "[{\"cut\":true}]",
     "[{\"feed_cut\":\"full\"}]",
+    "[{\"strike\":1}]",
+    "[{\"reverse\":\"true\"}]",
+    "[{\"upside\":null}]",
+    "[{\"spacing\":\"none\"}]",
+    "[{\"spacing\":true}]",
+    "[{\"charset\":\"2\"}]",
     "[{\"pulse\":{\"pin\":0,\"on\":\"25\",\"off\":250}}]",
     "[{\"bars\":{\"kind\":3,\"content\":\"5512345\"}}]",
     "[{\"bars\":{\"kind\":\"ean8\",\"content\":5512345}}]",

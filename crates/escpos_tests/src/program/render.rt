@@ -195,6 +195,106 @@ fn contents_in_render(rt: HostRuntime) {
     performs_rows(&rt, rt.alloc(), Task::Render, &RENDERED_CONTENTS, &[4096]);
 }
 
+// What is new since the second profile.
+const RENDERED_STYLES: [Row; 16] = [
+    // strike, beside emphasis, by bit 0 alone
+    (
+        b"1B 45 01 1B 47 01 41 1B 47 02 42 0A",
+        b"row left [A,1,1,1,0,0,1,0,0]A[A,1,1,1,0,0]B\nfeed 1\n",
+        Status::Good,
+    ),
+    // white on black, back to six fields
+    (
+        b"1D 42 FF 41 1D 42 FE 42 0A",
+        b"row left [A,1,1,0,0,0,0,1,0]A[A,1,1,0,0,0]B\nfeed 1\n",
+        Status::Good,
+    ),
+    // a character set, which changes no byte
+    (
+        b"1B 52 08 23 E9 0A",
+        b"row left [A,1,1,0,0,0,0,0,8]#\\e9\nfeed 1\n",
+        Status::Good,
+    ),
+    // ESC ! leaves all three as they are
+    (
+        b"1B 47 01 1D 42 01 1B 52 11 1B 21 B9 41 0A",
+        b"row left [B,2,2,1,1,0,1,1,17]A\nfeed 1\n",
+        Status::Good,
+    ),
+    // Init puts them back, at the beginning of a line and in it
+    (
+        b"1B 47 01 1D 42 01 1B 52 11 1B 7B 01 1B 33 05 41 1B 40 42 0A",
+        b"row left B\nfeed 1\n",
+        Status::Good,
+    ),
+    // upside down, at the beginning of a line alone
+    (
+        b"1B 7B 01 41 1B 7B 00 42 0A 1B 7B 02 43 0A",
+        b"row left upside AB\nfeed 1\nrow left C\nfeed 1\n",
+        Status::Good,
+    ),
+    (
+        b"41 1B 7B 01 42 0A 43 0A",
+        b"row left AB\nfeed 1\nrow left C\nfeed 1\n",
+        Status::Good,
+    ),
+    // with an alignment and a style
+    (
+        b"1B 61 01 1B 7B 01 1B 47 01 41 0A",
+        b"row center upside [A,1,1,0,0,0,1,0,0]A\nfeed 1\n",
+        Status::Good,
+    ),
+    // a row that is full is upside down, too, and so is the next
+    (
+        b"1B7B011B330A616161616161616161616161616161616161616161616161616161616161616161616161616161616161610A",
+        b"row left upside aaaaaaaaaaaaaaaaaaaaaaaaaaaaaaaaaaaaaaaaaa\nfeed 1 spacing 10\nrow left upside a\nfeed 1 spacing 10\n",
+        Status::Good,
+    ),
+    // barcodes and rasters aren't turned
+    (
+        b"1B 7B 01 1D 6B 46 02 31 32 1D 76 30 00 01 00 01 00 FF",
+        b"bars left itf 162 3 none A 12\nraster left normal 1 1 ff\n",
+        Status::Good,
+    ),
+    // a spacing is that of the feeds after it, until the default
+    (
+        b"1B 33 28 0A 1B 64 02 1B 32 0A 1B 33 00 1B 64 00",
+        b"feed 1 spacing 40\nfeed 2 spacing 40\nfeed 1\nfeed 0 spacing 0\n",
+        Status::Good,
+    ),
+    // also of the line that it is set in, and of the feed before a cut
+    (
+        b"41 1B 33 FF 0A 42 1D 56 00",
+        b"row left A\nfeed 1 spacing 255\nrow left B\nfeed 1 spacing 255\ncut full\n",
+        Status::Good,
+    ),
+    // motion units have no spacing
+    (b"1B 33 05 1B 4A 07", b"units 7\n", Status::Good),
+    // smoothing has no effect
+    (
+        b"1D 62 01 41 1D 62 00 0A",
+        b"row left A\nfeed 1\n",
+        Status::Good,
+    ),
+    // none of them prints anything
+    (
+        b"1B 47 01 1D 42 01 1B 7B 01 1D 62 01 1B 33 05 1B 32 1B 52 01",
+        b"",
+        Status::Good,
+    ),
+    // what was printed before a fault has its style
+    (
+        b"1B 47 01 41 0A 1B 52 12",
+        b"row left [A,1,1,0,0,0,1,0,0]A\nfeed 1\nfault 7 3 BadParameter\n",
+        Status::Refused,
+    ),
+];
+
+#[test]
+fn styles_in_render(rt: HostRuntime) {
+    performs_rows(&rt, rt.alloc(), Task::Render, &RENDERED_STYLES, &[1, 4096]);
+}
+
 // A raster of 128 bytes a row, with so many bytes of dots, through `render`.
 fn renders_wide(rt: &impl Abort, alloc: Global, head: &[u8], count: usize, item: &[u8]) {
     let digits = count.saturating_mul(2);

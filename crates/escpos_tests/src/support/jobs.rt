@@ -97,8 +97,9 @@ pub fn performs_rows(rt: &impl Abort, alloc: Global, task: Task, rows: &[Row], l
 // A receipt with every member.
 pub const EVERY_MEMBER: &[u8] = b"\
 [{\"align\":\"center\"},{\"size\":[2,2]},{\"mode\":8},{\"line\":\"Kolatennis\"},
-{\"size\":[1,1]},{\"bold\":true},{\"underline\":1},{\"font\":\"B\"},{\"table\":16},
-{\"text\":\"Total\"},{\"feed\":1},{\"units\":4},{\"bar_height\":80},{\"bar_width\":2},
+{\"size\":[1,1]},{\"bold\":true},{\"strike\":true},{\"reverse\":true},{\"underline\":1},{\"font\":\"B\"},{\"table\":16},
+{\"charset\":2},{\"spacing\":48},
+{\"text\":\"Total\"},{\"feed\":1},{\"spacing\":\"default\"},{\"upside\":true},{\"units\":4},{\"bar_height\":80},{\"bar_width\":2},
 {\"hri\":\"below\"},{\"hri_font\":\"B\"},
 {\"bars\":{\"kind\":\"ean13\",\"content\":\"400638133393\"}},
 {\"raster\":{\"scale\":\"normal\",\"x\":2,\"y\":2,\"dots\":\"f00fF00F\"}},
@@ -107,7 +108,7 @@ pub const EVERY_MEMBER: &[u8] = b"\
 ";
 
 pub const EVERY_LINE: &[u8] =
-    b"1b61011d21111b21084b6f6c6174656e6e69730a1d21001b45011b2d011b4d011b7410546f74616c1b64011b4a041d68501d77021d48021d66011d6b430c3430303633383133333339331d76300002000200f00ff00f1b700019fa1d56011d564103\n";
+    b"1b61011d21111b21084b6f6c6174656e6e69730a1d21001b45011b47011d42011b2d011b4d011b74101b52021b3330546f74616c1b64011b321b7b011b4a041d68501d77021d48021d66011d6b430c3430303633383133333339331d76300002000200f00ff00f1b700019fa1d56011d564103\n";
 
 // The address in the rows below.
 pub fn printer_address() -> SocketAddrV4 {
