@@ -48,6 +48,7 @@ const DRAWN_STREAM: (&[u8], Status) = (
 text{font-family:\"DejaVu Sans Mono\",Menlo,Consolas,monospace;font-size:20px;white-space:pre}
 .B{font-size:15px}
 .bold{font-weight:bold}
+.white{fill:#fff}
 .middle{text-anchor:middle}
 .bars path,.raster path{stroke:#000;shape-rendering:crispEdges}
 .raster{clip-path:url(#line)}
