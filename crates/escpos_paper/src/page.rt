@@ -1,7 +1,7 @@
 //! The page: what the commands so far have put on paper.
 //!
 //! What is printed stays on a page until it is torn off; where each command's items are torn off, a stream of any length
-//! can be printed in the memory that one command takes. A page keeps one style, the settings of barcodes, one alignment and
+//! can be printed in the memory that one command takes. A page keeps one style of characters, one of barcodes, one of lines and
 //! one line. The invariant of its type says that these are what the definitions find by looking back in the whole list of
 //! commands. What each command does to them is left to `paper`; a page makes room for it.
 
