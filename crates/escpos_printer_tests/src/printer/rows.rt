@@ -89,9 +89,11 @@ fn takes_marks_for_dots(
 fn is_raster_and_text(items: &[Item], text: &[u8]) -> bool {
     match items {
         [Item::Raster { .. }, Item::Feed { lines: 1, .. }] => text.is_empty(),
-        [Item::Raster { .. }, Item::Row { cells, .. }, Item::Feed { lines: 1, .. }] => {
-            has_bytes(cells.as_slice(), text)
-        }
+        [
+            Item::Raster { .. },
+            Item::Row { cells, .. },
+            Item::Feed { lines: 1, .. },
+        ] => { has_bytes(cells.as_slice(), text) }
         _ => false,
     }
 }
