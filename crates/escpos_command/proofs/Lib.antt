@@ -13,3 +13,4 @@ pub mod Copied
 pub mod Resynchronisation
 pub mod AnswerReadings
 pub mod Texts
+pub mod Worked

@@ -1,15 +1,17 @@
 -- Where the commands that are new since the second profile part from those of an earlier profile: at their letter. A kind of
 -- command adds a case to `later_parts`.
-use Rattle.std.proofs.Common.{◌≡◌, ℕ, List, [], ◌∷◌, refl, Bool, true, false}
+use Rattle.std.proofs.Common.{◌≡◌, ℕ, List, [], ◌∷◌, refl, Bool, true, false, ◌++◌, ◌⊎◌, inl, inr, sym, ◌∙◌, subst, append_assoc}
+use Rattle.std.specs.Prelude.{◌==◌, ◌||◌}
 use Rattle.escpos_command.specs.declared.bytes.TheConstants.{ESC, GS}
 use Rattle.escpos_command.specs.declared.command.Command.{Command}
 use Rattle.escpos_command.specs.declared.command.Command.TheVariants as kind
 use Rattle.escpos_command.specs.Parameters.{is_byte, is_character_set}
-use Rattle.escpos_command.specs.CommandTable.{row}
-use Rattle.escpos_command.specs.SecondProfile.{in_second_profile, IsNewLetter, after_esc, after_gs}
+use Rattle.escpos_command.specs.CommandTable.{row, Spells, IsCommand}
+use Rattle.escpos_command.specs.SecondProfile.{in_second_profile, is_new_after_esc, is_new_after_gs, IsNewLetter, after_esc, after_gs}
+use Rattle.escpos_command.specs.Grammar.{Viable}
 use Rattle.escpos_command.specs.Profiles.{ViableIn}
 use Rattle.escpos_command.specs.Tree.{leaf, walk, grammar}
-use Rattle.escpos_command.proofs.Combinators.{at_row}
+use Rattle.escpos_command.proofs.Combinators.{at_row, same_number}
 use Rattle.escpos_command.proofs.Profiles.{Parts, AllPart, none_below, one_below, leaf_below}
 
 -- A profile that has ESC @ and GS w, and none of the new commands, which are new to it.
@@ -93,3 +95,63 @@ second = record { init = refl; bar_width = refl; lacks = λ c h. h; new = λ res
 
 pub second_parts : AllPart in_second_profile IsNewLetter
 second_parts c h k = later_parts in_second_profile IsNewLetter second c h
+
+-- ## What is new is taken now, and wasn't
+
+record IsTakenNow (bs : List ℕ) : Type 0 where
+  pub now : Viable bs
+  pub not_then : ViableIn in_second_profile bs → ⊥
+
+-- At the place where a command parts from the second profile.
+taken_there : (c : Command) → in_second_profile c ≡ false → IsCommand c → (before : List ℕ) (letter : ℕ) (after : List ℕ)
+    → row c ≡ before ++ letter ∷ after → (ViableIn in_second_profile (before ++ letter ∷ []) → ⊥) → IsTakenNow (before ++ letter ∷ [])
+taken_there c h k before letter after whole none = record {
+  now = (c, after, subst (λ bs. Spells c bs) (whole ∙ sym (append_assoc before (letter ∷ []) after)) (at_row c k));
+  not_then = none;
+}
+
+either : (a b : Bool) → (a || b) ≡ true → (a ≡ true) ⊎ (b ≡ true)
+either true b h = inl refl
+either false b h = inr h
+
+after_escape_now : (b letter : ℕ) → (b == letter) ≡ true → IsTakenNow (ESC ∷ letter ∷ []) → IsTakenNow (ESC ∷ b ∷ [])
+after_escape_now b letter h taken = subst (λ v. IsTakenNow (ESC ∷ v ∷ [])) (sym (same_number b letter h)) taken
+
+after_group_now : (b letter : ℕ) → (b == letter) ≡ true → IsTakenNow (GS ∷ letter ∷ []) → IsTakenNow (GS ∷ b ∷ [])
+after_group_now b letter h taken = subst (λ v. IsTakenNow (GS ∷ v ∷ [])) (sym (same_number b letter h)) taken
+
+not_after : (c : Command) → in_second_profile c ≡ false → Parts in_second_profile IsNewLetter (row c)
+not_after c h = later_parts in_second_profile IsNewLetter second c h
+
+escape_letters : (b : ℕ) → is_new_after_esc b ≡ true → IsTakenNow (ESC ∷ b ∷ [])
+unfolding not_after later_parts after_escape after_group
+escape_letters b h =
+    elim (either (b == 0x32 || b == 0x33 || b == 0x47 || b == 0x52) (b == 0x7B) h) [
+      | inr e ↦ after_escape_now b 0x7B e (taken_there (kind.UpsideDown 0) refl refl (ESC ∷ []) 0x7B (0 ∷ []) refl (not_after (kind.UpsideDown 0) refl).none)
+      | inl i ↦ elim (either (b == 0x32 || b == 0x33 || b == 0x47) (b == 0x52) i) [
+        | inr e ↦ after_escape_now b 0x52 e (taken_there (kind.CharacterSet 0) refl refl (ESC ∷ []) 0x52 (0 ∷ []) refl (not_after (kind.CharacterSet 0) refl).none)
+        | inl j ↦ elim (either (b == 0x32 || b == 0x33) (b == 0x47) j) [
+          | inr e ↦ after_escape_now b 0x47 e (taken_there (kind.DoubleStrike 0) refl refl (ESC ∷ []) 0x47 (0 ∷ []) refl (not_after (kind.DoubleStrike 0) refl).none)
+          | inl k ↦ elim (either (b == 0x32) (b == 0x33) k) [
+            | inr e ↦ after_escape_now b 0x33 e (taken_there (kind.LineSpacing 0) refl refl (ESC ∷ []) 0x33 (0 ∷ []) refl (not_after (kind.LineSpacing 0) refl).none)
+            | inl e ↦ after_escape_now b 0x32 e (taken_there kind.DefaultSpacing refl refl (ESC ∷ []) 0x32 [] refl (not_after kind.DefaultSpacing refl).none)
+          ]
+        ]
+      ]
+    ]
+
+group_letters : (b : ℕ) → is_new_after_gs b ≡ true → IsTakenNow (GS ∷ b ∷ [])
+unfolding not_after later_parts after_escape after_group
+group_letters b h =
+    elim (either (b == 0x42) (b == 0x62) h) [
+      | inr e ↦ after_group_now b 0x62 e (taken_there (kind.Smoothing 0) refl refl (GS ∷ []) 0x62 (0 ∷ []) refl (not_after (kind.Smoothing 0) refl).none)
+      | inl e ↦ after_group_now b 0x42 e (taken_there (kind.Reverse 0) refl refl (GS ∷ []) 0x42 (0 ∷ []) refl (not_after (kind.Reverse 0) refl).none)
+    ]
+
+after_rest : (rest others : List ℕ) (b : ℕ) → rest ≡ others → IsTakenNow (others ++ b ∷ []) → Viable (rest ++ b ∷ []) × (ViableIn in_second_profile (rest ++ b ∷ []) → ⊥)
+after_rest rest others b e taken =
+    subst (λ v. Viable (v ++ b ∷ []) × (ViableIn in_second_profile (v ++ b ∷ []) → ⊥)) (sym e) (taken.now, taken.not_then)
+
+pub new_is_taken : (rest : List ℕ) (b : ℕ) → IsNewLetter rest b → Viable (rest ++ b ∷ []) × (ViableIn in_second_profile (rest ++ b ∷ []) → ⊥)
+new_is_taken rest b (after_esc e h) = after_rest rest (ESC ∷ []) b e (escape_letters b h)
+new_is_taken rest b (after_gs e h) = after_rest rest (GS ∷ []) b e (group_letters b h)

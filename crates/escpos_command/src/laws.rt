@@ -2,14 +2,14 @@
 //! proved with this crate, and another crate cites it by calling the function. (`in_range` asks the command for its parts,
 //! whose contract gives the law; `same_clone` clones the command.)
 
-ghost use Rattle.std.specs.Prelude.{ℕ, ◌≡◌, ◌≢◌, ◌+◌, ◌<◌, ◌≤◌, ◌⊎◌, List, [], ◌++◌, length, slice_index, IsTrue, IfOk};
+ghost use Rattle.std.specs.Prelude.{ℕ, ◌≡◌, ◌≢◌, ◌+◌, ◌<◌, ◌≤◌, ◌⊎◌, List, [], ◌∷◌, ◌++◌, length, slice_index, IsTrue, IfOk};
 ghost use Rattle.escpos_command.specs.declared.fault.FaultReason.{FaultReason};
 ghost use Rattle.escpos_command.specs.CommandTable.{Spells, IsCommand, row, spell};
 ghost use Rattle.escpos_command.specs.Grammar.{Viable, Half, Reads, FaultAt};
 ghost use Rattle.escpos_command.specs.Parameters.{is_mark_id};
 ghost use Rattle.escpos_command.specs.Digits.{mark_count, mark_of};
 ghost use Rattle.escpos_command.specs.Tree.{Tree, dead, leaf, node, walk, grammar};
-ghost use Rattle.escpos_command.specs.Profiles.{ReadsIn, FaultAtIn, IsReadIn, IsRefusedIn};
+ghost use Rattle.escpos_command.specs.Profiles.{ViableIn, ReadsIn, FaultAtIn, IsReadIn, IsRefusedIn};
 ghost use Rattle.escpos_command.specs.FirstProfile.{in_first_profile, IsNew};
 ghost use Rattle.escpos_command.specs.SecondProfile.{in_second_profile, IsNewLetter};
 ghost use Rattle.escpos_command.specs.Marks.{IsMarkOrNone};
@@ -65,12 +65,14 @@ pub fn first_profile()
 
 /// The second profile, which had no double strike, white on black, lines upside down, smoothing, line spacing and character
 /// sets: it reads or refuses each byte list; what it read is read so by the whole table; and where it refused a byte, that byte
-/// is refused for the same reason, unless it is the letter of one of these.
+/// is refused for the same reason, unless it is the letter of one of these, which is taken now and wasn't then.
 pub fn second_profile()
     ensures read_or_refused { (bs : List ℕ) → IsReadIn in_second_profile bs ⊎ IsRefusedIn in_second_profile bs }
     ensures read { (bs : List ℕ) (cs : List Command) (rest : List ℕ) → ReadsIn in_second_profile bs cs rest → Reads bs cs rest }
     ensures refused { (bs : List ℕ) (cs : List Command) (rest : List ℕ) (k : ℕ) (why : FaultReason) →
         FaultAtIn in_second_profile bs cs rest k why → FaultAt bs cs rest k why ⊎ IsNewLetter rest (slice_index bs k) }
+    ensures new { (rest : List ℕ) (b : ℕ) → IsNewLetter rest b →
+        Viable (rest ++ b ∷ []) × (ViableIn in_second_profile (rest ++ b ∷ []) → ⊥) }
 {}
 
 /// Mark numbers: each has an id of its own.

@@ -4,6 +4,7 @@ use Rattle.std.specs.Prelude.{nat_lt, None}
 use Rattle.std.specs.List.{AllByRecursion}
 use Rattle.escpos_command.specs.declared.command.Command.{Command}
 use Rattle.escpos_command.specs.declared.command.Command.TheVariants as kind
+use Rattle.escpos_command.specs.FirstProfile.{in_first_profile}
 use Rattle.escpos_command.specs.SecondProfile.{in_second_profile}
 use Rattle.escpos_paper.specs.declared.cell.Cell.{Cell}
 use Rattle.escpos_paper.specs.declared.item.Item.{Item}
@@ -123,3 +124,17 @@ after before (c ∷ cs) h s = both (prints before c) _ (prints_second before c h
 
 pub second_items : (cs : List Command) → AllByRecursion (λ c. IsTrue (in_second_profile c)) cs → AllByRecursion IsSecondItem (printed cs)
 second_items cs h = after [] cs h (record { six = refl; cells = tt; plain = record { upright = refl; default = refl } })
+
+-- The commands of the first profile are of the second.
+also_second : (c : Command) → IsTrue (in_first_profile c) → IsTrue (in_second_profile c)
+also_second (kind.FeedUnits n) h = absurd cc
+also_second (kind.Pulse pulse) h = absurd cc
+also_second (kind.Raster raster) h = refl
+also_second c h = h
+
+all_second : (cs : List Command) → AllByRecursion (λ c. IsTrue (in_first_profile c)) cs → AllByRecursion (λ c. IsTrue (in_second_profile c)) cs
+all_second [] h = tt
+all_second (c ∷ cs) h = (also_second c h.0, all_second cs h.1)
+
+pub items_of_first : (cs : List Command) → AllByRecursion (λ c. IsTrue (in_first_profile c)) cs → AllByRecursion IsSecondItem (printed cs)
+items_of_first cs h = second_items cs (all_second cs h)

@@ -15,6 +15,7 @@ use Rattle.escpos_paper.specs.Styles.{power_on}
 use Rattle.escpos_paper.specs.Cells.{cell}
 use Rattle.escpos_paper.specs.CheckDigit.{digit}
 use Rattle.escpos_paper.specs.Rows.{rows}
+use Rattle.escpos_paper.specs.SecondPaper.{IsSecondCell, IsSecondItem}
 use Rattle.escpos_paper.specs.Printed.{printed}
 use Rattle.escpos_paper.specs.ItemsText.{items_text}
 use Rattle.escpos_paper.proofs.AllCuts.{rows_filled}
@@ -60,6 +61,41 @@ upside_down = refl
 spacing : printed (Char 0x41 ∷ LineSpacing 60 ∷ LineFeed ∷ FeedLines 3 ∷ DefaultSpacing ∷ LineFeed ∷ LineSpacing 0 ∷ LineFeed ∷ Init ∷ LineFeed ∷ [])
     ≡ Row Left false (cell power_on 0x41 ∷ []) ∷ Feed 1 (Some 60) ∷ Feed 3 (Some 60) ∷ Feed 1 None ∷ Feed 1 (Some 0) ∷ Feed 1 None ∷ []
 spacing = refl
+
+-- bit 0 alone switches strike and lines upside down
+by_bit_0 : printed (DoubleStrike 3 ∷ UpsideDown 0xFF ∷ Char 0x41 ∷ DoubleStrike 0xFE ∷ LineFeed ∷ UpsideDown 0xFE ∷ Char 0x42 ∷ LineFeed ∷ [])
+    ≡ Row Left true (cell (record power_on { strike = true }) 0x41 ∷ []) ∷ Feed 1 None ∷ Row Left false (cell power_on 0x42 ∷ []) ∷ Feed 1 None ∷ []
+by_bit_0 = refl
+
+-- a line that ESC J prints is upside down, too, and the feed before a barcode or a raster has its spacing
+upside_down_by_units : printed (UpsideDown 1 ∷ Char 0x41 ∷ FeedUnits 5 ∷ []) ≡ Row Left true (cell power_on 0x41 ∷ []) ∷ Units 5 ∷ []
+upside_down_by_units = refl
+
+spacing_before_items : printed (LineSpacing 10 ∷ Char 0x41 ∷ Bars (barcode form.B Itf (codes "12")) ∷ Char 0x42 ∷ Raster (picture 0 1 1 (0xFF ∷ [])) ∷ [])
+    ≡ Row Left false (cell power_on 0x41 ∷ []) ∷ Feed 1 (Some 10) ∷ Barred Left Itf 162 3 Nowhere A (codes "12") None
+    ∷ Row Left false (cell power_on 0x42 ∷ []) ∷ Feed 1 (Some 10) ∷ Dotted Left Normal 1 1 (0xFF ∷ []) ∷ []
+spacing_before_items = refl
+
+-- an Align in mid-line has no effect on the next line either
+align_lost : printed (Char 0x41 ∷ Align 1 ∷ LineFeed ∷ Char 0x42 ∷ LineFeed ∷ [])
+    ≡ Row Left false (cell power_on 0x41 ∷ []) ∷ Feed 1 None ∷ Row Left false (cell power_on 0x42 ∷ []) ∷ Feed 1 None ∷ []
+align_lost = refl
+
+-- what the second profile doesn't print
+no_row_upside_down : IsSecondItem (Row Left true []) → ⊥
+no_row_upside_down h = let clash : true ≡ false = h.0 in cc
+
+no_spacing : IsSecondItem (Feed 1 (Some 0)) → ⊥
+no_spacing h = let clash : Some 0 ≡ None = h in cc
+
+no_strike : IsSecondCell (cell (record power_on { strike = true }) 0x41) → ⊥
+no_strike h = let clash : false ≡ true = h in cc
+
+no_reverse : IsSecondCell (cell (record power_on { reverse = true }) 0x41) → ⊥
+no_reverse h = let clash : false ≡ true = h in cc
+
+no_character_set : IsSecondCell (cell (record power_on { character_set = 1 }) 0x41) → ⊥
+no_character_set h = let clash : false ≡ true = h in cc
 
 -- Init drops the line
 init_drops_line : printed (Char 0x41 ∷ Init ∷ Char 0x42 ∷ LineFeed ∷ []) ≡ Row Left false (cell power_on 0x42 ∷ []) ∷ Feed 1 None ∷ []

@@ -1,5 +1,6 @@
 -- What the second profile prints: no line upside down, no feed with a spacing, and only characters whose strike, reverse and
--- character set are as at power on. So the text of its paper has styles of six fields, and nothing that is new.
+-- character set are as at power on. So the text of its paper has styles of six fields. (A row of the characters `upside ` looks as
+-- one that is upside down.)
 use Rattle.std.specs.Prelude.{◌≡◌, false, IsTrue, None}
 use Rattle.std.specs.List.{AllByRecursion}
 use Rattle.escpos_paper.specs.declared.cell.Cell.{Cell}

@@ -63,9 +63,11 @@ pub fn one_check_digit()
     ensures no_other { (digits : List ℕ) (n : ℕ) → n < 10 → IsTrue (completes digits n) → n ≡ digit digits }
 {}
 
-/// The first profile prints nothing that it hasn't: no feed of motion units, and no raster of more than 2,047 rows.
+/// The first profile prints nothing that it hasn't: no feed of motion units, no raster of more than 2,047 rows, and nothing that
+/// the second hasn't.
 pub fn first_profile()
-    ensures { (cs : List Command) → AllByRecursion (λ c. IsTrue (in_first_profile c)) cs → AllByRecursion IsFirstItem (printed cs) }
+    ensures first { (cs : List Command) → AllByRecursion (λ c. IsTrue (in_first_profile c)) cs → AllByRecursion IsFirstItem (printed cs) }
+    ensures second { (cs : List Command) → AllByRecursion (λ c. IsTrue (in_first_profile c)) cs → AllByRecursion IsSecondItem (printed cs) }
 {}
 
 /// The second profile prints nothing that it hasn't: no line upside down, no feed with a spacing, and only characters whose

@@ -82,5 +82,6 @@ across Left width fits = omega arith
 across Center width fits = omega arith
 across Right width fits = omega arith
 
-pub turned : (align : Alignment) (width : ℕ) → width ≤ LINE_DOTS → width ≤ row_start true (indent align width)
-turned align width fits = let free = across align width fits in omega arith
+pub turned : (align : Alignment) (width : ℕ) → width ≤ LINE_DOTS
+    → (width ≤ row_start true (indent align width)) × (row_start true (indent align width) + indent align width ≡ LINE_DOTS)
+turned align width fits = let free = across align width fits in (omega arith, omega arith)

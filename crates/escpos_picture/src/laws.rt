@@ -49,7 +49,8 @@ pub fn items_stand_in_order()
 /// Depth: what is drawn of an item stays within its depth, so that no item is drawn over the one above it or below. The base line of
 /// a row is three quarters of its height down: each cell reaches above it by three quarters of its own height and below it by a
 /// quarter, where its underline, at most 2 dots thick, ends too. In a row that is upside down the base line is a quarter down, each
-/// cell reaches above it by a quarter and below it by three, and the row goes from its start to the left. The lines of a raster, the bars of a barcode with its lines of text,
+/// cell reaches above it by a quarter and below it by three, and the row goes from its start to the left, as far from the
+/// right end of the line as it otherwise is from the left one. The lines of a raster, the bars of a barcode with its lines of text,
 /// and a cut fill their depth exactly. And what is no wider than the line ends within it.
 pub fn items_stay_within()
     ensures rows_within { (above : ℕ) (align : Alignment) (upside_down : Bool) (cells : List Cell) → AllByRecursion (λ (x : Cell).
@@ -66,7 +67,8 @@ pub fn items_stay_within()
         × (IsTrue (stands_below style.place) → bars_bottom style ≡ face_height style.hri_font) }
     ensures cuts_within { (above : ℕ) (partial : Bool) (feed : Option ℕ) → cut_place feed + 4 * 24 ≡ depth above (Cut partial feed) }
     ensures across { (align : Alignment) (width : ℕ) → width ≤ LINE_DOTS → indent align width + width ≤ LINE_DOTS }
-    ensures turned { (align : Alignment) (width : ℕ) → width ≤ LINE_DOTS → width ≤ row_start true (indent align width) }
+    ensures turned { (align : Alignment) (width : ℕ) → width ≤ LINE_DOTS →
+        (width ≤ row_start true (indent align width)) × (row_start true (indent align width) + indent align width ≡ LINE_DOTS) }
 {}
 
 /// Dots: what a path draws is exactly the black dots, each once, from left to right: the dots that are 1 of a row of a raster, and

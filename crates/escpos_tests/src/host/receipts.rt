@@ -2,7 +2,7 @@
 
 use crate::support::reasons::faults;
 use crate::support::texts::is_shown_as;
-use escpos_command::Command;
+use escpos_command::{Character, Command, Switch};
 use escpos_host::{JsonError, JsonFault, Receipt, ReceiptFault};
 use escpos_receipt::ReceiptText;
 use std::alloc::Global;
@@ -22,6 +22,20 @@ fn commands_are_handed_back(rt: HostRuntime) {
     assert!(rt; refusal_of(Vec::new(rt.alloc())) == Some((ReceiptFault::Empty, 0)));
     let line = vec![in rt.alloc(); Command::LineFeed].expect(&rt, "memory");
     assert!(rt; refusal_of(line).is_none());
+}
+
+// A receipt may have what no member gives: smoothing, which has no effect, and CR.
+#[test]
+fn smoothing_in_a_receipt(rt: HostRuntime) {
+    let letter = Character::new(b'A').expect(&rt, "a character");
+    let smooth = Switch::new(0xFF).expect(&rt, "a switch");
+    let commands = vec![in rt.alloc();
+        Command::Char(letter),
+        Command::Smoothing(smooth),
+        Command::Return,
+        Command::LineFeed,
+    ];
+    assert!(rt; refusal_of(commands.expect(&rt, "memory")).is_none());
 }
 
 // Texts, and whether the commands of their entries are a receipt.

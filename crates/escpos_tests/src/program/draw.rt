@@ -28,7 +28,7 @@ text{font-family:\"DejaVu Sans Mono\",Menlo,Consolas,monospace;font-size:20px;wh
 // A stream in hexadecimal, the height of its paper and of its document in dots, and what stands between head and end.
 type Drawn = (&'static str, &'static str, &'static str, &'static str);
 
-const DRAWN: [Drawn; 33] = [
+const DRAWN: [Drawn; 36] = [
     // an empty paper: its margins alone
     ("", "64", "64", ""),
     // a row, 24 dots high, with its base line three quarters down, and a feed of 30 dots from its upper edge
@@ -152,6 +152,29 @@ const DRAWN: [Drawn; 33] = [
         "112",
         "<g class=\"row\" transform=\"translate(32,50)\"><text x=\"0\" textLength=\"12\">A</text></g>\n<g class=\"feed\"/>\n\
          <g class=\"row\" transform=\"translate(32,74)\"><text x=\"0\" textLength=\"12\">B</text></g>\n<g class=\"feed\"/>\n",
+    ),
+    // struck twice, white on black
+    (
+        "1B 47 01 1D 42 01 41 0A",
+        "94",
+        "94",
+        "<g class=\"row\" transform=\"translate(32,50)\"><path d=\"M0 -18h12v24h-12z\"/>\
+         <text x=\"0\" class=\"bold white\" textLength=\"12\">A</text></g>\n<g class=\"feed\"/>\n",
+    ),
+    // characters of two sets are two texts
+    (
+        "41 1B 52 01 42 0A",
+        "94",
+        "94",
+        "<g class=\"row\" transform=\"translate(32,50)\"><text x=\"0\" textLength=\"12\">A</text>\
+         <text x=\"12\" textLength=\"12\">B</text></g>\n<g class=\"feed\"/>\n",
+    ),
+    // centred and turned: 251 of 503 dots are free on the right, 17 dots high
+    (
+        "1B 7B 01 1B 61 01 1B 4D 01 41 0A",
+        "94",
+        "94",
+        "<g class=\"row\" transform=\"translate(293,36.25) rotate(180)\"><text x=\"0\" class=\"B\" textLength=\"9\">A</text></g>\n<g class=\"feed\"/>\n",
     ),
     // three styles in one row: on one base line, the second 12 dots from the left and 2 x 12 wide
     (

@@ -196,7 +196,7 @@ fn contents_in_render(rt: HostRuntime) {
 }
 
 // What is new since the second profile.
-const RENDERED_STYLES: [Row; 16] = [
+const RENDERED_STYLES: [Row; 24] = [
     // strike, beside emphasis, by bit 0 alone
     (
         b"1B 45 01 1B 47 01 41 1B 47 02 42 0A",
@@ -280,6 +280,52 @@ const RENDERED_STYLES: [Row; 16] = [
     (
         b"1B 47 01 1D 42 01 1B 7B 01 1D 62 01 1B 33 05 1B 32 1B 52 01",
         b"",
+        Status::Good,
+    ),
+    // the feed before a barcode or a raster has the spacing, too
+    (
+        b"1B 33 0A 41 1D 6B 46 02 31 32 42 1D 76 30 00 01 00 01 00 FF",
+        b"row left A\nfeed 1 spacing 10\nbars left itf 162 3 none A 12\nrow left B\nfeed 1 spacing 10\nraster left normal 1 1 ff\n",
+        Status::Good,
+    ),
+    // a row that motion units follow is upside down, too
+    (
+        b"1B 7B 01 41 1B 4A 05",
+        b"row left upside A\nunits 5\n",
+        Status::Good,
+    ),
+    // bit 0 alone counts
+    (
+        b"1B 47 03 41 1B 47 FE 42 0A",
+        b"row left [A,1,1,0,0,0,1,0,0]A[A,1,1,0,0,0]B\nfeed 1\n",
+        Status::Good,
+    ),
+    (
+        b"1B 7B FF 41 0A 1B 7B FE 42 0A",
+        b"row left upside A\nfeed 1\nrow left B\nfeed 1\n",
+        Status::Good,
+    ),
+    // no other command touches what these set
+    (
+        b"1B4701 1D4201 1B5208 1B7B01 1B32 1B330A 1D6200 1B2100 1B4500 1B2D00 1B4D00 1B7400 1B6101 1D2100 1D6832 1D7702 1D4800 1D6600 1B70000101 0D 100401 1D28480600303030303030 1B6400 1B4A00 1D5600 1D6B46023132 1D76300001000100FF 41 0A",
+        b"feed 0 spacing 10\nunits 0\ncut full\nbars center itf 50 2 none A 12\nraster center normal 1 1 ff\nrow center upside [A,1,1,0,0,0,1,1,8]A\nfeed 1 spacing 10\n",
+        Status::Good,
+    ),
+    (
+        b"1B330A 1B7B01 1B5208 1D4201 1B4701 41 0A",
+        b"row left upside [A,1,1,0,0,0,1,1,8]A\nfeed 1 spacing 10\n",
+        Status::Good,
+    ),
+    // and these touch nothing else
+    (
+        b"1B21B9 1B7405 1B6102 1B2D02 1D6832 1D7702 1D4802 1D6601 1B4701 1B4700 1D4201 1D4200 1B5203 1B5200 1B7B01 1B7B00 1D6201 1D6200 1B3305 1B32 41 0A 1D6B46023132",
+        b"row right [B,2,2,1,2,5]A\nfeed 1\nbars right itf 50 2 below B 12\n",
+        Status::Good,
+    ),
+    // an alignment in mid-line has no effect on the next line either
+    (
+        b"41 1B 61 01 0A 42 0A",
+        b"row left A\nfeed 1\nrow left B\nfeed 1\n",
         Status::Good,
     ),
     // what was printed before a fault has its style

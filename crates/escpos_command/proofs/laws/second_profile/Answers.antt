@@ -1,5 +1,5 @@
 use Rattle.escpos_command.specs.SecondProfile.{in_second_profile, IsNewLetter}
-use Rattle.escpos_command.proofs.SecondProfile.{second_parts}
+use Rattle.escpos_command.proofs.SecondProfile.{new_is_taken, second_parts}
 use Rattle.escpos_command.proofs.Profiles.{read, read_or_refused, refused}
 use Rattle.escpos_command.proofs.laws.second_profile.Goals as goal
 
@@ -11,3 +11,6 @@ returns-clause-read c = read in_second_profile
 
 pub returns-clause-refused : goal.returns-clause-refused
 returns-clause-refused c = refused in_second_profile IsNewLetter second_parts
+
+pub returns-clause-new : goal.returns-clause-new
+returns-clause-new c = new_is_taken
