@@ -13,7 +13,7 @@ use Rattle.escpos_command.specs.Profiles.{ViableIn}
 use Rattle.escpos_command.specs.Rasters.{picture, is_width, is_height}
 use Rattle.escpos_command.specs.SecondProfile.{in_second_profile}
 use Rattle.escpos_command.specs.Tree.{leaf, walk, one, passing, these, counted, grammar, after_scale, after_width, after_low, dots_tree}
-use Rattle.escpos_command.proofs.Profiles.{Parts, AllPart, chosen, same_leaf, one_below, none_below}
+use Rattle.escpos_command.proofs.Profiles.{Parts, AllPart, chosen, counted_below, same_leaf, one_below, none_below}
 use Rattle.escpos_command.proofs.RasterTree.{in_range, width_low, width_high, low_byte, height_bytes, spelled}
 use Rattle.escpos_command.proofs.SecondProfile.{Earlier, after_escape, later_parts}
 
@@ -33,13 +33,6 @@ pulse_below (m ∷ w) c e = pulse_on m w c (chosen (is_one_of_two m) (passing is
 
 -- ## Rasters of too many rows
 
-dots_below : (n : ℕ) (test : ℕ → ℕ → Bool) (make : List ℕ → Command) (read w : List ℕ) (c : Command) → walk (counted n test make read) w ≡ leaf c → (xs : List ℕ) × (c ≡ make xs)
-unfolding counted
-dots_below zero test make read w c e = (read, same_leaf (make read) w c e)
-dots_below (suc n) test make read [] c e = absurd cc
-dots_below (suc n) test make read (b ∷ w) c e =
-    dots_below n test make (read ++ b ∷ []) w c (chosen (test (length read) b) (counted n test make (read ++ b ∷ [])) w c e)
-
 raster_below : (scale width low high : ℕ) (w : List ℕ) (c : Command) → walk grammar (GS ∷ 0x76 ∷ 0x30 ∷ scale ∷ width ∷ 0x00 ∷ low ∷ high ∷ w) ≡ leaf c
     → (xs : List ℕ) × (c ≡ kind.Raster (picture scale width (low + 256 * high) xs))
 raster_below scale width low high w c e =
@@ -47,7 +40,7 @@ raster_below scale width low high w c e =
     let b = chosen (is_width width) (these (0x00 ∷ []) (after_width scale width)) (0x00 ∷ low ∷ high ∷ w) c a in
     let d = chosen (is_byte low) (after_low scale width low) (high ∷ w) c b in
     let f = chosen (is_height (low + 256 * high)) (dots_tree scale width (low + 256 * high) (width * (low + 256 * high)) []) w c d in
-    dots_below (width * (low + 256 * high)) (λ _. is_byte) (λ xs. kind.Raster (picture scale width (low + 256 * high) xs)) [] w c f
+    counted_below (width * (low + 256 * high)) (λ _. is_byte) (λ xs. kind.Raster (picture scale width (low + 256 * high) xs)) [] w c f
 
 zeros : ℕ → List ℕ
 zeros zero = []
@@ -133,7 +126,7 @@ lacks (kind.Raster r) h = absurd cc
 lacks c h = h
 
 first : Earlier in_first_profile IsNew
-first = record { init = refl; bar_width = refl; lacks = lacks; new = λ rest b h. later h }
+first = record { init = refl; bar_width = refl; mark = refl; lacks = lacks; new = λ rest b h. later h }
 
 pub first_parts : AllPart in_first_profile IsNew
 first_parts (kind.FeedUnits n) h k =

@@ -3,6 +3,7 @@ pub mod Bytewise
 pub mod Combinators
 pub mod BarcodeTree
 pub mod RasterTree
+pub mod QrTree
 pub mod TableTree
 pub mod Readings
 pub mod Profiles
@@ -13,4 +14,6 @@ pub mod Copied
 pub mod Resynchronisation
 pub mod AnswerReadings
 pub mod Texts
+pub mod Settings
+pub mod Lines
 pub mod Worked

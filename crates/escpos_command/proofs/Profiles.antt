@@ -1,7 +1,7 @@
 -- The laws of an earlier profile, from one fact for each command of the table that the profile lacks: where its spelling parts
 -- from the commands that the profile has. Nothing else here is about a kind of command.
-use Rattle.std.proofs.Common.{◌≡◌, ◌⊎◌, inl, inr, ℕ, List, [], ◌∷◌, ◌++◌, length, take, refl, sym, ◌∙◌, ap, subst, append_assoc, append-nil, arith, Bool, true, false, cond, IsTrue, length-append}
-use Rattle.std.specs.Prelude.{slice_index}
+use Rattle.std.proofs.Common.{zero, suc, ◌≡◌, ◌<◌, ◌⊎◌, inl, inr, ℕ, List, [], ◌∷◌, ◌++◌, length, take, refl, sym, ◌∙◌, ap, subst, append_assoc, append-nil, arith, Bool, true, false, cond, IsTrue, length-append}
+use Rattle.std.specs.Prelude.{◌==◌, slice_index}
 use Rattle.std.specs.List.{AllByRecursion}
 use Rattle.std.proofs.lemmas.Grind.{flat_map-append}
 use Rattle.std.proofs.Math.Seq.{take-append_seam, get_or-append_seam}
@@ -10,8 +10,8 @@ use Rattle.escpos_command.specs.declared.fault.FaultReason.{FaultReason}
 use Rattle.escpos_command.specs.CommandTable.{Spells, IsCommand, row, spell}
 use Rattle.escpos_command.specs.Grammar.{Half, Reads, FaultAt}
 use Rattle.escpos_command.specs.Places.{reason_after}
-use Rattle.escpos_command.specs.Profiles.{ViableIn, HalfIn, ReadsIn, FaultAtIn, IsReadIn, IsRefusedIn}
-use Rattle.escpos_command.specs.Tree.{Tree, dead, leaf, node, walk, grammar, one}
+use Rattle.escpos_command.specs.Profiles.{SpellsIn, ViableIn, HalfIn, ReadsIn, FaultAtIn, IsReadIn, IsRefusedIn}
+use Rattle.escpos_command.specs.Tree.{Tree, dead, leaf, node, walk, grammar, one, none, branch, these, passing, counted}
 use Rattle.escpos_command.proofs.Readings.{half_at_node, leads_spelling, no_prefix, not_empty, not_viable_at_dead, one_command, spelling_at_leaf, viable_where_live}
 use Rattle.escpos_command.proofs.Walks.{IsLive}
 
@@ -61,6 +61,36 @@ pub one_below : (has : Command → Bool) (test : ℕ → Bool) (make : ℕ → C
     → (w : List ℕ) (c : Command) → walk (one test make) w ≡ leaf c → has c ≡ false
 one_below has test make h [] c e = absurd cc
 one_below has test make h (n ∷ w) c e = leaf_below has (make n) (h n) w c (chosen (test n) (leaf (make n)) w c e)
+
+-- Counted bytes make one command of all of them.
+pub counted_below : (n : ℕ) (test : ℕ → ℕ → Bool) (make : List ℕ → Command) (read w : List ℕ) (c : Command) → walk (counted n test make read) w ≡ leaf c → (xs : List ℕ) × (c ≡ make xs)
+unfolding counted
+counted_below zero test make read w c e = (read, same_leaf (make read) w c e)
+counted_below (suc n) test make read [] c e = absurd cc
+counted_below (suc n) test make read (b ∷ w) c e =
+    counted_below n test make (read ++ b ∷ []) w c (chosen (test (length read) b) (counted n test make (read ++ b ∷ [])) w c e)
+
+-- Below these bytes there is what is below the tree after them.
+pub these_below : (has : Command → Bool) (bs : List ℕ) (t : Tree) → ((w : List ℕ) (c : Command) → walk t w ≡ leaf c → has c ≡ false)
+    → (w : List ℕ) (c : Command) → walk (these bs t) w ≡ leaf c → has c ≡ false
+these_below has [] t below w c e = below w c e
+these_below has (b ∷ bs) t below [] c e = absurd cc
+these_below has (b ∷ bs) t below (x ∷ w) c e = these_below has bs t below w c (chosen (x == b) (these bs t) w c e)
+
+pub passing_below : (has : Command → Bool) (test : ℕ → Bool) (next : ℕ → Tree) → ((b : ℕ) (w : List ℕ) (c : Command) → walk (next b) w ≡ leaf c → has c ≡ false)
+    → (w : List ℕ) (c : Command) → walk (passing test next) w ≡ leaf c → has c ≡ false
+passing_below has test next below [] c e = absurd cc
+passing_below has test next below (b ∷ w) c e = below b w c (chosen (test b) (next b) w c e)
+
+-- Where no tree of a table has one of the profile's commands, the table has none.
+pub branch_below : (has : Command → Bool) (entries : List (ℕ × Tree)) → AllByRecursion (λ entry. (w : List ℕ) (c : Command) → walk entry.1 w ≡ leaf c → has c ≡ false) entries
+    → (b : ℕ) (w : List ℕ) (c : Command) → walk (branch entries none b) w ≡ leaf c → has c ≡ false
+branch_below has [] all b w c e = absurd cc
+branch_below has (entry ∷ entries) all b w c e =
+    elim (b == entry.0) as (λ v. walk (cond v entry.1 (branch entries none b)) w ≡ leaf c → has c ≡ false) [
+      | true ↦ λ k. all.0 w c k
+      | false ↦ λ k. branch_below has entries all.1 b w c k
+    ] e
 
 not_in : (has : Command → Bool) (c : Command) → has c ≡ false → IsTrue (has c) → ⊥
 not_in has c h k = let clash : true ≡ false = sym k ∙ h in cc

@@ -7,11 +7,12 @@ use Rattle.std.proofs.lemmas.Bool.Decides.{nat_tests}
 use Rattle.escpos_command.specs.declared.bytes.TheConstants.{LF, DLE, ESC, GS, EOT}
 use Rattle.escpos_command.specs.declared.command.Command.{Command}
 use Rattle.escpos_command.specs.declared.command.Command.TheVariants as kind
-use Rattle.escpos_command.specs.Parameters.{is_character, is_character_set, is_one_of_two, is_one_of_three, is_one_of_four, is_size, is_bar_height, is_bar_width, is_status_kind, is_feed_cut_mode, is_byte, is_cut, is_pulse, is_mark_byte, is_mark_id}
+use Rattle.escpos_command.specs.Parameters.{is_character, is_character_set, is_one_of_two, is_one_of_three, is_one_of_four, is_size, is_bar_height, is_bar_width, is_status_kind, is_feed_cut_mode, is_byte, is_cut, is_pulse, is_mark_byte, is_mark_id, is_qr_size, is_qr_level}
 use Rattle.escpos_command.specs.CommandTable.{Spells, IsCommand, row}
-use Rattle.escpos_command.specs.Tree.{leaf, dead, walk, branch, none, one, passing, first, character, after_esc, after_gs, after_dle, cut, mark, pulse, grammar, counted}
+use Rattle.escpos_command.specs.Tree.{leaf, dead, walk, branch, none, one, passing, first, character, after_esc, after_gs, after_dle, after_bracket, cut, mark, pulse, grammar, counted}
 use Rattle.escpos_command.proofs.BarcodeTree.{leads_barcode, good_barcodes}
 use Rattle.escpos_command.proofs.RasterTree.{leads_raster, good_raster}
+use Rattle.escpos_command.proofs.QrTree.{leads_model, leads_store, good_qr}
 use Rattle.escpos_command.proofs.Walks.{Good}
 use Rattle.escpos_command.proofs.Combinators.{good_choice, good_passing, good_one, good_branch, good_these, good_counted, walk-counted, walk-one, live_counted, all_from_all, and_left, and_right, both, same_number, at_row}
 
@@ -82,6 +83,11 @@ leads (kind.HriPlace n) h = walk-one is_one_of_four kind.HriPlace n h
 leads (kind.HriFont n) h = walk-one is_one_of_two kind.HriFont n h
 leads (kind.Bars bars) h = leads_barcode bars.form bars.symbology bars.content h
 leads (kind.Raster r) h = leads_raster r.scale r.width r.height r.dots h
+leads (kind.QrModel n) h = leads_model n h
+leads (kind.QrSize n) h = walk-one is_qr_size kind.QrSize n h
+leads (kind.QrLevel n) h = walk-one is_qr_level kind.QrLevel n h
+leads (kind.QrStore stored) h = leads_store stored h
+leads kind.QrPrint h = refl
 leads (kind.Cut c) h =
     ap (walk (cut c.0)) (append-nil (option_to_list c.1 ++ []) ∙ append-nil (option_to_list c.1)) ∙ leads_cut c.0 c.1 h
 leads (kind.Status n) h = walk-one is_status_kind kind.Status n h
@@ -98,12 +104,15 @@ good_cut m =
 is_id : (id : List ℕ) → length id ≡ 4 → list_all is_mark_byte id ≡ true → IsTrue (is_mark_id id)
 is_id id long all = rw (long, all) refl
 
-good_mark : Good (GS ∷ 0x28 ∷ []) mark
+good_mark : Good (GS ∷ 0x28 ∷ 0x48 ∷ []) mark
 good_mark =
-    good_these (GS ∷ 0x28 ∷ []) (0x48 ∷ 0x06 ∷ 0x00 ∷ 0x30 ∷ 0x30 ∷ []) (counted 4 (λ _. is_mark_byte) kind.Mark []) (live_counted 4 (λ _. is_mark_byte) kind.Mark [])
+    good_these (GS ∷ 0x28 ∷ 0x48 ∷ []) (0x06 ∷ 0x00 ∷ 0x30 ∷ 0x30 ∷ []) (counted 4 (λ _. is_mark_byte) kind.Mark []) (live_counted 4 (λ _. is_mark_byte) kind.Mark [])
     (good_counted 4 (GS ∷ 0x28 ∷ 0x48 ∷ 0x06 ∷ 0x00 ∷ 0x30 ∷ 0x30 ∷ []) (λ _. is_mark_byte) kind.Mark [] (λ _. (32, refl)) (λ id long all.
     subst (λ v. Spells (kind.Mark id) (GS ∷ 0x28 ∷ 0x48 ∷ 0x06 ∷ 0x00 ∷ 0x30 ∷ 0x30 ∷ v)) (append-nil (id ++ []) ∙ append-nil id)
     (at_row (kind.Mark id) (is_id id long (sym (all_from_all 0 is_mark_byte id) ∙ all)))))
+
+good_after_bracket : (b : ℕ) → Good (GS ∷ 0x28 ∷ b ∷ []) (branch after_bracket none b)
+good_after_bracket = good_branch (GS ∷ 0x28 ∷ []) after_bracket none (good_mark, (good_qr, tt)) (λ _. tt)
 
 good_pulse : Good (ESC ∷ 0x70 ∷ []) pulse
 good_pulse =
@@ -119,7 +128,7 @@ good_after_esc =
 
 good_after_gs : (b : ℕ) → Good (GS ∷ b ∷ []) (branch after_gs none b)
 good_after_gs =
-    good_branch (GS ∷ []) after_gs none (good_one (GS ∷ 0x21 ∷ []) is_size kind.Size 0 refl (λ n h. at_row (kind.Size n) h), (good_mark, (good_one (GS ∷ 0x42 ∷ []) is_byte kind.Reverse 0 refl (λ n h. at_row (kind.Reverse n) h), (good_one (GS ∷ 0x48 ∷ []) is_one_of_four kind.HriPlace 0 refl (λ n h. at_row (kind.HriPlace n) h), (((0, tt), good_cut), (good_one (GS ∷ 0x62 ∷ []) is_byte kind.Smoothing 0 refl (λ n h. at_row (kind.Smoothing n) h), (good_one (GS ∷ 0x66 ∷ []) is_one_of_two kind.HriFont 0 refl (λ n h. at_row (kind.HriFont n) h), (good_one (GS ∷ 0x68 ∷ []) is_bar_height kind.BarHeight 1 refl (λ n h. at_row (kind.BarHeight n) h), (((65, tt), good_barcodes), (good_raster, (good_one (GS ∷ 0x77 ∷ []) is_bar_width kind.BarWidth 2 refl (λ n h. at_row (kind.BarWidth n) h), tt)))))))))))
+    good_branch (GS ∷ []) after_gs none (good_one (GS ∷ 0x21 ∷ []) is_size kind.Size 0 refl (λ n h. at_row (kind.Size n) h), (((0x48, tt), good_after_bracket), (good_one (GS ∷ 0x42 ∷ []) is_byte kind.Reverse 0 refl (λ n h. at_row (kind.Reverse n) h), (good_one (GS ∷ 0x48 ∷ []) is_one_of_four kind.HriPlace 0 refl (λ n h. at_row (kind.HriPlace n) h), (((0, tt), good_cut), (good_one (GS ∷ 0x62 ∷ []) is_byte kind.Smoothing 0 refl (λ n h. at_row (kind.Smoothing n) h), (good_one (GS ∷ 0x66 ∷ []) is_one_of_two kind.HriFont 0 refl (λ n h. at_row (kind.HriFont n) h), (good_one (GS ∷ 0x68 ∷ []) is_bar_height kind.BarHeight 1 refl (λ n h. at_row (kind.BarHeight n) h), (((65, tt), good_barcodes), (good_raster, (good_one (GS ∷ 0x77 ∷ []) is_bar_width kind.BarWidth 2 refl (λ n h. at_row (kind.BarWidth n) h), tt)))))))))))
     (λ _. tt)
 
 good_after_dle : (b : ℕ) → Good (DLE ∷ b ∷ []) (branch after_dle none b)

@@ -1,19 +1,20 @@
 -- The command table, with one line for each kind of command.
 --
 -- The bytes are those of the ESC/POS Command Reference, with the parameters as sent in their places.
-use Rattle.std.specs.Prelude.{ℕ, ◌≡◌, ◌/◌, ◌%◌, Bool, true, List, [], ◌∷◌, ◌++◌, length, IsTrue, option_to_list}
+use Rattle.std.specs.Prelude.{ℕ, ◌≡◌, ◌+◌, ◌/◌, ◌%◌, Bool, true, List, [], ◌∷◌, ◌++◌, length, IsTrue, option_to_list}
 use Rattle.std.specs.List.{flat_map, AllByRecursion}
 use Rattle.escpos_command.specs.declared.bytes.TheConstants.{LF, CR, DLE, ESC, GS, EOT}
 use Rattle.escpos_command.specs.declared.command.Command.{Command}
 use Rattle.escpos_command.specs.declared.command.Command.TheVariants as kind
 use Rattle.escpos_command.specs.declared.bars.Form.{Form}
 use Rattle.escpos_command.specs.declared.bars.Form.TheVariants.{A, B}
-use Rattle.escpos_command.specs.Parameters.{is_byte, is_character, is_character_set, is_one_of_two, is_one_of_three, is_one_of_four, is_size, is_bar_height, is_bar_width, is_status_kind, is_cut, is_pulse, is_mark_id}
+use Rattle.escpos_command.specs.Parameters.{is_byte, is_character, is_character_set, is_one_of_two, is_one_of_three, is_one_of_four, is_size, is_bar_height, is_bar_width, is_status_kind, is_cut, is_pulse, is_qr_model, is_qr_size, is_qr_level, is_mark_id}
 use Rattle.escpos_command.specs.Barcodes.{Barcode, barcode_mode, is_barcode}
+use Rattle.escpos_command.specs.QrCodes.{is_qr_data}
 use Rattle.escpos_command.specs.Rasters.{Picture, is_raster}
 
--- A line of the table: the fixed bytes, the parameter bytes that follow them, the content of a barcode or the dots of a
--- raster, a suffix byte, and whether parameters and content are in range.
+-- A line of the table: the fixed bytes, the parameter bytes that follow them, the content of a barcode, the dots of a raster or
+-- the data of a QR code, a suffix byte, and whether parameters and content are in range.
 pub record Entry : Type 0 where
   pub prefix : List ℕ
   pub parameters : List ℕ
@@ -54,6 +55,26 @@ raster_entry raster = record {
   in_range = is_raster raster;
 }
 
+-- GS ( k, function 65 of QR codes: the model, and 00.
+abbrev pub qr_model_entry : ℕ → Entry
+qr_model_entry n = record {
+  prefix = GS ∷ 0x28 ∷ 0x6B ∷ 0x04 ∷ 0x00 ∷ 0x31 ∷ 0x41 ∷ [];
+  parameters = n ∷ [];
+  content = [];
+  suffix = 0x00 ∷ [];
+  in_range = is_qr_model n;
+}
+
+-- Function 80: the number of bytes that follow it, cn, fn, m, and the data.
+abbrev pub qr_store_entry : List ℕ → Entry
+qr_store_entry stored = record {
+  prefix = GS ∷ 0x28 ∷ 0x6B ∷ [];
+  parameters = (length stored + 3) % 256 ∷ (length stored + 3) / 256 ∷ 0x31 ∷ 0x50 ∷ 0x30 ∷ [];
+  content = stored;
+  suffix = [];
+  in_range = is_qr_data stored;
+}
+
 -- The line for a command.
 abbrev pub entry_of : Command → Entry
 entry_of (kind.Char b) = entry [] (b ∷ []) (is_character b)  -- the character itself
@@ -83,6 +104,11 @@ entry_of (kind.HriPlace n) = entry (GS ∷ 0x48 ∷ []) (n ∷ []) (is_one_of_fo
 entry_of (kind.HriFont n) = entry (GS ∷ 0x66 ∷ []) (n ∷ []) (is_one_of_two n)  -- GS f
 entry_of (kind.Bars bars) = barcode_entry bars  -- GS k, form A or B
 entry_of (kind.Raster raster) = raster_entry raster  -- GS v 0
+entry_of (kind.QrModel n) = qr_model_entry n  -- GS ( k, function 65
+entry_of (kind.QrSize n) = entry (GS ∷ 0x28 ∷ 0x6B ∷ 0x03 ∷ 0x00 ∷ 0x31 ∷ 0x43 ∷ []) (n ∷ []) (is_qr_size n)  -- GS ( k, function 67
+entry_of (kind.QrLevel n) = entry (GS ∷ 0x28 ∷ 0x6B ∷ 0x03 ∷ 0x00 ∷ 0x31 ∷ 0x45 ∷ []) (n ∷ []) (is_qr_level n)  -- GS ( k, function 69
+entry_of (kind.QrStore stored) = qr_store_entry stored  -- GS ( k, function 80
+entry_of kind.QrPrint = entry (GS ∷ 0x28 ∷ 0x6B ∷ 0x03 ∷ 0x00 ∷ 0x31 ∷ 0x51 ∷ 0x30 ∷ []) [] true  -- GS ( k, function 81
 entry_of (kind.Cut cut) = entry (GS ∷ 0x56 ∷ []) (cut.0 ∷ option_to_list cut.1) (is_cut cut.0 cut.1)  -- GS V m, or GS V m n
 entry_of (kind.Status n) = entry (DLE ∷ EOT ∷ []) (n ∷ []) (is_status_kind n)  -- DLE EOT
 entry_of (kind.Mark id) = entry (GS ∷ 0x28 ∷ 0x48 ∷ 0x06 ∷ 0x00 ∷ 0x30 ∷ 0x30 ∷ []) id (is_mark_id id)  -- GS ( H, function 48

@@ -2,6 +2,7 @@ pub mod Parameters
 pub mod Meanings
 pub mod Barcodes
 pub mod Rasters
+pub mod QrCodes
 pub mod Digits
 pub mod CommandTable
 pub mod Places
@@ -11,6 +12,7 @@ pub mod Profiles
 pub mod SecondProfile
 pub mod FirstProfile
 pub mod Laws
+pub mod Settings
 pub mod Text
 pub mod Copied
 pub mod Chars

@@ -1,11 +1,13 @@
 -- What the bytes of parameters mean.
-use Rattle.std.specs.Prelude.{ℕ, ◌==◌, ◌+◌, ◌/◌, ◌%◌, ◌^◌, ◌||◌, Bool, if◌then◌else◌}
+use Rattle.std.specs.Prelude.{ℕ, ◌==◌, ◌+◌, ◌-◌, ◌/◌, ◌%◌, ◌^◌, ◌||◌, Bool, if◌then◌else◌}
 use Rattle.escpos_command.specs.declared.parameter.choices.FontFace.{FontFace}
 use Rattle.escpos_command.specs.declared.parameter.choices.FontFace.TheVariants.{A, B}
 use Rattle.escpos_command.specs.declared.parameter.choices.Alignment.{Alignment}
 use Rattle.escpos_command.specs.declared.parameter.choices.Alignment.TheVariants.{Left, Center, Right}
 use Rattle.escpos_command.specs.declared.parameter.choices.HriPosition.{HriPosition}
 use Rattle.escpos_command.specs.declared.parameter.choices.HriPosition.TheVariants.{Nowhere, Above, Below, Both}
+use Rattle.escpos_command.specs.declared.parameter.choices.Correction.{Correction}
+use Rattle.escpos_command.specs.declared.parameter.choices.Correction.TheVariants as correction
 use Rattle.escpos_command.specs.declared.parameter.choices.Scale.{Scale}
 use Rattle.escpos_command.specs.declared.parameter.choices.Scale.TheVariants as scale
 
@@ -52,3 +54,10 @@ size_height n = n % 8 + 1
 -- A cut leaves one point where its mode is 1, 49 or 66.
 abbrev pub leaves_a_point : ℕ → Bool
 leaves_a_point m = m == 1 || m == 49 || m == 66
+
+-- The model of a QR code is sent as its digit.
+abbrev pub model_number : ℕ → ℕ
+model_number n = n - 48
+
+abbrev pub correction_of : ℕ → Correction
+correction_of c = if c == 0 then correction.L else if c == 1 then correction.M else if c == 2 then correction.Q else correction.H

@@ -40,6 +40,18 @@ is_bar_width n = nat_le 2 n && nat_le n 6
 abbrev pub is_status_kind : ℕ → Bool
 is_status_kind n = nat_le 1 n && nat_le n 4
 
+-- The model of a QR code: 49 is model 1, 50 model 2.
+abbrev pub is_qr_model : ℕ → Bool
+is_qr_model n = n == 49 || n == 50
+
+-- The size of a module of a QR code in dots, 1 to 16.
+abbrev pub is_qr_size : ℕ → Bool
+is_qr_size n = nat_le 1 n && nat_le n 16
+
+-- The level of error correction of a QR code: 48 to 51, for L, M, Q and H.
+abbrev pub is_qr_level : ℕ → Bool
+is_qr_level n = nat_le 48 n && nat_le n 51
+
 -- GS V with a feed: 65 cuts the paper through, 66 leaves a point.
 abbrev pub is_feed_cut_mode : ℕ → Bool
 is_feed_cut_mode m = m == 65 || m == 66

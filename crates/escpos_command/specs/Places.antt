@@ -1,5 +1,5 @@
 -- Places of faults: the reason for which a byte is refused follows from the bytes of its command before it.
-use Rattle.std.specs.Prelude.{ℕ, Bool, List, [], ◌∷◌, ◌==◌, ◌&&◌, ◌||◌, if◌then◌else◌, codes}
+use Rattle.std.specs.Prelude.{ℕ, Bool, List, [], ◌∷◌, ◌==◌, ◌&&◌, ◌||◌, length, if◌then◌else◌, codes}
 use Rattle.escpos_command.specs.declared.bytes.TheConstants.{GS}
 use Rattle.escpos_command.specs.declared.fault.FaultReason.{FaultReason}
 use Rattle.escpos_command.specs.declared.fault.FaultReason.TheVariants.{UnknownByte, UnknownCommand, BadParameter, BadBarcode, BadSize}
@@ -15,6 +15,10 @@ begins_raster b letter = b == GS && letter == 0x76
 abbrev pub has_second_letter : ℕ → ℕ → Bool
 has_second_letter b letter = b == GS && letter == 0x28 || begins_raster b letter
 
+-- GS ( k begins a function of QR codes, which after the length has two further letters, cn and fn.
+abbrev pub names_function : ℕ → ℕ → ℕ → List ℕ → Bool
+names_function b letter third bs = b == GS && letter == 0x28 && third == 0x6B && (length bs == 1 || length bs == 2)
+
 -- The reason for a byte that follows a half command, or begins a command.
 abbrev pub reason_after : List ℕ → FaultReason
 -- the first byte of a command
@@ -25,9 +29,12 @@ reason_after (b ∷ []) = UnknownCommand
 reason_after (b ∷ letter ∷ []) = if has_second_letter b letter then UnknownCommand else BadParameter
 -- the length or the content of a barcode; the scale of a raster; or a later parameter, a fixed byte of a mark or its id
 reason_after (b ∷ letter ∷ third ∷ []) = if begins_barcode b letter then BadBarcode else BadParameter
--- the content of a barcode; the size of a raster; or as above
+-- the content of a barcode; the size of a raster; cn or fn of a QR code; or as above
 reason_after (b ∷ letter ∷ third ∷ fourth ∷ bs) =
-    if begins_barcode b letter then BadBarcode else if begins_raster b letter then BadSize else BadParameter
+    if begins_barcode b letter then BadBarcode
+    else if begins_raster b letter then BadSize
+    else if names_function b letter third bs then UnknownCommand
+    else BadParameter
 
 -- The numbers that programs print.
 abbrev pub reason_number : FaultReason → ℕ

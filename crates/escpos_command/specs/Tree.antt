@@ -1,15 +1,16 @@
 -- The command table as a tree of bytes. Only proofs and private clauses use it: the definitions of CommandTable and Grammar
 -- do not, and are proved to agree with it.
 use Rattle.std.proofs.Common.{zero, suc}
-use Rattle.std.specs.Prelude.{ℕ, ◌==◌, ◌+◌, ◌*◌, Bool, List, [], ◌∷◌, ◌++◌, length, if◌then◌else◌, None, Some}
+use Rattle.std.specs.Prelude.{ℕ, ◌==◌, ◌+◌, ◌-◌, ◌*◌, nat_le, Bool, List, [], ◌∷◌, ◌++◌, length, if◌then◌else◌, None, Some}
 use Rattle.escpos_command.specs.declared.bytes.TheConstants.{LF, CR, DLE, ESC, GS, EOT}
 use Rattle.escpos_command.specs.declared.command.Command.{Command}
 use Rattle.escpos_command.specs.declared.command.Command.TheVariants as kind
 use Rattle.escpos_command.specs.declared.bars.Form.TheVariants.{A, B}
 use Rattle.escpos_command.specs.declared.bars.Symbology.{Symbology}
 use Rattle.escpos_command.specs.declared.bars.Symbology.TheVariants.{UpcA, Ean13, Ean8, Code39, Itf, Codabar, Code128}
-use Rattle.escpos_command.specs.Parameters.{is_character, is_character_set, is_one_of_two, is_one_of_three, is_one_of_four, is_size, is_bar_height, is_bar_width, is_status_kind, is_feed_cut_mode, is_byte, is_mark_byte}
+use Rattle.escpos_command.specs.Parameters.{is_character, is_character_set, is_one_of_two, is_one_of_three, is_one_of_four, is_size, is_bar_height, is_bar_width, is_status_kind, is_feed_cut_mode, is_byte, is_mark_byte, is_qr_model, is_qr_size, is_qr_level}
 use Rattle.escpos_command.specs.Barcodes.{barcode, has_length, allows, is_digit, is_code39, is_codabar, is_codabar_end}
+use Rattle.escpos_command.specs.QrCodes.{is_qr_length}
 use Rattle.escpos_command.specs.Rasters.{picture, is_width, is_height}
 
 -- Where the bytes so far lead: to no command, to a whole one, or to a choice by the next byte.
@@ -105,9 +106,47 @@ cut m =
     else if is_feed_cut_mode m then one is_byte (λ n. kind.Cut (m, Some n))
     else dead
 
--- GS ( takes function 48 of the letter H, and an id.
+-- GS ( H takes function 48, and an id.
 abbrev pub mark : Tree
-mark = these (0x48 ∷ 0x06 ∷ 0x00 ∷ 0x30 ∷ 0x30 ∷ []) (counted 4 (λ place. is_mark_byte) kind.Mark [])
+mark = these (0x06 ∷ 0x00 ∷ 0x30 ∷ 0x30 ∷ []) (counted 4 (λ place. is_mark_byte) kind.Mark [])
+
+-- ## QR codes
+
+-- The data of a QR code after m, of which this many bytes are still to come.
+abbrev pub qr_data : ℕ → List ℕ → Tree
+qr_data wanted read = counted wanted (λ place. is_byte) kind.QrStore read
+
+-- A tree, where the length is this one.
+abbrev pub at_length : ℕ → ℕ → Tree → Tree
+at_length n wanted t = if n == wanted then t else dead
+
+-- The functions of QR codes by fn, where n bytes come after the length. All but the data of a QR code have one length.
+abbrev pub qr_functions : ℕ → List (ℕ × Tree)
+qr_functions n =
+    (0x41, at_length n 4 (passing is_qr_model (λ model. these (0x00 ∷ []) (leaf (kind.QrModel model)))))
+    ∷ (0x43, at_length n 3 (one is_qr_size kind.QrSize))
+    ∷ (0x45, at_length n 3 (one is_qr_level kind.QrLevel))
+    ∷ (0x50, if nat_le 4 n then these (0x30 ∷ []) (qr_data (n - 3) []) else dead)
+    ∷ (0x51, at_length n 3 (these (0x30 ∷ []) (leaf kind.QrPrint)))
+    ∷ []
+
+abbrev pub qr_function : ℕ → Tree
+qr_function n = node (branch (qr_functions n) none)
+
+-- After the length: cn, which is 31 for QR codes.
+abbrev pub qr_code : ℕ → Tree
+qr_code n = these (0x31 ∷ []) (qr_function n)
+
+abbrev pub qr_high : ℕ → Tree
+qr_high low = passing (is_qr_length low) (λ high. qr_code (low + 256 * high))
+
+-- GS ( k: the length, with its low byte first, cn and fn.
+abbrev pub qr : Tree
+qr = passing is_byte qr_high
+
+-- The commands after GS (, by their letter.
+abbrev pub after_bracket : List (ℕ × Tree)
+after_bracket = (0x48, mark) ∷ (0x6B, qr) ∷ []
 
 -- ## Barcodes
 
@@ -175,7 +214,7 @@ raster = these (0x30 ∷ []) (passing is_one_of_four after_scale)
 abbrev pub after_gs : List (ℕ × Tree)
 after_gs =
     (0x21, one is_size kind.Size)
-    ∷ (0x28, mark)
+    ∷ (0x28, node (branch after_bracket none))
     ∷ (0x42, one is_byte kind.Reverse)
     ∷ (0x48, one is_one_of_four kind.HriPlace)
     ∷ (0x56, node cut)

@@ -5,7 +5,7 @@
 //! no proof is about a pair of kinds. docs/ARCHITECTURE.md lists all places.
 
 ghost use Rattle.std.specs.Prelude.{◌≡◌, ◌≤◌, ◌+◌, [], ◌∷◌, length};
-ghost use Rattle.escpos_command.specs.CommandTable.{entry_of, barcode_entry, raster_entry, IsCommand};
+ghost use Rattle.escpos_command.specs.CommandTable.{entry_of, barcode_entry, raster_entry, qr_model_entry, qr_store_entry, IsCommand};
 ghost use Rattle.escpos_command.specs.declared.command.Command.TheVariants as kind;
 
 use crate::bars::{Bars, Form};
@@ -13,8 +13,10 @@ use crate::bytes::{CR, DLE, EOT, ESC, GS, LF};
 use crate::mark::MarkId;
 use crate::parameter::{
     Align, BarHeight, BarWidth, Character, CharacterSet, Cut, Emphasis, FeedLines, FeedUnits, Font,
-    HriFont, HriPlace, LineSpacing, Mode, Pulse, Size, StatusKind, Switch, Table, Underline,
+    HriFont, HriPlace, LineSpacing, Mode, Pulse, QrLevel, QrModel, QrSize, Size, StatusKind,
+    Switch, Table, Underline,
 };
+use crate::qr::QrData;
 use crate::raster::Raster;
 use arrayvec::ArrayVec;
 
@@ -75,6 +77,16 @@ pub enum Command {
     Bars(Bars),
     /// GS v 0: prints a raster. (Reference: GS v 0.)
     Raster(Raster),
+    /// GS ( k, function 65: sets the model of QR codes. (Reference: GS ( k.)
+    QrModel(QrModel),
+    /// GS ( k, function 67: sets the size of a module of QR codes. (Reference: GS ( k.)
+    QrSize(QrSize),
+    /// GS ( k, function 69: sets the level of error correction of QR codes. (Reference: GS ( k.)
+    QrLevel(QrLevel),
+    /// GS ( k, function 80: stores the data of QR codes. (Reference: GS ( k.)
+    QrStore(QrData),
+    /// GS ( k, function 81: prints the QR code of the data that is stored. (Reference: GS ( k.)
+    QrPrint,
     /// GS V: cuts the paper. (Reference: GS V.)
     Cut(Cut),
     /// DLE EOT: asks for a status byte. (Reference: DLE EOT.)
@@ -84,16 +96,17 @@ pub enum Command {
     Mark(MarkId),
 }
 
-/// The bytes of a command in four parts, one after another. The bytes of a barcode or a raster aren't copied.
+/// The bytes of a command in four parts, one after another. The bytes of a barcode, a raster or
+/// a QR code aren't copied.
 #[derive(Debug, Drop)]
 pub struct Parts<'a> {
     /// The fixed bytes that a command of this kind begins with; none for a character.
     pub prefix: &'static [u8],
     /// The parameter bytes, at most 5.
     pub parameters: ArrayVec<u8, 5>,
-    /// The content of a barcode or the dots of a raster; none for all other commands.
+    /// The content of a barcode, the dots of a raster or the data of a QR code; none for all other commands.
     pub content: &'a [u8],
-    /// The byte 00 that ends a barcode of form A; none for all other commands.
+    /// The byte 00 that ends a barcode of form A or the model of QR codes; none for all other commands.
     pub suffix: &'static [u8],
 }
 
@@ -145,6 +158,11 @@ impl Command {
             Command::HriFont(font) => with(&[GS, b'f'], font.byte()),
             Command::Bars(bars) => barcode(bars),
             Command::Raster(raster) => picture(raster),
+            Command::QrModel(model) => qr_model(*model),
+            Command::QrSize(size) => with(&[GS, b'(', b'k', 3, 0, b'1', b'C'], size.byte()),
+            Command::QrLevel(level) => with(&[GS, b'(', b'k', 3, 0, b'1', b'E'], level.byte()),
+            Command::QrStore(stored) => qr_store(stored),
+            Command::QrPrint => alone(&[GS, b'(', b'k', 3, 0, b'1', b'Q', b'0']),
             Command::Cut(cut) => match cut.feed() {
                 None => with(&[GS, b'V'], cut.mode()),
                 Some(feed) => with_all(&[GS, b'V'], &[cut.mode(), feed]),
@@ -202,6 +220,36 @@ fn mark(id: MarkId) -> Parts<'static>
     ensures in_range { IsCommand (kind.Mark id) }
 {
     with_all(&[GS, b'(', b'H', 6, 0, b'0', b'0'], &id.bytes())
+}
+
+// The parts of the model of QR codes.
+fn qr_model(model: QrModel) -> Parts<'static>
+    ensures prefix { result.prefix.now ≡ (qr_model_entry model).prefix }
+    ensures parameters { result.parameters.items ≡ (qr_model_entry model).parameters }
+    ensures content { result.content.now ≡ [] }
+    ensures suffix { result.suffix.now ≡ (qr_model_entry model).suffix }
+    ensures in_range { IsCommand (kind.QrModel model) }
+{
+    Parts {
+        suffix: &[0],
+        ..with(&[GS, b'(', b'k', 4, 0, b'1', b'A'], model.byte())
+    }
+}
+
+// The parts of data that is stored.
+fn qr_store(stored: &QrData) -> Parts<'_>
+    ensures prefix { result.prefix.now ≡ (qr_store_entry stored.now).prefix }
+    ensures parameters { result.parameters.items ≡ (qr_store_entry stored.now).parameters }
+    ensures content { result.content.now ≡ stored.now }
+    ensures suffix { result.suffix.now ≡ [] }
+    ensures in_range { IsCommand (kind.QrStore stored.now) }
+{
+    let content = stored.as_slice();
+    let [low, high] = (content.len() as u16 + 3).to_le_bytes();
+    Parts {
+        content,
+        ..with_all(&[GS, b'(', b'k'], &[low, high, b'1', b'P', b'0'])
+    }
 }
 
 // The parts of a barcode.

@@ -4,11 +4,12 @@ ghost use Rattle.std.specs.Prelude.{IsTrue};
 ghost use Rattle.std.specs.List.{list_all};
 ghost use Rattle.escpos_command.specs.Parameters.{is_byte};
 
+use std::alloc::AllocError;
 use std::marker::Model;
 
 /// Bytes on the heap, whose model is their list. They move from a list to a command and on to the paper, and no step of
 /// that copies them or allocates.
-#[derive(Clone, Debug, Drop)]
+#[derive(Debug, Drop)]
 pub struct Bytes {
     bytes: Vec<u8>,
 }
@@ -66,6 +67,18 @@ impl Bytes {
 fn are_bytes(bytes: &[u8])
     ensures { IsTrue (list_all is_byte bytes.now) }
 {}
+
+impl Clone for Bytes {
+    ghost use Rattle.std.specs.Prelude.{◌≡◌};
+
+    ghost is_clone = { λ bytes copy. copy ≡ bytes };
+
+    fn clone(&self) -> Result<Bytes, AllocError> {
+        Ok(Bytes {
+            bytes: self.bytes.clone()?,
+        })
+    }
+}
 
 impl PartialEq for Bytes {
     ghost use Rattle.std.specs.Prelude.{nat_eq};

@@ -1,7 +1,7 @@
 //! ESC/POS commands of the Kolatennis profile: values, spellings, and the laws that join them.
 //!
-//! `command` has the commands and `parameter` their parameters; `mark` has the ids of marks, `bars` barcodes and `raster`
-//! rasters, whose bytes are a `content`. `bytes` has the control bytes, `chars` makes commands of a text. `spelling` gives
+//! `command` has the commands and `parameter` their parameters; `mark` has the ids of marks, `bars` barcodes, `raster`
+//! rasters and `qr` the data of QR codes, whose bytes are a `content`. `bytes` has the control bytes, `chars` makes commands of a text. `spelling` gives
 //! the bytes of a command, and `writing` puts those of a list. `answer` has what a printer answers, and `fault` why a byte
 //! is refused.
 //!
@@ -19,6 +19,7 @@ mod fault;
 pub mod laws;
 mod mark;
 mod parameter;
+mod qr;
 mod raster;
 mod spelling;
 mod writing;
@@ -32,10 +33,11 @@ pub use content::Bytes;
 pub use fault::FaultReason;
 pub use mark::{MarkId, is_mark_byte};
 pub use parameter::{
-    Align, Alignment, BarHeight, BarWidth, Character, CharacterSet, Cut, Emphasis, FeedLines,
-    FeedUnits, Font, FontFace, HriFont, HriPlace, HriPosition, LineSpacing, Mode, Pulse, Scale,
-    Size, StatusKind, Switch, Table, Underline,
+    Align, Alignment, BarHeight, BarWidth, Character, CharacterSet, Correction, Cut, Emphasis,
+    FeedLines, FeedUnits, Font, FontFace, HriFont, HriPlace, HriPosition, LineSpacing, Mode, Pulse,
+    QrLevel, QrModel, QrSize, Scale, Size, StatusKind, Switch, Table, Underline,
 };
+pub use qr::{MOST_QR_DATA, QrData};
 pub use raster::{HIGHEST, Raster, RasterFault, WIDEST, is_height, is_scale, is_width};
 pub use spelling::LONGEST_SPELLING;
 pub use writing::write_commands;

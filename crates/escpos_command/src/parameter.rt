@@ -8,11 +8,13 @@
 mod barcode;
 mod choices;
 mod line;
+mod qr;
 mod switch;
 mod text;
 
 pub use barcode::{BarHeight, BarWidth, HriFont, HriPlace};
-pub use choices::{Alignment, FontFace, HriPosition, Scale, choice, scale_of};
+pub use choices::{Alignment, Correction, FontFace, HriPosition, Scale, choice, scale_of};
 pub use line::{Align, Cut, FeedLines, FeedUnits, LineSpacing, Pulse, StatusKind};
+pub use qr::{QrLevel, QrModel, QrSize};
 pub use switch::Switch;
 pub use text::{Character, CharacterSet, Emphasis, Font, Mode, Size, Table, Underline};

@@ -60,7 +60,7 @@ node_at (state.PulseOn pin) read h = (_, refl)
 node_at (state.PulseOff pin on) read h = (_, refl)
 node_at state.CutMode read h = (_, refl)
 node_at (state.CutFeed mode) read h = (_, refl)
-node_at state.MarkLetter read h = (_, refl)
+node_at state.Bracket read h = (_, refl)
 node_at state.MarkLengthLow read h = (_, refl)
 node_at state.MarkLengthHigh read h = (_, refl)
 node_at state.MarkFunction read h = (_, refl)
@@ -83,6 +83,15 @@ node_at (state.RasterWidthHigh scale width) read h = (_, refl)
 node_at (state.RasterHeight scale width) read h = (_, refl)
 node_at (state.RasterHeightHigh scale width low) read h = (_, refl)
 node_at (state.Dots scale width height wanted) read h = counted_node wanted _ _ read h
+node_at state.QrLengthLow read h = (_, refl)
+node_at (state.QrLengthHigh low) read h = (_, refl)
+node_at (state.QrCode length) read h = (_, refl)
+node_at (state.QrFunction length) read h = (_, refl)
+node_at state.QrModelNumber read h = (_, refl)
+node_at (state.QrModelEnd model) read h = (_, refl)
+node_at (state.QrStoreMode length) read h = (_, refl)
+node_at (state.QrData length wanted) read h = counted_node wanted _ _ read h
+node_at state.QrPrintMode read h = (_, refl)
 
 -- ## The half command
 
@@ -214,6 +223,11 @@ some_ahead (kind.HriFont x) e = absurd cc
 some_ahead (kind.Bars x) e = absurd cc
 some_ahead (kind.Raster x) e = absurd cc
 some_ahead (kind.Cut x) e = absurd cc
+some_ahead (kind.QrModel x) e = absurd cc
+some_ahead (kind.QrSize x) e = absurd cc
+some_ahead (kind.QrLevel x) e = absurd cc
+some_ahead (kind.QrStore x) e = absurd cc
+some_ahead kind.QrPrint e = absurd cc
 some_ahead (kind.Status x) e = absurd cc
 some_ahead (kind.Mark x) e = absurd cc
 
@@ -226,6 +240,7 @@ told ahead.Other c half b e some s = (c, s, e)
 other : (e : Ending) (read : List ℕ) → ahead_of (command_of e read) ≡ ahead.Other
 other (ending.Bars form symbology) read = refl
 other (ending.Raster scale width height) read = refl
+other ending.QrStore read = refl
 
 no_command : (half : List ℕ) (b : ℕ) → (Viable (half ++ b ∷ []) → ⊥) → (c : Command) → Spells c (half ++ b ∷ []) → ⊥
 no_command half b r c s = r (c, [], subst (λ v. Spells c v) (sym (append-nil (half ++ b ∷ []))) s)

@@ -1,10 +1,10 @@
--- The letters after ESC, GS and DLE whose commands have one parameter byte: which bytes lead to the parameter, which bytes
+-- The letters after ESC, GS and DLE, and the functions of GS ( k, whose commands have one parameter byte: which bytes lead to the parameter, which bytes
 -- it may be, and the command with it.
 use Rattle.std.specs.Prelude.{ℕ, Bool, List, [], ◌∷◌}
 use Rattle.escpos_command.specs.declared.bytes.TheConstants.{DLE, EOT, ESC, GS}
 use Rattle.escpos_command.specs.declared.command.Command.{Command}
 use Rattle.escpos_command.specs.declared.command.Command.TheVariants as kind
-use Rattle.escpos_command.specs.Parameters.{is_byte, is_character_set, is_one_of_two, is_one_of_three, is_one_of_four, is_size, is_bar_height, is_bar_width, is_status_kind}
+use Rattle.escpos_command.specs.Parameters.{is_byte, is_character_set, is_one_of_two, is_one_of_three, is_one_of_four, is_size, is_bar_height, is_bar_width, is_status_kind, is_qr_size, is_qr_level}
 use Rattle.escpos_decode.specs.declared.one_parameter.OneParameter.{OneParameter}
 use Rattle.escpos_decode.specs.declared.one_parameter.OneParameter.TheVariants as letter
 
@@ -30,6 +30,8 @@ parameter_prefix letter.HriFont = GS ∷ 0x66 ∷ []
 parameter_prefix letter.BarHeight = GS ∷ 0x68 ∷ []
 parameter_prefix letter.BarWidth = GS ∷ 0x77 ∷ []
 parameter_prefix letter.Status = DLE ∷ EOT ∷ []
+parameter_prefix letter.QrSize = GS ∷ 0x28 ∷ 0x6B ∷ 0x03 ∷ 0x00 ∷ 0x31 ∷ 0x43 ∷ []
+parameter_prefix letter.QrLevel = GS ∷ 0x28 ∷ 0x6B ∷ 0x03 ∷ 0x00 ∷ 0x31 ∷ 0x45 ∷ []
 
 -- The bytes that the parameter may be.
 abbrev pub parameter_allows : OneParameter → ℕ → Bool
@@ -53,6 +55,8 @@ parameter_allows letter.HriFont = is_one_of_two
 parameter_allows letter.BarHeight = is_bar_height
 parameter_allows letter.BarWidth = is_bar_width
 parameter_allows letter.Status = is_status_kind
+parameter_allows letter.QrSize = is_qr_size
+parameter_allows letter.QrLevel = is_qr_level
 
 -- The command with a parameter.
 abbrev pub parameter_command : OneParameter → ℕ → Command
@@ -76,3 +80,5 @@ parameter_command letter.HriFont = kind.HriFont
 parameter_command letter.BarHeight = kind.BarHeight
 parameter_command letter.BarWidth = kind.BarWidth
 parameter_command letter.Status = kind.Status
+parameter_command letter.QrSize = kind.QrSize
+parameter_command letter.QrLevel = kind.QrLevel

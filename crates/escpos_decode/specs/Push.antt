@@ -1,11 +1,12 @@
 -- What the decoder does with one byte. Its model is its half command.
-use Rattle.std.specs.Prelude.{ℕ, ◌≡◌, ◌⊎◌, ◌||◌, Bool, false, List, [], ◌∷◌, ◌++◌, length, Result, Ok, Err}
+use Rattle.std.specs.Prelude.{ℕ, ◌≡◌, ◌⊎◌, ◌==◌, ◌&&◌, ◌||◌, Bool, false, List, [], ◌∷◌, ◌++◌, length, Result, Ok, Err}
 use Rattle.escpos_decode.specs.declared.decoder.Step.{Step}
 use Rattle.escpos_decode.specs.declared.decoder.Step.TheVariants.{More, Done}
 use Rattle.escpos_decode.specs.declared.decoder.DecodeFault.{DecodeFault}
 use Rattle.escpos_decode.specs.declared.decoder.DecodeFault.TheVariants.{Fault, Memory}
 use Rattle.escpos_decode.specs.declared.decoder.Ahead.{Ahead}
 use Rattle.escpos_decode.specs.declared.decoder.Ahead.TheVariants as ahead
+use Rattle.escpos_command.specs.declared.bytes.TheConstants.{GS}
 use Rattle.escpos_command.specs.declared.command.Command.{Command}
 use Rattle.escpos_command.specs.declared.command.Command.TheVariants as kind
 use Rattle.escpos_command.specs.CommandTable.{Spells}
@@ -51,8 +52,13 @@ AheadIs ahead.Status half b = (c : Command) × Spells c (half ++ b ∷ []) × (a
 AheadIs ahead.Mark half b = (c : Command) × Spells c (half ++ b ∷ []) × (ahead_of c ≡ ahead.Mark)
 AheadIs ahead.Other half b = (c : Command) × Spells c (half ++ b ∷ []) × (ahead_of c ≡ ahead.Other)
 
--- The bytes begin as a barcode or a raster does: 1D 6B or 1D 76.
+-- GS ( k begins a function of QR codes.
+abbrev pub begins_qr_code : ℕ → ℕ → List ℕ → Bool
+begins_qr_code b letter [] = false
+begins_qr_code b letter (third ∷ bs) = b == GS && letter == 0x28 && third == 0x6B
+
+-- The bytes begin as a barcode, a raster or a function of QR codes does: 1D 6B, 1D 76 or 1D 28 6B.
 abbrev pub begins_content : List ℕ → Bool
 begins_content [] = false
 begins_content (b ∷ []) = false
-begins_content (b ∷ letter ∷ bs) = begins_barcode b letter || begins_raster b letter
+begins_content (b ∷ letter ∷ bs) = begins_barcode b letter || begins_raster b letter || begins_qr_code b letter bs

@@ -1,16 +1,16 @@
 -- Where in the command table a decoder stands between two bytes. A state stands for bytes, those that lead to it, and for
 -- the part of the tree of the command table that is below it. Only private clauses, invariants and proofs use these
 -- definitions.
-use Rattle.std.specs.Prelude.{ℕ, ◌≡◌, ◌+◌, ◌/◌, ◌%◌, ◌&&◌, nat_lt, Bool, true, false, IsTrue, Some, List, [], ◌∷◌, ◌++◌, take, drop}
+use Rattle.std.specs.Prelude.{ℕ, ◌≡◌, ◌+◌, ◌-◌, ◌/◌, ◌%◌, ◌&&◌, nat_le, nat_lt, Bool, true, false, IsTrue, Some, List, [], ◌∷◌, ◌++◌, take, drop}
 use Rattle.escpos_command.specs.declared.bytes.TheConstants.{DLE, ESC, GS}
 use Rattle.escpos_command.specs.declared.command.Command.{Command}
 use Rattle.escpos_command.specs.declared.command.Command.TheVariants as kind
 use Rattle.escpos_command.specs.declared.bars.Form.TheVariants.{A, B}
 use Rattle.escpos_command.specs.declared.bars.Symbology.TheVariants.{Codabar}
-use Rattle.escpos_command.specs.Parameters.{is_byte, is_one_of_two, is_one_of_four, is_feed_cut_mode, is_mark_byte}
+use Rattle.escpos_command.specs.Parameters.{is_byte, is_one_of_two, is_one_of_four, is_feed_cut_mode, is_mark_byte, is_qr_model}
 use Rattle.escpos_command.specs.Barcodes.{barcode, barcode_mode, is_codabar_end}
 use Rattle.escpos_command.specs.Rasters.{picture, is_width}
-use Rattle.escpos_command.specs.Tree.{Tree, walk, dead, leaf, node, passing, these, one, counted, branch, none, grammar, after_dle, after_esc, after_gs, pulse, cut, barcodes, raster, after_scale, after_width, after_low, plain_content, codabar_content, content_of, dots_tree, form_b}
+use Rattle.escpos_command.specs.Tree.{Tree, walk, dead, leaf, node, passing, these, one, counted, branch, none, grammar, after_dle, after_esc, after_gs, pulse, cut, barcodes, raster, after_scale, after_width, after_low, plain_content, codabar_content, content_of, dots_tree, form_b, after_bracket, qr, qr_high, qr_code, qr_function, qr_data}
 use Rattle.escpos_decode.specs.OneParameter.{parameter_prefix, parameter_allows, parameter_command}
 use Rattle.escpos_decode.specs.Push.{ahead_of, begins_content}
 use Rattle.escpos_decode.specs.declared.decoder.Ahead.{Ahead}
@@ -28,6 +28,10 @@ use Rattle.escpos_decode.specs.declared.state.Next.TheVariants as next
 abbrev pub mark_prefix : List ℕ
 mark_prefix = GS ∷ 0x28 ∷ 0x48 ∷ 0x06 ∷ 0x00 ∷ 0x30 ∷ 0x30 ∷ []
 
+-- GS ( k.
+abbrev pub qr_prefix : List ℕ
+qr_prefix = GS ∷ 0x28 ∷ 0x6B ∷ []
+
 -- The bytes that lead to a state, without content and dots.
 abbrev pub prefix_of : State → List ℕ
 prefix_of state.Start = []
@@ -40,7 +44,7 @@ prefix_of (state.PulseOn pin) = ESC ∷ 0x70 ∷ pin ∷ []
 prefix_of (state.PulseOff pin on) = ESC ∷ 0x70 ∷ pin ∷ on ∷ []
 prefix_of state.CutMode = GS ∷ 0x56 ∷ []
 prefix_of (state.CutFeed mode) = GS ∷ 0x56 ∷ mode ∷ []
-prefix_of state.MarkLetter = take 2 mark_prefix
+prefix_of state.Bracket = GS ∷ 0x28 ∷ []
 prefix_of state.MarkLengthLow = take 3 mark_prefix
 prefix_of state.MarkLengthHigh = take 4 mark_prefix
 prefix_of state.MarkFunction = take 5 mark_prefix
@@ -63,6 +67,15 @@ prefix_of (state.RasterWidthHigh scale width) = GS ∷ 0x76 ∷ 0x30 ∷ scale �
 prefix_of (state.RasterHeight scale width) = GS ∷ 0x76 ∷ 0x30 ∷ scale ∷ width ∷ 0 ∷ []
 prefix_of (state.RasterHeightHigh scale width low) = GS ∷ 0x76 ∷ 0x30 ∷ scale ∷ width ∷ 0 ∷ low ∷ []
 prefix_of (state.Dots scale width height wanted) = GS ∷ 0x76 ∷ 0x30 ∷ scale ∷ width ∷ 0 ∷ height % 256 ∷ height / 256 ∷ []
+prefix_of state.QrLengthLow = qr_prefix
+prefix_of (state.QrLengthHigh low) = qr_prefix ++ low ∷ []
+prefix_of (state.QrCode length) = qr_prefix ++ length % 256 ∷ length / 256 ∷ []
+prefix_of (state.QrFunction length) = qr_prefix ++ length % 256 ∷ length / 256 ∷ 0x31 ∷ []
+prefix_of state.QrModelNumber = qr_prefix ++ 0x04 ∷ 0x00 ∷ 0x31 ∷ 0x41 ∷ []
+prefix_of (state.QrModelEnd model) = qr_prefix ++ 0x04 ∷ 0x00 ∷ 0x31 ∷ 0x41 ∷ model ∷ []
+prefix_of (state.QrStoreMode length) = qr_prefix ++ length % 256 ∷ length / 256 ∷ 0x31 ∷ 0x50 ∷ []
+prefix_of (state.QrData length wanted) = qr_prefix ++ length % 256 ∷ length / 256 ∷ 0x31 ∷ 0x50 ∷ 0x30 ∷ []
+prefix_of state.QrPrintMode = qr_prefix ++ 0x03 ∷ 0x00 ∷ 0x31 ∷ 0x51 ∷ []
 
 -- The part of the tree below a state, where this content, or these dots, were read.
 abbrev pub tree_of : State → List ℕ → Tree
@@ -76,7 +89,7 @@ tree_of (state.PulseOn pin) read = passing is_byte (λ on. one is_byte (λ off. 
 tree_of (state.PulseOff pin on) read = one is_byte (λ off. kind.Pulse (pin, on, off))
 tree_of state.CutMode read = node cut
 tree_of (state.CutFeed mode) read = one is_byte (λ n. kind.Cut (mode, Some n))
-tree_of state.MarkLetter read = these (drop 2 mark_prefix) (counted 4 (λ _. is_mark_byte) kind.Mark [])
+tree_of state.Bracket read = node (branch after_bracket none)
 tree_of state.MarkLengthLow read = these (drop 3 mark_prefix) (counted 4 (λ _. is_mark_byte) kind.Mark [])
 tree_of state.MarkLengthHigh read = these (drop 4 mark_prefix) (counted 4 (λ _. is_mark_byte) kind.Mark [])
 tree_of state.MarkFunction read = these (drop 5 mark_prefix) (counted 4 (λ _. is_mark_byte) kind.Mark [])
@@ -99,6 +112,15 @@ tree_of (state.RasterWidthHigh scale width) read = these (0x00 ∷ []) (after_wi
 tree_of (state.RasterHeight scale width) read = after_width scale width
 tree_of (state.RasterHeightHigh scale width low) read = after_low scale width low
 tree_of (state.Dots scale width height wanted) read = dots_tree scale width height wanted read
+tree_of state.QrLengthLow read = qr
+tree_of (state.QrLengthHigh low) read = qr_high low
+tree_of (state.QrCode length) read = qr_code length
+tree_of (state.QrFunction length) read = qr_function length
+tree_of state.QrModelNumber read = passing is_qr_model (λ model. these (0x00 ∷ []) (leaf (kind.QrModel model)))
+tree_of (state.QrModelEnd model) read = these (0x00 ∷ []) (leaf (kind.QrModel model))
+tree_of (state.QrStoreMode length) read = these (0x30 ∷ []) (qr_data (length - 3) [])
+tree_of (state.QrData length wanted) read = qr_data wanted read
+tree_of state.QrPrintMode read = these (0x30 ∷ []) (leaf kind.QrPrint)
 
 -- ## Steps
 
@@ -112,6 +134,7 @@ step (node next) b = next b
 abbrev pub command_of : Ending → List ℕ → Command
 command_of (ending.Bars form symbology) content = kind.Bars (barcode form symbology content)
 command_of (ending.Raster scale width height) dots = kind.Raster (picture scale width height dots)
+command_of ending.QrStore bytes = kind.QrStore bytes
 
 -- The state has content or dots after the bytes that lead to it.
 abbrev pub has_content : State → Bool
@@ -120,6 +143,7 @@ has_content (state.CodabarContent most) = true
 has_content state.CodabarEnd = true
 has_content (state.Content symbology length wanted) = true
 has_content (state.Dots scale width height wanted) = true
+has_content (state.QrData length wanted) = true
 has_content _ = false
 
 -- What a state holds is in range.
@@ -135,12 +159,16 @@ holds (state.RasterWidthHigh scale width) = is_width width
 holds (state.RasterHeight scale width) = is_width width
 holds (state.RasterHeightHigh scale width low) = is_width width
 holds (state.Dots scale width height wanted) = nat_lt 0 wanted
+holds (state.QrModelEnd model) = is_qr_model model
+holds (state.QrStoreMode length) = nat_le 4 length
+holds (state.QrData length wanted) = nat_lt 0 wanted
 holds _ = true
 
 -- How many bytes of content, or of dots, are still to come at a state, where this is known.
 abbrev pub wanted_at : State → ℕ
 wanted_at (state.Content symbology length wanted) = wanted
 wanted_at (state.Dots scale width height wanted) = wanted
+wanted_at (state.QrData length wanted) = wanted
 wanted_at _ = 0
 
 -- A decoder may stand at this state with this content read: the bytes lead there, and there is no content where the state

@@ -19,7 +19,7 @@ ghost use Rattle.escpos_decode.specs.declared.decoder.DecodeFault.TheVariants.{M
 ghost use Rattle.escpos_decode.specs.declared.decoder.Step.TheVariants.{Done};
 
 use crate::state::{Ending, Next, State};
-use escpos_command::{Bars, Character, Command, FaultReason, Raster, laws};
+use escpos_command::{Bars, Character, Command, FaultReason, QrData, Raster, laws};
 use std::alloc::{AllocError, Global};
 use std::marker::Model;
 use std::mem;
@@ -334,6 +334,10 @@ fn end(content: &mut Vec<u8>, ending: Ending, alloc: Global) -> Command
             height,
         } => match Raster::new(scale, u16::from(width), height, content) {
             Ok(raster) => Command::Raster(raster),
+            Err(_) => unreachable!(),
+        },
+        Ending::QrStore => match QrData::new(content) {
+            Ok(stored) => Command::QrStore(stored),
             Err(_) => unreachable!(),
         },
     }

@@ -10,6 +10,7 @@
 mod content;
 mod decoder;
 mod one_parameter;
+mod qr;
 mod reading;
 mod state;
 mod stream;

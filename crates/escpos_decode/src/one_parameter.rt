@@ -1,15 +1,16 @@
-//! The letters after ESC, GS and DLE whose commands have one parameter byte: a row for each letter.
+//! The letters after ESC, GS and DLE, and the functions of GS ( k, whose commands have one parameter byte: a row for each.
 
-ghost use Rattle.std.specs.Prelude.{IsTrue};
+ghost use Rattle.std.specs.Prelude.{◌≡◌, length, IsTrue};
 ghost use Rattle.std.specs.Option.{SomeIff};
-ghost use Rattle.escpos_decode.specs.OneParameter.{parameter_allows, parameter_command};
+ghost use Rattle.escpos_decode.specs.OneParameter.{parameter_prefix, parameter_allows, parameter_command};
 
 use escpos_command::{
     Align, BarHeight, BarWidth, CharacterSet, Command, Emphasis, FeedLines, FeedUnits, Font,
-    HriFont, HriPlace, LineSpacing, Mode, Size, StatusKind, Switch, Table, Underline,
+    HriFont, HriPlace, LineSpacing, Mode, QrLevel, QrSize, Size, StatusKind, Switch, Table,
+    Underline,
 };
 
-/// A letter with one parameter byte, named after its command. (EOT after DLE is one too.)
+/// A letter with one parameter byte, named after its command. (EOT after DLE is one too, and so are two functions of QR codes.)
 #[derive(Clone, Copy, Debug, PartialEq, Eq)]
 pub enum OneParameter {
     Mode,
@@ -32,6 +33,8 @@ pub enum OneParameter {
     BarHeight,
     BarWidth,
     Status,
+    QrSize,
+    QrLevel,
 }
 
 impl OneParameter {
@@ -60,6 +63,18 @@ impl OneParameter {
             OneParameter::BarHeight => BarHeight::new(byte).map(Command::BarHeight),
             OneParameter::BarWidth => BarWidth::new(byte).map(Command::BarWidth),
             OneParameter::Status => StatusKind::new(byte).map(Command::Status),
+            OneParameter::QrSize => QrSize::new(byte).map(Command::QrSize),
+            OneParameter::QrLevel => QrLevel::new(byte).map(Command::QrLevel),
+        }
+    }
+
+    /// The number of bytes before the parameter.
+    pub fn prefix_len(self) -> usize
+        ensures { result ≡ length (parameter_prefix self) }
+    {
+        match self {
+            OneParameter::QrSize | OneParameter::QrLevel => 7,
+            _ => 2,
         }
     }
 }

@@ -15,8 +15,8 @@ ghost use Rattle.escpos_decode.specs.declared.state.State.{State};
 ghost use Rattle.escpos_decode.specs.declared.state.State.TheVariants as state;
 ghost use Rattle.escpos_decode.specs.declared.state.Next.TheVariants as next;
 
-use crate::content;
 use crate::one_parameter::OneParameter;
+use crate::{content, qr};
 use escpos_command::{
     CR, Character, Command, Cut, DLE, EOT, ESC, FaultReason, Form, GS, LF, MarkId, Pulse,
     Symbology, is_mark_byte,
@@ -52,8 +52,8 @@ pub enum State {
     CutFeed {
         mode: u8,
     },
-    /// After GS (: the letter H.
-    MarkLetter,
+    /// After GS (: a letter.
+    Bracket,
     /// After GS ( H: the low byte of the length, 6.
     MarkLengthLow,
     /// The high byte of the length, 0.
@@ -135,6 +135,37 @@ pub enum State {
         height: u16,
         wanted: u32,
     },
+    /// After GS ( k: the low byte of the length.
+    QrLengthLow,
+    /// The high byte of the length.
+    QrLengthHigh {
+        low: u8,
+    },
+    /// After the length: cn.
+    QrCode {
+        length: u16,
+    },
+    /// After cn: the function.
+    QrFunction {
+        length: u16,
+    },
+    /// After function 65: the model.
+    QrModelNumber,
+    /// After the model: 00.
+    QrModelEnd {
+        model: u8,
+    },
+    /// After function 80: m.
+    QrStoreMode {
+        length: u16,
+    },
+    /// In the data of a QR code, of which `wanted` bytes are still to come.
+    QrData {
+        length: u16,
+        wanted: u16,
+    },
+    /// After function 81: m.
+    QrPrintMode,
 }
 
 /// What a content, or dots, make when they end.
@@ -142,6 +173,7 @@ pub enum State {
 pub enum Ending {
     Bars(Form, Symbology),
     Raster { scale: u8, width: u8, height: u16 },
+    QrStore,
 }
 
 /// Where a byte leads from a state.
@@ -184,7 +216,7 @@ impl State {
             State::PulseOff { pin, on } => done(Pulse::new(pin, on, byte).map(Command::Pulse)),
             State::CutMode => cut_mode(byte),
             State::CutFeed { mode } => done(Cut::with_feed(mode, byte).map(Command::Cut)),
-            State::MarkLetter => fixed(byte, b'H', State::MarkLengthLow),
+            State::Bracket => after_bracket(byte),
             State::MarkLengthLow => fixed(byte, 6, State::MarkLengthHigh),
             State::MarkLengthHigh => fixed(byte, 0, State::MarkFunction),
             State::MarkFunction => fixed(byte, b'0', State::MarkMode),
@@ -230,6 +262,15 @@ impl State {
                 height,
                 wanted,
             } => content::dots(scale, width, height, wanted, byte),
+            State::QrLengthLow => Next::To(State::QrLengthHigh { low: byte }),
+            State::QrLengthHigh { low } => qr::length(low, byte),
+            State::QrCode { length } => fixed(byte, b'1', State::QrFunction { length }),
+            State::QrFunction { length } => qr::function(length, byte),
+            State::QrModelNumber => qr::model_number(byte),
+            State::QrModelEnd { model } => qr::model_end(model, byte),
+            State::QrStoreMode { length } => qr::store_mode(length, byte),
+            State::QrData { length, wanted } => qr::stored(length, wanted, byte),
+            State::QrPrintMode => qr::print_mode(byte),
         }
     }
 
@@ -240,10 +281,10 @@ impl State {
         match self {
             State::Start => 0,
             State::Dle | State::Esc | State::Gs => 1,
-            State::Parameter(_)
-            | State::PulsePin
+            State::Parameter(letter) => letter.prefix_len(),
+            State::PulsePin
             | State::CutMode
-            | State::MarkLetter
+            | State::Bracket
             | State::BarsMode
             | State::RasterFunction => 2,
             State::PulseOn { .. }
@@ -254,15 +295,24 @@ impl State {
             | State::CodabarContent { .. }
             | State::CodabarEnd
             | State::ContentLength { .. }
-            | State::RasterScale => 3,
+            | State::RasterScale
+            | State::QrLengthLow => 3,
             State::PulseOff { .. }
             | State::MarkLengthHigh
             | State::Content { .. }
-            | State::RasterWidth { .. } => 4,
-            State::MarkFunction | State::RasterWidthHigh { .. } => 5,
-            State::MarkMode | State::RasterHeight { .. } => 6,
-            State::MarkFirst | State::RasterHeightHigh { .. } => 7,
-            State::MarkSecond { .. } | State::Dots { .. } => 8,
+            | State::RasterWidth { .. }
+            | State::QrLengthHigh { .. } => 4,
+            State::MarkFunction | State::RasterWidthHigh { .. } | State::QrCode { .. } => 5,
+            State::MarkMode | State::RasterHeight { .. } | State::QrFunction { .. } => 6,
+            State::MarkFirst
+            | State::RasterHeightHigh { .. }
+            | State::QrModelNumber
+            | State::QrStoreMode { .. }
+            | State::QrPrintMode => 7,
+            State::MarkSecond { .. }
+            | State::Dots { .. }
+            | State::QrModelEnd { .. }
+            | State::QrData { .. } => 8,
             State::MarkThird { .. } => 9,
             State::MarkFourth { .. } => 10,
         }
@@ -275,9 +325,13 @@ impl State {
     {
         match self {
             State::Start => FaultReason::UnknownByte,
-            State::Dle | State::Esc | State::Gs | State::MarkLetter | State::RasterFunction => {
-                FaultReason::UnknownCommand
-            }
+            State::Dle
+            | State::Esc
+            | State::Gs
+            | State::Bracket
+            | State::RasterFunction
+            | State::QrCode { .. }
+            | State::QrFunction { .. } => FaultReason::UnknownCommand,
             State::PlainContent { .. }
             | State::CodabarFirst
             | State::CodabarContent { .. }
@@ -369,7 +423,7 @@ fn after_gs(byte: u8) -> Next
 {
     match byte {
         b'!' => Next::To(State::Parameter(OneParameter::Size)),
-        b'(' => Next::To(State::MarkLetter),
+        b'(' => Next::To(State::Bracket),
         b'B' => Next::To(State::Parameter(OneParameter::Reverse)),
         b'H' => Next::To(State::Parameter(OneParameter::HriPlace)),
         b'V' => Next::To(State::CutMode),
@@ -389,6 +443,16 @@ fn pulse_pin(byte: u8) -> Next
 {
     match byte {
         0 | 1 | 48 | 49 => Next::To(State::PulseOn { pin: byte }),
+        _ => Next::Refused,
+    }
+}
+
+fn after_bracket(byte: u8) -> Next
+    ensures { (read : List ℕ) → NextIs result state.Bracket read byte }
+{
+    match byte {
+        b'H' => Next::To(State::MarkLengthLow),
+        b'k' => Next::To(State::QrLengthLow),
         _ => Next::Refused,
     }
 }

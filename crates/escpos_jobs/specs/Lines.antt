@@ -42,6 +42,11 @@ word_of (kind.HriPlace n) = codes "hriplace"
 word_of (kind.HriFont n) = codes "hrifont"
 word_of (kind.Bars bars) = codes "bars"
 word_of (kind.Raster raster) = codes "raster"
+word_of (kind.QrModel n) = codes "qrmodel"
+word_of (kind.QrSize n) = codes "qrsize"
+word_of (kind.QrLevel n) = codes "qrlevel"
+word_of (kind.QrStore stored) = codes "qrstore"
+word_of kind.QrPrint = codes "qrprint"
 word_of (kind.Cut cut) = codes "cut"
 word_of (kind.Status n) = codes "status"
 word_of (kind.Mark id) = codes "mark"
@@ -51,11 +56,12 @@ abbrev pub byte_value : ℕ → List ℕ
 byte_value n = SPACE ∷ encode_lower (n ∷ [])
 
 -- What follows the name: the parameter bytes as sent. The id of a mark stands as it is, since its bytes can be
--- printed. A barcode has its mode and its content, and a raster its scale, width and height.
+-- printed. A barcode has its mode and its content, a raster its scale, width and height, and a store of QR codes its data.
 abbrev pub values_of : Command → List ℕ
 values_of (kind.Mark id) = SPACE ∷ id
 values_of (kind.Bars bars) = byte_value (barcode_mode bars.form bars.symbology) ++ SPACE ∷ encode_lower bars.content
 values_of (kind.Raster raster) = byte_value raster.scale ++ SPACE ∷ decimal raster.width ++ SPACE ∷ decimal raster.height
+values_of (kind.QrStore stored) = SPACE ∷ encode_lower stored
 values_of c = flat_map byte_value (entry_of c).parameters
 
 -- The line of a command: the number of bytes before it, its name, and what it carries; and the note on it, if there is one.

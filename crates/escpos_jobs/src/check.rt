@@ -10,7 +10,7 @@ ghost use Rattle.escpos_jobs.specs.Obstacle.{memory_is_no_device};
 ghost use Rattle.escpos_jobs.specs.Check.{Checks, ChecksRaw, listing_shape};
 
 use crate::job::{Job, Obstacle, run, run_raw};
-use crate::lines::{LINE_BYTES, Last, append_character, append_line};
+use crate::lines::{LINE_BYTES, Last, append_character, put_line};
 use crate::status::Status;
 use escpos_command::Command;
 use escpos_decode::Consumer;
@@ -56,11 +56,10 @@ impl<W: ByteOut> Consumer<W> for Listing {
     ghost refused = { λ last now refusal. (refusal ≡ obstacle.Device) × IsTrue (W.failed now.1) };
 
     fn take(&mut self, command: Command, place: usize, output: &mut W) -> Result<(), Obstacle> {
-        if let Err(_) = self.gather.room(LINE_BYTES, output) {
-            return Err(Obstacle::Device);
+        match put_line(&mut self.gather, place, &command, output) {
+            Ok(()) => Ok(()),
+            Err(_) => Err(Obstacle::Device),
         }
-        append_line(&mut self.gather, place, &command);
-        Ok(())
     }
 
     fn take_text(&mut self, text: &[u8], place: usize, output: &mut W) -> Result<usize, Obstacle> {

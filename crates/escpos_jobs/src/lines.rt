@@ -1,11 +1,13 @@
 //! The lines of a listing, appended to the bytes that a gather keeps back.
 
-ghost use Rattle.std.specs.Prelude.{◌≡◌, ◌+◌, ◌≤◌, ◌++◌, ◌∷◌, length, decimal};
+ghost use Rattle.std.specs.Prelude.{◌≡◌, ◌≢◌, ◌+◌, ◌≤◌, ◌++◌, ◌∷◌, ℕ, List, length, decimal};
 ghost use Rattle.std.specs.List.{flat_map};
 ghost use Rattle.escpos_jobs.specs.Lines.{byte_value, command_line, end_line, fault_line, values_of, word_of};
 ghost use Rattle.escpos_jobs.specs.LastText.{last_text};
 ghost use Rattle.escpos_jobs.specs.Notes.{note_line};
 ghost use Rattle.escpos_command.specs.declared.command.Command.TheVariants as kind;
+ghost use Rattle.escpos_io.specs.Giving.{IsGiven};
+ghost use Rattle.escpos_io.specs.Putting.{passage};
 ghost use Rattle.hex.specs.Hex.{encode_lower};
 
 use crate::ending::MEMORY;
@@ -13,7 +15,7 @@ use crate::notes::{WrongDigit, wrong_digit};
 use escpos_command::{Bars, Command, FaultReason, LF, Raster};
 use escpos_io::{
     ByteOut, Device, GATHERED_BYTES, Gather, Piece, append_digits_after, append_number,
-    append_small_number,
+    append_small_number, put_digits,
 };
 
 /// The byte between the parts of a line.
@@ -21,7 +23,7 @@ pub const SPACE: u8 = 0x20;
 
 const _: () = prove!(SPACE == 32);
 
-/// More than the line of any command has, with the note on it.
+/// More than the line of any command has, with the note on it, but for the data of a QR code.
 pub const LINE_BYTES: usize = 1024;
 
 const _: () = prove!(LINE_BYTES == 1024);
@@ -59,9 +61,38 @@ impl Piece for Last {
     }
 }
 
-/// Appends the line of a command that has `place` bytes before it.
-pub fn append_line(gather: &mut Gather, place: usize, command: &Command)
-    requires { length gather.old.kept + LINE_BYTES ≤ GATHERED_BYTES }
+/// Gives the line of a command that has `place` bytes before it.
+///
+/// On `Err` the sink has failed, and took exactly the first `written` of all bytes ever given to the gather, as long as these are
+/// few enough to be counted.
+pub fn put_line<W: ByteOut>(
+    gather: &mut Gather,
+    place: usize,
+    command: &Command,
+    writer: &mut W,
+) -> Result<(), Device>
+    ensures { IsGiven result (passage (W.written writer.old) (W.written writer.new) (W.failed writer.old) (W.failed writer.new))
+        gather.old gather.new (command_line place command.now) }
+{
+    gather.room(LINE_BYTES, writer)?;
+    match command {
+        Command::QrStore(stored) => {
+            append_number(gather, place);
+            gather.extend(b" qrstore ");
+            put_digits(gather, stored.as_slice(), writer)?;
+            gather.put(&[LF], writer)
+        }
+        _ => {
+            append_line(gather, place, command);
+            Ok(())
+        }
+    }
+}
+
+// Appends the line of a command that has `place` bytes before it.
+fn append_line(gather: &mut Gather, place: usize, command: &Command)
+    requires no_data { (stored : List ℕ) → command.now ≢ kind.QrStore stored }
+    requires room { length gather.old.kept + LINE_BYTES ≤ GATHERED_BYTES }
     ensures kept { gather.new.kept ≡ gather.old.kept ++ command_line place command.now }
     ensures same_count { gather.new.written ≡ gather.old.written }
 {
@@ -165,6 +196,11 @@ fn word(command: &Command) -> &'static [u8]
         Command::HriFont(_) => b"hrifont",
         Command::Bars(_) => b"bars",
         Command::Raster(_) => b"raster",
+        Command::QrModel(_) => b"qrmodel",
+        Command::QrSize(_) => b"qrsize",
+        Command::QrLevel(_) => b"qrlevel",
+        Command::QrStore(_) => b"qrstore",
+        Command::QrPrint => b"qrprint",
         Command::Cut(_) => b"cut",
         Command::Status(_) => b"status",
         Command::Mark(_) => b"mark",
@@ -174,7 +210,8 @@ fn word(command: &Command) -> &'static [u8]
 // Appends what follows the name: a space and two digits for each parameter byte, a space and the id of a mark, or what a
 // barcode or a raster carries.
 fn append_values(gather: &mut Gather, command: &Command)
-    requires { length gather.old.kept + 520 ≤ GATHERED_BYTES }
+    requires no_data { (stored : List ℕ) → command.now ≢ kind.QrStore stored }
+    requires room { length gather.old.kept + 520 ≤ GATHERED_BYTES }
     ensures kept { gather.new.kept ≡ gather.old.kept ++ values_of command.now }
     ensures same_count { gather.new.written ≡ gather.old.written }
     ensures short { length (values_of command.now) ≤ 520 }

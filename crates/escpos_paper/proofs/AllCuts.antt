@@ -6,7 +6,7 @@ use Rattle.std.proofs.lemmas.List.Concat.{flat_map-append}
 use Rattle.std.proofs.lemmas.List.Elements.{filter-append}
 use Rattle.escpos_command.specs.declared.command.Command.{Command}
 use Rattle.escpos_paper.specs.declared.cell.Cell.{Cell}
-use Rattle.escpos_paper.specs.Styles.{last_or}
+use Rattle.escpos_command.specs.Settings.{last_or}
 use Rattle.escpos_paper.specs.Cells.{cells}
 use Rattle.escpos_paper.specs.Rows.{IsCut, is_at_width, with_first, cuts, rows}
 use Rattle.escpos_paper.proofs.Filled.{filled}

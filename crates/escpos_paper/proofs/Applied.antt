@@ -4,13 +4,16 @@ use Rattle.escpos_paper.specs.declared.item.Item.{Item}
 use Rattle.escpos_paper.specs.declared.cell.Cell.{Cell}
 use Rattle.escpos_paper.specs.declared.style.BarStyle.{BarStyle}
 use Rattle.escpos_paper.specs.declared.style.LineStyle.{LineStyle}
+use Rattle.escpos_paper.specs.declared.style.QrStyle.{QrStyle}
+use Rattle.escpos_command.specs.Settings.{sets_stored}
+use Rattle.std.specs.Prelude.{ℕ, Option, None}
 use Rattle.escpos_paper.specs.declared.style.Style.{Style}
 use Rattle.escpos_command.specs.declared.command.Command.{Command}
 use Rattle.escpos_command.specs.CommandTable.{IsCommand, AreCommands}
 use Rattle.escpos_paper.specs.Styles.{is_empty}
 use Rattle.escpos_paper.specs.Page.{Sheet}
 use Rattle.escpos_paper.specs.Torn.{below}
-use Rattle.escpos_paper.specs.Steps.{style_after, bar_style_after, line_style_after, line_after, step_prints, sheet_after, sheet_after_all}
+use Rattle.escpos_paper.specs.Steps.{set_after, style_after, bar_style_after, line_style_after, qr_style_after, line_after, step_prints, sheet_after, sheet_after_all}
 use Rattle.escpos_paper.proofs.Sheets.{sheet_of, sheet_step}
 use Rattle.escpos_paper.proofs.Widths.{IsWidth, width_in_range}
 
@@ -24,18 +27,18 @@ one_more [] c h k = (k, tt)
 one_more (d ∷ cs) c h k = (h.0, one_more cs c h.1 k)
 
 -- The sheet after a command, made of its parts.
-pub sheet_made : (items printed : List Item) (s t : Style) (b d : BarStyle) (lines also : LineStyle) (row rest : List Cell) (c : Command)
-    → printed ≡ items ++ step_prints s b lines row c → t ≡ style_after s c → d ≡ bar_style_after b c
-    → also ≡ line_style_after (is_empty row) lines c → rest ≡ line_after s row c
-    → (let new : Sheet = record { items = printed; style = t; bar_style = d; line_style = also; line = rest } in
-    let old : Sheet = record { items = items; style = s; bar_style = b; line_style = lines; line = row } in
+pub sheet_made : (items printed : List Item) (s t : Style) (b d : BarStyle) (lines also : LineStyle) (qr others : QrStyle) (old_data new_data : Option (List ℕ)) (row rest : List Cell) (c : Command)
+    → printed ≡ items ++ step_prints s b lines qr old_data row c → t ≡ style_after s c → d ≡ bar_style_after b c
+    → also ≡ line_style_after (is_empty row) lines c → others ≡ qr_style_after qr c → new_data ≡ set_after sets_stored None old_data c → rest ≡ line_after s old_data row c
+    → (let new : Sheet = record { items = printed; style = t; bar_style = d; line_style = also; qr_style = others; stored = new_data; line = rest } in
+    let old : Sheet = record { items = items; style = s; bar_style = b; line_style = lines; qr_style = qr; stored = old_data; line = row } in
     new ≡ sheet_after old c)
-sheet_made items printed s t b d lines also row rest c p q r v w = cc
+sheet_made items printed s t b d lines also qr others old_data new_data row rest c p q r v w x y = cc
 
 -- A step is the same below any items.
 pub step_below : (gone : List Item) (sheet : Sheet) (c : Command) → below gone (sheet_after sheet c) ≡ sheet_after (below gone sheet) c
 step_below gone sheet c =
-    let above = append_assoc gone sheet.items (step_prints sheet.style sheet.bar_style sheet.line_style sheet.line c) in
+    let above = append_assoc gone sheet.items (step_prints sheet.style sheet.bar_style sheet.line_style sheet.qr_style sheet.stored sheet.line c) in
     cc above
 
 -- ## Several commands, one after another

@@ -6,8 +6,10 @@
 use Rattle.std.proofs.Common.{◌≡◌, ℕ, List, [], ◌∷◌, ◌++◌, refl, sym, ◌∙◌, ap, subst, append-nil, Bool, true, false, cond}
 use Rattle.std.proofs.Math.Seq.{append_snoc}
 use Rattle.escpos_command.specs.declared.command.Command.{Command}
-use Rattle.escpos_command.specs.declared.command.Command.TheVariants.{Char, LineFeed, Init, FeedLines, FeedUnits, Bars, Raster, Cut, Align, UpsideDown}
+use Rattle.escpos_command.specs.declared.command.Command.TheVariants.{Char, LineFeed, Init, FeedLines, FeedUnits, Bars, Raster, Cut, Align, UpsideDown, QrPrint}
 use Rattle.escpos_command.specs.CommandTable.{IsCommand, AreCommands}
+use Rattle.escpos_command.specs.Text.{is_some}
+use Rattle.std.specs.Prelude.{Option, Some, None}
 use Rattle.escpos_paper.specs.declared.cell.Cell.{Cell}
 use Rattle.escpos_paper.specs.declared.item.Item.{Item}
 use Rattle.escpos_paper.specs.declared.style.LineStyle.{LineStyle}
@@ -34,14 +36,14 @@ one_step s t c e k h = record { commands = h.commands ++ c ∷ []; in_range = on
 
 -- The sheet without its items and without its line.
 abbrev blank : Sheet → Sheet
-blank s = record { items = []; style = s.style; bar_style = s.bar_style; line_style = s.line_style; line = [] }
+blank s = record { items = []; style = s.style; bar_style = s.bar_style; line_style = s.line_style; qr_style = s.qr_style; stored = s.stored; line = [] }
 
 abbrev IsQuiet : Sheet → Type 0
 IsQuiet s = IsLeft (bare s) × IsLeft (blank s)
 
 -- The same sheet with other items, settings of lines and line.
 abbrev with : Sheet → List Item → LineStyle → List Cell → Sheet
-with s items lines row = record { items = items; style = s.style; bar_style = s.bar_style; line_style = lines; line = row }
+with s items lines row = record { items = items; style = s.style; bar_style = s.bar_style; line_style = lines; qr_style = s.qr_style; stored = s.stored; line = row }
 
 either : {X : Type 0} (b : Bool) (x : X) → cond b x x ≡ x
 either true x = refl
@@ -89,6 +91,15 @@ acts s c true h now there kept q k =
 acts s c false h now there kept q k =
     same_sheet (blank s) (blank (sheet_after s c)) (now ∙ ap (λ v. with s [] (line_style_after v s.line_style c) []) h ∙ ap (λ v. with s [] v []) kept) q.1
 
+-- A QR code ends the line if data is stored; otherwise nothing happens.
+prints_or_not : (s : Sheet) (data_then : Option (List ℕ)) → s.stored ≡ data_then → IsQuiet s → IsCommand QrPrint → IsQuiet (sheet_after s QrPrint)
+prints_or_not s (Some bytes) h q k = ends s QrPrint (ap (λ v. with s [] (anywhere (is_empty s.line) s.line_style) (cond (is_some v) [] s.line)) h) q
+prints_or_not s None h q k = (
+  same_sheet (bare s) (bare (sheet_after s QrPrint))
+      (ap (λ v. with s [] v (cond (is_some s.stored) [] s.line)) (same_lines (is_empty s.line) s.line_style) ∙ ap (λ v. with s [] s.line_style (cond (is_some v) [] s.line)) h) q.0,
+  same_sheet (blank s) (blank (sheet_after s QrPrint)) (ap (λ v. with s [] v []) (same_lines (is_empty s.line) s.line_style)) q.1,
+)
+
 quiet_step : (s : Sheet) (c : Command) → IsQuiet s → IsCommand c → IsQuiet (sheet_after s c)
 quiet_step s (Char b) q k = puts s b (fits (s.line ++ cell s.style b ∷ [])) refl q k
 quiet_step s LineFeed q k = ends s LineFeed refl q
@@ -97,6 +108,7 @@ quiet_step s (FeedUnits n) q k = ends s (FeedUnits n) refl q
 quiet_step s (Bars bars) q k = ends s (Bars bars) refl q
 quiet_step s (Raster raster) q k = ends s (Raster raster) refl q
 quiet_step s (Cut how) q k = ends s (Cut how) refl q
+quiet_step s QrPrint q k = prints_or_not s s.stored refl q k
 quiet_step s Init q k =
     let same = ap (λ v. with (sheet_after s Init) [] v []) (same_lines (is_empty s.line) (line_style_after true s.line_style Init)) in
     (one_step (blank s) (bare (sheet_after s Init)) Init same k q.1, one_step (blank s) (blank (sheet_after s Init)) Init same k q.1)

@@ -5,7 +5,8 @@ use Rattle.std.proofs.lemmas.Bool.Decides.{nat_tests}
 use Rattle.escpos_paper.specs.declared.cell.Cell.{Cell}
 use Rattle.escpos_paper.specs.declared.item.Item.{Item}
 use Rattle.escpos_paper.specs.declared.style.LineStyle.{LineStyle}
-use Rattle.escpos_paper.specs.Styles.{is_empty, last_or}
+use Rattle.escpos_paper.specs.Styles.{is_empty}
+use Rattle.escpos_command.specs.Settings.{last_or}
 use Rattle.escpos_paper.specs.Rows.{fits}
 use Rattle.escpos_paper.proofs.Filled.{filled_from, filled}
 use Rattle.escpos_paper.specs.Printed.{row_and_feed}

@@ -13,5 +13,6 @@ pub mod Bare
 pub mod Above
 pub mod Worked
 pub mod ItemParts
+pub mod CharactersPut
 pub mod FirstItems
 pub mod SecondItems

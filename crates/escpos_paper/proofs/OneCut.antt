@@ -9,7 +9,7 @@ use Rattle.std.proofs.Math.Seq.{append_snoc}
 use Rattle.escpos_command.specs.declared.command.Command.{Command}
 use Rattle.escpos_command.specs.declared.parameter.choices.FontFace.{FontFace}
 use Rattle.escpos_command.specs.declared.parameter.choices.FontFace.TheVariants.{A, B}
-use Rattle.escpos_command.specs.Text.{characters, ends_text}
+use Rattle.escpos_command.specs.Text.{characters, ends_later}
 use Rattle.escpos_paper.specs.declared.cell.Cell.{Cell}
 use Rattle.escpos_paper.specs.declared.style.Style.{Style}
 use Rattle.escpos_paper.specs.OverPlaces.{over_places}
@@ -187,7 +187,7 @@ narrow_from : (before cs : List Command) → AllByRecursion IsNarrow (over_place
 narrow_from before [] = tt
 narrow_from before (c ∷ cs) =
     narrow_append (cell_at before c cs) (over_places cell_at (before ++ c ∷ []) cs)
-    (narrow_place (style before) (characters c) (list_any ends_text cs) (width_in_range before).most) (narrow_from (before ++ c ∷ []) cs)
+    (narrow_place (style before) (characters c) (ends_later (before ++ c ∷ []) cs) (width_in_range before).most) (narrow_from (before ++ c ∷ []) cs)
 
 -- So filling finds the cut of the cells of commands.
 pub is_cut : (cs : List Command) → IsCut (cells cs) (filled (cells cs))

@@ -1,78 +1,25 @@
 -- What one more command does to the styles and the cells of a list of commands.
-use Rattle.std.proofs.Common.{◌≡◌, ℕ, List, [], ◌∷◌, ◌++◌, refl, sym, ◌∙◌, ap, append_assoc, append-nil, Bool, true, false, cond, Option, Some, None}
-use Rattle.std.specs.Prelude.{◌||◌, ◌&&◌, not, map, filter_map, option_to_list}
-use Rattle.std.specs.List.{list_any}
-use Rattle.std.specs.Option.{unwrap_or}
+use Rattle.std.proofs.Common.{◌≡◌, ℕ, List, [], ◌∷◌, ◌++◌, refl, sym, ◌∙◌, ap, append_assoc, append-nil, Bool, true, false, cond, Option, None}
+use Rattle.std.specs.Prelude.{◌||◌, ◌&&◌, not, map}
 use Rattle.std.proofs.lemmas.List.{map-append}
-use Rattle.std.proofs.lemmas.List.Folds.{list_any-append}
-use Rattle.std.proofs.lemmas.List.Elements.{filter_map-append}
 use Rattle.std.proofs.Math.Seq.{append_snoc}
 use Rattle.escpos_command.specs.declared.command.Command.{Command}
 use Rattle.escpos_command.specs.declared.parameter.choices.Alignment.TheVariants.{Left}
+use Rattle.escpos_command.specs.declared.parameter.choices.Correction.TheVariants.{L}
 use Rattle.escpos_command.specs.declared.parameter.choices.FontFace.TheVariants.{A}
 use Rattle.escpos_command.specs.declared.parameter.choices.HriPosition.TheVariants.{Nowhere}
-use Rattle.escpos_command.specs.Text.{text, ends_text, characters}
+use Rattle.escpos_command.specs.Text.{text, text_after, ends_line, ends_later, characters}
 use Rattle.escpos_paper.specs.declared.cell.Cell.{Cell}
 use Rattle.escpos_paper.specs.declared.style.Style.{Style}
 use Rattle.escpos_paper.specs.OverPlaces.{over_places}
-use Rattle.escpos_paper.specs.Styles.{is_init, acts_at_line_start, is_empty, after_init, last_or, setting, style, bar_style, line_style, if_it_counts, commands_that_count, sets_alignment, sets_upside_down, sets_spacing, sets_table, sets_font, sets_width, sets_height, sets_bold, sets_underline, sets_strike, sets_reverse, sets_character_set, sets_bar_height, sets_module_width, sets_hri_place, sets_hri_font}
+use Rattle.escpos_paper.specs.Styles.{acts_at_line_start, is_empty, style, bar_style, line_style, qr_style, sets_qr_model, sets_qr_size, sets_correction, if_it_counts, commands_that_count, sets_alignment, sets_upside_down, sets_spacing, sets_table, sets_font, sets_width, sets_height, sets_bold, sets_underline, sets_strike, sets_reverse, sets_character_set, sets_bar_height, sets_module_width, sets_hri_place, sets_hri_font}
+use Rattle.escpos_command.specs.Settings.{setting}
+use Rattle.escpos_command.proofs.Lines.{ends_later-snoc}
+use Rattle.escpos_command.proofs.Settings.{or_false, or_true, setting-snoc}
 use Rattle.escpos_paper.specs.Cells.{cell, cell_at, cells}
-use Rattle.escpos_paper.specs.Steps.{set_after, set_at_start, style_after, bar_style_after, line_style_after}
-
--- ## Tests of a list with one more element
-
-or_true : (a : Bool) → (a || true) ≡ true
-or_true true = refl
-or_true false = refl
-
-or_false : (a : Bool) → (a || false) ≡ a
-or_false true = refl
-or_false false = refl
-
-pub any_hit : {X : Type 0} (test : X → Bool) (xs : List X) (x : X) → test x ≡ true → list_any test (xs ++ x ∷ []) ≡ true
-any_hit test xs x h =
-    list_any-append test xs (x ∷ []) ∙ ap (λ b. list_any test xs || (b || false)) h ∙ or_true (list_any test xs)
-
-pub any_miss : {X : Type 0} (test : X → Bool) (xs : List X) (x : X) → test x ≡ false → list_any test (xs ++ x ∷ []) ≡ list_any test xs
-any_miss test xs x h =
-    list_any-append test xs (x ∷ []) ∙ ap (λ b. list_any test xs || (b || false)) h ∙ or_false (list_any test xs)
+use Rattle.escpos_paper.specs.Steps.{set_after, set_at_start, style_after, bar_style_after, line_style_after, qr_style_after}
 
 -- ## Attributes
-
-after_init-hit : (cs : List Command) (c : Command) → is_init c ≡ true → after_init (cs ++ c ∷ []) ≡ []
-after_init-hit [] c h = ap (λ b. cond (b || false) [] (c ∷ []) ++ []) h
-after_init-hit (d ∷ cs) c h =
-    ap (λ b. cond b [] (d ∷ []) ++ after_init (cs ++ c ∷ [])) (any_hit is_init (d ∷ cs) c h) ∙ after_init-hit cs c h
-
-after_init-miss : (cs : List Command) (c : Command) → is_init c ≡ false → after_init (cs ++ c ∷ []) ≡ after_init cs ++ c ∷ []
-after_init-miss [] c h = ap (λ b. cond (b || false) [] (c ∷ []) ++ []) h
-after_init-miss (d ∷ cs) c h =
-    ap (λ b. cond b [] (d ∷ []) ++ after_init (cs ++ c ∷ [])) (any_miss is_init (d ∷ cs) c h)
-    ∙ ap (λ t. cond (list_any is_init (d ∷ cs)) [] (d ∷ []) ++ t) (after_init-miss cs c h)
-    ∙ sym (append_assoc (cond (list_any is_init (d ∷ cs)) [] (d ∷ [])) (after_init cs) (c ∷ []))
-
-last_or-snoc : {X : Type 0} (d : X) (xs : List X) (x : X) → last_or d (xs ++ x ∷ []) ≡ x
-last_or-snoc d [] x = refl
-last_or-snoc d (y ∷ xs) x = last_or-snoc y xs x
-
-last_or-option : {X : Type 0} (d : X) (xs : List X) (o : Option X) → last_or d (xs ++ option_to_list o) ≡ unwrap_or o (last_or d xs)
-last_or-option d xs None = ap (last_or d) (append-nil xs)
-last_or-option d xs (Some x) = last_or-snoc d xs x
-
-filter_map-one : {X Y : Type 0} (h : X → Option Y) (x : X) → filter_map h (x ∷ []) ≡ option_to_list (h x)
-filter_map-one h x = elim (h x) as (λ o. filter_map (λ y. o) (x ∷ []) ≡ option_to_list o) [ None ↦ refl | Some y ↦ refl ]
-
-setting_by : {X : Type 0} (sets : Command → Option X) (start : X) (cs : List Command) (c : Command) (b : Bool) → is_init c ≡ b
-    → setting sets start (cs ++ c ∷ []) ≡ cond b start (unwrap_or (sets c) (setting sets start cs))
-setting_by sets start cs c true h = ap (λ ds. last_or start (filter_map sets ds)) (after_init-hit cs c h)
-setting_by sets start cs c false h =
-    ap (λ ds. last_or start (filter_map sets ds)) (after_init-miss cs c h)
-    ∙ ap (last_or start) (filter_map-append sets (after_init cs) (c ∷ []) ∙ ap (λ t. filter_map sets (after_init cs) ++ t) (filter_map-one sets c))
-    ∙ last_or-option start (filter_map sets (after_init cs)) (sets c)
-
-pub setting-snoc : {X : Type 0} (sets : Command → Option X) (start : X) (cs : List Command) (c : Command)
-    → setting sets start (cs ++ c ∷ []) ≡ set_after sets start (setting sets start cs) c
-setting-snoc sets start cs c = setting_by sets start cs c (is_init c) refl
 
 pub style-snoc : (cs : List Command) (c : Command) → style (cs ++ c ∷ []) ≡ style_after (style cs) c
 style-snoc cs c =
@@ -97,18 +44,26 @@ bar_style-snoc cs c =
       setting-snoc sets_hri_font A cs c,
     )
 
+pub qr_style-snoc : (cs : List Command) (c : Command) → qr_style (cs ++ c ∷ []) ≡ qr_style_after (qr_style cs) c
+qr_style-snoc cs c = cc (setting-snoc sets_qr_model 2 cs c, setting-snoc sets_qr_size 3 cs c, setting-snoc sets_correction L cs c)
+
 -- ## Places
 
--- What f gives with one more place, where at each place before it f then gives what g gives without it.
+-- What f gives with one more place, where at each place of these lists f then gives what g gives without it.
+pub over-snoc-at : {X : Type 0} (f g : List Command → Command → List Command → List X) (before cs whole : List Command) (c : Command) → before ++ cs ≡ whole
+    → ((b : List Command) (d : Command) (following : List Command) → b ++ d ∷ following ≡ whole → f b d (following ++ c ∷ []) ≡ g b d following)
+    → over_places f before (cs ++ c ∷ []) ≡ over_places g before cs ++ f whole c []
+over-snoc-at f g before [] whole c e h = append-nil (f before c []) ∙ ap (λ b. f b c []) (sym (append-nil before) ∙ e)
+over-snoc-at f g before (d ∷ cs) whole c e h =
+    ap (λ t. t ++ over_places f (before ++ d ∷ []) (cs ++ c ∷ [])) (h before d cs e)
+    ∙ ap (λ t. g before d cs ++ t) (over-snoc-at f g (before ++ d ∷ []) cs whole c (append_snoc before d cs ∙ e) h)
+    ∙ sym (append_assoc (g before d cs) (over_places g (before ++ d ∷ []) cs) (f whole c []))
+
+-- The same, where that holds at any place.
 pub over-snoc : {X : Type 0} (f g : List Command → Command → List Command → List X) (before cs : List Command) (c : Command)
     → ((b : List Command) (d : Command) (following : List Command) → f b d (following ++ c ∷ []) ≡ g b d following)
     → over_places f before (cs ++ c ∷ []) ≡ over_places g before cs ++ f (before ++ cs) c []
-over-snoc f g before [] c h = append-nil (f before c []) ∙ ap (λ b. f b c []) (sym (append-nil before))
-over-snoc f g before (d ∷ cs) c h =
-    ap (λ t. t ++ over_places f (before ++ d ∷ []) (cs ++ c ∷ [])) (h before d cs)
-    ∙ ap (λ t. g before d cs ++ t) (over-snoc f g (before ++ d ∷ []) cs c h)
-    ∙ ap (λ b. g before d cs ++ (over_places g (before ++ d ∷ []) cs ++ f b c [])) (append_snoc before d cs)
-    ∙ sym (append_assoc (g before d cs) (over_places g (before ++ d ∷ []) cs) (f (before ++ d ∷ cs) c []))
+over-snoc f g before cs c h = over-snoc-at f g before cs (before ++ cs) c refl (λ b d following here. h b d following)
 
 over-nothing : {X : Type 0} (before cs : List Command) → over_places {X = X} (λ b c following. []) before cs ≡ []
 over-nothing before [] = refl
@@ -116,16 +71,25 @@ over-nothing before (c ∷ cs) = over-nothing (before ++ c ∷ []) cs
 
 -- ## Cells
 
-cells_by : (cs : List Command) (c : Command) (b : Bool) → ends_text c ≡ b
+-- At a place of the list, what one more command after it does.
+at_place : (b : List Command) (d : Command) (following cs : List Command) (c : Command) (ends : Bool) → b ++ d ∷ following ≡ cs → ends_line cs c ≡ ends
+    → ends_later (b ++ d ∷ []) (following ++ c ∷ []) ≡ (ends_later (b ++ d ∷ []) following || ends)
+at_place b d following cs c ends whole h =
+    ends_later-snoc (b ++ d ∷ []) following c
+    ∙ ap (λ v. ends_later (b ++ d ∷ []) following || v) (ap (λ bs. ends_line bs c) (append_snoc b d following ∙ whole) ∙ h)
+
+cells_by : (cs : List Command) (c : Command) (b : Bool) → ends_line cs c ≡ b
     → cells (cs ++ c ∷ []) ≡ cond b [] (cells cs) ++ map (cell (style cs)) (characters c)
 cells_by cs c true h =
-    over-snoc cell_at (λ b d following. []) [] cs c (λ b d following. ap (λ v. cond v [] (map (cell (style b)) (characters d))) (any_hit ends_text following c h))
+    over-snoc-at cell_at (λ b d following. []) [] cs cs c refl
+    (λ b d following whole. ap (λ v. cond v [] (map (cell (style b)) (characters d))) (at_place b d following cs c true whole h ∙ or_true (ends_later (b ++ d ∷ []) following)))
     ∙ ap (λ t. t ++ map (cell (style cs)) (characters c)) (over-nothing [] cs)
 cells_by cs c false h =
-    over-snoc cell_at cell_at [] cs c (λ b d following. ap (λ v. cond v [] (map (cell (style b)) (characters d))) (any_miss ends_text following c h))
+    over-snoc-at cell_at cell_at [] cs cs c refl
+    (λ b d following whole. ap (λ v. cond v [] (map (cell (style b)) (characters d))) (at_place b d following cs c false whole h ∙ or_false (ends_later (b ++ d ∷ []) following)))
 
-pub cells-snoc : (cs : List Command) (c : Command) → cells (cs ++ c ∷ []) ≡ cond (ends_text c) [] (cells cs) ++ map (cell (style cs)) (characters c)
-cells-snoc cs c = cells_by cs c (ends_text c) refl
+pub cells-snoc : (cs : List Command) (c : Command) → cells (cs ++ c ∷ []) ≡ cond (ends_line cs c) [] (cells cs) ++ map (cell (style cs)) (characters c)
+cells-snoc cs c = cells_by cs c (ends_line cs c) refl
 
 -- The bytes of the cells are the text.
 bytes_in_style : (s : Style) (bs : List ℕ) → map (λ (x : Cell). x.byte) (map (cell s) bs) ≡ bs
@@ -136,12 +100,12 @@ bytes_of_place : (s : Style) (bs : List ℕ) (b : Bool) → map (λ (x : Cell). 
 bytes_of_place s bs true = refl
 bytes_of_place s bs false = bytes_in_style s bs
 
-bytes_from : (before cs : List Command) → map (λ (x : Cell). x.byte) (over_places cell_at before cs) ≡ text cs
+bytes_from : (before cs : List Command) → map (λ (x : Cell). x.byte) (over_places cell_at before cs) ≡ text_after before cs
 bytes_from before [] = refl
 bytes_from before (c ∷ cs) =
     map-append (λ (x : Cell). x.byte) (cell_at before c cs) (over_places cell_at (before ++ c ∷ []) cs)
-    ∙ ap (λ t. t ++ map (λ (x : Cell). x.byte) (over_places cell_at (before ++ c ∷ []) cs)) (bytes_of_place (style before) (characters c) (list_any ends_text cs))
-    ∙ ap (λ t. cond (list_any ends_text cs) [] (characters c) ++ t) (bytes_from (before ++ c ∷ []) cs)
+    ∙ ap (λ t. t ++ map (λ (x : Cell). x.byte) (over_places cell_at (before ++ c ∷ []) cs)) (bytes_of_place (style before) (characters c) (ends_later (before ++ c ∷ []) cs))
+    ∙ ap (λ t. cond (ends_later (before ++ c ∷ []) cs) [] (characters c) ++ t) (bytes_from (before ++ c ∷ []) cs)
 
 pub bytes_of_cells : (cs : List Command) → map (λ (x : Cell). x.byte) (cells cs) ≡ text cs
 bytes_of_cells cs = bytes_from [] cs

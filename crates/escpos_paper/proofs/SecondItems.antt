@@ -1,11 +1,12 @@
 -- Commands of the second profile print items of the second profile.
-use Rattle.std.proofs.Common.{◌≡◌, List, [], ◌∷◌, ◌++◌, length, sym, subst, refl, Bool, true, false, cond, IsTrue}
-use Rattle.std.specs.Prelude.{nat_lt, None}
+use Rattle.std.proofs.Common.{◌≡◌, ℕ, List, [], ◌∷◌, ◌++◌, length, sym, subst, refl, Bool, true, false, cond, IsTrue}
+use Rattle.std.specs.Prelude.{nat_lt, Option, None}
 use Rattle.std.specs.List.{AllByRecursion}
 use Rattle.escpos_command.specs.declared.command.Command.{Command}
 use Rattle.escpos_command.specs.declared.command.Command.TheVariants as kind
 use Rattle.escpos_command.specs.FirstProfile.{in_first_profile}
 use Rattle.escpos_command.specs.SecondProfile.{in_second_profile}
+use Rattle.escpos_command.specs.Settings.{stored}
 use Rattle.escpos_paper.specs.declared.cell.Cell.{Cell}
 use Rattle.escpos_paper.specs.declared.item.Item.{Item}
 use Rattle.escpos_paper.specs.declared.style.LineStyle.{LineStyle}
@@ -46,6 +47,11 @@ style_stays s (kind.Smoothing n) k h = absurd cc
 style_stays s (kind.UpsideDown n) k h = absurd cc
 style_stays s (kind.LineSpacing n) k h = absurd cc
 style_stays s kind.DefaultSpacing k h = absurd cc
+style_stays s (kind.QrModel n) k h = absurd cc
+style_stays s (kind.QrSize n) k h = absurd cc
+style_stays s (kind.QrLevel n) k h = absurd cc
+style_stays s (kind.QrStore bytes) k h = absurd cc
+style_stays s kind.QrPrint k h = absurd cc
 style_stays s kind.Init k h = refl
 style_stays s c k h = h
 
@@ -57,16 +63,17 @@ with_one : (row : List Cell) (x : Cell) (there : Bool) → AreCells row → IsSe
 with_one row x true h k = and_one row x h k
 with_one row x false h k = (k, tt)
 
-line_stays : (s : Style) (row : List Cell) (c : Command) → IsTrue (has_six_fields s) → AreCells row → AreCells (line_after s row c)
-line_stays s row (kind.Char b) h k = with_one row (cell s b) (fits (row ++ cell s b ∷ [])) k h
-line_stays s row kind.LineFeed h k = tt
-line_stays s row (kind.FeedLines n) h k = tt
-line_stays s row (kind.FeedUnits n) h k = tt
-line_stays s row kind.Init h k = tt
-line_stays s row (kind.Bars bars) h k = tt
-line_stays s row (kind.Raster raster) h k = tt
-line_stays s row (kind.Cut how) h k = tt
-line_stays s row c h k = k
+line_stays : (s : Style) (old_data : Option (List ℕ)) (row : List Cell) (c : Command) → IsTrue (in_second_profile c) → IsTrue (has_six_fields s) → AreCells row → AreCells (line_after s old_data row c)
+line_stays s old_data row (kind.Char b) i h k = with_one row (cell s b) (fits (row ++ cell s b ∷ [])) k h
+line_stays s old_data row kind.LineFeed i h k = tt
+line_stays s old_data row (kind.FeedLines n) i h k = tt
+line_stays s old_data row (kind.FeedUnits n) i h k = tt
+line_stays s old_data row kind.Init i h k = tt
+line_stays s old_data row (kind.Bars bars) i h k = tt
+line_stays s old_data row (kind.Raster raster) i h k = tt
+line_stays s old_data row (kind.Cut how) i h k = tt
+line_stays s old_data row kind.QrPrint i h k = absurd cc
+line_stays s old_data row c i h k = k
 
 lines_stay : (is_line_empty : Bool) (lines : LineStyle) (c : Command) → IsTrue (in_second_profile c) → IsPlain lines → IsPlain (line_style_after is_line_empty lines c)
 lines_stay e lines (kind.DoubleStrike n) k h = absurd cc
@@ -76,6 +83,11 @@ lines_stay e lines (kind.Smoothing n) k h = absurd cc
 lines_stay e lines (kind.UpsideDown n) k h = absurd cc
 lines_stay e lines (kind.LineSpacing n) k h = absurd cc
 lines_stay e lines kind.DefaultSpacing k h = absurd cc
+lines_stay e lines (kind.QrModel n) k h = absurd cc
+lines_stay e lines (kind.QrSize n) k h = absurd cc
+lines_stay e lines (kind.QrLevel n) k h = absurd cc
+lines_stay e lines (kind.QrStore bytes) k h = absurd cc
+lines_stay e lines kind.QrPrint k h = absurd cc
 lines_stay true lines kind.Init k h = record { upright = refl; default = refl }
 lines_stay false lines kind.Init k h = record { upright = refl; default = refl }
 lines_stay true lines c k h = record { upright = h.upright; default = h.default }
@@ -84,7 +96,7 @@ lines_stay false lines c k h = record { upright = h.upright; default = h.default
 one_further : (cs : List Command) (c : Command) → IsTrue (in_second_profile c) → IsSecond cs → IsSecond (cs ++ c ∷ [])
 one_further cs c k h = record {
   six = subst (λ s. IsTrue (has_six_fields s)) (sym (style-snoc cs c)) (style_stays (style cs) c k h.six);
-  cells = subst AreCells (sym (line-snoc cs c)) (line_stays (style cs) (line cs) c h.six h.cells);
+  cells = subst AreCells (sym (line-snoc cs c)) (line_stays (style cs) (stored cs) (line cs) c k h.six h.cells);
   plain = subst IsPlain (sym (line_style_step cs c)) (lines_stay (is_empty (line cs)) (line_style cs) c k h.plain);
 }
 
@@ -116,6 +128,11 @@ prints_second before (kind.FeedUnits n) h s = both (row_of (line_style before) (
 prints_second before (kind.Bars bars) h s = both (row_and_feed (line_style before) (line before)) _ (row_with_feed (line_style before) (line before) s.plain s.cells) (tt, tt)
 prints_second before (kind.Raster raster) h s = both (row_and_feed (line_style before) (line before)) _ (row_with_feed (line_style before) (line before) s.plain s.cells) (tt, tt)
 prints_second before (kind.Cut cut) h s = both (row_and_feed (line_style before) (line before)) _ (row_with_feed (line_style before) (line before) s.plain s.cells) (tt, tt)
+prints_second before (kind.QrModel n) h s = absurd cc
+prints_second before (kind.QrSize n) h s = absurd cc
+prints_second before (kind.QrLevel n) h s = absurd cc
+prints_second before (kind.QrStore bytes) h s = absurd cc
+prints_second before kind.QrPrint h s = absurd cc
 prints_second before c h s = tt
 
 after : (before cs : List Command) → AllByRecursion (λ c. IsTrue (in_second_profile c)) cs → IsSecond before → AreSecond (over_places (λ b c following. prints b c) before cs)

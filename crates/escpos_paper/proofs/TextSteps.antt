@@ -15,7 +15,7 @@ use Rattle.escpos_paper.specs.Steps.{line_style_after, sheet_after, sheet_after_
 
 -- The sheet with these items and this line.
 abbrev pub with_text : Sheet → List Item → List Cell → Sheet
-with_text sheet items row = record { items = items; style = sheet.style; bar_style = sheet.bar_style; line_style = sheet.line_style; line = row }
+with_text sheet items row = record { items = items; style = sheet.style; bar_style = sheet.bar_style; line_style = sheet.line_style; qr_style = sheet.qr_style; stored = sheet.stored; line = row }
 
 same_lines : (is_line_empty : Bool) (lines : LineStyle) (b : ℕ) → line_style_after is_line_empty lines (Char b) ≡ lines
 same_lines true lines b = refl

@@ -4,7 +4,8 @@ use Rattle.std.specs.Prelude.{filter_map}
 use Rattle.escpos_command.specs.declared.command.Command.{Command}
 use Rattle.escpos_command.specs.declared.command.Command.TheVariants.{Mode, Size}
 use Rattle.escpos_command.specs.Meanings.{magnified, has_bit, size_width}
-use Rattle.escpos_paper.specs.Styles.{after_init, last_or, sets_width, style}
+use Rattle.escpos_paper.specs.Styles.{sets_width, style}
+use Rattle.escpos_command.specs.Settings.{after_init, last_or}
 
 -- A width factor is 1 to 8.
 pub record IsWidth (n : ℕ) : Type 0 where

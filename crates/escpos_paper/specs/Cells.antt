@@ -1,10 +1,9 @@
 -- The cells of the line: its text, each character with the style that the commands before it have set.
-use Rattle.std.specs.Prelude.{ℕ, ◌*◌, List, [], map, sum_by, if◌then◌else◌}
-use Rattle.std.specs.List.{list_any}
+use Rattle.std.specs.Prelude.{ℕ, ◌*◌, List, [], ◌∷◌, ◌++◌, map, sum_by, if◌then◌else◌}
 use Rattle.escpos_command.specs.declared.command.Command.{Command}
 use Rattle.escpos_command.specs.declared.parameter.choices.FontFace.{FontFace}
 use Rattle.escpos_command.specs.declared.parameter.choices.FontFace.TheVariants.{A, B}
-use Rattle.escpos_command.specs.Text.{ends_text, characters}
+use Rattle.escpos_command.specs.Text.{ends_later, characters}
 use Rattle.escpos_paper.specs.declared.cell.Cell.{Cell}
 use Rattle.escpos_paper.specs.declared.style.Style.{Style}
 use Rattle.escpos_paper.specs.OverPlaces.{over_places}
@@ -16,7 +15,7 @@ cell s b = record { byte = b; style = s }
 
 -- The cell of a Char command that no later command has printed or dropped.
 abbrev pub cell_at : List Command → Command → List Command → List Cell
-cell_at before c following = if list_any ends_text following then [] else map (cell (style before)) (characters c)
+cell_at before c following = if ends_later (before ++ c ∷ []) following then [] else map (cell (style before)) (characters c)
 
 abbrev pub cells : List Command → List Cell
 cells cs = over_places cell_at [] cs

@@ -4,7 +4,7 @@ use Rattle.std.specs.List.{list_all}
 use Rattle.escpos_command.specs.Barcodes.{is_digit}
 use Rattle.escpos_command.specs.declared.bars.Symbology.{Symbology}
 use Rattle.escpos_command.specs.declared.bars.Symbology.TheVariants.{UpcA, Ean13, Ean8}
-use Rattle.escpos_paper.specs.Styles.{last_or}
+use Rattle.escpos_command.specs.Settings.{last_or}
 
 -- All of these bytes are digits.
 abbrev pub all_digits : List ℕ → Bool

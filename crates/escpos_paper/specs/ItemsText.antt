@@ -8,6 +8,8 @@ use Rattle.escpos_command.specs.declared.parameter.choices.Alignment.{Alignment}
 use Rattle.escpos_command.specs.declared.parameter.choices.Alignment.TheVariants.{Left, Center, Right}
 use Rattle.escpos_command.specs.declared.parameter.choices.HriPosition.{HriPosition}
 use Rattle.escpos_command.specs.declared.parameter.choices.HriPosition.TheVariants as place
+use Rattle.escpos_command.specs.declared.parameter.choices.Correction.{Correction}
+use Rattle.escpos_command.specs.declared.parameter.choices.Correction.TheVariants as correction
 use Rattle.escpos_command.specs.declared.parameter.choices.Scale.{Scale}
 use Rattle.escpos_command.specs.declared.parameter.choices.Scale.TheVariants as scale
 use Rattle.escpos_command.specs.declared.bars.Symbology.{Symbology}
@@ -15,7 +17,7 @@ use Rattle.escpos_command.specs.declared.bars.Symbology.TheVariants.{UpcA, Ean13
 use Rattle.escpos_paper.specs.declared.cell.Cell.{Cell}
 use Rattle.escpos_paper.specs.declared.style.Style.{Style}
 use Rattle.escpos_paper.specs.declared.item.Item.{Item}
-use Rattle.escpos_paper.specs.declared.item.Item.TheVariants.{Row, Feed, FeedUnits, Bars, Raster, Cut}
+use Rattle.escpos_paper.specs.declared.item.Item.TheVariants.{Row, Feed, FeedUnits, Bars, Raster, Qr, Cut}
 use Rattle.escpos_paper.specs.Styles.{power_on, same_style}
 
 -- A byte 20 to 7E hexadecimal other than [ and \ is itself; any other is \ and two hexadecimal digits.
@@ -100,6 +102,12 @@ added_text (Some n) = decimal n
 abbrev pub content_text : List ℕ → Option ℕ → List ℕ
 content_text content added = flat_map byte_text content ++ added_text added
 
+abbrev pub correction_name : Correction → List ℕ
+correction_name correction.L = codes "L"
+correction_name correction.M = codes "M"
+correction_name correction.Q = codes "Q"
+correction_name correction.H = codes "H"
+
 abbrev pub cut_name : Bool → List ℕ
 cut_name partial = if partial then codes "partial" else codes "full"
 
@@ -128,6 +136,9 @@ words (Bars align symbology height width place face content added) =
 words (Raster align scale x y dots) =
     codes "raster " ++ align_name align ++ codes " " ++ scale_name scale ++ codes " " ++ decimal x ++ codes " " ++ decimal y ++ codes " "
     ++ encode_lower dots
+words (Qr align model size level content) =
+    codes "qr " ++ align_name align ++ codes " " ++ decimal model ++ codes " " ++ decimal size ++ codes " " ++ correction_name level ++ codes " "
+    ++ flat_map byte_text content
 words (Cut partial feed) = codes "cut " ++ cut_name partial ++ feed_text feed
 
 abbrev pub item_text : Item → List ℕ

@@ -1,29 +1,37 @@
 -- The model of a page, and which commands leave it.
-use Rattle.std.specs.Prelude.{ℕ, ◌≡◌, List, ◌++◌}
+use Rattle.std.specs.Prelude.{ℕ, ◌≡◌, Bool, List, ◌++◌, Option, if◌then◌else◌}
 use Rattle.escpos_command.specs.declared.command.Command.{Command}
 use Rattle.escpos_command.specs.CommandTable.{AreCommands}
+use Rattle.escpos_command.specs.Settings.{stored}
 use Rattle.escpos_paper.specs.declared.cell.Cell.{Cell}
 use Rattle.escpos_paper.specs.declared.item.Item.{Item}
 use Rattle.escpos_paper.specs.declared.style.BarStyle.{BarStyle}
 use Rattle.escpos_paper.specs.declared.style.LineStyle.{LineStyle}
+use Rattle.escpos_paper.specs.declared.style.QrStyle.{QrStyle}
 use Rattle.escpos_paper.specs.declared.style.Style.{Style}
-use Rattle.escpos_paper.specs.Styles.{style, bar_style, line_style}
+use Rattle.escpos_paper.specs.Styles.{style, bar_style, line_style, qr_style}
 use Rattle.escpos_paper.specs.Rows.{line}
 use Rattle.escpos_paper.specs.Printed.{printed}
 
--- What commands leave: the items on paper, the style, the settings of barcodes and of lines, and the line that isn't printed
--- yet.
+-- What commands leave: the items on paper, the styles of characters, barcodes, lines and QR codes, the data of QR codes that is
+-- stored, and the line that isn't printed yet.
 pub record Sheet : Type 0 where
   pub items : List Item
   pub style : Style
   pub bar_style : BarStyle
   pub line_style : LineStyle
+  pub qr_style : QrStyle
+  pub stored : Option (List ℕ)
   pub line : List Cell
 
--- The model of a page: its sheet, and for how many more items it has room.
+-- The model of a page: its sheet, and for how many more items it has room; for none, where it has no room for a copy of the data
+-- that is stored.
 pub record PageView : Type 0 where
   pub sheet : Sheet
   pub room : ℕ
+
+abbrev pub room_for_items : Bool → ℕ → ℕ
+room_for_items is_ready room = if is_ready then room else 0
 
 -- The sheet is what these commands leave on paper that held the items `kept`, from power-on styles and an
 -- empty line.
@@ -33,6 +41,8 @@ SheetIs sheet kept cs = sheet ≡ record {
   style = style cs;
   bar_style = bar_style cs;
   line_style = line_style cs;
+  qr_style = qr_style cs;
+  stored = stored cs;
   line = line cs;
 }
 

@@ -1,18 +1,20 @@
 -- What commands print.
-use Rattle.std.specs.Prelude.{nat_lt, List, [], ◌∷◌, ◌++◌, length, if◌then◌else◌}
+use Rattle.std.specs.Prelude.{ℕ, nat_lt, List, [], ◌∷◌, ◌++◌, Option, None, Some, length, if◌then◌else◌}
 use Rattle.escpos_command.specs.declared.command.Command.{Command}
 use Rattle.escpos_command.specs.declared.command.Command.TheVariants as kind
 use Rattle.escpos_command.specs.declared.parameter.choices.Alignment.{Alignment}
 use Rattle.escpos_command.specs.Meanings.{choice, leaves_a_point, scale_of}
 use Rattle.escpos_command.specs.Barcodes.{Barcode}
+use Rattle.escpos_command.specs.Settings.{stored}
 use Rattle.escpos_command.specs.Rasters.{Picture}
 use Rattle.escpos_paper.specs.declared.cell.Cell.{Cell}
 use Rattle.escpos_paper.specs.declared.item.Item.{Item}
-use Rattle.escpos_paper.specs.declared.item.Item.TheVariants.{Row, Feed, FeedUnits, Bars, Raster, Cut}
+use Rattle.escpos_paper.specs.declared.item.Item.TheVariants.{Row, Feed, FeedUnits, Bars, Raster, Qr, Cut}
 use Rattle.escpos_paper.specs.OverPlaces.{over_places}
 use Rattle.escpos_paper.specs.declared.style.BarStyle.{BarStyle}
 use Rattle.escpos_paper.specs.declared.style.LineStyle.{LineStyle}
-use Rattle.escpos_paper.specs.Styles.{line_style, bar_style}
+use Rattle.escpos_paper.specs.declared.style.QrStyle.{QrStyle}
+use Rattle.escpos_paper.specs.Styles.{line_style, bar_style, qr_style}
 use Rattle.escpos_paper.specs.CheckDigit.{added_digit}
 use Rattle.escpos_paper.specs.Rows.{rows, line}
 
@@ -36,8 +38,17 @@ bars_item align style bars =
 abbrev pub raster_item : Alignment → Picture → Item
 raster_item align raster = Raster align (scale_of (choice raster.scale)) raster.width raster.height raster.dots
 
--- What a command prints after others. LF, ESC d and ESC J print the line and their feed; a barcode, a raster or a cut
--- prints the line with a feed of one, then the item; a character that begins a row prints the line before it with a feed of
+-- A QR code as an item.
+abbrev pub qr_item : Alignment → QrStyle → List ℕ → Item
+qr_item align style bytes = Qr align style.model style.size style.correction bytes
+
+-- The QR code of the data that is stored, after the line; nothing if none is.
+abbrev pub prints_stored : LineStyle → QrStyle → Option (List ℕ) → List Cell → List Item
+prints_stored lines style None row = []
+prints_stored lines style (Some bytes) row = row_and_feed lines row ++ qr_item lines.alignment style bytes ∷ []
+
+-- What a command prints after others. LF, ESC d and ESC J print the line and their feed; a barcode, a raster, a QR code
+-- or a cut prints the line with a feed of one, then the item; a character that begins a row prints the line before it with a feed of
 -- one.
 abbrev pub prints : List Command → Command → List Item
 prints before (kind.Char b) =
@@ -49,6 +60,11 @@ prints before (kind.Bars bars) =
     row_and_feed (line_style before) (line before) ++ bars_item ((line_style before).alignment) (bar_style before) bars ∷ []
 prints before (kind.Raster raster) = row_and_feed (line_style before) (line before) ++ raster_item ((line_style before).alignment) raster ∷ []
 prints before (kind.Cut cut) = row_and_feed (line_style before) (line before) ++ Cut (leaves_a_point cut.0) cut.1 ∷ []
+prints before kind.QrPrint = prints_stored (line_style before) (qr_style before) (stored before) (line before)
+prints before (kind.QrModel n) = []
+prints before (kind.QrSize n) = []
+prints before (kind.QrLevel n) = []
+prints before (kind.QrStore bytes) = []
 prints before kind.Return = []
 prints before kind.Init = []
 prints before (kind.Mode n) = []

@@ -4,7 +4,7 @@ use Rattle.std.specs.List.{AllByRecursion, list_all}
 use Rattle.escpos_command.specs.declared.command.Command.{Command}
 use Rattle.escpos_paper.specs.declared.cell.Cell.{Cell}
 use Rattle.escpos_paper.specs.declared.cell.TheConstants.{LINE_DOTS}
-use Rattle.escpos_paper.specs.Styles.{last_or}
+use Rattle.escpos_command.specs.Settings.{last_or}
 use Rattle.escpos_paper.specs.Cells.{cells, dots}
 
 -- A row isn't wider than the line.

@@ -5,7 +5,7 @@ use Rattle.std.specs.Prelude.{◌≡◌, false, IsTrue, None}
 use Rattle.std.specs.List.{AllByRecursion}
 use Rattle.escpos_paper.specs.declared.cell.Cell.{Cell}
 use Rattle.escpos_paper.specs.declared.item.Item.{Item}
-use Rattle.escpos_paper.specs.declared.item.Item.TheVariants.{Row, Feed}
+use Rattle.escpos_paper.specs.declared.item.Item.TheVariants.{Row, Feed, Qr}
 use Rattle.escpos_paper.specs.ItemsText.{has_six_fields}
 
 abbrev pub IsSecondCell : Cell → Type 0
@@ -14,4 +14,5 @@ IsSecondCell x = IsTrue (has_six_fields x.style)
 abbrev pub IsSecondItem : Item → Type 0
 IsSecondItem (Row align upside_down cells) = (upside_down ≡ false) × AllByRecursion IsSecondCell cells
 IsSecondItem (Feed lines spacing) = spacing ≡ None
+IsSecondItem (Qr align model size level content) = ⊥
 IsSecondItem _ = Unit {0}

@@ -1,25 +1,28 @@
 -- What one more command makes of styles, line and paper. Only private clauses and proofs use these definitions; those of a
 -- whole list of commands are proved to agree with them.
-use Rattle.std.specs.Prelude.{Bool, false, List, [], ◌∷◌, ◌++◌, Option, None, if◌then◌else◌}
+use Rattle.std.specs.Prelude.{ℕ, Bool, false, List, [], ◌∷◌, ◌++◌, Option, None, if◌then◌else◌}
 use Rattle.std.specs.Option.{unwrap_or}
 use Rattle.escpos_command.specs.declared.command.Command.{Command}
 use Rattle.escpos_command.specs.declared.command.Command.TheVariants as kind
 use Rattle.escpos_command.specs.declared.parameter.choices.FontFace.TheVariants.{A}
 use Rattle.escpos_command.specs.declared.parameter.choices.HriPosition.TheVariants.{Nowhere}
 use Rattle.escpos_command.specs.declared.parameter.choices.Alignment.TheVariants.{Left}
+use Rattle.escpos_command.specs.declared.parameter.choices.Correction.TheVariants.{L}
 use Rattle.escpos_command.specs.Meanings.{leaves_a_point}
-use Rattle.escpos_command.specs.Text.{ends_text}
+use Rattle.escpos_command.specs.Text.{ends_text, is_some}
 use Rattle.escpos_paper.specs.declared.cell.Cell.{Cell}
 use Rattle.escpos_paper.specs.declared.style.BarStyle.{BarStyle}
 use Rattle.escpos_paper.specs.declared.style.LineStyle.{LineStyle}
+use Rattle.escpos_paper.specs.declared.style.QrStyle.{QrStyle}
 use Rattle.escpos_paper.specs.declared.style.Style.{Style}
 use Rattle.escpos_paper.specs.declared.paper.Paper.{Paper}
 use Rattle.escpos_paper.specs.declared.item.Item.{Item}
 use Rattle.escpos_paper.specs.declared.item.Item.TheVariants.{Feed, FeedUnits, Cut}
-use Rattle.escpos_paper.specs.Styles.{is_init, acts_at_line_start, is_empty, sets_table, sets_font, sets_width, sets_height, sets_bold, sets_underline, sets_strike, sets_reverse, sets_character_set, sets_alignment, sets_upside_down, sets_spacing, sets_bar_height, sets_module_width, sets_hri_place, sets_hri_font}
+use Rattle.escpos_paper.specs.Styles.{acts_at_line_start, is_empty, sets_table, sets_font, sets_width, sets_height, sets_bold, sets_underline, sets_strike, sets_reverse, sets_character_set, sets_alignment, sets_upside_down, sets_spacing, sets_bar_height, sets_module_width, sets_hri_place, sets_hri_font, sets_qr_model, sets_qr_size, sets_correction}
+use Rattle.escpos_command.specs.Settings.{is_init, sets_stored}
 use Rattle.escpos_paper.specs.Cells.{cell}
 use Rattle.escpos_paper.specs.Rows.{fits}
-use Rattle.escpos_paper.specs.Printed.{row_of, row_and_feed, bars_item, raster_item}
+use Rattle.escpos_paper.specs.Printed.{row_of, row_and_feed, bars_item, raster_item, prints_stored}
 use Rattle.escpos_paper.specs.Page.{Sheet}
 
 -- The value of an attribute after a command.
@@ -65,19 +68,28 @@ line_style_after is_line_empty s c = record {
 abbrev pub with_cell : List Cell → Cell → List Cell
 with_cell row x = if fits (row ++ x ∷ []) then row ++ x ∷ [] else x ∷ []
 
-abbrev pub line_after : Style → List Cell → Command → List Cell
-line_after s row (kind.Char b) = with_cell row (cell s b)
-line_after s row c = if ends_text c then [] else row
+abbrev pub qr_style_after : QrStyle → Command → QrStyle
+qr_style_after s c = record {
+  model = set_after sets_qr_model 2 s.model c;
+  size = set_after sets_qr_size 3 s.size c;
+  correction = set_after sets_correction L s.correction c;
+}
 
-abbrev pub step_prints : Style → BarStyle → LineStyle → List Cell → Command → List Item
-step_prints s bars lines row (kind.Char b) = if fits (row ++ cell s b ∷ []) then [] else row_and_feed lines row
-step_prints s bars lines row kind.LineFeed = row_of lines row ++ Feed 1 lines.spacing ∷ []
-step_prints s bars lines row (kind.FeedLines n) = row_of lines row ++ Feed n lines.spacing ∷ []
-step_prints s bars lines row (kind.FeedUnits n) = row_of lines row ++ FeedUnits n ∷ []
-step_prints s bars lines row (kind.Bars barcode) = row_and_feed lines row ++ bars_item lines.alignment bars barcode ∷ []
-step_prints s bars lines row (kind.Raster raster) = row_and_feed lines row ++ raster_item lines.alignment raster ∷ []
-step_prints s bars lines row (kind.Cut cut) = row_and_feed lines row ++ Cut (leaves_a_point cut.0) cut.1 ∷ []
-step_prints s bars lines row _ = []
+abbrev pub line_after : Style → Option (List ℕ) → List Cell → Command → List Cell
+line_after s stored row (kind.Char b) = with_cell row (cell s b)
+line_after s stored row kind.QrPrint = if is_some stored then [] else row
+line_after s stored row c = if ends_text c then [] else row
+
+abbrev pub step_prints : Style → BarStyle → LineStyle → QrStyle → Option (List ℕ) → List Cell → Command → List Item
+step_prints s bars lines qr stored row (kind.Char b) = if fits (row ++ cell s b ∷ []) then [] else row_and_feed lines row
+step_prints s bars lines qr stored row kind.LineFeed = row_of lines row ++ Feed 1 lines.spacing ∷ []
+step_prints s bars lines qr stored row (kind.FeedLines n) = row_of lines row ++ Feed n lines.spacing ∷ []
+step_prints s bars lines qr stored row (kind.FeedUnits n) = row_of lines row ++ FeedUnits n ∷ []
+step_prints s bars lines qr stored row (kind.Bars barcode) = row_and_feed lines row ++ bars_item lines.alignment bars barcode ∷ []
+step_prints s bars lines qr stored row (kind.Raster raster) = row_and_feed lines row ++ raster_item lines.alignment raster ∷ []
+step_prints s bars lines qr stored row (kind.Cut cut) = row_and_feed lines row ++ Cut (leaves_a_point cut.0) cut.1 ∷ []
+step_prints s bars lines qr stored row kind.QrPrint = prints_stored lines qr stored row
+step_prints s bars lines qr stored row _ = []
 
 -- What a paper has, as a sheet.
 abbrev pub sheet_on : Paper → Sheet
@@ -86,17 +98,21 @@ sheet_on paper = record {
   style = paper.style;
   bar_style = paper.bar_style;
   line_style = paper.line_style;
+  qr_style = paper.qr_style;
+  stored = paper.store.stored;
   line = paper.line;
 }
 
 -- The sheet after a command.
 abbrev pub sheet_after : Sheet → Command → Sheet
 sheet_after sheet c = record {
-  items = sheet.items ++ step_prints sheet.style sheet.bar_style sheet.line_style sheet.line c;
+  items = sheet.items ++ step_prints sheet.style sheet.bar_style sheet.line_style sheet.qr_style sheet.stored sheet.line c;
   style = style_after sheet.style c;
   bar_style = bar_style_after sheet.bar_style c;
   line_style = line_style_after (is_empty sheet.line) sheet.line_style c;
-  line = line_after sheet.style sheet.line c;
+  qr_style = qr_style_after sheet.qr_style c;
+  stored = set_after sets_stored None sheet.stored c;
+  line = line_after sheet.style sheet.stored sheet.line c;
 }
 
 -- The sheet after these commands, one after another.

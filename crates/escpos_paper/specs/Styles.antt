@@ -1,21 +1,25 @@
 -- The styles after a list of commands. For each attribute the last command that sets it decides, of those
 -- after the last Init; where none sets it, it has its power-on value. (Reference: ESC !, ESC -, ESC E,
--- ESC G, ESC M, ESC R, ESC a, ESC t, ESC {, ESC 2, ESC 3, GS !, GS B, GS h, GS w, GS H, GS f, ESC @.)
-use Rattle.std.specs.Prelude.{ℕ, ◌==◌, ◌&&◌, not, Bool, true, false, List, [], ◌∷◌, ◌++◌, Option, None, Some, filter_map, if◌then◌else◌}
+-- ESC G, ESC M, ESC R, ESC a, ESC t, ESC {, ESC 2, ESC 3, GS !, GS B, GS h, GS w, GS H, GS f, GS ( k, ESC @.)
+use Rattle.std.specs.Prelude.{ℕ, ◌==◌, ◌&&◌, not, Bool, true, false, List, [], ◌∷◌, ◌++◌, Option, None, Some, if◌then◌else◌}
 use Rattle.std.specs.List.{list_any}
 use Rattle.escpos_command.specs.declared.command.Command.{Command}
 use Rattle.escpos_command.specs.declared.command.Command.TheVariants as kind
 use Rattle.escpos_command.specs.declared.parameter.choices.FontFace.{FontFace}
 use Rattle.escpos_command.specs.declared.parameter.choices.FontFace.TheVariants.{A, B}
 use Rattle.escpos_command.specs.declared.parameter.choices.Alignment.{Alignment}
+use Rattle.escpos_command.specs.declared.parameter.choices.Correction.{Correction}
+use Rattle.escpos_command.specs.declared.parameter.choices.Correction.TheVariants.{L}
 use Rattle.escpos_command.specs.declared.parameter.choices.Alignment.TheVariants.{Left}
 use Rattle.escpos_command.specs.declared.parameter.choices.HriPosition.{HriPosition}
 use Rattle.escpos_command.specs.declared.parameter.choices.HriPosition.TheVariants.{Nowhere}
-use Rattle.escpos_command.specs.Meanings.{has_bit, choice, face_of, alignment_of, hri_position_of, face_of_mode, magnified, underline_of_mode, size_width, size_height}
+use Rattle.escpos_command.specs.Meanings.{has_bit, choice, face_of, alignment_of, hri_position_of, face_of_mode, magnified, underline_of_mode, size_width, size_height, model_number, correction_of}
+use Rattle.escpos_command.specs.Settings.{setting}
 use Rattle.escpos_command.specs.Text.{text}
 use Rattle.escpos_paper.specs.declared.style.Style.{Style}
 use Rattle.escpos_paper.specs.declared.style.BarStyle.{BarStyle}
 use Rattle.escpos_paper.specs.declared.style.LineStyle.{LineStyle}
+use Rattle.escpos_paper.specs.declared.style.QrStyle.{QrStyle}
 use Rattle.escpos_paper.specs.OverPlaces.{over_places}
 
 -- Which commands set an attribute, and to what. ESC ! sets attributes that each have a command of their own, too.
@@ -90,23 +94,17 @@ abbrev pub sets_hri_font : Command → Option FontFace
 sets_hri_font (kind.HriFont n) = Some (face_of (choice n))
 sets_hri_font _ = None
 
-abbrev pub is_init : Command → Bool
-is_init kind.Init = true
-is_init _ = false
+abbrev pub sets_qr_model : Command → Option ℕ
+sets_qr_model (kind.QrModel n) = Some (model_number n)
+sets_qr_model _ = None
 
--- The commands after the last Init: each that isn't an Init and that no Init follows.
-abbrev pub after_init : List Command → List Command
-after_init [] = []
-after_init (c ∷ cs) = (if list_any is_init (c ∷ cs) then [] else c ∷ []) ++ after_init cs
+abbrev pub sets_qr_size : Command → Option ℕ
+sets_qr_size (kind.QrSize n) = Some n
+sets_qr_size _ = None
 
--- The last element of a list, or a given value if there is none.
-abbrev pub last_or : {X : Type 0} → X → List X → X
-last_or x [] = x
-last_or x (y ∷ ys) = last_or y ys
-
--- What the last of the commands after the last Init that set an attribute sets it to, or its power-on value.
-abbrev pub setting : {X : Type 0} → (Command → Option X) → X → List Command → X
-setting sets power_on cs = last_or power_on (filter_map sets (after_init cs))
+abbrev pub sets_correction : Command → Option Correction
+sets_correction (kind.QrLevel n) = Some (correction_of (choice n))
+sets_correction _ = None
 
 -- The style of a printer just switched on.
 abbrev pub power_on : Style
@@ -129,6 +127,10 @@ power_on_bars = record { height = 162; module_width = 3; place = Nowhere; hri_fo
 -- How such a printer prints and feeds lines.
 abbrev pub power_on_lines : LineStyle
 power_on_lines = record { alignment = Left; upside_down = false; spacing = None }
+
+-- The settings of QR codes of such a printer.
+abbrev pub power_on_qr : QrStyle
+power_on_qr = record { model = 2; size = 3; correction = L }
 
 -- Whether two styles are the same.
 abbrev pub same_face : FontFace → FontFace → Bool
@@ -168,6 +170,10 @@ bar_style cs = record {
   place = setting sets_hri_place Nowhere cs;
   hri_font = setting sets_hri_font A cs;
 }
+
+-- The settings that a QR code after the commands gets.
+abbrev pub qr_style : List Command → QrStyle
+qr_style cs = record { model = setting sets_qr_model 2 cs; size = setting sets_qr_size 3 cs; correction = setting sets_correction L cs }
 
 abbrev pub is_empty : {X : Type 0} → List X → Bool
 is_empty [] = true

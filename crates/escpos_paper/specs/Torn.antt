@@ -11,6 +11,8 @@ bare sheet = record {
   style = sheet.style;
   bar_style = sheet.bar_style;
   line_style = sheet.line_style;
+  qr_style = sheet.qr_style;
+  stored = sheet.stored;
   line = sheet.line;
 }
 
@@ -21,6 +23,8 @@ below gone sheet = record {
   style = sheet.style;
   bar_style = sheet.bar_style;
   line_style = sheet.line_style;
+  qr_style = sheet.qr_style;
+  stored = sheet.stored;
   line = sheet.line;
 }
 

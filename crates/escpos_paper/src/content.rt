@@ -1,6 +1,8 @@
-//! The bytes that a barcode or a raster brings onto the paper. They are moved there from the command and not copied.
+//! The bytes that a barcode, a raster or a QR code brings onto the paper. Those of barcodes and rasters are moved there from the
+//! command and not copied; a QR code may be printed again, so the paper gets a copy.
 
 ghost use Rattle.std.specs.Prelude.{◌≡◌, ◌≤◌, length};
+ghost use Rattle.escpos_command.specs.QrCodes.{most_qr_data};
 
 use escpos_command::{Bars, Bytes, Raster};
 use std::marker::Model;
@@ -91,5 +93,42 @@ impl Dots {
         ensures few { length result.now ≤ DOT_BYTES }
     {
         self.dots.as_slice()
+    }
+}
+
+/// The content of a QR code: at most 7,089 bytes.
+#[derive(Debug, Drop)]
+pub struct QrContent {
+    bytes: Bytes,
+}
+
+impl Model for QrContent {
+    ghost use Rattle.std.specs.Prelude.{List, ℕ, ◌≤◌, length};
+    ghost use Rattle.escpos_command.specs.QrCodes.{most_qr_data};
+
+    ghost Value = { List ℕ };
+
+    ghost view = { λ c. c.bytes };
+
+    ghost invariant = { λ c. length c.bytes ≤ most_qr_data };
+}
+
+impl QrContent {
+    /// These bytes as the content of a QR code. Allocates nothing.
+    pub fn of(bytes: Vec<u8>) -> Self
+        requires { length bytes.items ≤ most_qr_data }
+        ensures { result ≡ bytes.items }
+    {
+        QrContent {
+            bytes: Bytes::new(bytes),
+        }
+    }
+
+    /// The content as a slice.
+    pub fn as_slice(&self) -> &[u8]
+        ensures content { result.now ≡ self.now }
+        ensures few { length result.now ≤ most_qr_data }
+    {
+        self.bytes.as_slice()
     }
 }

@@ -1,8 +1,8 @@
 //! What is printed on paper.
 
 use crate::cell::Cells;
-use crate::content::{Content, Dots};
-use escpos_command::{Alignment, FontFace, HriPosition, Scale, Symbology};
+use crate::content::{Content, Dots, QrContent};
+use escpos_command::{Alignment, Correction, FontFace, HriPosition, Scale, Symbology};
 
 /// One item of the paper, from top to bottom.
 #[derive(Debug, Drop)]
@@ -46,6 +46,17 @@ pub enum Item {
         y: u16,
         /// The dots, row by row from the top, eight to a byte, the highest bit leftmost.
         dots: Dots,
+    },
+    /// A QR code.
+    Qr {
+        align: Alignment,
+        /// The model, 1 or 2.
+        model: u8,
+        /// The size of a module in dots, 1 to 16.
+        size: u8,
+        level: Correction,
+        /// The content as stored.
+        content: QrContent,
     },
     /// A cut, with one point left uncut if `partial`. If there is a `feed`, the paper is fed by this many motion units
     /// before it.

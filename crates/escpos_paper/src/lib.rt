@@ -19,15 +19,16 @@ pub mod laws;
 mod page;
 mod paper;
 mod print_buffer;
+mod qr_store;
 mod style;
 mod text;
 mod write;
 
 pub use cell::{Cell, Cells, LINE_CELLS, LINE_DOTS};
-pub use content::{CONTENT_BYTES, Content, DOT_BYTES, Dots};
+pub use content::{CONTENT_BYTES, Content, DOT_BYTES, Dots, QrContent};
 pub use digits::{all_digits, check_digit};
 pub use item::Item;
 pub use page::Page;
 pub use paper::MOST_ITEMS;
-pub use style::{BarStyle, LineStyle, Style};
+pub use style::{BarStyle, LineStyle, QrStyle, Style};
 pub use write::write_items;

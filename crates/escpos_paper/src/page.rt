@@ -31,7 +31,7 @@ pub struct Page {
 
 impl Model for Page {
     ghost use Rattle.std.specs.Prelude.{◌-◌, vec_len, vec_capacity};
-    ghost use Rattle.escpos_paper.specs.Page.{PageView, IsReached};
+    ghost use Rattle.escpos_paper.specs.Page.{PageView, IsReached, room_for_items};
 
     ghost Value = { PageView };
 
@@ -41,9 +41,11 @@ impl Model for Page {
         style = p.paper.style;
         bar_style = p.paper.bar_style;
         line_style = p.paper.line_style;
+        qr_style = p.paper.qr_style;
+        stored = p.paper.store.stored;
         line = p.paper.line;
       };
-      room = vec_capacity p.paper.items - vec_len p.paper.items;
+      room = room_for_items p.paper.store.ready (vec_capacity p.paper.items - vec_len p.paper.items);
     } };
 
     ghost invariant = { λ p. IsReached (record {
@@ -52,9 +54,11 @@ impl Model for Page {
         style = p.paper.style;
         bar_style = p.paper.bar_style;
         line_style = p.paper.line_style;
+        qr_style = p.paper.qr_style;
+        stored = p.paper.store.stored;
         line = p.paper.line;
       };
-      room = vec_capacity p.paper.items - vec_len p.paper.items;
+      room = room_for_items p.paper.store.ready (vec_capacity p.paper.items - vec_len p.paper.items);
     }) };
 }
 
@@ -76,6 +80,7 @@ impl Page {
         ensures room { OnOk result (MOST_ITEMS ≤ self.new.room) }
         ensures no_memory { MOST_ITEMS ≤ self.old.room → IsOk result }
     {
+        self.paper.store.make_ready()?;
         self.paper.items.reserve(MOST_ITEMS)
     }
 
@@ -83,7 +88,8 @@ impl Page {
     pub fn has_room(&self) -> bool
         ensures { result ≡ nat_le MOST_ITEMS self.now.room }
     {
-        self.paper.items.capacity() - self.paper.items.len() >= MOST_ITEMS
+        self.paper.store.is_ready()
+            && self.paper.items.capacity() - self.paper.items.len() >= MOST_ITEMS
     }
 
     /// Carries out a command. `Err` returns the command where an allocation failed, and leaves items, styles and line as
@@ -135,7 +141,7 @@ impl Page {
     /// nothing.
     pub fn tear_off(&mut self)
         ensures torn { self.new.sheet ≡ bare self.old.sheet }
-        ensures room { self.new.room ≡ self.old.room + length self.old.sheet.items }
+        ensures room { self.old.room ≤ self.new.room }
     {
         self.paper.items.clear();
     }
@@ -143,7 +149,7 @@ impl Page {
     /// Forgets the commands so far: drops the line and restores the power-on styles. The paper stays. Allocates nothing.
     pub fn restart(&mut self)
         ensures forgotten { PageIs self.new self.old.sheet.items [] }
-        ensures same_room { self.new.room ≡ self.old.room }
+        ensures same_room { self.old.room ≤ self.new.room }
     {
         self.paper.initialise();
     }

@@ -3,37 +3,42 @@
 //! `Paper::carry_out` has an arm for every kind of command, and is the only function of this crate that has. `page` makes
 //! room for the items first, so nothing here can fail.
 
-ghost use Rattle.std.specs.Prelude.{◌≡◌, ◌+◌, ◌≤◌, ℕ, IsTrue, [], ◌∷◌, ◌++◌, length, map, take, if◌then◌else◌, vec_len, vec_capacity};
+ghost use Rattle.std.specs.Prelude.{◌≡◌, ◌+◌, ◌≤◌, ℕ, IsTrue, [], ◌∷◌, ◌++◌, length, map, take, if◌then◌else◌, None, true, vec_len, vec_capacity};
 ghost use Rattle.escpos_command.specs.declared.command.Command.TheVariants as kind;
 ghost use Rattle.escpos_command.specs.Meanings.{leaves_a_point};
-ghost use Rattle.escpos_paper.specs.Printed.{row_of, row_and_feed};
+ghost use Rattle.escpos_command.specs.Settings.{sets_stored};
+ghost use Rattle.escpos_command.specs.Text.{is_some};
+ghost use Rattle.escpos_paper.specs.Printed.{row_of, row_and_feed, prints_stored};
 ghost use Rattle.escpos_paper.specs.declared.item.Item.TheVariants as item;
 ghost use Rattle.escpos_paper.specs.Rows.{fits};
-ghost use Rattle.escpos_paper.specs.Styles.{power_on, power_on_bars, power_on_lines, is_empty};
+ghost use Rattle.escpos_paper.specs.Styles.{power_on, power_on_bars, power_on_lines, power_on_qr, is_empty};
 ghost use Rattle.escpos_paper.specs.Cells.{cell};
-ghost use Rattle.escpos_paper.specs.Steps.{sheet_on, sheet_after_all, step_prints, style_after, bar_style_after, line_style_after, line_after, with_cell};
+ghost use Rattle.escpos_paper.specs.Steps.{sheet_on, sheet_after_all, step_prints, style_after, bar_style_after, line_style_after, qr_style_after, set_after, line_after, with_cell};
 
 use crate::barcode::{bars_item, raster_item};
 use crate::cell::Cell;
 use crate::item::Item;
 use crate::print_buffer::PrintBuffer;
-use crate::style::{BarStyle, LineStyle, Style};
+use crate::qr_store::QrStore;
+use crate::style::{BarStyle, LineStyle, QrStyle, Style};
 use escpos_command::{Command, Cut};
 use std::alloc::Global;
 
-/// The most items that one command prints: a row, a feed and a barcode, a raster or a cut.
+/// The most items that one command prints: a row, a feed and a barcode, a raster, a QR code or a cut.
 pub const MOST_ITEMS: usize = 3;
 
 const _: () = prove!(MOST_ITEMS == 3);
 
-/// What commands leave: the items on paper, the style, the settings of barcodes and of lines, and the line that isn't printed
-/// yet.
+/// What commands leave: the items on paper, the styles of characters, barcodes, lines and QR codes, the data of QR codes that is
+/// stored, and the line that isn't printed yet.
 #[derive(Drop)]
 pub struct Paper {
     pub items: Vec<Item>,
     pub style: Style,
     pub bar_style: BarStyle,
     pub line_style: LineStyle,
+    pub qr_style: QrStyle,
+    pub store: QrStore,
     pub line: PrintBuffer,
 }
 
@@ -44,6 +49,8 @@ impl Paper {
         ensures style { result.style ≡ power_on }
         ensures bar_style { result.bar_style ≡ power_on_bars }
         ensures line_style { result.line_style ≡ power_on_lines }
+        ensures qr_style { result.qr_style ≡ power_on_qr }
+        ensures stored { result.store.stored ≡ None }
         ensures line { result.line ≡ [] }
     {
         Paper {
@@ -51,6 +58,8 @@ impl Paper {
             style: Style::power_on(),
             bar_style: BarStyle::power_on(),
             line_style: LineStyle::power_on(),
+            qr_style: QrStyle::power_on(),
+            store: QrStore::new(alloc),
             line: PrintBuffer::new(),
         }
     }
@@ -61,25 +70,33 @@ impl Paper {
         ensures style { self.new.style ≡ power_on }
         ensures bar_style { self.new.bar_style ≡ power_on_bars }
         ensures line_style { self.new.line_style ≡ power_on_lines }
+        ensures qr_style { self.new.qr_style ≡ power_on_qr }
+        ensures stored { self.new.store.stored ≡ None }
+        ensures ready { self.new.store.ready ≡ true }
         ensures line { self.new.line ≡ [] }
     {
         self.style = Style::power_on();
         self.bar_style = BarStyle::power_on();
         self.line_style = LineStyle::power_on();
+        self.qr_style = QrStyle::power_on();
+        self.store.clear();
         self.line = PrintBuffer::new();
     }
 
     /// Carries out a command. The bytes of a barcode or a raster are moved onto the paper.
     pub fn carry_out(&mut self, command: Command)
         requires room { vec_len self.old.items + MOST_ITEMS ≤ vec_capacity self.old.items }
+        requires ready { IsTrue self.old.store.ready }
         requires visible { 1 ≤ self.old.style.width }
         requires narrow { self.old.style.width ≤ 8 }
         ensures items { self.new.items.items
-            ≡ self.old.items.items ++ step_prints self.old.style self.old.bar_style self.old.line_style self.old.line command }
+            ≡ self.old.items.items ++ step_prints self.old.style self.old.bar_style self.old.line_style self.old.qr_style self.old.store.stored self.old.line command }
         ensures style { self.new.style ≡ style_after self.old.style command }
         ensures bar_style { self.new.bar_style ≡ bar_style_after self.old.bar_style command }
         ensures line_style { self.new.line_style ≡ line_style_after (is_empty self.old.line) self.old.line_style command }
-        ensures line { self.new.line ≡ line_after self.old.style self.old.line command }
+        ensures qr_style { self.new.qr_style ≡ qr_style_after self.old.qr_style command }
+        ensures stored { self.new.store.stored ≡ set_after sets_stored None self.old.store.stored command }
+        ensures line { self.new.line ≡ line_after self.old.style self.old.store.stored self.old.line command }
     {
         match command {
             Command::Char(character) => {
@@ -96,6 +113,11 @@ impl Paper {
             )),
             Command::Raster(raster) => self.print(raster_item(self.line_style.alignment, raster)),
             Command::Cut(cut) => self.print(cut_item(cut)),
+            Command::QrPrint => self.print_stored(),
+            Command::QrStore(stored) => self.store.store(stored),
+            Command::QrModel(model) => self.qr_style.model = model.number(),
+            Command::QrSize(size) => self.qr_style.size = size.byte(),
+            Command::QrLevel(level) => self.qr_style.correction = level.correction(),
             Command::Init => self.initialise(),
             Command::Mode(mode) => self.style = self.style.in_mode(mode),
             Command::Size(size) => self.style = self.style.in_size(size),
@@ -165,10 +187,36 @@ impl Paper {
         ensures style { self.new.style ≡ self.old.style }
         ensures bar_style { self.new.bar_style ≡ self.old.bar_style }
         ensures line_style { self.new.line_style ≡ self.old.line_style }
+        ensures qr_style { self.new.qr_style ≡ self.old.qr_style }
+        ensures store { self.new.store ≡ self.old.store }
         ensures line { self.new.line ≡ [] }
     {
         print_line(&mut self.items, &mut self.line, self.line_style);
         self.items.push_reserved(feed);
+    }
+
+    // Ends the line and prints the QR code of the data that is stored; does nothing if none is.
+    fn print_stored(&mut self)
+        requires room { vec_len self.old.items + MOST_ITEMS ≤ vec_capacity self.old.items }
+        requires ready { IsTrue self.old.store.ready }
+        ensures items { self.new.items.items
+            ≡ self.old.items.items ++ prints_stored self.old.line_style self.old.qr_style self.old.store.stored self.old.line }
+        ensures style { self.new.style ≡ self.old.style }
+        ensures bar_style { self.new.bar_style ≡ self.old.bar_style }
+        ensures line_style { self.new.line_style ≡ self.old.line_style }
+        ensures qr_style { self.new.qr_style ≡ self.old.qr_style }
+        ensures stored { self.new.store.stored ≡ self.old.store.stored }
+        ensures line { self.new.line ≡ (if is_some self.old.store.stored then [] else self.old.line) }
+    {
+        if let Some(content) = self.store.copy() {
+            self.print(Item::Qr {
+                align: self.line_style.alignment,
+                model: self.qr_style.model,
+                size: self.qr_style.size,
+                level: self.qr_style.correction,
+                content,
+            });
+        }
     }
 
     // Ends the line and prints an item below it.
@@ -179,6 +227,8 @@ impl Paper {
         ensures style { self.new.style ≡ self.old.style }
         ensures bar_style { self.new.bar_style ≡ self.old.bar_style }
         ensures line_style { self.new.line_style ≡ self.old.line_style }
+        ensures qr_style { self.new.qr_style ≡ self.old.qr_style }
+        ensures store { self.new.store ≡ self.old.store }
         ensures line { self.new.line ≡ [] }
     {
         end_line(&mut self.items, &mut self.line, self.line_style);

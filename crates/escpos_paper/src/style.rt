@@ -1,14 +1,14 @@
-//! How characters, lines and barcodes are printed. What each command does to the styles is left to `paper`, but for the two
+//! How characters, lines, barcodes and QR codes are printed. What each command does to the styles is left to `paper`, but for the two
 //! commands that set more than one attribute.
 
 ghost use Rattle.std.specs.Prelude.{◌≡◌, ◌↔◌, ◌*◌, IsTrue};
 ghost use Rattle.escpos_command.specs.declared.command.Command.TheVariants as kind;
-ghost use Rattle.escpos_paper.specs.Styles.{power_on, power_on_bars, power_on_lines, same_style};
+ghost use Rattle.escpos_paper.specs.Styles.{power_on, power_on_bars, power_on_lines, power_on_qr, same_style};
 ghost use Rattle.escpos_paper.specs.Cells.{cell, face_dots};
 ghost use Rattle.escpos_paper.specs.Steps.{style_after, line_style_after};
 
 use crate::cell::{Cell, face_dots};
-use escpos_command::{Align, Alignment, FontFace, HriPosition, Mode, Size, Switch};
+use escpos_command::{Align, Alignment, Correction, FontFace, HriPosition, Mode, Size, Switch};
 
 /// How a character is printed.
 #[derive(Clone, Copy, Debug, PartialEq, Eq)]
@@ -155,6 +155,29 @@ impl LineStyle {
             }
         } else {
             self
+        }
+    }
+}
+
+/// How a QR code is printed.
+#[derive(Clone, Copy, Debug, PartialEq, Eq)]
+pub struct QrStyle {
+    /// The model, 1 or 2.
+    pub model: u8,
+    /// The size of a module in dots, 1 to 16.
+    pub size: u8,
+    pub correction: Correction,
+}
+
+impl QrStyle {
+    /// The settings of a printer just switched on: model 2, size 3, level L.
+    pub fn power_on() -> Self
+        ensures { result ≡ power_on_qr }
+    {
+        QrStyle {
+            model: 2,
+            size: 3,
+            correction: Correction::L,
         }
     }
 }

@@ -5,17 +5,18 @@
 
 ghost use Rattle.std.specs.Prelude.{◌≡◌, ◌+◌, ◌*◌, ◌≤◌, ◌<◌, [], ◌∷◌, ◌++◌, length, decimal, codes, flat_map};
 ghost use Rattle.hex.specs.Hex.{encode_lower};
+ghost use Rattle.escpos_command.specs.QrCodes.{most_qr_data};
 ghost use Rattle.escpos_io.specs.Giving.{IsGiven};
 ghost use Rattle.escpos_io.specs.Putting.{passage};
 ghost use Rattle.escpos_paper.specs.Styles.{power_on};
-ghost use Rattle.escpos_paper.specs.ItemsText.{byte_text, style_text, face_name, flag_text, six_fields, has_six_fields, further_fields, cell_text, cells_text, align_name, symbology_name, place_name, scale_name, settings_text, content_text, cut_name, upside_text, spacing_text, item_text};
-ghost use Rattle.escpos_paper.specs.ItemParts.{front, dots_of};
+ghost use Rattle.escpos_paper.specs.ItemsText.{byte_text, style_text, face_name, flag_text, six_fields, has_six_fields, further_fields, cell_text, cells_text, align_name, symbology_name, place_name, scale_name, settings_text, content_text, correction_name, cut_name, upside_text, spacing_text, item_text};
+ghost use Rattle.escpos_paper.specs.ItemParts.{front, dots_of, characters_of};
 
 use crate::cell::{Cell, Cells};
 use crate::content::{Content, DOT_BYTES};
 use crate::item::Item;
 use crate::style::{BarStyle, Style};
-use escpos_command::{Alignment, FontFace, HriPosition, LF, Scale, Symbology};
+use escpos_command::{Alignment, Correction, FontFace, HriPosition, LF, Scale, Symbology};
 use escpos_io::{
     ByteOut, Device, GATHERED_BYTES, Gather, Piece, append_digits_after, append_small_number,
     put_digits,
@@ -37,6 +38,7 @@ impl Piece for Item {
         gather.room(LINE_BYTES, writer)?;
         append_front(gather, self);
         put_digits(gather, dots_of(self), writer)?;
+        put_characters(gather, characters_of(self), writer)?;
         gather.put(&[LF], writer)
     }
 }
@@ -53,7 +55,35 @@ fn dots_of(item: &Item) -> &[u8]
     }
 }
 
-// Appends the line of an item without its end, and of a raster only what comes before its dots.
+// The content of a QR code; nothing for any other item.
+#[inline]
+fn characters_of(item: &Item) -> &[u8]
+    ensures characters { result.now ≡ characters_of item.now }
+    ensures few { length result.now ≤ most_qr_data }
+{
+    match item {
+        Item::Qr { content, .. } => content.as_slice(),
+        _ => &[],
+    }
+}
+
+// Gives characters, in parts.
+fn put_characters<W: ByteOut>(
+    gather: &mut Gather,
+    bytes: &[u8],
+    writer: &mut W,
+) -> Result<(), Device>
+    ensures { IsGiven result (passage (W.written writer.old) (W.written writer.new) (W.failed writer.old) (W.failed writer.new))
+        gather.old gather.new (flat_map byte_text bytes.now) }
+{
+    for byte in bytes {
+        gather.room(3, writer)?;
+        append_byte(gather, *byte);
+    }
+    Ok(())
+}
+
+// Appends the line of an item without its end, and of a raster or a QR code only what comes before its dots or its content.
 fn append_front(gather: &mut Gather, item: &Item)
     requires { length gather.old.kept + LINE_BYTES ≤ GATHERED_BYTES }
     ensures kept { gather.new.kept ≡ gather.old.kept ++ front item.now }
@@ -114,6 +144,19 @@ fn append_front(gather: &mut Gather, item: &Item)
             append_word(gather, scale_name(*scale));
             append_size(gather, *x);
             append_size(gather, *y);
+        }
+        Item::Qr {
+            align,
+            model,
+            size,
+            level,
+            ..
+        } => {
+            gather.extend(b"qr ");
+            append_word(gather, align_name(*align));
+            append_size(gather, u16::from(*model));
+            append_size(gather, u16::from(*size));
+            append_word(gather, correction_name(*level));
         }
         Item::Cut { partial, feed } => {
             gather.extend(b"cut ");
@@ -234,6 +277,18 @@ fn scale_name(scale: Scale) -> &'static [u8]
         Scale::Wide => b"wide",
         Scale::Tall => b"tall",
         Scale::Both => b"both",
+    }
+}
+
+fn correction_name(correction: Correction) -> &'static [u8]
+    ensures name { result.now ≡ correction_name correction }
+    ensures short { length result.now ≤ 1 }
+{
+    match correction {
+        Correction::L => b"L",
+        Correction::M => b"M",
+        Correction::Q => b"Q",
+        Correction::H => b"H",
     }
 }
 

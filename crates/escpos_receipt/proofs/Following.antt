@@ -1,39 +1,18 @@
 -- What one more command does: whether there is text in the line then, and whether each command may follow those before it.
 use Rattle.std.proofs.Common.{◌≡◌, ◌+◌, ◌<◌, ℕ, List, [], ◌∷◌, ◌++◌, ◌⊎◌, inl, inr, refl, sym, ◌∙◌, ap, subst, append_assoc, append-nil, arith, map, take, drop, get_or, Bool, true, false, cond, IsTrue}
 use Rattle.std.specs.Prelude.{◌||◌, ◌&&◌, ◌==◌, not, length}
-use Rattle.std.specs.List.{list_any}
 use Rattle.std.proofs.lemmas.Bool.Decides.{nat_tests}
 use Rattle.std.proofs.lemmas.List.{length-take-le}
-use Rattle.std.proofs.lemmas.List.Folds.{list_any-append}
 use Rattle.escpos_command.specs.declared.command.Command.{Command}
-use Rattle.escpos_command.specs.declared.command.Command.TheVariants.{Char, LineFeed}
-use Rattle.escpos_command.specs.Text.{text, ends_text, characters}
+use Rattle.escpos_command.specs.declared.command.Command.TheVariants.{Char, LineFeed, QrPrint}
+use Rattle.escpos_command.specs.Text.{text, ends_line, ends_text, characters}
+use Rattle.escpos_command.proofs.Lines.{text-snoc}
+use Rattle.escpos_command.proofs.Settings.{or_false, or_true}
 use Rattle.escpos_receipt.specs.declared.receipt.ReceiptFault.TheVariants as fault
 use Rattle.escpos_receipt.specs.Whole.{EachMayFollow, IsReceiptFault, MayFollow, StandsFirst, has_text, is_forbidden, is_nonempty, needs_empty_line}
 use Rattle.escpos_receipt.proofs.Prefixes.{split_at}
 
 -- ## Text
-
-or_true : (a : Bool) → (a || true) ≡ true
-or_true true = refl
-or_true false = refl
-
-or_false : (a : Bool) → (a || false) ≡ a
-or_false true = refl
-or_false false = refl
-
-text_by : (cs : List Command) (c : Command) (b : Bool) → ends_text c ≡ b → text (cs ++ c ∷ []) ≡ cond b [] (text cs) ++ characters c
-text_by [] c true h = append-nil (characters c)
-text_by [] c false h = append-nil (characters c)
-text_by (d ∷ cs) c true h =
-    ap (λ b. cond b [] (characters d) ++ text (cs ++ c ∷ []))
-    (list_any-append ends_text cs (c ∷ []) ∙ ap (λ b. list_any ends_text cs || (b || false)) h ∙ or_true (list_any ends_text cs))
-    ∙ text_by cs c true h
-text_by (d ∷ cs) c false h =
-    ap (λ b. cond b [] (characters d) ++ text (cs ++ c ∷ []))
-    (list_any-append ends_text cs (c ∷ []) ∙ ap (λ b. list_any ends_text cs || (b || false)) h ∙ or_false (list_any ends_text cs))
-    ∙ ap (λ t. cond (list_any ends_text cs) [] (characters d) ++ t) (text_by cs c false h)
-    ∙ sym (append_assoc (cond (list_any ends_text cs) [] (characters d)) (text cs) (characters c))
 
 flag_of : (e : Bool) (t more : List ℕ) → is_nonempty (cond e [] t ++ more) ≡ (is_nonempty more || is_nonempty t && not e)
 flag_of true [] [] = refl
@@ -45,17 +24,23 @@ flag_of false [] (y ∷ more) = refl
 flag_of false (x ∷ t) [] = refl
 flag_of false (x ∷ t) (y ∷ more) = refl
 
-pub has_text-snoc : (cs : List Command) (c : Command) → has_text (cs ++ c ∷ []) ≡ (is_nonempty (characters c) || has_text cs && not (ends_text c))
-has_text-snoc cs c = ap is_nonempty (text_by cs c (ends_text c) refl) ∙ flag_of (ends_text c) (text cs) (characters c)
+-- A command that may follow ends the line if it is one that does so: a QR code comes with an empty line.
+ends_as : (cs : List Command) (c : Command) → MayFollow cs c
+    → is_nonempty (cond (ends_line cs c) [] (text cs) ++ characters c) ≡ is_nonempty (cond (ends_text c) [] (text cs) ++ characters c)
+ends_as cs QrPrint f = flag_of (ends_line cs QrPrint) (text cs) [] ∙ ap (λ t. t && not (ends_line cs QrPrint)) (f.at_line_start refl)
+ends_as cs c f = refl
 
-pub after_a_character : (cs : List Command) (c : Command) → is_nonempty (characters c) ≡ true → true ≡ has_text (cs ++ c ∷ [])
-after_a_character cs c h = sym (has_text-snoc cs c ∙ ap (λ b. b || has_text cs && not (ends_text c)) h)
+pub has_text-snoc : (cs : List Command) (c : Command) → MayFollow cs c → has_text (cs ++ c ∷ []) ≡ (is_nonempty (characters c) || has_text cs && not (ends_text c))
+has_text-snoc cs c f = ap is_nonempty (text-snoc cs c) ∙ ends_as cs c f ∙ flag_of (ends_text c) (text cs) (characters c)
 
-pub after_text : (cs : List Command) (c : Command) → is_nonempty (characters c) ≡ false → has_text cs ≡ true → not (ends_text c) ≡ has_text (cs ++ c ∷ [])
-after_text cs c h t = sym (has_text-snoc cs c ∙ ap (λ b. b || has_text cs && not (ends_text c)) h ∙ ap (λ b. b && not (ends_text c)) t)
+pub after_a_character : (cs : List Command) (c : Command) → MayFollow cs c → is_nonempty (characters c) ≡ true → true ≡ has_text (cs ++ c ∷ [])
+after_a_character cs c f h = sym (has_text-snoc cs c f ∙ ap (λ b. b || has_text cs && not (ends_text c)) h)
 
-pub after_none : (cs : List Command) (c : Command) → is_nonempty (characters c) ≡ false → has_text cs ≡ false → false ≡ has_text (cs ++ c ∷ [])
-after_none cs c h t = sym (has_text-snoc cs c ∙ ap (λ b. b || has_text cs && not (ends_text c)) h ∙ ap (λ b. b && not (ends_text c)) t)
+pub after_text : (cs : List Command) (c : Command) → MayFollow cs c → is_nonempty (characters c) ≡ false → has_text cs ≡ true → not (ends_text c) ≡ has_text (cs ++ c ∷ [])
+after_text cs c f h t = sym (has_text-snoc cs c f ∙ ap (λ b. b || has_text cs && not (ends_text c)) h ∙ ap (λ b. b && not (ends_text c)) t)
+
+pub after_none : (cs : List Command) (c : Command) → MayFollow cs c → is_nonempty (characters c) ≡ false → has_text cs ≡ false → false ≡ has_text (cs ++ c ∷ [])
+after_none cs c f h t = sym (has_text-snoc cs c f ∙ ap (λ b. b || has_text cs && not (ends_text c)) h ∙ ap (λ b. b && not (ends_text c)) t)
 
 -- ## Places
 
@@ -91,24 +76,30 @@ one_more_follows cs c each last before d following e = elim (split_snoc cs befor
 ]
 
 -- Characters may follow any commands, and are text in the line.
+character_follows : (cs : List Command) (b : ℕ) → MayFollow cs (Char b)
+character_follows cs b = record { allowed = refl; at_line_start = λ e. cc }
+
+pub line_feed_follows : (cs : List Command) → MayFollow cs LineFeed
+line_feed_follows cs = record { allowed = refl; at_line_start = λ e. cc }
+
 pub text_follows : (cs : List Command) (bs : List ℕ) → EachMayFollow cs → EachMayFollow (cs ++ map Char bs)
 text_follows cs [] each = subst EachMayFollow (sym (append-nil cs)) each
 text_follows cs (b ∷ bs) each =
     subst EachMayFollow (append_assoc cs (Char b ∷ []) (map Char bs))
-    (text_follows (cs ++ Char b ∷ []) bs (one_more_follows cs (Char b) each (record { allowed = refl; at_line_start = λ e. cc })))
+    (text_follows (cs ++ Char b ∷ []) bs (one_more_follows cs (Char b) each (character_follows cs b)))
 
 pub text_flag : (cs : List Command) (bs : List ℕ) → has_text (cs ++ map Char bs) ≡ (has_text cs || is_nonempty bs)
 text_flag cs [] = ap has_text (append-nil cs) ∙ sym (or_false (has_text cs))
 text_flag cs (b ∷ bs) =
     ap has_text (sym (append_assoc cs (Char b ∷ []) (map Char bs))) ∙ text_flag (cs ++ Char b ∷ []) bs
-    ∙ ap (λ t. t || is_nonempty bs) (sym (after_a_character cs (Char b) refl)) ∙ sym (or_true (has_text cs))
+    ∙ ap (λ t. t || is_nonempty bs) (sym (after_a_character cs (Char b) (character_follows cs b) refl)) ∙ sym (or_true (has_text cs))
 
 and_false : (a : Bool) → (a && false) ≡ false
 and_false true = refl
 and_false false = refl
 
 pub line_flag : (cs : List Command) → has_text (cs ++ LineFeed ∷ []) ≡ false
-line_flag cs = has_text-snoc cs LineFeed ∙ and_false (has_text cs)
+line_flag cs = has_text-snoc cs LineFeed (line_feed_follows cs) ∙ and_false (has_text cs)
 
 pub some_text : (bs : List ℕ) → not (length bs == 0) ≡ is_nonempty bs
 some_text [] = refl

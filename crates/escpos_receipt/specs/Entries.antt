@@ -15,6 +15,7 @@ use Rattle.escpos_command.specs.declared.bars.Symbology.TheVariants.{UpcA, Ean13
 use Rattle.escpos_command.specs.declared.command.Command.{Command}
 use Rattle.escpos_command.specs.declared.command.Command.TheVariants as kind
 use Rattle.escpos_command.specs.Barcodes.{barcode, is_barcode}
+use Rattle.escpos_command.specs.QrCodes.{is_qr_data}
 use Rattle.escpos_command.specs.Rasters.{picture, is_raster, widest, highest}
 use Rattle.escpos_receipt.specs.declared.entry.EntryFault.{EntryFault}
 use Rattle.escpos_receipt.specs.declared.entry.EntryFault.TheVariants.{BadShape, ControlByte, NotAscii}
@@ -41,8 +42,8 @@ members =
     ∷ (codes "font", has.Font) ∷ (codes "table", has.Table) ∷ (codes "charset", has.CharacterSet)
     ∷ (codes "align", has.Align) ∷ (codes "upside", has.Upside) ∷ (codes "size", has.Size)
     ∷ (codes "bar_height", has.BarHeight) ∷ (codes "bar_width", has.BarWidth) ∷ (codes "hri", has.Hri)
-    ∷ (codes "hri_font", has.HriFont) ∷ (codes "bars", has.Bars) ∷ (codes "raster", has.Raster) ∷ (codes "cut", has.Cut)
-    ∷ (codes "feed_cut", has.FeedCut) ∷ []
+    ∷ (codes "hri_font", has.HriFont) ∷ (codes "bars", has.Bars) ∷ (codes "raster", has.Raster) ∷ (codes "qr", has.Qr)
+    ∷ (codes "cut", has.Cut) ∷ (codes "feed_cut", has.FeedCut) ∷ []
 
 abbrev pub fonts : List (List ℕ × ℕ)
 fonts = (codes "A", 0) ∷ (codes "B", 1) ∷ []
@@ -58,6 +59,10 @@ scales = (codes "normal", 0) ∷ (codes "wide", 1) ∷ (codes "tall", 2) ∷ (co
 
 abbrev pub cuts : List (List ℕ × ℕ)
 cuts = (codes "full", 0) ∷ (codes "partial", 1) ∷ []
+
+-- The levels of error correction of QR codes, by the byte that sets them.
+abbrev pub levels : List (List ℕ × ℕ)
+levels = (codes "L", 48) ∷ (codes "M", 49) ∷ (codes "Q", 50) ∷ (codes "H", 51) ∷ []
 
 abbrev pub symbologies : List (List ℕ × Symbology)
 symbologies =
@@ -148,6 +153,25 @@ raster_of scale width height dots =
 abbrev pub raster_in : Data → Option Command
 raster_in v = size_and_digits v >>= λ p. bytes_of (decode_of p.3) >>= raster_of p.0 p.1 p.2
 
+-- Module size, level of error correction and content of a QR code.
+abbrev pub qr_parts : Data → Option (ℕ × ℕ × List ℕ)
+qr_parts v = do
+  size ← field 3 (codes "size") v >>= number_in 1 16
+  level ← field 3 (codes "level") v >>= choice_in levels
+  content ← field 3 (codes "content") v >>= as_str
+  Some (size, level, content)
+
+-- A QR code is sized, given its level, stored and printed.
+abbrev pub qr_commands : ℕ → ℕ → List ℕ → List Command
+qr_commands size level content = kind.QrSize size ∷ kind.QrLevel level ∷ kind.QrStore content ∷ kind.QrPrint ∷ []
+
+-- The content is sent as its bytes in UTF-8.
+abbrev pub qr_of : ℕ → ℕ → List ℕ → Option (List Command)
+qr_of size level content = if is_qr_data content then Some (qr_commands size level content) else None
+
+abbrev pub qr_in : Data → Option (List Command)
+qr_in v = qr_parts v >>= λ p. qr_of p.0 p.1 p.2
+
 -- ## Text
 
 -- A character that a receipt's text may have: 20 to 7F hexadecimal.
@@ -181,7 +205,11 @@ abbrev pub one : Option Command → Result (List Command) EntryFault
 one None = Err BadShape
 one (Some c) = Ok (c ∷ [])
 
--- The command of a member with this value; none for a text, which isn't one command.
+abbrev pub all : Option (List Command) → Result (List Command) EntryFault
+all None = Err BadShape
+all (Some cs) = Ok cs
+
+-- The command of a member with this value; none for a text or a QR code, which aren't one command.
 abbrev pub command_of : Member → Data → Option Command
 command_of has.Feed v = option_map kind.FeedLines (number_in 0 255 v)
 command_of has.Units v = option_map kind.FeedUnits (number_in 0 255 v)
@@ -212,6 +240,7 @@ command_of _ v = None
 abbrev pub commands_of : Member → Data → Result (List Command) EntryFault
 commands_of has.Text v = text_in (as_str v)
 commands_of has.Line v = with_line_feed (text_in (as_str v))
+commands_of has.Qr v = all (qr_in v)
 commands_of m v = one (command_of m v)
 
 -- The name and the value of an object's only member.

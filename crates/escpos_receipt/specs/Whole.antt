@@ -36,11 +36,16 @@ is_forbidden (kind.HriPlace n) = false
 is_forbidden (kind.HriFont n) = false
 is_forbidden (kind.Bars bars) = false
 is_forbidden (kind.Raster raster) = false
+is_forbidden (kind.QrModel n) = false
+is_forbidden (kind.QrSize n) = false
+is_forbidden (kind.QrLevel n) = false
+is_forbidden (kind.QrStore stored) = false
+is_forbidden kind.QrPrint = false
 is_forbidden (kind.Cut cut) = false
 is_forbidden (kind.Status n) = true
 is_forbidden (kind.Mark id) = true
 
--- A barcode, a raster or a cut would first print the text that is in the line.
+-- A barcode, a raster, a QR code or a cut would first print the text that is in the line.
 abbrev pub needs_empty_line : Command → Bool
 needs_empty_line (kind.Char b) = false
 needs_empty_line kind.LineFeed = false
@@ -69,6 +74,11 @@ needs_empty_line (kind.HriPlace n) = false
 needs_empty_line (kind.HriFont n) = false
 needs_empty_line (kind.Bars bars) = true
 needs_empty_line (kind.Raster raster) = true
+needs_empty_line (kind.QrModel n) = false
+needs_empty_line (kind.QrSize n) = false
+needs_empty_line (kind.QrLevel n) = false
+needs_empty_line (kind.QrStore stored) = false
+needs_empty_line kind.QrPrint = true
 needs_empty_line (kind.Cut cut) = true
 needs_empty_line (kind.Status n) = false
 needs_empty_line (kind.Mark id) = false

@@ -7,7 +7,7 @@ ghost use Rattle.std.specs.Prelude.{◌≡◌, ◌≢◌, ◌<◌, [], ◌∷◌
 ghost use Rattle.escpos_command.specs.declared.command.Command.TheVariants as kind;
 ghost use Rattle.serde_json.specs.Find.{as_str};
 ghost use Rattle.serde_json.specs.View.{view};
-ghost use Rattle.escpos_receipt.specs.EntryCommands.{commands_in};
+ghost use Rattle.escpos_receipt.specs.EntryCommands.{commands_meant};
 ghost use Rattle.escpos_receipt.specs.Entries.{command_of, meaning, only_member, text_in};
 
 use crate::json_names::{ALIGNMENTS, CUTS, FONTS, HRI_POSITIONS};
@@ -15,6 +15,7 @@ use crate::json_object::{bars_in, feed_cut_in, pulse_in, raster_in, size_in, spa
 use crate::json_value::{byte_in, choice_in, named, switch_in};
 use crate::member::{MEMBERS, Member};
 use crate::plain_text::PlainText;
+use crate::qr_code::{QrCode, qr_in};
 use escpos_command::{
     Align, BarHeight, BarWidth, CharacterSet, Command, Cut, Emphasis, FeedLines, FeedUnits, Font,
     HriFont, HriPlace, Mode, Size, Table, Underline,
@@ -57,9 +58,18 @@ pub enum Entry<'a> {
     Command(Command),
 }
 
-/// Reads an entry. Only the content of a barcode and the dots of a raster are allocated.
-pub fn read_entry(alloc: Global, entry: &Value) -> Result<Entry<'_>, EntryFault>
-    ensures commands { IfOk result (λ given. meaning (view entry.now) ≡ Ok (commands_in given)) }
+/// What an entry of the text means.
+#[derive(Drop)]
+pub enum Meaning<'a> {
+    /// Characters, or one command.
+    Entry(Entry<'a>),
+    /// A QR code: the commands that set it up and print it.
+    QrCode(QrCode),
+}
+
+/// Reads an entry. Only the content of a barcode or a QR code and the dots of a raster are allocated.
+pub fn read_entry(alloc: Global, entry: &Value) -> Result<Meaning<'_>, EntryFault>
+    ensures commands { IfOk result (λ given. meaning (view entry.now) ≡ Ok (commands_meant given)) }
     ensures refused { IfErr result (λ fault. fault ≢ EntryFault.Memory → meaning (view entry.now) ≡ Err fault) }
 {
     let Some((name, value)) = only_member(entry) else {
@@ -70,15 +80,19 @@ pub fn read_entry(alloc: Global, entry: &Value) -> Result<Entry<'_>, EntryFault>
     };
     match member {
         Member::Text => match text_in(value) {
-            Ok(text) => Ok(Entry::Text(text)),
+            Ok(text) => Ok(Meaning::Entry(Entry::Text(text))),
             Err(fault) => Err(fault),
         },
         Member::Line => match text_in(value) {
-            Ok(text) => Ok(Entry::Line(text)),
+            Ok(text) => Ok(Meaning::Entry(Entry::Line(text))),
+            Err(fault) => Err(fault),
+        },
+        Member::Qr => match qr_in(alloc, value) {
+            Ok(code) => Ok(Meaning::QrCode(code)),
             Err(fault) => Err(fault),
         },
         _ => match command_of(alloc, member, value) {
-            Ok(command) => Ok(Entry::Command(command)),
+            Ok(command) => Ok(Meaning::Entry(Entry::Command(command))),
             Err(fault) => Err(fault),
         },
     }
@@ -150,6 +164,6 @@ fn short_command_of(member: Member, value: &Value) -> Option<Command>
         Member::HriFont => Command::HriFont(HriFont::new(choice_in(value, &FONTS)?)?),
         Member::Cut => Command::Cut(Cut::new(choice_in(value, &CUTS)?)?),
         Member::FeedCut => Command::Cut(feed_cut_in(value)?),
-        Member::Text | Member::Line | Member::Bars | Member::Raster => return None,
+        Member::Text | Member::Line | Member::Bars | Member::Raster | Member::Qr => return None,
     })
 }

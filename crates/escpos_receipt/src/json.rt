@@ -5,7 +5,7 @@ ghost use Rattle.escpos_command.specs.declared.command.Command.{Command};
 ghost use Rattle.std.specs.List.{AllPass};
 ghost use Rattle.escpos_command.specs.declared.command.Command.TheVariants.{Char};
 ghost use Rattle.escpos_command.specs.Parameters.{is_character};
-ghost use Rattle.escpos_receipt.specs.EntryCommands.{IsValueOf, commands_in};
+ghost use Rattle.escpos_receipt.specs.EntryCommands.{IsValueOf, commands_in, commands_meant};
 ghost use Rattle.serde_json.specs.Data.{array};
 ghost use Rattle.serde_json.specs.Find.{as_array};
 ghost use Rattle.serde_json.specs.View.{items_view, view};
@@ -16,7 +16,7 @@ ghost use Rattle.escpos_receipt.specs.EntryErrors.{error_at};
 ghost use Rattle.escpos_receipt.specs.Whole.{Whole};
 
 use crate::entries::are_whole;
-use crate::entry::{Entry, EntryFault, read_entry};
+use crate::entry::{Entry, EntryFault, Meaning, read_entry};
 use crate::receipt::{Receipt, ReceiptFault};
 use escpos_command::{Character, Command};
 use serde_json::{Category, Value};
@@ -252,9 +252,9 @@ fn receipt_of(alloc: Global, values: &[Value]) -> Result<Receipt, JsonError>
     }
 }
 
-// What the value at this place gives as an entry.
-fn read_at(alloc: Global, at: usize, value: &Value) -> Result<Entry<'_>, JsonError>
-    ensures commands { IfOk result (λ given. meaning (view value.now) ≡ Ok (commands_in given)) }
+// What the value at this place means as an entry.
+fn read_at(alloc: Global, at: usize, value: &Value) -> Result<Meaning<'_>, JsonError>
+    ensures commands { IfOk result (λ given. meaning (view value.now) ≡ Ok (commands_meant given)) }
     ensures refused { IfErr result (λ error. (why : EntryFault) × (error ≡ error_at at why)
         × (why ≢ EntryFault.Memory → meaning (view value.now) ≡ Err why)) }
 {
@@ -271,11 +271,11 @@ fn read_entries(alloc: Global, values: &[Value]) -> Result<Vec<Entry<'_>>, JsonE
 {
     let mut given = Vec::new(alloc);
     for (at, value) in values.iter().enumerate() {
-        let entry = match read_at(alloc, at, value) {
-            Ok(entry) => entry,
+        let meaning = match read_at(alloc, at, value) {
+            Ok(meaning) => meaning,
             Err(error) => return Err(error),
         };
-        match given.push(entry) {
+        match add_entries(&mut given, meaning) {
             Ok(()) => {}
             Err(_) => return Err(JsonError::Memory),
         }
@@ -290,11 +290,11 @@ fn read_commands(alloc: Global, values: &[Value]) -> Result<Vec<Command>, JsonEr
 {
     let mut given = Vec::new(alloc);
     for (at, value) in values.iter().enumerate() {
-        let entry = match read_at(alloc, at, value) {
-            Ok(entry) => entry,
+        let meaning = match read_at(alloc, at, value) {
+            Ok(meaning) => meaning,
             Err(error) => return Err(error),
         };
-        match add_commands(&mut given, entry) {
+        match add_commands(&mut given, meaning) {
             Ok(()) => {}
             Err(_) => return Err(JsonError::Memory),
         }
@@ -302,20 +302,48 @@ fn read_commands(alloc: Global, values: &[Value]) -> Result<Vec<Command>, JsonEr
     Ok(given)
 }
 
-// Adds the commands of an entry.
-fn add_commands(commands: &mut Vec<Command>, entry: Entry<'_>) -> Result<(), AllocError>
-    ensures { OnOk result (commands.new.items ≡ commands.old.items ++ commands_in entry.entry) }
+// Adds what gives the commands of one entry of the text.
+fn add_entries<'a>(entries: &mut Vec<Entry<'a>>, meaning: Meaning<'a>) -> Result<(), AllocError>
+    ensures { OnOk result (flat_map commands_in entries.new.items ≡ flat_map commands_in entries.old.items ++ commands_meant meaning.entry) }
 {
-    match entry {
-        Entry::Text(text) => add_characters(commands, text.bytes(), 0),
-        Entry::Line(text) => {
+    match meaning {
+        Meaning::Entry(entry) => {
+            entries.reserve(1)?;
+            entries.push_reserved(entry);
+        }
+        Meaning::QrCode(code) => {
+            entries.reserve(4)?;
+            entries.push_reserved(Entry::Command(Command::QrSize(code.size)));
+            entries.push_reserved(Entry::Command(Command::QrLevel(code.level)));
+            entries.push_reserved(Entry::Command(Command::QrStore(code.stored)));
+            entries.push_reserved(Entry::Command(Command::QrPrint));
+        }
+    }
+    Ok(())
+}
+
+// Adds the commands of one entry of the text.
+fn add_commands(commands: &mut Vec<Command>, meaning: Meaning<'_>) -> Result<(), AllocError>
+    ensures { OnOk result (commands.new.items ≡ commands.old.items ++ commands_meant meaning.entry) }
+{
+    match meaning {
+        Meaning::Entry(Entry::Text(text)) => add_characters(commands, text.bytes(), 0),
+        Meaning::Entry(Entry::Line(text)) => {
             add_characters(commands, text.bytes(), 1)?;
             commands.push_reserved(Command::LineFeed);
             Ok(())
         }
-        Entry::Command(command) => {
+        Meaning::Entry(Entry::Command(command)) => {
             commands.reserve(1)?;
             commands.push_reserved(command);
+            Ok(())
+        }
+        Meaning::QrCode(code) => {
+            commands.reserve(4)?;
+            commands.push_reserved(Command::QrSize(code.size));
+            commands.push_reserved(Command::QrLevel(code.level));
+            commands.push_reserved(Command::QrStore(code.stored));
+            commands.push_reserved(Command::QrPrint);
             Ok(())
         }
     }

@@ -14,6 +14,9 @@ pub const HRI_POSITIONS: [(&str, u8); 4] = [("none", 0), ("above", 1), ("below",
 /// How a raster's dots may be printed, by the byte m of GS v 0.
 pub const SCALES: [(&str, u8); 4] = [("normal", 0), ("wide", 1), ("tall", 2), ("both", 3)];
 
+/// The levels of error correction of QR codes, by the byte that function 69 of GS ( k sets them with.
+pub const LEVELS: [(&str, u8); 4] = [("L", 48), ("M", 49), ("Q", 50), ("H", 51)];
+
 /// The cuts, by the byte m of GS V.
 pub const CUTS: [(&str, u8); 2] = [("full", 0), ("partial", 1)];
 

@@ -3,7 +3,7 @@
 //! `receipt` says what a receipt is: commands that print whole, wherever they stand. `json` reads one from text in JSON,
 //! and `entry` each of its entries, whose characters (`plain_text`) stay where they stand in the text; `entries` says whether
 //! the entries are a receipt, without a list of their commands. `member` has the names of the members that an entry may
-//! have, `json_value` and `json_object` read what these hold, and `json_names` has the names in it. The definitions are those
+//! have, `json_value`, `json_object` and `qr_code` read what these hold, and `json_names` has the names in it. The definitions are those
 //! of `specs/Whole.antt` (what a receipt is), `specs/Entries.antt` (the table of members), `specs/EntryCommands.antt` (the
 //! commands of an entry) and `specs/Describes.antt` (what a text describes, and why it is refused). How a receipt is printed
 //! is left to escpos_host.
@@ -17,6 +17,7 @@ mod json_object;
 mod json_value;
 mod member;
 mod plain_text;
+mod qr_code;
 mod receipt;
 
 pub use entry::Entry;

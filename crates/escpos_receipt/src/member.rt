@@ -52,6 +52,8 @@ pub enum Member {
     Bars,
     /// `raster`: a raster, with its scale, its width in bytes, its height in rows, and its dots in hexadecimal.
     Raster,
+    /// `qr`: a QR code, with its content, the size of its modules and its level of error correction.
+    Qr,
     /// `cut`: `"full"` or `"partial"`.
     Cut,
     /// `feed_cut`: a cut after a feed of 0 to 255 motion units.
@@ -59,7 +61,7 @@ pub enum Member {
 }
 
 /// The members' names.
-pub const MEMBERS: [(&str, Member); 25] = [
+pub const MEMBERS: [(&str, Member); 26] = [
     ("text", Member::Text),
     ("line", Member::Line),
     ("feed", Member::Feed),
@@ -83,6 +85,7 @@ pub const MEMBERS: [(&str, Member); 25] = [
     ("hri_font", Member::HriFont),
     ("bars", Member::Bars),
     ("raster", Member::Raster),
+    ("qr", Member::Qr),
     ("cut", Member::Cut),
     ("feed_cut", Member::FeedCut),
 ];

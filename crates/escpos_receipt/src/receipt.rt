@@ -5,7 +5,7 @@
 ghost use Rattle.std.specs.Prelude.{◌≡◌, ◌≤◌, List, [], ◌∷◌, ◌++◌, length, IsOk, MatchOption, MatchResult};
 ghost use Rattle.escpos_command.specs.CommandTable.{AreCommands};
 ghost use Rattle.escpos_command.specs.Text.{characters, ends_text};
-ghost use Rattle.escpos_receipt.specs.Whole.{Whole, IsReceiptFault, has_text, is_forbidden, needs_empty_line, is_nonempty};
+ghost use Rattle.escpos_receipt.specs.Whole.{MayFollow, Whole, IsReceiptFault, has_text, is_forbidden, needs_empty_line, is_nonempty};
 ghost use Rattle.escpos_command.specs.declared.command.Command.{Command};
 
 use escpos_command::{Command, laws};
@@ -21,7 +21,7 @@ pub enum ReceiptFault {
     Forbidden { at: usize },
     /// 3: at the end there is text in the line that nothing prints.
     TextLeft,
-    /// 4: the command at this place is a barcode, a raster or a cut, with text in the line before it.
+    /// 4: the command at this place is a barcode, a raster, a QR code or a cut, with text in the line before it.
     MidLine { at: usize },
 }
 
@@ -64,8 +64,8 @@ impl ReceiptFault {
     }
 }
 
-/// The commands of a receipt, one or more. There is no Init, status request or mark among them; no barcode, raster or cut
-/// comes while there is text in the line; and at the end the line is empty. (Profile.)
+/// The commands of a receipt, one or more. There is no Init, status request or mark among them; no barcode, raster, QR code
+/// or cut comes while there is text in the line; and at the end the line is empty. (Profile.)
 #[derive(Debug, Drop)]
 pub struct Receipt {
     commands: Vec<Command>,
@@ -135,9 +135,9 @@ fn fault_of(commands: &[Command]) -> Option<ReceiptFault>
     None
 }
 
-/// Whether there is text in the line after one more command; `had_text` says whether there was some before it.
+/// Whether there is text in the line after one more command of a receipt; `had_text` says whether there was some before it.
 pub fn has_text_after(had_text: bool, command: &Command) -> bool
-    ensures { (before : List Command) → had_text ≡ has_text before → result ≡ has_text (before ++ command.now ∷ []) }
+    ensures { (before : List Command) → MayFollow before command.now → had_text ≡ has_text before → result ≡ has_text (before ++ command.now ∷ []) }
 {
     is_printing(command) || had_text && !ends_text(command)
 }
@@ -158,7 +158,7 @@ pub fn needs_empty_line(command: &Command) -> bool
 {
     matches!(
         command,
-        Command::Bars(_) | Command::Raster(_) | Command::Cut(_)
+        Command::Bars(_) | Command::Raster(_) | Command::QrPrint | Command::Cut(_)
     )
 }
 
@@ -169,7 +169,7 @@ fn is_printing(command: &Command) -> bool
     matches!(command, Command::Char(_))
 }
 
-// Whether the line is empty after the command: it prints the line or drops it.
+// Whether the line is empty after the command: it prints the line or drops it. (A QR code comes with an empty line.)
 fn ends_text(command: &Command) -> bool
     ensures { result ≡ ends_text command.now }
 {
@@ -181,6 +181,7 @@ fn ends_text(command: &Command) -> bool
             | Command::Init
             | Command::Bars(_)
             | Command::Raster(_)
+            | Command::QrPrint
             | Command::Cut(_)
     )
 }

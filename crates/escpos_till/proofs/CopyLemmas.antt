@@ -1,10 +1,13 @@
 -- A receipt with the line of a copy before it is a receipt.
 use Rattle.std.proofs.Common.{ℕ, ◌≡◌, ◌⊎◌, inl, inr, Bool, true, false, Option, Some, None, List, [], ◌∷◌, ◌++◌, map, refl, sym, ◌∙◌, ap, subst, append_assoc}
-use Rattle.std.specs.Prelude.{if◌then◌else◌, nat_lt, ◌||◌}
-use Rattle.std.specs.List.{AllByRecursion, list_any}
+use Rattle.std.specs.Prelude.{if◌then◌else◌, nat_lt}
+use Rattle.std.specs.List.{AllByRecursion}
 use Rattle.escpos_command.specs.declared.command.Command.{Command}
 use Rattle.escpos_command.specs.declared.command.Command.TheVariants.{Align, Char, Emphasis, LineFeed}
-use Rattle.escpos_command.specs.Text.{ends_text, text}
+use Rattle.escpos_command.specs.Settings.{stored}
+use Rattle.escpos_command.specs.Text.{ends_later, text, text_after}
+use Rattle.escpos_command.proofs.Lines.{same_text}
+use Rattle.escpos_command.proofs.Settings.{stored-snoc}
 use Rattle.escpos_receipt.specs.Whole.{MayFollow, Whole, is_forbidden, is_nonempty, needs_empty_line}
 use Rattle.escpos_till.specs.Copy.{copy_line, sent_of}
 
@@ -53,30 +56,35 @@ nothing_either : (b : Bool) (t : List ℕ) → (if b then [] else []) ++ t ≡ t
 nothing_either true t = refl
 nothing_either false t = refl
 
-or_true : (a : Bool) → (a || true) ≡ true
-or_true true = refl
-or_true false = refl
+ends_in : (before : List Command) (bs : List ℕ) (rest : List Command) → ends_later before (map Char bs ++ LineFeed ∷ rest) ≡ true
+ends_in before [] rest = refl
+ends_in before (b ∷ bs) rest = ends_in (before ++ Char b ∷ []) bs rest
 
-ends_in : (bs : List ℕ) (rest : List Command) → list_any ends_text (map Char bs ++ LineFeed ∷ rest) ≡ true
-ends_in [] rest = refl
-ends_in (b ∷ bs) rest = ends_in bs rest
-
-text_after_chars : (bs : List ℕ) (rest : List Command) → text (map Char bs ++ LineFeed ∷ rest) ≡ text rest
-text_after_chars [] rest = nothing_either (list_any ends_text rest) (text rest)
-text_after_chars (b ∷ bs) rest =
-    ap (λ e. (if e then [] else b ∷ []) ++ text (map Char bs ++ LineFeed ∷ rest)) (ends_in bs rest) ∙ text_after_chars bs rest
+-- Characters and their line feed leave nothing for what follows, after commands that have stored nothing.
+text_after_chars : (before : List Command) (bs : List ℕ) (rest : List Command) → stored before ≡ None
+    → text_after before (map Char bs ++ LineFeed ∷ rest) ≡ text rest
+text_after_chars before [] rest e =
+    let longer = before ++ LineFeed ∷ [] in
+    nothing_either (ends_later longer rest) (text_after longer rest) ∙ same_text longer [] rest (stored-snoc before LineFeed ∙ e)
+text_after_chars before (b ∷ bs) rest e =
+    let longer = before ++ Char b ∷ [] in
+    ap (λ ends. (if ends then [] else b ∷ []) ++ text_after longer (map Char bs ++ LineFeed ∷ rest)) (ends_in longer bs rest)
+    ∙ text_after_chars longer bs rest (stored-snoc before (Char b) ∙ e)
 
 text_after_line : (bs : List ℕ) (rest : List Command) → text (copy_line bs ++ rest) ≡ text rest
 text_after_line bs rest =
     let tail : List Command = LineFeed ∷ Emphasis 0 ∷ Align 0 ∷ [] in
     let body : List Command = (map Char bs ++ tail) ++ rest in
     let joined : body ≡ map Char bs ++ (LineFeed ∷ Emphasis 0 ∷ Align 0 ∷ rest) = append_assoc (map Char bs) tail rest in
-    nothing_either (list_any ends_text (Emphasis 1 ∷ body)) (text (Emphasis 1 ∷ body))
-    ∙ nothing_either (list_any ends_text body) (text body)
-    ∙ ap text joined
-    ∙ text_after_chars bs (Emphasis 0 ∷ Align 0 ∷ rest)
-    ∙ nothing_either (list_any ends_text (Align 0 ∷ rest)) (text (Align 0 ∷ rest))
-    ∙ nothing_either (list_any ends_text rest) (text rest)
+    let begun : List Command = Align 1 ∷ Emphasis 1 ∷ [] in
+    let ended : List Command = Emphasis 0 ∷ Align 0 ∷ [] in
+    nothing_either (ends_later (Align 1 ∷ []) (Emphasis 1 ∷ body)) (text_after (Align 1 ∷ []) (Emphasis 1 ∷ body))
+    ∙ nothing_either (ends_later begun body) (text_after begun body)
+    ∙ ap (text_after begun) joined
+    ∙ text_after_chars begun bs (Emphasis 0 ∷ Align 0 ∷ rest) refl
+    ∙ nothing_either (ends_later (Emphasis 0 ∷ []) (Align 0 ∷ rest)) (text_after (Emphasis 0 ∷ []) (Align 0 ∷ rest))
+    ∙ nothing_either (ends_later ended rest) (text_after ended rest)
+    ∙ same_text ended [] rest refl
 
 follows_line : (bs : List ℕ) (rest : List Command) (c : Command) → MayFollow rest c → MayFollow (copy_line bs ++ rest) c
 follows_line bs rest c f = record { allowed = f.allowed; at_line_start = λ needs. ap is_nonempty (text_after_line bs rest) ∙ f.at_line_start needs }

@@ -1,7 +1,7 @@
 //! What the bytes of parameters mean, as types that don't depend on the parameters.
 
 ghost use Rattle.std.specs.Prelude.{◌≡◌, ◌<◌};
-ghost use Rattle.escpos_command.specs.Meanings.{has_bit, choice, face_of, alignment_of, hri_position_of, scale_of};
+ghost use Rattle.escpos_command.specs.Meanings.{has_bit, choice, face_of, alignment_of, hri_position_of, scale_of, correction_of};
 
 /// A font of the printer.
 #[derive(Clone, Copy, Debug, PartialEq, Eq)]
@@ -42,6 +42,19 @@ pub enum Scale {
     Tall,
     /// Twice as wide and twice as high.
     Both,
+}
+
+/// How much of a QR code may be unreadable.
+#[derive(Clone, Copy, Debug, PartialEq, Eq)]
+pub enum Correction {
+    /// About 7%.
+    L,
+    /// About 15%.
+    M,
+    /// About 25%.
+    Q,
+    /// About 30%.
+    H,
 }
 
 /// Whether the bit at `place` is set, counted from 0 for the lowest.
@@ -98,5 +111,16 @@ pub fn scale_of(choice: u8) -> Scale
         1 => Scale::Wide,
         2 => Scale::Tall,
         _ => Scale::Both,
+    }
+}
+
+pub fn correction_of(choice: u8) -> Correction
+    ensures { result ≡ correction_of choice }
+{
+    match choice {
+        0 => Correction::L,
+        1 => Correction::M,
+        2 => Correction::Q,
+        _ => Correction::H,
     }
 }

@@ -2,7 +2,7 @@ use Rattle.std.proofs.Common.{◌≡◌, [], ◌∷◌, ◌++◌, true, false, m
 use Rattle.std.specs.Prelude.{◌||◌, not}
 use Rattle.escpos_command.specs.declared.command.Command.TheVariants.{Char, LineFeed}
 use Rattle.escpos_receipt.specs.Whole.{EachMayFollow, MayFollow, has_text, is_nonempty}
-use Rattle.escpos_receipt.proofs.Following.{line_flag, one_more_follows, some_text, text_flag, text_follows}
+use Rattle.escpos_receipt.proofs.Following.{line_feed_follows, line_flag, one_more_follows, some_text, text_flag, text_follows}
 use Rattle.escpos_receipt.proofs.entries.text_after.Goals as goal
 use Rattle.escpos_receipt.proofs.entries.text_after.Goals.{then-is_forbidden-via-then-is_forbidden, then-is_forbidden-via-else-is_forbidden+then-needs_empty_line, then-had_text-2, else-had_text-2}
 
@@ -24,7 +24,7 @@ returns-in-Line-clause-follows c = λ before each same.
     let text = c.in-Line.field-0 in
     let joined = append_assoc before (map Char text) (LineFeed ∷ []) in
     rw c.in-Line.is (
-      subst EachMayFollow joined (one_more_follows (before ++ map Char text) LineFeed (text_follows before text each) (record { allowed = refl; at_line_start = λ e. cc })),
+      subst EachMayFollow joined (one_more_follows (before ++ map Char text) LineFeed (text_follows before text each) (line_feed_follows (before ++ map Char text))),
       sym (line_flag (before ++ map Char text)) ∙ ap has_text joined,
     )
 
@@ -39,7 +39,7 @@ returns-else-needs_empty_line-clause-follows c = λ before each same.
         | else-had_text-2 w ↦ sym same ∙ w.if-had_text-2.false
       ];
     } in
-    rw c.in-Command.is (one_more_follows before c.in-Command.command each follows, c.has_text_after.ensures before same)
+    rw c.in-Command.is (one_more_follows before c.in-Command.command each follows, c.has_text_after.ensures before follows same)
 
 pub returns-then-is_forbidden-clause-refused : goal.returns-then-is_forbidden-clause-refused
 returns-then-is_forbidden-clause-refused c = λ _ before following same each.

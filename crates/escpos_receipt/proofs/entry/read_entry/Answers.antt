@@ -11,7 +11,7 @@ returns-in-Ok-command_of c =
     let m = c.in-Some-named.member in
     let is = means (view c.args.entry.now) v c.in-Some.name.now m c.in-Some.ensures c.in-Some-named.ensures in
     record {
-      commands = is ∙ single m v c.in_default-member.not-Text c.in_default-member.not-Line ∙ ap one c.in-Ok-command_of.ensures.command;
+      commands = is ∙ single m v c.in_default-member.not-Text c.in_default-member.not-Line c.in_default-member.not-Qr ∙ ap one c.in-Ok-command_of.ensures.command;
       refused = tt;
     }
 
@@ -24,5 +24,5 @@ returns-in-Err-command_of c =
       commands = tt;
       refused = λ no.
           let why = c.in-Err-command_of.ensures.refused no in
-          is ∙ single m v c.in_default-member.not-Text c.in_default-member.not-Line ∙ ap one why.1 ∙ ap Err (sym why.0);
+          is ∙ single m v c.in_default-member.not-Text c.in_default-member.not-Line c.in_default-member.not-Qr ∙ ap one why.1 ∙ ap Err (sym why.0);
     }

@@ -3,7 +3,7 @@ use Rattle.std.proofs.Common.{◌≡◌, ◌+◌, map, take, sym, ◌∙◌, sub
 use Rattle.serde_json.specs.View.{view}
 use Rattle.escpos_receipt.specs.declared.json.JsonError.TheVariants.{Refused}
 use Rattle.escpos_receipt.specs.Describes.{Give}
-use Rattle.escpos_receipt.specs.EntryCommands.{commands_in}
+use Rattle.escpos_receipt.specs.EntryCommands.{commands_meant}
 use Rattle.escpos_receipt.specs.EntryErrors.{error_at}
 use Rattle.escpos_receipt.proofs.MoreEntries.{one_more_value, refused_at}
 use Rattle.escpos_receipt.proofs.json.read_commands.Goals as goal
@@ -20,6 +20,6 @@ loop-at-preserved c =
     let vs = c.args.values.now in
     record {
       so_far = subst (λ cs. Give (map view (take (c.loop-at.at + 1) vs)) cs) (sym c.in-Ok-add_commands.ensures)
-          (one_more_value vs c.loop-at.at c.index-values-at.result c.loop-at.given.items (commands_in c.in-Ok.entry) c.loop-at-test.true c.index-values-at.is c.loop-at.invariant.so_far
+          (one_more_value vs c.loop-at.at c.index-values-at.result c.loop-at.given.items (commands_meant c.in-Ok.meaning) c.loop-at-test.true c.index-values-at.is c.loop-at.invariant.so_far
           c.in-Ok.ensures.commands);
     }

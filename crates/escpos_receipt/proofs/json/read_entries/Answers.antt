@@ -4,9 +4,9 @@ use Rattle.std.specs.List.{flat_map}
 use Rattle.serde_json.specs.View.{view}
 use Rattle.escpos_receipt.specs.declared.json.JsonError.TheVariants.{Refused}
 use Rattle.escpos_receipt.specs.Describes.{Give}
-use Rattle.escpos_receipt.specs.EntryCommands.{commands_in}
+use Rattle.escpos_receipt.specs.EntryCommands.{commands_in, commands_meant}
 use Rattle.escpos_receipt.specs.EntryErrors.{error_at}
-use Rattle.escpos_receipt.proofs.MoreEntries.{one_more_entry, one_more_value, refused_at}
+use Rattle.escpos_receipt.proofs.MoreEntries.{one_more_value, refused_at}
 use Rattle.escpos_receipt.proofs.json.read_entries.Goals as goal
 
 pub returns-in-Err-clause-refused : goal.returns-in-Err-clause-refused
@@ -21,7 +21,7 @@ loop-at-preserved c =
     let vs = c.args.values.now in
     let given = c.loop-at.given.items in
     record {
-      so_far = subst (λ cs. Give (map view (take (c.loop-at.at + 1) vs)) cs) (sym (ap (flat_map commands_in) c.in-Ok-push.ensures.items ∙ one_more_entry given c.in-Ok.entry))
-          (one_more_value vs c.loop-at.at c.index-values-at.result (flat_map commands_in given) (commands_in c.in-Ok.entry) c.loop-at-test.true c.index-values-at.is c.loop-at.invariant.so_far
+      so_far = subst (λ cs. Give (map view (take (c.loop-at.at + 1) vs)) cs) (sym c.in-Ok-add_entries.ensures)
+          (one_more_value vs c.loop-at.at c.index-values-at.result (flat_map commands_in given) (commands_meant c.in-Ok.meaning) c.loop-at-test.true c.index-values-at.is c.loop-at.invariant.so_far
           c.in-Ok.ensures.commands);
     }

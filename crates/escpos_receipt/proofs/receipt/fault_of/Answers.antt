@@ -36,7 +36,7 @@ loop-at-preserved c =
     record {
       commands = subst AreCommands (sym longer) (all_joined IsCommand (take i cs) (x ∷ []) c.loop-at.invariant.commands (c.in_range.ensures, tt));
       each = subst EachMayFollow (sym longer) (one_more_follows (take i cs) x c.loop-at.invariant.each follows);
-      flag = c.has_text_after-has_text.ensures (take i cs) c.loop-at.invariant.flag ∙ ap has_text (sym longer);
+      flag = c.has_text_after-has_text.ensures (take i cs) follows c.loop-at.invariant.flag ∙ ap has_text (sym longer);
     }
 
 pub returns-then-has_text-2 : goal.returns-then-has_text-2
