@@ -3,6 +3,7 @@
 mod barcodes;
 mod memory;
 mod pieces;
+mod qr_codes;
 mod rasters;
 mod rows;
 mod table;

@@ -5,15 +5,16 @@ use escpos_command::Command;
 use escpos_decode::{DecodeFault, Decoder, Step};
 use std::process::Abort;
 
-// The spelling of a barcode or a raster with this content, and the first and the last place at which memory is asked for.
+// The spelling of a barcode, a raster or a store of a QR code with this content, and the first and the last place at which memory is asked for.
 type Growing = (&'static [u8], [usize; 2]);
 
 const CONTENT: &[u8] = b"0123456789ABCDEFGHIJ";
 
-const GROWING: [Growing; 3] = [
+const GROWING: [Growing; 4] = [
     (b"\x1Dk\x040123456789ABCDEFGHIJ\x00", [3, 22]),
     (b"\x1DkE\x140123456789ABCDEFGHIJ", [3, 3]),
     (b"\x1Dv0\x00\x02\x00\x0A\x000123456789ABCDEFGHIJ", [7, 7]),
+    (b"\x1D(k\x17\x001P00123456789ABCDEFGHIJ", [7, 7]),
 ];
 
 fn growing_contents() -> &'static [Growing] {
@@ -59,7 +60,7 @@ fn push_growing(
     }
 }
 
-// Here each allocation succeeds: `rt try --test --fail-alloc N -- memory::allocations_fail` lets the Nth of the five fail.
+// Here each allocation succeeds: `rt try --test --fail-alloc N -- memory::allocations_fail` lets the Nth of the six fail.
 #[test]
 fn allocations_fail(rt: HostRuntime) {
     for (spelling, places) in growing_contents() {
@@ -74,6 +75,7 @@ fn room_of(rt: &impl Abort, command: Command) -> usize {
     let bytes = match command {
         Command::Bars(bars) => bars.into_content(),
         Command::Raster(raster) => raster.into_dots(),
+        Command::QrStore(stored) => stored.into_bytes(),
         _ => panic!(rt; "no content"),
     };
     bytes.into_vec().capacity()

@@ -52,12 +52,17 @@ fn every_byte_in_rasters(rt: HostRuntime) {
 }
 
 #[test]
+fn every_byte_in_qr_codes(rt: HostRuntime) {
+    every_byte_follows(&rt, rt.alloc(), 44, 49);
+}
+
+#[test]
 fn all_spellings_in_one_stream(rt: HostRuntime) {
     let mut stream = Vec::new(rt.alloc());
     for spelling in spellings() {
         stream.extend_from_slice(spelling).expect(&rt, "memory");
     }
-    assert!(&rt; spellings().len() == 44);
+    assert!(&rt; spellings().len() == 49);
     agrees(&rt, rt.alloc(), &stream);
 }
 
@@ -81,7 +86,7 @@ fn begins_anew_after_a_fault(rt: HostRuntime) {
 
 // The bytes before a parameter, the parameters that are read there (the least and the greatest, and the
 // ends of each range between them), and their nearest neighbours, which are refused.
-const PARAMETERS: [(&[u8], &[u8], &[u8]); 25] = [
+const PARAMETERS: [(&[u8], &[u8], &[u8]); 28] = [
     (&[0x1B, 0x21], &[0, 255], &[]),
     (&[0x1B, 0x2D], &[0, 2, 48, 50], &[3, 47, 51]),
     (&[0x1B, 0x33], &[0, 255], &[]),
@@ -109,6 +114,9 @@ const PARAMETERS: [(&[u8], &[u8], &[u8]); 25] = [
     (&[0x1D, 0x77], &[2, 6], &[1, 7]),
     (&[0x10, 0x04], &[1, 4], &[0, 5]),
     (b"\x1D(H\x06\x0000000", &[32, 126], &[31, 127]),
+    (b"\x1D(k\x03\x001C", &[1, 16], &[0, 17, 255]),
+    (b"\x1D(k\x03\x001E", &[48, 51], &[0, 47, 52]),
+    (b"\x1D(k\x03\x001Q", &[48], &[0, 47, 49]),
     (&[], &[0x20, 0xFF], &[]),
     (&[], &[0x0A, 0x0D], &[]),
 ];

@@ -100,7 +100,7 @@ pub fn reads(rt: &impl Abort, alloc: Global, bytes: &[u8], wanted: &Command) {
 }
 
 // A spelling of each row of the command table, with a barcode of each symbology in each form.
-const SPELLINGS: [&[u8]; 44] = [
+const SPELLINGS: [&[u8]; 49] = [
     b"A",
     b"\x0A",
     b"\x0D",
@@ -145,6 +145,11 @@ const SPELLINGS: [&[u8]; 44] = [
     b"\x1Dw\x02",
     b"\x10\x04\x01",
     b"\x1DkI\x02{C",
+    b"\x1D(k\x04\x001A2\x00",
+    b"\x1D(k\x03\x001C\x08",
+    b"\x1D(k\x03\x001E1",
+    b"\x1D(k\x06\x001P0\x1B@\x00",
+    b"\x1D(k\x03\x001Q0",
 ];
 
 // A long table makes the proof of each function that names it long, so the tests read it through this one.

@@ -6,8 +6,8 @@
 use escpos_command::{
     Align, BarHeight, BarWidth, Bars, CR, Character, CharacterSet, Command, Cut, DLE, EOT, ESC,
     Emphasis, FaultReason, FeedLines, FeedUnits, Font, Form, GS, HriFont, HriPlace, LF,
-    LineSpacing, MarkId, Mode, Pulse, Raster, Size, StatusKind, Switch, Symbology, Table,
-    Underline,
+    LineSpacing, MarkId, Mode, Pulse, QrData, QrLevel, QrModel, QrSize, Raster, Size, StatusKind,
+    Switch, Symbology, Table, Underline,
 };
 use std::alloc::Global;
 use std::process::Abort;
@@ -45,6 +45,8 @@ fn command_spelled(rt: &impl Abort, alloc: Global, bytes: &[u8]) -> Option<Comma
         [GS, b'v', b'0', m @ (0..=3 | 48..=51), rest @ ..] => return raster_spelled(
             rt, alloc, *m, rest,
         ),
+        [GS, b'(', b'H', rest @ ..] => return mark_spelled(rt, rest),
+        [GS, b'(', b'k', rest @ ..] => return qr_spelled(rt, alloc, rest),
         [GS, rest @ ..] => return spelled_by_group(rt, rest),
         _ => return None,
     })
@@ -88,7 +90,6 @@ fn spelled_by_group(rt: &impl Abort, rest: &[u8]) -> Option<Command> {
             rt,
             "a parameter",
         )),
-        [b'(', rest @ ..] => return mark_spelled(rt, rest),
         [b'B', n] => Command::Reverse(Switch::new(*n).expect(rt, "a parameter")),
         [b'H', n @ (0..=3 | 48..=51)] => Command::HriPlace(HriPlace::new(*n).expect(
             rt,
@@ -107,9 +108,9 @@ fn spelled_by_group(rt: &impl Abort, rest: &[u8]) -> Option<Command> {
     })
 }
 
-// The mark that these bytes spell after GS (.
+// The mark that these bytes spell after GS ( H.
 fn mark_spelled(rt: &impl Abort, rest: &[u8]) -> Option<Command> {
-    let [b'H', 6, 0, b'0', b'0', a, b, c, d] = rest else {
+    let [6, 0, b'0', b'0', a, b, c, d] = rest else {
         return None;
     };
     let id = [*a, *b, *c, *d];
@@ -117,6 +118,42 @@ fn mark_spelled(rt: &impl Abort, rest: &[u8]) -> Option<Command> {
         return None;
     }
     Some(Command::Mark(MarkId::new(id).expect(rt, "a parameter")))
+}
+
+// The function of QR codes that these bytes spell after GS ( k.
+fn qr_spelled(rt: &impl Abort, alloc: Global, rest: &[u8]) -> Option<Command> {
+    Some(match rest {
+        [4, 0, b'1', b'A', n @ (49 | 50), 0] => Command::QrModel(QrModel::new(*n).expect(
+            rt,
+            "a parameter",
+        )),
+        [3, 0, b'1', b'C', n @ 1..=16] => Command::QrSize(QrSize::new(*n).expect(
+            rt,
+            "a parameter",
+        )),
+        [3, 0, b'1', b'E', n @ 48..=51] => Command::QrLevel(QrLevel::new(*n).expect(
+            rt,
+            "a parameter",
+        )),
+        [3, 0, b'1', b'Q', b'0'] => Command::QrPrint,
+        [low, high, b'1', b'P', b'0', stored @ ..] => return store_spelled(
+            rt,
+            alloc,
+            u16::from_le_bytes([*low, *high]),
+            stored,
+        ),
+        _ => return None,
+    })
+}
+
+// The store of this data, which comes after a length that counts three bytes more.
+fn store_spelled(rt: &impl Abort, alloc: Global, length: u16, data: &[u8]) -> Option<Command> {
+    if data.is_empty() || 7089 < data.len() || data.len().checked_add(3) != Some(length as usize) {
+        return None;
+    }
+    let data = data.to_vec(alloc).expect(rt, "memory");
+    let stored = QrData::new(data).ok();
+    Some(Command::QrStore(stored.expect(rt, "data of the table")))
 }
 
 // Whether the bytes begin a spelling and aren't one.
@@ -128,6 +165,7 @@ fn begins_spelling(bytes: &[u8]) -> bool {
         [GS, b'k', m @ 65..=73, rest @ ..] => begins_form_b(*m, rest),
         [GS, b'v', b'0'] => true,
         [GS, b'v', b'0', 0..=3 | 48..=51, rest @ ..] => begins_raster(rest),
+        [GS, b'(', b'k', rest @ ..] => begins_qr(rest),
         [GS, rest @ ..] => begins_after_group(rest),
         _ => false,
     }
@@ -160,11 +198,31 @@ fn begins_after_group(rest: &[u8]) -> bool {
     }
 }
 
+// Whether these bytes begin a function of QR codes after GS ( k, and aren't one.
+fn begins_qr(rest: &[u8]) -> bool {
+    let [low, high, rest @ ..] = rest else {
+        return true;
+    };
+    let length = u16::from_le_bytes([*low, *high]);
+    match rest {
+        [] | [b'1'] => 3 <= length && length <= 7092,
+        [b'1', b'A', rest @ ..] => length == 4 && matches!(rest, [] | [49 | 50]),
+        [b'1', b'C' | b'E' | b'Q'] => length == 3,
+        [b'1', b'P'] => 4 <= length && length <= 7092,
+        [b'1', b'P', b'0', data @ ..] => {
+            4 <= length && length <= 7092 && data.len().saturating_add(3) < length as usize
+        }
+        _ => false,
+    }
+}
+
 // Why a byte after these is refused.
 fn reason_after(before: &[u8]) -> FaultReason {
     match before {
         [] => FaultReason::UnknownByte,
         [_] | [GS, b'(' | b'v'] => FaultReason::UnknownCommand,
+        // cn and fn
+        [GS, b'(', b'k', _, _] | [GS, b'(', b'k', _, _, _] => FaultReason::UnknownCommand,
         [GS, b'k', _, ..] => FaultReason::BadBarcode,
         [GS, b'v', _, _, ..] => FaultReason::BadSize,
         _ => FaultReason::BadParameter,
