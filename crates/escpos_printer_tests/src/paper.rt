@@ -6,6 +6,8 @@ use escpos_io::{ByteOut, Device, MemoryOut, Outgoing};
 use escpos_paper::*;
 use std::process::Abort;
 
+mod qr_codes;
+
 // Carries out a command, for which there is memory.
 fn apply(rt: &impl Abort, page: &mut Page, command: Command) {
     assert!(rt; page.apply(command).is_ok(), "memory");

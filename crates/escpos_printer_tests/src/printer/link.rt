@@ -301,7 +301,7 @@ fn allocations_fail_on_a_link(rt: HostRuntime) {
     let mut room = [0u8; 100];
     let mut writer = MemoryOut::new(&mut room);
     serves_the_receipt(&rt, &mut printer, &mut writer);
-    assert!(rt; printer.items().len() == 7);
+    assert!(rt; printer.items().len() == 9);
     assert!(rt; writer.written() == b"\x12\x37\x220000\x00".as_slice());
 }
 

@@ -209,7 +209,7 @@ fn are_alike(rt: &impl Abort, printer: &Printer, other: &Printer) {
 }
 
 fn answers_the_receipt(rt: &impl Abort, printer: &mut Printer) {
-    assert!(rt; printer.items().len() == 7);
+    assert!(rt; printer.items().len() == 9);
     answers(rt, printer, Answer::Status(0x12));
     answers(rt, printer, mark(rt, 0));
     assert!(rt; printer.waiting() == 0);

@@ -72,9 +72,9 @@ pub fn answers_no_more(rt: &impl Abort, printer: &mut Printer) {
     assert!(rt; printer.take_answer() == None);
 }
 
-// A line, a barcode and a raster in mid-line, a cut, a status request and a mark.
+// A line, a barcode and a raster in mid-line, a QR code that is printed twice, a cut, a status request and a mark.
 pub const RECEIPT: &[u8] =
-    b"Hi\n\x1DkD\x075512345A\x1Dv0\x00\x02\x00\x02\x00\xF0\x0F\xFF\x00\x1DV\x00\x10\x04\x01\x1D(H\x06\x00000000";
+    b"Hi\n\x1DkD\x075512345A\x1Dv0\x00\x02\x00\x02\x00\xF0\x0F\xFF\x00\x1D(k\x05\x001P0AB\x1D(k\x03\x001Q0\x1D(k\x03\x001Q0\x1DV\x00\x10\x04\x01\x1D(H\x06\x00000000";
 
 // A printer in this condition.
 pub fn new_printer(rt: &impl Abort, alloc: Global, condition: Condition) -> Printer {
