@@ -5,8 +5,9 @@ use crate::support::commands::{
 };
 use crate::support::decoders::bytes_of;
 use escpos_command::{
-    BarFault, Bars, Character, CharsFault, Command, FaultReason, FeedLines, Form, LONGEST_SPELLING,
-    MarkId, Raster, RasterFault, Scale, Symbology,
+    BarFault, Bars, Character, CharsFault, Command, Correction, FaultReason, FeedLines, Form,
+    LONGEST_SPELLING, MOST_QR_DATA, MarkId, QrData, QrLevel, QrModel, QrSize, Raster, RasterFault,
+    Scale, Symbology,
 };
 use escpos_io::{Device, MemoryOut, Outgoing};
 use std::alloc::Global;
@@ -298,4 +299,64 @@ fn spell_at(rt: HostRuntime) {
     let bars = Command::Bars(bars);
     spells_at(&rt, &bars, 2, 4, b"\x0512\x00");
     spells_at(&rt, &bars, 4, 2, b"2\x00\x09\x09");
+}
+
+// These bytes are no data of a QR code, and come back.
+fn refuse_data(rt: &impl Abort, alloc: Global, data: &[u8]) {
+    match QrData::new(data.to_vec(alloc).expect(rt, "memory")) {
+        Ok(_) => panic!(rt; "the data of a QR code"),
+        Err(back) => assert!(rt; back.as_slice() == data),
+    }
+}
+
+#[test]
+fn qr_data(rt: HostRuntime) {
+    assert!(rt; MOST_QR_DATA == 7089);
+    refuse_data(&rt, rt.alloc(), b"");
+    refuse_data(&rt, rt.alloc(), &[b'7'; 7090]);
+    for count in [1, 7089] {
+        let data = bytes_of(&rt, rt.alloc(), (b"", 0xA5, count, b""));
+        let stored = QrData::new(data).expect(&rt, "the data of a QR code");
+        assert!(rt; stored.as_slice().len() == count);
+        assert!(rt; stored.as_slice()[count - 1] == 0xA5);
+    }
+}
+
+#[test]
+fn settings_of_qr_codes(rt: HostRuntime) {
+    for (byte, number) in [(48, None), (49, Some(1)), (50, Some(2)), (51, None)] {
+        assert!(rt; QrModel::new(byte).map(QrModel::number) == number, "{byte}");
+    }
+    for (byte, size) in [(0, None), (1, Some(1)), (16, Some(16)), (17, None)] {
+        assert!(rt; QrSize::new(byte).map(QrSize::byte) == size, "{byte}");
+    }
+    for (byte, level) in [
+        (47, None),
+        (48, Some(Correction::L)),
+        (49, Some(Correction::M)),
+        (50, Some(Correction::Q)),
+        (51, Some(Correction::H)),
+        (52, None),
+    ] {
+        assert!(rt;
+            QrLevel::new(byte).map(QrLevel::correction) == level,
+            "{byte}"
+        );
+    }
+}
+
+// The length counts three bytes besides the data: 7,092 is B4 1B with its low byte first.
+#[test]
+fn longest_store(rt: HostRuntime) {
+    let data = bytes_of(&rt, rt.alloc(), (b"", 0xA5, 7089, b""));
+    let stored = QrData::new(data).expect(&rt, "the data of a QR code");
+    let store = [Command::QrStore(stored)];
+    assert!(rt; spelled_len(&store[0]) == 7097);
+    let bytes = bytes_of(&rt, rt.alloc(), (b"\x1D(k\xB4\x1B1P0", 0xA5, 7089, b""));
+    spell(&rt, rt.alloc(), &store, &bytes);
+    write_all(&rt, rt.alloc(), &store, &bytes);
+    spells_at(&rt, &store[0], 3, 4, &[0xB4, 0x1B, 0x31, 0x50]);
+    spells_at(&rt, &store[0], 7, 4, &[0x30, 0xA5, 0xA5, 0xA5]);
+    spells_at(&rt, &store[0], 7096, 1, &[0xA5, 9, 9, 9]);
+    spells_at(&rt, &store[0], 7097, 0, &[9; 4]);
 }

@@ -4,7 +4,9 @@
 use crate::support::commands::{append, spell_to};
 use crate::support::decoders::{Stream, bytes_of};
 use crate::support::values::differ;
-use escpos_command::{Bars, Command, Form, Raster, Symbology, laws};
+use escpos_command::{
+    Bars, Command, Form, QrData, QrLevel, QrModel, QrSize, Raster, Symbology, laws,
+};
 use std::alloc::Global;
 use std::process::Abort;
 
@@ -90,6 +92,9 @@ fn bytes_are_moved(rt: HostRuntime) {
     let list = roomy(&rt, rt.alloc(), b"12");
     let raster = Raster::new(0, 1, 2, list).expect(&rt, "a raster");
     assert!(rt; raster.into_dots().into_vec().capacity() >= 4096);
+    let list = roomy(&rt, rt.alloc(), b"12");
+    let stored = QrData::new(list).expect(&rt, "the data of a QR code");
+    assert!(rt; stored.into_bytes().into_vec().capacity() >= 4096);
 }
 
 // Rasters that differ in their mode, their size or their dots.
@@ -108,6 +113,60 @@ fn append_rasters(rt: &impl Abort, alloc: Global, commands: &mut Vec<Command>) {
         let raster = Raster::new(mode, width, height, dots).expect(rt, "a raster");
         append(rt, commands, Command::Raster(raster));
     }
+}
+
+// Appends stores of data that differ in a byte or in their length.
+fn append_stores(rt: &impl Abort, alloc: Global, commands: &mut Vec<Command>) {
+    let all: [Stream; 5] = [
+        (b"ab", 0, 0, b""),
+        (b"ac", 0, 0, b""),
+        (b"a", 0, 0, b""),
+        (b"", b'7', 7089, b""),
+        (b"", b'7', 7088, b"8"),
+    ];
+    for stream in all {
+        let data = bytes_of(rt, alloc, stream);
+        let stored = QrData::new(data).expect(rt, "the data of a QR code");
+        append(rt, commands, Command::QrStore(stored));
+    }
+}
+
+// Appends the other commands of QR codes, some with parameters that differ.
+fn append_functions(rt: &impl Abort, commands: &mut Vec<Command>) {
+    for n in [49, 50] {
+        let model = QrModel::new(n).expect(rt, "a model");
+        append(rt, commands, Command::QrModel(model));
+    }
+    for n in [1, 16] {
+        let size = QrSize::new(n).expect(rt, "a size");
+        append(rt, commands, Command::QrSize(size));
+    }
+    for n in [48, 49, 50, 51] {
+        let level = QrLevel::new(n).expect(rt, "a level");
+        append(rt, commands, Command::QrLevel(level));
+    }
+    append(rt, commands, Command::QrPrint);
+}
+
+// Each of these is spelled in no more room than it needs, and its clone is equal to it.
+#[test]
+fn qr_codes_as_values(rt: HostRuntime) {
+    let mut commands = Vec::new(rt.alloc());
+    append_stores(&rt, rt.alloc(), &mut commands);
+    append_functions(&rt, &mut commands);
+    differ(&rt, &commands);
+    for command in &commands {
+        is_modest(&rt, rt.alloc(), command);
+    }
+}
+
+// A command's spelling takes at most 256 bytes more than it needs, and its clone is equal to it.
+fn is_modest(rt: &impl Abort, alloc: Global, command: &Command) {
+    let mut out = Vec::new(alloc);
+    spell_to(command, &mut out).expect(rt, "memory");
+    assert!(rt; out.len() == command.spelled_len());
+    assert!(rt; out.capacity() <= out.len().saturating_add(256));
+    assert!(rt; laws::same_clone(command).expect(rt, "memory") == *command);
 }
 
 // Equality sees each part of a barcode and of a raster.

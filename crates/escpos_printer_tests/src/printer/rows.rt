@@ -184,6 +184,68 @@ fn restart_drops(rt: HostRuntime) {
     drops_at_restart(&rt, &mut printer, &mark);
 }
 
+// Whether one QR code is on paper, of this size.
+fn is_qr(items: &[Item], wanted: u8) -> bool {
+    matches!(items, [Item::Qr { size, .. }] if *size == wanted)
+}
+
+// What is stored stays where the store came in pieces, while the printer is offline, and where paper is torn off.
+fn keeps_a_store(rt: &impl Abort, printer: &mut Printer) {
+    feed_all(rt, printer, b"\x1D(k\x03\x001C\x08\x1D(k\x05\x00");
+    assert!(rt; printer.pending_len() == 5);
+    printer.set_condition(OPEN);
+    feed(rt, printer, b"1P0AB", 4, FeedStop::Offline);
+    printer.set_condition(ONLINE);
+    feed_all(rt, printer, b"B");
+    for _ in 0..2 {
+        feed_all(rt, printer, b"\x1D(k\x03\x001Q0");
+        assert!(rt; is_qr(printer.items(), 8));
+        printer.tear_off();
+    }
+}
+
+// A restart forgets what is stored, and a half store.
+fn forgets_a_store(rt: &impl Abort, printer: &mut Printer) {
+    printer.restart();
+    feed_all(rt, printer, b"\x1D(k\x03\x001Q0\x1D(k\x05\x001P0A");
+    assert!(rt; printer.items().is_empty());
+    assert!(rt; printer.pending_len() == 9);
+    printer.restart();
+    assert!(rt; printer.pending_len() == 0);
+    feed_all(rt, printer, b"\x1D(k\x03\x001Q0");
+    assert!(rt; printer.items().is_empty());
+    feed_all(rt, printer, b"\x1D(k\x04\x001P0C\x1D(k\x03\x001Q0");
+    assert!(rt; is_qr(printer.items(), 3));
+}
+
+#[test]
+fn stored_between_feeds(rt: HostRuntime) {
+    let mut printer = new_printer(&rt, rt.alloc(), ONLINE);
+    keeps_a_store(&rt, &mut printer);
+    forgets_a_store(&rt, &mut printer);
+}
+
+// A store in which a byte is refused leaves what was stored before.
+fn keeps_what_was_stored(rt: &impl Abort, printer: &mut Printer) {
+    feed_all(rt, printer, b"\x1D(k\x04\x001P0C");
+    let (at, why) = (7, FaultReason::BadParameter);
+    feed(
+        rt,
+        printer,
+        b"\x1D(k\x04\x001P1D",
+        7,
+        FeedStop::Fault { at, why },
+    );
+    feed_all(rt, printer, b"\x1D(k\x03\x001Q0");
+    assert!(rt; is_qr(printer.items(), 3));
+}
+
+#[test]
+fn faults_and_what_is_stored(rt: HostRuntime) {
+    let mut printer = new_printer(&rt, rt.alloc(), ONLINE);
+    keeps_what_was_stored(&rt, &mut printer);
+}
+
 // A pulse that is cut off by a mark: the next mark is answered.
 fn answers_after_a_pulse(rt: &impl Abort, printer: &mut Printer, pulse: &[u8], next: &[u8]) {
     let (at, why) = (6, FaultReason::UnknownByte);
