@@ -9,5 +9,6 @@ mod examples;
 mod help;
 mod input;
 mod play;
+mod qr_codes;
 mod raw;
 mod render;

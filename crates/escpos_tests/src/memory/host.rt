@@ -47,7 +47,7 @@ fn allocations_of_receipts(rt: HostRuntime) {
             receipt_of(&rt, rt.alloc(), EVERY_MEMBER)
         }
     };
-    assert!(rt; receipt.commands().len() == 41);
+    assert!(rt; receipt.commands().len() == 45);
 }
 
 // What a refused call leaves as it is, beside the bytes to take out.

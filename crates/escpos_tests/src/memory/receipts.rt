@@ -42,6 +42,6 @@ fn receipt_at_last(rt: &impl Abort, alloc: Global, json: &ReceiptText) -> Receip
 #[test]
 fn entries_refused(rt: HostRuntime) {
     let json = text_at_last(&rt, rt.alloc(), EVERY_MEMBER);
-    assert!(rt; entries_at_last(&rt, rt.alloc(), &json).len() == 27);
-    assert!(rt; receipt_at_last(&rt, rt.alloc(), &json).commands().len() == 41);
+    assert!(rt; entries_at_last(&rt, rt.alloc(), &json).len() == 31);
+    assert!(rt; receipt_at_last(&rt, rt.alloc(), &json).commands().len() == 45);
 }

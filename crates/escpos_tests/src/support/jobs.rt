@@ -103,12 +103,13 @@ pub const EVERY_MEMBER: &[u8] = b"\
 {\"hri\":\"below\"},{\"hri_font\":\"B\"},
 {\"bars\":{\"kind\":\"ean13\",\"content\":\"400638133393\"}},
 {\"raster\":{\"scale\":\"normal\",\"x\":2,\"y\":2,\"dots\":\"f00fF00F\"}},
+{\"qr\":{\"content\":\"K\",\"size\":4,\"level\":\"M\"}},
 {\"pulse\":{\"pin\":0,\"on\":25,\"off\":250}},{\"cut\":\"partial\"},
 {\"feed_cut\":{\"kind\":\"full\",\"feed\":3}}]
 ";
 
 pub const EVERY_LINE: &[u8] =
-    b"1b61011d21111b21084b6f6c6174656e6e69730a1d21001b45011b47011d42011b2d011b4d011b74101b52021b3330546f74616c1b64011b321b7b011b4a041d68501d77021d48021d66011d6b430c3430303633383133333339331d76300002000200f00ff00f1b700019fa1d56011d564103\n";
+    b"1b61011d21111b21084b6f6c6174656e6e69730a1d21001b45011b47011d42011b2d011b4d011b74101b52021b3330546f74616c1b64011b321b7b011b4a041d68501d77021d48021d66011d6b430c3430303633383133333339331d76300002000200f00ff00f1d286b03003143041d286b03003145311d286b04003150304b1d286b03003151301b700019fa1d56011d564103\n";
 
 // The address in the rows below.
 pub fn printer_address() -> SocketAddrV4 {

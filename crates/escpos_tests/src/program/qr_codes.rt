@@ -1,0 +1,593 @@
+//! QR codes through `check`, `render` and `encode`.
+
+use crate::support::jobs::{Row, performs, performs_rows, prints};
+use crate::support::texts::{append_text, joined};
+use escpos_io::MemoryIn;
+use escpos_jobs::status::Status;
+use escpos_jobs::task::Task;
+use std::alloc::Global;
+use std::process::Abort;
+
+// Streams, and the listing of their commands.
+const CHECKED: [Row; 37] = [
+    // each model
+    (
+        b"1D286B040031413100 1D286B040031413200",
+        b"0 qrmodel 31\n9 qrmodel 32\nend 18 pending 0\n",
+        Status::Good,
+    ),
+    // a model below and above, and a byte after it that isn't 00
+    (
+        b"1D286B0400314130",
+        b"fault 7 3 BadParameter\n",
+        Status::Refused,
+    ),
+    (
+        b"1D286B0400314133",
+        b"fault 7 3 BadParameter\n",
+        Status::Refused,
+    ),
+    (
+        b"1D286B040031413101",
+        b"fault 8 3 BadParameter\n",
+        Status::Refused,
+    ),
+    // the least and the greatest size, and past both
+    (
+        b"1D286B0300314301 1D286B0300314310",
+        b"0 qrsize 01\n8 qrsize 10\nend 16 pending 0\n",
+        Status::Good,
+    ),
+    (
+        b"1D286B0300314300",
+        b"fault 7 3 BadParameter\n",
+        Status::Refused,
+    ),
+    (
+        b"1D286B0300314311",
+        b"fault 7 3 BadParameter\n",
+        Status::Refused,
+    ),
+    // each level, and past both ends
+    (
+        b"1D286B0300314530 1D286B0300314531 1D286B0300314532 1D286B0300314533",
+        b"0 qrlevel 30\n8 qrlevel 31\n16 qrlevel 32\n24 qrlevel 33\nend 32 pending 0\n",
+        Status::Good,
+    ),
+    (
+        b"1D286B030031452F",
+        b"fault 7 3 BadParameter\n",
+        Status::Refused,
+    ),
+    (
+        b"1D286B0300314534",
+        b"fault 7 3 BadParameter\n",
+        Status::Refused,
+    ),
+    // a store, whose data isn't read as commands
+    (
+        b"1D286B06003150301B400A",
+        b"0 qrstore 1b400a\nend 11 pending 0\n",
+        Status::Good,
+    ),
+    // no data, and a mode other than 30
+    (
+        b"1D286B0300315030",
+        b"fault 6 2 UnknownCommand\n",
+        Status::Refused,
+    ),
+    (
+        b"1D286B0400315031",
+        b"fault 7 3 BadParameter\n",
+        Status::Refused,
+    ),
+    // a print
+    (
+        b"1D286B0300315130",
+        b"0 qrprint\nend 8 pending 0\n",
+        Status::Good,
+    ),
+    (
+        b"1D286B0300315131",
+        b"fault 7 3 BadParameter\n",
+        Status::Refused,
+    ),
+    // all five, and a character after them
+    (
+        b"1D286B040031413200 1D286B0300314308 1D286B0300314531 1D286B0600315030412F31 1D286B0300315130 41",
+        b"0 qrmodel 32\n9 qrsize 08\n17 qrlevel 31\n25 qrstore 412f31\n36 qrprint\n44 char 41\nend 45 pending 0\n",
+        Status::Good,
+    ),
+    // lengths below the least and above the greatest
+    (b"1D286B0200", b"fault 4 3 BadParameter\n", Status::Refused),
+    (b"1D286B0000", b"fault 4 3 BadParameter\n", Status::Refused),
+    (b"1D286BB51B", b"fault 4 3 BadParameter\n", Status::Refused),
+    (b"1D286BFFFF", b"fault 4 3 BadParameter\n", Status::Refused),
+    // lengths that don't fit the function
+    (
+        b"1D286B0300314131",
+        b"fault 6 2 UnknownCommand\n",
+        Status::Refused,
+    ),
+    (
+        b"1D286B0400314301",
+        b"fault 6 2 UnknownCommand\n",
+        Status::Refused,
+    ),
+    (
+        b"1D286B0301314530",
+        b"fault 6 2 UnknownCommand\n",
+        Status::Refused,
+    ),
+    (
+        b"1D286B0400315130",
+        b"fault 6 2 UnknownCommand\n",
+        Status::Refused,
+    ),
+    // functions that aren't taken, of QR codes and of other symbols
+    (
+        b"1D286B0300314200",
+        b"fault 6 2 UnknownCommand\n",
+        Status::Refused,
+    ),
+    (
+        b"1D286B0300315230",
+        b"fault 6 2 UnknownCommand\n",
+        Status::Refused,
+    ),
+    (
+        b"1D286B0300304103",
+        b"fault 5 2 UnknownCommand\n",
+        Status::Refused,
+    ),
+    (
+        b"41 1D286B0400324132",
+        b"0 char 41\nfault 6 2 UnknownCommand\n",
+        Status::Refused,
+    ),
+    // letters beside k
+    (b"1D286A", b"fault 2 2 UnknownCommand\n", Status::Refused),
+    (b"1D286C", b"fault 2 2 UnknownCommand\n", Status::Refused),
+    (b"1D284C", b"fault 2 2 UnknownCommand\n", Status::Refused),
+    // half commands
+    (b"1D286B", b"end 3 pending 3\n", Status::Refused),
+    (b"1D286BB41B", b"end 5 pending 5\n", Status::Refused),
+    (b"1D286B0400314131", b"end 8 pending 8\n", Status::Refused),
+    (b"1D286B03003145", b"end 7 pending 7\n", Status::Refused),
+    (
+        b"41 1D286B0600315030412F",
+        b"0 char 41\nend 11 pending 10\n",
+        Status::Refused,
+    ),
+    (b"1D286B03003151", b"end 7 pending 7\n", Status::Refused),
+];
+
+#[test]
+fn qr_codes_in_check(rt: HostRuntime) {
+    performs_rows(&rt, rt.alloc(), Task::Check, &CHECKED, &[1, 4096]);
+}
+
+// Streams, and the paper that they print.
+const RENDERED: [Row; 14] = [
+    // the settings at power on
+    (
+        b"1D286B0500315030 4142 1D286B0300315130",
+        b"qr left 2 3 L AB\n",
+        Status::Good,
+    ),
+    // the text of the line comes first
+    (
+        b"58 1D286B05003150304142 59 1D286B0300315130 5A0A",
+        b"row left XY\nfeed 1\nqr left 2 3 L AB\nrow left Z\nfeed 1\n",
+        Status::Good,
+    ),
+    // with nothing stored a print does nothing, and the line stays
+    (
+        b"58 1D286B0300315130 1B6101 590A",
+        b"row left XY\nfeed 1\n",
+        Status::Good,
+    ),
+    // Init forgets what is stored
+    (
+        b"1D286B05003150304142 1B40 58 1D286B0300315130 0A",
+        b"row left X\nfeed 1\n",
+        Status::Good,
+    ),
+    // a second store replaces the first
+    (
+        b"1D286B05003150304142 1D286B040031503043 1D286B0300315130",
+        b"qr left 2 3 L C\n",
+        Status::Good,
+    ),
+    // each print prints what is stored
+    (
+        b"1D286B05003150304142 1D286B0300315130 1D286B0300315130",
+        b"qr left 2 3 L AB\nqr left 2 3 L AB\n",
+        Status::Good,
+    ),
+    // model, size and level are those at the print, until Init
+    (
+        b"1D286B05003150304142 1D286B040031413100 1D286B0300314310 1D286B0300314533 1D286B0300315130 1B40 1D286B05003150304142 1D286B0300315130",
+        b"qr left 1 16 H AB\nqr left 2 3 L AB\n",
+        Status::Good,
+    ),
+    // the other levels
+    (
+        b"1D286B05003150304142 1D286B0300314531 1D286B0300315130 1D286B0300314532 1D286B0300315130",
+        b"qr left 2 3 M AB\nqr left 2 3 Q AB\n",
+        Status::Good,
+    ),
+    // alignments
+    (
+        b"1D286B05003150304142 1B6101 1D286B0300315130 1B6132 1D286B0300315130 1B6100 58 1B6101 1D286B0300315130",
+        b"qr center 2 3 L AB\nqr right 2 3 L AB\nrow left X\nfeed 1\nqr left 2 3 L AB\n",
+        Status::Good,
+    ),
+    // in a style, upside down and with a spacing
+    (
+        b"1D286B05003150304142 1B330A 1B7B01 1D4201 58 1D286B0300315130",
+        b"row left upside [A,1,1,0,0,0,0,1,0]X\nfeed 1 spacing 10\nqr left 2 3 L AB\n",
+        Status::Good,
+    ),
+    // a byte that can't be shown, [ and \
+    (
+        b"1D286B0A003150305B5C7EC3A90020 1D286B0300315130",
+        b"qr left 2 3 L \\5b\\5c~\\c3\\a9\\00 \n",
+        Status::Good,
+    ),
+    // what was printed before a fault and before a half command
+    (
+        b"1D286B05003150304142 1D286B0300315130 1D286B0300314311",
+        b"qr left 2 3 L AB\nfault 25 3 BadParameter\n",
+        Status::Refused,
+    ),
+    (
+        b"1D286B05003150304142 1D286B0300315130 1D286B050031503043",
+        b"qr left 2 3 L AB\nend 27 pending 9\n",
+        Status::Refused,
+    ),
+    // none of the others prints anything
+    (
+        b"1D286B040031413100 1D286B0300314310 1D286B0300314533 1D286B040031503043",
+        b"",
+        Status::Good,
+    ),
+];
+
+#[test]
+fn qr_codes_in_render(rt: HostRuntime) {
+    performs_rows(&rt, rt.alloc(), Task::Render, &RENDERED, &[1, 4096]);
+}
+
+// Texts of receipts, and their line.
+const ENCODED: [Row; 7] = [
+    // modules of 8 dots, level M
+    (
+        b"[{\"qr\":{\"content\":\"A/1\",\"size\":8,\"level\":\"M\"}}]",
+        b"1d286b03003143081d286b03003145311d286b0600315030412f311d286b0300315130\n",
+        Status::Good,
+    ),
+    // the least and the greatest size, and each level; the members come in any order
+    (
+        b"[{\"qr\":{\"level\":\"L\",\"content\":\"a\",\"size\":1}},{\"qr\":{\"size\":16,\"level\":\"H\",\"content\":\"a\"}}]",
+        b"1d286b03003143011d286b03003145301d286b0400315030611d286b03003151301d286b03003143101d286b03003145331d286b0400315030611d286b0300315130\n",
+        Status::Good,
+    ),
+    (
+        b"[{\"qr\":{\"content\":\"a\",\"size\":2,\"level\":\"Q\"}}]",
+        b"1d286b03003143021d286b03003145321d286b0400315030611d286b0300315130\n",
+        Status::Good,
+    ),
+    // between lines, and before a cut
+    (
+        b"[{\"line\":\"Hi\"},{\"align\":\"center\"},{\"qr\":{\"content\":\"a\",\"size\":3,\"level\":\"L\"}},{\"line\":\"Yo\"},{\"cut\":\"full\"}]",
+        b"48690a1b61011d286b03003143031d286b03003145301d286b0400315030611d286b0300315130596f0a1d5600\n",
+        Status::Good,
+    ),
+    // a content is sent as its bytes in UTF-8, control characters too
+    (
+        b"[{\"qr\":{\"content\":\"\\u00e9\\n\\u0000\",\"size\":3,\"level\":\"L\"}}]",
+        b"1d286b03003143031d286b03003145301d286b0700315030c3a90a001d286b0300315130\n",
+        Status::Good,
+    ),
+    (
+        b"[{\"qr\":{\"content\":\"\xc3\xa9\xe2\x82\xac\\ud83d\\ude00\",\"size\":3,\"level\":\"L\"}}]",
+        b"1d286b03003143031d286b03003145301d286b0c00315030c3a9e282acf09f98801d286b0300315130\n",
+        Status::Good,
+    ),
+    // a member that comes twice has its last value
+    (
+        b"[{\"qr\":{\"content\":\"a\",\"size\":17,\"size\":3,\"level\":\"L\"}}]",
+        b"1d286b03003143031d286b03003145301d286b0400315030611d286b0300315130\n",
+        Status::Good,
+    ),
+];
+
+#[test]
+fn qr_codes_in_encode(rt: HostRuntime) {
+    performs_rows(&rt, rt.alloc(), Task::Encode, &ENCODED, &[1, 4096]);
+}
+
+// Texts that give no receipt, and why.
+const REFUSED_TEXTS: [Row; 31] = [
+    // sizes
+    (
+        b"[{\"feed\":1},{\"qr\":{\"content\":\"a\",\"size\":0,\"level\":\"L\"}}]",
+        b"refused 6 BadShape 1\n",
+        Status::Refused,
+    ),
+    (
+        b"[{\"feed\":1},{\"qr\":{\"content\":\"a\",\"size\":17,\"level\":\"L\"}}]",
+        b"refused 6 BadShape 1\n",
+        Status::Refused,
+    ),
+    (
+        b"[{\"feed\":1},{\"qr\":{\"content\":\"a\",\"size\":\"3\",\"level\":\"L\"}}]",
+        b"refused 6 BadShape 1\n",
+        Status::Refused,
+    ),
+    (
+        b"[{\"feed\":1},{\"qr\":{\"content\":\"a\",\"size\":3.0,\"level\":\"L\"}}]",
+        b"refused 6 BadShape 1\n",
+        Status::Refused,
+    ),
+    (
+        b"[{\"feed\":1},{\"qr\":{\"content\":\"a\",\"size\":[3,3],\"level\":\"L\"}}]",
+        b"refused 6 BadShape 1\n",
+        Status::Refused,
+    ),
+    // levels
+    (
+        b"[{\"feed\":1},{\"qr\":{\"content\":\"a\",\"size\":3,\"level\":\"l\"}}]",
+        b"refused 6 BadShape 1\n",
+        Status::Refused,
+    ),
+    (
+        b"[{\"feed\":1},{\"qr\":{\"content\":\"a\",\"size\":3,\"level\":\"\"}}]",
+        b"refused 6 BadShape 1\n",
+        Status::Refused,
+    ),
+    (
+        b"[{\"feed\":1},{\"qr\":{\"content\":\"a\",\"size\":3,\"level\":\"LM\"}}]",
+        b"refused 6 BadShape 1\n",
+        Status::Refused,
+    ),
+    (
+        b"[{\"feed\":1},{\"qr\":{\"content\":\"a\",\"size\":3,\"level\":48}}]",
+        b"refused 6 BadShape 1\n",
+        Status::Refused,
+    ),
+    (
+        b"[{\"feed\":1},{\"qr\":{\"content\":\"a\",\"size\":3,\"level\":null}}]",
+        b"refused 6 BadShape 1\n",
+        Status::Refused,
+    ),
+    // contents
+    (
+        b"[{\"feed\":1},{\"qr\":{\"content\":\"\",\"size\":3,\"level\":\"L\"}}]",
+        b"refused 6 BadShape 1\n",
+        Status::Refused,
+    ),
+    (
+        b"[{\"feed\":1},{\"qr\":{\"content\":1,\"size\":3,\"level\":\"L\"}}]",
+        b"refused 6 BadShape 1\n",
+        Status::Refused,
+    ),
+    (
+        b"[{\"feed\":1},{\"qr\":{\"content\":[\"a\"],\"size\":3,\"level\":\"L\"}}]",
+        b"refused 6 BadShape 1\n",
+        Status::Refused,
+    ),
+    // a member too few, one too many, and one of another name
+    (
+        b"[{\"feed\":1},{\"qr\":{\"size\":3,\"level\":\"L\"}}]",
+        b"refused 6 BadShape 1\n",
+        Status::Refused,
+    ),
+    (
+        b"[{\"feed\":1},{\"qr\":{\"content\":\"a\",\"level\":\"L\"}}]",
+        b"refused 6 BadShape 1\n",
+        Status::Refused,
+    ),
+    (
+        b"[{\"feed\":1},{\"qr\":{\"content\":\"a\",\"size\":3}}]",
+        b"refused 6 BadShape 1\n",
+        Status::Refused,
+    ),
+    (
+        b"[{\"feed\":1},{\"qr\":{\"content\":\"a\",\"size\":3,\"level\":\"L\",\"model\":2}}]",
+        b"refused 6 BadShape 1\n",
+        Status::Refused,
+    ),
+    (
+        b"[{\"feed\":1},{\"qr\":{\"Content\":\"a\",\"size\":3,\"level\":\"L\"}}]",
+        b"refused 6 BadShape 1\n",
+        Status::Refused,
+    ),
+    (
+        b"[{\"feed\":1},{\"qr\":{\"content\":\"a\",\"module\":3,\"level\":\"L\"}}]",
+        b"refused 6 BadShape 1\n",
+        Status::Refused,
+    ),
+    // no object
+    (
+        b"[{\"feed\":1},{\"qr\":\"a\"}]",
+        b"refused 6 BadShape 1\n",
+        Status::Refused,
+    ),
+    (
+        b"[{\"feed\":1},{\"qr\":[\"a\",3,\"L\"]}]",
+        b"refused 6 BadShape 1\n",
+        Status::Refused,
+    ),
+    (
+        b"[{\"feed\":1},{\"qr\":null}]",
+        b"refused 6 BadShape 1\n",
+        Status::Refused,
+    ),
+    (
+        b"[{\"feed\":1},{\"qr\":{}}]",
+        b"refused 6 BadShape 1\n",
+        Status::Refused,
+    ),
+    // another name of the member
+    (
+        b"[{\"QR\":{\"content\":\"a\",\"size\":3,\"level\":\"L\"}}]",
+        b"refused 6 BadShape 0\n",
+        Status::Refused,
+    ),
+    (
+        b"[{\"qrcode\":{\"content\":\"a\",\"size\":3,\"level\":\"L\"}}]",
+        b"refused 6 BadShape 0\n",
+        Status::Refused,
+    ),
+    // with text in the line: the print is the fourth of its commands
+    (
+        b"[{\"text\":\"Hi\"},{\"qr\":{\"content\":\"a\",\"size\":3,\"level\":\"L\"}},{\"feed\":1}]",
+        b"refused 4 MidLine 5\n",
+        Status::Refused,
+    ),
+    (
+        b"[{\"qr\":{\"content\":\"a\",\"size\":3,\"level\":\"L\"}},{\"text\":\"A\"},{\"qr\":{\"content\":\"a\",\"size\":3,\"level\":\"L\"}}]",
+        b"refused 4 MidLine 8\n",
+        Status::Refused,
+    ),
+    (
+        b"[{\"text\":\"Hi\"},{\"align\":\"center\"},{\"qr\":{\"content\":\"a\",\"size\":3,\"level\":\"L\"}}]",
+        b"refused 4 MidLine 6\n",
+        Status::Refused,
+    ),
+    // a text that nothing prints
+    (
+        b"[{\"qr\":{\"content\":\"a\",\"size\":3,\"level\":\"L\"}},{\"text\":\"A\"}]",
+        b"refused 3 TextLeft\n",
+        Status::Refused,
+    ),
+    // the first entry that is bad decides, before the line does
+    (
+        b"[{\"text\":\"Hi\"},{\"qr\":{\"content\":\"a\",\"size\":3,\"level\":\"L\"}},{\"qr\":{\"content\":\"\",\"size\":3,\"level\":\"L\"}}]",
+        b"refused 6 BadShape 2\n",
+        Status::Refused,
+    ),
+    // half of a surrogate pair in a content
+    (
+        b"[{\"qr\":{\"content\":\"\\ud83d\",\"size\":3,\"level\":\"L\"}}]",
+        b"refused 5 NotJson\n",
+        Status::Refused,
+    ),
+];
+
+#[test]
+fn qr_codes_that_are_refused(rt: HostRuntime) {
+    performs_rows(&rt, rt.alloc(), Task::Encode, &REFUSED_TEXTS, &[7]);
+}
+
+// What comes before the longest data, that data in part, and what comes after it.
+const LONGEST: [&str; 3] = ["1D286BB41B315030", "1b", ""];
+
+// The longest store through `check`: whole, without its last byte, and with a byte after it.
+#[test]
+fn the_longest_store_in_check(rt: HostRuntime) {
+    let whole = joined(&rt, rt.alloc(), LONGEST, 7089);
+    let parts = ["0 qrstore ", "1b", "\nend 7097 pending 0\n"];
+    let listing = joined(&rt, rt.alloc(), parts, 7089);
+    let wanted = (listing.as_slice(), Status::Good);
+    prints(&rt, rt.alloc(), Task::Check, &whole, wanted);
+    let short = joined(&rt, rt.alloc(), LONGEST, 7088);
+    let wanted = (b"end 7096 pending 7096\n".as_slice(), Status::Refused);
+    prints(&rt, rt.alloc(), Task::Check, &short, wanted);
+    let longer = joined(&rt, rt.alloc(), ["1D286BB41B315030", "1b", "0A"], 7089);
+    let parts = ["0 qrstore ", "1b", "\n7097 lf\nend 7098 pending 0\n"];
+    let listing = joined(&rt, rt.alloc(), parts, 7089);
+    let wanted = (listing.as_slice(), Status::Good);
+    prints(&rt, rt.alloc(), Task::Check, &longer, wanted);
+}
+
+// Wherever the sink is full, what went out is the beginning of the listing.
+#[test]
+fn a_long_store_cut_short(rt: HostRuntime) {
+    let whole = joined(&rt, rt.alloc(), LONGEST, 7089);
+    let listing = joined(&rt, rt.alloc(), ["0 qrstore ", "1b", "\n"], 7089);
+    let mut room = [0; 14_189];
+    for count in [0, 9, 10, 11, 1024, 14_188] {
+        let mut source = MemoryIn::new(&whole, 4096);
+        let wanted = (&listing[..count], Status::Device);
+        let room = &mut room[..count];
+        performs(&rt, rt.alloc(), Ok(Task::Check), &mut source, room, wanted);
+    }
+}
+
+// The longest store, and two prints, through `render`.
+#[test]
+fn the_longest_content_in_render(rt: HostRuntime) {
+    let prints_twice = "1D286B03003151301D286B0300315130";
+    let parts = ["1D286BB41B315030", "37", prints_twice];
+    let stream = joined(&rt, rt.alloc(), parts, 7089);
+    let mut paper = Vec::new(rt.alloc());
+    for _ in 0..2 {
+        let line = joined(&rt, rt.alloc(), ["qr left 2 3 L ", "7", "\n"], 7089);
+        append_text(&rt, &mut paper, &line);
+    }
+    let wanted = (paper.as_slice(), Status::Good);
+    prints(&rt, rt.alloc(), Task::Render, &stream, wanted);
+}
+
+// Stores of 256 bytes, 1,000 of them, and a print of the last.
+#[test]
+fn many_stores_in_render(rt: HostRuntime) {
+    let store = joined(&rt, rt.alloc(), ["1D286B0301315030", "41", ""], 256);
+    let mut stream = Vec::new(rt.alloc());
+    for _ in 0..1000 {
+        append_text(&rt, &mut stream, &store);
+    }
+    append_text(&rt, &mut stream, b"1D286B0300315130");
+    let paper = joined(&rt, rt.alloc(), ["qr left 2 3 L ", "A", "\n"], 256);
+    let wanted = (paper.as_slice(), Status::Good);
+    prints(&rt, rt.alloc(), Task::Render, &stream, wanted);
+}
+
+// How often a part comes in a content, and what the text gives.
+type Long = (usize, &'static str, [&'static str; 3], Status);
+
+const TOO_LONG: [&str; 3] = ["refused 6 BadShape 0\n", "", ""];
+
+const CONTENTS: [Long; 5] = [
+    (
+        7089,
+        "a",
+        [
+            "1d286b03003143031d286b03003145301d286bb41b315030",
+            "61",
+            "1d286b0300315130\n",
+        ],
+        Status::Good,
+    ),
+    (7090, "a", TOO_LONG, Status::Refused),
+    (
+        3544,
+        "\u{e9}",
+        [
+            "1d286b03003143031d286b03003145301d286bb31b315030",
+            "c3a9",
+            "1d286b0300315130\n",
+        ],
+        Status::Good,
+    ),
+    (3545, "\u{e9}", TOO_LONG, Status::Refused),
+    (1_000_000, "a", TOO_LONG, Status::Refused),
+];
+
+// A content has 7,089 bytes at most, which aren't as many characters where some take two.
+#[test]
+fn the_longest_contents_in_encode(rt: HostRuntime) {
+    for (count, part, line, status) in CONTENTS {
+        let text = [
+            "[{\"qr\":{\"size\":3,\"level\":\"L\",\"content\":\"",
+            part,
+            "\"}}]",
+        ];
+        let text = joined(&rt, rt.alloc(), text, count);
+        let line = joined(&rt, rt.alloc(), line, count);
+        prints(&rt, rt.alloc(), Task::Encode, &text, (&line, status));
+    }
+}
