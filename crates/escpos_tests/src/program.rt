@@ -10,5 +10,6 @@ mod help;
 mod input;
 mod play;
 mod qr_codes;
+mod qr_receipts;
 mod raw;
 mod render;

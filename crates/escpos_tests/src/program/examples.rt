@@ -8,6 +8,10 @@ use escpos_io::MemoryIn;
 use escpos_jobs::status::Status;
 use escpos_jobs::task::Task;
 
+mod tax_receipt;
+
+use tax_receipt::{TAX_RECEIPT, TAX_RECEIPT_JSON};
+
 // A receipt: the stream in hexadecimal, its listing, and its paper as text.
 #[derive(Drop)]
 struct Receipt {
@@ -446,7 +450,13 @@ const GATE_TICKET_JSON: &str = "\
 #[test]
 fn receipts_are_listed_and_printed(rt: HostRuntime) {
     let mut room = [0; 4096];
-    for receipt in [COFFEE_BAR, KIOSK_TICKET, KITCHEN_ORDER, GATE_TICKET] {
+    for receipt in [
+        COFFEE_BAR,
+        KIOSK_TICKET,
+        KITCHEN_ORDER,
+        GATE_TICKET,
+        TAX_RECEIPT,
+    ] {
         for (task, output) in [
             (Task::Check, receipt.listing),
             (Task::Render, receipt.paper),
@@ -459,9 +469,14 @@ fn receipts_are_listed_and_printed(rt: HostRuntime) {
 }
 
 #[test]
-fn a_receipt_in_json_gives_its_stream(rt: HostRuntime) {
-    let mut source = MemoryIn::new(GATE_TICKET_JSON.as_bytes(), 64);
-    let wanted = (GATE_TICKET.stream.as_bytes(), Status::Good);
-    let task = Ok(Task::Encode);
-    performs(&rt, rt.alloc(), task, &mut source, &mut [0; 512], wanted);
+fn receipts_in_json_give_their_streams(rt: HostRuntime) {
+    for (text, receipt) in [
+        (GATE_TICKET_JSON, GATE_TICKET),
+        (TAX_RECEIPT_JSON, TAX_RECEIPT),
+    ] {
+        let mut source = MemoryIn::new(text.as_bytes(), 64);
+        let wanted = (receipt.stream.as_bytes(), Status::Good);
+        let task = Ok(Task::Encode);
+        performs(&rt, rt.alloc(), task, &mut source, &mut [0; 1024], wanted);
+    }
 }
