@@ -1,6 +1,8 @@
 //! Spelling and copying commands.
 
-use crate::support::refusals::{BARCODE, BOTH, PICTURE, barcode, is_spelled, picture};
+use crate::support::refusals::{
+    BARCODE, BOTH, PICTURE, STORE, barcode, is_spelled, picture, stored,
+};
 use escpos_command::{CharsFault, Command, chars_of, laws};
 use std::alloc::Global;
 use std::process::Abort;
@@ -21,6 +23,9 @@ fn spell_refused(rt: HostRuntime) {
     spells(&rt, &command, &mut out, (b"", BARCODE));
     let command = Command::Raster(picture(&rt, rt.alloc()));
     spells(&rt, &command, &mut out, (BARCODE, BOTH));
+    out.clear();
+    let command = Command::QrStore(stored(&rt, rt.alloc()));
+    spells(&rt, &command, &mut out, (b"", STORE));
 }
 
 // The characters of a text. Where memory is refused, they are asked for again.
@@ -63,6 +68,9 @@ fn clone_refused(rt: HostRuntime) {
     let command = Command::Raster(picture(&rt, rt.alloc()));
     is_spelled(&rt, &copy_at_last(&rt, &command), PICTURE);
     is_spelled(&rt, &command, PICTURE);
+    let command = Command::QrStore(stored(&rt, rt.alloc()));
+    is_spelled(&rt, &copy_at_last(&rt, &command), STORE);
+    is_spelled(&rt, &command, STORE);
 }
 
 // The same by the law.
@@ -78,6 +86,8 @@ fn same_clone_refused(rt: HostRuntime) {
     let command = Command::Bars(barcode(&rt, rt.alloc()));
     is_spelled(&rt, &same_at_last(&rt, &command), BARCODE);
     is_spelled(&rt, &command, BARCODE);
+    let command = Command::QrStore(stored(&rt, rt.alloc()));
+    is_spelled(&rt, &same_at_last(&rt, &command), STORE);
 }
 
 #[test]
@@ -90,4 +100,8 @@ fn contents_clone_refused(rt: HostRuntime) {
     is_spelled(&rt, &Command::Raster(copy), PICTURE);
     let copy = copy_at_last(&rt, &raster.into_dots());
     assert!(&rt; copy.as_slice() == b"\xF0\x0F".as_slice());
+    let data = stored(&rt, rt.alloc());
+    let copy = copy_at_last(&rt, &data);
+    is_spelled(&rt, &Command::QrStore(copy), STORE);
+    is_spelled(&rt, &Command::QrStore(data), STORE);
 }

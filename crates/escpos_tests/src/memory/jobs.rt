@@ -18,19 +18,20 @@ use escpos_link::Event;
 use std::alloc::Global;
 use std::process::Abort;
 
-// A line, a barcode, a raster and a half command, in hexadecimal; what is listed of them, and what they print.
+// A line, a barcode, a raster, a QR code and a half command, in hexadecimal; what is listed of them, and what they print.
 const STREAM_TEXT: &[u8] =
-    b"48690A 1d6b0335353132333435 00 1D763000010002 00f00f 48690a48690a48690a1B";
+    b"48690A 1d6b0335353132333435 00 1D763000010002 00f00f 1d286b05003150304142 1d286b0300315130 48690a48690a48690a1B";
 
 const LISTED_STREAM: (&[u8], Status) = (
     b"0 char 48\n1 char 69\n2 lf\n3 bars 03 35353132333435\n14 raster 00 1 2\n\
-      24 char 48\n25 char 69\n26 lf\n27 char 48\n28 char 69\n29 lf\n30 char 48\n31 char 69\n32 lf\nend 34 pending 1\n",
+      24 qrstore 4142\n34 qrprint\n\
+      42 char 48\n43 char 69\n44 lf\n45 char 48\n46 char 69\n47 lf\n48 char 48\n49 char 69\n50 lf\nend 52 pending 1\n",
     Status::Refused,
 );
 
 const RENDERED_STREAM: (&[u8], Status) = (
     b"row left Hi\nfeed 1\nbars left ean8 162 3 none A 55123457\nraster left normal 1 2 f00f\n\
-      row left Hi\nfeed 1\nrow left Hi\nfeed 1\nrow left Hi\nfeed 1\nend 34 pending 1\n",
+      qr left 2 3 L AB\nrow left Hi\nfeed 1\nrow left Hi\nfeed 1\nrow left Hi\nfeed 1\nend 52 pending 1\n",
     Status::Refused,
 );
 
@@ -74,19 +75,20 @@ text{font-family:\"DejaVu Sans Mono\",Menlo,Consolas,monospace;font-size:20px;wh
 // A receipt in JSON, and the bytes of its commands in hexadecimal.
 const RECEIPT_TEXT: &[u8] =
     b"[{\"line\":\"Hi\"},{\"bars\":{\"kind\":\"ean8\",\"content\":\"5512345\"}},\
-    {\"raster\":{\"scale\":\"normal\",\"x\":1,\"y\":2,\"dots\":\"f00f\"}},{\"size\":[2,2]},{\"cut\":\"full\"}]";
+    {\"raster\":{\"scale\":\"normal\",\"x\":1,\"y\":2,\"dots\":\"f00f\"}},\
+    {\"qr\":{\"content\":\"AB\",\"size\":3,\"level\":\"L\"}},{\"size\":[2,2]},{\"cut\":\"full\"}]";
 
 const ENCODED_LINE: (&[u8], Status) = (
-    b"48690a1d6b4407353531323334351d76300001000200f00f1d21111d5600\n",
+    b"48690a1d6b4407353531323334351d76300001000200f00f1d286b03003143031d286b03003145301d286b050031503041421d286b03003151301d21111d5600\n",
     Status::Good,
 );
 
 // The same stream and the same receipt as bytes.
 const STREAM_BYTES: &[u8] =
-    b"Hi\n\x1Dk\x035512345\x00\x1Dv0\x00\x01\x00\x02\x00\xF0\x0FHi\nHi\nHi\n\x1B";
+    b"Hi\n\x1Dk\x035512345\x00\x1Dv0\x00\x01\x00\x02\x00\xF0\x0F\x1D(k\x05\x001P0AB\x1D(k\x03\x001Q0Hi\nHi\nHi\n\x1B";
 
 const ENCODED_BYTES: (&[u8], Status) = (
-    b"Hi\n\x1DkD\x075512345\x1Dv0\x00\x01\x00\x02\x00\xF0\x0F\x1D!\x11\x1DV\x00",
+    b"Hi\n\x1DkD\x075512345\x1Dv0\x00\x01\x00\x02\x00\xF0\x0F\x1D(k\x03\x001C\x03\x1D(k\x03\x001E0\x1D(k\x05\x001P0AB\x1D(k\x03\x001Q0\x1D!\x11\x1DV\x00",
     Status::Good,
 );
 

@@ -1,7 +1,8 @@
 //! Reading an input, decoding, printing, and serving a link.
 
 use crate::support::refusals::{
-    BARCODE, BOTH, PICTURE, STREAM, barcode, is_spelled, picture, printer_at_last, prints_items,
+    BARCODE, BOTH, PICTURE, PRINT, STORE, STREAM, barcode, is_spelled, picture, printer_at_last,
+    prints_items, stored,
 };
 use escpos_command::Command;
 use escpos_decode::{Consumer, DecodeFault, Decoded, Decoder, End, Step, Stop, decode, read_piece};
@@ -64,7 +65,7 @@ fn completes(rt: &impl Abort, decoder: &mut Decoder, spelling: &[u8]) {
 
 #[test]
 fn push_refused(rt: HostRuntime) {
-    for spelling in [BARCODE, PICTURE] {
+    for spelling in [BARCODE, PICTURE, STORE] {
         let mut decoder = Decoder::new(rt.alloc());
         completes(&rt, &mut decoder, spelling);
     }
@@ -163,6 +164,31 @@ fn ready_refused(rt: HostRuntime) {
     }
 }
 
+// A page on which data is stored is readied for a print, which takes the room of the copy along. Where memory is refused what is
+// stored stays, and so does the paper.
+fn readies_for_a_print(rt: &impl Abort, page: &mut Page, count: usize) {
+    assert!(rt; !page.has_room());
+    if page.ready().is_err() {
+        assert!(rt; page.items().len() == count);
+        assert!(rt; !page.has_room());
+        assert!(rt; page.ready().is_ok());
+    }
+    assert!(rt; page.has_room());
+    assert!(rt; page.apply(Command::QrPrint).is_ok());
+    assert!(rt; page.items().len() == count.saturating_add(1));
+}
+
+#[test]
+fn ready_for_a_print_refused(rt: HostRuntime) {
+    let mut page = Page::new(rt.alloc());
+    let store = Command::QrStore(stored(&rt, rt.alloc()));
+    applies(&rt, &mut page, store, STORE);
+    for count in 0..3 {
+        readies_for_a_print(&rt, &mut page, count);
+    }
+    prints_items(&rt, page.items(), THREE_QR_CODES);
+}
+
 // A page carries a command out that is spelled so. Where memory is refused the paper is as it was, and the command comes back.
 fn applies(rt: &impl Abort, page: &mut Page, command: Command, spelling: &[u8]) {
     let count = page.items().len();
@@ -177,6 +203,24 @@ fn applies(rt: &impl Abort, page: &mut Page, command: Command, spelling: &[u8]) 
 const THREE_OF_BOTH: &[u8] = b"bars left ean8 162 3 none A 55123457\nraster left normal 1 2 f00f\n\
     bars left ean8 162 3 none A 55123457\nraster left normal 1 2 f00f\n\
     bars left ean8 162 3 none A 55123457\nraster left normal 1 2 f00f\n";
+
+const THREE_QR_CODES: &[u8] = b"qr left 2 3 L AB\nqr left 2 3 L AB\nqr left 2 3 L AB\n";
+
+// A store, three prints of it, and a line feed between them.
+#[test]
+fn apply_to_a_stored_code_refused(rt: HostRuntime) {
+    let mut page = Page::new(rt.alloc());
+    let store = Command::QrStore(stored(&rt, rt.alloc()));
+    applies(&rt, &mut page, store, STORE);
+    for _ in 0..3 {
+        applies(&rt, &mut page, Command::QrPrint, PRINT);
+    }
+    prints_items(&rt, page.items(), THREE_QR_CODES);
+    page.tear_off();
+    applies(&rt, &mut page, Command::LineFeed, b"\n");
+    applies(&rt, &mut page, Command::QrPrint, PRINT);
+    prints_items(&rt, page.items(), b"feed 1\nqr left 2 3 L AB\n");
+}
 
 #[test]
 fn apply_refused(rt: HostRuntime) {
@@ -253,6 +297,20 @@ fn feed_refused(rt: HostRuntime) {
     feeds(&rt, &mut printer, BOTH);
     assert!(&rt; printer.items().len() == 6);
     assert!(&rt; printer.pending_len() == 0);
+}
+
+// A store, a print, a line and two prints more.
+const QR_STREAM: &[u8] =
+    b"\x1D(k\x05\x001P0AB\x1D(k\x03\x001Q0Hi\x1D(k\x03\x001Q0\x1D(k\x03\x001Q0";
+
+const QR_PAPER: &[u8] =
+    b"qr left 2 3 L AB\nrow left Hi\nfeed 1\nqr left 2 3 L AB\nqr left 2 3 L AB\n";
+
+#[test]
+fn feed_of_qr_codes_refused(rt: HostRuntime) {
+    let mut printer = printer_at_last(&rt, rt.alloc());
+    feeds(&rt, &mut printer, QR_STREAM);
+    prints_items(&rt, printer.items(), QR_PAPER);
 }
 
 // A line, a status request, a mark and both; the answers; and how they are served.

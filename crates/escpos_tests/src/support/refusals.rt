@@ -1,7 +1,7 @@
 //! Values whose memory may be refused once, and what a job has written where it was.
 
 use crate::support::hosts::{S, read_receipt, receipt_of};
-use escpos_command::{Bars, Command, Form, Raster, Symbology};
+use escpos_command::{Bars, Command, Form, QrData, Raster, Symbology};
 use escpos_host::Receipt;
 use escpos_io::MemoryOut;
 use escpos_jobs::emulate::ONLINE;
@@ -17,7 +17,12 @@ pub const BARCODE: &[u8] = b"\x1Dk\x035512345\x00";
 
 pub const PICTURE: &[u8] = b"\x1Dv0\x00\x01\x00\x02\x00\xF0\x0F";
 
-// Both, one after the other.
+// The spelling of a store of two bytes, and that of a print of what is stored.
+pub const STORE: &[u8] = b"\x1D(k\x05\x001P0AB";
+
+pub const PRINT: &[u8] = b"\x1D(k\x03\x001Q0";
+
+// A barcode and a raster, one after the other.
 pub const BOTH: &[u8] = b"\x1Dk\x035512345\x00\x1Dv0\x00\x01\x00\x02\x00\xF0\x0F";
 
 // A line and both.
@@ -91,6 +96,12 @@ pub fn barcode(rt: &impl Abort, alloc: Global) -> Bars {
 pub fn picture(rt: &impl Abort, alloc: Global) -> Raster {
     let dots = bytes_at_last(rt, alloc, b"\xF0\x0F");
     Raster::new(0, 1, 2, dots).expect(rt, "a raster")
+}
+
+// The data that `STORE` stores.
+pub fn stored(rt: &impl Abort, alloc: Global) -> QrData {
+    let data = bytes_at_last(rt, alloc, b"AB");
+    QrData::new(data).expect(rt, "the data of a QR code")
 }
 
 // A command is spelled so.
