@@ -7,7 +7,7 @@ import json, math, re
 MARKS = 36**4
 
 # Commands of one spelling; and those of fixed bytes with one parameter byte, with what that may be.
-PLAIN = {"lf": b"\n", "cr": b"\r", "init": b"\x1b@", "spacing default": b"\x1b2"}
+PLAIN = {"lf": b"\n", "cr": b"\r", "init": b"\x1b@", "spacing default": b"\x1b2", "qrprint": b"\x1d(k\x03\x001Q0"}
 WITH_BYTE = {
     "char": (b"", range(32, 256)),
     "mode": (b"\x1b!", range(256)),
@@ -31,9 +31,13 @@ WITH_BYTE = {
     "barheight": (b"\x1dh", range(1, 256)),
     "barwidth": (b"\x1dw", range(2, 7)),
     "status": (b"\x10\x04", range(1, 5)),
+    "qrsize": (b"\x1d(k\x03\x001C", range(1, 17)),
+    "qrlevel": (b"\x1d(k\x03\x001E", range(48, 52)),
 }
 WITH_BYTES = {"cut": b"\x1dV", "pulse": b"\x1bp", "mark": b"\x1d(H\x06\x0000"}
 SCALES = (0, 1, 2, 3, 48, 49, 50, 51)
+MOST_QR_DATA = 7089
+LEVELS = "LMQH"
 # The content of each symbology by its m in form A; in form B that is 65 more, and CODE128 has only that form.
 CONTENTS = {
     0: rb"\d{11,12}",
@@ -77,6 +81,16 @@ def some_content(pick, symbology):
     return bytes(pick.choices(b"0123456789", k=count))
 
 
+def store(data):
+    """Returns what stores the data of a QR code."""
+    return b"\x1d(k" + (len(data) + 3).to_bytes(2, "little") + b"1P0" + data
+
+
+def qr_model(number):
+    """Returns what sets the model of QR codes to this byte."""
+    return b"\x1d(k\x04\x001A" + bytes([number, 0])
+
+
 def check_digit(digits):
     """Returns what makes a multiple of ten with the sum of the digits, weighted 3, 1, 3, 1, .. from the last leftwards."""
     return -sum((digit - 48) * (1 if at % 2 else 3) for at, digit in enumerate(reversed(digits))) % 10
@@ -84,7 +98,7 @@ def check_digit(digits):
 
 def some_command(pick):
     """Returns the bytes of a command, and its line in a listing without the place."""
-    name = pick.choice(("char",) * 20 + ("lf",) * 5 + (*PLAIN, *WITH_BYTE, *WITH_BYTES, "bars", "bars", "raster", "raster"))
+    name = pick.choice(("char",) * 20 + ("lf",) * 5 + (*PLAIN, *WITH_BYTE, *WITH_BYTES, *("bars", "raster", "qrstore", "qrprint") * 2, "qrmodel"))
     if name in PLAIN:
         return PLAIN[name], name
     if name in WITH_BYTE and (name != "cut" or pick.randrange(2)):
@@ -104,6 +118,12 @@ def some_command(pick):
         scale, x, y = pick.choice(SCALES), pick.choice((1, 2, 3, 128)), pick.choice((1, 2, 5, 5, 300))
         header = b"\x1dv0" + bytes([scale, x, 0, y % 256, y // 256])
         return header + pick.randbytes(x * y), f"raster {scale:02x} {x} {y}"
+    if name == "qrstore":
+        data = pick.randbytes(pick.choice((1, 2, 20, 20, 252, 253, 254, MOST_QR_DATA)))
+        return store(data), f"qrstore {data.hex()}"
+    if name == "qrmodel":
+        number = pick.choice((49, 50))
+        return qr_model(number), f"qrmodel {number:02x}"
     values = [pick.choice((65, 66) if name == "cut" else (0, 1, 48, 49))] + pick.choices(range(256), k=1 if name == "cut" else 2)
     return WITH_BYTES[name] + bytes(values), f"{name} {bytes(values).hex(' ')}"
 
@@ -127,6 +147,12 @@ def respelled(line, stream):
         header = b"\x1dv0" + bytes([int(scale, 16), int(x), 0, int(y) % 256, int(y) // 256])
         return header + stream[int(place) + 8 : int(place) + 8 + int(x) * int(y)]
     values = bytes.fromhex(values)
+    if name == "qrstore":
+        hold(1 <= len(values) <= MOST_QR_DATA, "data that is too short or too long:", line)
+        return store(values)
+    if name == "qrmodel":
+        hold(values in (b"1", b"2"), "a model that isn't in the table:", line)
+        return qr_model(values[0])
     front, allowed = WITH_BYTE[name] if len(values) == 1 else (WITH_BYTES[name], range(256))
     hold(values[-1] in allowed, "a parameter that isn't in the table:", line)
     return front + values
@@ -138,6 +164,8 @@ def reason(half):
         return 4
     if half[:3] == b"\x1dv0" and len(half) > 3:
         return 5
+    if half[:3] == b"\x1d(k" and len(half) in (5, 6):
+        return 2
     return 1 if not half else 2 if len(half) == 1 or half in (b"\x1d(", b"\x1dv") else 3
 
 
@@ -157,6 +185,32 @@ def try_listing(stream, status, lines):
     else:
         hold(lines[-1] == f"end {len(stream)} pending {len(stream) - place}", "a wrong last line:", lines[-1])
         hold(status == (place < len(stream)), "a wrong status:", status)
+
+
+def shown(data):
+    """Returns bytes as the paper has them: a printing character but [ and \\ is itself."""
+    return "".join(chr(byte) if 32 <= byte <= 126 and byte not in b"[\\" else f"\\{byte:02x}" for byte in data)
+
+
+def qr_codes_of(lines):
+    """Returns the QR codes that a listing prints, without their alignment: model, size, level and content."""
+    model, size, level, data, found = 2, 3, "L", None, []
+    for line in lines:
+        _, name, *values = line.split(" ")
+        value = bytes.fromhex(values[0]) if name.startswith("qr") and values else b""
+        if name == "init":
+            model, size, level, data = 2, 3, "L", None
+        elif name == "qrmodel":
+            model = value[0] - 48
+        elif name == "qrsize":
+            size = value[0]
+        elif name == "qrlevel":
+            level = LEVELS[value[0] - 48]
+        elif name == "qrstore":
+            data = value
+        elif name == "qrprint" and data is not None:
+            found.append(f"{model} {size} {level} {shown(data)}")
+    return found
 
 
 def formatted(pick, stream):
@@ -276,6 +330,11 @@ def entry_commands(entry):
         symbology = list(KINDS.values())[word_in(kind, " ".join(KINDS))]
         if type(content) is str and re.fullmatch(CONTENTS[symbology], content.encode()):
             return [("block", b"\x1dk" + bytes([65 + symbology, len(content)]) + content.encode())]
+    if name == "qr":
+        content, size, level = inner(value, "content size level")
+        settings = [WITH_BYTE["qrsize"][0] + bytes([number_in(size, 1, 16)]), WITH_BYTE["qrlevel"][0] + bytes([48 + word_in(level, "L M Q H")])]
+        if type(content) is str and 1 <= len(content.encode()) <= MOST_QR_DATA:
+            return [("other", spelling) for spelling in settings + [store(content.encode())]] + [("block", PLAIN["qrprint"])]
     if name == "raster":
         scale, x, y, dots = inner(value, "scale x y dots")
         header = b"\x1dv0" + bytes([word_in(scale, SCALE_WORDS), number_in(x, 1, 128), 0]) + number_in(y, 1, 4095).to_bytes(2, "little")
@@ -335,6 +394,9 @@ def some_entry(pick, name):
     if name == "raster":
         x, y = pick.choice((1, 2, 128)), pick.choice((1, 3, 30))
         return {"scale": word(SCALE_WORDS), "x": x, "y": y, "dots": pick.choice((pick.randbytes(x * y), mark(byte) * x * y))[: x * y].hex()}
+    if name == "qr":
+        content = "".join(pick.choices("Aa1/:?=.\"\\\n\u00e9\u20ac", k=pick.choice((1, 2, 30, 30, 300)))) if pick.randrange(20) else "a" * pick.choice((0, 7089, 7090))
+        return {"content": content, "size": pick.randint(1, 16), "level": word("L M Q H")}
     size = [pick.randint(1, 8), pick.randint(1, 8)]
     pulse = {"pin": pick.randrange(2), "on": byte, "off": pick.randrange(256)}
     return {"feed": byte, "units": byte, "size": size, "pulse": pulse, "feed_cut": {"kind": word("full partial"), "feed": byte}}[name]
@@ -342,7 +404,7 @@ def some_entry(pick, name):
 
 def some_receipt(pick):
     """Returns a receipt, as a value; some aren't one, because of a character or of text that is left in the line."""
-    names = ("line",) * 5 + ("text", *FEEDS, *WITH_NUMBER, *WITH_WORD, *SWITCHES, "spacing", "size", "pulse", "bars", "raster", "feed_cut")
+    names = ("line",) * 5 + ("text", *FEEDS, *WITH_NUMBER, *WITH_WORD, *SWITCHES, "spacing", "size", "pulse", "bars", "raster", "qr", "qr", "feed_cut")
     entries = []
     for name in pick.choices(names, k=pick.choice((1, 2, 4, 12))):
         if name == "line" and pick.randrange(3) == 0:

@@ -70,6 +70,8 @@ def try_stream(pick):
         hold(lines_of("check", end) == (status, lines), "what follows a refused byte matters")
     render_status, items = lines_of("render", stream)
     hold(render_status == status and (not status or items.pop() == lines[-1]), "`render` ends otherwise than `check`")
+    codes = [item.split(" ", 2)[2] for item in items if item.startswith("qr ")]
+    hold(codes == qr_codes_of(lines[:-1]), "the QR codes aren't those that are stored")
     some_items = paper_of(some)
     hold(items[: len(some_items)] == some_items, "the paper of a front isn't a front of the paper")
     for item in items:
