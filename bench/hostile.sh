@@ -30,8 +30,11 @@ ANSWER = b"7\"0000\0"
 HEADER = b"\x1dv0\x00\x80\x00\xff\x0f"
 RASTER = HEADER + bytes(range(128)) * 4095
 DOT = b"\x1dv0\x00\x01\x00\x01\x00\xa5"
+STORE = b"\x1d(k\xb4\x1b1P0" + b"7" * 7089
+PRINT = b"\x1d(k\x03\x001Q0"
 CODE128 = b"\x1dkI\xff{A" + b"x" * 253
 PICTURE = b'{"raster":{"scale":"normal","x":128,"y":4095,"dots":"' + b"a5" * 524160 + b'"}}'
+QR_CODE = b'{"qr":{"size":3,"level":"L","content":"'
 OPEN = b"linkup\nmove 11\ndeliver 11\nhandover\nanswer 7\n"
 
 Ran = collections.namedtuple("Ran", "seconds processor memory status count told")
@@ -95,6 +98,13 @@ STREAMS = [
     ("barcodes after text", times(b"A\x1dkE\x01A"), 0),
     ("initialisations that drop a line", times(b"A" * 41 + b"\x1b@"), 0),
     ("a half raster at the end", times(b"A", after=RASTER[:-1]), 1),
+    ("longest stores of QR codes", times(STORE), 0),
+    ("stores of a byte", times(b"\x1d(k\x04\x001P0A"), 0),
+    ("stores and prints of a byte", times(b"\x1d(k\x04\x001P0A" + PRINT), 0),
+    ("QR codes after text", times(b"A" + PRINT, b"\x1d(k\x04\x001P0A"), 0),
+    ("prints with nothing stored", times(PRINT), 0),
+    ("sizes of QR codes", times(b"\x1d(k\x03\x001C\x08"), 0),
+    ("a half store at the end", times(b"A", after=STORE[:-1]), 1),
 ]
 
 RECEIPTS = [
@@ -120,6 +130,9 @@ RECEIPTS = [
     ("many members in disorder", members(lambda number: b"%08d" % (number * 7919 % 9999991)), 1),
     ("a member again and again", lambda size: b"[{" + b",".join([b'"feed":1'] * (size // 9 - 2)) + b"}]", 0),
     ("quotation marks", times(b'"'), 1),
+    ("QR codes of a byte", entries(QR_CODE + b'A"}}'), 0),
+    ("longest QR codes", entries(QR_CODE + b"A" * 7089 + b'"}}'), 0),
+    ("a QR code that is too long", times(b"A", b"[" + QR_CODE, b'"}}]'), 1),
 ]
 
 SCRIPTS = [
@@ -178,6 +191,9 @@ LIMITS = [
     fixed("check", "a header without its dots", HEADER.hex().encode(), 1, b"end 8 pending 8\n"),
     fixed("check", "content of 255", b"1D6B45FF" + b"41" * 255, 0, b"end 259 pending 0\n"),
     fixed("check", "content of 256 without n", b"1D6B04" + b"41" * 256 + b"00", 1, b"fault 258 4 BadBarcode\n"),
+    fixed("check", "the longest half store", STORE[:-1].hex().encode(), 1, b"end 7096 pending 7096\n"),
+    fixed("check", "a store too long", b"1D286BB51B", 1, b"fault 4 3 BadParameter\n"),
+    fixed("check", "a store of nothing", b"1D286B0300315030", 1, b"fault 6 2 UnknownCommand\n"),
     fixed("check", "half a byte", b"1B 4", 1, b"refused hex\n"),
     fixed("encode", "127 arrays", b"[" * 127 + b"]" * 127, 1, b"refused 6 BadShape 0\n"),
     fixed("encode", "128 arrays", b"[" * 128 + b"]" * 128, 1, b"refused 5 NotJson\n"),
@@ -185,6 +201,8 @@ LIMITS = [
     fixed("encode", "content of 256", b'[{"bars":{"kind":"code39","content":"' + b"A" * 256 + b'"}}]', 1, b"refused 6 BadShape 0\n"),
     fixed("encode", "the largest raster", entries(PICTURE, 1), 0, HEADER.hex().encode()),
     fixed("encode", "a raster too high", lambda size: b"[" + PICTURE.replace(b"4095", b"4096") + b"]", 1, b"refused 6 BadShape 0\n"),
+    fixed("encode", "a QR code of 7,089 bytes", b"[" + QR_CODE + b"A" * 7089 + b'"}}]', 0, b"1d286b0300314303"),
+    fixed("encode", "a QR code of 7,090 bytes", b"[" + QR_CODE + b"A" * 7090 + b'"}}]', 1, b"refused 6 BadShape 0\n"),
     fixed("encode", "a feed of 256", b'[{"feed":256}]', 1, b"refused 6 BadShape 0\n"),
     fixed("encode", "nothing", b"", 1, b"refused 5 NotJson\n"),
     fixed("play", "the greatest number", b"move 4294967295\n", 0, b"moved 0\n"),
@@ -288,6 +306,10 @@ PEERS = [
 ]
 
 
+# A print of eight bytes puts all that is stored on paper, so less is enough.
+FEW = (SIZE // 64, SIZE // 16)
+
+
 def cases():
     """Returns all cases."""
     found = long_texts() + LIMITS
@@ -296,6 +318,8 @@ def cases():
         letters = Case([word], "letters", times(b"xyz"), (SIZE // 4, SIZE), 1, b"refused hex\n")
         spaced = Case([word], "a blank between all digits", times(b"4 "), (SIZE // 4, SIZE), 0, b"")
         found += growing([word], STREAMS, hexadecimal) + [blanks, letters, spaced]
+        found.append(Case([word], "prints of the longest store", hexadecimal(times(PRINT, STORE)), FEW, 0, b""))
+    found.append(Case(["emulate", "ADDRESS"], "prints of the longest store", times(b""), FEW, 0, b"link 1 read ", talk(PRINT, first=STORE)))
     looped = [case for case in RECEIPTS if case[0] in ("small entries", "lines of a character", "largest rasters")]
     return found + growing(["encode"], RECEIPTS) + growing(["loop"], looped) + growing(["play"], SCRIPTS) + PEERS
 
