@@ -63,6 +63,20 @@ const RESYNCHRONISED: Row = (
     Status::Good,
 );
 
+// a store of a QR code that lacks 22 bytes takes two marks of the next link, and the third opens it; the next receipt begins with an
+// Init, which drops what was stored
+const RESYNCHRONISED_STORE: Row = (
+    b"linkup\nmove 11\ndeliver 11\nhandover\nanswer 7\n\
+      submit [{\"qr\":{\"content\":\"aaaaaaaaaaaaaaaaaaaaaaaaaaaaaa\",\"size\":3,\"level\":\"L\"}}]\n\
+      move 34\ndeliver 34\ndrop\nleave\nlinkup\nnudge\nnudge\nmove 33\ndeliver 33\nhandover\nanswer 7\n\
+      submit [{\"qr\":{\"content\":\"aaaaaaaaaaaaaaaaaaaaaaaaaaaaaa\",\"size\":3,\"level\":\"L\"}}]\n\
+      move 75\ndeliver 75\nhandover\nanswer 7\n",
+    b"ok\nmoved 11\nfed 11 all\nhanded on\nheard 7 opened\nok\nmoved 34\nfed 34 all\nok\nok\nok\nok\nok\n\
+      moved 33\nfed 33 all\nhanded on\nheard 7 opened\nok\nmoved 75\nfed 75 all\nhanded on\nheard 7 recorded 0\npaper\n\
+      qr left 2 3 L aaaaaaaaaaaaaaaaaaaaaaaaaaaaaa\nrecords 1\n",
+    Status::Good,
+);
+
 const ROWS: [Row; 25] = [
     // a host that is restarted with any number from its next mark's on: with none that is left, and with the greatest
     (
@@ -236,7 +250,8 @@ fn first_of_two(rt: HostRuntime) {
 
 #[test]
 fn resynchronised(rt: HostRuntime) {
-    performs_rows(&rt, rt.alloc(), Task::Play, &[RESYNCHRONISED], &[512]);
+    let rows = [RESYNCHRONISED, RESYNCHRONISED_STORE];
+    performs_rows(&rt, rt.alloc(), Task::Play, &rows, &[512]);
 }
 
 #[test]
