@@ -204,11 +204,11 @@ fn reads_long(rt: &impl Abort, alloc: Global, head: &[u8], count: usize) {
     let data = bytes_of(rt, alloc, (b"", 0x1D, count, b""));
     let stored = store(rt, alloc, &data);
     completes(rt, &mut Decoder::new(alloc), (head, &data), stored);
-    let (piece, rest) = data.split_at(100);
+    let (piece, rest) = data.split_at_checked(100).expect(rt, "data");
     let commands = [store(rt, alloc, &data)];
     let end = End::Read { half: 0 };
     decodes(rt, alloc, &[head, piece, rest], &commands, end);
-    let short = &data[1..];
+    let short = data.get(1..).expect(rt, "data");
     let half = short.len().saturating_add(8);
     decodes(rt, alloc, &[head, short], &[], End::Read { half });
 }
@@ -254,7 +254,8 @@ fn character(rt: &impl Abort, byte: u8) -> Command {
 fn lost_bytes_leave_a_fault(rt: HostRuntime) {
     let two = marks(&rt, rt.alloc(), &[0, 1]);
     let head = b"\x1D(k\x13\x001P0AB";
-    let data = bytes_of(&rt, rt.alloc(), (b"AB", 0, 0, &two[..14]));
+    let taken = two.get(..14).expect(&rt, "marks");
+    let data = bytes_of(&rt, rt.alloc(), (b"AB", 0, 0, taken));
     let stream = bytes_of(&rt, rt.alloc(), (head, 0, 0, &two));
     let commands = [store(&rt, rt.alloc(), &data)];
     let why = FaultReason::UnknownByte;
@@ -268,7 +269,8 @@ fn lost_bytes_leave_a_fault(rt: HostRuntime) {
 fn lost_bytes_leave_text(rt: HostRuntime) {
     let three = marks(&rt, rt.alloc(), &[0, 1, 2]);
     let head = b"\x1D(k\x19\x001P0AB";
-    let data = bytes_of(&rt, rt.alloc(), (b"AB", 0, 0, &three[..20]));
+    let taken = three.get(..20).expect(&rt, "marks");
+    let data = bytes_of(&rt, rt.alloc(), (b"AB", 0, 0, taken));
     let stream = bytes_of(&rt, rt.alloc(), (head, 0, 0, &three));
     let commands = [
         store(&rt, rt.alloc(), &data),
