@@ -7,6 +7,8 @@ use escpos_jobs::task::Task;
 use std::alloc::Global;
 use std::process::Abort;
 
+mod qr_codes;
+
 // The style sheet, and the clip of rasters.
 const STYLES: &str = "\
 <style type=\"text/css\">
