@@ -6,3 +6,4 @@ pub mod Drawn
 pub mod Pen
 pub mod Shown
 pub mod Reader
+pub mod QrSizes

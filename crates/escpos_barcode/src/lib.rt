@@ -13,6 +13,7 @@ mod code128;
 mod itf;
 pub mod laws;
 mod pen;
+mod qr;
 mod spaced;
 mod tables;
 mod text;
@@ -20,4 +21,5 @@ mod upc;
 
 pub use barcode::{interpretation, runs};
 pub use pen::{LINE_DOTS, MOST_RUNS, Runs, wide_dots};
+pub use qr::qr_modules;
 pub use text::{Interpretation, MOST_SHOWN};

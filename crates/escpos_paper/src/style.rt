@@ -70,15 +70,16 @@ impl Style {
         ensures value { result ≡ same_style self.now other.now }
         ensures same { IsTrue result ↔ (self.now ≡ other.now) }
     {
-        self.table == other.table
-            && self.font == other.font
-            && self.width == other.width
-            && self.height == other.height
-            && self.bold == other.bold
-            && self.underline == other.underline
-            && self.strike == other.strike
-            && self.reverse == other.reverse
-            && self.character_set == other.character_set
+        // Not `&&`: so the compiler compares eight bytes at once, and this is asked for each character.
+        (self.table == other.table)
+            & (self.font == other.font)
+            & (self.width == other.width)
+            & (self.height == other.height)
+            & (self.bold == other.bold)
+            & (self.underline == other.underline)
+            & (self.strike == other.strike)
+            & (self.reverse == other.reverse)
+            & (self.character_set == other.character_set)
     }
 
     // The style after ESC !, which sets font, size, emphasis and underline.

@@ -1,6 +1,6 @@
 -- Places down the paper are sums of what the items before them take.
 use Rattle.std.proofs.Common.{◌≡◌, ℕ, zero, suc, ◌+◌, ◌-◌, ◌*◌, ◌^◌, ◌<◌, ◌≤◌, List, [], ◌∷◌, ◌++◌, length, refl, sym, ◌∙◌, ap, arith, None, Some, false, cond}
-use Rattle.std.specs.Prelude.{◌==◌, min}
+use Rattle.std.specs.Prelude.{◌==◌, min, Option}
 use Rattle.std.specs.List.{AllByRecursion}
 use Rattle.std.proofs.lemmas.Bool.Decides.{nat_tests}
 use Rattle.std.proofs.Math.Nat.{mul-le-mul}
@@ -12,9 +12,12 @@ use Rattle.escpos_command.specs.declared.parameter.choices.Scale.{Scale}
 use Rattle.escpos_command.specs.declared.parameter.choices.Scale.TheVariants as scale
 use Rattle.escpos_paper.specs.declared.cell.Cell.{Cell}
 use Rattle.escpos_paper.specs.declared.item.Item.{Item}
-use Rattle.escpos_paper.specs.declared.item.Item.TheVariants.{Row, Feed, FeedUnits, Bars, Raster, Cut}
+use Rattle.escpos_paper.specs.declared.item.Item.TheVariants.{Row, Feed, FeedUnits, Bars, Raster, Qr, Cut}
 use Rattle.escpos_picture.specs.declared.pen.TheConstants.{DEEPEST, MARGIN}
 use Rattle.escpos_picture.specs.Places.{top, place_after, place_after_all, depth, row_above, face_height, cell_height, tallest, text_lines, downwards, feed_depth}
+use Rattle.escpos_paper.specs.declared.cell.TheConstants.{LINE_DOTS}
+use Rattle.escpos_barcode.specs.QrSizes.{qr_modules}
+use Rattle.escpos_picture.specs.QrSides.{dots_of, height_of}
 use Rattle.escpos_picture.specs.Depths.{depths, row_above_next, HasSizes}
 use Rattle.escpos_picture.specs.Document.{paper_height}
 use Rattle.escpos_picture.specs.Groups.{drawing, drawing_at, drawings}
@@ -103,6 +106,10 @@ feed_small line above (suc n) shallow few =
     let others = lines_small line (suc n - 1) shallow (omega arith) in
     omega arith
 
+side_small : (size : ℕ) (modules : Option ℕ) → height_of (dots_of size modules) ≤ LINE_DOTS
+side_small size None = omega arith
+side_small size (Some n) = grind (arith, nat_tests)
+
 depth_small : (above : ℕ) (item : Item) → HasSizes item → depth above item ≤ 524280
 depth_small above (Row align upside_down cells) small = let row = tallest_small cells small in omega arith
 depth_small above (Feed n None) small = let feed = feed_small 120 above n (omega arith) small in omega arith
@@ -110,6 +117,7 @@ depth_small above (Feed n (Some units)) small = let feed = feed_small (2 * units
 depth_small above (FeedUnits n) small = omega arith
 depth_small above (Bars align symbology height width place face content added) small = let texts = texts_small place face in omega arith
 depth_small above (Raster align s x y dots) small = let rows = rows_small s y small in omega arith
+depth_small above (Qr align model size level content) small = let side = side_small size (qr_modules level content) in omega arith
 depth_small above (Cut partial None) small = omega arith
 depth_small above (Cut partial (Some n)) small = omega arith
 

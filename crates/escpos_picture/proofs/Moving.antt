@@ -6,7 +6,7 @@ use Rattle.escpos_command.specs.declared.parameter.choices.Alignment.{Alignment}
 use Rattle.escpos_command.specs.declared.parameter.choices.Alignment.TheVariants.{Left}
 use Rattle.escpos_command.specs.declared.parameter.choices.Scale.{Scale}
 use Rattle.escpos_paper.specs.declared.cell.Cell.{Cell}
-use Rattle.escpos_paper.specs.declared.item.Item.TheVariants.{Row, Bars, Raster, Cut}
+use Rattle.escpos_paper.specs.declared.item.Item.TheVariants.{Row, Bars, Raster, Qr, Cut}
 use Rattle.escpos_paper.specs.declared.style.BarStyle.{BarStyle}
 use Rattle.escpos_paper.specs.Cells.{dots}
 use Rattle.escpos_barcode.specs.Drawn.{drawn, with_added}
@@ -16,6 +16,11 @@ use Rattle.escpos_picture.specs.Places.{tallest, indent, across, moved}
 use Rattle.escpos_picture.specs.Rows.{runs, runs_drawing, characters_text}
 use Rattle.escpos_picture.specs.Spans.{line_text}
 use Rattle.escpos_picture.specs.Rasters.{rows_of, rows_text}
+use Rattle.escpos_command.specs.declared.parameter.choices.Correction.{Correction}
+use Rattle.escpos_paper.specs.declared.cell.TheConstants.{LINE_DOTS}
+use Rattle.escpos_picture.specs.declared.qr.TheConstants.{BOX_HEIGHT}
+use Rattle.escpos_picture.specs.QrSides.{qr_side}
+use Rattle.escpos_picture.specs.QrItems.{qr_group, qr_frame, qr_text, qr_start}
 use Rattle.escpos_picture.specs.BarItems.{bars_group, bars_frame, bars_end, label_above, bar_spans, bars_top, box_frame, box_text, bars_or_box}
 use Rattle.escpos_picture.specs.Groups.{base_line, row_start, row_turn, scale_text, raster_start, drawing_at, cut_place, cut_line}
 use Rattle.escpos_picture.specs.Moves.{MovesDown}
@@ -84,6 +89,22 @@ raster_start_moves align scale x =
 pub rasters_move : (align : Alignment) (scale : Scale) (x y : ℕ) (dots : List ℕ) → MovesDown 0 (λ down. drawing_at down (Raster align scale x y dots))
 rasters_move align scale x y dots =
     further 0 _ (codes "</g></g>\n") (further 0 _ (rows_text 0 (rows_of x y dots)) (raster_start_moves align scale x))
+
+qr_group_moves : (align : Alignment) (width : ℕ) → MovesDown 0 (λ down. qr_group down align width)
+unfolding qr_group
+qr_group_moves align width =
+    further 0 _ (codes ")\">\n") (placed_here (codes "<g class=\"qr\" transform=\"translate(") (indent align width))
+
+qr_start_moves : (align : Alignment) (side : Option ℕ) (count : ℕ) → MovesDown 0 (λ down. qr_start down align side count)
+qr_start_moves align None count =
+    further 0 _ (box_text 0 BOX_HEIGHT count) (further 0 _ (box_frame 0 BOX_HEIGHT) (qr_group_moves Left LINE_DOTS))
+qr_start_moves align (Some side) count =
+    further 0 _ (qr_text side count) (further 0 _ (qr_frame side) (qr_group_moves align side))
+
+pub qr_codes_move : (align : Alignment) (model size : ℕ) (level : Correction) (content : List ℕ)
+    → MovesDown 0 (λ down. drawing_at down (Qr align model size level content))
+qr_codes_move align model size level content =
+    further 0 _ (codes "</text></svg>\n</g>\n") (further 0 _ (characters_text 0 content) (qr_start_moves align (qr_side size level content) (length content)))
 
 pub cuts_move : (partial : Bool) (feed : Option ℕ) → MovesDown (cut_place feed) (λ down. drawing_at down (Cut partial feed))
 cuts_move partial feed =

@@ -4,7 +4,7 @@ use Rattle.std.specs.Prelude.{ℕ, ◌+◌, ◌<◌, ⊤, List, [], ◌∷◌, N
 use Rattle.std.specs.List.{AllByRecursion}
 use Rattle.escpos_paper.specs.declared.cell.Cell.{Cell}
 use Rattle.escpos_paper.specs.declared.item.Item.{Item}
-use Rattle.escpos_paper.specs.declared.item.Item.TheVariants.{Row, Feed, FeedUnits, Bars, Raster, Cut}
+use Rattle.escpos_paper.specs.declared.item.Item.TheVariants.{Row, Feed, FeedUnits, Bars, Raster, Qr, Cut}
 use Rattle.escpos_paper.specs.declared.style.BarStyle.{BarStyle}
 use Rattle.escpos_picture.specs.Places.{depth, row_above, face_height}
 use Rattle.escpos_picture.specs.BarItems.{stands_below}
@@ -23,7 +23,8 @@ row_above_next above (item ∷ items) = row_above_next (row_above item) items
 abbrev pub bars_bottom : BarStyle → ℕ
 bars_bottom style = if stands_below style.place then face_height style.hri_font else 0
 
--- The sizes of an item are numbers that its fields can hold: two bytes for the rows of a raster, one byte for all others.
+-- The sizes of an item are numbers that its fields can hold: two bytes for the rows of a raster, one byte for all others. No
+-- QR code is higher than the line is wide.
 abbrev pub HasSizes : Item → Type 0
 HasSizes (Row align upside_down cells) = AllByRecursion (λ (x : Cell). x.style.height < 256) cells
 HasSizes (Feed n None) = n < 256
@@ -31,5 +32,6 @@ HasSizes (Feed n (Some units)) = (n < 256) × (units < 256)
 HasSizes (FeedUnits n) = n < 256
 HasSizes (Bars align symbology height width place face content added) = height < 256
 HasSizes (Raster align scale x y dots) = y < 65536
+HasSizes (Qr align model size level content) = ⊤
 HasSizes (Cut partial None) = ⊤
 HasSizes (Cut partial (Some n)) = n < 256

@@ -6,13 +6,14 @@ use Rattle.escpos_command.specs.declared.parameter.choices.Scale.{Scale}
 use Rattle.escpos_paper.specs.declared.cell.Cell.{Cell}
 use Rattle.escpos_paper.specs.declared.cell.TheConstants.{LINE_DOTS}
 use Rattle.escpos_paper.specs.declared.item.Item.{Item}
-use Rattle.escpos_paper.specs.declared.item.Item.TheVariants.{Row, Feed, FeedUnits, Bars, Raster, Cut}
+use Rattle.escpos_paper.specs.declared.item.Item.TheVariants.{Row, Feed, FeedUnits, Bars, Raster, Qr, Cut}
 use Rattle.escpos_paper.specs.Cells.{dots}
 use Rattle.escpos_picture.specs.Numbers.{quarters}
 use Rattle.escpos_picture.specs.Places.{Place, tallest, indent, across, downwards, place_after, moved}
 use Rattle.escpos_picture.specs.Rows.{runs, runs_drawing}
 use Rattle.escpos_picture.specs.Rasters.{rows_of, rows_text}
 use Rattle.escpos_picture.specs.BarItems.{bars_drawing}
+use Rattle.escpos_picture.specs.QrItems.{qr_drawing}
 use Rattle.escpos_picture.specs.declared.pen.TheConstants.{MARGIN}
 
 -- A row. Its place is the left end of its base line, three quarters of its height down. A row that is upside down is turned with
@@ -72,6 +73,7 @@ drawing_at down (FeedUnits n) = units_drawing
 drawing_at down (Bars align symbology height width hri_place face content added) =
     bars_drawing down align symbology (record { height = height; module_width = width; place = hri_place; hri_font = face }) content added
 drawing_at down (Raster align scale x y dots) = raster_drawing down align scale x y dots
+drawing_at down (Qr align model size level content) = qr_drawing down align size level content
 drawing_at down (Cut partial feed) = cut_drawing down partial feed
 
 -- The drawing of an item at a place.

@@ -2,6 +2,7 @@ pub mod Numbers
 pub mod CodeTables
 pub mod Characters
 pub mod Escaping
+pub mod QrSides
 pub mod Places
 pub mod Rows
 pub mod SpanBuffer
@@ -9,6 +10,7 @@ pub mod Spans
 pub mod ByteSpans
 pub mod Rasters
 pub mod BarItems
+pub mod QrItems
 pub mod Moves
 pub mod Depths
 pub mod Groups

@@ -11,9 +11,10 @@ use Rattle.escpos_command.specs.declared.parameter.choices.Scale.TheVariants as 
 use Rattle.escpos_paper.specs.declared.cell.Cell.{Cell}
 use Rattle.escpos_paper.specs.declared.cell.TheConstants.{LINE_DOTS}
 use Rattle.escpos_paper.specs.declared.item.Item.{Item}
-use Rattle.escpos_paper.specs.declared.item.Item.TheVariants.{Row, Feed, FeedUnits, Bars, Raster, Cut}
+use Rattle.escpos_paper.specs.declared.item.Item.TheVariants.{Row, Feed, FeedUnits, Bars, Raster, Qr, Cut}
 use Rattle.escpos_picture.specs.declared.pen.TheConstants.{DEEPEST, MARGIN}
 use Rattle.escpos_picture.specs.Numbers.{quarters}
+use Rattle.escpos_picture.specs.QrSides.{qr_height}
 
 -- Font A is 24 dots high and font B 17.
 abbrev pub face_height : FontFace → ℕ
@@ -66,6 +67,7 @@ depth above (Feed n spacing) = feed_depth (line_depth spacing) above n
 depth above (FeedUnits n) = 2 * n
 depth above (Bars align symbology height width place face content added) = 4 * (height + text_lines place * face_height face)
 depth above (Raster align scale x y dots) = 4 * (downwards scale * y)
+depth above (Qr align model size level content) = 4 * qr_height size level content
 depth above (Cut partial None) = 96
 depth above (Cut partial (Some n)) = 2 * n + 96
 

@@ -1,6 +1,7 @@
 //! Barcodes: bars between lines of text, or a box where no scanner would read the bars.
 
 ghost use Rattle.std.specs.Prelude.{◌≡◌, ◌+◌, ◌*◌, ◌≤◌, ◌++◌, length, sum, true, []};
+ghost use Rattle.escpos_command.specs.QrCodes.{most_qr_data};
 ghost use Rattle.escpos_io.specs.Giving.{IsGiven};
 ghost use Rattle.escpos_io.specs.Putting.{passage};
 ghost use Rattle.escpos_barcode.specs.Drawn.{with_added};
@@ -233,9 +234,9 @@ fn shown_len(content: &[u8], added: Option<u8>) -> usize
     }
 }
 
-// Appends the frame of a box.
+/// Appends the frame of a box.
 #[tactic(auto, unfolding(crate::specs::BarItems::box_frame))]
-fn append_box_frame(gather: &mut Gather, top: usize, height: usize)
+pub fn append_box_frame(gather: &mut Gather, top: usize, height: usize)
     requires room { length gather.old.kept + 192 ≤ GATHERED_BYTES }
     ensures kept { gather.new.kept ≡ gather.old.kept ++ box_frame top height }
     ensures same_count { gather.new.written ≡ gather.old.written }
@@ -251,10 +252,10 @@ fn append_box_frame(gather: &mut Gather, top: usize, height: usize)
     );
 }
 
-// Appends the texts of a box, up to its content of so many characters.
+/// Appends the texts of a box, up to its content of so many characters.
 #[tactic(auto, unfolding(crate::specs::BarItems::box_text))]
-fn append_box_text(gather: &mut Gather, top: usize, height: usize, count: usize)
-    requires few { count ≤ 256 }
+pub fn append_box_text(gather: &mut Gather, top: usize, height: usize, count: usize)
+    requires few { count ≤ most_qr_data }
     requires room { length gather.old.kept + 384 ≤ GATHERED_BYTES }
     ensures kept { gather.new.kept ≡ gather.old.kept ++ box_text top height count }
     ensures same_count { gather.new.written ≡ gather.old.written }

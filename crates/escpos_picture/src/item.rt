@@ -9,6 +9,7 @@ ghost use Rattle.escpos_picture.specs.Groups.{drawing, drawings, drawing_at, row
 use crate::bars::{Symbol, put_bars};
 use crate::cut::{CUT_BYTES, append_cut};
 use crate::pen::{DEEPEST, Pen};
+use crate::qr::put_qr;
 use crate::raster::{Frame, put_raster};
 use crate::row::{CELL_BYTES, ROW_BYTES, append_row};
 use escpos_command::Alignment;
@@ -113,6 +114,21 @@ fn put_drawing<W: ByteOut>(
             };
             put_raster(gather, &frame, dots, down, writer)
         }
+        Item::Qr {
+            align,
+            size,
+            level,
+            content,
+            ..
+        } => put_qr(
+            gather,
+            *align,
+            *size,
+            *level,
+            content.as_slice(),
+            down,
+            writer,
+        ),
         Item::Cut { partial, feed } => put_cut(gather, *partial, *feed, down, writer),
     }
 }

@@ -5,11 +5,12 @@ ghost use Rattle.std.specs.Prelude.{◌≡◌, ◌≤◌, ◌+◌, ◌-◌, ◌*
 ghost use Rattle.std.specs.List.{AllByRecursion};
 ghost use Rattle.escpos_command.specs.declared.bars.Symbology.{Symbology};
 ghost use Rattle.escpos_command.specs.declared.parameter.choices.Alignment.{Alignment};
+ghost use Rattle.escpos_command.specs.declared.parameter.choices.Correction.{Correction};
 ghost use Rattle.escpos_command.specs.declared.parameter.choices.Scale.{Scale};
 ghost use Rattle.escpos_paper.specs.declared.cell.Cell.{Cell};
 ghost use Rattle.escpos_paper.specs.declared.cell.TheConstants.{LINE_DOTS};
 ghost use Rattle.escpos_paper.specs.declared.item.Item.{Item};
-ghost use Rattle.escpos_paper.specs.declared.item.Item.TheVariants.{Row, Bars, Raster, Cut};
+ghost use Rattle.escpos_paper.specs.declared.item.Item.TheVariants.{Row, Bars, Raster, Qr, Cut};
 ghost use Rattle.escpos_paper.specs.declared.style.BarStyle.{BarStyle};
 ghost use Rattle.escpos_picture.specs.declared.pen.TheConstants.{DEEPEST, MARGIN};
 ghost use Rattle.escpos_picture.specs.BarItems.{stands_above, stands_below, bars_top, bar_dots, bar_spans};
@@ -19,6 +20,7 @@ ghost use Rattle.escpos_picture.specs.Places.{Place, top, place_after_all, depth
 ghost use Rattle.escpos_picture.specs.Escaping.{IsEscaped, utf8_of};
 ghost use Rattle.escpos_picture.specs.Groups.{drawings, drawing_at, base_line, row_start, cut_place};
 ghost use Rattle.escpos_picture.specs.Moves.{MovesDown};
+ghost use Rattle.escpos_picture.specs.QrSides.{qr_height};
 ghost use Rattle.escpos_picture.specs.Rasters.{rows_of};
 ghost use Rattle.escpos_picture.specs.Rows.{characters_text};
 ghost use Rattle.escpos_picture.specs.Spans.{row_spans, covered, black_columns, row_dots};
@@ -51,7 +53,7 @@ pub fn items_stand_in_order()
 /// quarter, where its underline, at most 2 dots thick, ends too. In a row that is upside down the base line is a quarter down, each
 /// cell reaches above it by a quarter and below it by three, and the row goes from its start to the left, as far from the
 /// right end of the line as it otherwise is from the left one. The lines of a raster, the bars of a barcode with its lines of text,
-/// and a cut fill their depth exactly. And what is no wider than the line ends within it.
+/// the box of a QR code and a cut fill their depth exactly. And what is no wider than the line ends within it.
 pub fn items_stay_within()
     ensures rows_within { (above : ℕ) (align : Alignment) (upside_down : Bool) (cells : List Cell) → AllByRecursion (λ (x : Cell).
         (base_line upside_down (cell_height x) ≤ base_line upside_down (tallest cells))
@@ -65,6 +67,8 @@ pub fn items_stay_within()
         depth above (Bars align symbology style.height style.module_width style.place style.hri_font content added) }
     ensures labels_within { (style : BarStyle) → (IsTrue (stands_above style.place) → bars_top style ≡ face_height style.hri_font)
         × (IsTrue (stands_below style.place) → bars_bottom style ≡ face_height style.hri_font) }
+    ensures codes_within { (above : ℕ) (align : Alignment) (model size : ℕ) (level : Correction) (content : List ℕ) →
+        4 * qr_height size level content ≡ depth above (Qr align model size level content) }
     ensures cuts_within { (above : ℕ) (partial : Bool) (feed : Option ℕ) → cut_place feed + 4 * 24 ≡ depth above (Cut partial feed) }
     ensures across { (align : Alignment) (width : ℕ) → width ≤ LINE_DOTS → indent align width + width ≤ LINE_DOTS }
     ensures turned { (align : Alignment) (width : ℕ) → width ≤ LINE_DOTS →
@@ -94,5 +98,7 @@ pub fn items_move()
     ensures bars { (align : Alignment) (symbology : Symbology) (style : BarStyle) (content : List ℕ) (added : Option ℕ) →
         MovesDown 0 (λ down. drawing_at down (Bars align symbology style.height style.module_width style.place style.hri_font content added)) }
     ensures rasters { (align : Alignment) (scale : Scale) (x y : ℕ) (dots : List ℕ) → MovesDown 0 (λ down. drawing_at down (Raster align scale x y dots)) }
+    ensures qr_codes { (align : Alignment) (model size : ℕ) (level : Correction) (content : List ℕ) →
+        MovesDown 0 (λ down. drawing_at down (Qr align model size level content)) }
     ensures cuts { (partial : Bool) (feed : Option ℕ) → MovesDown (cut_place feed) (λ down. drawing_at down (Cut partial feed)) }
 {}

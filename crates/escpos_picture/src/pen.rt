@@ -4,6 +4,7 @@ ghost use Rattle.std.specs.Prelude.{◌≡◌, ◌*◌, ◌≤◌};
 ghost use Rattle.escpos_paper.specs.Cells.{face_dots};
 ghost use Rattle.escpos_picture.specs.Places.{Place, top, place_after, place_after_all, depth, row_above, face_height, cell_height, tallest, text_lines, across, downwards, line_depth, feed_depth, indent};
 
+use crate::qr::qr_height;
 use escpos_command::{Alignment, FontFace, HriPosition, Scale};
 use escpos_paper::{Cell, Item, LINE_DOTS};
 use std::marker::Model;
@@ -94,6 +95,12 @@ fn depth(above: usize, item: &Item) -> usize
             ..
         } => 4 * (usize::from(*height) + text_lines(*place) * face_height(*hri_font)),
         Item::Raster { scale, y, .. } => 4 * (downwards(*scale) * usize::from(*y)),
+        Item::Qr {
+            size,
+            level,
+            content,
+            ..
+        } => 4 * qr_height(*size, *level, content.as_slice()),
         Item::Cut { feed, .. } => {
             if let Some(units) = feed {
                 2 * usize::from(*units) + 96

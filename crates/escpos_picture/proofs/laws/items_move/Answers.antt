@@ -1,4 +1,4 @@
-use Rattle.escpos_picture.proofs.Moving.{rows_move, bars_move, rasters_move, cuts_move}
+use Rattle.escpos_picture.proofs.Moving.{rows_move, bars_move, rasters_move, qr_codes_move, cuts_move}
 use Rattle.escpos_picture.proofs.laws.items_move.Goals as goal
 
 pub returns-clause-rows : goal.returns-clause-rows
@@ -12,3 +12,6 @@ returns-clause-rasters c = rasters_move
 
 pub returns-clause-cuts : goal.returns-clause-cuts
 returns-clause-cuts c = cuts_move
+
+pub returns-clause-qr_codes : goal.returns-clause-qr_codes
+returns-clause-qr_codes c = qr_codes_move

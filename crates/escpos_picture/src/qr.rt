@@ -1,0 +1,177 @@
+//! QR codes: a box as large as the code, with its content in it.
+
+ghost use Rattle.std.specs.Prelude.{◌≡◌, ◌+◌, ◌≤◌, ◌++◌, IfSome, length};
+ghost use Rattle.escpos_command.specs.QrCodes.{most_qr_data};
+ghost use Rattle.escpos_io.specs.Giving.{IsGiven};
+ghost use Rattle.escpos_io.specs.Putting.{passage};
+ghost use Rattle.escpos_picture.specs.Rows.{characters_text};
+ghost use Rattle.escpos_picture.specs.QrItems.{qr_group, qr_frame, qr_text, qr_start, qr_drawing};
+ghost use Rattle.escpos_picture.specs.QrSides.{qr_side, qr_height};
+
+use crate::bars::{append_box_frame, append_box_text};
+use crate::characters::{CHARACTER_BYTES, append_byte};
+use crate::numbers::{append_between, append_place};
+use crate::pen::{DEEPEST, indent};
+use escpos_barcode::qr_modules;
+use escpos_command::{Alignment, Correction};
+use escpos_io::{ByteOut, Device, GATHERED_BYTES, Gather, append_number};
+use escpos_paper::LINE_DOTS;
+
+/// The height of the box of a QR code that a printer would not print, in dots.
+pub const BOX_HEIGHT: usize = 48;
+
+const _: () = prove!(BOX_HEIGHT == 48);
+
+/// The side of the smallest QR code that holds a content, in dots; `None` where there is none that fits on the line.
+fn qr_side(size: u8, level: Correction, content: &[u8]) -> Option<usize>
+    requires { length content.now ≤ most_qr_data }
+    ensures side { result ≡ qr_side size level content.now }
+    ensures small { IfSome result (λ side. side ≤ LINE_DOTS) }
+{
+    let side = usize::from(size) * qr_modules(level, content)?;
+    if side <= LINE_DOTS { Some(side) } else { None }
+}
+
+/// How high a QR code is drawn, in dots.
+pub fn qr_height(size: u8, level: Correction, content: &[u8]) -> usize
+    requires { length content.now ≤ most_qr_data }
+    ensures height { result ≡ qr_height size level content.now }
+    ensures small { result ≤ LINE_DOTS }
+{
+    match qr_side(size, level, content) {
+        Some(side) => side,
+        None => BOX_HEIGHT,
+    }
+}
+
+/// Gives the drawing of a QR code whose upper edge is this many quarters of a dot down the paper.
+///
+/// On `Err` the sink has failed, and took exactly the first `written` of all bytes ever given to the gather, as long as these are
+/// few enough to be counted.
+pub fn put_qr<W: ByteOut>(
+    gather: &mut Gather,
+    align: Alignment,
+    size: u8,
+    level: Correction,
+    content: &[u8],
+    down: usize,
+    writer: &mut W,
+) -> Result<(), Device>
+    requires few { length content.now ≤ most_qr_data }
+    requires small { down ≤ DEEPEST }
+    ensures { IsGiven result (passage (W.written writer.old) (W.written writer.new) (W.failed writer.old) (W.failed writer.new))
+        gather.old gather.new (qr_drawing down align size level content.now) }
+{
+    let side = qr_side(size, level, content);
+    gather.room(START_BYTES, writer)?;
+    append_start(gather, align, side, content.len(), down);
+    put_characters(gather, content, writer)?;
+    gather.put(b"</text></svg>\n</g>\n", writer)
+}
+
+// The most bytes that come before the content.
+const START_BYTES: usize = 768;
+
+const _: () = prove!(START_BYTES == 768);
+
+// Appends all that comes before a content of so many characters.
+fn append_start(
+    gather: &mut Gather,
+    align: Alignment,
+    side: Option<usize>,
+    count: usize,
+    down: usize,
+)
+    requires narrow { IfSome side (λ side. side ≤ LINE_DOTS) }
+    requires few { count ≤ most_qr_data }
+    requires small { down ≤ DEEPEST }
+    requires room { length gather.old.kept + START_BYTES ≤ GATHERED_BYTES }
+    ensures kept { gather.new.kept ≡ gather.old.kept ++ qr_start down align side count }
+    ensures same_count { gather.new.written ≡ gather.old.written }
+{
+    match side {
+        Some(side) => {
+            append_group(gather, align, side, down);
+            append_frame(gather, side);
+            append_text_tag(gather, side, count);
+        }
+        None => {
+            append_group(gather, Alignment::Left, LINE_DOTS, down);
+            append_box_frame(gather, 0, BOX_HEIGHT);
+            append_box_text(gather, 0, BOX_HEIGHT, count);
+        }
+    }
+}
+
+// Appends the tag of the group.
+#[tactic(auto, unfolding(crate::specs::QrItems::qr_group))]
+fn append_group(gather: &mut Gather, align: Alignment, width: usize, down: usize)
+    requires small { down ≤ DEEPEST }
+    requires room { length gather.old.kept + 96 ≤ GATHERED_BYTES }
+    ensures kept { gather.new.kept ≡ gather.old.kept ++ qr_group down align width }
+    ensures same_count { gather.new.written ≡ gather.old.written }
+    ensures short { length gather.new.kept ≤ length gather.old.kept + 96 }
+{
+    gather.extend(b"<g class=\"qr\" transform=\"translate(");
+    append_place(gather, indent(align, width), down);
+    gather.extend(b")\">\n");
+}
+
+// Appends the frame of a box.
+#[tactic(auto, unfolding(crate::specs::QrItems::qr_frame))]
+fn append_frame(gather: &mut Gather, side: usize)
+    requires room { length gather.old.kept + 192 ≤ GATHERED_BYTES }
+    ensures kept { gather.new.kept ≡ gather.old.kept ++ qr_frame side }
+    ensures same_count { gather.new.written ≡ gather.old.written }
+    ensures short { length gather.new.kept ≤ length gather.old.kept + 192 }
+{
+    append_between(gather, b"<svg width=\"", side, b"\" height=\"");
+    append_number(gather, side);
+    append_between(
+        gather,
+        b"\"><rect class=\"box\" width=\"",
+        side,
+        b"\" height=\"",
+    );
+    append_between(gather, b"", side, b"\"/></svg>\n");
+}
+
+// Appends the tags before a content of so many characters.
+#[tactic(auto, unfolding(crate::specs::QrItems::qr_text))]
+fn append_text_tag(gather: &mut Gather, side: usize, count: usize)
+    requires few { count ≤ most_qr_data }
+    requires room { length gather.old.kept + 256 ≤ GATHERED_BYTES }
+    ensures kept { gather.new.kept ≡ gather.old.kept ++ qr_text side count }
+    ensures same_count { gather.new.written ≡ gather.old.written }
+    ensures short { length gather.new.kept ≤ length gather.old.kept + 256 }
+{
+    append_between(gather, b"<svg width=\"", side, b"\" height=\"");
+    append_between(
+        gather,
+        b"",
+        side,
+        b"\" viewBox=\"0 0 512 512\"><text class=\"middle\" x=\"256\" y=\"262\" textLength=\"",
+    );
+    append_between(
+        gather,
+        b"",
+        (12 * count).min(496),
+        b"\" lengthAdjust=\"spacingAndGlyphs\">",
+    );
+}
+
+// Gives the characters of a content, drawn by code table 0.
+fn put_characters<W: ByteOut>(
+    gather: &mut Gather,
+    content: &[u8],
+    writer: &mut W,
+) -> Result<(), Device>
+    ensures { IsGiven result (passage (W.written writer.old) (W.written writer.new) (W.failed writer.old) (W.failed writer.new))
+        gather.old gather.new (characters_text 0 content.now) }
+{
+    for byte in content {
+        gather.room(CHARACTER_BYTES, writer)?;
+        append_byte(gather, 0, *byte);
+    }
+    Ok(())
+}
