@@ -146,31 +146,44 @@ const LARGEST: [Largest; 28] = [
 ];
 
 // The stream that prints so many of a character at a level, in modules of a dot.
-fn stream_of(rt: &impl Abort, alloc: Global, level: &str, character: &str, count: usize) -> Vec<u8> {
+fn stream_of(
+    rt: &impl Abort,
+    alloc: Global,
+    level: &str,
+    character: &str,
+    count: usize,
+) -> Vec<u8> {
     let length = u16::try_from(count.saturating_add(3)).expect(rt, "a length");
     let [low, high] = length.to_le_bytes();
     let byte = character.as_bytes()[0];
-    let head = format!(in alloc; "1D286B03003143011D286B03003145{level}1D286B{low:02X}{high:02X}315030").expect(rt, "memory");
+    let head = format!(in alloc;
+        "1D286B03003143011D286B03003145{level}1D286B{low:02X}{high:02X}315030"
+    ).expect(rt, "memory");
     let digits = format!(in alloc; "{byte:02X}").expect(rt, "memory");
     joined(rt, alloc, [&head, &digits, "1D286B0300315130"], count)
 }
 
 // So many of a character are drawn in a box of this side, or in one of two lines of text where there is none.
-fn is_boxed(
-    rt: &impl Abort,
-    alloc: Global,
-    (level, character, count, side): Largest,
-) {
+fn is_boxed(rt: &impl Abort, alloc: Global, (level, character, count, side): Largest) {
     let stream = stream_of(rt, alloc, level, character, count);
     let length = count.saturating_mul(12).min(496);
     let front = if side > 177 {
-        format!(in alloc; "<g class=\"qr\" transform=\"translate(32,32)\">\n<svg y=\"0\" width=\"512\" height=\"48\"><rect class=\"box\" width=\"512\" height=\"48\"/></svg>\n<svg y=\"0\" width=\"512\" height=\"48\" viewBox=\"0 0 512 48\"><text class=\"middle\" x=\"256\" y=\"18\">not scannable</text><text class=\"middle\" x=\"256\" y=\"42\" textLength=\"{length}\" lengthAdjust=\"spacingAndGlyphs\">").expect(rt, "memory")
+        format!(in alloc;
+            "<g class=\"qr\" transform=\"translate(32,32)\">\n<svg y=\"0\" width=\"512\" height=\"48\"><rect class=\"box\" width=\"512\" height=\"48\"/></svg>\n<svg y=\"0\" width=\"512\" height=\"48\" viewBox=\"0 0 512 48\"><text class=\"middle\" x=\"256\" y=\"18\">not scannable</text><text class=\"middle\" x=\"256\" y=\"42\" textLength=\"{length}\" lengthAdjust=\"spacingAndGlyphs\">"
+        ).expect(rt, "memory")
     } else {
-        format!(in alloc; "<g class=\"qr\" transform=\"translate(32,32)\">\n<svg width=\"{side}\" height=\"{side}\"><rect class=\"box\" width=\"{side}\" height=\"{side}\"/></svg>\n<svg width=\"{side}\" height=\"{side}\" viewBox=\"0 0 512 512\"><text class=\"middle\" x=\"256\" y=\"262\" textLength=\"{length}\" lengthAdjust=\"spacingAndGlyphs\">").expect(rt, "memory")
+        format!(in alloc;
+            "<g class=\"qr\" transform=\"translate(32,32)\">\n<svg width=\"{side}\" height=\"{side}\"><rect class=\"box\" width=\"{side}\" height=\"{side}\"/></svg>\n<svg width=\"{side}\" height=\"{side}\" viewBox=\"0 0 512 512\"><text class=\"middle\" x=\"256\" y=\"262\" textLength=\"{length}\" lengthAdjust=\"spacingAndGlyphs\">"
+        ).expect(rt, "memory")
     };
     let depth = if side > 177 { 48 } else { side };
     let height = format!(in alloc; "{}", depth.saturating_add(64)).expect(rt, "memory");
-    let body = joined(rt, alloc, [&front, character, "</text></svg>\n</g>\n"], count);
+    let body = joined(
+        rt,
+        alloc,
+        [&front, character, "</text></svg>\n</g>\n"],
+        count,
+    );
     let body = str::from_utf8(&body).expect(rt, "text");
     let wanted = document(rt, alloc, &height, &height, body);
     prints(rt, alloc, Task::Draw, &stream, (&wanted, Status::Good));
