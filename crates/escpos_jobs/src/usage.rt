@@ -7,7 +7,7 @@ use crate::status::Status;
 use escpos_io::{ByteOut, Device, put_all};
 
 /// The text for arguments that ask for the version: that of the program, and the profile of commands that it knows.
-pub const VERSION: &str = "escpos_cli 1.0.0, profile 2\n";
+pub const VERSION: &str = "escpos_cli 1.0.0, profile 3\n";
 
 /// The text for arguments that name no task.
 pub const USAGE: &str = "\
@@ -49,9 +49,8 @@ line `memory` says that the program ran out of memory.
       or `fault K NUMBER NAME`, where the byte at place K is refused. A barcode
       with a wrong check digit is followed by a line `note`.
 
-      Taken are characters, LF, CR, DLE EOT, ESC with ! - 2 3 @ E G J M R a d p
-      t or {, GS with ! B H V b f h k or w, GS ( H, function 48, and GS v 0. Any
-      other command is refused.
+      Taken are characters and the commands that the table below says; any other
+      command is refused at its exact byte.
 
           $ escpos_cli check --raw < capture.bin
           $ echo '1B 40 48 69 0A 1D 56 00' | escpos_cli check
@@ -62,10 +61,108 @@ line `memory` says that the program ran out of memory.
           5 cut 00
           end 8 pending 0
 
+      The commands of Epson's Reference by their first bytes, hexadecimal. What
+      is taken may still be refused at a parameter that it doesn't have; a byte
+      that isn't here is refused, too, below 20, or after 10, 1B, 1D or 1D 28.
+
+          09        HT      refused: tab stops
+          0A        LF      taken
+          0C        FF      refused: page mode
+          0D        CR      taken
+          10 04     DLE EOT taken
+          10 05     DLE ENQ refused: done ahead of its place in the stream
+          10 14     DLE DC4 refused: done ahead of its place in the stream
+          18        CAN     refused: page mode
+          1B 0C     ESC FF  refused: page mode
+          1B 20     ESC SP  refused: positions in the line
+          1B 21     ESC !   taken
+          1B 24     ESC $   refused: positions in the line
+          1B 25     ESC %   refused: characters that the host defines
+          1B 26     ESC &   refused: characters that the host defines
+          1B 28     ESC (   refused: the buzzer
+          1B 2A     ESC *   refused: an image in another form than GS v 0
+          1B 2D     ESC -   taken
+          1B 32     ESC 2   taken
+          1B 33     ESC 3   taken
+          1B 3C     ESC <   refused: the way of the print head
+          1B 3D     ESC =   refused: a choice of device
+          1B 3F     ESC ?   refused: characters that the host defines
+          1B 40     ESC @   taken
+          1B 44     ESC D   refused: tab stops
+          1B 45     ESC E   taken
+          1B 47     ESC G   taken
+          1B 4A     ESC J   taken
+          1B 4B     ESC K   refused: feeds backwards
+          1B 4C     ESC L   refused: page mode
+          1B 4D     ESC M   taken
+          1B 52     ESC R   taken
+          1B 53     ESC S   refused: page mode
+          1B 54     ESC T   refused: page mode
+          1B 55     ESC U   refused: the way of the print head
+          1B 56     ESC V   refused: turned characters
+          1B 57     ESC W   refused: page mode
+          1B 5C     ESC \\   refused: positions in the line
+          1B 61     ESC a   taken
+          1B 63     ESC c   refused: settings of the machine
+          1B 64     ESC d   taken
+          1B 65     ESC e   refused: feeds backwards
+          1B 69     ESC i   refused: an older form of a cut; GS V is taken
+          1B 6D     ESC m   refused: an older form of a cut; GS V is taken
+          1B 70     ESC p   taken
+          1B 72     ESC r   refused: a second colour
+          1B 74     ESC t   taken
+          1B 75     ESC u   refused: a status request; DLE EOT is taken
+          1B 76     ESC v   refused: a status request; DLE EOT is taken
+          1B 7B     ESC {   taken
+          1C        FS      refused: Kanji characters, images that are kept
+          1D 21     GS !    taken
+          1D 24     GS $    refused: page mode
+          1D 28 41  GS ( A  refused: a test print of the machine
+          1D 28 43  GS ( C  refused: memory of the machine
+          1D 28 44  GS ( D  refused: settings of the machine
+          1D 28 45  GS ( E  refused: settings of the machine
+          1D 28 48  GS ( H  taken: function 48
+          1D 28 4B  GS ( K  refused: settings of the machine
+          1D 28 4C  GS ( L  refused: an image in another form than GS v 0
+          1D 28 4D  GS ( M  refused: settings of the machine
+          1D 28 4E  GS ( N  refused: effects on characters
+          1D 28 50  GS ( P  refused: page mode
+          1D 28 51  GS ( Q  refused: page mode
+          1D 28 6B  GS ( k  taken: QR codes: functions 65, 67, 69, 80 and 81
+          1D 2A     GS *    refused: an image in another form than GS v 0
+          1D 2F     GS /    refused: an image in another form than GS v 0
+          1D 38     GS 8 L  refused: an image in another form than GS v 0
+          1D 3A     GS :    refused: macros
+          1D 42     GS B    taken
+          1D 43     GS C    refused: counters of the machine
+          1D 44     GS D    refused: images that the machine keeps
+          1D 48     GS H    taken
+          1D 49     GS I    refused: an answer that the line has no use for
+          1D 4C     GS L    refused: margins
+          1D 50     GS P    refused: other motion units
+          1D 51     GS Q    refused: an image in another form than GS v 0
+          1D 54     GS T    refused: positions in the line
+          1D 56     GS V    taken
+          1D 57     GS W    refused: margins
+          1D 5C     GS \\    refused: page mode
+          1D 5E     GS ^    refused: macros
+          1D 61     GS a    refused: answers that nobody has asked for
+          1D 62     GS b    taken
+          1D 63     GS c    refused: counters of the machine
+          1D 66     GS f    taken
+          1D 67     GS g    refused: counters of the machine
+          1D 68     GS h    taken
+          1D 6B     GS k    taken
+          1D 72     GS r    refused: a status request; DLE EOT is taken
+          1D 76 30  GS v 0  taken
+          1D 77     GS w    taken
+          1D 7A     GS z    refused: settings of the machine
+          1D 7C     GS |    refused: settings of the machine
+
   escpos_cli render [--raw]
       Writes the paper that the commands print, an item a line: rows of
-      characters with their alignment and styles, barcodes, rasters, feeds of
-      lines (`feed`) and of motion units (`units`), and cuts. After a
+      characters with their alignment and styles, barcodes, rasters, QR codes,
+      feeds of lines (`feed`) and of motion units (`units`), and cuts. After a
       refused byte or a command that isn't complete the last line of `check`
       follows.
 
@@ -88,6 +185,8 @@ line `memory` says that the program ran out of memory.
       height and module width in dots, where its text stands and in which font,
       and its content with the check digit, if that had to be added. A raster is
       `raster ALIGN SCALE X Y DOTS`: X bytes in each of Y rows, in hexadecimal.
+      A QR code is `qr ALIGN MODEL SIZE LEVEL CONTENT`: model 1 or 2, the dots
+      of a module, the level of error correction, and its content.
 
           $ echo '1D 6B 44 07 35 35 31 32 33 34 35' | escpos_cli render
           bars left ean8 162 3 none A 55123457
@@ -96,9 +195,10 @@ line `memory` says that the program ran out of memory.
       Draws the same paper as a picture, an SVG document that any browser shows:
       text that can be selected, the dots of rasters, and barcodes that a
       scanner reads. One that doesn't fit on the line, or that its symbology
-      can't spell, is a box with the words `not scannable`. After a refused byte
-      or a command that isn't complete the last line of `check` stands under the
-      paper.
+      can't spell, is a box with the words `not scannable`. A QR code is a box
+      of its size with its content in it; its modules aren't drawn. After a
+      refused byte or a command that isn't complete the last line of `check`
+      stands under the paper.
 
           $ escpos_cli draw --raw < capture.bin > receipt.svg
           $ echo '1B 40 48 69 0A 1D 56 00' | escpos_cli draw > receipt.svg
@@ -148,15 +248,20 @@ line `memory` says that the program ran out of memory.
                                      an image of x bytes, 1 to 128, in each of y
                                      rows, 1 to 4095; \"normal\", \"wide\", \"tall\"
                                      or \"both\"
+          {\"qr\":{\"content\":\"https://kola.example/7\",\"size\":4,\"level\":\"M\"}}
+                                     a QR code of 1 to 7089 bytes, with modules
+                                     of 1 to 16 dots and the level of error
+                                     correction \"L\", \"M\", \"Q\" or \"H\"
           {\"cut\":\"full\"}             a cut, \"full\" or \"partial\"
           {\"feed_cut\":{\"kind\":\"partial\",\"feed\":3}}
                                      the same after a feed of 0 to 255 units
 
       At the end no text may be left in the line, and none may stand in it at a
-      barcode, an image or a cut. Input that isn't a receipt gives one line,
-      `refused N NAME` or `refused N NAME PLACE`: 1 Empty, 3 TextLeft, 4 MidLine
-      (where PLACE is the command's), 5 NotJson, 6 BadShape, 7 ControlByte,
-      8 NotAscii (where PLACE is the entry's). Places are counted from 0.
+      barcode, an image, a QR code or a cut. Input that isn't a receipt gives
+      one line, `refused N NAME` or `refused N NAME PLACE`: 1 Empty, 3 TextLeft,
+      4 MidLine (where PLACE is the command's), 5 NotJson, 6 BadShape,
+      7 ControlByte, 8 NotAscii (where PLACE is the entry's). Places are counted
+      from 0.
 
   escpos_cli play
       Reads a script of what happens on a line between a host, as a till is, and

@@ -150,7 +150,7 @@ fn help_has_an_example_of_each_member(rt: HostRuntime) {
 
 #[test]
 fn version(rt: HostRuntime) {
-    assert!(&rt; VERSION == "escpos_cli 1.0.0, profile 2\n");
+    assert!(&rt; VERSION == "escpos_cli 1.0.0, profile 3\n");
 }
 
 // Help on a word prints this, and where there is no room for it the status says so.
