@@ -1,25 +1,24 @@
--- What a path draws is exactly the black dots.
+-- What paths draw is exactly the black dots.
 use Rattle.std.proofs.Common.{◌≡◌, ℕ, zero, suc, ◌+◌, List, [], ◌∷◌, ◌++◌, refl, sym, ◌∙◌, ap, append_assoc, arith, Bool, true, false, cond, length}
-use Rattle.std.specs.Prelude.{◌==◌, replicate}
+use Rattle.std.specs.Prelude.{◌==◌, replicate, map, Option, None, Some}
+use Rattle.std.proofs.lemmas.List.{map-append}
 use Rattle.std.proofs.lemmas.Bool.Decides.{nat_tests}
-use Rattle.escpos_picture.specs.Spans.{Span, span, with_dot, spans, byte_dots, row_dots, white_span, row_spans, covered, columns_from, black_columns}
+use Rattle.escpos_picture.specs.Spans.{Span, span, with_dot, spans, byte_dots, row_dots, white_span, row_spans, passed, covered, columns_from, black_columns}
+use Rattle.escpos_picture.specs.Steps.{Step, begin, along, Square, square, squares_in, Position, off_path, on_path, with_squares, covered_by, black_squares}
+use Rattle.escpos_picture.specs.Rasters.{begins_band, ends_before, row_end, row_steps, raster_steps}
 use Rattle.escpos_picture.specs.BarItems.{bar_dots, bar_spans}
+use Rattle.escpos_picture.proofs.RowSteps.{all_counted}
 
--- The dots of all spans
-abbrev all_dots : List Span → ℕ
-all_dots [] = 0
-all_dots (s ∷ ss) = s.dots + all_dots ss
-
-covered-append : (column : ℕ) (xs ys : List Span) → covered column (xs ++ ys) ≡ covered column xs ++ covered (column + all_dots xs) ys
+covered-append : (column : ℕ) (xs ys : List Span) → covered column (xs ++ ys) ≡ covered column xs ++ covered (column + passed xs) ys
 covered-append column [] ys =
     let same : column ≡ column + 0 = omega arith in
     ap (λ n. covered n ys) same
 covered-append column (s ∷ ss) ys =
     let first = cond s.is_black (columns_from column s.dots) [] in
-    let further : column + s.dots + all_dots ss ≡ column + (s.dots + all_dots ss) = omega arith in
+    let further : column + s.dots + passed ss ≡ column + (s.dots + passed ss) = omega arith in
     ap (λ t. first ++ t) (covered-append (column + s.dots) ss ys)
     ∙ ap (λ n. first ++ (covered (column + s.dots) ss ++ covered n ys)) further
-    ∙ sym (append_assoc first (covered (column + s.dots) ss) (covered (column + (s.dots + all_dots ss)) ys))
+    ∙ sym (append_assoc first (covered (column + s.dots) ss) (covered (column + (s.dots + passed ss)) ys))
 
 -- A black dot before spans blackens one column more.
 black_first : (column : ℕ) (is_black : Bool) (dots : ℕ) (ss : List Span)
@@ -51,21 +50,6 @@ covers : (column : ℕ) (dots : List Bool) → covered column (spans dots) ≡ b
 covers column [] = refl
 covers column (true ∷ dots) = black_covers column (spans dots) ∙ ap (λ cs. column ∷ cs) (covers (column + 1) dots)
 covers column (false ∷ dots) = white_covers column (spans dots) ∙ covers (column + 1) dots
-
--- Each dot is in a span.
-one_more : (dot is_black : Bool) (dots : ℕ) (ss : List Span) → all_dots (with_dot dot (span is_black dots ∷ ss)) ≡ suc (dots + all_dots ss)
-one_more true true dots ss = omega arith
-one_more true false dots ss = omega arith
-one_more false true dots ss = omega arith
-one_more false false dots ss = omega arith
-
-counted : (dot : Bool) (ss : List Span) → all_dots (with_dot dot ss) ≡ suc (all_dots ss)
-counted dot [] = refl
-counted dot (s ∷ ss) = one_more dot s.is_black s.dots ss
-
-all_counted : (dots : List Bool) → all_dots (spans dots) ≡ length dots
-all_counted [] = refl
-all_counted (dot ∷ dots) = counted dot (spans dots) ∙ ap (λ n. suc n) (all_counted dots)
 
 black_columns-append : (column : ℕ) (xs ys : List Bool) → black_columns column (xs ++ ys) ≡ black_columns column xs ++ black_columns (column + length xs) ys
 black_columns-append column [] ys =
@@ -99,11 +83,88 @@ row_covers column white (suc b ∷ bs) =
     ∙ ap (λ ss. covered column ss) (append_assoc (white_span white) own rest)
     ∙ whites_cover column white (own ++ rest)
     ∙ covered-append (column + white) own rest
-    ∙ ap (λ t. t ++ covered (column + white + all_dots own) rest) (covers (column + white) (byte_dots (suc b)))
+    ∙ ap (λ t. t ++ covered (column + white + passed own) rest) (covers (column + white) (byte_dots (suc b)))
     ∙ ap (λ n. black_columns (column + white) (byte_dots (suc b)) ++ covered (column + white + n) rest) (all_counted (byte_dots (suc b)))
     ∙ ap (λ t. black_columns (column + white) (byte_dots (suc b)) ++ t) (row_covers (column + white + 8) 0 bs)
     ∙ ap (λ n. black_columns (column + white) (byte_dots (suc b)) ++ black_columns n (row_dots bs)) none_before
     ∙ sym (black_columns-append (column + white) (byte_dots (suc b)) (row_dots bs))
+
+-- ## The squares of a raster
+
+none_more : (others : Option (List Square)) → with_squares [] others ≡ others
+none_more None = refl
+none_more (Some others) = refl
+
+both_more : (xs ys : List Square) (others : Option (List Square)) → with_squares xs (with_squares ys others) ≡ with_squares (xs ++ ys) others
+both_more xs ys None = refl
+both_more xs ys (Some others) = ap (λ t. Some t) (sym (append_assoc xs ys others))
+
+of_colour : (row : ℕ) (is_black : Bool) (columns : List ℕ) → cond is_black (squares_in row columns) [] ≡ squares_in row (cond is_black columns [])
+of_colour row true columns = refl
+of_colour row false columns = refl
+
+-- Along spans
+along_covers : (column row : ℕ) (ss : List Span) (steps : List Step)
+    → covered_by (on_path column row) (map (λ s. along s) ss ++ steps) ≡ with_squares (squares_in row (covered column ss)) (covered_by (on_path (column + passed ss) row) steps)
+along_covers column row [] steps =
+    let same : column ≡ column + 0 = omega arith in
+    ap (λ n. covered_by (on_path n row) steps) same ∙ sym (none_more (covered_by (on_path (column + 0) row) steps))
+along_covers column row (s ∷ ss) steps =
+    let own = cond s.is_black (columns_from column s.dots) [] in
+    let others = covered (column + s.dots) ss in
+    let rest : ℕ → Option (List Square) = λ n. covered_by (on_path n row) steps in
+    let further : column + s.dots + passed ss ≡ column + (s.dots + passed ss) = omega arith in
+    ap (λ t. with_squares t (covered_by (on_path (column + s.dots) row) (map (λ z. along z) ss ++ steps))) (of_colour row s.is_black (columns_from column s.dots))
+    ∙ ap (λ t. with_squares (squares_in row own) t) (along_covers (column + s.dots) row ss steps)
+    ∙ both_more (squares_in row own) (squares_in row others) (rest (column + s.dots + passed ss))
+    ∙ ap (λ t. with_squares t (rest (column + s.dots + passed ss))) (sym (map-append (λ (n : ℕ). square n row) own others))
+    ∙ ap (λ n. with_squares (squares_in row (own ++ others)) (rest n)) further
+
+-- A row with its end
+position_after : Bool → ℕ → Position
+position_after is_last n = cond is_last off_path (on_path 0 n)
+
+end_covers : (is_last : Bool) (dots row : ℕ) (steps : List Step)
+    → covered_by (on_path (0 + dots) row) (row_end is_last dots ∷ steps) ≡ covered_by (position_after is_last (row + 1)) steps
+unfolding position_after
+end_covers true dots row steps = refl
+end_covers false dots row steps =
+    let same : (dots == 0 + dots) ≡ true = grind (arith, nat_tests) in
+    ap (λ v. cond v (covered_by (on_path 0 (row + 1)) steps) None) same
+
+row_in_raster : (n : ℕ) (is_last : Bool) (row : List ℕ) (steps : List Step)
+    → covered_by (on_path 0 n) (row_steps is_last row ++ steps)
+    ≡ with_squares (squares_in n (black_columns 0 (row_dots row))) (covered_by (position_after is_last (n + 1)) steps)
+row_in_raster n is_last row steps =
+    let ss = row_spans 0 row in
+    ap (λ t. covered_by (on_path 0 n) t) (append_assoc (map (λ s. along s) ss) (row_end is_last (passed ss) ∷ []) steps)
+    ∙ along_covers 0 n ss (row_end is_last (passed ss) ∷ steps)
+    ∙ ap (λ t. with_squares (squares_in n (covered 0 ss)) t) (end_covers is_last (passed ss) n steps)
+    ∙ ap (λ t. with_squares (squares_in n t) (covered_by (position_after is_last (n + 1)) steps)) (row_covers 0 0 row)
+
+-- Where a band begins no path is begun.
+start_covers : (v : Bool) (n : ℕ) (own others : List Step)
+    → covered_by (position_after v n) (cond v (begin n ∷ []) [] ++ own ++ others) ≡ covered_by (on_path 0 n) (own ++ others)
+unfolding position_after
+start_covers true n own others = refl
+start_covers false n own others = refl
+
+rows_covered : (n : ℕ) (rows : List (List ℕ)) → covered_by (position_after (ends_before n rows) n) (raster_steps n rows) ≡ Some (black_squares n rows)
+unfolding position_after raster_steps
+rows_covered n [] = refl
+rows_covered n (row ∷ rows) =
+    let is_last = ends_before (n + 1) rows in
+    let below = raster_steps (n + 1) rows in
+    start_covers (begins_band n) n (row_steps is_last row) below
+    ∙ row_in_raster n is_last row below
+    ∙ ap (λ t. with_squares (squares_in n (black_columns 0 (row_dots row))) t) (rows_covered (n + 1) rows)
+
+pub raster_covers : (rows : List (List ℕ)) → covered_by off_path (raster_steps 0 rows) ≡ Some (black_squares 0 rows)
+unfolding position_after
+raster_covers [] = rows_covered 0 []
+raster_covers (row ∷ rows) = rows_covered 0 (row ∷ rows)
+
+-- ## The dots of bars
 
 -- The dots of a bar, and of a space.
 bar_covers : (column width : ℕ) (dots : List Bool) → black_columns column (replicate width true ++ dots) ≡ columns_from column width ++ black_columns (column + width) dots

@@ -1,5 +1,6 @@
 pub mod ByteTexts
 pub mod GivenSteps
+pub mod RowSteps
 pub mod RasterRows
 pub mod Boxes
 pub mod Turns

@@ -20,7 +20,8 @@ use Rattle.escpos_picture.specs.Numbers.{quarters}
 use Rattle.escpos_picture.specs.Characters.{byte_text}
 use Rattle.escpos_picture.specs.Places.{top, place_after_all, feed_depth}
 use Rattle.escpos_picture.specs.Spans.{span, spans, byte_dots}
-use Rattle.escpos_picture.specs.Rasters.{rows_of, row_text, rows_text}
+use Rattle.escpos_picture.specs.Steps.{begin, along, back, finish, square, off_path, covered_by, black_squares}
+use Rattle.escpos_picture.specs.Rasters.{rows_of, raster_steps, rows_text}
 use Rattle.escpos_picture.specs.Rows.{runs, text_place, text_class, characters_text, text_start, run_tag, underline_text, ground_text, run_drawing, runs_drawing}
 use Rattle.escpos_picture.specs.BarItems.{label_place, label_tag, label, label_above, label_below, bars_frame, bars_group, scannable, box_frame, box_text, box}
 use Rattle.escpos_picture.specs.Groups.{scale_text, raster_start, drawing, drawings, drawing_at}
@@ -165,18 +166,51 @@ markup = refl
 dots_of_byte : spans (byte_dots 0xB1) ≡ span true 1 ∷ span false 1 ∷ span true 2 ∷ span false 3 ∷ span true 1 ∷ []
 dots_of_byte = refl
 
-two_rows : rows_text 0 (rows_of 1 2 (0xB1 ∷ 0x0F ∷ [])) ≡ codes "<path d=\"M0 0.5h1m1 0h2m3 0h1\"/>\n<path d=\"M0 1.5m4 0h4\"/>\n"
-unfolding digits row_text rows_text
+-- Each way back is as long as the row above it: 8 dots.
+two_rows : rows_text 0 (rows_of 1 2 (0xB1 ∷ 0x0F ∷ [])) ≡ codes "<path d=\"M0 0.5h1m1 0h2m3 0h1m-8 1m4 0h4\"/>\n"
+unfolding digits raster_steps rows_text
 two_rows = refl
 
--- A row with no black dot is left out. The spans of a byte end where it does, but white bytes are passed over at once.
-white_rows : rows_text 0 (rows_of 2 3 (0xFF ∷ 0x80 ∷ 0x00 ∷ 0x00 ∷ 0x03 ∷ 0xC0 ∷ [])) ≡ codes "<path d=\"M0 0.5h8h1m7 0\"/>\n<path d=\"M0 2.5m6 0h2h2m6 0\"/>\n"
-unfolding digits row_text rows_text
+-- Nothing is drawn of a row with no black dot. The spans of a byte end where it does, but white bytes are passed over at once.
+white_rows : rows_text 0 (rows_of 2 3 (0xFF ∷ 0x80 ∷ 0x00 ∷ 0x00 ∷ 0x03 ∷ 0xC0 ∷ [])) ≡ codes "<path d=\"M0 0.5h8h1m7 0m-16 1m-0 1m6 0h2h2m6 0\"/>\n"
+unfolding digits raster_steps rows_text
 white_rows = refl
 
-white_bytes : rows_text 7 ((0x00 ∷ 0x00 ∷ 0x01 ∷ 0x00 ∷ 0x80 ∷ 0x00 ∷ []) ∷ []) ≡ codes "<path d=\"M0 7.5m16 0m7 0h1m8 0h1m7 0\"/>\n"
-unfolding digits row_text rows_text
+white_bytes : rows_text 64 ((0x00 ∷ 0x00 ∷ 0x01 ∷ 0x00 ∷ 0x80 ∷ 0x00 ∷ []) ∷ []) ≡ codes "<path d=\"M0 64.5m16 0m7 0h1m8 0h1m7 0\"/>\n"
+unfolding digits raster_steps rows_text
 white_bytes = refl
+
+-- The pen goes back from where the row's last black byte ends.
+white_end : rows_text 0 (rows_of 2 2 (0x80 ∷ 0x00 ∷ 0x00 ∷ 0x01 ∷ [])) ≡ codes "<path d=\"M0 0.5h1m7 0m-8 1m8 0m7 0h1\"/>\n"
+unfolding digits raster_steps rows_text
+white_end = refl
+
+-- A path ends with row 63, and the next begins with row 64.
+next_band : rows_text 62 ((0xFF ∷ []) ∷ (0xFF ∷ []) ∷ (0xFF ∷ []) ∷ []) ≡ codes "h8m-8 1h8\"/>\n<path d=\"M0 64.5h8\"/>\n"
+unfolding digits raster_steps rows_text
+next_band = refl
+
+-- What steps cover: two dots in row 3, and one below.
+two_rows_covered : covered_by off_path (begin 3 ∷ along (span false 2) ∷ along (span true 2) ∷ back 4 ∷ along (span true 1) ∷ finish ∷ []) ≡
+    Some (square 2 3 ∷ square 3 3 ∷ square 0 4 ∷ [])
+two_rows_covered = refl
+
+-- There is no answer for a way back that is too short or too long, for a path that isn't ended, and for steps on no path.
+back_too_short : covered_by off_path (begin 0 ∷ along (span true 2) ∷ back 1 ∷ finish ∷ []) ≡ None
+back_too_short = refl
+
+back_too_long : covered_by off_path (begin 0 ∷ along (span true 2) ∷ back 3 ∷ finish ∷ []) ≡ None
+back_too_long = refl
+
+not_ended : covered_by off_path (begin 0 ∷ along (span true 2) ∷ []) ≡ None
+not_ended = refl
+
+on_no_path : covered_by off_path (begin 0 ∷ finish ∷ along (span true 2) ∷ []) ≡ None
+on_no_path = refl
+
+-- The black dots of 81, and of 01 under it.
+black_dots : black_squares 0 ((0x81 ∷ []) ∷ (0x01 ∷ []) ∷ []) ≡ square 0 0 ∷ square 7 0 ∷ square 7 1 ∷ []
+black_dots = refl
 
 -- 16 dots in the middle, 30 dots down: 16 or 32 dots of paper.
 normal : raster_start 120 Center scale.Normal 2 ≡ codes "<g class=\"raster\" transform=\"translate(280,62)\"><g transform=\"scale(1,1)\">\n"
@@ -315,8 +349,8 @@ table_19 = refl
 
 -- A whole raster, 30 dots down.
 whole_raster : drawing_at 120 (Raster Left scale.Wide 1 2 (0xB1 ∷ 0x0F ∷ [])) ≡
-    codes "<g class=\"raster\" transform=\"translate(32,62)\"><g transform=\"scale(2,1)\">\n<path d=\"M0 0.5h1m1 0h2m3 0h1\"/>\n<path d=\"M0 1.5m4 0h4\"/>\n</g></g>\n"
-unfolding digits row_text rows_text scale_text raster_start
+    codes "<g class=\"raster\" transform=\"translate(32,62)\"><g transform=\"scale(2,1)\">\n<path d=\"M0 0.5h1m1 0h2m3 0h1m-8 1m4 0h4\"/>\n</g></g>\n"
+unfolding digits raster_steps rows_text scale_text raster_start
 whole_raster = refl
 
 -- A barcode ten dots down.

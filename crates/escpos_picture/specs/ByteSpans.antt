@@ -1,31 +1,33 @@
--- Rows byte by byte. Only private clauses and proofs use these definitions.
-use Rattle.std.specs.Prelude.{ℕ, zero, suc, ◌+◌, Bool, List, [], ◌++◌, take, replicate, length, ◌∷◌, codes, if◌then◌else◌}
-use Rattle.escpos_picture.specs.Spans.{white_span, row_spans, spans_text, byte_spans_text, line_start, line_text}
+-- Rows byte by byte, and tables of texts. Only private clauses and proofs use these definitions.
+use Rattle.std.specs.Prelude.{ℕ, zero, suc, ◌+◌, ◌*◌, ◌==◌, List, [], ◌++◌, take, replicate, length, ◌∷◌, if◌then◌else◌}
+use Rattle.escpos_picture.specs.Spans.{white_span, spans_text, byte_spans_text}
+use Rattle.escpos_picture.specs.Steps.{back, step_text}
 
--- What comes before a byte with a black dot: the beginning of the path, where none is begun, and so many white dots.
-abbrev pub before_byte : ℕ → Bool → ℕ → List ℕ
-before_byte line is_begun white = (if is_begun then [] else line_start line) ++ spans_text (white_span white)
+-- The way over so many white bytes, and back over so many bytes.
+abbrev pub white_text : ℕ → List ℕ
+white_text count = spans_text (white_span (8 * count))
 
-abbrev pub byte_step : ℕ → Bool → ℕ → ℕ → List ℕ
-byte_step line is_begun white b = before_byte line is_begun white ++ byte_spans_text b
+abbrev pub back_text : ℕ → List ℕ
+back_text count = step_text (back (8 * count))
 
--- What is left of a row after so many white dots: of its path, or the whole of it, where none is begun.
-abbrev pub left_text : ℕ → Bool → ℕ → List ℕ → List ℕ
-left_text line is_begun white bytes =
-    if is_begun then spans_text (row_spans white bytes) ++ codes "\"/>\n" else line_text line (row_spans white bytes)
+-- What a byte adds to the text of a row after so many white bytes, and how many white bytes come right before the next one.
+abbrev pub byte_step : ℕ → ℕ → List ℕ
+byte_step white b = if b == 0 then [] else white_text white ++ byte_spans_text b
 
--- ## The texts of all bytes
+abbrev pub white_after : ℕ → ℕ → ℕ
+white_after white b = if b == 0 then white + 1 else 0
 
--- Each takes the first of 24 places.
+-- ## Tables
 
-abbrev pub padded : List ℕ → List ℕ
-padded text = take 24 (text ++ replicate 24 0x20)
+-- A text takes the first of so many places.
+abbrev pub padded : ℕ → List ℕ → List ℕ
+padded width text = take width (text ++ replicate width 0x20)
 
--- Those of so many bytes from this one on.
-unfoldable pub texts_from : ℕ → ℕ → List ℕ
-texts_from b zero = []
-texts_from b (suc n) = padded (byte_spans_text b) ++ texts_from (b + 1) n
+-- The texts of so many numbers from this one on, and their lengths.
+unfoldable pub texts_from : ℕ → (ℕ → List ℕ) → ℕ → ℕ → List ℕ
+texts_from width text first zero = []
+texts_from width text first (suc n) = padded width (text first) ++ texts_from width text (first + 1) n
 
-unfoldable pub lengths_from : ℕ → ℕ → List ℕ
-lengths_from b zero = []
-lengths_from b (suc n) = length (byte_spans_text b) ∷ lengths_from (b + 1) n
+unfoldable pub lengths_from : (ℕ → List ℕ) → ℕ → ℕ → List ℕ
+lengths_from text first zero = []
+lengths_from text first (suc n) = length (text first) ∷ lengths_from text (first + 1) n

@@ -7,6 +7,7 @@ pub mod Places
 pub mod Rows
 pub mod SpanBuffer
 pub mod Spans
+pub mod Steps
 pub mod ByteSpans
 pub mod Rasters
 pub mod BarItems

@@ -39,6 +39,11 @@ abbrev pub row_spans : ℕ → List ℕ → List Span
 row_spans white [] = []
 row_spans white (b ∷ bs) = if b == 0 then row_spans (white + 8) bs else white_span white ++ spans (byte_dots b) ++ row_spans 0 bs
 
+-- The dots that spans pass over or draw.
+abbrev pub passed : List Span → ℕ
+passed [] = 0
+passed (s ∷ ss) = s.dots + passed ss
+
 -- ## What spans cover
 
 -- This many columns from this one on.

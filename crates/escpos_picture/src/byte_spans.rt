@@ -306,7 +306,7 @@ pub fn length_of(byte: u8) -> usize
 // The texts of all bytes.
 #[inline]
 fn texts() -> &'static [u8]
-    ensures text { result.now ≡ texts_from 0 256 }
+    ensures text { result.now ≡ texts_from 24 byte_spans_text 0 256 }
     ensures len { length result.now ≡ 256 * BYTE_SPANS_BYTES }
 {
     TEXTS
@@ -315,7 +315,7 @@ fn texts() -> &'static [u8]
 // How many bytes each of them has.
 #[inline]
 fn lengths() -> &'static [u8]
-    ensures lengths { result.now ≡ lengths_from 0 256 }
+    ensures lengths { result.now ≡ lengths_from byte_spans_text 0 256 }
     ensures len { length result.now ≡ 256 }
 {
     LENGTHS

@@ -21,9 +21,10 @@ ghost use Rattle.escpos_picture.specs.Escaping.{IsEscaped, utf8_of};
 ghost use Rattle.escpos_picture.specs.Groups.{drawings, drawing_at, base_line, row_start, cut_place};
 ghost use Rattle.escpos_picture.specs.Moves.{MovesDown};
 ghost use Rattle.escpos_picture.specs.QrSides.{qr_height};
-ghost use Rattle.escpos_picture.specs.Rasters.{rows_of};
+ghost use Rattle.escpos_picture.specs.Rasters.{rows_of, raster_steps, rows_text};
 ghost use Rattle.escpos_picture.specs.Rows.{characters_text};
-ghost use Rattle.escpos_picture.specs.Spans.{row_spans, covered, black_columns, row_dots};
+ghost use Rattle.escpos_picture.specs.Spans.{covered, black_columns};
+ghost use Rattle.escpos_picture.specs.Steps.{off_path, covered_by, black_squares, steps_text};
 
 /// Items in turn: further items are drawn after those before them, from the place that these lead to.
 pub fn drawings_in_turn()
@@ -75,10 +76,12 @@ pub fn items_stay_within()
         (width ≤ row_start true (indent align width)) × (row_start true (indent align width) + indent align width ≡ LINE_DOTS) }
 {}
 
-/// Dots: what a path draws is exactly the black dots, each once, from left to right: the dots that are 1 of a row of a raster, and
-/// the dots of a barcode's bars.
+/// Dots: what paths draw is exactly the black dots, each once, from left to right and row by row: the dots that are 1 of the rows
+/// of a raster, and the dots of a barcode's bars. The steps along a raster's rows are whole paths, and each way back ends exactly at
+/// the left edge; the rows of the document are the texts of these steps.
 pub fn spans_cover_dots()
-    ensures rows { (column : ℕ) (bytes : List ℕ) → covered column (row_spans 0 bytes) ≡ black_columns column (row_dots bytes) }
+    ensures rows { (rows : List (List ℕ)) → covered_by off_path (raster_steps 0 rows) ≡ Some (black_squares 0 rows) }
+    ensures text { (rows : List (List ℕ)) → rows_text 0 rows ≡ steps_text (raster_steps 0 rows) }
     ensures bars { (column : ℕ) (widths : List ℕ) → covered column (bar_spans true widths) ≡ black_columns column (bar_dots true widths) }
 {}
 

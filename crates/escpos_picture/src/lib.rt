@@ -6,9 +6,10 @@
 //! the paper. The bytes go through a `Gather`, and nothing is allocated.
 //!
 //! `document` has what comes before the items and after them, `item` draws an item as a group of the document, and `pen` has its
-//! place and its size. `row` draws rows, `raster` rasters, `cut` cuts, `qr` QR codes, and `bars` barcodes, with their lines of text from `label`.
-//! `span` appends dots of one colour in a line, of rasters and bars; `byte_spans` has the text of each byte's dots, and `span_buffer`
-//! puts those of a row together. `characters` turns printed bytes into text, by the tables of `code_tables`, and `numbers` appends
+//! place and its size. `row` draws rows, `raster` rasters, `cut` cuts, `qr` QR codes, and `bars` barcodes, with their lines of
+//! text from `label`. `span` appends dots of one colour in a line, of bars and of very long rows of rasters. Other rows wait in a
+//! `span_buffer`, where `short_row` puts them together of the texts that `byte_spans` has of each byte's dots and `moves` of white
+//! bytes and ways back. `characters` turns printed bytes into text, by the tables of `code_tables`, and `numbers` appends
 //! numbers of dots. `laws` has what follows from the definitions: nothing overlaps, text is escaped, and spans cover exactly the black
 //! dots.
 //!
@@ -26,11 +27,13 @@ mod document;
 mod item;
 mod label;
 pub mod laws;
+mod moves;
 mod numbers;
 mod pen;
 mod qr;
 mod raster;
 mod row;
+mod short_row;
 mod span;
 mod span_buffer;
 

@@ -1,17 +1,21 @@
-//! Rasters: each row that has a black dot as a path.
+//! Rasters: each band of rows as a path.
 
-ghost use Rattle.std.specs.Prelude.{◌≡◌, ◌*◌, ◌+◌, ◌≤◌, ◌<◌, ◌++◌, [], length, take, drop, OnOk};
+ghost use Rattle.std.specs.Prelude.{◌≡◌, ◌==◌, ◌||◌, ◌*◌, ◌+◌, ◌≤◌, ◌<◌, ◌++◌, [], length, take, drop, true, OnOk};
 ghost use Rattle.escpos_io.specs.Giving.{IsGiven};
 ghost use Rattle.escpos_io.specs.Putting.{passage};
-ghost use Rattle.escpos_picture.specs.Spans.{spans_text, white_span};
-ghost use Rattle.escpos_picture.specs.ByteSpans.{before_byte};
-ghost use Rattle.escpos_picture.specs.Rasters.{rows_of, row_text, rows_text};
+ghost use Rattle.escpos_picture.specs.Spans.{spans_text, white_span, byte_spans_text};
+ghost use Rattle.escpos_picture.specs.Steps.{step_text, steps_text};
+ghost use Rattle.escpos_picture.specs.SpanBuffer.{IsGivenInPart};
+ghost use Rattle.escpos_picture.specs.Rasters.{rows_of, begins_band, band_start, row_end, row_steps, rows_text};
 ghost use Rattle.escpos_picture.specs.Groups.{scale_text, raster_start, raster_drawing};
 
+use crate::byte_spans::{byte_places, length_of};
+use crate::moves::{MOVE_BYTES, SHORT_ROW_BYTES};
 use crate::numbers::{append_between, append_place};
 use crate::pen::{DEEPEST, across, downwards, indent};
-use crate::span::{append_line_start, append_span};
-use crate::span_buffer::{SHORT_SPAN_BYTES, SPAN_BUFFER_BYTES, SpanBuffer};
+use crate::short_row::STEP_BYTES;
+use crate::span::{LINE_START_BYTES, append_line_start, append_span};
+use crate::span_buffer::{SPAN_BUFFER_BYTES, SpanBuffer};
 use escpos_command::{Alignment, Scale};
 use escpos_io::{ByteOut, Device, GATHERED_BYTES, Gather};
 use escpos_paper::{DOT_BYTES, Dots};
@@ -20,6 +24,12 @@ use escpos_paper::{DOT_BYTES, Dots};
 const START_BYTES: usize = 256;
 
 const _: () = prove!(START_BYTES == 256);
+
+/// The rows that share a path. A path for each row takes a fifth more bytes at least; a document whose raster is one path has an
+/// attribute of millions of bytes, which readers of XML refuse.
+const BAND_ROWS: usize = 64;
+
+const _: () = prove!(BAND_ROWS == 64);
 
 /// The size of a raster and how it is printed.
 #[derive(Clone, Copy, Debug, PartialEq, Eq)]
@@ -102,10 +112,19 @@ fn put_rows<W: ByteOut>(
     let mut rest = dots;
     for line in 0..y {
         let (row, below) = row_and_rest(rest, x);
-        put_row(gather, &mut spans, line, row, writer)?;
+        put_line(gather, &mut spans, line, row, ends_path(line, y), writer)?;
         rest = below;
     }
-    Ok(())
+    put_spans(gather, &mut spans, writer)
+}
+
+// Whether a path ends after this row of so many.
+#[inline]
+fn ends_path(line: usize, y: usize) -> bool
+    requires { line < y }
+    ensures { result ≡ (begins_band (line + 1) || (line + 1 == y)) }
+{
+    (line + 1) % BAND_ROWS == 0 || line + 1 == y
 }
 
 // The first so many bytes, or all if there are fewer, and those after them.
@@ -120,64 +139,90 @@ fn row_and_rest(dots: &[u8], x: usize) -> (&[u8], &[u8])
     }
 }
 
-// So many white dots don't wait in the buffer.
-const LONG_WHITE_DOTS: usize = 100;
-
-const _: () = prove!(LONG_WHITE_DOTS == 100);
-
-// Gives a row. Nothing waits in the buffer before it and, as long as the sink takes what is put, after it.
-fn put_row<W: ByteOut>(
+// Gives a row, after the beginning of its path where a band begins.
+#[inline]
+fn put_line<W: ByteOut>(
     gather: &mut Gather,
     spans: &mut SpanBuffer,
     line: usize,
     row: &[u8],
+    is_last: bool,
     writer: &mut W,
 ) -> Result<(), Device>
     requires few { length row.now ≤ DOT_BYTES }
-    requires nothing_waits { spans.old.text ≡ [] }
-    ensures given { IsGiven result (passage (W.written writer.old) (W.written writer.new) (W.failed writer.old) (W.failed writer.new))
-        gather.old gather.new (row_text line row.now) }
-    ensures nothing_waits { OnOk result (spans.new.text ≡ []) }
+    ensures { IsGivenInPart result (passage (W.written writer.old) (W.written writer.new) (W.failed writer.old) (W.failed writer.new))
+        gather.old gather.new spans.old.text spans.new.text
+        (steps_text (band_start line) ++ steps_text (row_steps is_last row.now)) }
 {
-    let mut is_begun = false;
-    let mut white = 0;
-    for byte in row {
-        if *byte == 0 {
-            white += 8;
-            continue;
-        }
-        if is_begun && white < LONG_WHITE_DOTS && !spans.is_full() {
-            append_short_white(spans, white);
-        } else {
-            put_spans(gather, spans, writer)?;
-            gather.room(BEFORE_BYTES, writer)?;
-            append_before(gather, line, is_begun, white);
-        }
-        spans.append(*byte);
-        is_begun = true;
-        white = 0;
+    put_start(gather, spans, line, writer)?;
+    put_row(gather, spans, row, is_last, writer)
+}
+
+// Gives the beginning of a path where a band begins, and otherwise nothing.
+#[inline]
+fn put_start<W: ByteOut>(
+    gather: &mut Gather,
+    spans: &mut SpanBuffer,
+    line: usize,
+    writer: &mut W,
+) -> Result<(), Device>
+    ensures { IsGivenInPart result (passage (W.written writer.old) (W.written writer.new) (W.failed writer.old) (W.failed writer.new))
+        gather.old gather.new spans.old.text spans.new.text
+        (steps_text (band_start line)) }
+{
+    if line % BAND_ROWS != 0 {
+        return Ok(());
     }
     put_spans(gather, spans, writer)?;
-    if is_begun {
-        gather.put(b"\"/>\n", writer)?;
-    }
+    gather.room(LINE_START_BYTES, writer)?;
+    append_line_start(gather, line);
     Ok(())
 }
 
-// Appends so many white dots to the buffer, if there are any.
+// Gives a row.
 #[inline]
-fn append_short_white(spans: &mut SpanBuffer, white: usize)
-    requires few { white < LONG_WHITE_DOTS }
-    requires room { length spans.old.text + SHORT_SPAN_BYTES ≤ SPAN_BUFFER_BYTES }
-    ensures text { spans.new.text ≡ spans.old.text ++ spans_text (white_span white) }
-    ensures short { length spans.new.text ≤ length spans.old.text + SHORT_SPAN_BYTES }
+fn put_row<W: ByteOut>(
+    gather: &mut Gather,
+    spans: &mut SpanBuffer,
+    row: &[u8],
+    is_last: bool,
+    writer: &mut W,
+) -> Result<(), Device>
+    requires few { length row.now ≤ DOT_BYTES }
+    ensures { IsGivenInPart result (passage (W.written writer.old) (W.written writer.new) (W.failed writer.old) (W.failed writer.new))
+        gather.old gather.new spans.old.text spans.new.text
+        (steps_text (row_steps is_last row.now)) }
 {
-    if white > 0 {
-        spans.append_white(white as u8);
+    if row.len() > SHORT_ROW_BYTES {
+        put_spans(gather, spans, writer)?;
+        return put_long_row(gather, row, is_last, writer);
     }
+    make_room(gather, spans, row.len(), writer)?;
+    spans.append_row(row, is_last);
+    Ok(())
+}
+
+// Makes room in the buffer for a row of this many bytes.
+#[inline]
+fn make_room<W: ByteOut>(
+    gather: &mut Gather,
+    spans: &mut SpanBuffer,
+    count: usize,
+    writer: &mut W,
+) -> Result<(), Device>
+    requires { count ≤ SHORT_ROW_BYTES }
+    ensures given { IsGivenInPart result (passage (W.written writer.old) (W.written writer.new) (W.failed writer.old) (W.failed writer.new))
+        gather.old gather.new spans.old.text spans.new.text [] }
+    ensures room { OnOk result (length spans.new.text + (STEP_BYTES * count + MOVE_BYTES) ≤ SPAN_BUFFER_BYTES) }
+{
+    if spans.has_room(count) {
+        return Ok(());
+    }
+    put_spans(gather, spans, writer)
 }
 
 // Gives what waits in the buffer.
+#[inline(never)]
 fn put_spans<W: ByteOut>(
     gather: &mut Gather,
     spans: &mut SpanBuffer,
@@ -192,21 +237,59 @@ fn put_spans<W: ByteOut>(
     Ok(())
 }
 
-// The most bytes that come before the spans of a byte: the beginning of its path, and the white dots before it.
-const BEFORE_BYTES: usize = 57;
+// Gives a row that may be longer than the buffer: no command prints one.
+#[cold]
+fn put_long_row<W: ByteOut>(
+    gather: &mut Gather,
+    row: &[u8],
+    is_last: bool,
+    writer: &mut W,
+) -> Result<(), Device>
+    requires few { length row.now ≤ DOT_BYTES }
+    ensures { IsGiven result (passage (W.written writer.old) (W.written writer.new) (W.failed writer.old) (W.failed writer.new))
+        gather.old gather.new (steps_text (row_steps is_last row.now)) }
+{
+    let mut white = 0;
+    for byte in row {
+        if *byte == 0 {
+            white += 8;
+            continue;
+        }
+        gather.room(LONG_STEP_BYTES, writer)?;
+        append_byte(gather, white, *byte);
+        white = 0;
+    }
+    gather.room(LONG_STEP_BYTES, writer)?;
+    append_end(gather, is_last, 8 * row.len() - white);
+    Ok(())
+}
 
-const _: () = prove!(BEFORE_BYTES == 57);
+// The most bytes that the spans of a byte take with the white dots before it, and the most that the end of a row does.
+const LONG_STEP_BYTES: usize = 47;
 
-// Appends what comes before the spans of a byte: the beginning of the path, where none is begun, and so many white dots.
-fn append_before(gather: &mut Gather, line: usize, is_begun: bool, white: usize)
-    requires { length gather.old.kept + BEFORE_BYTES ≤ GATHERED_BYTES }
-    ensures kept { gather.new.kept ≡ gather.old.kept ++ before_byte line is_begun white }
+const _: () = prove!(LONG_STEP_BYTES == 47);
+
+// Appends so many white dots and the spans of a byte.
+fn append_byte(gather: &mut Gather, white: usize, byte: u8)
+    requires { length gather.old.kept + LONG_STEP_BYTES ≤ GATHERED_BYTES }
+    ensures kept { gather.new.kept ≡ gather.old.kept ++ spans_text (white_span white) ++ byte_spans_text byte }
     ensures same_count { gather.new.written ≡ gather.old.written }
 {
-    if !is_begun {
-        append_line_start(gather, line);
-    }
     if white > 0 {
         append_span(gather, false, white);
+    }
+    gather.extend(&byte_places(byte)[..length_of(byte)]);
+}
+
+// Appends the end of a row: of its path, or the way back over so many dots.
+fn append_end(gather: &mut Gather, is_last: bool, dots: usize)
+    requires { length gather.old.kept + LONG_STEP_BYTES ≤ GATHERED_BYTES }
+    ensures kept { gather.new.kept ≡ gather.old.kept ++ step_text (row_end is_last dots) }
+    ensures same_count { gather.new.written ≡ gather.old.written }
+{
+    if is_last {
+        gather.extend(b"\"/>\n");
+    } else {
+        append_between(gather, b"m-", dots, b" 1");
     }
 }

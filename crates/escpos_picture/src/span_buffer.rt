@@ -1,25 +1,19 @@
-//! The spans of bytes on their way to a gather.
-//!
-//! A copy whose length the compiler knows takes a fraction of the time of one that is as long as each text. So all places of a
-//! byte's text are copied, and only those that it takes are counted; the next text is written over the others.
+//! The text of short rows on its way to a gather.
 
-ghost use Rattle.std.specs.Prelude.{◌≡◌, ◌+◌, ◌≤◌, ◌<◌, ◌++◌, [], length, take, false};
-ghost use Rattle.escpos_picture.specs.Spans.{span, span_text, byte_spans_text};
+ghost use Rattle.std.specs.Prelude.{◌≡◌, ◌+◌, ◌*◌, ◌≤◌, ◌++◌, [], length, true};
+ghost use Rattle.escpos_picture.specs.Steps.{steps_text};
+ghost use Rattle.escpos_picture.specs.Rasters.{row_steps};
 
-use crate::byte_spans::{BYTE_SPANS_BYTES, byte_places, length_of};
+use crate::moves::{MOVE_BYTES, SHORT_ROW_BYTES};
+use crate::short_row::{STEP_BYTES, append_end, append_spans};
 use std::marker::Model;
 
-/// The most bytes that a buffer holds.
-pub const SPAN_BUFFER_BYTES: usize = 512;
+/// The most bytes that a buffer holds: the longest row has room.
+pub const SPAN_BUFFER_BYTES: usize = 4608;
 
-const _: () = prove!(SPAN_BUFFER_BYTES == 512);
+const _: () = prove!(SPAN_BUFFER_BYTES == 4608);
 
-/// The most bytes that a span of fewer than a hundred white dots takes.
-pub const SHORT_SPAN_BYTES: usize = 5;
-
-const _: () = prove!(SHORT_SPAN_BYTES == 5);
-
-/// Texts of spans that wait for a gather. Its model is what waits.
+/// Text of rows that waits for a gather. Its model is what waits.
 #[derive(Drop)]
 pub struct SpanBuffer {
     bytes: [u8; SPAN_BUFFER_BYTES],
@@ -34,7 +28,7 @@ impl Model for SpanBuffer {
 
     ghost view = { λ b. record { text = take b.len b.bytes } };
 
-    ghost invariant = { λ b. (b.len ≤ 512) × (length b.bytes ≡ 512) };
+    ghost invariant = { λ b. (b.len ≤ 4608) × (length b.bytes ≡ 4608) };
 }
 
 impl SpanBuffer {
@@ -48,44 +42,24 @@ impl SpanBuffer {
         }
     }
 
-    /// Whether there may be no room for a short span of white dots and the spans of a byte.
-    #[inline]
-    pub fn is_full(&self) -> bool
-        ensures { result ≡ false → length self.now.text + SHORT_SPAN_BYTES + BYTE_SPANS_BYTES ≤ SPAN_BUFFER_BYTES }
+    /// Whether there is room for a row of this many bytes.
+    #[inline(always)]
+    pub fn has_room(&self, count: usize) -> bool
+        requires { count ≤ SHORT_ROW_BYTES }
+        ensures { result ≡ true → length self.now.text + (STEP_BYTES * count + MOVE_BYTES) ≤ SPAN_BUFFER_BYTES }
     {
-        self.len > SPAN_BUFFER_BYTES - SHORT_SPAN_BYTES - BYTE_SPANS_BYTES
+        self.len + (STEP_BYTES * count + MOVE_BYTES) <= SPAN_BUFFER_BYTES
     }
 
-    /// Appends a span of white dots, fewer than a hundred.
-    #[inline]
-    pub fn append_white(&mut self, dots: u8)
-        requires few { dots < 100 }
-        requires room { length self.old.text + SHORT_SPAN_BYTES ≤ SPAN_BUFFER_BYTES }
-        ensures text { self.new.text ≡ self.old.text ++ span_text (span false dots) }
-        ensures short { length self.new.text ≤ length self.old.text + SHORT_SPAN_BYTES }
+    /// Appends a short row, which is the last of its path or isn't.
+    #[inline(always)]
+    pub fn append_row(&mut self, row: &[u8], is_last: bool)
+        requires short { length row.now ≤ SHORT_ROW_BYTES }
+        requires room { length self.old.text + (STEP_BYTES * length row.now + MOVE_BYTES) ≤ SPAN_BUFFER_BYTES }
+        ensures { self.new.text ≡ self.old.text ++ steps_text (row_steps is_last row.now) }
     {
-        let ones = b'0' + dots % 10;
-        if dots < 10 {
-            copy_in(&mut self.bytes, self.len, &[b'm', ones, b' ', b'0']);
-            self.len += 4;
-        } else {
-            copy_in(
-                &mut self.bytes,
-                self.len,
-                &[b'm', b'0' + dots / 10, ones, b' ', b'0'],
-            );
-            self.len += 5;
-        }
-    }
-
-    /// Appends the spans of a byte.
-    #[inline]
-    pub fn append(&mut self, byte: u8)
-        requires { length self.old.text + BYTE_SPANS_BYTES ≤ SPAN_BUFFER_BYTES }
-        ensures { self.new.text ≡ self.old.text ++ byte_spans_text byte }
-    {
-        copy_in(&mut self.bytes, self.len, byte_places(byte));
-        self.len += length_of(byte);
+        let (end, count) = append_spans(&mut self.bytes, self.len, row);
+        self.len = append_end(&mut self.bytes, end, is_last, count);
     }
 
     /// What waits.
@@ -103,14 +77,4 @@ impl SpanBuffer {
     {
         self.len = 0;
     }
-}
-
-// Writes a part over the bytes from this place on.
-#[inline]
-fn copy_in(bytes: &mut [u8], start: usize, part: &[u8])
-    requires { start + length part.now ≤ length bytes.old }
-    ensures front { take (start + length part.now) bytes.new ≡ take start bytes.old ++ part.now }
-    ensures len { length bytes.new ≡ length bytes.old }
-{
-    bytes[start..start + part.len()].copy_from_slice(part);
 }

@@ -62,8 +62,7 @@ text{font-family:\"DejaVu Sans Mono\",Menlo,Consolas,monospace;font-size:20px;wh
 <g class=\"row\" transform=\"translate(32,50)\"><text x=\"0\" textLength=\"24\">Hi</text></g>
 <g class=\"feed\"/>
 <g class=\"raster\" transform=\"translate(32,62)\"><g transform=\"scale(1,1)\">
-<path d=\"M0 0.5h4m4 0\"/>
-<path d=\"M0 1.5m4 0h4\"/>
+<path d=\"M0 0.5h4m4 0m-8 1m4 0h4\"/>
 </g></g>
 <text class=\"last\" x=\"32\" y=\"122\">end 14 pending 1
 </text>

@@ -209,18 +209,18 @@ const DRAWN: [Drawn; 36] = [
         "94",
         "<g class=\"row\" transform=\"translate(32,50)\"><text x=\"0\" textLength=\"12\">\u{FFFD}</text></g>\n<g class=\"feed\"/>\n",
     ),
-    // a raster of each scale: F0 0F is four dots, eight white ones, and four dots; a white row is no path
+    // a raster of each scale: F0 0F is four dots, eight white ones, and four dots; nothing is drawn of a white row
     (
         "1D 76 30 00 02 00 02 00 F0 0F 00 00",
         "66",
         "66",
-        "<g class=\"raster\" transform=\"translate(32,32)\"><g transform=\"scale(1,1)\">\n<path d=\"M0 0.5h4m4 0m4 0h4\"/>\n</g></g>\n",
+        "<g class=\"raster\" transform=\"translate(32,32)\"><g transform=\"scale(1,1)\">\n<path d=\"M0 0.5h4m4 0m4 0h4m-16 1\"/>\n</g></g>\n",
     ),
     (
         "1B 61 01 1D 76 30 01 01 00 02 00 18 81",
         "66",
         "66",
-        "<g class=\"raster\" transform=\"translate(280,32)\"><g transform=\"scale(2,1)\">\n<path d=\"M0 0.5m3 0h2m3 0\"/>\n<path d=\"M0 1.5h1m6 0h1\"/>\n</g></g>\n",
+        "<g class=\"raster\" transform=\"translate(280,32)\"><g transform=\"scale(2,1)\">\n<path d=\"M0 0.5m3 0h2m3 0m-8 1h1m6 0h1\"/>\n</g></g>\n",
     ),
     (
         "1D 76 30 02 01 00 01 00 FF",
