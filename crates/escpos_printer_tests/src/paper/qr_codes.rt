@@ -208,7 +208,7 @@ fn are_long_lines(rt: &impl Abort, alloc: Global, text: &[u8], count: usize) {
         line.extend_from_slice(b"\\1b").expect(rt, "memory");
     }
     line.push(b'\n').expect(rt, "memory");
-    assert!(rt; text.len() == 21_282 * count);
+    assert!(rt; text.len() == count.saturating_mul(21_282));
     for part in text.chunks(21_282) {
         assert!(rt; part == line.as_slice());
     }
@@ -240,7 +240,7 @@ fn a_qr_code_cut_short(rt: HostRuntime) {
             written: len as u128,
         });
         assert!(rt; write_items_to(page.items(), &mut sink) == short);
-        assert!(rt; sink.written() == &line[..len]);
+        assert!(rt; Some(sink.written()) == line.get(..len));
     }
 }
 

@@ -286,7 +286,8 @@ fn a_long_store_cut_short(rt: HostRuntime) {
     let mut room = [0; 14_189];
     for count in [0, 9, 10, 11, 1024, 14_188] {
         let mut source = MemoryIn::new(&whole, 4096);
-        let wanted = (&listing[..count], Status::Device);
+        let part = listing.get(..count).expect(&rt, "listing");
+        let wanted = (part, Status::Device);
         let room = &mut room[..count];
         performs(&rt, rt.alloc(), Ok(Task::Check), &mut source, room, wanted);
     }

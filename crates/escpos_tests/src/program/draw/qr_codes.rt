@@ -155,7 +155,7 @@ fn stream_of(
 ) -> Vec<u8> {
     let length = u16::try_from(count.saturating_add(3)).expect(rt, "a length");
     let [low, high] = length.to_le_bytes();
-    let byte = character.as_bytes()[0];
+    let byte = *character.as_bytes().first().expect(rt, "a character");
     let head = format!(in alloc;
         "1D286B03003143011D286B03003145{level}1D286B{low:02X}{high:02X}315030"
     ).expect(rt, "memory");
