@@ -1,6 +1,6 @@
 //! The lines of a listing, appended to the bytes that a gather keeps back.
 
-ghost use Rattle.std.specs.Prelude.{◌≡◌, ◌≢◌, ◌+◌, ◌≤◌, ◌++◌, ◌∷◌, ℕ, List, length, decimal};
+ghost use Rattle.std.specs.Prelude.{◌≡◌, ◌≢◌, ◌+◌, ◌≤◌, ◌++◌, ◌∷◌, ℕ, List, length, codes, decimal};
 ghost use Rattle.std.specs.List.{flat_map};
 ghost use Rattle.escpos_jobs.specs.Lines.{byte_value, command_line, end_line, fault_line, values_of, word_of};
 ghost use Rattle.escpos_jobs.specs.LastText.{last_text};
@@ -12,7 +12,7 @@ ghost use Rattle.hex.specs.Hex.{encode_lower};
 
 use crate::ending::MEMORY;
 use crate::notes::{WrongDigit, wrong_digit};
-use escpos_command::{Bars, Command, FaultReason, LF, Raster};
+use escpos_command::{Bars, Command, FaultReason, LF, QrData, Raster};
 use escpos_io::{
     ByteOut, Device, GATHERED_BYTES, Gather, Piece, append_digits_after, append_number,
     append_small_number, put_digits,
@@ -74,19 +74,40 @@ pub fn put_line<W: ByteOut>(
     ensures { IsGiven result (passage (W.written writer.old) (W.written writer.new) (W.failed writer.old) (W.failed writer.new))
         gather.old gather.new (command_line place command.now) }
 {
-    gather.room(LINE_BYTES, writer)?;
     match command {
-        Command::QrStore(stored) => {
-            append_number(gather, place);
-            gather.extend(b" qrstore ");
-            put_digits(gather, stored.as_slice(), writer)?;
-            gather.put(&[LF], writer)
-        }
+        Command::QrStore(stored) => put_store(gather, place, stored, writer),
         _ => {
+            gather.room(LINE_BYTES, writer)?;
             append_line(gather, place, command);
             Ok(())
         }
     }
+}
+
+// Gives the line of a store of a QR code: its data in parts.
+fn put_store<W: ByteOut>(
+    gather: &mut Gather,
+    place: usize,
+    stored: &QrData,
+    writer: &mut W,
+) -> Result<(), Device>
+    ensures { IsGiven result (passage (W.written writer.old) (W.written writer.new) (W.failed writer.old) (W.failed writer.new))
+        gather.old gather.new (command_line place (kind.QrStore stored.now)) }
+{
+    gather.room(LINE_BYTES, writer)?;
+    append_store(gather, place);
+    put_digits(gather, stored.as_slice(), writer)?;
+    gather.put(&[LF], writer)
+}
+
+// Appends what comes before the data of a QR code.
+fn append_store(gather: &mut Gather, place: usize)
+    requires { length gather.old.kept + LINE_BYTES ≤ GATHERED_BYTES }
+    ensures kept { gather.new.kept ≡ gather.old.kept ++ (decimal place ++ codes " qrstore ") }
+    ensures same_count { gather.new.written ≡ gather.old.written }
+{
+    append_number(gather, place);
+    gather.extend(b" qrstore ");
 }
 
 // Appends the line of a command that has `place` bytes before it.

@@ -22,10 +22,12 @@ abbrev pub ends_before : ℕ → List (List ℕ) → Bool
 ends_before n [] = true
 ends_before n (row ∷ rows) = begins_band n
 
--- The steps along a row, which is the last of its path or isn't. White bytes at its end are not passed over.
+-- After a row: the end of the path, if the row is its last, and otherwise the way back over so many dots.
 abbrev pub row_end : Bool → ℕ → Step
 row_end is_last dots = if is_last then finish else back dots
 
+-- The steps along a row, which is the last of its path or isn't: its spans, and then the end, or the way back over all dots that the
+-- spans passed. White bytes at the end of a row have no span.
 abbrev pub row_steps : Bool → List ℕ → List Step
 row_steps is_last bytes = map (λ s. along s) (row_spans 0 bytes) ++ row_end is_last (passed (row_spans 0 bytes)) ∷ []
 

@@ -25,8 +25,8 @@ const START_BYTES: usize = 256;
 
 const _: () = prove!(START_BYTES == 256);
 
-/// The rows that share a path. A path for each row takes a fifth more bytes at least; a document whose raster is one path has an
-/// attribute of millions of bytes, which readers of XML refuse.
+/// The rows that share a path. With a path for each row, rasters a byte wide take nearly twice the bytes; with one path for a
+/// raster, an attribute may have more than 10 million bytes, which readers of XML refuse.
 const BAND_ROWS: usize = 64;
 
 const _: () = prove!(BAND_ROWS == 64);
@@ -118,7 +118,7 @@ fn put_rows<W: ByteOut>(
     put_spans(gather, &mut spans, writer)
 }
 
-// Whether a path ends after this row of so many.
+// Whether a path ends after this row, one of `y`.
 #[inline]
 fn ends_path(line: usize, y: usize) -> bool
     requires { line < y }
@@ -128,6 +128,7 @@ fn ends_path(line: usize, y: usize) -> bool
 }
 
 // The first so many bytes, or all if there are fewer, and those after them.
+#[inline]
 fn row_and_rest(dots: &[u8], x: usize) -> (&[u8], &[u8])
     ensures row { result.0.now ≡ take x dots.now }
     ensures rest { result.1.now ≡ drop x dots.now }
@@ -237,7 +238,7 @@ fn put_spans<W: ByteOut>(
     Ok(())
 }
 
-// Gives a row that may be longer than the buffer: no command prints one.
+// Gives a row that may be too long for the buffer. No command prints one, but an item can have one.
 #[cold]
 fn put_long_row<W: ByteOut>(
     gather: &mut Gather,
