@@ -4,6 +4,7 @@ use crate::support::hosts::read_receipt;
 use crate::support::jobs::{is_outcome, performs, prints};
 use crate::support::reasons::faults;
 use crate::support::texts::joined;
+use escpos_decode::Decoder;
 use escpos_host::{JsonError, JsonFault, ReceiptFault};
 use escpos_io::{ByteIn, MemoryIn, MemoryOut};
 use escpos_jobs::status::Status;
@@ -100,6 +101,57 @@ fn statuses_have_codes(rt: HostRuntime) {
     }
 }
 
+// The value of a hexadecimal digit; more than 15 for any other character.
+fn digit_value(digit: u8) -> u8 {
+    match digit {
+        b'0'..=b'9' => digit - b'0',
+        b'A'..=b'F' => digit - b'A' + 10,
+        _ => u8::MAX,
+    }
+}
+
+// The byte that two hexadecimal digits are; 0 for anything else.
+fn byte_of(digits: &str) -> u8 {
+    match digits.as_bytes() {
+        [high, low] if digit_value(*high) < 16 && digit_value(*low) < 16 => {
+            digit_value(*high) * 16 + digit_value(*low)
+        }
+        _ => 0,
+    }
+}
+
+// The decoder takes these bytes, each with a space before the next; or it takes all but the last, and refuses that one.
+fn is_taken(rt: &impl Abort, alloc: Global, bytes: &str, is_last_refused: bool) {
+    let mut decoder = Decoder::new(alloc);
+    let mut left = bytes.split_whitespace().count();
+    for digits in bytes.split_whitespace() {
+        left = left.saturating_sub(1);
+        let is_refused = decoder.push(byte_of(digits)).is_err();
+        assert!(rt; is_refused == (is_last_refused && left == 0), "{bytes}");
+    }
+}
+
+// The Reference's commands by their first bytes: the decoder takes them, or refuses the last of the bytes, as the table says.
+#[test]
+fn help_has_what_is_taken_and_refused(rt: HostRuntime) {
+    let mut taken = 0u32;
+    let mut refused = 0u32;
+    for line in HELP.lines() {
+        let (Some(bytes), Some(verdict)) = (line.get(10..20), line.get(28..)) else {
+            continue;
+        };
+        if verdict == "taken" || verdict.starts_with("taken: ") {
+            is_taken(&rt, rt.alloc(), bytes, false);
+            taken = taken.saturating_add(1);
+        } else if verdict.starts_with("refused: ") {
+            is_taken(&rt, rt.alloc(), bytes, true);
+            refused = refused.saturating_add(1);
+        }
+    }
+    assert!(rt; taken == 30);
+    assert!(rt; refused == 63);
+}
+
 // The help has the number and the name of a reason.
 fn is_in_help(rt: &impl Abort, alloc: Global, fault: JsonFault) {
     let number = fault.number();
@@ -145,7 +197,7 @@ fn help_has_an_example_of_each_member(rt: HostRuntime) {
             }
         }
     }
-    assert!(rt; count == 27);
+    assert!(rt; count == 28);
 }
 
 #[test]
