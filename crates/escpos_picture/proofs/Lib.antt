@@ -4,6 +4,7 @@ pub mod RowSteps
 pub mod RasterRows
 pub mod Boxes
 pub mod Turns
+pub mod InnerRows
 pub mod InOrder
 pub mod Moving
 pub mod Within

@@ -128,7 +128,7 @@ last_of line x y (suc left) dots all =
     ap (λ v. begins_band (line + 1) || v) other ∙ or_false (begins_band (line + 1))
 
 -- A row is left, and then those below it.
-row_first : (line x left : ℕ) (dots : List ℕ)
+pub row_first : (line x left : ℕ) (dots : List ℕ)
     → rows_text line (rows_of x (suc left) dots)
     ≡ (steps_text (band_start line) ++ steps_text (row_steps (ends_before (line + 1) (rows_of x left (drop x dots))) (take x dots))) ++ rows_text (line + 1) (rows_of x left (drop x dots))
 unfolding rows_text raster_steps

@@ -1,7 +1,8 @@
 -- Rows byte by byte, and tables of texts. Only private clauses and proofs use these definitions.
-use Rattle.std.specs.Prelude.{ℕ, zero, suc, ◌+◌, ◌*◌, ◌==◌, List, [], ◌++◌, take, replicate, length, ◌∷◌, if◌then◌else◌}
+use Rattle.std.specs.Prelude.{ℕ, zero, suc, ◌+◌, ◌*◌, ◌==◌, List, [], ◌++◌, take, replicate, length, flat_map, false, ◌∷◌, if◌then◌else◌}
 use Rattle.escpos_picture.specs.Spans.{white_span, spans_text, byte_spans_text}
-use Rattle.escpos_picture.specs.Steps.{back, step_text}
+use Rattle.escpos_picture.specs.Steps.{back, step_text, steps_text}
+use Rattle.escpos_picture.specs.Rasters.{row_steps}
 
 -- The way over so many white bytes, and back over so many bytes.
 abbrev pub white_text : ℕ → List ℕ
@@ -16,6 +17,10 @@ byte_step white b = if b == 0 then [] else white_text white ++ byte_spans_text b
 
 abbrev pub white_after : ℕ → ℕ → ℕ
 white_after white b = if b == 0 then white + 1 else 0
+
+-- Rows of which none is the first or the last of its path.
+abbrev pub inner_rows_text : List (List ℕ) → List ℕ
+inner_rows_text rows = flat_map (λ row. steps_text (row_steps false row)) rows
 
 -- ## Tables
 

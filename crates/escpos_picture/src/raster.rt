@@ -1,6 +1,6 @@
 //! Rasters: each band of rows as a path.
 
-ghost use Rattle.std.specs.Prelude.{◌≡◌, ◌==◌, ◌||◌, ◌*◌, ◌+◌, ◌≤◌, ◌<◌, ◌++◌, [], length, take, drop, true, OnOk};
+ghost use Rattle.std.specs.Prelude.{◌≡◌, ◌==◌, ◌||◌, ◌*◌, ◌+◌, ◌%◌, ◌≤◌, ◌<◌, ◌++◌, [], length, take, drop, true, OnOk};
 ghost use Rattle.escpos_io.specs.Giving.{IsGiven};
 ghost use Rattle.escpos_io.specs.Putting.{passage};
 ghost use Rattle.escpos_picture.specs.Spans.{spans_text, white_span, byte_spans_text};
@@ -110,12 +110,31 @@ fn put_rows<W: ByteOut>(
 {
     let mut spans = SpanBuffer::new();
     let mut rest = dots;
-    for line in 0..y {
+    let mut line = 0;
+    while line < y {
         let (row, below) = row_and_rest(rest, x);
         put_line(gather, &mut spans, line, row, ends_path(line, y), writer)?;
-        rest = below;
+        let count = spans.append_rows(below, x, inner_rows(line + 1, x, y));
+        rest = &below[x * count..];
+        line += 1 + count;
     }
     put_spans(gather, &mut spans, writer)
+}
+
+// How many rows of `y` from this one on are short, and neither the first nor the last of their path.
+#[inline]
+fn inner_rows(line: usize, x: usize, y: usize) -> usize
+    requires { line ≤ y }
+    ensures short { 0 < result → x ≤ SHORT_ROW_BYTES }
+    ensures after_the_first { 0 < result → 0 < line % BAND_ROWS }
+    ensures within_the_band { line % BAND_ROWS + result < BAND_ROWS }
+    ensures before_the_last { 0 < result → line + result < y }
+{
+    let place = line % BAND_ROWS;
+    if place == 0 || line == y || x > SHORT_ROW_BYTES {
+        return 0;
+    }
+    (BAND_ROWS - 1 - place).min(y - 1 - line)
 }
 
 // Whether a path ends after this row, one of `y`.

@@ -1,15 +1,15 @@
-//! The text of a short row, over the bytes of a buffer.
+//! The text of short rows, over the bytes of a buffer.
 //!
 //! A copy whose length the compiler knows takes a fraction of the time of one that is as long as each text. So all places of a
 //! text are copied, and only those that it takes are counted; the next text is written over the others. White bytes, too, are
 //! copied and not counted: a branch that depends on the dots takes longer than both copies, where white and black bytes come in no
 //! order.
 
-ghost use Rattle.std.specs.Prelude.{◌≡◌, ◌+◌, ◌*◌, ◌≤◌, ◌++◌, length, take};
+ghost use Rattle.std.specs.Prelude.{◌≡◌, ◌+◌, ◌*◌, ◌≤◌, ◌<◌, ◌++◌, length, take, false};
 ghost use Rattle.escpos_picture.specs.Spans.{row_spans, spans_text, passed};
-ghost use Rattle.escpos_picture.specs.Steps.{step_text};
-ghost use Rattle.escpos_picture.specs.ByteSpans.{byte_step, white_after};
-ghost use Rattle.escpos_picture.specs.Rasters.{row_end};
+ghost use Rattle.escpos_picture.specs.Steps.{step_text, steps_text};
+ghost use Rattle.escpos_picture.specs.ByteSpans.{byte_step, white_after, inner_rows_text};
+ghost use Rattle.escpos_picture.specs.Rasters.{row_end, row_steps, rows_of};
 
 use crate::byte_spans::{BYTE_SPANS_BYTES, byte_places, length_of};
 use crate::moves::{
@@ -21,10 +21,75 @@ pub const STEP_BYTES: usize = BYTE_SPANS_BYTES + MOVE_BYTES;
 
 const _: () = prove!(STEP_BYTES == 32);
 
-/// Writes the spans of a row over the bytes from `len` on. Returns how many bytes there are then, and how many bytes of the row the
-/// spans pass.
+/// Writes rows of `x` bytes each, none of which is the last of its path, over the bytes from `len` on: as many as there are and have
+/// room, and at most so many. Returns how many bytes there are then, and how many rows were written.
+#[inline]
+pub fn append_rows(
+    bytes: &mut [u8],
+    len: usize,
+    dots: &[u8],
+    x: usize,
+    most: usize,
+) -> (usize, usize)
+    requires short { 0 < most → x ≤ SHORT_ROW_BYTES }
+    requires inside { len ≤ length bytes.old }
+    ensures text { take result.0 bytes.new ≡ take len bytes.old ++ inner_rows_text (rows_of x result.1 dots.now) }
+    ensures len { result.0 ≤ length bytes.old }
+    ensures most { result.1 ≤ most }
+    ensures within { x * result.1 ≤ length dots.now }
+{
+    // The compiler leaves out the loop over the bytes of a row where it knows that there is one.
+    if x == 1 {
+        append_equal_rows(bytes, len, dots, 1, most)
+    } else {
+        append_equal_rows(bytes, len, dots, x, most)
+    }
+}
+
+// `append_rows` at a number of bytes that the compiler may know.
 #[inline(always)]
-pub fn append_spans(bytes: &mut [u8], len: usize, row: &[u8]) -> (usize, usize)
+fn append_equal_rows(
+    bytes: &mut [u8],
+    len: usize,
+    dots: &[u8],
+    x: usize,
+    most: usize,
+) -> (usize, usize)
+    requires short { 0 < most → x ≤ SHORT_ROW_BYTES }
+    requires inside { len ≤ length bytes.old }
+    ensures text { take result.0 bytes.new ≡ take len bytes.old ++ inner_rows_text (rows_of x result.1 dots.now) }
+    ensures len { result.0 ≤ length bytes.old }
+    ensures most { result.1 ≤ most }
+    ensures within { x * result.1 ≤ length dots.now }
+{
+    let mut end = len;
+    let mut rest = dots;
+    let mut count = 0;
+    while count < most && x <= rest.len() && STEP_BYTES * x + MOVE_BYTES <= bytes.len() - end {
+        let (row, below) = rest.split_at(x);
+        end = append_row(bytes, end, row, false);
+        rest = below;
+        count += 1;
+    }
+    (end, count)
+}
+
+/// Writes a row, which is the last of its path or isn't, over the bytes from `len` on. Returns how many bytes there are then.
+#[inline(always)]
+pub fn append_row(bytes: &mut [u8], len: usize, row: &[u8], is_last: bool) -> usize
+    requires short { length row.now ≤ SHORT_ROW_BYTES }
+    requires room { len + (STEP_BYTES * length row.now + MOVE_BYTES) ≤ length bytes.old }
+    ensures text { take result bytes.new ≡ take len bytes.old ++ steps_text (row_steps is_last row.now) }
+    ensures len { result ≤ len + (STEP_BYTES * length row.now + MOVE_BYTES) }
+{
+    let (end, count) = append_spans(bytes, len, row);
+    append_end(bytes, end, is_last, count)
+}
+
+// Writes the spans of a row over the bytes from `len` on. Returns how many bytes there are then, and how many bytes of the row the
+// spans pass.
+#[inline(always)]
+fn append_spans(bytes: &mut [u8], len: usize, row: &[u8]) -> (usize, usize)
     requires short { length row.now ≤ SHORT_ROW_BYTES }
     requires room { len + STEP_BYTES * length row.now ≤ length bytes.old }
     ensures text { take result.0 bytes.new ≡ take len bytes.old ++ spans_text (row_spans 0 row.now) }
@@ -66,10 +131,10 @@ fn count_of_black(byte: u8) -> usize
     usize::from(byte != 0)
 }
 
-/// Writes the end of a row over the bytes from `len` on: of its path, or the way back over so many bytes. Returns how many bytes
-/// there are then.
+// Writes the end of a row over the bytes from `len` on: of its path, or the way back over so many bytes. Returns how many bytes
+// there are then.
 #[inline(always)]
-pub fn append_end(bytes: &mut [u8], len: usize, is_last: bool, count: usize) -> usize
+fn append_end(bytes: &mut [u8], len: usize, is_last: bool, count: usize) -> usize
     requires few { count ≤ SHORT_ROW_BYTES }
     requires room { len + MOVE_BYTES ≤ length bytes.old }
     ensures text { take result bytes.new ≡ take len bytes.old ++ step_text (row_end is_last (8 * count)) }

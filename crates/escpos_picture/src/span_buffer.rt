@@ -1,11 +1,12 @@
 //! The text of short rows on its way to a gather.
 
-ghost use Rattle.std.specs.Prelude.{◌≡◌, ◌+◌, ◌*◌, ◌≤◌, ◌++◌, [], length, true};
+ghost use Rattle.std.specs.Prelude.{◌≡◌, ◌+◌, ◌*◌, ◌≤◌, ◌<◌, ◌++◌, [], length, true};
 ghost use Rattle.escpos_picture.specs.Steps.{steps_text};
-ghost use Rattle.escpos_picture.specs.Rasters.{row_steps};
+ghost use Rattle.escpos_picture.specs.ByteSpans.{inner_rows_text};
+ghost use Rattle.escpos_picture.specs.Rasters.{row_steps, rows_of};
 
 use crate::moves::{MOVE_BYTES, SHORT_ROW_BYTES};
-use crate::short_row::{STEP_BYTES, append_end, append_spans};
+use crate::short_row::{STEP_BYTES, append_row, append_rows};
 use std::marker::Model;
 
 /// The most bytes that a buffer holds: the longest row has room.
@@ -58,8 +59,21 @@ impl SpanBuffer {
         requires room { length self.old.text + (STEP_BYTES * length row.now + MOVE_BYTES) ≤ SPAN_BUFFER_BYTES }
         ensures { self.new.text ≡ self.old.text ++ steps_text (row_steps is_last row.now) }
     {
-        let (end, count) = append_spans(&mut self.bytes, self.len, row);
-        self.len = append_end(&mut self.bytes, end, is_last, count);
+        self.len = append_row(&mut self.bytes, self.len, row, is_last);
+    }
+
+    /// Appends rows of `x` bytes each, none of which is the last of its path: as many as there are and have room, and at most so many.
+    /// Returns how many.
+    #[inline]
+    pub fn append_rows(&mut self, dots: &[u8], x: usize, most: usize) -> usize
+        requires { 0 < most → x ≤ SHORT_ROW_BYTES }
+        ensures text { self.new.text ≡ self.old.text ++ inner_rows_text (rows_of x result dots.now) }
+        ensures most { result ≤ most }
+        ensures within { x * result ≤ length dots.now }
+    {
+        let (end, count) = append_rows(&mut self.bytes, self.len, dots, x, most);
+        self.len = end;
+        count
     }
 
     /// What waits.

@@ -1,8 +1,10 @@
-use Rattle.std.proofs.Common.{◌≡◌, ◌+◌, ◌-◌, ◌++◌, [], Ok, Err, refl, sym, ◌∙◌, ap, append-nil, length, arith}
+use Rattle.std.proofs.Common.{◌≡◌, ◌+◌, ◌-◌, ◌++◌, [], Ok, Err, refl, sym, ◌∙◌, ap, append-nil, length, arith, take, drop, ◌*◌}
 use Rattle.std.proofs.lemmas.List.{length-take, length-drop}
 use Rattle.escpos_io.proofs.Giving.{given_appended, given_in_turn, given_in_the_front}
 use Rattle.escpos_picture.specs.Steps.{steps_text}
+use Rattle.escpos_picture.specs.ByteSpans.{inner_rows_text}
 use Rattle.escpos_picture.specs.Rasters.{rows_of, rows_text, band_start, row_steps}
+use Rattle.escpos_picture.proofs.InnerRows.{inner_of_left, inner_inside, inner_wait, take_rest}
 use Rattle.escpos_picture.proofs.RasterRows.{drawn_on, next_row, no_row}
 use Rattle.escpos_picture.proofs.raster.put_rows.Goals as goal
 
@@ -50,15 +52,28 @@ loop-line-preserved g c =
     let text = steps_text (band_start l.line) ++ steps_text (row_steps c.ends_path.result c.row_and_rest.result.0.now) in
     let below = rows_text (l.line + 1) (rows_of c.args.x (c.args.y - (l.line + 1)) c.row_and_rest.result.1.now) in
     let next = next_row l.line c.args.x c.args.y c.ends_path.result l.rest.now _ _ more c.ends_path.ensures c.row_and_rest.ensures.row c.row_and_rest.ensures.rest in
+    let most = c.inner_rows.ensures in
+    let count = c.append_rows-count.result in
+    let rows = inner_rows_text (rows_of c.args.x count c.row_and_rest.result.1.now) in
+    let end : l.line + 1 + count ≡ l.line + (1 + count) = omega arith in
+    let past = c.args.x * count in
+    let tail : take (length c.row_and_rest.result.1.now - past) (drop past c.row_and_rest.result.1.now) ≡ drop past c.row_and_rest.result.1.now
+    = take_rest past c.row_and_rest.result.1.now in
     record {
       so_far = record {
         done = far.done ++ done;
         given = given_in_turn (Ok tt) _ _ _ _ _ _ _ _ _ far.done done (far.done ++ done) far.given c.in_ok-put_line.ensures.given refl;
-        whole_is = drawn_on far.done l.spans.text text below _ done left c.put_line.new.spans.text (far.whole_is ∙ ap (λ t. far.done ++ (l.spans.text ++ t)) next)
-            c.in_ok-put_line.ensures.whole c.in_ok-put_line.ensures.waits;
+        whole_is = inner_wait _ (far.done ++ done) c.put_line.new.spans.text _ below rows _
+            (drawn_on far.done l.spans.text text below _ done left c.put_line.new.spans.text (far.whole_is ∙ ap (λ t. far.done ++ (l.spans.text ++ t)) next)
+            c.in_ok-put_line.ensures.whole c.in_ok-put_line.ensures.waits)
+            (inner_of_left count c.inner_rows.result (l.line + 1) c.args.x c.args.y c.row_and_rest.result.1.now c.append_rows-count.ensures.most
+            most.after_the_first most.within_the_band most.before_the_last
+            ∙ ap (λ m. rows ++ rows_text m (rows_of c.args.x (c.args.y - m) (drop past c.row_and_rest.result.1.now))) end
+            ∙ ap (λ r. rows ++ rows_text (l.line + (1 + count)) (rows_of c.args.x (c.args.y - (l.line + (1 + count))) r)) (sym tail))
+            c.append_rows-count.ensures.text;
       };
-      few = omega (arith, ap length c.row_and_rest.ensures.rest, length-drop c.args.x l.rest.now, few);
-      inside = omega (arith, more);
+      few = omega (arith, ap length c.row_and_rest.ensures.rest, length-drop c.args.x l.rest.now, few, ap length tail, length-drop past c.row_and_rest.result.1.now);
+      inside = omega (arith, inner_inside count c.inner_rows.result (l.line + 1) c.args.y c.append_rows-count.ensures.most most.before_the_last (omega (arith, more)));
     }
 
 pub returns : goal.returns

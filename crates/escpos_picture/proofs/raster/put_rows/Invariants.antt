@@ -13,3 +13,6 @@ invariant-loop-line g l = record {
   few : length l.rest ≤ DOT_BYTES;
   inside : l.line ≤ l.y;
 }
+
+abbrev pub decreases-loop-line : goal.decreases-loop-line
+decreases-loop-line g l = l.y - l.line

@@ -1,19 +1,8 @@
-use Rattle.std.proofs.Common.{◌*◌, ◌++◌, take, sym, ◌∙◌, ap, append_assoc}
-use Rattle.escpos_picture.specs.Spans.{row_spans, spans_text, passed}
-use Rattle.escpos_picture.specs.Steps.{step_text, steps_text}
-use Rattle.escpos_picture.specs.Rasters.{row_end, row_steps}
-use Rattle.escpos_picture.proofs.RowSteps.{row_text}
+use Rattle.std.proofs.Common.{◌++◌, ◌∙◌, ap}
+use Rattle.escpos_picture.specs.Steps.{steps_text}
+use Rattle.escpos_picture.specs.Rasters.{row_steps}
 use Rattle.escpos_picture.proofs.span_buffer.SpanBuffer.append_row.Goals as goal
 
 pub returns : goal.returns
 returns c =
-    let row = c.args.row.now in
-    let is_last = c.args.is_last in
-    let waiting = take c.self.inside.len c.self.inside.bytes in
-    let spans = spans_text (row_spans 0 row) in
-    c.append_end-self-inside.ensures.text
-    ∙ ap (λ t. t ++ step_text (row_end is_last (8 * c.append_spans-end.result.1))) c.append_spans-end.ensures.text
-    ∙ ap (λ n. (waiting ++ spans) ++ step_text (row_end is_last n)) c.append_spans-end.ensures.passed
-    ∙ append_assoc waiting spans (step_text (row_end is_last (passed (row_spans 0 row))))
-    ∙ ap (λ t. waiting ++ t) (sym (row_text is_last row))
-    ∙ ap (λ v. v.text ++ steps_text (row_steps is_last row)) c.self.view_is
+    c.append_row-self-inside.ensures.text ∙ ap (λ v. v.text ++ steps_text (row_steps c.args.is_last c.args.row.now)) c.self.view_is
