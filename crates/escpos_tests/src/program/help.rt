@@ -145,7 +145,7 @@ fn help_has_an_example_of_each_member(rt: HostRuntime) {
             }
         }
     }
-    assert!(rt; count == 27);
+    assert!(rt; count == 28);
 }
 
 #[test]
