@@ -9,7 +9,7 @@ use Rattle.escpos_picture.specs.Characters.{replacement, upper_half, escaped, ch
 use Rattle.escpos_picture.specs.Escaping.{entities, is_plain, utf8_of, IsEscaped, nothing, byte, entity}
 use Rattle.escpos_picture.specs.Rows.{characters_text}
 
-both : (a b : Bool) → (a && b) ≡ true → (a ≡ true) × (b ≡ true)
+pub both : (a b : Bool) → (a && b) ≡ true → (a ≡ true) × (b ≡ true)
 both true b h = (refl, h)
 both false b h = (h, absurd (cc))
 

@@ -2,6 +2,7 @@ pub mod ByteTexts
 pub mod GivenSteps
 pub mod RowSteps
 pub mod RasterRows
+pub mod PlainTexts
 pub mod Boxes
 pub mod Turns
 pub mod InnerRows

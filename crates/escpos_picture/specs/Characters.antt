@@ -1,5 +1,5 @@
 -- Printed bytes as characters of the document.
-use Rattle.std.specs.Prelude.{ℕ, ◌-◌, ◌==◌, ◌||◌, Bool, nat_lt, List, [], ◌∷◌, get_or, codes, encode_utf8, if◌then◌else◌}
+use Rattle.std.specs.Prelude.{ℕ, ◌-◌, ◌==◌, ◌&&◌, ◌||◌, Bool, not, nat_lt, List, [], ◌∷◌, get_or, codes, encode_utf8, if◌then◌else◌}
 use Rattle.escpos_picture.specs.CodeTables.{pc437, pc850, wpc1252, pc858}
 
 -- What stands for a byte that is no character.
@@ -33,3 +33,7 @@ character_text c = if nat_lt c 0x80 then escaped c else encode_utf8 c
 -- A byte printed with a code table, as it stands in a text.
 abbrev pub byte_text : ℕ → ℕ → List ℕ
 byte_text table b = character_text (character table b)
+
+-- A byte that stands in a text as it is, with any code table. Only private clauses and proofs use this definition.
+abbrev pub stands_as_it_is : ℕ → Bool
+stands_as_it_is b = not (nat_lt b 0x20) && nat_lt b 0x7F && not (is_markup b)

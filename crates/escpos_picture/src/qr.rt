@@ -1,9 +1,11 @@
 //! QR codes: a box as large as the code, with its content in it.
 
-ghost use Rattle.std.specs.Prelude.{◌≡◌, ◌+◌, ◌≤◌, ◌++◌, IfSome, length};
+ghost use Rattle.std.specs.Prelude.{◌≡◌, ◌+◌, ◌≤◌, ◌++◌, IfSome, length, take, drop, true};
+ghost use Rattle.std.specs.List.{list_all};
 ghost use Rattle.escpos_command.specs.QrCodes.{most_qr_data};
 ghost use Rattle.escpos_io.specs.Giving.{IsGiven};
 ghost use Rattle.escpos_io.specs.Putting.{passage};
+ghost use Rattle.escpos_picture.specs.Characters.{stands_as_it_is};
 ghost use Rattle.escpos_picture.specs.Rows.{characters_text};
 ghost use Rattle.escpos_picture.specs.QrItems.{qr_group, qr_frame, qr_text, qr_start, qr_drawing};
 ghost use Rattle.escpos_picture.specs.QrSides.{qr_side, qr_height};
@@ -160,7 +162,7 @@ fn append_text_tag(gather: &mut Gather, side: usize, count: usize)
     );
 }
 
-// Gives the characters of a content, drawn by code table 0.
+// Gives the characters of a content, drawn by code table 0: at once those side by side that stand as they are.
 fn put_characters<W: ByteOut>(
     gather: &mut Gather,
     content: &[u8],
@@ -169,9 +171,62 @@ fn put_characters<W: ByteOut>(
     ensures { IsGiven result (passage (W.written writer.old) (W.written writer.new) (W.failed writer.old) (W.failed writer.new))
         gather.old gather.new (characters_text 0 content.now) }
 {
-    for byte in content {
-        gather.room(CHARACTER_BYTES, writer)?;
-        append_byte(gather, 0, *byte);
+    let mut rest = content;
+    while !rest.is_empty() {
+        let (plain, others) = split_plain(rest);
+        gather.put(plain, writer)?;
+        put_first(gather, others, writer)?;
+        rest = without_first(others);
     }
     Ok(())
+}
+
+// The bytes at the beginning that stand in a text as they are, and those after them.
+fn split_plain(content: &[u8]) -> (&[u8], &[u8])
+    ensures text { characters_text 0 content.now ≡ result.0.now ++ characters_text 0 result.1.now }
+    ensures shorter { length result.1.now ≤ length content.now }
+{
+    content.split_at(plain_len(content))
+}
+
+// How many bytes at the beginning stand in a text as they are.
+fn plain_len(content: &[u8]) -> usize
+    ensures within { result ≤ length content.now }
+    ensures plain { list_all stands_as_it_is (take result content.now) ≡ true }
+{
+    for (place, byte) in content.iter().enumerate() {
+        if !stands_as_it_is(*byte) {
+            return place;
+        }
+    }
+    content.len()
+}
+
+#[inline]
+fn stands_as_it_is(byte: u8) -> bool
+    ensures { result ≡ stands_as_it_is byte }
+{
+    matches!(byte, 0x20..=0x7E) && !matches!(byte, b'&' | b'<' | b'>' | b'"' | b'\'')
+}
+
+// Gives the first character, if there is one.
+fn put_first<W: ByteOut>(gather: &mut Gather, content: &[u8], writer: &mut W) -> Result<(), Device>
+    ensures { IsGiven result (passage (W.written writer.old) (W.written writer.new) (W.failed writer.old) (W.failed writer.new))
+        gather.old gather.new (characters_text 0 (take 1 content.now)) }
+{
+    if let [first, ..] = content {
+        gather.room(CHARACTER_BYTES, writer)?;
+        append_byte(gather, 0, *first);
+    }
+    Ok(())
+}
+
+// The bytes after the first.
+fn without_first(content: &[u8]) -> &[u8]
+    ensures { result.now ≡ drop 1 content.now }
+{
+    match content {
+        [_, rest @ ..] => rest,
+        [] => &[],
+    }
 }

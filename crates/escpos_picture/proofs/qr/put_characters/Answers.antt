@@ -1,44 +1,44 @@
-use Rattle.std.proofs.Common.{◌+◌, ◌++◌, [], Ok, Err, refl, sym, ◌∙◌, ap, append_assoc, append-nil, drop, get_or}
-use Rattle.std.specs.Prelude.{flat_map}
-use Rattle.std.proofs.lemmas.List.{at_drop_more, drop_all}
-use Rattle.escpos_io.proofs.Giving.{given_appended, given_in_turn, given_in_the_front}
-use Rattle.escpos_picture.specs.Characters.{byte_text}
+use Rattle.std.proofs.Common.{◌++◌, Ok, Err, refl, sym, ◌∙◌, ap, append_assoc, take, drop}
+use Rattle.escpos_io.proofs.Giving.{given_in_turn, given_in_the_front}
+use Rattle.escpos_picture.specs.Rows.{characters_text}
+use Rattle.escpos_picture.proofs.PlainTexts.{first_and_others}
 use Rattle.escpos_picture.proofs.qr.put_characters.Goals as goal
 
-pub loop-byte-init : goal.loop-byte-init
-loop-byte-init g c = record {
-  done = [];
-  given = given_appended _ _ _ _ _ (sym (append-nil c.args.gather.now.kept)) refl;
-  whole_is = refl;
-}
+pub returns-in_err-put : goal.returns-in_err-put
+returns-in_err-put g c =
+    let far = c.loop-rest.invariant in
+    let plain = c.split_plain.result.0.now in
+    let left = characters_text 0 c.split_plain.result.1.now in
+    let stopped = given_in_turn (Err c.in_err-put.field-0.0) _ _ _ _ _ _ _ _ _ far.done plain (far.done ++ plain) far.given c.in_err-put.ensures.given refl in
+    given_in_the_front c.from_residual.result c.in_err-put.field-0.0 _ _ _ (far.done ++ plain) left _ c.from_residual.ensures.1 stopped
+    (far.whole_is ∙ ap (λ t. far.done ++ t) c.split_plain.ensures.text ∙ sym (append_assoc far.done plain left))
 
-pub returns-in_err-room : goal.returns-in_err-room
-returns-in_err-room g c =
-    let l = c.loop-byte in
-    let far = l.invariant in
-    let stopped = given_in_turn (Err c.in_err-room.field-0.0) _ _ _ _ _ _ _ _ _ far.done [] far.done far.given c.in_err-room.ensures.given (sym (append-nil far.done)) in
-    given_in_the_front c.from_residual.result c.in_err-room.field-0.0 _ _ _ far.done _ _ c.from_residual.ensures.1 stopped far.whole_is
+pub returns-in_err-put_first : goal.returns-in_err-put_first
+returns-in_err-put_first g c =
+    let far = c.loop-rest.invariant in
+    let plain = c.split_plain.result.0.now in
+    let others = c.split_plain.result.1.now in
+    let first = characters_text 0 (take 1 others) in
+    let left = characters_text 0 (drop 1 others) in
+    let before = given_in_turn (Ok tt) _ _ _ _ _ _ _ _ _ far.done plain (far.done ++ plain) far.given c.in_ok-put.ensures.given refl in
+    let stopped = given_in_turn (Err c.in_err-put_first.field-0.0) _ _ _ _ _ _ _ _ _ (far.done ++ plain) first ((far.done ++ plain) ++ first) before c.in_err-put_first.ensures refl in
+    given_in_the_front c.from_residual-in_err-put_first.result c.in_err-put_first.field-0.0 _ _ _ ((far.done ++ plain) ++ first) left _
+    c.from_residual-in_err-put_first.ensures.1 stopped
+    (far.whole_is ∙ ap (λ t. far.done ++ t) c.split_plain.ensures.text ∙ ap (λ t. far.done ++ (plain ++ t)) (first_and_others others)
+    ∙ sym (append_assoc far.done plain (first ++ left)) ∙ sym (append_assoc (far.done ++ plain) first left))
 
-pub loop-byte-preserved : goal.loop-byte-preserved
-loop-byte-preserved g c =
-    let l = c.loop-byte in
-    let far = l.invariant in
-    let byte = get_or c.args.content.now l.byte-index 0 in
-    let left = drop (l.byte-index + 1) c.args.content.now in
-    let next = at_drop_more (λ bs. far.done ++ flat_map (byte_text 0) bs) c.args.content.now l.byte-index 0 c.loop-byte-test.true in
-    let roomed = given_in_turn (Ok tt) _ _ _ _ _ _ _ _ _ far.done [] far.done far.given c.in_ok-room.ensures.given (sym (append-nil far.done)) in
-    let appended = given_appended _ _ _ _ (byte_text 0 byte) c.append_byte.ensures.kept c.append_byte.ensures.same_count in
+pub loop-rest-preserved : goal.loop-rest-preserved
+loop-rest-preserved g c =
+    let far = c.loop-rest.invariant in
+    let plain = c.split_plain.result.0.now in
+    let others = c.split_plain.result.1.now in
+    let first = characters_text 0 (take 1 others) in
+    let left = characters_text 0 (drop 1 others) in
+    let before = given_in_turn (Ok tt) _ _ _ _ _ _ _ _ _ far.done plain (far.done ++ plain) far.given c.in_ok-put.ensures.given refl in
     record {
-      done = far.done ++ byte_text 0 byte;
-      given = given_in_turn (Ok tt) _ _ _ _ _ _ _ _ _ far.done (byte_text 0 byte) (far.done ++ byte_text 0 byte) roomed appended refl;
-      whole_is = far.whole_is ∙ next ∙ sym (append_assoc far.done (byte_text 0 byte) (flat_map (byte_text 0) left));
+      done = (far.done ++ plain) ++ first;
+      given = given_in_turn (Ok tt) _ _ _ _ _ _ _ _ _ (far.done ++ plain) first ((far.done ++ plain) ++ first) before c.in_ok-put_first.ensures refl;
+      whole_is = far.whole_is ∙ ap (λ t. far.done ++ t) c.split_plain.ensures.text ∙ ap (λ t. far.done ++ (plain ++ t)) (first_and_others others)
+          ∙ sym (append_assoc far.done plain (first ++ left)) ∙ sym (append_assoc (far.done ++ plain) first left)
+          ∙ ap (λ bs. ((far.done ++ plain) ++ first) ++ characters_text 0 bs) (sym c.without_first-rest.ensures);
     }
-
-pub returns : goal.returns
-returns g c =
-    let l = c.loop-byte in
-    let far = l.invariant in
-    let none = drop_all l.byte-index c.args.content.now c.loop-byte-test.false in
-    let all = far.whole_is ∙ ap (λ bs. far.done ++ flat_map (byte_text 0) bs) none ∙ append-nil far.done in
-    given_in_turn (Ok tt) _ _ _ _ _ _ _ _ _ far.done [] _ far.given
-    (given_appended (g.W.ByteOut.written l.writer) (g.W.ByteOut.failed l.writer) _ _ [] (sym (append-nil l.gather.kept)) refl) (all ∙ sym (append-nil far.done))
