@@ -18,7 +18,7 @@ byte_step white b = if b == 0 then [] else white_text white ++ byte_spans_text b
 abbrev pub white_after : ℕ → ℕ → ℕ
 white_after white b = if b == 0 then white + 1 else 0
 
--- Rows of which none is the first or the last of its path.
+-- The text of rows of which none begins or ends a path.
 abbrev pub inner_rows_text : List (List ℕ) → List ℕ
 inner_rows_text rows = flat_map (λ row. steps_text (row_steps false row)) rows
 

@@ -96,7 +96,8 @@ fn append_scale(gather: &mut Gather, scale: Scale)
     append_between(gather, b"", downwards(scale), b")\">\n");
 }
 
-// Gives this many rows of this many bytes each.
+// Gives this many rows of this many bytes each. Those within a band are appended together: a `Result` for each takes longer than the
+// text of a byte.
 fn put_rows<W: ByteOut>(
     gather: &mut Gather,
     x: usize,

@@ -1,4 +1,4 @@
-use Rattle.std.proofs.Common.{◌++◌, [], Ok, Err, refl, sym, ◌∙◌, ap, append_assoc}
+use Rattle.std.proofs.Common.{◌++◌, [], Ok, Err, refl, sym, ap}
 use Rattle.std.specs.Prelude.{codes, length}
 use Rattle.escpos_io.proofs.Giving.{given_in_turn, given_in_the_front}
 use Rattle.escpos_picture.specs.Rows.{characters_text}
