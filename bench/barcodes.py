@@ -107,3 +107,39 @@ def widths(kind, content, module):
 def interpretation(kind, content):
     """Returns the text beside the bars of a scannable barcode."""
     return code128(content)[1] if kind == "code128" else content
+
+
+# QR codes: ISO/IEC 18004, table 9: for each level the error correction bytes of a block and the blocks, in the versions 1 to 40.
+CORRECTION = {
+    "L": ("7 10 15 20 26 18 20 24 30 18 20 24 26 30 22 24 28 30 28 28 28 28 30 30 26 28 30 30 30 30 30 30 30 30 30 30 30 30 30 30",
+          "1 1 1 1 1 2 2 2 2 4 4 4 4 4 6 6 6 6 7 8 8 9 9 10 12 12 12 13 14 15 16 17 18 19 19 20 21 22 24 25"),
+    "M": ("10 16 26 18 24 16 18 22 22 26 30 22 22 24 24 28 28 26 26 26 26 28 28 28 28 28 28 28 28 28 28 28 28 28 28 28 28 28 28 28",
+          "1 1 1 2 2 4 4 4 5 5 5 8 9 9 10 10 11 13 14 16 17 17 18 20 21 23 25 26 28 29 31 33 35 37 38 40 43 45 47 49"),
+    "Q": ("13 22 18 26 18 24 18 22 20 24 28 26 24 20 30 24 28 28 26 30 28 30 30 30 30 28 30 30 30 30 30 30 30 30 30 30 30 30 30 30",
+          "1 1 2 2 4 4 6 6 8 8 8 10 12 16 12 17 16 18 21 20 23 23 25 27 29 34 34 35 38 40 43 45 48 51 53 56 59 62 65 68"),
+    "H": ("17 28 22 16 22 28 26 26 24 28 24 28 22 24 24 30 28 28 26 28 30 24 30 30 30 30 30 30 30 30 30 30 30 30 30 30 30 30 30 30",
+          "1 1 2 4 4 4 5 6 8 8 11 11 16 16 18 16 19 21 25 25 25 34 30 32 35 37 40 42 45 48 51 54 57 60 63 66 70 74 77 81"),
+}
+ALPHANUMERIC = "0123456789ABCDEFGHIJKLMNOPQRSTUVWXYZ $%*+-./:"
+
+
+def qr_bytes(version, level):
+    """Returns how many bytes for data a version has: those of all modules but the patterns, without the error correction."""
+    modules = (16 * version + 128) * version + 64
+    if version >= 2:
+        patterns = version // 7 + 2
+        modules -= (25 * patterns - 10) * patterns - 55 + (36 if version >= 7 else 0)
+    each, blocks = (int(words.split()[version - 1]) for words in CORRECTION[level])
+    return modules // 8 - each * blocks
+
+
+def qr_side(content, level):
+    """Returns the modules along a side of the smallest QR code that holds a content in one packing, or nothing."""
+    count, place = len(content), lambda version: (version > 9) + (version > 26)
+    if all(letter in ALPHANUMERIC[:10] for letter in content):
+        bits, sizes = 10 * (count // 3) + (0, 4, 7)[count % 3], (10, 12, 14)
+    elif all(letter in ALPHANUMERIC for letter in content):
+        bits, sizes = 11 * (count // 2) + 6 * (count % 2), (9, 11, 13)
+    else:
+        bits, sizes = 8 * count, (8, 16, 16)
+    return next((17 + 4 * version for version in range(1, 41) if 4 + sizes[place(version)] + bits <= 8 * qr_bytes(version, level)), None)
