@@ -8,6 +8,7 @@ use std::alloc::Global;
 use std::process::Abort;
 
 mod qr_codes;
+mod qr_sizes;
 
 // The style sheet, and the clip of rasters.
 const STYLES: &str = "\

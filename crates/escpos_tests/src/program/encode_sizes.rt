@@ -330,3 +330,24 @@ fn a_line_goes_out_in_one_piece(rt: HostRuntime) {
     let line = joined(&rt, rt.alloc(), ["", "1b6400", "1b6400\n"], 999);
     goes_out_at_once(&rt, rt.alloc(), &text, &line);
 }
+
+const QR_CODE: &str = "{\"qr\":{\"content\":\"a\",\"size\":3,\"level\":\"L\"}},";
+
+const QR_BYTES: &str = "1d286b03003143031d286b03003145301d286b0400315030611d286b0300315130";
+
+// Four commands of each of many entries, and the place of one that comes after them.
+#[test]
+fn many_qr_codes(rt: HostRuntime) {
+    let row = (
+        1_000,
+        ["[", QR_CODE, "{\"feed\":1}]"],
+        ["", QR_BYTES, "1b6401\n"],
+    );
+    encodes_long(&rt, rt.alloc(), row, Status::Good);
+    let row = (
+        1_000,
+        ["[", QR_CODE, "{\"text\":\"A\"},{\"cut\":\"full\"}]"],
+        ["refused 4 MidLine 4001\n", "", ""],
+    );
+    encodes_long(&rt, rt.alloc(), row, Status::Refused);
+}

@@ -57,6 +57,8 @@ fn usage_and_help(rt: HostRuntime) {
     assert!(rt; HELP.contains("0 good, 1 refused content, 2 usage, 3 device, 4 memory"));
     assert!(rt; HELP.contains("than 16777216 bytes"));
     assert!(rt; HELP.contains("[F,W,H,B,U,T]"));
+    assert!(rt; HELP.contains("QR codes: functions 65, 67, 69, 80 and 81"));
+    assert!(rt; HELP.contains("a QR code of 1 to 7089 bytes"));
 }
 
 // A job that reads this input, as the help shows it: what the job writes stands below the command, each line indented.
