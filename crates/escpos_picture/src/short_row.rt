@@ -38,11 +38,12 @@ pub fn append_rows(
     ensures most { result.1 ≤ most }
     ensures within { x * result.1 ≤ length dots.now }
 {
-    // The compiler leaves out the loop over the bytes of a row where it knows that there is one.
-    if x == 1 {
-        append_equal_rows(bytes, len, dots, 1, most)
-    } else {
-        append_equal_rows(bytes, len, dots, x, most)
+    // The compiler leaves out the loop over the bytes of a row where it knows how few there are.
+    match x {
+        1 => append_equal_rows(bytes, len, dots, 1, most),
+        2 => append_equal_rows(bytes, len, dots, 2, most),
+        3 => append_equal_rows(bytes, len, dots, 3, most),
+        _ => append_equal_rows(bytes, len, dots, x, most),
     }
 }
 
