@@ -103,23 +103,22 @@ fn statuses_have_codes(rt: HostRuntime) {
     }
 }
 
-// The value of a hexadecimal digit; more than 15 for any other character.
+// The value of a hexadecimal digit.
 fn digit_value(digit: u8) -> u8 {
     match digit {
         b'0'..=b'9' => digit - b'0',
         b'A'..=b'F' => digit - b'A' + 10,
-        _ => u8::MAX,
+        _ => 0,
     }
 }
 
-// The byte that two hexadecimal digits are; 0 for anything else.
+// The byte that two hexadecimal digits are.
 fn byte_of(digits: &str) -> u8 {
-    match digits.as_bytes() {
-        [high, low] if digit_value(*high) < 16 && digit_value(*low) < 16 => {
-            digit_value(*high) * 16 + digit_value(*low)
-        }
-        _ => 0,
+    let mut byte = 0u8;
+    for digit in digits.as_bytes() {
+        byte = byte.saturating_mul(16).saturating_add(digit_value(*digit));
     }
+    byte
 }
 
 // The decoder takes these bytes, each with a space before the next; or it takes all but the last, and refuses that one.
