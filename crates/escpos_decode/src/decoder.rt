@@ -72,8 +72,9 @@ pub enum DecodeFault {
     /// No spelling begins with the half command and this byte. `at` is the number of bytes of the half command before it.
     /// The half command is dropped, and the next byte is read as the start of a command.
     Fault { at: usize, why: FaultReason },
-    /// Out of memory for the content of a barcode or the dots of a raster. The decoder is unchanged and the byte isn't
-    /// taken. It comes only for a byte that isn't refused, and only within a barcode or a raster.
+    /// Out of memory for the content of a barcode, the dots of a raster or the data of a QR code. The decoder is unchanged
+    /// and the byte isn't taken. It comes only for a byte that isn't refused, and only within a barcode, a raster or a
+    /// function of GS ( k.
     Memory,
 }
 
@@ -120,7 +121,7 @@ impl Decoder {
         // Whatever bytes of a stream came before, the stream is read up to this byte, or refused at its place.
         ensures stream { GoesOn result self.old byte self.new }
         ensures rest { IsRest self.new }
-        // Only the content of a barcode and the dots of a raster are allocated.
+        // Only the content of a barcode, the dots of a raster and the data of a QR code are allocated.
         ensures memory { result ≡ Err Memory → IsTrue (begins_content (self.old ++ byte ∷ [])) }
     {
         let step = self.step(byte);
