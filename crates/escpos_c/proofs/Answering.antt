@@ -1,0 +1,117 @@
+-- What the caller is answered, from what the job says of its text.
+use Rattle.std.proofs.Common.{◌≡◌, ℕ, ◌<◌, ◌≤◌, ℤ, pos, nat_abs, Bool, List, [], length, Some, refl, sym, ◌∙◌, ap, subst, inl, inr, w32, to_z, of_z}
+use Rattle.std.specs.Prelude.{Option, IfSome}
+use Rattle.std.proofs.lemmas.Bool.{cases_lt}
+use Rattle.escpos_jobs.specs.declared.input.TheConstants.{INPUT_LIMIT}
+use Rattle.escpos_jobs.specs.declared.status.Status.{Status}
+use Rattle.escpos_jobs.specs.declared.status.Status.TheVariants as job
+use Rattle.escpos_jobs.specs.Ending.{JobEnd, job_end}
+use Rattle.escpos_jobs.specs.Report.{IsAllRead, IsOfContent, ReportsAs, RunsRawAs}
+use Rattle.escpos_c.specs.declared.call_status.CallStatus.{CallStatus}
+use Rattle.escpos_c.specs.declared.call_status.CallStatus.TheVariants as call
+use Rattle.escpos_c.specs.Status.{number_of_status}
+use Rattle.escpos_c.specs.Answered.{AnsweredWith}
+use Rattle.escpos_c.specs.Buffer.{Fills, TooShort}
+use Rattle.escpos_c.specs.TextCalls.{AnswersText, IsTextFor}
+
+-- The number comes to the caller as it is.
+pub number_kept : (status : CallStatus) (z : ℤ) → z ≡ number_of_status status → to_z w32 (of_z w32 z) ≡ number_of_status status
+number_kept status z e = ap (λ x. to_z w32 (of_z w32 x)) e ∙ kept status
+  where
+  kept : (s : CallStatus) → to_z w32 (of_z w32 (number_of_status s)) ≡ number_of_status s
+  kept call.Good = refl
+  kept call.Refused = refl
+  kept call.Empty = refl
+  kept call.Memory = refl
+  kept call.Short = refl
+
+same_number : {m n : ℕ} → pos m ≡ pos n → m ≡ n
+same_number e = ap nat_abs e
+
+module _ (is_text is_short : List ℕ → List ℕ → Type 0) (bytes text : List ℕ) (failed : Bool) where
+  abbrev Ran : Status → Type 0
+  Ran status = RunsRawAs (ReportsAs is_text is_short) (job_end (Some []) (Some text) failed status) bytes
+
+  -- The job's text is the one for these bytes.
+  text_for : (status : Status) → Ran status → IsOfContent status → IsTextFor is_text bytes text
+  text_for status ran content = elim (cases_lt INPUT_LIMIT (length bytes)) [
+    | inl long ↦ inr (long, elim content [
+        | inl good ↦ absurd ((ran.too_long long).never_good good)
+        | inr refused ↦ (ran.too_long long).refusal refused
+      ])
+    | inr short ↦ let found = (ran.short short).text content in inl (short, subst (is_text bytes) (sym found.2) found.1)
+  ]
+
+  all_read : Ran job.Good → (length bytes ≤ INPUT_LIMIT) × IsAllRead bytes
+  all_read ran = elim (cases_lt INPUT_LIMIT (length bytes)) [
+    | inl long ↦ absurd ((ran.too_long long).never_good refl)
+    | inr short ↦ (short, (ran.short short).good refl)
+  ]
+
+  module _ (before after : List ℕ) (written : ℕ) where
+    abbrev Answers : CallStatus → Type 0
+    Answers status = AnswersText is_text bytes (number_of_status status) before after written
+
+    good_answer : IsTextFor is_text bytes text → (length bytes ≤ INPUT_LIMIT) × IsAllRead bytes → Fills before after written text → Answers call.Good
+    good_answer is read fills = record {
+      statuses = inl refl;
+      text = λ _. (text, is, fills);
+      good = λ _. read;
+      refused = λ e. let n = same_number e in cc;
+      memory = λ e. let n = same_number e in cc;
+      short = λ e. let n = same_number e in cc;
+    }
+
+    refused_answer : IsTextFor is_text bytes text → (length bytes ≤ INPUT_LIMIT → IsAllRead bytes → ⊥) → Fills before after written text → Answers call.Refused
+    refused_answer is unread fills = record {
+      statuses = inr (inl refl);
+      text = λ _. (text, is, fills);
+      good = λ e. let n = same_number e in cc;
+      refused = λ _. unread;
+      memory = λ e. let n = same_number e in cc;
+      short = λ e. let n = same_number e in cc;
+    }
+
+    short_answer : IsTextFor is_text bytes text → TooShort before after written text → Answers call.Short
+    short_answer is too_short = record {
+      statuses = inr (inr (inr refl));
+      text = λ e. elim e [ inl z ↦ (let n = same_number z in cc) | inr z ↦ (let n = same_number z in cc) ];
+      good = λ e. let n = same_number e in cc;
+      refused = λ e. let n = same_number e in cc;
+      memory = λ e. let n = same_number e in cc;
+      short = λ _. (text, is, too_short);
+    }
+
+    memory_answer : (written ≡ 0) × (after ≡ before) → Answers call.Memory
+    memory_answer same = record {
+      statuses = inr (inr (inl refl));
+      text = λ e. elim e [ inl z ↦ (let n = same_number z in cc) | inr z ↦ (let n = same_number z in cc) ];
+      good = λ e. let n = same_number e in cc;
+      refused = λ e. let n = same_number e in cc;
+      memory = λ _. same;
+      short = λ e. let n = same_number e in cc;
+    }
+
+    pub answers_text : (status : Status) (answer : CallStatus) → Ran status → AnsweredWith status text answer before after written → Answers answer
+    answers_text job.Good answer ran given = elim given [
+      | inl whole ↦ subst Answers (sym whole.0) (good_answer (text_for job.Good ran (inl refl)) (all_read ran) whole.1)
+      | inr short ↦ subst Answers (sym short.0) (short_answer (text_for job.Good ran (inl refl)) short.1)
+    ]
+    answers_text job.Refused answer ran given = elim given [
+      | inl whole ↦ subst Answers (sym whole.0) (refused_answer (text_for job.Refused ran (inr refl)) (λ short read. (ran.short short).refused refl read) whole.1)
+      | inr short ↦ subst Answers (sym short.0) (short_answer (text_for job.Refused ran (inr refl)) short.1)
+    ]
+    answers_text job.Usage answer ran given = subst Answers (sym given.0) (memory_answer (given.1, given.2))
+    answers_text job.Device answer ran given = subst Answers (sym given.0) (memory_answer (given.1, given.2))
+    answers_text job.Memory answer ran given = subst Answers (sym given.0) (memory_answer (given.1, given.2))
+
+    -- The same, where the job read a source of these bytes and printed into an empty sink.
+    pub told_text : (source empty : Option (List ℕ)) → source ≡ Some bytes → empty ≡ Some [] → (status : Status) (answer : CallStatus) (z : ℤ)
+        → IfSome source (λ read. RunsRawAs (ReportsAs is_text is_short) (job_end empty (Some text) failed status) read)
+        → AnsweredWith status text answer before after written → z ≡ number_of_status answer
+        → AnswersText is_text bytes (to_z w32 (of_z w32 z)) before after written
+    told_text source empty is_source is_empty status answer z ran given is_number =
+        let over : IfSome (Some bytes) (λ read. RunsRawAs (ReportsAs is_text is_short) (job_end empty (Some text) failed status) read)
+        = subst (λ o. IfSome o (λ read. RunsRawAs (ReportsAs is_text is_short) (job_end empty (Some text) failed status) read)) is_source ran in
+        let into : Ran status = subst (λ o. RunsRawAs (ReportsAs is_text is_short) (job_end o (Some text) failed status) bytes) is_empty over in
+        subst (λ n. AnswersText is_text bytes n before after written) (sym (number_kept answer z is_number)) (answers_text status answer into given)

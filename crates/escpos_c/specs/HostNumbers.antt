@@ -1,0 +1,55 @@
+-- The numbers in which C is told of a host.
+use Rattle.std.specs.Prelude.{ℕ, ◌+◌, min, Option, Some, None, Result, Ok, Err}
+use Rattle.escpos_host.specs.declared.host.HostError.{HostError}
+use Rattle.escpos_host.specs.declared.host.HostError.TheVariants as error
+use Rattle.escpos_host.specs.declared.host.HostEvent.{HostEvent}
+use Rattle.escpos_host.specs.declared.host.HostEvent.TheVariants as event
+use Rattle.escpos_host.specs.declared.host.HostState.{HostState}
+use Rattle.escpos_host.specs.declared.host.HostState.TheVariants as state
+use Rattle.escpos_host.specs.Machine.{error_number}
+use Rattle.escpos_c.specs.declared.call_status.CallStatus.{CallStatus}
+use Rattle.escpos_c.specs.declared.call_status.CallStatus.TheVariants as call
+use Rattle.escpos_c.specs.declared.refusal.TheConstants.{NO_REASON}
+
+abbrev pub state_number : HostState → ℕ
+state_number state.Down = 0
+state_number state.Opening = 1
+state_number state.Ready = 2
+state_number state.Sending = 3
+
+abbrev pub event_kind : HostEvent → ℕ
+event_kind event.None = 0
+event_kind event.Opened = 1
+event_kind (event.Recorded number) = 2
+event_kind (event.Status byte) = 3
+event_kind (event.BadAnswer place) = 4
+
+-- The greatest number that C can be told.
+abbrev pub greatest : ℕ
+greatest = 18446744073709551615
+
+-- The record's number, after those of before; the status byte; or the place of the bad answer.
+abbrev pub event_number : ℕ → HostEvent → ℕ
+event_number before event.None = 0
+event_number before event.Opened = 0
+event_number before (event.Recorded number) = min (before + number) greatest
+event_number before (event.Status byte) = byte
+event_number before (event.BadAnswer place) = place
+
+-- A refusal has the host's number for its reason; out of memory has a status of its own, and no reason.
+abbrev pub refusal_status : HostError → CallStatus
+refusal_status error.Memory = call.Memory
+refusal_status _ = call.Refused
+
+abbrev pub refusal_reason : HostError → ℕ
+refusal_reason error.Memory = NO_REASON
+refusal_reason why = error_number why
+
+-- What the caller is told where the host's call ended so.
+abbrev pub told_status : Result (Unit {0}) HostError → CallStatus
+told_status (Ok done) = call.Good
+told_status (Err why) = refusal_status why
+
+abbrev pub told_reason : Result (Unit {0}) HostError → ℕ
+told_reason (Ok done) = NO_REASON
+told_reason (Err why) = refusal_reason why

@@ -1,0 +1,9 @@
+pub mod Status
+pub mod Buffer
+pub mod TextCalls
+pub mod EncodeCalls
+pub mod Reasons
+pub mod Answered
+pub mod HostNumbers
+pub mod HostCalls
+pub mod Owned

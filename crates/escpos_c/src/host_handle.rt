@@ -1,0 +1,77 @@
+//! What C owns: nothing, or a host on the heap.
+ghost use Rattle.std.specs.Prelude.{◌≡◌, Option, Some, None, option_map};
+ghost use Rattle.escpos_c.specs.declared.host_core.HostCore.{HostCore};
+ghost use Rattle.escpos_c.specs.contracts.host_core.HostCore.{the_row as core_row};
+ghost use Rattle.escpos_c.specs.Owned.{slot_owns};
+
+use crate::host_core::HostCore;
+use crate::loose::Loose;
+use std::alloc::Global;
+use std::marker::Model;
+use std::mem;
+
+/// Null, or the pointer of a box. It is not `Drop`, so what it owns cannot be forgotten.
+#[repr(C)]
+pub struct HostHandle {
+    at: *mut u8,
+    pub ghost value: { Option HostCore },
+}
+
+impl Model for HostHandle {
+    ghost also_owns = { λ h. slot_owns core_row h.at h.value };
+}
+
+impl HostHandle {
+    pub fn none() -> HostHandle
+        ensures { result.value ≡ None }
+    {
+        HostHandle {
+            at: std::ptr::null_mut(),
+        }
+    }
+
+    fn of(loose: Loose<HostCore, Global>) -> HostHandle
+        ensures { result.value ≡ Some loose.value }
+    {
+        let Loose { at, alloc: _ } = loose;
+        HostHandle { at: at as *mut u8 }
+    }
+
+    fn into_loose(self, alloc: Global) -> Option<Loose<HostCore, Global>>
+        ensures { self.value ≡ option_map (λ l. l.value) result }
+    {
+        let HostHandle { at } = self;
+        if at.is_null() {
+            return None;
+        }
+        Some(Loose {
+            at: at as *mut HostCore,
+            alloc,
+        })
+    }
+
+    /// The host's box, if there is one.
+    pub fn into_box(self, alloc: Global) -> Option<Box<HostCore>>
+        ensures { self.value ≡ option_map (λ b. b.value) result }
+    {
+        match self.into_loose(alloc) {
+            Some(loose) => Some(loose.into_box()),
+            None => None,
+        }
+    }
+
+    /// Takes the host out, and leaves nothing.
+    pub fn take(&mut self, alloc: Global) -> Option<Box<HostCore>>
+        ensures value { self.old.value ≡ option_map (λ b. b.value) result }
+        ensures empty { self.new.value ≡ None }
+    {
+        mem::replace(self, HostHandle::none()).into_box(alloc)
+    }
+
+    /// Puts a host in, and frees what was there.
+    pub fn put(&mut self, alloc: Global, host: Box<HostCore>)
+        ensures { self.new.value ≡ Some host.value }
+    {
+        let _ = mem::replace(self, HostHandle::of(Loose::of(host))).into_box(alloc);
+    }
+}

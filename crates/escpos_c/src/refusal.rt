@@ -1,0 +1,63 @@
+//! Why a receipt is refused, as C sees it.
+
+ghost use Rattle.std.specs.Prelude.{◌≡◌, Option};
+ghost use Rattle.escpos_receipt.specs.Refusals.{json_number, json_place};
+ghost use Rattle.escpos_c.specs.EncodeCalls.{place_number};
+
+use escpos_receipt::JsonFault;
+
+/// The reason where nothing is refused.
+pub const NO_REASON: u32 = 0;
+
+/// The reason of a text that is longer than 16,777,216 bytes. Those of other texts are 1 to 8.
+pub const TOO_LONG: u32 = 9;
+
+/// The reason of a status request of a kind that isn't 1 to 4. Those of a host are less.
+pub const NO_KIND: u32 = 9;
+
+/// The place where there is none.
+pub const NO_PLACE: usize = usize::MAX;
+
+const _: () = prove!(NO_REASON == 0);
+const _: () = prove!(TOO_LONG == 9);
+const _: () = prove!(NO_KIND == 9);
+
+/// Why a receipt is refused: a number, and the place of the entry or the command, counted from 0.
+#[derive(Clone, Copy, Debug, PartialEq, Eq)]
+pub struct Refusal {
+    pub reason: u32,
+    pub at: usize,
+}
+
+impl Refusal {
+    /// No refusal.
+    pub fn none() -> Self
+        ensures { result ≡ record { reason = NO_REASON; at = NO_PLACE } }
+    {
+        Refusal {
+            reason: NO_REASON,
+            at: NO_PLACE,
+        }
+    }
+
+    /// That of a text that is too long.
+    pub fn too_long() -> Self
+        ensures { result ≡ record { reason = TOO_LONG; at = NO_PLACE } }
+    {
+        Refusal {
+            reason: TOO_LONG,
+            at: NO_PLACE,
+        }
+    }
+}
+
+impl From<JsonFault> for Refusal {
+    ghost from_gives = { λ fault refusal. (refusal.reason ≡ json_number fault) × (refusal.at ≡ place_number (json_place fault)) };
+
+    fn from(fault: JsonFault) -> Self {
+        Refusal {
+            reason: u32::from(fault.number()),
+            at: fault.place().unwrap_or(NO_PLACE),
+        }
+    }
+}
