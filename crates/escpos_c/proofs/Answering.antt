@@ -18,12 +18,12 @@ use Rattle.escpos_c.specs.TextCalls.{AnswersText, IsTextFor}
 pub number_kept : (status : CallStatus) (z : ℤ) → z ≡ number_of_status status → to_z w32 (of_z w32 z) ≡ number_of_status status
 number_kept status z e = ap (λ x. to_z w32 (of_z w32 x)) e ∙ kept status
   where
-  kept : (s : CallStatus) → to_z w32 (of_z w32 (number_of_status s)) ≡ number_of_status s
-  kept call.Good = refl
-  kept call.Refused = refl
-  kept call.Empty = refl
-  kept call.Memory = refl
-  kept call.Short = refl
+    kept : (s : CallStatus) → to_z w32 (of_z w32 (number_of_status s)) ≡ number_of_status s
+    kept call.Good = refl
+    kept call.Refused = refl
+    kept call.Empty = refl
+    kept call.Memory = refl
+    kept call.Short = refl
 
 same_number : {m n : ℕ} → pos m ≡ pos n → m ≡ n
 same_number e = ap nat_abs e
@@ -35,10 +35,13 @@ module _ (is_text is_short : List ℕ → List ℕ → Type 0) (bytes text : Lis
   -- The job's text is the one for these bytes.
   text_for : (status : Status) → Ran status → IsOfContent status → IsTextFor is_text bytes text
   text_for status ran content = elim (cases_lt INPUT_LIMIT (length bytes)) [
-    | inl long ↦ inr (long, elim content [
+    | inl long ↦ inr (
+      long,
+      elim content [
         | inl good ↦ absurd ((ran.too_long long).never_good good)
         | inr refused ↦ (ran.too_long long).refusal refused
-      ])
+      ],
+    )
     | inr short ↦ let found = (ran.short short).text content in inl (short, subst (is_text bytes) (sym found.2) found.1)
   ]
 

@@ -1,5 +1,6 @@
 pub mod Answering
 pub mod HostHandleWord
-pub mod OnHost
+pub mod OnHandle
+pub mod PrinterHandleWord
 pub mod Slots
 pub mod Values

@@ -15,13 +15,6 @@ use Rattle.escpos_c.specs.EncodeCalls.{IsRefusal}
 use Rattle.escpos_c.specs.HostNumbers.{event_kind, event_number, refusal_reason, refusal_status}
 use Rattle.escpos_c.specs.Status.{number_of_status}
 
--- What a call does with a handle: where it holds a host, this, and a host is held after it; where it holds nothing, that, and
--- nothing is held after it.
-abbrev pub OnHost : Option HostCore → Option HostCore → (HostCore → HostCore → Type 0) → Type 0 → Type 0
-OnHost (Some old) (Some new) held empty = held old new
-OnHost None None held empty = empty
-OnHost _ _ held empty = ⊥
-
 -- The handle holds a host that is new, with this number for its next mark, after this many records.
 abbrev pub IsNew : Option HostCore → ℕ → ℕ → Type 0
 IsNew None first before = ⊥

@@ -5,5 +5,8 @@ pub mod EncodeCalls
 pub mod Reasons
 pub mod Answered
 pub mod HostNumbers
+pub mod Handles
 pub mod HostCalls
+pub mod PrinterNumbers
+pub mod PrinterCalls
 pub mod Owned

@@ -26,7 +26,10 @@ pub extern "C" fn escpos_encode(
     ensures { AnswersEncode json.now result out.old out.new written.new reason.new at.new }
 {
     let (status, refusal) = match encoding(alloc, json) {
-        Ok(bytes) => (give(CallStatus::Good, &bytes, out, written), Refusal::none()),
+        Ok(bytes) => (
+            give(CallStatus::Good, &bytes, out, written),
+            Refusal::none(),
+        ),
         Err(NoReceipt::Refused(refusal)) => {
             *written = 0;
             (CallStatus::Refused, refusal)

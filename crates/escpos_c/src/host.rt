@@ -4,7 +4,8 @@ ghost use Rattle.std.specs.Prelude.{◌≡◌, ◌≢◌, ◌⊎◌, ◌↔◌, 
 ghost use Rattle.escpos_host.specs.Machine.{RefusesLinkUp, RefusesNudge, state_of};
 ghost use Rattle.escpos_c.specs.declared.refusal.TheConstants.{NO_REASON};
 ghost use Rattle.escpos_c.specs.HostNumbers.{greatest, state_number};
-ghost use Rattle.escpos_c.specs.HostCalls.{AsksKind, Called, HearsBytes, IsNew, LinksDown, LinksUp, Nudges, OnHost, TakesOut};
+ghost use Rattle.escpos_c.specs.HostCalls.{AsksKind, Called, HearsBytes, IsNew, LinksDown, LinksUp, Nudges, TakesOut};
+ghost use Rattle.escpos_c.specs.Handles.{OnHandle};
 
 use crate::call_status::CallStatus;
 use crate::host_core::HostCore;
@@ -58,7 +59,7 @@ pub extern "C" fn escpos_host_free(alloc: Global, host: &mut HostHandle)
 /// Opens a link: puts one opening mark out.
 #[unsafe(no_mangle)]
 pub extern "C" fn escpos_host_link_up(alloc: Global, host: &mut HostHandle, reason: &mut u32) -> i32
-    ensures { OnHost host.old.value host.new.value (Called LinksUp RefusesLinkUp result reason.new)
+    ensures { OnHandle host.old.value host.new.value (Called LinksUp RefusesLinkUp result reason.new)
         ((result ≡ pos 2) × (reason.new ≡ NO_REASON)) }
 {
     let Some(mut core) = host.take(alloc) else {
@@ -72,7 +73,7 @@ pub extern "C" fn escpos_host_link_up(alloc: Global, host: &mut HostHandle, reas
 /// Puts one more opening mark out; possible while none is answered.
 #[unsafe(no_mangle)]
 pub extern "C" fn escpos_host_nudge(alloc: Global, host: &mut HostHandle, reason: &mut u32) -> i32
-    ensures { OnHost host.old.value host.new.value (Called Nudges RefusesNudge result reason.new)
+    ensures { OnHandle host.old.value host.new.value (Called Nudges RefusesNudge result reason.new)
         ((result ≡ pos 2) × (reason.new ≡ NO_REASON)) }
 {
     let Some(mut core) = host.take(alloc) else {
@@ -92,7 +93,7 @@ pub extern "C" fn escpos_host_ask(
     kind: u8,
     reason: &mut u32,
 ) -> i32
-    ensures { OnHost host.old.value host.new.value (AsksKind kind result reason.new) ((result ≡ pos 2) × (reason.new ≡ NO_REASON)) }
+    ensures { OnHandle host.old.value host.new.value (AsksKind kind result reason.new) ((result ≡ pos 2) × (reason.new ≡ NO_REASON)) }
 {
     let Some(mut core) = host.take(alloc) else {
         return empty(reason);
@@ -105,7 +106,7 @@ pub extern "C" fn escpos_host_ask(
 /// Gives the link up: what wasn't taken out and what was in flight is dropped. With no link nothing changes.
 #[unsafe(no_mangle)]
 pub extern "C" fn escpos_host_link_down(alloc: Global, host: &mut HostHandle) -> i32
-    ensures { OnHost host.old.value host.new.value
+    ensures { OnHandle host.old.value host.new.value
         (λ old new. (result ≡ pos 0) × (new.before ≡ old.before) × LinksDown old.host new.host) (result ≡ pos 2) }
 {
     let Some(mut core) = host.take(alloc) else {
@@ -124,7 +125,7 @@ pub extern "C" fn escpos_host_take_out(
     out: &mut [u8],
     written: &mut usize,
 ) -> i32
-    ensures { OnHost host.old.value host.new.value
+    ensures { OnHandle host.old.value host.new.value
         (λ old new. (result ≡ pos 0) × TakesOut out.old out.new written.new old new)
         ((result ≡ pos 2) × (written.new ≡ 0) × (out.new ≡ out.old)) }
 {
@@ -165,7 +166,7 @@ pub extern "C" fn escpos_host_heard(
     event: &mut u32,
     number: &mut usize,
 ) -> i32
-    ensures { OnHost host.old.value host.new.value
+    ensures { OnHandle host.old.value host.new.value
         (λ old new. (result ≡ pos 0) × HearsBytes bytes.now consumed.new event.new number.new old new)
         ((result ≡ pos 2) × (consumed.new ≡ 0) × (event.new ≡ 0) × (number.new ≡ 0)) }
 {
@@ -218,7 +219,11 @@ pub extern "C" fn escpos_host_next_mark(alloc: Global, host: &mut HostHandle, ma
 
 /// How many receipts are recorded, those of before among them.
 #[unsafe(no_mangle)]
-pub extern "C" fn escpos_host_records(alloc: Global, host: &mut HostHandle, records: &mut usize) -> i32
+pub extern "C" fn escpos_host_records(
+    alloc: Global,
+    host: &mut HostHandle,
+    records: &mut usize,
+) -> i32
     ensures same { host.new.value ≡ host.old.value }
     ensures told { MatchOption host.old.value ((result ≡ pos 2) × (records.new ≡ 0))
         (λ core. (result ≡ pos 0) × (records.new ≡ min (core.before + length core.host.records) greatest)) }

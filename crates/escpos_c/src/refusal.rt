@@ -19,7 +19,9 @@ pub const NO_KIND: u32 = 9;
 pub const NO_PLACE: usize = usize::MAX;
 
 const _: () = prove!(NO_REASON == 0);
+
 const _: () = prove!(TOO_LONG == 9);
+
 const _: () = prove!(NO_KIND == 9);
 
 /// Why a receipt is refused: a number, and the place of the entry or the command, counted from 0.

@@ -4,7 +4,8 @@ ghost use Rattle.std.specs.Prelude.{◌≡◌, pos, IfOk, IfErr};
 ghost use Rattle.escpos_receipt.specs.Describes.{Describes};
 ghost use Rattle.escpos_receipt.specs.Whole.{Whole};
 ghost use Rattle.escpos_c.specs.declared.refusal.TheConstants.{NO_REASON, NO_PLACE};
-ghost use Rattle.escpos_c.specs.HostCalls.{OnHost, SubmitsText};
+ghost use Rattle.escpos_c.specs.HostCalls.{SubmitsText};
+ghost use Rattle.escpos_c.specs.Handles.{OnHandle};
 ghost use Rattle.escpos_c.specs.Reasons.{IsReason};
 ghost use Rattle.escpos_c.specs.Status.{number_of_status};
 
@@ -31,7 +32,7 @@ pub extern "C" fn escpos_host_submit(
     fault: &mut u32,
     at: &mut usize,
 ) -> i32
-    ensures { OnHost host.old.value host.new.value (SubmitsText json.now result reason.new fault.new at.new)
+    ensures { OnHandle host.old.value host.new.value (SubmitsText json.now result reason.new fault.new at.new)
         ((result ≡ pos 2) × (reason.new ≡ NO_REASON) × (fault.new ≡ NO_REASON) × (at.new ≡ NO_PLACE)) }
 {
     let Some(mut core) = host.take(alloc) else {
