@@ -1,0 +1,378 @@
+"""The cores of a receipt line for tills in Python, by ctypes over libescpos.so.
+
+`encode` makes the bytes of a receipt; `listing`, `paper` and `picture` show what a stream says and prints. `Host` is the till's end of
+a line: it says what to send, and when a receipt is printed. `Printer` is the other end, for emulators. Nothing here does I/O: the
+caller has the socket.
+
+The library is the file that the environment variable ESCPOS_LIBRARY names, or libescpos.so beside this file or in its folder `out`;
+bindings/build makes it.
+
+>>> encode([{"line": "Hi"}, {"cut": "full"}])
+b'Hi\\n\\x1dV\\x00'
+>>> print(paper(b"Hi\\n").text, end="")
+row left Hi
+feed 1
+"""
+import collections, ctypes, json, os
+
+__all__ = ["encode", "listing", "paper", "picture", "Host", "Printer", "Refused", "NotNow", "Text", "Event", "Fed"]
+
+_GOOD, _REFUSED, _EMPTY, _MEMORY, _SHORT = 0, 1, 2, 4, 5
+_NO_PLACE = ctypes.c_size_t(-1).value
+
+#: Why a text gives no receipt, by number.
+RECEIPT_REASONS = {
+    1: "Empty", 2: "Forbidden", 3: "TextLeft", 4: "MidLine", 5: "NotJson", 6: "BadShape", 7: "ControlByte", 8: "NotAscii", 9: "TooLong",
+}
+#: Why a host takes no call, by number.
+HOST_REASONS = {1: "NotReady", 2: "MarksUsedUp", 3: "AlreadyUp", 6: "InFlightFull", 9: "NoKind"}
+#: Why no command goes on with a byte, by number.
+FAULT_REASONS = {1: "UnknownByte", 2: "UnknownCommand", 3: "BadParameter", 4: "BadBarcode", 5: "BadSize"}
+
+EVENTS = ("none", "opened", "recorded", "status", "bad answer")
+STATES = ("down", "opening", "ready", "sending")
+STOPS = ("all", "answers full", "offline", "fault", "memory")
+
+Text = collections.namedtuple("Text", "text whole")
+Text.__doc__ = "A text of a stream; `whole` is false where its last line says that the stream isn't read to its end, and why."
+Event = collections.namedtuple("Event", "kind number")
+Event.__doc__ = "What a host heard: one of EVENTS, and the record's number, the status byte or the place of the bad answer."
+Fed = collections.namedtuple("Fed", "consumed stop reason at")
+Fed.__doc__ = "How far a printer took bytes: one of STOPS, and of a fault its reason and its place, otherwise None."
+
+
+class Refused(ValueError):
+    """A text gives no receipt: `reason` is its name, `at` the place of the entry or command, from 0, or None."""
+
+    def __init__(self, number, at):
+        self.reason, self.at = RECEIPT_REASONS[number], None if at == _NO_PLACE else at
+        super().__init__(self.reason if self.at is None else f"{self.reason} at {self.at}")
+
+
+class NotNow(RuntimeError):
+    """A host can't do this now: `reason` is its name."""
+
+    def __init__(self, number):
+        self.reason = HOST_REASONS[number]
+        super().__init__(self.reason)
+
+
+class _Handle(ctypes.Structure):
+    _fields_ = [("at", ctypes.c_void_p)]
+
+
+class _Sensors(ctypes.Structure):
+    _fields_ = [("cover_open", ctypes.c_bool), ("near_end", ctypes.c_bool), ("paper_end", ctypes.c_bool)]
+
+
+def _loaded():
+    here = os.path.dirname(os.path.abspath(__file__))
+    places = [os.environ.get("ESCPOS_LIBRARY"), f"{here}/libescpos.so", f"{here}/out/libescpos.so"]
+    path = next((it for it in places if it and os.path.exists(it)), None)
+    if path is None:
+        raise ImportError("libescpos.so isn't here: run bindings/build, or name it in ESCPOS_LIBRARY")
+    return ctypes.CDLL(path)
+
+
+_HANDLE, _SENSORS = ctypes.POINTER(_Handle), ctypes.POINTER(_Sensors)
+_BYTES, _BUFFER = [ctypes.c_char_p, ctypes.c_size_t], [ctypes.c_void_p, ctypes.c_size_t]
+_SIZE, _U32, _BOOL = ctypes.POINTER(ctypes.c_size_t), ctypes.POINTER(ctypes.c_uint32), ctypes.POINTER(ctypes.c_bool)
+_TEXT = [*_BYTES, *_BUFFER, _SIZE]
+_CALLS = {
+    "escpos_encode": [*_BYTES, *_BUFFER, _SIZE, _U32, _SIZE],
+    "escpos_listing": _TEXT,
+    "escpos_paper": _TEXT,
+    "escpos_picture": _TEXT,
+    "escpos_host_new": [_HANDLE, ctypes.c_uint32],
+    "escpos_host_resume": [_HANDLE, ctypes.c_uint32, ctypes.c_size_t],
+    "escpos_host_free": [_HANDLE],
+    "escpos_host_link_up": [_HANDLE, _U32],
+    "escpos_host_nudge": [_HANDLE, _U32],
+    "escpos_host_submit": [_HANDLE, *_BYTES, _U32, _U32, _SIZE],
+    "escpos_host_ask": [_HANDLE, ctypes.c_uint8, _U32],
+    "escpos_host_link_down": [_HANDLE],
+    "escpos_host_take_out": [_HANDLE, *_BUFFER, _SIZE],
+    "escpos_host_has_out": [_HANDLE, _BOOL],
+    "escpos_host_heard": [_HANDLE, *_BYTES, _SIZE, _U32, _SIZE],
+    "escpos_host_state": [_HANDLE, _U32],
+    "escpos_host_next_mark": [_HANDLE, _U32],
+    "escpos_host_records": [_HANDLE, _SIZE],
+    "escpos_printer_new": [_HANDLE, _SENSORS],
+    "escpos_printer_free": [_HANDLE],
+    "escpos_printer_feed": [_HANDLE, *_BYTES, _SIZE, _U32, _U32, _SIZE],
+    "escpos_printer_take_answer": [_HANDLE, *_BUFFER, _SIZE],
+    "escpos_printer_set_condition": [_HANDLE, _SENSORS],
+    "escpos_printer_paper": [_HANDLE, *_BUFFER, _SIZE],
+    "escpos_printer_tear_off": [_HANDLE],
+}
+_library = _loaded()
+for _name, _arguments in _CALLS.items():
+    getattr(_library, _name).argtypes = _arguments
+    getattr(_library, _name).restype = None if _name.endswith("_free") else ctypes.c_int
+
+
+def _told(status):
+    """Raises what a status means that no call but this one handles."""
+    if status == _MEMORY:
+        raise MemoryError("escpos: out of memory")
+    if status == _EMPTY:
+        raise ValueError("escpos: it is closed")
+    return status
+
+
+def _filled(call, guess, *results):
+    """Calls with a buffer, and again with a longer one if the first was too short; returns the status and what was written."""
+    while True:
+        buffer, written = ctypes.create_string_buffer(max(guess, 1)), ctypes.c_size_t()
+        status = call(buffer, len(buffer), ctypes.byref(written), *results)
+        if status != _SHORT:
+            return _told(status), buffer.raw[: written.value]
+        guess = written.value
+
+
+def _json(receipt):
+    """Returns a receipt as bytes in JSON: bytes as they are, a text in UTF-8, and anything else as `json.dumps` has it."""
+    if isinstance(receipt, (bytes, bytearray)):
+        return bytes(receipt)
+    return (receipt if isinstance(receipt, str) else json.dumps(receipt)).encode()
+
+
+def encode(receipt):
+    """Returns the bytes of a receipt's commands. The receipt is JSON, as text or bytes, or the list that such a text stands for.
+
+    >>> encode('[{"text": "Hi"}]')
+    Traceback (most recent call last):
+    ...
+    escpos.Refused: TextLeft
+    >>> try: encode([{"line": "A"}, {"fed": 1}])
+    ... except Refused as why: print(why.reason, why.at)
+    BadShape 1
+    """
+    text, reason, at = _json(receipt), ctypes.c_uint32(), ctypes.c_size_t()
+    status, written = _filled(lambda *out: _library.escpos_encode(text, len(text), *out), 4096, ctypes.byref(reason), ctypes.byref(at))
+    if status == _REFUSED:
+        raise Refused(reason.value, at.value)
+    return written
+
+
+def _text(call, stream):
+    stream = bytes(stream)
+    status, written = _filled(lambda *out: call(stream, len(stream), *out), 16 * len(stream) + 4096)
+    return Text(written.decode(), status == _GOOD)
+
+
+def listing(stream):
+    """Lists the commands of a stream.
+
+    >>> print(listing(b"A\\n").text, end="")
+    0 char 41
+    1 lf
+    end 2 pending 0
+    >>> listing(b"\\x1b$")
+    Text(text='fault 1 2 UnknownCommand\\n', whole=False)
+    """
+    return _text(_library.escpos_listing, stream)
+
+
+def paper(stream):
+    """Prints a stream on paper, as text.
+
+    >>> paper(b"A\\n\\x1dV\\x00")
+    Text(text='row left A\\nfeed 1\\ncut full\\n', whole=True)
+    """
+    return _text(_library.escpos_paper, stream)
+
+
+def picture(stream):
+    """Prints a stream on paper, as a picture: an SVG document.
+
+    >>> picture(b"A\\n").text.startswith("<svg "), picture(b"A\\n").whole
+    (True, True)
+    >>> "é" in picture(b"\\x82\\n").text
+    True
+    """
+    return _text(_library.escpos_picture, stream)
+
+
+class _Held:
+    """What a handle holds; it is freed once, by `close`, at the end of a `with`, or with the object."""
+
+    _free = None
+
+    def close(self):
+        """Frees it. Every later call raises ValueError."""
+        if self._free:
+            self._free(ctypes.byref(self._handle))
+
+    def __enter__(self):
+        return self
+
+    def __exit__(self, *_):
+        self.close()
+
+    def __del__(self):
+        self.close()
+
+    def _number(self, call, kind):
+        number = kind()
+        _told(call(ctypes.byref(self._handle), ctypes.byref(number)))
+        return number.value
+
+
+class Host(_Held):
+    """The till's end of a line.
+
+    `first_mark` is the number of its first mark: what `next_mark` said last to the run before, and 0 with a new printer. No number may
+    be used twice with a printer, so keep `next_mark` where it survives a crash before you send what `take_out` gives. `records` is how
+    many receipts are recorded already.
+
+    >>> host, printer = Host(), Printer()
+    >>> host.link_up()
+    >>> def turn():
+    ...     while True:
+    ...         piece = host.take_out()
+    ...         printer.feed(piece)
+    ...         answer = printer.take_answer()
+    ...         if not piece and answer is None: return
+    ...         for event in host.hear(answer or b""): print(event)
+    >>> turn()
+    Event(kind='opened', number=0)
+    >>> host.submit([{"line": "Hi"}])
+    >>> turn()
+    Event(kind='recorded', number=0)
+    >>> print(printer.paper(), end="")
+    row left Hi
+    feed 1
+    >>> host.state, host.next_mark, host.records
+    ('ready', 2, 1)
+    """
+
+    def __init__(self, first_mark=0, records=0):
+        self._handle, self._free = _Handle(), _library.escpos_host_free
+        _told(_library.escpos_host_resume(ctypes.byref(self._handle), first_mark, records))
+
+    def _does(self, call, *arguments):
+        reason = ctypes.c_uint32()
+        if _told(call(ctypes.byref(self._handle), *arguments, ctypes.byref(reason))) == _REFUSED:
+            raise NotNow(reason.value)
+
+    def link_up(self):
+        """Opens a link: puts one opening mark out.
+
+        >>> host = Host(); host.link_up(); host.link_up()
+        Traceback (most recent call last):
+        ...
+        escpos.NotNow: AlreadyUp
+        """
+        self._does(_library.escpos_host_link_up)
+
+    def nudge(self):
+        """Puts one more opening mark out, for a printer that doesn't answer."""
+        self._does(_library.escpos_host_nudge)
+
+    def ask(self, kind):
+        """Puts a status request of a kind from 1 to 4 out; possible while the link is open and no receipt is in flight."""
+        self._does(_library.escpos_host_ask, kind)
+
+    def submit(self, receipt):
+        """Puts a receipt out; possible while the link is open and fewer than four are in flight. Raises Refused where it is no
+        receipt, and NotNow where the host takes none."""
+        text, reason, fault, at = _json(receipt), ctypes.c_uint32(), ctypes.c_uint32(), ctypes.c_size_t()
+        told = [ctypes.byref(it) for it in (reason, fault, at)]
+        if _told(_library.escpos_host_submit(ctypes.byref(self._handle), text, len(text), *told)) == _REFUSED:
+            raise Refused(fault.value, at.value) if fault.value else NotNow(reason.value)
+
+    def link_down(self):
+        """Gives the link up. A receipt that was in flight and isn't recorded may have been printed or not."""
+        _told(_library.escpos_host_link_down(ctypes.byref(self._handle)))
+
+    def take_out(self, most=65536):
+        """Returns the next bytes for the link, at most so many; none if there are none."""
+        return _filled(lambda *out: _library.escpos_host_take_out(ctypes.byref(self._handle), *out), most)[1]
+
+    def heard(self, answer):
+        """Hears bytes from the link, up to the first event; returns how many were heard, and the event."""
+        consumed, kind, number = ctypes.c_size_t(), ctypes.c_uint32(), ctypes.c_size_t()
+        told = [ctypes.byref(it) for it in (consumed, kind, number)]
+        _told(_library.escpos_host_heard(ctypes.byref(self._handle), bytes(answer), len(answer), *told))
+        return consumed.value, Event(EVENTS[kind.value], number.value)
+
+    def hear(self, answer):
+        """Hears all of these bytes, and gives each event; after a bad answer the link is down, and the rest isn't heard."""
+        while answer:
+            consumed, event = self.heard(answer)
+            answer = answer[consumed:]
+            if event.kind != "none":
+                yield event
+            if event.kind == "bad answer":
+                return
+
+    @property
+    def has_out(self):
+        """Whether there are bytes for the link."""
+        return self._number(_library.escpos_host_has_out, ctypes.c_bool)
+
+    @property
+    def state(self):
+        """Where the host stands with its link: one of STATES."""
+        return STATES[self._number(_library.escpos_host_state, ctypes.c_uint32)]
+
+    @property
+    def next_mark(self):
+        """The number of the next mark."""
+        return self._number(_library.escpos_host_next_mark, ctypes.c_uint32)
+
+    @property
+    def records(self):
+        """How many receipts are recorded, those of before among them."""
+        return self._number(_library.escpos_host_records, ctypes.c_size_t)
+
+
+class Printer(_Held):
+    """A printer, with nothing on its paper.
+
+    >>> with Printer() as printer:
+    ...     printer.feed(b"A\\x1b$"), printer.feed(b"\\n")
+    ...     printer.paper()
+    (Fed(consumed=2, stop='fault', reason='UnknownCommand', at=2), Fed(consumed=1, stop='all', reason=None, at=None))
+    'row left A\\nfeed 1\\n'
+    >>> printer.paper()
+    Traceback (most recent call last):
+    ...
+    ValueError: escpos: it is closed
+    """
+
+    def __init__(self, cover_open=False, near_end=False, paper_end=False):
+        self._handle, self._free = _Handle(), _library.escpos_printer_free
+        sensors = _Sensors(cover_open, near_end, paper_end)
+        _told(_library.escpos_printer_new(ctypes.byref(self._handle), ctypes.byref(sensors)))
+
+    def feed(self, piece):
+        """Feeds bytes of a stream, up to the first that can't be taken now."""
+        consumed, stop, reason, at = ctypes.c_size_t(), ctypes.c_uint32(), ctypes.c_uint32(), ctypes.c_size_t()
+        told = [ctypes.byref(it) for it in (consumed, stop, reason, at)]
+        _told(_library.escpos_printer_feed(ctypes.byref(self._handle), bytes(piece), len(piece), *told))
+        return Fed(consumed.value, STOPS[stop.value], FAULT_REASONS.get(reason.value), None if at.value == _NO_PLACE else at.value)
+
+    def take_answer(self):
+        """Returns the answer that has waited longest, as its bytes, or None.
+
+        >>> printer = Printer(cover_open=True)
+        >>> printer.feed(b"\\x10\\x04\\x02A").stop, printer.take_answer(), printer.take_answer()
+        ('offline', b'\\x16', None)
+        """
+        written = _filled(lambda *out: _library.escpos_printer_take_answer(ctypes.byref(self._handle), *out), 7)[1]
+        return written or None
+
+    def set_condition(self, cover_open=False, near_end=False, paper_end=False):
+        """Sets what the sensors say."""
+        sensors = _Sensors(cover_open, near_end, paper_end)
+        _told(_library.escpos_printer_set_condition(ctypes.byref(self._handle), ctypes.byref(sensors)))
+
+    def paper(self):
+        """Returns what is on the paper, as text."""
+        return _filled(lambda *out: _library.escpos_printer_paper(ctypes.byref(self._handle), *out), 4096)[1].decode()
+
+    def tear_off(self):
+        """Drops what is on the paper."""
+        _told(_library.escpos_printer_tear_off(ctypes.byref(self._handle)))

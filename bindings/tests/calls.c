@@ -1,0 +1,420 @@
+/* Calls each function of escpos.h: worked rows byte by byte, a whole link between a host and a printer, buffers that are too short,
+ * handles that hold nothing, and all of it again with each allocation failing in turn (bindings/test links it with malloc and realloc
+ * wrapped, and runs it under valgrind). It prints what is wrong and how much was checked; the exit status is 1 if anything is. */
+#include "escpos.h"
+#include <stdio.h>
+#include <stdlib.h>
+#include <string.h>
+
+/* ---- allocations that fail ---- */
+
+void *__real_malloc(size_t size);
+void *__real_realloc(void *block, size_t size);
+static unsigned long asked, failing; /* the one that fails, counted from 1; 0: none */
+
+static int fails(void) { return ++asked == failing; }
+void *__wrap_malloc(size_t size) { return fails() ? NULL : __real_malloc(size); }
+void *__wrap_realloc(void *block, size_t size) { return fails() ? NULL : __real_realloc(block, size); }
+
+/* ---- what is checked ---- */
+
+static unsigned long checked, wrong;
+
+static void is(int holds, const char *what, int line) {
+    checked++;
+    if (!holds) {
+        wrong++;
+        printf("line %d, allocation %lu failing: %s\n", line, failing, what);
+    }
+}
+#define IS(condition) is(condition, #condition, __LINE__)
+
+static const uint8_t *bytes(const char *text) { return (const uint8_t *)text; }
+
+#define CAPACITY 4096
+static uint8_t buffer[CAPACITY];
+static uint8_t kept[CAPACITY];
+
+/* A call that ran out of memory has left the buffer as it was. It is made again, and must do what it does with ample memory. */
+static int last;
+static int keep(void) {
+    memcpy(kept, buffer, CAPACITY);
+    return 1;
+}
+static int ran_out(int status) {
+    if (status != ESCPOS_MEMORY || !failing) return 0;
+    IS(memcmp(kept, buffer, CAPACITY) == 0);
+    return 1;
+}
+#define CALL(call) (keep(), last = (call), ran_out(last) ? (last = (call)) : last)
+
+static void blank(void) { memset(buffer, 0xA5, CAPACITY); }
+/* All bytes of the buffer from here on are as they were. */
+static int is_blank(size_t from) {
+    for (size_t at = from; at < CAPACITY; at++)
+        if (buffer[at] != 0xA5) return 0;
+    return 1;
+}
+static int holds(const void *wanted, size_t len) { return memcmp(buffer, wanted, len) == 0 && is_blank(len); }
+
+/* ---- calls that keep nothing ---- */
+
+struct encoded {
+    const char *json, *bytes;
+    size_t len;
+};
+#define BYTES(text) text, sizeof text - 1
+static const struct encoded ENCODED[] = {
+    {"[{\"line\":\"Hi\"},{\"cut\":\"full\"}]", BYTES("Hi\n\x1D\x56\x00")},
+    {"[{\"size\":[8,1]},{\"line\":\"A\"}]", BYTES("\x1D\x21\x70\x41\n")},
+    {"[{\"text\":\"A\"},{\"align\":\"center\"},{\"feed\":2}]", BYTES("\x41\x1B\x61\x01\x1B\x64\x02")},
+    {"[{\"bars\":{\"kind\":\"ean8\",\"content\":\"5512345\"}}]", BYTES("\x1D\x6B\x44\x07\x35\x35\x31\x32\x33\x34\x35")},
+    {"[{\"qr\":{\"content\":\"A/1\",\"size\":8,\"level\":\"M\"}}]", BYTES("\x1D(k\x03\x00" "1C\x08\x1D(k\x03\x00" "1E1\x1D(k\x06\x00" "1P0A/1\x1D(k\x03\x00" "1Q0")},
+    {"[{\"line\":\"A\"},{\"units\":5},{\"pulse\":{\"pin\":0,\"on\":25,\"off\":250}}]", BYTES("\x41\n\x1B\x4A\x05\x1B\x70\x00\x19\xFA")},
+};
+
+struct refused {
+    const char *json;
+    uint32_t reason;
+    size_t at;
+};
+static const struct refused REFUSED[] = {
+    {"[]", ESCPOS_RECEIPT_EMPTY, ESCPOS_NO_PLACE},
+    {"[{\"text\":\"Hi\"}]", ESCPOS_TEXT_LEFT, ESCPOS_NO_PLACE},
+    {"[{\"text\":\"Hi\"},{\"cut\":\"full\"}]", ESCPOS_MID_LINE, 2},
+    {"[", ESCPOS_NOT_JSON, ESCPOS_NO_PLACE},
+    {"[{\"line\":\"A\"},{\"fed\":1}]", ESCPOS_BAD_SHAPE, 1},
+    {"[{\"line\":\"\\t\"}]", ESCPOS_CONTROL_BYTE, 0},
+    {"[{\"line\":\"\\u00e4\"}]", ESCPOS_NOT_ASCII, 0},
+};
+
+static void encodes(void) {
+    for (size_t row = 0; row < sizeof ENCODED / sizeof *ENCODED; row++) {
+        const struct encoded *it = &ENCODED[row];
+        size_t written = 77, at = 77;
+        uint32_t reason = 77;
+        blank();
+        IS(CALL(escpos_encode(bytes(it->json), strlen(it->json), buffer, CAPACITY, &written, &reason, &at)) == ESCPOS_GOOD);
+        IS(written == it->len && holds(it->bytes, it->len) && reason == 0 && at == ESCPOS_NO_PLACE);
+        blank();
+        IS(CALL(escpos_encode(bytes(it->json), strlen(it->json), buffer, it->len - 1, &written, &reason, &at)) == ESCPOS_SHORT);
+        IS(written == it->len && is_blank(0) && reason == 0 && at == ESCPOS_NO_PLACE);
+        IS(CALL(escpos_encode(bytes(it->json), strlen(it->json), buffer, it->len, &written, &reason, &at)) == ESCPOS_GOOD);
+        IS(written == it->len && holds(it->bytes, it->len));
+    }
+    for (size_t row = 0; row < sizeof REFUSED / sizeof *REFUSED; row++) {
+        const struct refused *it = &REFUSED[row];
+        size_t written = 77, at = 77;
+        uint32_t reason = 77;
+        blank();
+        IS(CALL(escpos_encode(bytes(it->json), strlen(it->json), buffer, CAPACITY, &written, &reason, &at)) == ESCPOS_REFUSED);
+        IS(written == 0 && is_blank(0) && reason == it->reason && at == it->at);
+    }
+}
+
+typedef int text_call(const uint8_t *, size_t, uint8_t *, size_t, size_t *);
+
+static void gives(text_call *call, const char *stream, size_t len, const char *text, int status, int line) {
+    size_t written = 77, wanted = strlen(text);
+    blank();
+    is(CALL(call(bytes(stream), len, buffer, CAPACITY, &written)) == status && written == wanted && holds(text, wanted), text, line);
+    if (!wanted) return;
+    blank();
+    is(CALL(call(bytes(stream), len, buffer, wanted - 1, &written)) == ESCPOS_SHORT && written == wanted && is_blank(0), "too short", line);
+    is(CALL(call(bytes(stream), len, buffer, wanted, &written)) == status && written == wanted && holds(text, wanted), "just long enough", line);
+}
+#define GIVES(call, stream, text, status) gives(call, stream, sizeof stream - 1, text, status, __LINE__)
+
+static void lists_and_prints(void) {
+    GIVES(escpos_listing, "", "end 0 pending 0\n", ESCPOS_GOOD);
+    GIVES(escpos_listing, "\x1B@Hi\n\x1DV\x00", "0 init\n2 char 48\n3 char 69\n4 lf\n5 cut 00\nend 8 pending 0\n", ESCPOS_GOOD);
+    GIVES(escpos_listing, "\x1B@Hi\n\x1DV", "0 init\n2 char 48\n3 char 69\n4 lf\nend 7 pending 2\n", ESCPOS_REFUSED);
+    GIVES(escpos_listing, "\x1B@\x1B$", "0 init\nfault 3 2 UnknownCommand\n", ESCPOS_REFUSED);
+    GIVES(escpos_paper, "", "", ESCPOS_GOOD);
+    GIVES(escpos_paper, "\x1B@Hi\n\x1DV\x00", "row left Hi\nfeed 1\ncut full\n", ESCPOS_GOOD);
+    GIVES(escpos_paper, "\x1B" "E\x01" "A\x1B" "E\x00" "B\n", "row left [A,1,1,1,0,0]A[A,1,1,0,0,0]B\nfeed 1\n", ESCPOS_GOOD);
+    GIVES(escpos_paper, "\n\x1DV", "feed 1\nend 3 pending 2\n", ESCPOS_REFUSED);
+    GIVES(escpos_paper, "\nA\x06", "feed 1\nfault 2 1 UnknownByte\n", ESCPOS_REFUSED);
+}
+
+/* The document of an empty paper, and of one with a row and a feed. */
+#define DOCUMENT(height, body) \
+    "<svg xmlns=\"http://www.w3.org/2000/svg\" version=\"1.1\" width=\"576\" height=\"" height "\" viewBox=\"0 0 576 " height "\" xml:space=\"preserve\">\n" \
+    "<style type=\"text/css\">\n" \
+    ".paper{fill:#fff}\n" \
+    "text{font-family:\"DejaVu Sans Mono\",Menlo,Consolas,monospace;font-size:20px;white-space:pre}\n" \
+    ".B{font-size:15px}\n" \
+    ".bold{font-weight:bold}\n" \
+    ".white{fill:#fff}\n" \
+    ".middle{text-anchor:middle}\n" \
+    ".bars path,.raster path{stroke:#000;shape-rendering:crispEdges}\n" \
+    ".raster{clip-path:url(#line)}\n" \
+    ".box,.cut circle,.cut path{fill:none;stroke:#000;stroke-width:2}\n" \
+    ".dashes{stroke-dasharray:8 6}\n" \
+    ".last{fill:#a00}\n" \
+    "</style>\n" \
+    "<clipPath id=\"line\"><path d=\"M0 0h512v8190H0z\"/></clipPath>\n" \
+    "<rect class=\"paper\" width=\"576\" height=\"" height "\"/>\n" body "</svg>\n"
+
+static void draws(void) {
+    GIVES(escpos_picture, "", DOCUMENT("64", ""), ESCPOS_GOOD);
+    GIVES(escpos_picture, "Hi\n", DOCUMENT("94", "<g class=\"row\" transform=\"translate(32,50)\"><text x=\"0\" textLength=\"24\">Hi</text></g>\n<g class=\"feed\"/>\n"), ESCPOS_GOOD);
+}
+
+static void is_too_long(void) {
+    size_t len = 16777217, written = 77, at = 77;
+    uint32_t reason = 77;
+    uint8_t *text = __real_malloc(len);
+    memset(text, ' ', len);
+    blank();
+    IS(escpos_encode(text, len, buffer, CAPACITY, &written, &reason, &at) == ESCPOS_REFUSED);
+    IS(written == 0 && is_blank(0) && reason == ESCPOS_TOO_LONG && at == ESCPOS_NO_PLACE);
+    IS(escpos_encode(text, len - 1, buffer, CAPACITY, &written, &reason, &at) == ESCPOS_REFUSED && reason == ESCPOS_NOT_JSON);
+    IS(escpos_listing(text, len, buffer, CAPACITY, &written) == ESCPOS_REFUSED && written == 14 && holds("refused input\n", 14));
+    free(text);
+}
+
+/* ---- a host ---- */
+
+static void stands(escpos_host *host, uint32_t state, uint32_t next_mark, size_t records) {
+    uint32_t found = 77, mark = 77;
+    size_t count = 77;
+    IS(escpos_host_state(host, &found) == ESCPOS_GOOD && found == state);
+    IS(escpos_host_next_mark(host, &mark) == ESCPOS_GOOD && mark == next_mark);
+    IS(escpos_host_records(host, &count) == ESCPOS_GOOD && count == records);
+}
+
+static void puts_out(escpos_host *host, const char *wanted, size_t len) {
+    size_t written = 77;
+    bool has = false;
+    IS(escpos_host_has_out(host, &has) == ESCPOS_GOOD && has == (len != 0));
+    blank();
+    /* a few bytes first, then the rest */
+    IS(escpos_host_take_out(host, buffer, 3, &written) == ESCPOS_GOOD && written == (len < 3 ? len : 3) && is_blank(written));
+    size_t first = written;
+    IS(escpos_host_take_out(host, buffer + first, CAPACITY - first, &written) == ESCPOS_GOOD && first + written == len && holds(wanted, len));
+    IS(escpos_host_has_out(host, &has) == ESCPOS_GOOD && !has);
+}
+
+static void hears(escpos_host *host, const char *answer, size_t len, size_t wanted, uint32_t event, size_t number) {
+    size_t consumed = 77, found = 77;
+    uint32_t kind = 77;
+    IS(escpos_host_heard(host, bytes(answer), len, &consumed, &kind, &found) == ESCPOS_GOOD);
+    IS(consumed == wanted && kind == event && found == number);
+}
+
+static int submits(escpos_host *host, const char *json, uint32_t *reason, uint32_t *fault, size_t *at) {
+    return CALL(escpos_host_submit(host, bytes(json), strlen(json), reason, fault, at));
+}
+
+static void goes_through_a_link(void) {
+    escpos_host host = {0};
+    uint32_t reason = 77, fault = 77;
+    size_t at = 77;
+    const char *receipt = "[{\"line\":\"Hi\"}]";
+    IS(CALL(escpos_host_resume(&host, 5, 3)) == ESCPOS_GOOD);
+    stands(&host, ESCPOS_DOWN, 5, 3);
+    IS(CALL(escpos_host_nudge(&host, &reason)) == ESCPOS_REFUSED && reason == ESCPOS_NOT_READY);
+    IS(submits(&host, receipt, &reason, &fault, &at) == ESCPOS_REFUSED && reason == ESCPOS_NOT_READY && fault == 0 && at == ESCPOS_NO_PLACE);
+    IS(CALL(escpos_host_link_up(&host, &reason)) == ESCPOS_GOOD && reason == 0);
+    IS(CALL(escpos_host_link_up(&host, &reason)) == ESCPOS_REFUSED && reason == ESCPOS_ALREADY_UP);
+    stands(&host, ESCPOS_OPENING, 6, 3);
+    puts_out(&host, BYTES("\x1D(H\x06\x00" "000005"));
+    IS(CALL(escpos_host_nudge(&host, &reason)) == ESCPOS_GOOD && reason == 0);
+    puts_out(&host, BYTES("\x1D(H\x06\x00" "000006"));
+    IS(CALL(escpos_host_ask(&host, 1, &reason)) == ESCPOS_REFUSED && reason == ESCPOS_NOT_READY);
+    hears(&host, BYTES("\x37\"00"), 4, ESCPOS_NO_EVENT, 0);
+    hears(&host, BYTES("05\x00\x12"), 3, ESCPOS_OPENED, 0);
+    hears(&host, BYTES("\x12"), 1, ESCPOS_STATUS, 0x12);
+    stands(&host, ESCPOS_READY, 7, 3);
+    IS(CALL(escpos_host_ask(&host, 0, &reason)) == ESCPOS_REFUSED && reason == ESCPOS_NO_KIND);
+    IS(CALL(escpos_host_ask(&host, 5, &reason)) == ESCPOS_REFUSED && reason == ESCPOS_NO_KIND);
+    IS(CALL(escpos_host_ask(&host, 4, &reason)) == ESCPOS_GOOD && reason == 0);
+    puts_out(&host, BYTES("\x10\x04\x04"));
+    IS(submits(&host, "[{\"fed\":1}]", &reason, &fault, &at) == ESCPOS_REFUSED && reason == 0 && fault == ESCPOS_BAD_SHAPE && at == 0);
+    for (int count = 0; count < 4; count++)
+        IS(submits(&host, receipt, &reason, &fault, &at) == ESCPOS_GOOD && reason == 0 && fault == 0 && at == ESCPOS_NO_PLACE);
+    IS(submits(&host, receipt, &reason, &fault, &at) == ESCPOS_REFUSED && reason == ESCPOS_IN_FLIGHT_FULL);
+    stands(&host, ESCPOS_SENDING, 11, 3);
+    puts_out(&host, BYTES("\x1B@Hi\n\x1D(H\x06\x00" "000007" "\x1B@Hi\n\x1D(H\x06\x00" "000008" "\x1B@Hi\n\x1D(H\x06\x00" "000009" "\x1B@Hi\n\x1D(H\x06\x00" "00000A"));
+    hears(&host, BYTES("\x37\"0007\x00\x37\"0008\x00"), 7, ESCPOS_RECORDED, 3);
+    hears(&host, BYTES("\x37\"0008\x00"), 7, ESCPOS_RECORDED, 4);
+    stands(&host, ESCPOS_SENDING, 11, 5);
+    hears(&host, BYTES("\x37\"000A\x00"), 6, ESCPOS_BAD_ANSWER, 6);
+    stands(&host, ESCPOS_DOWN, 11, 5);
+    hears(&host, BYTES("\x13\x13"), 2, ESCPOS_NO_EVENT, 0);
+    IS(CALL(escpos_host_link_up(&host, &reason)) == ESCPOS_GOOD);
+    IS(escpos_host_link_down(&host) == ESCPOS_GOOD);
+    puts_out(&host, "", 0);
+    IS(CALL(escpos_host_new(&host, 1679616)) == ESCPOS_GOOD);
+    IS(CALL(escpos_host_link_up(&host, &reason)) == ESCPOS_REFUSED && reason == ESCPOS_MARKS_USED_UP);
+    stands(&host, ESCPOS_DOWN, 1679616, 0);
+    escpos_host_free(&host);
+    escpos_host_free(&host);
+}
+
+static void holds_no_host(void) {
+    escpos_host host = {0};
+    uint32_t reason = 77, fault = 77, number = 77, event = 77;
+    size_t at = 77, count = 77, consumed = 77;
+    bool has = true;
+    IS(escpos_host_link_up(&host, &reason) == ESCPOS_EMPTY && reason == 0);
+    reason = 77;
+    IS(escpos_host_nudge(&host, &reason) == ESCPOS_EMPTY && reason == 0);
+    reason = 77;
+    IS(escpos_host_ask(&host, 1, &reason) == ESCPOS_EMPTY && reason == 0);
+    reason = 77;
+    IS(escpos_host_submit(&host, bytes("[]"), 2, &reason, &fault, &at) == ESCPOS_EMPTY && reason == 0 && fault == 0 && at == ESCPOS_NO_PLACE);
+    IS(escpos_host_link_down(&host) == ESCPOS_EMPTY);
+    blank();
+    IS(escpos_host_take_out(&host, buffer, CAPACITY, &count) == ESCPOS_EMPTY && count == 0 && is_blank(0));
+    IS(escpos_host_has_out(&host, &has) == ESCPOS_EMPTY && !has);
+    IS(escpos_host_heard(&host, bytes("\x12"), 1, &consumed, &event, &count) == ESCPOS_EMPTY && consumed == 0 && event == 0 && count == 0);
+    IS(escpos_host_state(&host, &number) == ESCPOS_EMPTY && number == 0);
+    number = 77;
+    IS(escpos_host_next_mark(&host, &number) == ESCPOS_EMPTY && number == 0);
+    count = 77;
+    IS(escpos_host_records(&host, &count) == ESCPOS_EMPTY && count == 0);
+    escpos_host_free(&host);
+}
+
+/* ---- a printer ---- */
+
+static void feeds(escpos_printer *printer, const char *stream, size_t len, size_t wanted, uint32_t stop, uint32_t reason, size_t place) {
+    size_t consumed = 77, at = 77, done = 0;
+    uint32_t kind = 77, why = 77;
+    IS(escpos_printer_feed(printer, bytes(stream), len, &consumed, &kind, &why, &at) == ESCPOS_GOOD);
+    if (kind == ESCPOS_STOP_MEMORY && failing) {
+        IS(why == 0 && at == ESCPOS_NO_PLACE);
+        done = consumed;
+        IS(escpos_printer_feed(printer, bytes(stream) + done, len - done, &consumed, &kind, &why, &at) == ESCPOS_GOOD);
+    }
+    IS(done + consumed == wanted && kind == stop && why == reason && (at == place || at + done == place));
+}
+
+static void answers(escpos_printer *printer, const char *wanted, size_t len) {
+    size_t written = 77;
+    blank();
+    IS(escpos_printer_take_answer(printer, buffer, 6, &written) == ESCPOS_SHORT && written == 7 && is_blank(0));
+    IS(escpos_printer_take_answer(printer, buffer, CAPACITY, &written) == ESCPOS_GOOD && written == len && holds(wanted, len));
+}
+
+static void has_paper(escpos_printer *printer, const char *text) {
+    size_t written = 77, len = strlen(text);
+    blank();
+    if (len) IS(CALL(escpos_printer_paper(printer, buffer, len - 1, &written)) == ESCPOS_SHORT && written == len && is_blank(0));
+    IS(CALL(escpos_printer_paper(printer, buffer, CAPACITY, &written)) == ESCPOS_GOOD && written == len && holds(text, len));
+}
+
+static void prints(void) {
+    escpos_printer printer = {0};
+    escpos_sensors fine = {false, false, false}, open = {true, false, false}, near = {false, true, false}, out = {false, false, true};
+    IS(CALL(escpos_printer_new(&printer, &fine)) == ESCPOS_GOOD);
+    has_paper(&printer, "");
+    answers(&printer, "", 0);
+    feeds(&printer, BYTES("Hi\n\x1DV\x00\x10\x04\x01" "A"), 10, ESCPOS_STOP_ALL, 0, ESCPOS_NO_PLACE);
+    has_paper(&printer, "row left Hi\nfeed 1\ncut full\n");
+    answers(&printer, BYTES("\x12"));
+    answers(&printer, "", 0);
+    feeds(&printer, BYTES("B\x1B$"), 2, ESCPOS_STOP_FAULT, ESCPOS_UNKNOWN_COMMAND, 2);
+    feeds(&printer, BYTES("$\n"), 2, ESCPOS_STOP_ALL, 0, ESCPOS_NO_PLACE);
+    IS(escpos_printer_tear_off(&printer) == ESCPOS_GOOD);
+    has_paper(&printer, "");
+    IS(escpos_printer_set_condition(&printer, &open) == ESCPOS_GOOD);
+    feeds(&printer, BYTES("\x10\x04\x02" "A"), 3, ESCPOS_STOP_OFFLINE, 0, ESCPOS_NO_PLACE);
+    answers(&printer, BYTES("\x16"));
+    IS(escpos_printer_set_condition(&printer, &near) == ESCPOS_GOOD);
+    feeds(&printer, BYTES("\x10\x04\x04"), 3, ESCPOS_STOP_ALL, 0, ESCPOS_NO_PLACE);
+    answers(&printer, BYTES("\x1E"));
+    IS(escpos_printer_set_condition(&printer, &out) == ESCPOS_GOOD);
+    feeds(&printer, BYTES("\x10\x04\x04"), 3, ESCPOS_STOP_ALL, 0, ESCPOS_NO_PLACE);
+    answers(&printer, BYTES("\x72"));
+    for (int count = 0; count < 16; count++) feeds(&printer, BYTES("\x10\x04\x01"), 3, ESCPOS_STOP_ALL, 0, ESCPOS_NO_PLACE);
+    feeds(&printer, BYTES("\x10\x04\x01"), 2, ESCPOS_STOP_ANSWERS_FULL, 0, ESCPOS_NO_PLACE);
+    IS(CALL(escpos_printer_new(&printer, &fine)) == ESCPOS_GOOD);
+    answers(&printer, "", 0);
+    escpos_printer_free(&printer);
+    escpos_printer_free(&printer);
+}
+
+static void holds_no_printer(void) {
+    escpos_printer printer = {0};
+    escpos_sensors fine = {false, false, false};
+    size_t consumed = 77, at = 77, written = 77;
+    uint32_t stop = 77, reason = 77;
+    IS(escpos_printer_feed(&printer, bytes("A"), 1, &consumed, &stop, &reason, &at) == ESCPOS_EMPTY);
+    IS(consumed == 0 && stop == 0 && reason == 0 && at == ESCPOS_NO_PLACE);
+    blank();
+    IS(escpos_printer_take_answer(&printer, buffer, CAPACITY, &written) == ESCPOS_EMPTY && written == 0 && is_blank(0));
+    written = 77;
+    IS(escpos_printer_paper(&printer, buffer, CAPACITY, &written) == ESCPOS_EMPTY && written == 0 && is_blank(0));
+    IS(escpos_printer_set_condition(&printer, &fine) == ESCPOS_EMPTY);
+    IS(escpos_printer_tear_off(&printer) == ESCPOS_EMPTY);
+    escpos_printer_free(&printer);
+}
+
+/* ---- both ends ---- */
+
+/* Bytes go from one to the other until neither has any; returns the last event that isn't ESCPOS_NO_EVENT. */
+static uint32_t run_link(escpos_host *host, escpos_printer *printer) {
+    uint32_t found = ESCPOS_NO_EVENT;
+    for (int turn = 0; turn < 100; turn++) {
+        uint8_t piece[16];
+        size_t written = 0, consumed = 0, number = 0;
+        uint32_t event = 0;
+        IS(escpos_host_take_out(host, piece, sizeof piece, &written) == ESCPOS_GOOD);
+        if (written) feeds(printer, (const char *)piece, written, written, ESCPOS_STOP_ALL, 0, ESCPOS_NO_PLACE);
+        size_t sent = written;
+        IS(escpos_printer_take_answer(printer, piece, sizeof piece, &written) == ESCPOS_GOOD);
+        if (!sent && !written) return found;
+        if (written) IS(escpos_host_heard(host, piece, written, &consumed, &event, &number) == ESCPOS_GOOD && consumed == written);
+        if (event) found = event;
+    }
+    return found;
+}
+
+static void prints_a_receipt(void) {
+    escpos_host host = {0};
+    escpos_printer printer = {0};
+    escpos_sensors fine = {false, false, false};
+    uint32_t reason, fault;
+    size_t at;
+    IS(CALL(escpos_host_new(&host, 0)) == ESCPOS_GOOD);
+    IS(CALL(escpos_printer_new(&printer, &fine)) == ESCPOS_GOOD);
+    IS(CALL(escpos_host_link_up(&host, &reason)) == ESCPOS_GOOD);
+    IS(run_link(&host, &printer) == ESCPOS_OPENED);
+    IS(submits(&host, "[{\"line\":\"One\"}]", &reason, &fault, &at) == ESCPOS_GOOD);
+    IS(submits(&host, "[{\"qr\":{\"size\":3,\"level\":\"L\",\"content\":\"https://example.com\"}},{\"cut\":\"full\"}]", &reason, &fault, &at) == ESCPOS_GOOD);
+    IS(run_link(&host, &printer) == ESCPOS_RECORDED);
+    stands(&host, ESCPOS_READY, 3, 2);
+    has_paper(&printer, "row left One\nfeed 1\nqr left 2 3 L https://example.com\ncut full\n");
+    escpos_printer_free(&printer);
+    escpos_host_free(&host);
+}
+
+static void all(void) {
+    encodes();
+    lists_and_prints();
+    draws();
+    goes_through_a_link();
+    holds_no_host();
+    prints();
+    holds_no_printer();
+    prints_a_receipt();
+}
+
+int main(int count, char **arguments) {
+    asked = 0;
+    all();
+    unsigned long most = asked, step = 1;
+    is_too_long();
+    if (count > 1) step = strtoul(arguments[1], NULL, 10);
+    /* each allocation in turn; a call that is made again allocates again, so a run may ask for more than the first */
+    for (failing = 1; failing <= most; failing += step) {
+        asked = 0;
+        all();
+    }
+    failing = 0;
+    printf("%lu checks, %lu wrong; %lu allocations, each failing in turn\n", checked, wrong, most);
+    return wrong != 0;
+}
