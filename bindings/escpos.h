@@ -69,6 +69,9 @@ int escpos_picture(const uint8_t *bytes, size_t len, uint8_t *out, size_t capaci
  * the oldest one in flight is on the paper. If a link breaks it calls escpos_host_link_down; a receipt that was in flight and isn't
  * recorded may have been printed or not.
  *
+ * A host keeps the receipts that it recorded: a till that runs for long makes a new one between two links, by escpos_host_resume with
+ * the next mark and the number of records.
+ *
  * No number of a mark may ever be used twice with a printer: before a till sends a byte, it keeps what escpos_host_next_mark says,
  * where it survives a crash, and gives it to the host of its next run as `first_mark`. */
 typedef struct {

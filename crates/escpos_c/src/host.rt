@@ -103,7 +103,8 @@ pub extern "C" fn escpos_host_ask(
     status.number()
 }
 
-/// Gives the link up: what wasn't taken out and what was in flight is dropped. With no link nothing changes.
+/// Gives the link up: what wasn't taken out is dropped. What was in flight may have been printed or not. With no link nothing
+/// changes.
 #[unsafe(no_mangle)]
 pub extern "C" fn escpos_host_link_down(alloc: Global, host: &mut HostHandle) -> i32
     ensures { OnHandle host.old.value host.new.value
