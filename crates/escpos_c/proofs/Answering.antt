@@ -1,11 +1,11 @@
 -- What the caller is answered, from what the job says of its text.
-use Rattle.std.proofs.Common.{◌≡◌, ℕ, ◌<◌, ◌≤◌, ℤ, pos, nat_abs, Bool, List, [], length, Some, refl, sym, ◌∙◌, ap, subst, inl, inr, w32, to_z, of_z}
+use Rattle.std.proofs.Common.{◌≡◌, ℕ, ◌≤◌, ℤ, pos, nat_abs, Bool, List, [], length, Some, refl, sym, ◌∙◌, ap, subst, inl, inr, w32, to_z, of_z}
 use Rattle.std.specs.Prelude.{Option, IfSome}
 use Rattle.std.proofs.lemmas.Bool.{cases_lt}
 use Rattle.escpos_jobs.specs.declared.input.TheConstants.{INPUT_LIMIT}
 use Rattle.escpos_jobs.specs.declared.status.Status.{Status}
 use Rattle.escpos_jobs.specs.declared.status.Status.TheVariants as job
-use Rattle.escpos_jobs.specs.Ending.{JobEnd, job_end}
+use Rattle.escpos_jobs.specs.Ending.{job_end}
 use Rattle.escpos_jobs.specs.Report.{IsAllRead, IsOfContent, ReportsAs, RunsRawAs}
 use Rattle.escpos_c.specs.declared.call_status.CallStatus.{CallStatus}
 use Rattle.escpos_c.specs.declared.call_status.CallStatus.TheVariants as call

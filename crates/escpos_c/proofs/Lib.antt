@@ -1,6 +1,7 @@
 pub mod Answering
-pub mod HostHandleWord
+pub mod Heap
 pub mod OnHandle
-pub mod PrinterHandleWord
+pub mod Recast
 pub mod Slots
-pub mod Values
+pub mod Steps
+pub mod Word

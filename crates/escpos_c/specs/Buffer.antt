@@ -1,5 +1,5 @@
 -- What becomes of the caller's buffer.
-use Rattle.std.specs.Prelude.{ℕ, ◌≡◌, ◌≢◌, ◌⊎◌, ◌<◌, ◌≤◌, List, ◌++◌, length, drop}
+use Rattle.std.specs.Prelude.{ℕ, ◌≡◌, ◌⊎◌, ◌<◌, ◌≤◌, List, ◌++◌, length, drop}
 use Rattle.escpos_c.specs.declared.call_status.CallStatus.{CallStatus}
 use Rattle.escpos_c.specs.declared.call_status.CallStatus.TheVariants.{Short}
 

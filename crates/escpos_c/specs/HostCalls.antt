@@ -1,5 +1,5 @@
 -- What the calls of a host answer. Each does what the call of escpos_host does that it stands for.
-use Rattle.std.specs.Prelude.{ℕ, ℤ, pos, ◌≡◌, ◌≢◌, ◌⊎◌, ◌+◌, ◌<◌, ◌≤◌, Bool, min, List, [], ◌++◌, length, take, drop, Option, Some, None, IsTrue}
+use Rattle.std.specs.Prelude.{ℕ, ℤ, pos, ◌≡◌, ◌≢◌, ◌⊎◌, ◌<◌, min, List, [], ◌++◌, length, take, drop, Option, Some, None, IsTrue}
 use Rattle.escpos_command.specs.declared.command.Command.{Command}
 use Rattle.escpos_command.specs.Parameters.{is_status_kind}
 use Rattle.escpos_receipt.specs.Describes.{Describes}
@@ -8,7 +8,7 @@ use Rattle.escpos_host.specs.declared.host.HostError.{HostError}
 use Rattle.escpos_host.specs.declared.host.HostEvent.{HostEvent}
 use Rattle.escpos_host.specs.declared.host.HostEvent.TheVariants as event
 use Rattle.escpos_host.specs.Heard.{IsHeard}
-use Rattle.escpos_host.specs.Machine.{HostView, InFlight, Down, Open, HasMark, IsOpening, RefusesAsk, RefusesLinkUp, RefusesNudge, RefusesSubmit, asked, gone_down, linked, most_in_flight, nudged, submitted, taken_out}
+use Rattle.escpos_host.specs.Machine.{HostView, InFlight, Down, Open, HasMark, IsOpening, RefusesAsk, RefusesSubmit, asked, gone_down, linked, most_in_flight, nudged, submitted, taken_out}
 use Rattle.escpos_c.specs.declared.host_core.HostCore.{HostCore}
 use Rattle.escpos_c.specs.declared.refusal.TheConstants.{NO_KIND, NO_REASON, NO_PLACE}
 use Rattle.escpos_c.specs.EncodeCalls.{IsRefusal}

@@ -1,5 +1,5 @@
 -- The numbers in which C is told of a host.
-use Rattle.std.specs.Prelude.{ℕ, ◌+◌, min, Option, Some, None, Result, Ok, Err}
+use Rattle.std.specs.Prelude.{ℕ, ◌+◌, min, Result, Ok, Err}
 use Rattle.escpos_host.specs.declared.host.HostError.{HostError}
 use Rattle.escpos_host.specs.declared.host.HostError.TheVariants as error
 use Rattle.escpos_host.specs.declared.host.HostEvent.{HostEvent}

@@ -1,5 +1,5 @@
 -- The numbers that C sees.
-use Rattle.std.specs.Prelude.{ℕ, ℤ, pos}
+use Rattle.std.specs.Prelude.{ℤ, pos}
 use Rattle.escpos_c.specs.declared.call_status.CallStatus.{CallStatus}
 use Rattle.escpos_c.specs.declared.call_status.CallStatus.TheVariants.{Good, Refused, Empty, Memory, Short}
 

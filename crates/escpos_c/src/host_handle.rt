@@ -5,7 +5,7 @@ ghost use Rattle.escpos_c.specs.contracts.host_core.HostCore.{the_row as core_ro
 ghost use Rattle.escpos_c.specs.Owned.{slot_owns};
 
 use crate::host_core::HostCore;
-use crate::loose::Loose;
+use crate::slot::Slot;
 use std::alloc::Global;
 use std::marker::Model;
 use std::mem;
@@ -25,39 +25,30 @@ impl HostHandle {
     pub fn none() -> HostHandle
         ensures { result.value ≡ None }
     {
-        HostHandle {
-            at: std::ptr::null_mut(),
-        }
+        HostHandle::of(Slot::none())
     }
 
-    fn of(loose: Loose<HostCore, Global>) -> HostHandle
-        ensures { result.value ≡ Some loose.value }
+    fn of(slot: Slot<HostCore>) -> HostHandle
+        ensures { result.value ≡ slot.value }
     {
-        let Loose { at, alloc: _ } = loose;
+        let Slot { at } = slot;
         HostHandle { at: at as *mut u8 }
     }
 
-    fn into_loose(self, alloc: Global) -> Option<Loose<HostCore, Global>>
-        ensures { self.value ≡ option_map (λ l. l.value) result }
+    fn into_slot(self) -> Slot<HostCore>
+        ensures { result.value ≡ self.value }
     {
         let HostHandle { at } = self;
-        if at.is_null() {
-            return None;
-        }
-        Some(Loose {
+        Slot {
             at: at as *mut HostCore,
-            alloc,
-        })
+        }
     }
 
     /// The host's box, if there is one.
     pub fn into_box(self, alloc: Global) -> Option<Box<HostCore>>
         ensures { self.value ≡ option_map (λ b. b.value) result }
     {
-        match self.into_loose(alloc) {
-            Some(loose) => Some(loose.into_box()),
-            None => None,
-        }
+        self.into_slot().into_box(alloc)
     }
 
     /// Takes the host out, and leaves nothing.
@@ -72,6 +63,6 @@ impl HostHandle {
     pub fn put(&mut self, alloc: Global, host: Box<HostCore>)
         ensures { self.new.value ≡ Some host.value }
     {
-        let _ = mem::replace(self, HostHandle::of(Loose::of(host))).into_box(alloc);
+        let _ = mem::replace(self, HostHandle::of(Slot::of(host))).into_box(alloc);
     }
 }

@@ -1,11 +1,12 @@
-//! The cores as a C library: encode a receipt, list a stream, print it as text or as a picture; and a host behind a handle.
+//! The cores as a C library: encode a receipt, list a stream, print it as text or as a picture; a host and a printer behind
+//! handles.
 //!
-//! The functions that C calls are those of `encode` and `stateless`, which keep nothing, and of `host` and `submit`, which work
-//! on a host that a handle holds. `call_status`, `refusal` and `host_core` have the numbers in which C is told what came of a
-//! call, `no_receipt` why a text gives no receipt. `collected` is the sink in which a call gathers its text, `spelling` has the
-//! bytes of a receipt, and `buffer` moves either into the caller's buffer. `host_handle` is what C owns: nothing, or a box,
-//! whose pointer `loose` takes apart and puts together. `bindings/escpos.h` declares what C sees. No function here reads,
-//! writes or waits, or keeps a pointer that it was given.
+//! The functions that C calls are those of `encode` and `stateless`, which keep nothing, of `host` and `submit`, which work on a
+//! host that a handle holds, and of `printer`. `call_status`, `refusal`, `host_core` and `printer_core` have the numbers in
+//! which C is told what came of a call, `no_receipt` why a text gives no receipt. `collected` is the sink in which a call
+//! gathers its text, `spelling` has the bytes of a receipt, and `buffer` moves either into the caller's buffer. `host_handle`
+//! and `printer_handle` are what C owns: nothing, or a box, whose pointer `slot` takes apart and puts together.
+//! `bindings/escpos.h` declares what C sees. No function here reads, writes or waits, or keeps a pointer that it was given.
 #![tactic(auto)]
 
 mod buffer;
@@ -15,12 +16,12 @@ mod encode;
 mod host;
 mod host_core;
 mod host_handle;
-mod loose;
 mod no_receipt;
 mod printer;
 mod printer_core;
 mod printer_handle;
 mod refusal;
+mod slot;
 mod spelling;
 mod stateless;
 mod submit;

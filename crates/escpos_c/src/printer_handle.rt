@@ -4,8 +4,8 @@ ghost use Rattle.escpos_c.specs.declared.printer_core.PrinterCore.{PrinterCore};
 ghost use Rattle.escpos_c.specs.contracts.printer_core.PrinterCore.{the_row as core_row};
 ghost use Rattle.escpos_c.specs.Owned.{slot_owns};
 
-use crate::loose::Loose;
 use crate::printer_core::PrinterCore;
+use crate::slot::Slot;
 use std::alloc::Global;
 use std::marker::Model;
 use std::mem;
@@ -25,39 +25,30 @@ impl PrinterHandle {
     pub fn none() -> PrinterHandle
         ensures { result.value ≡ None }
     {
-        PrinterHandle {
-            at: std::ptr::null_mut(),
-        }
+        PrinterHandle::of(Slot::none())
     }
 
-    fn of(loose: Loose<PrinterCore, Global>) -> PrinterHandle
-        ensures { result.value ≡ Some loose.value }
+    fn of(slot: Slot<PrinterCore>) -> PrinterHandle
+        ensures { result.value ≡ slot.value }
     {
-        let Loose { at, alloc: _ } = loose;
+        let Slot { at } = slot;
         PrinterHandle { at: at as *mut u8 }
     }
 
-    fn into_loose(self, alloc: Global) -> Option<Loose<PrinterCore, Global>>
-        ensures { self.value ≡ option_map (λ l. l.value) result }
+    fn into_slot(self) -> Slot<PrinterCore>
+        ensures { result.value ≡ self.value }
     {
         let PrinterHandle { at } = self;
-        if at.is_null() {
-            return None;
-        }
-        Some(Loose {
+        Slot {
             at: at as *mut PrinterCore,
-            alloc,
-        })
+        }
     }
 
     /// The printer's box, if there is one.
     pub fn into_box(self, alloc: Global) -> Option<Box<PrinterCore>>
         ensures { self.value ≡ option_map (λ b. b.value) result }
     {
-        match self.into_loose(alloc) {
-            Some(loose) => Some(loose.into_box()),
-            None => None,
-        }
+        self.into_slot().into_box(alloc)
     }
 
     /// Takes the printer out, and leaves nothing.
@@ -72,6 +63,6 @@ impl PrinterHandle {
     pub fn put(&mut self, alloc: Global, printer: Box<PrinterCore>)
         ensures { self.new.value ≡ Some printer.value }
     {
-        let _ = mem::replace(self, PrinterHandle::of(Loose::of(printer))).into_box(alloc);
+        let _ = mem::replace(self, PrinterHandle::of(Slot::of(printer))).into_box(alloc);
     }
 }

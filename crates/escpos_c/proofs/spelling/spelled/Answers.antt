@@ -1,5 +1,5 @@
 -- The bytes of an entry follow those before it.
-use Rattle.std.proofs.Common.{◌≡◌, ◌<◌, ◌∙◌, ◌++◌, length, ap, sym, arith}
+use Rattle.std.proofs.Common.{◌<◌, ◌∙◌, ◌++◌, length, ap, sym, arith}
 use Rattle.escpos_command.specs.CommandTable.{spell}
 use Rattle.escpos_receipt.specs.EntryCommands.{commands_in}
 use Rattle.escpos_jobs.proofs.EntrySpellings.{one_more_entry}

@@ -1,50 +1,16 @@
--- `of` keeps the pointer, and the slot owns what the loose box owned.
-use Rattle.std.proofs.Common.{◌≡◌, List, [], ◌∷◌, ◌++◌, refl, sym, subst}
-use mir.Val.{Val, vptr}
-use base.Logic.{SProp, ent, emp, id⊢}
-use base.Fml.{ftrue}
-use prog.Wp.{WpFn}
-use types.Kit.{‵, raw, ◌⊛◌, ◌$◌, ◌∵◌, !, qed, by, move, keep, split, fsplit, fjoin, suffices, use0, use1}
-use types.Run.{stop, fld, of_opd, no_more, and_then, returns, enter}
-use types.ByLocal.{alloc_all, pass_all, free_all, look_at, get, get_in, sets}
-use types.Part.{agg, sub, whole}
-use contract.Monad.{fact, fact_i}
-use contract.Running.{tables}
-use denote.Exit.{yes}
-use denote.RattleType.{RattleType, owns}
-use denote.RawPtr.{block_ptr}
-use denote.Signature.{types_at, plain}
-use denote.Steps.{nothing}
-use denote.Triple.Walked.{Stays, stay_dropped, walk_of}
-use Rattle.std.specs.Prelude.{Some}
-use Rattle.std.specs.contracts.alloc.Global as heap
-use Rattle.std.proofs.alloc.Global.TheLaws as heap_laws
-use Rattle.std.specs.contracts.impls.GlobalAllocator.TheImpl.{ghosts}
-use Rattle.std.proofs.alloc.Calls.{Goes-blank}
-use Rattle.std.proofs.raw_atomic.Walks.{proved_at, leaves}
+-- `of` is a recast: a handle owns what the slot owned.
+use Rattle.escpos_c.proofs.Steps.{id⊢}
+use Rattle.escpos_c.proofs.Recast.{recast}
+use Rattle.escpos_c.proofs.host_core.HostCore.TheLaws.{the_row_laws}
+use Rattle.escpos_c.proofs.slot.Slot.TheLaws.{lowers}
 use Rattle.escpos_c.specs.contracts.host_core.HostCore as host
+use Rattle.escpos_c.specs.contracts.slot.Slot as slot
 use Rattle.escpos_c.specs.contracts.host_handle.HostHandle as handle
-use Rattle.escpos_c.proofs.Values.{both, Loose, loose_good, loose_out}
-use Rattle.escpos_c.proofs.HostHandleWord.{handle_in}
-use Rattle.escpos_c.proofs.Slots.{word}
 use Rattle.escpos_c.specs.contracts.host_handle.HostHandle.of as f
 use Rattle.escpos_c.proofs.host_handle.HostHandle.of.Statement.{statement}
 use Rattle.escpos_c.proofs.host_handle.HostHandle.of.Code as code
 
 pub of_spec : {M : Type 1} → statement M
 of_spec 𝓤 𝓛 𝓜 𝓡 wired =
-    let H = 𝓛.H in let 𝓣 = tables 𝓤 H 𝓜 𝓡 𝓡.env in let R : RattleType = host.the_row in let Z : RattleType = heap.the_row in let LZ = heap_laws.the_row_laws in let Lo : RattleType = Loose R Z LZ ghosts in
-    let c = f.clauses 𝓛 𝓜.mem 𝓡.returns in let fn = code.function in let hs : Stays f.ended.signature.params f.ended.kept = (stay_dropped (plain (λ _. Lo)) yes, tt) in
-    proved_at 𝓛 f.ended hs c 𝓜 𝓡 (Goes-blank 𝓛 0 (plain (λ _. Lo)) yes (λ κs x f. tt), tt) f.Key.name fn (code.unfolded 𝓤 H 𝓜 𝓡 wired) (λ z are.
-    let v = z.0.3.0 in let Post : Val → SProp 𝓤 = (walk_of 𝓛 f.ended hs c).post z in let Run : List Val → SProp 𝓤 = λ ws. WpFn 𝓤 H 𝓣.C 𝓣.Λ fn ws Post in
-    qed 𝓛 ((‵ ftrue ⊛ ‵ (owns (types_at f.signature.params z.0.0) z.0.3 z.0.4)) ∷ ‵ ftrue ∷ []) ∵ split ! $ move ! (1 ∷ []) $ fsplit ! $ loose_out R Z LZ ghosts ! v z.0.4.0 (λ b o h e ws fits.
-    let w : Val = both (vptr b o) h in let d : (handle.the_row).Denot = record { at = block_ptr b o; value = Some v.value } in
-    use1 𝓛 (‵ (handle.the_heap d)) (id⊢ 𝓤 _) $ handle_in ! d $
-    suffices ! (Run (w ∷ [])) (subst (λ (us : List Val). ent 𝓤 (Run (w ∷ [])) (Run us)) (sym (λ i. ws i ++ [])) (id⊢ 𝓤 (Run (w ∷ [])))) $
-    enter ! 𝓣.C 𝓣.Λ fn (w ∷ []) Post $ alloc_all ! (λ l. pass_all ! refl (loose_good R Z LZ ghosts b o h fits, tt) $
-    sets ! (of_opd ! (get_in ! (fld ! refl (stop !)) (sub ! 0 refl (whole !)))) refl (tt, tt) $ sets ! (of_opd ! (get ! refl)) refl (tt, tt) $
-    sets ! (agg ! (and_then ! (get ! refl) (no_more !))) refl (tt, (tt, tt)) $
-    use0 𝓛 (raw (fact 𝓤 (d.value ≡ Some v.value))) (fact_i 𝓤 (d.value ≡ Some v.value) (emp 𝓤) refl) $
-    nothing ! $ nothing ! $ fjoin ! $
-    -- [what is left of the parameter; the fact; the handle; the allocator; nothing; nothing; nothing]
-    returns ! (look_at ! 0 refl) $ free_all ! refl $ keep ! (4 ∷ 0 ∷ 2 ∷ 1 ∷ []) $ by ! (leaves 𝓛 f.ended hs c z (word (block_ptr b o)) d (tt, tt) (tt, tt)))))
+    recast (slot.the_row host.the_row) handle.the_row (λ s. s.at) (λ s. record { at = s.at; value = s.value }) (λ h. h.value) 𝓤 𝓛 𝓜 𝓡
+    (λ s. tt) (λ s w. tt) (lowers host.the_row the_row_laws).val_is (λ s vs. id⊢ 𝓤 _) _ _ f.Key.name (code.unfolded 𝓤 𝓛.H 𝓜 𝓡 wired)
