@@ -15,9 +15,13 @@ abbrev pub place_number : Option ℕ → ℕ
 place_number None = NO_PLACE
 place_number (Some at) = at
 
+-- The text, which isn't too long, describes this receipt.
+abbrev pub GivesReceipt : List ℕ → List Command → Type 0
+GivesReceipt json cs = (length json ≤ INPUT_LIMIT) × Describes json cs × Whole cs
+
 -- The bytes are those of the receipt that the text describes.
 abbrev pub IsEncoding : List ℕ → List ℕ → Type 0
-IsEncoding json bytes = (cs : List Command) × Describes json cs × Whole cs × (bytes ≡ spell cs)
+IsEncoding json bytes = (cs : List Command) × GivesReceipt json cs × (bytes ≡ spell cs)
 
 -- Why the text gives no receipt, as C sees it: it is too long, or the number and the place of its fault.
 abbrev pub IsRefusal : List ℕ → ℕ → ℕ → Type 0

@@ -2,8 +2,6 @@
 use Rattle.std.specs.Prelude.{ℕ, ℤ, pos, ◌≡◌, ◌≢◌, ◌⊎◌, ◌<◌, min, List, [], ◌++◌, length, take, drop, Option, Some, None, IsTrue}
 use Rattle.escpos_command.specs.declared.command.Command.{Command}
 use Rattle.escpos_command.specs.Parameters.{is_status_kind}
-use Rattle.escpos_receipt.specs.Describes.{Describes}
-use Rattle.escpos_receipt.specs.Whole.{Whole}
 use Rattle.escpos_host.specs.declared.host.HostError.{HostError}
 use Rattle.escpos_host.specs.declared.host.HostEvent.{HostEvent}
 use Rattle.escpos_host.specs.declared.host.HostEvent.TheVariants as event
@@ -11,7 +9,7 @@ use Rattle.escpos_host.specs.Heard.{IsHeard}
 use Rattle.escpos_host.specs.Machine.{HostView, InFlight, Down, Open, HasMark, IsOpening, RefusesAsk, RefusesSubmit, asked, gone_down, linked, most_in_flight, nudged, submitted, taken_out}
 use Rattle.escpos_c.specs.declared.host_core.HostCore.{HostCore}
 use Rattle.escpos_c.specs.declared.refusal.TheConstants.{NO_KIND, NO_REASON, NO_PLACE}
-use Rattle.escpos_c.specs.EncodeCalls.{IsRefusal}
+use Rattle.escpos_c.specs.EncodeCalls.{GivesReceipt, IsRefusal}
 use Rattle.escpos_c.specs.HostNumbers.{event_kind, event_number, refusal_reason, refusal_status}
 use Rattle.escpos_c.specs.Status.{number_of_status}
 
@@ -59,7 +57,7 @@ Submits receipt h after =
 -- the text gives no receipt, and the host isn't asked; or memory ran out over the text.
 abbrev pub SubmitsText : List ℕ → ℤ → ℕ → ℕ → ℕ → HostCore → HostCore → Type 0
 SubmitsText json status reason fault at old new =
-    ((receipt : List Command) × Describes json receipt × Whole receipt × Called (Submits receipt) RefusesSubmit status reason old new × (fault ≡ NO_REASON) × (at ≡ NO_PLACE))
+    ((receipt : List Command) × GivesReceipt json receipt × Called (Submits receipt) RefusesSubmit status reason old new × (fault ≡ NO_REASON) × (at ≡ NO_PLACE))
     ⊎ ((status ≡ pos 1) × (reason ≡ NO_REASON) × IsRefusal json fault at × (new ≡ old))
     ⊎ ((status ≡ pos 4) × (reason ≡ NO_REASON) × (fault ≡ NO_REASON) × (at ≡ NO_PLACE) × (new ≡ old))
 

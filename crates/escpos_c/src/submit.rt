@@ -1,9 +1,8 @@
 //! Submits a receipt, given in JSON, to the host behind a handle.
 
 ghost use Rattle.std.specs.Prelude.{◌≡◌, pos, IfOk, IfErr};
-ghost use Rattle.escpos_receipt.specs.Describes.{Describes};
-ghost use Rattle.escpos_receipt.specs.Whole.{Whole};
 ghost use Rattle.escpos_c.specs.declared.refusal.TheConstants.{NO_REASON, NO_PLACE};
+ghost use Rattle.escpos_c.specs.EncodeCalls.{GivesReceipt};
 ghost use Rattle.escpos_c.specs.HostCalls.{SubmitsText};
 ghost use Rattle.escpos_c.specs.Handles.{OnHandle};
 ghost use Rattle.escpos_c.specs.Reasons.{IsReason};
@@ -72,7 +71,7 @@ fn submit_text(
 
 // The receipt that a text describes.
 fn receipt_of(alloc: Global, json: &[u8]) -> Result<Receipt, NoReceipt>
-    ensures receipt { IfOk result (λ receipt. Describes json.now receipt × Whole receipt) }
+    ensures receipt { IfOk result (λ receipt. GivesReceipt json.now receipt) }
     ensures refused { IfErr result (λ why. IsReason why json.now) }
 {
     if json.len() > INPUT_LIMIT {
