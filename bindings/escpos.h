@@ -1,7 +1,8 @@
 /* escpos.h: the cores of a receipt line, for tills in C and in languages that call C. Link libescpos.a or libescpos.so.
  *
- * The library does no I/O: it opens nothing, waits for nothing, has no global state, calls nothing but malloc, realloc and free,
- * and keeps no pointer that it was given. The caller keeps its own loop, sockets and threads.
+ * The library does no I/O: it opens nothing, waits for nothing, has no global state, calls nothing but malloc, realloc, free, memcpy,
+ * memmove and memset, and keeps no pointer that it was given. The caller keeps its own loop, sockets and threads. A call takes up to
+ * 256 KiB of stack.
  *
  * Every call that returns an int answers a status:
  *   0 ESCPOS_GOOD     done
@@ -43,8 +44,8 @@ enum {
     ESCPOS_MID_LINE = 4,          /* a barcode, picture, QR code or cut while text is in the line */
     ESCPOS_NOT_JSON = 5,          /* not JSON in UTF-8 */
     ESCPOS_BAD_SHAPE = 6,         /* not an array, or an entry that isn't one of a receipt's */
-    ESCPOS_CONTROL_BYTE = 7,      /* a control character in a text */
-    ESCPOS_NOT_ASCII = 8,         /* a character after ~ in a text */
+    ESCPOS_CONTROL_BYTE = 7,      /* a character below 20 (hexadecimal) in a text */
+    ESCPOS_NOT_ASCII = 8,         /* a character above 7F in a text */
     ESCPOS_TOO_LONG = 9           /* more than 16,777,216 bytes */
 };
 
@@ -60,7 +61,8 @@ int escpos_listing(const uint8_t *bytes, size_t len, uint8_t *out, size_t capaci
 /* The paper that a stream prints, as text, as `escpos_cli render --raw` prints it. 1 is as for escpos_listing. */
 int escpos_paper(const uint8_t *bytes, size_t len, uint8_t *out, size_t capacity, size_t *written);
 
-/* The paper that a stream prints, as a picture in SVG, as `escpos_cli draw --raw` prints it. 1 is as for escpos_listing. */
+/* The paper that a stream prints, as a picture in SVG, as `escpos_cli draw --raw` prints it. 1 is as for escpos_listing, with that last
+ * line under the paper. */
 int escpos_picture(const uint8_t *bytes, size_t len, uint8_t *out, size_t capacity, size_t *written);
 
 /* A host: the till's end of a line. It says what to send, and when a receipt is printed. A till opens a link, calls
@@ -93,7 +95,8 @@ enum {
     ESCPOS_OPENED = 1,    /* the link is open */
     ESCPOS_RECORDED = 2,  /* the oldest receipt in flight is printed: `number` is its record, from 0 */
     ESCPOS_STATUS = 3,    /* the printer sent the status byte `number` */
-    ESCPOS_BAD_ANSWER = 4 /* the byte at place `number` fits no answer: the link is given up, close it */
+    ESCPOS_BAD_ANSWER = 4 /* the byte at place `number` of these bytes fits no answer, or ends the answer to the mark of a later
+                           * receipt than the oldest: the link is given up, close it */
 };
 
 /* Where a host stands with its link. */
@@ -116,11 +119,12 @@ void escpos_host_free(escpos_host *host);
 /* Opens a link: puts one opening mark out. */
 int escpos_host_link_up(escpos_host *host, uint32_t *reason);
 
-/* Puts one more opening mark out, for a printer that doesn't answer; possible while none is answered. */
+/* Puts one more opening mark out; possible while none is answered. A printer may still wait for the rest of a command that an older link
+ * cut off, and takes the first marks for that: so put out a few. */
 int escpos_host_nudge(escpos_host *host, uint32_t *reason);
 
-/* Puts the receipt that a text in JSON describes out, after Init and before its closing mark; possible while fewer than four are
- * in flight. At 1 either the text describes none: `fault` and `at` say why, as those of escpos_encode do, and `reason` is 0; or the
+/* Puts the receipt that a text in JSON describes out, after Init and before its closing mark; possible while the link is open and fewer
+ * than four are in flight. At 1 either the text describes none: `fault` and `at` say why, as those of escpos_encode do, and `reason` is 0; or the
  * host takes none now: `reason` says why, and `fault` is 0. */
 int escpos_host_submit(escpos_host *host, const uint8_t *json, size_t json_len, uint32_t *reason, uint32_t *fault, size_t *at);
 

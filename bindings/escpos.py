@@ -2,10 +2,10 @@
 
 `encode` makes the bytes of a receipt; `listing`, `paper` and `picture` show what a stream says and prints. `Host` is the till's end of
 a line: it says what to send, and when a receipt is printed. `Printer` is the other end, for emulators. Nothing here does I/O: the
-caller has the socket.
+caller has the socket. The functions may be called from any thread; a `Host` or a `Printer` is for the thread that made it.
 
-The library is the file that the environment variable ESCPOS_LIBRARY names, or libescpos.so beside this file or in its folder `out`;
-bindings/build makes it.
+The library is the file that the environment variable ESCPOS_LIBRARY names, if it is set, otherwise libescpos.so beside this file or in
+its folder `out`; bindings/build makes it.
 
 >>> encode([{"line": "Hi"}, {"cut": "full"}])
 b'Hi\\n\\x1dV\\x00'
@@ -13,12 +13,16 @@ b'Hi\\n\\x1dV\\x00'
 row left Hi
 feed 1
 """
-import collections, ctypes, json, os
+import collections, ctypes, json, os, threading
 
-__all__ = ["encode", "listing", "paper", "picture", "Host", "Printer", "Refused", "NotNow", "Text", "Event", "Fed"]
+__all__ = [
+    "encode", "listing", "paper", "picture", "Host", "Printer", "Refused", "NotNow", "Text", "Event", "Fed",
+    "RECEIPT_REASONS", "HOST_REASONS", "FAULT_REASONS", "EVENTS", "STATES", "STOPS",
+]
 
 _GOOD, _REFUSED, _EMPTY, _MEMORY, _SHORT = 0, 1, 2, 4, 5
 _NO_PLACE = ctypes.c_size_t(-1).value
+_LONGEST = 16777216
 
 #: Why a text gives no receipt, by number.
 RECEIPT_REASONS = {
@@ -34,7 +38,7 @@ STATES = ("down", "opening", "ready", "sending")
 STOPS = ("all", "answers full", "offline", "fault", "memory")
 
 Text = collections.namedtuple("Text", "text whole")
-Text.__doc__ = "A text of a stream; `whole` is false where its last line says that the stream isn't read to its end, and why."
+Text.__doc__ = "A text of a stream; `whole` is false where the stream isn't read to its end, and a last line in the text says why."
 Event = collections.namedtuple("Event", "kind number")
 Event.__doc__ = "What a host heard: one of EVENTS, and the record's number, the status byte or the place of the bad answer."
 Fed = collections.namedtuple("Fed", "consumed stop reason at")
@@ -44,17 +48,20 @@ Fed.__doc__ = "How far a printer took bytes: one of STOPS, and of a fault its re
 class Refused(ValueError):
     """A text gives no receipt: `reason` is its name, `at` the place of the entry or command, from 0, or None."""
 
-    def __init__(self, number, at):
-        self.reason, self.at = RECEIPT_REASONS[number], None if at == _NO_PLACE else at
-        super().__init__(self.reason if self.at is None else f"{self.reason} at {self.at}")
+    def __init__(self, reason, at):
+        super().__init__(reason, at)
+        self.reason, self.at = reason, at
+
+    def __str__(self):
+        return self.reason if self.at is None else f"{self.reason} at {self.at}"
 
 
 class NotNow(RuntimeError):
     """A host can't do this now: `reason` is its name."""
 
-    def __init__(self, number):
-        self.reason = HOST_REASONS[number]
-        super().__init__(self.reason)
+    def __init__(self, reason):
+        super().__init__(reason)
+        self.reason = reason
 
 
 class _Handle(ctypes.Structure):
@@ -65,13 +72,14 @@ class _Sensors(ctypes.Structure):
     _fields_ = [("cover_open", ctypes.c_bool), ("near_end", ctypes.c_bool), ("paper_end", ctypes.c_bool)]
 
 
-def _loaded():
+def _path():
     here = os.path.dirname(os.path.abspath(__file__))
-    places = [os.environ.get("ESCPOS_LIBRARY"), f"{here}/libescpos.so", f"{here}/out/libescpos.so"]
-    path = next((it for it in places if it and os.path.exists(it)), None)
-    if path is None:
-        raise ImportError("libescpos.so isn't here: run bindings/build, or name it in ESCPOS_LIBRARY")
-    return ctypes.CDLL(path)
+    named = os.environ.get("ESCPOS_LIBRARY")
+    places = [os.path.abspath(named)] if named else [f"{here}/libescpos.so", f"{here}/out/libescpos.so"]
+    for path in places:
+        if os.path.exists(path):
+            return path
+    raise ImportError(f"there is no {' or '.join(places)}: run bindings/build, or name libescpos.so in ESCPOS_LIBRARY")
 
 
 _HANDLE, _SENSORS = ctypes.POINTER(_Handle), ctypes.POINTER(_Sensors)
@@ -105,10 +113,21 @@ _CALLS = {
     "escpos_printer_paper": [_HANDLE, *_BUFFER, _SIZE],
     "escpos_printer_tear_off": [_HANDLE],
 }
-_library = _loaded()
-for _name, _arguments in _CALLS.items():
-    getattr(_library, _name).argtypes = _arguments
-    getattr(_library, _name).restype = None if _name.endswith("_free") else ctypes.c_int
+
+
+
+class _Library:
+    """The calls of the library, by their names. Those of a handle keep Python's own lock, so none comes between another."""
+
+    def __init__(self, path):
+        free, locked = ctypes.CDLL(path), ctypes.PyDLL(path)
+        for name, arguments in _CALLS.items():
+            call = getattr(locked if arguments[0] is _HANDLE else free, name)
+            call.argtypes, call.restype = arguments, None if name.endswith("_free") else ctypes.c_int
+            setattr(self, name, call)
+
+
+_library = _Library(_path())
 
 
 def _told(status):
@@ -120,11 +139,26 @@ def _told(status):
     return status
 
 
+def _bytes(given):
+    """Returns bytes, or anything that shows its bytes, as bytes."""
+    return given if isinstance(given, bytes) else memoryview(given).tobytes()
+
+
+def _in_range(number, most, what):
+    if not 0 <= number <= most:
+        raise ValueError(f"{what} is {number}: it must be 0 to {most}")
+    return number
+
+
+def _place(at):
+    return None if at == _NO_PLACE else at
+
+
 def _filled(call, guess, *results):
     """Calls with a buffer, and again with a longer one if the first was too short; returns the status and what was written."""
     while True:
         buffer, written = ctypes.create_string_buffer(max(guess, 1)), ctypes.c_size_t()
-        status = call(buffer, len(buffer), ctypes.byref(written), *results)
+        status = call(buffer, guess, ctypes.byref(written), *results)
         if status != _SHORT:
             return _told(status), buffer.raw[: written.value]
         guess = written.value
@@ -132,9 +166,10 @@ def _filled(call, guess, *results):
 
 def _json(receipt):
     """Returns a receipt as bytes in JSON: bytes as they are, a text in UTF-8, and anything else as `json.dumps` has it."""
-    if isinstance(receipt, (bytes, bytearray)):
-        return bytes(receipt)
-    return (receipt if isinstance(receipt, str) else json.dumps(receipt)).encode()
+    if isinstance(receipt, (bytes, bytearray, memoryview)):
+        return _bytes(receipt)
+    # (half a surrogate pair becomes bytes that aren't UTF-8, which are refused as such)
+    return (receipt if isinstance(receipt, str) else json.dumps(receipt)).encode("utf-8", "surrogatepass")
 
 
 def encode(receipt):
@@ -151,13 +186,15 @@ def encode(receipt):
     text, reason, at = _json(receipt), ctypes.c_uint32(), ctypes.c_size_t()
     status, written = _filled(lambda *out: _library.escpos_encode(text, len(text), *out), 4096, ctypes.byref(reason), ctypes.byref(at))
     if status == _REFUSED:
-        raise Refused(reason.value, at.value)
+        raise Refused(RECEIPT_REASONS[reason.value], _place(at.value))
     return written
 
 
-def _text(call, stream):
-    stream = bytes(stream)
-    status, written = _filled(lambda *out: call(stream, len(stream), *out), 16 * len(stream) + 4096)
+def _text(call, stream, factor):
+    """Gives the text of a stream; it is asked for once if it has at most `factor` bytes for each of the stream."""
+    stream = _bytes(stream)
+    guess = 4096 if len(stream) > _LONGEST else factor * len(stream) + 4096
+    status, written = _filled(lambda *out: call(stream, len(stream), *out), guess)
     return Text(written.decode(), status == _GOOD)
 
 
@@ -171,7 +208,7 @@ def listing(stream):
     >>> listing(b"\\x1b$")
     Text(text='fault 1 2 UnknownCommand\\n', whole=False)
     """
-    return _text(_library.escpos_listing, stream)
+    return _text(_library.escpos_listing, stream, 20)
 
 
 def paper(stream):
@@ -180,7 +217,7 @@ def paper(stream):
     >>> paper(b"A\\n\\x1dV\\x00")
     Text(text='row left A\\nfeed 1\\ncut full\\n', whole=True)
     """
-    return _text(_library.escpos_paper, stream)
+    return _text(_library.escpos_paper, stream, 4)
 
 
 def picture(stream):
@@ -191,13 +228,24 @@ def picture(stream):
     >>> "é" in picture(b"\\x82\\n").text
     True
     """
-    return _text(_library.escpos_picture, stream)
+    return _text(_library.escpos_picture, stream, 16)
 
 
 class _Held:
     """What a handle holds; it is freed once, by `close`, at the end of a `with`, or with the object."""
 
     _free = None
+
+    def _open(self, free):
+        self._handle, self._thread = _Handle(), threading.get_ident()
+        self._free = free
+
+    @property
+    def _at(self):
+        """The handle, for a call."""
+        if threading.get_ident() != self._thread:
+            raise RuntimeError("escpos: this was made by another thread")
+        return ctypes.byref(self._handle)
 
     def close(self):
         """Frees it. Every later call raises ValueError."""
@@ -213,9 +261,12 @@ class _Held:
     def __del__(self):
         self.close()
 
+    def __reduce__(self):
+        raise TypeError(f"a {type(self).__name__} can't be copied")
+
     def _number(self, call, kind):
         number = kind()
-        _told(call(ctypes.byref(self._handle), ctypes.byref(number)))
+        _told(call(self._at, ctypes.byref(number)))
         return number.value
 
 
@@ -248,13 +299,14 @@ class Host(_Held):
     """
 
     def __init__(self, first_mark=0, records=0):
-        self._handle, self._free = _Handle(), _library.escpos_host_free
-        _told(_library.escpos_host_resume(ctypes.byref(self._handle), first_mark, records))
+        _in_range(first_mark, 1679616, "first_mark"), _in_range(records, _NO_PLACE, "records")
+        self._open(_library.escpos_host_free)
+        _told(_library.escpos_host_resume(self._at, first_mark, records))
 
     def _does(self, call, *arguments):
         reason = ctypes.c_uint32()
-        if _told(call(ctypes.byref(self._handle), *arguments, ctypes.byref(reason))) == _REFUSED:
-            raise NotNow(reason.value)
+        if _told(call(self._at, *arguments, ctypes.byref(reason))) == _REFUSED:
+            raise NotNow(HOST_REASONS[reason.value])
 
     def link_up(self):
         """Opens a link: puts one opening mark out.
@@ -267,45 +319,58 @@ class Host(_Held):
         self._does(_library.escpos_host_link_up)
 
     def nudge(self):
-        """Puts one more opening mark out, for a printer that doesn't answer."""
+        """Puts one more opening mark out; possible while none is answered. A printer may still wait for the rest of a command that an
+        older link cut off, and takes the first marks for that: so put out a few."""
         self._does(_library.escpos_host_nudge)
 
     def ask(self, kind):
         """Puts a status request of a kind from 1 to 4 out; possible while the link is open and no receipt is in flight."""
-        self._does(_library.escpos_host_ask, kind)
+        self._does(_library.escpos_host_ask, _in_range(kind, 255, "kind"))
 
     def submit(self, receipt):
         """Puts a receipt out; possible while the link is open and fewer than four are in flight. Raises Refused where it is no
         receipt, and NotNow where the host takes none."""
         text, reason, fault, at = _json(receipt), ctypes.c_uint32(), ctypes.c_uint32(), ctypes.c_size_t()
         told = [ctypes.byref(it) for it in (reason, fault, at)]
-        if _told(_library.escpos_host_submit(ctypes.byref(self._handle), text, len(text), *told)) == _REFUSED:
-            raise Refused(fault.value, at.value) if fault.value else NotNow(reason.value)
+        if _told(_library.escpos_host_submit(self._at, text, len(text), *told)) == _REFUSED:
+            if fault.value:
+                raise Refused(RECEIPT_REASONS[fault.value], _place(at.value))
+            raise NotNow(HOST_REASONS[reason.value])
 
     def link_down(self):
         """Gives the link up. A receipt that was in flight and isn't recorded may have been printed or not."""
-        _told(_library.escpos_host_link_down(ctypes.byref(self._handle)))
+        _told(_library.escpos_host_link_down(self._at))
 
     def take_out(self, most=65536):
         """Returns the next bytes for the link, at most so many; none if there are none."""
-        return _filled(lambda *out: _library.escpos_host_take_out(ctypes.byref(self._handle), *out), most)[1]
+        _in_range(most, _NO_PLACE, "most")
+        return _filled(lambda *out: _library.escpos_host_take_out(self._at, *out), most)[1]
 
     def heard(self, answer):
         """Hears bytes from the link, up to the first event; returns how many were heard, and the event."""
+        answer = _bytes(answer)
         consumed, kind, number = ctypes.c_size_t(), ctypes.c_uint32(), ctypes.c_size_t()
         told = [ctypes.byref(it) for it in (consumed, kind, number)]
-        _told(_library.escpos_host_heard(ctypes.byref(self._handle), bytes(answer), len(answer), *told))
+        _told(_library.escpos_host_heard(self._at, answer, len(answer), *told))
         return consumed.value, Event(EVENTS[kind.value], number.value)
 
     def hear(self, answer):
-        """Hears all of these bytes, and gives each event; after a bad answer the link is down, and the rest isn't heard."""
-        while answer:
-            consumed, event = self.heard(answer)
-            answer = answer[consumed:]
+        """Hears all of these bytes, and gives each event as the loop over them comes to it. After a bad answer, whose place is that in all
+        of these bytes, the link is down, and the rest isn't heard.
+
+        >>> host = Host(); host.link_up()
+        >>> list(host.hear(b"\\x12\\xff\\x12"))
+        [Event(kind='status', number=18), Event(kind='bad answer', number=1)]
+        """
+        answer, heard = _bytes(answer), 0
+        while heard < len(answer):
+            consumed, event = self.heard(answer[heard:])
+            if event.kind == "bad answer":
+                yield Event(event.kind, heard + event.number)
+                return
+            heard += consumed
             if event.kind != "none":
                 yield event
-            if event.kind == "bad answer":
-                return
 
     @property
     def has_out(self):
@@ -343,16 +408,17 @@ class Printer(_Held):
     """
 
     def __init__(self, cover_open=False, near_end=False, paper_end=False):
-        self._handle, self._free = _Handle(), _library.escpos_printer_free
+        self._open(_library.escpos_printer_free)
         sensors = _Sensors(cover_open, near_end, paper_end)
-        _told(_library.escpos_printer_new(ctypes.byref(self._handle), ctypes.byref(sensors)))
+        _told(_library.escpos_printer_new(self._at, ctypes.byref(sensors)))
 
     def feed(self, piece):
         """Feeds bytes of a stream, up to the first that can't be taken now."""
+        piece = _bytes(piece)
         consumed, stop, reason, at = ctypes.c_size_t(), ctypes.c_uint32(), ctypes.c_uint32(), ctypes.c_size_t()
         told = [ctypes.byref(it) for it in (consumed, stop, reason, at)]
-        _told(_library.escpos_printer_feed(ctypes.byref(self._handle), bytes(piece), len(piece), *told))
-        return Fed(consumed.value, STOPS[stop.value], FAULT_REASONS.get(reason.value), None if at.value == _NO_PLACE else at.value)
+        _told(_library.escpos_printer_feed(self._at, piece, len(piece), *told))
+        return Fed(consumed.value, STOPS[stop.value], FAULT_REASONS.get(reason.value), _place(at.value))
 
     def take_answer(self):
         """Returns the answer that has waited longest, as its bytes, or None.
@@ -361,18 +427,18 @@ class Printer(_Held):
         >>> printer.feed(b"\\x10\\x04\\x02A").stop, printer.take_answer(), printer.take_answer()
         ('offline', b'\\x16', None)
         """
-        written = _filled(lambda *out: _library.escpos_printer_take_answer(ctypes.byref(self._handle), *out), 7)[1]
+        written = _filled(lambda *out: _library.escpos_printer_take_answer(self._at, *out), 7)[1]
         return written or None
 
     def set_condition(self, cover_open=False, near_end=False, paper_end=False):
         """Sets what the sensors say."""
         sensors = _Sensors(cover_open, near_end, paper_end)
-        _told(_library.escpos_printer_set_condition(ctypes.byref(self._handle), ctypes.byref(sensors)))
+        _told(_library.escpos_printer_set_condition(self._at, ctypes.byref(sensors)))
 
     def paper(self):
         """Returns what is on the paper, as text."""
-        return _filled(lambda *out: _library.escpos_printer_paper(ctypes.byref(self._handle), *out), 4096)[1].decode()
+        return _filled(lambda *out: _library.escpos_printer_paper(self._at, *out), 4096)[1].decode()
 
     def tear_off(self):
         """Drops what is on the paper."""
-        _told(_library.escpos_printer_tear_off(ctypes.byref(self._handle)))
+        _told(_library.escpos_printer_tear_off(self._at))

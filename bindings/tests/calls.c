@@ -229,8 +229,8 @@ static void goes_through_a_link(void) {
     stands(&host, ESCPOS_READY, 7, 3);
     IS(CALL(escpos_host_ask(&host, 0, &reason)) == ESCPOS_REFUSED && reason == ESCPOS_NO_KIND);
     IS(CALL(escpos_host_ask(&host, 5, &reason)) == ESCPOS_REFUSED && reason == ESCPOS_NO_KIND);
-    IS(CALL(escpos_host_ask(&host, 4, &reason)) == ESCPOS_GOOD && reason == 0);
-    puts_out(&host, BYTES("\x10\x04\x04"));
+    for (int kind = 1; kind <= 4; kind++) IS(CALL(escpos_host_ask(&host, kind, &reason)) == ESCPOS_GOOD && reason == 0);
+    puts_out(&host, BYTES("\x10\x04\x01\x10\x04\x02\x10\x04\x03\x10\x04\x04"));
     IS(submits(&host, "[{\"fed\":1}]", &reason, &fault, &at) == ESCPOS_REFUSED && reason == 0 && fault == ESCPOS_BAD_SHAPE && at == 0);
     for (int count = 0; count < 4; count++)
         IS(submits(&host, receipt, &reason, &fault, &at) == ESCPOS_GOOD && reason == 0 && fault == 0 && at == ESCPOS_NO_PLACE);
@@ -318,8 +318,17 @@ static void prints(void) {
     answers(&printer, "", 0);
     feeds(&printer, BYTES("B\x1B$"), 2, ESCPOS_STOP_FAULT, ESCPOS_UNKNOWN_COMMAND, 2);
     feeds(&printer, BYTES("$\n"), 2, ESCPOS_STOP_ALL, 0, ESCPOS_NO_PLACE);
+    feeds(&printer, BYTES("\x06"), 0, ESCPOS_STOP_FAULT, ESCPOS_UNKNOWN_BYTE, 0);
+    feeds(&printer, BYTES("\x1B" "a\x03"), 2, ESCPOS_STOP_FAULT, ESCPOS_BAD_PARAMETER, 2);
+    feeds(&printer, BYTES("\x1D" "kD\x01"), 3, ESCPOS_STOP_FAULT, ESCPOS_BAD_BARCODE, 3);
+    feeds(&printer, BYTES("\x1Dv0\x00\x41"), 4, ESCPOS_STOP_FAULT, ESCPOS_BAD_SIZE, 4);
+    /* two answers wait, in their order, and stay where the paper is torn off */
+    feeds(&printer, BYTES("\x10\x04\x01\x1D(H\x06\x00" "00ABCD"), 14, ESCPOS_STOP_ALL, 0, ESCPOS_NO_PLACE);
     IS(escpos_printer_tear_off(&printer) == ESCPOS_GOOD);
     has_paper(&printer, "");
+    answers(&printer, BYTES("\x12"));
+    answers(&printer, BYTES("\x37\"ABCD\x00"));
+    answers(&printer, "", 0);
     IS(escpos_printer_set_condition(&printer, &open) == ESCPOS_GOOD);
     feeds(&printer, BYTES("\x10\x04\x02" "A"), 3, ESCPOS_STOP_OFFLINE, 0, ESCPOS_NO_PLACE);
     answers(&printer, BYTES("\x16"));
@@ -331,6 +340,12 @@ static void prints(void) {
     answers(&printer, BYTES("\x72"));
     for (int count = 0; count < 16; count++) feeds(&printer, BYTES("\x10\x04\x01"), 3, ESCPOS_STOP_ALL, 0, ESCPOS_NO_PLACE);
     feeds(&printer, BYTES("\x10\x04\x01"), 2, ESCPOS_STOP_ANSWERS_FULL, 0, ESCPOS_NO_PLACE);
+    IS(CALL(escpos_printer_new(&printer, &near)) == ESCPOS_GOOD);
+    feeds(&printer, BYTES("\x10\x04\x04" "A"), 4, ESCPOS_STOP_ALL, 0, ESCPOS_NO_PLACE);
+    answers(&printer, BYTES("\x1E"));
+    IS(CALL(escpos_printer_new(&printer, &out)) == ESCPOS_GOOD);
+    feeds(&printer, BYTES("\x10\x04\x02" "A"), 3, ESCPOS_STOP_OFFLINE, 0, ESCPOS_NO_PLACE);
+    answers(&printer, BYTES("\x32"));
     IS(CALL(escpos_printer_new(&printer, &fine)) == ESCPOS_GOOD);
     answers(&printer, "", 0);
     escpos_printer_free(&printer);
@@ -351,6 +366,77 @@ static void holds_no_printer(void) {
     IS(escpos_printer_set_condition(&printer, &fine) == ESCPOS_EMPTY);
     IS(escpos_printer_tear_off(&printer) == ESCPOS_EMPTY);
     escpos_printer_free(&printer);
+}
+
+/* ---- results stay in their places ---- */
+
+static uint8_t rooms[4][24];
+/* A place for a result, with eight bytes before it and some after it. */
+static void *place(int room) {
+    memset(rooms[room], 0xC3, sizeof rooms[room]);
+    return rooms[room] + 8;
+}
+static int stays(int room, size_t size) {
+    for (size_t at = 0; at < sizeof rooms[room]; at++)
+        if ((at < 8 || at >= 8 + size) && rooms[room][at] != 0xC3) return 0;
+    return 1;
+}
+#define STAY_2(a, b) (stays(0, a) && stays(1, b))
+#define STAY_3(a, b, c) (STAY_2(a, b) && stays(2, c))
+#define STAY_4(a, b, c, d) (STAY_3(a, b, c) && stays(3, d))
+
+static void results_stay(void) {
+    escpos_host host = {0};
+    escpos_printer printer = {0};
+    escpos_sensors fine = {false, false, false};
+    const size_t s = sizeof(size_t), u = sizeof(uint32_t);
+    for (int full = 0; full < 2; full++) {
+        if (full) {
+            IS(CALL(escpos_host_new(&host, 0)) == ESCPOS_GOOD);
+            IS(CALL(escpos_printer_new(&printer, &fine)) == ESCPOS_GOOD);
+        }
+        int wanted = full ? ESCPOS_GOOD : ESCPOS_EMPTY, refused = full ? ESCPOS_REFUSED : ESCPOS_EMPTY;
+        IS(CALL(escpos_encode(bytes("[]"), 2, buffer, 9, place(0), place(1), place(2))) == ESCPOS_REFUSED && STAY_3(s, u, s));
+        IS(CALL(escpos_listing(bytes("A"), 1, buffer, CAPACITY, place(0))) == ESCPOS_GOOD && stays(0, s));
+        IS(CALL(escpos_paper(bytes("A"), 1, buffer, CAPACITY, place(0))) == ESCPOS_GOOD && stays(0, s));
+        IS(CALL(escpos_picture(bytes("A"), 1, buffer, CAPACITY, place(0))) == ESCPOS_GOOD && stays(0, s));
+        IS(CALL(escpos_host_nudge(&host, place(0))) == refused && stays(0, u));
+        IS(CALL(escpos_host_ask(&host, 1, place(0))) == refused && stays(0, u));
+        IS(CALL(escpos_host_link_up(&host, place(0))) == wanted && stays(0, u));
+        IS(CALL(escpos_host_submit(&host, bytes("[]"), 2, place(0), place(1), place(2))) == refused && STAY_3(u, u, s));
+        IS(escpos_host_take_out(&host, buffer, 2, place(0)) == wanted && stays(0, s));
+        IS(escpos_host_has_out(&host, place(0)) == wanted && stays(0, 1));
+        IS(escpos_host_heard(&host, bytes("\x12"), 1, place(0), place(1), place(2)) == wanted && STAY_3(s, u, s));
+        IS(escpos_host_state(&host, place(0)) == wanted && stays(0, u));
+        IS(escpos_host_next_mark(&host, place(0)) == wanted && stays(0, u));
+        IS(escpos_host_records(&host, place(0)) == wanted && stays(0, s));
+        IS(CALL(escpos_printer_feed(&printer, bytes("\x06"), 1, place(0), place(1), place(2), place(3))) == wanted && STAY_4(s, u, u, s));
+        IS(escpos_printer_take_answer(&printer, buffer, CAPACITY, place(0)) == wanted && stays(0, s));
+        IS(CALL(escpos_printer_paper(&printer, buffer, CAPACITY, place(0))) == wanted && stays(0, s));
+    }
+    escpos_host_free(&host);
+    escpos_printer_free(&printer);
+}
+
+/* ---- long texts ---- */
+
+/* A receipt of this many lines, its bytes, its listing and its paper. */
+static void is_long(size_t lines) {
+    size_t len = 2, written = 0, at = 0;
+    uint32_t reason = 0;
+    char *json = __real_malloc(16 * lines + 3);
+    uint8_t *out = __real_malloc(2 * lines), *text = __real_malloc(32 * lines);
+    strcpy(json, "[ ");
+    for (size_t line = 0; line < lines; line++) len += sprintf(json + len, "{\"line\":\"A\"}%s", line + 1 < lines ? "," : "]");
+    IS(escpos_encode(bytes(json), len, out, 2 * lines, &written, &reason, &at) == ESCPOS_GOOD && written == 2 * lines);
+    IS(memcmp(out, "A\nA\nA\n", 6) == 0 && memcmp(out + written - 2, "A\n", 2) == 0);
+    IS(escpos_paper(out, written, text, 32 * lines, &written) == ESCPOS_GOOD && written == 18 * lines);
+    IS(memcmp(text + written - 18, "row left A\nfeed 1\n", 18) == 0);
+    IS(escpos_listing(out, 2 * lines, text, 32 * lines, &written) == ESCPOS_GOOD && written > 14 * lines);
+    IS(escpos_picture(out, 2 * lines, text, 32 * lines, &written) == ESCPOS_SHORT && written > 100 * lines);
+    free(json);
+    free(out);
+    free(text);
 }
 
 /* ---- both ends ---- */
@@ -401,6 +487,7 @@ static void all(void) {
     prints();
     holds_no_printer();
     prints_a_receipt();
+    results_stay();
 }
 
 int main(void) {
@@ -408,6 +495,7 @@ int main(void) {
     all();
     unsigned long most = asked;
     is_too_long();
+    is_long(5000);
     for (failing = 1; failing <= most; failing++) {
         asked = 0;
         all();
