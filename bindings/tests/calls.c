@@ -321,7 +321,7 @@ static void prints(void) {
     feeds(&printer, BYTES("\x06"), 0, ESCPOS_STOP_FAULT, ESCPOS_UNKNOWN_BYTE, 0);
     feeds(&printer, BYTES("\x1B" "a\x03"), 2, ESCPOS_STOP_FAULT, ESCPOS_BAD_PARAMETER, 2);
     feeds(&printer, BYTES("\x1D" "kD\x01"), 3, ESCPOS_STOP_FAULT, ESCPOS_BAD_BARCODE, 3);
-    feeds(&printer, BYTES("\x1Dv0\x00\x41"), 4, ESCPOS_STOP_FAULT, ESCPOS_BAD_SIZE, 4);
+    feeds(&printer, BYTES("\x1Dv0\x00\x81"), 4, ESCPOS_STOP_FAULT, ESCPOS_BAD_SIZE, 4);
     /* two answers wait, in their order, and stay where the paper is torn off */
     feeds(&printer, BYTES("\x10\x04\x01\x1D(H\x06\x00" "00ABCD"), 14, ESCPOS_STOP_ALL, 0, ESCPOS_NO_PLACE);
     IS(escpos_printer_tear_off(&printer) == ESCPOS_GOOD);
