@@ -434,6 +434,13 @@ static void is_long(size_t lines) {
     IS(memcmp(text + written - 18, "row left A\nfeed 1\n", 18) == 0);
     IS(escpos_listing(out, 2 * lines, text, 32 * lines, &written) == ESCPOS_GOOD && written > 14 * lines);
     IS(escpos_picture(out, 2 * lines, text, 32 * lines, &written) == ESCPOS_SHORT && written > 100 * lines);
+    escpos_host host = {0};
+    uint32_t fault;
+    IS(escpos_host_new(&host, 0) == ESCPOS_GOOD && escpos_host_link_up(&host, &reason) == ESCPOS_GOOD);
+    hears(&host, BYTES("\x37\"0000\x00"), 7, ESCPOS_OPENED, 0);
+    IS(escpos_host_submit(&host, bytes(json), len, &reason, &fault, &at) == ESCPOS_GOOD);
+    IS(escpos_host_take_out(&host, text, 32 * lines, &written) == ESCPOS_GOOD && written == 11 + 2 + 2 * lines + 11);
+    escpos_host_free(&host);
     free(json);
     free(out);
     free(text);

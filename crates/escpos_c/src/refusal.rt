@@ -23,6 +23,7 @@ const _: () = prove!(NO_REASON == 0);
 const _: () = prove!(TOO_LONG == 9);
 
 const _: () = prove!(NO_KIND == 9);
+
 const _: () = prove!(NO_PLACE == 18_446_744_073_709_551_615);
 
 /// Why a receipt is refused: a number, and the place of the entry or the command, counted from 0.
