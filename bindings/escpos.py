@@ -237,6 +237,7 @@ class _Held:
     _free = None
 
     def _open(self, free):
+        self.close()
         self._handle, self._thread = _Handle(), threading.get_ident()
         self._free = free
 
