@@ -108,13 +108,13 @@ module _ (is_text is_short : List ℕ → List ℕ → Type 0) (bytes text : Lis
     answers_text job.Device answer ran given = subst Answers (sym given.0) (memory_answer (given.1, given.2))
     answers_text job.Memory answer ran given = subst Answers (sym given.0) (memory_answer (given.1, given.2))
 
-    -- The same, where the job read a source of these bytes and printed into an empty sink.
-    pub told_text : (source empty : Option (List ℕ)) → source ≡ Some bytes → empty ≡ Some [] → (status : Status) (answer : CallStatus) (z : ℤ)
+    -- The same, where the job read a source of these bytes and printed into an empty sink, from which the text was taken.
+    pub told_text : (source empty : Option (List ℕ)) (shown : List ℕ) → source ≡ Some bytes → empty ≡ Some [] → shown ≡ text → (status : Status) (answer : CallStatus) (z : ℤ)
         → IfSome source (λ read. RunsRawAs (ReportsAs is_text is_short) (job_end empty (Some text) failed status) read)
-        → AnsweredWith status text answer before after written → z ≡ number_of_status answer
+        → AnsweredWith status shown answer before after written → z ≡ number_of_status answer
         → AnswersText is_text bytes (to_z w32 (of_z w32 z)) before after written
-    told_text source empty is_source is_empty status answer z ran given is_number =
+    told_text source empty shown is_source is_empty is_shown status answer z ran given is_number =
         let over : IfSome (Some bytes) (λ read. RunsRawAs (ReportsAs is_text is_short) (job_end empty (Some text) failed status) read)
         = subst (λ o. IfSome o (λ read. RunsRawAs (ReportsAs is_text is_short) (job_end empty (Some text) failed status) read)) is_source ran in
         let into : Ran status = subst (λ o. RunsRawAs (ReportsAs is_text is_short) (job_end o (Some text) failed status) bytes) is_empty over in
-        subst (λ n. AnswersText is_text bytes n before after written) (sym (number_kept answer z is_number)) (answers_text status answer into given)
+        subst (λ n. AnswersText is_text bytes n before after written) (sym (number_kept answer z is_number)) (answers_text status answer into (subst (λ t. AnsweredWith status t answer before after written) is_shown given))

@@ -1,6 +1,6 @@
 //! A receipt in JSON as the bytes of its commands.
 
-ghost use Rattle.std.specs.Prelude.{◌≡◌, ◌↔◌, IfOk, IfErr, IsOk};
+ghost use Rattle.std.specs.Prelude.{IfOk, IfErr};
 ghost use Rattle.escpos_c.specs.Reasons.{IsReason};
 ghost use Rattle.escpos_c.specs.EncodeCalls.{AnswersEncode, IsEncoding};
 
@@ -11,7 +11,7 @@ use crate::refusal::Refusal;
 use crate::spelling::spelled;
 use escpos_jobs::input::INPUT_LIMIT;
 use escpos_receipt::ReceiptText;
-use std::alloc::{AllocError, Global};
+use std::alloc::Global;
 
 /// Encodes a receipt in JSON as the bytes of its commands, as `encode --raw` does.
 #[unsafe(no_mangle)]
@@ -54,21 +54,12 @@ fn encoding(alloc: Global, json: &[u8]) -> Result<Vec<u8>, NoReceipt>
     }
     match ReceiptText::new(alloc, json) {
         Ok(text) => match text.entries(alloc) {
-            Ok(entries) => whole(spelled(alloc, &entries)),
+            Ok(entries) => match spelled(alloc, &entries) {
+                Ok(bytes) => Ok(bytes),
+                Err(_) => Err(NoReceipt::Memory),
+            },
             Err(error) => Err(no_receipt(error)),
         },
         Err(error) => Err(no_receipt(error)),
-    }
-}
-
-// Bytes, or out of memory.
-fn whole(bytes: Result<Vec<u8>, AllocError>) -> Result<Vec<u8>, NoReceipt>
-    ensures bytes { IfOk result (λ whole. IfOk bytes (λ given. whole.items ≡ given.items)) }
-    ensures same { IsOk result ↔ IsOk bytes }
-    ensures memory { IfErr result (λ why. why ≡ NoReceipt.Memory) }
-{
-    match bytes {
-        Ok(bytes) => Ok(bytes),
-        Err(_) => Err(NoReceipt::Memory),
     }
 }

@@ -1,4 +1,4 @@
-//! The host behind a handle: what is to be sent, and what answers mean.
+//! The host that a handle holds: what is to be sent, and what answers mean.
 
 ghost use Rattle.std.specs.Prelude.{◌≡◌, ◌≢◌, ◌⊎◌, ◌↔◌, ◌+◌, min, [], false, length, pos, None, IsTrue, MatchOption};
 ghost use Rattle.escpos_host.specs.Machine.{RefusesLinkUp, RefusesNudge, state_of};

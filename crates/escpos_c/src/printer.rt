@@ -1,4 +1,4 @@
-//! The printer behind a handle, for emulators: it takes a stream in pieces, prints, and answers.
+//! The printer that a handle holds, for emulators: it takes a stream in pieces, prints, and answers.
 
 ghost use Rattle.std.specs.Prelude.{◌≡◌, ◌⊎◌, pos, None, MatchOption};
 ghost use Rattle.escpos_c.specs.declared.refusal.TheConstants.{NO_REASON, NO_PLACE};

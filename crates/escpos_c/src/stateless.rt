@@ -1,6 +1,5 @@
 //! Calls that keep nothing: a stream as a listing, as its paper, as a picture.
 
-ghost use Rattle.std.specs.Prelude.{IfSome};
 ghost use Rattle.escpos_jobs.specs.Report.{IsText};
 ghost use Rattle.escpos_jobs.specs.Check.{listing_shape};
 ghost use Rattle.escpos_jobs.specs.Render.{paper_shape};
@@ -10,8 +9,7 @@ ghost use Rattle.escpos_c.specs.TextCalls.{AnswersText};
 
 use crate::buffer::give;
 use crate::call_status::CallStatus;
-use crate::collected::Collected;
-use escpos_io::{ByteOut, MemoryIn};
+use escpos_io::{MemoryIn, Outgoing};
 use escpos_jobs::check::check_raw;
 use escpos_jobs::draw::draw_raw;
 use escpos_jobs::render::render_raw;
@@ -29,9 +27,9 @@ pub extern "C" fn escpos_listing(
     ensures { AnswersText (IsText listing_shape) bytes.now result out.old out.new written.new }
 {
     let mut input = MemoryIn::new(bytes, usize::MAX);
-    let mut text = Collected::new(alloc);
+    let mut text = Outgoing::new(Vec::new(alloc));
     let status = check_raw(alloc, &mut input, &mut text);
-    answer(status, &text, out, written).number()
+    answer(status, &text.into_inner(), out, written).number()
 }
 
 /// Prints what a stream prints as text, as `render --raw` does.
@@ -45,9 +43,9 @@ pub extern "C" fn escpos_paper(
     ensures { AnswersText (IsText paper_shape) bytes.now result out.old out.new written.new }
 {
     let mut input = MemoryIn::new(bytes, usize::MAX);
-    let mut text = Collected::new(alloc);
+    let mut text = Outgoing::new(Vec::new(alloc));
     let status = render_raw(alloc, &mut input, &mut text);
-    answer(status, &text, out, written).number()
+    answer(status, &text.into_inner(), out, written).number()
 }
 
 /// Prints what a stream prints as a picture, as `draw --raw` does.
@@ -61,18 +59,18 @@ pub extern "C" fn escpos_picture(
     ensures { AnswersText IsPicture bytes.now result out.old out.new written.new }
 {
     let mut input = MemoryIn::new(bytes, usize::MAX);
-    let mut text = Collected::new(alloc);
+    let mut text = Outgoing::new(Vec::new(alloc));
     let status = draw_raw(alloc, &mut input, &mut text);
-    answer(status, &text, out, written).number()
+    answer(status, &text.into_inner(), out, written).number()
 }
 
 // Moves the text of a job that ended with this status into the caller's buffer.
-fn answer(status: Status, text: &Collected, out: &mut [u8], written: &mut usize) -> CallStatus
-    ensures { IfSome (⟦<Collected as ByteOut>⟧.written text.now) (λ bytes. AnsweredWith status bytes result out.old out.new written.new) }
+fn answer(status: Status, text: &[u8], out: &mut [u8], written: &mut usize) -> CallStatus
+    ensures { AnsweredWith status text.now result out.old out.new written.new }
 {
     match status {
-        Status::Good => give(CallStatus::Good, text.bytes(), out, written),
-        Status::Refused => give(CallStatus::Refused, text.bytes(), out, written),
+        Status::Good => give(CallStatus::Good, text, out, written),
+        Status::Refused => give(CallStatus::Refused, text, out, written),
         Status::Usage | Status::Device | Status::Memory => {
             *written = 0;
             CallStatus::Memory

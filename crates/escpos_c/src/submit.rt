@@ -1,4 +1,4 @@
-//! Submits a receipt, given in JSON, to the host behind a handle.
+//! Submits a receipt, given in JSON, to the host that a handle holds.
 
 ghost use Rattle.std.specs.Prelude.{◌≡◌, pos, IfOk, IfErr};
 ghost use Rattle.escpos_c.specs.declared.refusal.TheConstants.{NO_REASON, NO_PLACE};
