@@ -115,7 +115,6 @@ _CALLS = {
 }
 
 
-
 class _Library:
     """The calls of the library, by their names. Those of a handle keep Python's own lock, so none comes between another."""
 
@@ -300,7 +299,8 @@ class Host(_Held):
     """
 
     def __init__(self, first_mark=0, records=0):
-        _in_range(first_mark, 1679616, "first_mark"), _in_range(records, _NO_PLACE, "records")
+        _in_range(first_mark, 1679616, "first_mark")
+        _in_range(records, _NO_PLACE, "records")
         self._open(_library.escpos_host_free)
         _told(_library.escpos_host_resume(self._at, first_mark, records))
 
