@@ -115,7 +115,7 @@ all_runs symbology m (k ∷ ks) h w =
     let parts = and_parts (is_element k) (list_all is_element ks) w in
     and_from (is_run (element_dots symbology m k)) (list_all is_run (map (element_dots symbology m) ks)) (element_run symbology m k h parts.0) (all_runs symbology m ks h parts.1)
 
-pub drawn_runs : (symbology : Symbology) (module_width : ℕ) (content widths : List ℕ) → drawn symbology module_width content ≡ Some widths → IsTrue (list_all is_run widths)
-drawn_runs symbology module_width content widths e =
-    let of = drawn_of symbology module_width content widths e in
+pub drawn_runs : (line_dots : ℕ) (symbology : Symbology) (module_width : ℕ) (content widths : List ℕ) → drawn line_dots symbology module_width content ≡ Some widths → IsTrue (list_all is_run widths)
+drawn_runs line_dots symbology module_width content widths e =
+    let of = drawn_of line_dots symbology module_width content widths e in
     ap (list_all is_run) (sym of.dots) ∙ all_runs symbology module_width of.drawn_elements of.range (all_elements symbology content of.drawn_elements of.said)

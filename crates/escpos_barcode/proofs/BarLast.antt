@@ -88,7 +88,7 @@ elements_odd Code128 content es e =
     let same_count = ap length drawn in
     omega arith
 
-pub drawn_odd : (symbology : Symbology) (module_width : ℕ) (content widths : List ℕ) → drawn symbology module_width content ≡ Some widths → length widths % 2 ≡ 1
-drawn_odd symbology module_width content widths e =
-    let of = drawn_of symbology module_width content widths e in
+pub drawn_odd : (line_dots : ℕ) (symbology : Symbology) (module_width : ℕ) (content widths : List ℕ) → drawn line_dots symbology module_width content ≡ Some widths → length widths % 2 ≡ 1
+drawn_odd line_dots symbology module_width content widths e =
+    let of = drawn_of line_dots symbology module_width content widths e in
     ap (λ ws. length ws % 2) (sym of.dots) ∙ ap (λ n. n % 2) (map_long (element_dots symbology module_width) of.drawn_elements) ∙ elements_odd symbology content of.drawn_elements of.said

@@ -5,7 +5,6 @@ use Rattle.std.proofs.lemmas.Bool.Decides.{leb_tells}
 use Rattle.std.proofs.lemmas.List.Sums.{sum_by-append}
 use Rattle.std.proofs.Math.ListN.{drop_of_length-le}
 use Rattle.escpos_command.specs.declared.bars.Symbology.{Symbology}
-use Rattle.escpos_barcode.specs.declared.pen.TheConstants.{LINE_DOTS}
 use Rattle.escpos_barcode.specs.Drawn.{element_dots, fitting, is_module}
 use Rattle.escpos_barcode.specs.Chains.{given}
 use Rattle.escpos_barcode.specs.Pen.{Drawing, put, more, add, draw, attempt, blank}
@@ -14,15 +13,15 @@ pub map_append : (f : ℕ → ℕ) (xs ys : List ℕ) → map f (xs ++ ys) ≡ m
 map_append f [] ys = refl
 map_append f (x ∷ xs) ys = ap (λ zs. f x ∷ zs) (map_append f xs ys)
 
-more_append : (o : Option (List ℕ)) (xs ys : List ℕ) → more o (xs ++ ys) ≡ more (more o xs) ys
-more_append o [] ys = refl
-more_append o (x ∷ xs) ys = more_append (put o x) xs ys
+more_append : (line_dots : ℕ) (o : Option (List ℕ)) (xs ys : List ℕ) → more line_dots o (xs ++ ys) ≡ more line_dots (more line_dots o xs) ys
+more_append line_dots o [] ys = refl
+more_append line_dots o (x ∷ xs) ys = more_append line_dots (put line_dots o x) xs ys
 
 pub draw_append : (d : Drawing) (xs ys : List ℕ) → draw d (xs ++ ys) ≡ draw (draw d xs) ys
 draw_append d xs ys =
     let e = map_append (element_dots d.symbology d.module_width) xs ys in
-    let f = more_append d.widths (map (element_dots d.symbology d.module_width) xs) (map (element_dots d.symbology d.module_width) ys) in
-    ap (add d) e ∙ ap (λ o. record { symbology = d.symbology; module_width = d.module_width; widths = o }) f
+    let f = more_append d.line_dots d.widths (map (element_dots d.symbology d.module_width) xs) (map (element_dots d.symbology d.module_width) ys) in
+    ap (add d) e ∙ ap (λ o. record { line_dots = d.line_dots; symbology = d.symbology; module_width = d.module_width; widths = o }) f
 
 pub draw_then : (d e f : Drawing) (xs ys : List ℕ) → e ≡ draw d xs → f ≡ draw e ys → f ≡ draw d (xs ++ ys)
 draw_then d e f xs ys p q = q ∙ ap (λ v. draw v ys) p ∙ sym (draw_append d xs ys)
@@ -50,43 +49,46 @@ drawn_all f start now xs i h so_far = sym (so_far ∙ ap (λ ys. draw now (flat_
 
 -- ## What fits
 
-more_none : (xs : List ℕ) → more None xs ≡ None
-more_none [] = refl
-more_none (x ∷ xs) = more_none xs
+more_none : (line_dots : ℕ) (xs : List ℕ) → more line_dots None xs ≡ None
+more_none line_dots [] = refl
+more_none line_dots (x ∷ xs) = more_none line_dots xs
 
-fits_or_not : (ws : List ℕ) → ((fitting ws ≡ Some ws) × (sum ws ≤ LINE_DOTS)) ⊎ ((fitting ws ≡ None) × (LINE_DOTS < sum ws))
-fits_or_not ws = elim (leb_tells (sum ws) LINE_DOTS) [
+fits_or_not : (line_dots : ℕ) (ws : List ℕ) → ((fitting line_dots ws ≡ Some ws) × (sum ws ≤ line_dots)) ⊎ ((fitting line_dots ws ≡ None) × (line_dots < sum ws))
+fits_or_not line_dots ws = elim (leb_tells (sum ws) line_dots) [
   | inl e ↦ inl (ap (λ (b : Bool). if b then Some ws else None) e.0, e.1)
   | inr e ↦ inr (ap (λ (b : Bool). if b then Some ws else None) e.0, e.1)
 ]
 
 -- More than what is too wide is too wide.
-too_wide : (ws xs : List ℕ) → LINE_DOTS < sum ws → fitting (ws ++ xs) ≡ None
-too_wide ws xs h = elim (fits_or_not (ws ++ xs)) [
+too_wide : (line_dots : ℕ) (ws xs : List ℕ) → line_dots < sum ws → fitting line_dots (ws ++ xs) ≡ None
+too_wide line_dots ws xs h = elim (fits_or_not line_dots (ws ++ xs)) [
   | inl e ↦ let total = sum_by-append (λ x. x) ws xs in let few = e.1 in absurd (omega arith)
   | inr e ↦ e.0
 ]
 
-more_fitting : (xs ws : List ℕ) → fitting ws ≡ Some ws → more (Some ws) xs ≡ fitting (ws ++ xs)
-more_fitting [] ws h = sym (ap fitting (append-nil ws) ∙ h)
-more_fitting (x ∷ xs) ws h = elim (fits_or_not (ws ++ x ∷ [])) [
-  | inl e ↦ ap (λ o. more o xs) e.0 ∙ more_fitting xs (ws ++ x ∷ []) e.0 ∙ ap fitting (append_assoc ws (x ∷ []) xs)
-  | inr e ↦ ap (λ o. more o xs) e.0 ∙ more_none xs ∙ sym (too_wide (ws ++ x ∷ []) xs e.1) ∙ ap fitting (append_assoc ws (x ∷ []) xs)
+more_fitting : (line_dots : ℕ) (xs ws : List ℕ) → fitting line_dots ws ≡ Some ws → more line_dots (Some ws) xs ≡ fitting line_dots (ws ++ xs)
+more_fitting line_dots [] ws h = sym (ap (fitting line_dots) (append-nil ws) ∙ h)
+more_fitting line_dots (x ∷ xs) ws h = elim (fits_or_not line_dots (ws ++ x ∷ [])) [
+  | inl e ↦ ap (λ o. more line_dots o xs) e.0 ∙ more_fitting line_dots xs (ws ++ x ∷ []) e.0 ∙ ap (fitting line_dots) (append_assoc ws (x ∷ []) xs)
+  | inr e ↦ ap (λ o. more line_dots o xs) e.0 ∙ more_none line_dots xs ∙ sym (too_wide line_dots (ws ++ x ∷ []) xs e.1) ∙ ap (fitting line_dots) (append_assoc ws (x ∷ []) xs)
 ]
 
 -- What is drawn on an empty line is there if all of it fits.
-pub more_first : (ws : List ℕ) → more (Some []) ws ≡ fitting ws
-more_first ws = more_fitting ws [] refl
+pub more_first : (line_dots : ℕ) (ws : List ℕ) → more line_dots (Some []) ws ≡ fitting line_dots ws
+more_first line_dots ws = more_fitting line_dots ws [] (elim (fits_or_not line_dots []) [
+  | inl e ↦ e.0
+  | inr e ↦ let wide = e.1 in absurd (omega arith)
+])
 
-pub runs_drawn : (symbology : Symbology) (module_width : ℕ) (o : Option (List ℕ)) (d : Drawing) → is_module module_width ≡ true → true ≡ is_some o →
-    d ≡ attempt (blank symbology module_width) o →
-    d.widths ≡ (if is_module module_width then given o (λ es. fitting (map (element_dots symbology module_width) es)) else None)
-runs_drawn symbology module_width None d h k e = absurd cc
-runs_drawn symbology module_width (Some es) d h k e =
-    ap (λ (v : Drawing). v.widths) e ∙ more_first (map (element_dots symbology module_width) es)
-    ∙ ap (λ (b : Bool). if b then fitting (map (element_dots symbology module_width) es) else None) (sym h)
+pub runs_drawn : (line_dots : ℕ) (symbology : Symbology) (module_width : ℕ) (o : Option (List ℕ)) (d : Drawing) → is_module module_width ≡ true → true ≡ is_some o →
+    d ≡ attempt (blank line_dots symbology module_width) o →
+    d.widths ≡ (if is_module module_width then given o (λ es. fitting line_dots (map (element_dots symbology module_width) es)) else None)
+runs_drawn line_dots symbology module_width None d h k e = absurd cc
+runs_drawn line_dots symbology module_width (Some es) d h k e =
+    ap (λ (v : Drawing). v.widths) e ∙ more_first line_dots (map (element_dots symbology module_width) es)
+    ∙ ap (λ (b : Bool). if b then fitting line_dots (map (element_dots symbology module_width) es) else None) (sym h)
 
-pub not_drawn : (symbology : Symbology) (module_width : ℕ) (o : Option (List ℕ)) → false ≡ is_some o →
-    (if is_module module_width then given o (λ es. fitting (map (element_dots symbology module_width) es)) else None) ≡ None
-not_drawn symbology module_width None k = elim (is_module module_width) as (λ b. ◌≡◌ {A = Option (List ℕ)} (if b then None else None) None) [ true ↦ refl | false ↦ refl ]
-not_drawn symbology module_width (Some es) k = absurd cc
+pub not_drawn : (line_dots : ℕ) (symbology : Symbology) (module_width : ℕ) (o : Option (List ℕ)) → false ≡ is_some o →
+    (if is_module module_width then given o (λ es. fitting line_dots (map (element_dots symbology module_width) es)) else None) ≡ None
+not_drawn line_dots symbology module_width None k = elim (is_module module_width) as (λ b. ◌≡◌ {A = Option (List ℕ)} (if b then None else None) None) [ true ↦ refl | false ↦ refl ]
+not_drawn line_dots symbology module_width (Some es) k = absurd cc

@@ -22,17 +22,17 @@ elements_read_back Itf content es e = itf_read content es e
 elements_read_back Codabar content es e = codabar_read content es e
 elements_read_back Code128 content es e = code128_read content es e
 
-pub read_back : (symbology : Symbology) (module_width : ℕ) (content widths : List ℕ) → drawn symbology module_width content ≡ Some widths →
+pub read_back : (line_dots : ℕ) (symbology : Symbology) (module_width : ℕ) (content widths : List ℕ) → drawn line_dots symbology module_width content ≡ Some widths →
     read symbology widths ≡ Some (canonical symbology content)
-read_back symbology module_width content widths e =
-    let of = drawn_of symbology module_width content widths e in
+read_back line_dots symbology module_width content widths e =
+    let of = drawn_of line_dots symbology module_width content widths e in
     ap (read symbology) (sym of.dots) ∙ ap (λ o. given o (read_elements symbology)) (elements_units symbology module_width content of.drawn_elements of.range of.said)
     ∙ elements_read_back symbology content of.drawn_elements of.said
 
-pub not_alike : (symbology : Symbology) (module_width other : ℕ) (first second widths : List ℕ) → drawn symbology module_width first ≡ Some widths →
-    drawn symbology other second ≡ Some widths → canonical symbology first ≡ canonical symbology second
-not_alike symbology module_width other first second widths e f =
-    let one = read_back symbology module_width first widths e in
-    let two = read_back symbology other second widths f in
+pub not_alike : (line_dots other_line : ℕ) (symbology : Symbology) (module_width other : ℕ) (first second widths : List ℕ) → drawn line_dots symbology module_width first ≡ Some widths →
+    drawn other_line symbology other second ≡ Some widths → canonical symbology first ≡ canonical symbology second
+not_alike line_dots other_line symbology module_width other first second widths e f =
+    let one = read_back line_dots symbology module_width first widths e in
+    let two = read_back other_line symbology other second widths f in
     let both = sym one ∙ two in
     cc

@@ -13,15 +13,15 @@ use Rattle.escpos_barcode.proofs.ReadSpaced.{implied}
 use Rattle.escpos_barcode.proofs.Rows.{digit_range}
 use Rattle.escpos_barcode.specs.Elements.{are_digits, is_itf_content, is_code39_content, elements}
 
-pub fits_drawn : (symbology : Symbology) (module_width : ℕ) (content es : List ℕ) → 2 ≤ module_width → module_width ≤ 6 →
-    elements symbology content ≡ Some es → sum (map (element_dots symbology module_width) es) ≤ 512 →
-    drawn symbology module_width content ≡ Some (map (element_dots symbology module_width) es)
-fits_drawn symbology m content es least most said few =
+pub fits_drawn : (line_dots : ℕ) (symbology : Symbology) (module_width : ℕ) (content es : List ℕ) → 2 ≤ module_width → module_width ≤ 6 →
+    elements symbology content ≡ Some es → sum (map (element_dots symbology module_width) es) ≤ line_dots →
+    drawn line_dots symbology module_width content ≡ Some (map (element_dots symbology module_width) es)
+fits_drawn line_dots symbology m content es least most said few =
     let widths = map (element_dots symbology m) es in
     let module_there : is_module m ≡ true = and_from (nat_le 2 m) (nat_le m 6) (le-leb 2 m least) (le-leb m 6 most) in
-    ap (λ (t : Bool). if t then given (elements symbology content) (λ xs. fitting (map (element_dots symbology m) xs)) else None) module_there
-    ∙ ap (λ o. given o (λ xs. fitting (map (element_dots symbology m) xs))) said
-    ∙ ap (λ (t : Bool). if t then Some widths else None) (le-leb (sum widths) 512 few)
+    ap (λ (t : Bool). if t then given (elements symbology content) (λ xs. fitting line_dots (map (element_dots symbology m) xs)) else None) module_there
+    ∙ ap (λ o. given o (λ xs. fitting line_dots (map (element_dots symbology m) xs))) said
+    ∙ ap (λ (t : Bool). if t then Some widths else None) (le-leb (sum widths) line_dots few)
 
 some_there : {A : Type 0} (t : Bool) (x : A) → t ≡ true → IsTrue (is_some (if t then Some x else None))
 some_there true x h = refl

@@ -92,7 +92,7 @@ unfolding set_a set_b right_digits left_digits parity_rows parities code39_data 
 code128_shift_read = refl
 
 -- in dots at a module width of 2, where a wide element has 5
-itf_dots : drawn Itf 2 (codes "12") ≡ Some (2 ∷ 2 ∷ 2 ∷ 2 ∷ 5 ∷ 2 ∷ 2 ∷ 5 ∷ 2 ∷ 2 ∷ 2 ∷ 2 ∷ 5 ∷ 5 ∷ 5 ∷ 2 ∷ 2 ∷ [])
+itf_dots : drawn 512 Itf 2 (codes "12") ≡ Some (2 ∷ 2 ∷ 2 ∷ 2 ∷ 5 ∷ 2 ∷ 2 ∷ 5 ∷ 2 ∷ 2 ∷ 2 ∷ 2 ∷ 5 ∷ 5 ∷ 5 ∷ 2 ∷ 2 ∷ [])
 unfolding set_a set_b right_digits left_digits parity_rows parities code39_data code39_star itf_rows itf_digits codabar_table code128_rows code128_table
 itf_dots = refl
 
@@ -107,37 +107,51 @@ unfolding set_a set_b right_digits left_digits parity_rows parities code39_data 
 ean8_dots_read = refl
 
 -- 95 modules of 6 dots are more than 512 dots
-too_wide : drawn UpcA 6 (codes "036000291452") ≡ None
+too_wide : drawn 512 UpcA 6 (codes "036000291452") ≡ None
 unfolding set_a set_b right_digits left_digits parity_rows parities code39_data code39_star itf_rows itf_digits codabar_table code128_rows code128_table
 too_wide = refl
 
+-- and 570 dots fit on a line of 576
+fits_wide_paper : is_some (drawn 576 UpcA 6 (codes "036000291452")) ≡ true
+unfolding set_a set_b right_digits left_digits parity_rows parities code39_data code39_star itf_rows itf_digits codabar_table code128_rows code128_table
+fits_wide_paper = refl
+
+-- the 49 dots of a small barcode fit on a line of 49, and on none of 48
+fits_narrow_paper : is_some (drawn 49 Itf 2 (codes "12")) ≡ true
+unfolding set_a set_b right_digits left_digits parity_rows parities code39_data code39_star itf_rows itf_digits codabar_table code128_rows code128_table
+fits_narrow_paper = refl
+
+too_wide_for_narrow_paper : drawn 48 Itf 2 (codes "12") ≡ None
+unfolding set_a set_b right_digits left_digits parity_rows parities code39_data code39_star itf_rows itf_digits codabar_table code128_rows code128_table
+too_wide_for_narrow_paper = refl
+
 -- no module width is 7
-no_module : drawn Itf 7 (codes "12") ≡ None
+no_module : drawn 512 Itf 7 (codes "12") ≡ None
 unfolding set_a set_b right_digits left_digits parity_rows parities code39_data code39_star itf_rows itf_digits codabar_table code128_rows code128_table
 no_module = refl
 
 -- no odd number of digits
-odd : drawn Itf 2 (codes "123") ≡ None
+odd : drawn 512 Itf 2 (codes "123") ≡ None
 unfolding set_a set_b right_digits left_digits parity_rows parities code39_data code39_star itf_rows itf_digits codabar_table code128_rows code128_table
 odd = refl
 
 -- no asterisk as data
-asterisk : drawn Code39 2 (codes "A*") ≡ None
+asterisk : drawn 512 Code39 2 (codes "A*") ≡ None
 unfolding set_a set_b right_digits left_digits parity_rows parities code39_data code39_star itf_rows itf_digits codabar_table code128_rows code128_table
 asterisk = refl
 
 -- no data
-only_start : drawn Code128 2 (codes "{A") ≡ None
+only_start : drawn 512 Code128 2 (codes "{A") ≡ None
 unfolding set_a set_b right_digits left_digits parity_rows parities code39_data code39_star itf_rows itf_digits codabar_table code128_rows code128_table
 only_start = refl
 
 -- half an escape
-half_escape : drawn Code128 2 (codes "{BA{") ≡ None
+half_escape : drawn 512 Code128 2 (codes "{BA{") ≡ None
 unfolding set_a set_b right_digits left_digits parity_rows parities code39_data code39_star itf_rows itf_digits codabar_table code128_rows code128_table
 half_escape = refl
 
 -- no change to the code set that it is in
-same_set : drawn Code128 2 (codes "{BA{B") ≡ None
+same_set : drawn 512 Code128 2 (codes "{BA{B") ≡ None
 unfolding set_a set_b right_digits left_digits parity_rows parities code39_data code39_star itf_rows itf_digits codabar_table code128_rows code128_table
 same_set = refl
 
@@ -192,30 +206,30 @@ wide_elements : (wide 2 ≡ 5) × (wide 3 ≡ 8) × (wide 4 ≡ 10) × (wide 5 �
 wide_elements = (refl, refl, refl, refl, refl)
 
 -- The widest module is one.
-widest_module : drawn Itf 6 (codes "12") ≡ Some (6 ∷ 6 ∷ 6 ∷ 6 ∷ 16 ∷ 6 ∷ 6 ∷ 16 ∷ 6 ∷ 6 ∷ 6 ∷ 6 ∷ 16 ∷ 16 ∷ 16 ∷ 6 ∷ 6 ∷ [])
+widest_module : drawn 512 Itf 6 (codes "12") ≡ Some (6 ∷ 6 ∷ 6 ∷ 6 ∷ 16 ∷ 6 ∷ 6 ∷ 16 ∷ 6 ∷ 6 ∷ 6 ∷ 6 ∷ 16 ∷ 16 ∷ 16 ∷ 6 ∷ 6 ∷ [])
 unfolding set_a set_b right_digits left_digits parity_rows parities code39_data code39_star itf_rows itf_digits codabar_table code128_rows code128_table
 widest_module = refl
 
-too_narrow : drawn Itf 1 (codes "12") ≡ None
+too_narrow : drawn 512 Itf 1 (codes "12") ≡ None
 unfolding set_a set_b right_digits left_digits parity_rows parities code39_data code39_star itf_rows itf_digits codabar_table code128_rows code128_table
 too_narrow = refl
 
 -- 512 dots fit: with a narrow space each, 12 digits of 22 dots and 10 characters with three wide elements of 25, without the last space.
-fits_exactly : is_some (drawn Codabar 2 (codes "A012345678901::::////A")) ≡ true
+fits_exactly : is_some (drawn 512 Codabar 2 (codes "A012345678901::::////A")) ≡ true
 unfolding set_a set_b right_digits left_digits parity_rows parities code39_data code39_star itf_rows itf_digits codabar_table code128_rows code128_table
 fits_exactly = refl
 
 -- 513 dots don't: seven characters of 74 dots, without the last space.
-one_dot_too_wide : drawn Code39 5 (codes "ABCDE") ≡ None
+one_dot_too_wide : drawn 512 Code39 5 (codes "ABCDE") ≡ None
 unfolding set_a set_b right_digits left_digits parity_rows parities code39_data code39_star itf_rows itf_digits codabar_table code128_rows code128_table
 one_dot_too_wide = refl
 
 -- The longest that fit: 15 characters of CODE39, and 20 of CODE128.
-longest_code39 : is_some (drawn Code39 2 (codes "ABCDEFGHIJKLMNO")) ≡ true
+longest_code39 : is_some (drawn 512 Code39 2 (codes "ABCDEFGHIJKLMNO")) ≡ true
 unfolding set_a set_b right_digits left_digits parity_rows parities code39_data code39_star itf_rows itf_digits codabar_table code128_rows code128_table
 longest_code39 = refl
 
-longest_code128 : is_some (drawn Code128 2 (codes "{BABCDEFGHIJKLMNOPQRST")) ≡ true
+longest_code128 : is_some (drawn 512 Code128 2 (codes "{BABCDEFGHIJKLMNOPQRST")) ≡ true
 unfolding set_a set_b right_digits left_digits parity_rows parities code39_data code39_star itf_rows itf_digits codabar_table code128_rows code128_table
 longest_code128 = refl
 

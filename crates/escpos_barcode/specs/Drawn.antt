@@ -2,7 +2,6 @@
 use Rattle.std.specs.Prelude.{ℕ, ◌+◌, ◌*◌, ◌%◌, ◌==◌, ◌&&◌, nat_le, Bool, true, false, List, [], ◌∷◌, ◌++◌, map, sum, Option, None, Some, if◌then◌else◌}
 use Rattle.escpos_command.specs.declared.bars.Symbology.{Symbology}
 use Rattle.escpos_command.specs.declared.bars.Symbology.TheVariants.{Code39, Itf, Codabar}
-use Rattle.escpos_barcode.specs.declared.pen.TheConstants.{LINE_DOTS}
 use Rattle.escpos_barcode.specs.Chains.{given}
 use Rattle.escpos_barcode.specs.Elements.{elements, upper}
 
@@ -20,9 +19,9 @@ wide module_width = if module_width == 2 then 5 else if module_width == 3 then 8
 abbrev pub element_dots : Symbology → ℕ → ℕ → ℕ
 element_dots symbology module_width k = if has_two_widths symbology then (if k == 1 then module_width else wide module_width) else k * module_width
 
--- Widths that fit on the line.
-abbrev pub fitting : List ℕ → Option (List ℕ)
-fitting widths = if nat_le (sum widths) LINE_DOTS then Some widths else None
+-- Widths that fit on a line of so many dots.
+abbrev pub fitting : ℕ → List ℕ → Option (List ℕ)
+fitting line_dots widths = if nat_le (sum widths) line_dots then Some widths else None
 
 abbrev pub is_module : ℕ → Bool
 is_module module_width = nat_le 2 module_width && nat_le module_width 6
@@ -31,10 +30,10 @@ is_module module_width = nat_le 2 module_width && nat_le module_width 6
 abbrev pub is_run : ℕ → Bool
 is_run w = nat_le 2 w && nat_le w 24
 
--- `None`: not scannable.
-abbrev pub drawn : Symbology → ℕ → List ℕ → Option (List ℕ)
-drawn symbology module_width content =
-    if is_module module_width then given (elements symbology content) (λ es. fitting (map (element_dots symbology module_width) es)) else None
+-- On a line of so many dots. `None`: not scannable.
+abbrev pub drawn : ℕ → Symbology → ℕ → List ℕ → Option (List ℕ)
+drawn line_dots symbology module_width content =
+    if is_module module_width then given (elements symbology content) (λ es. fitting line_dots (map (element_dots symbology module_width) es)) else None
 
 -- The check digit that is added to a content: 0 to 9, and of any other number the last digit.
 abbrev pub with_added : List ℕ → Option ℕ → List ℕ

@@ -7,24 +7,26 @@ use Rattle.escpos_barcode.specs.Drawn.{element_dots, fitting}
 abbrev pub is_element : ℕ → Bool
 is_element k = nat_le 1 k && nat_le k 4
 
--- The symbology and the module width that is drawn with, and the widths so far; `None`: they don't fit on the line.
+-- The dots of the line, the symbology and the module width that is drawn with, and the widths so far; `None`: they don't fit on
+-- the line.
 pub record Drawing : Type 0 where
+  pub line_dots : ℕ
   pub symbology : Symbology
   pub module_width : ℕ
   pub widths : Option (List ℕ)
 
 -- One more width; once something didn't fit, nothing does.
-abbrev pub put : Option (List ℕ) → ℕ → Option (List ℕ)
-put None w = None
-put (Some ws) w = fitting (ws ++ w ∷ [])
+abbrev pub put : ℕ → Option (List ℕ) → ℕ → Option (List ℕ)
+put line_dots None w = None
+put line_dots (Some ws) w = fitting line_dots (ws ++ w ∷ [])
 
-abbrev pub more : Option (List ℕ) → List ℕ → Option (List ℕ)
-more o [] = o
-more o (w ∷ ws) = more (put o w) ws
+abbrev pub more : ℕ → Option (List ℕ) → List ℕ → Option (List ℕ)
+more line_dots o [] = o
+more line_dots o (w ∷ ws) = more line_dots (put line_dots o w) ws
 
 -- Further widths in dots
 abbrev pub add : Drawing → List ℕ → Drawing
-add d ws = record { symbology = d.symbology; module_width = d.module_width; widths = more d.widths ws }
+add d ws = record { line_dots = d.line_dots; symbology = d.symbology; module_width = d.module_width; widths = more d.line_dots d.widths ws }
 
 -- Further elements
 abbrev pub draw : Drawing → List ℕ → Drawing
@@ -35,5 +37,5 @@ abbrev pub attempt : Drawing → Option (List ℕ) → Drawing
 attempt d None = d
 attempt d (Some es) = draw d es
 
-abbrev pub blank : Symbology → ℕ → Drawing
-blank symbology module_width = record { symbology = symbology; module_width = module_width; widths = Some [] }
+abbrev pub blank : ℕ → Symbology → ℕ → Drawing
+blank line_dots symbology module_width = record { line_dots = line_dots; symbology = symbology; module_width = module_width; widths = Some [] }

@@ -13,26 +13,27 @@ use crate::spaced::{draw_codabar, draw_code39};
 use crate::text::{Interpretation, shown};
 use crate::upc::{draw_ean8, draw_ean13, draw_upca};
 use arrayvec::ArrayVec;
-use escpos_command::Symbology;
+use escpos_command::{LineWidth, Symbology};
 
-/// The bars and spaces of a barcode: its symbology, its module width in dots, its content as sent, at most 255 bytes, and
+/// The bars and spaces of a barcode on a line of this width: its symbology, its module width in dots, its content as sent, at most 255 bytes, and
 /// the check digit that is added to it. Allocates nothing.
 ///
 /// `None`: not scannable. The module width isn't 2 to 6, or the symbology has no such content, or it doesn't fit on the line.
 pub fn runs(
+    width: LineWidth,
     symbology: Symbology,
     module_width: u8,
     content: &[u8],
     added: Option<u8>,
 ) -> Option<Runs>
     requires { length content.now ≤ 255 }
-    ensures { result ≡ drawn symbology module_width (with_added content.now added) }
+    ensures { result ≡ drawn width symbology module_width (with_added content.now added) }
 {
     if !is_module(module_width) {
         return None;
     }
     let whole = with_added(content, added);
-    let mut pen = Pen::new(symbology, module_width);
+    let mut pen = Pen::new(width, symbology, module_width);
     if draw(&mut pen, symbology, whole.as_slice()) {
         pen.finish()
     } else {

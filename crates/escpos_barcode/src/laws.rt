@@ -10,29 +10,28 @@ ghost use Rattle.escpos_barcode.specs.Elements.{elements};
 ghost use Rattle.escpos_barcode.specs.Reader.{read};
 ghost use Rattle.escpos_barcode.specs.Shown.{is_printable, shown};
 ghost use Rattle.std.specs.List.{list_all};
-ghost use Rattle.escpos_barcode.specs.declared.pen.TheConstants.{LINE_DOTS};
 
-/// What is drawn is read back as the content, whatever the module width.
+/// What is drawn is read back as the content, whatever the module width and the line.
 pub fn bars_read_back()
-    ensures { (symbology : Symbology) (module_width : ℕ) (content widths : List ℕ) →
-        drawn symbology module_width content ≡ Some widths → read symbology widths ≡ Some (canonical symbology content) }
+    ensures { (line_dots : ℕ) (symbology : Symbology) (module_width : ℕ) (content widths : List ℕ) →
+        drawn line_dots symbology module_width content ≡ Some widths → read symbology widths ≡ Some (canonical symbology content) }
 {}
 
-/// No two contents look alike: those that are drawn with the same widths are the same, whatever their module widths.
+/// No two contents look alike: those that are drawn with the same widths are the same, whatever their module widths and lines.
 pub fn no_two_alike()
-    ensures { (symbology : Symbology) (module_width other : ℕ) (first second widths : List ℕ) →
-        drawn symbology module_width first ≡ Some widths → drawn symbology other second ≡ Some widths →
+    ensures { (line_dots other_line : ℕ) (symbology : Symbology) (module_width other : ℕ) (first second widths : List ℕ) →
+        drawn line_dots symbology module_width first ≡ Some widths → drawn other_line symbology other second ≡ Some widths →
         canonical symbology first ≡ canonical symbology second }
 {}
 
 /// What is drawn fits on the line, begins and ends with a bar, and has 2 to 24 dots for each bar and space.
 pub fn bars_fit()
-    ensures dots { (symbology : Symbology) (module_width : ℕ) (content widths : List ℕ) →
-        drawn symbology module_width content ≡ Some widths → sum widths ≤ LINE_DOTS }
-    ensures odd { (symbology : Symbology) (module_width : ℕ) (content widths : List ℕ) →
-        drawn symbology module_width content ≡ Some widths → length widths % 2 ≡ 1 }
-    ensures runs { (symbology : Symbology) (module_width : ℕ) (content widths : List ℕ) →
-        drawn symbology module_width content ≡ Some widths → IsTrue (list_all is_run widths) }
+    ensures dots { (line_dots : ℕ) (symbology : Symbology) (module_width : ℕ) (content widths : List ℕ) →
+        drawn line_dots symbology module_width content ≡ Some widths → sum widths ≤ line_dots }
+    ensures odd { (line_dots : ℕ) (symbology : Symbology) (module_width : ℕ) (content widths : List ℕ) →
+        drawn line_dots symbology module_width content ≡ Some widths → length widths % 2 ≡ 1 }
+    ensures runs { (line_dots : ℕ) (symbology : Symbology) (module_width : ℕ) (content widths : List ℕ) →
+        drawn line_dots symbology module_width content ≡ Some widths → IsTrue (list_all is_run widths) }
 {}
 
 /// The interpretation is printable: its bytes are 20 to 7E.
@@ -40,11 +39,11 @@ pub fn shown_is_printable()
     ensures { (symbology : Symbology) (content : List ℕ) → IsTrue (list_all is_printable (shown symbology content)) }
 {}
 
-/// Nothing else is refused for its width: at a module width of 2 to 6, whatever has elements is drawn if they take 512 dots at most.
+/// Nothing else is refused for its width: at a module width of 2 to 6, whatever has elements is drawn if they take no more dots than the line has.
 pub fn all_that_fits_is_drawn()
-    ensures { (symbology : Symbology) (module_width : ℕ) (content es : List ℕ) → 2 ≤ module_width → module_width ≤ 6 →
-        elements symbology content ≡ Some es → sum (map (element_dots symbology module_width) es) ≤ 512 →
-        drawn symbology module_width content ≡ Some (map (element_dots symbology module_width) es) }
+    ensures { (line_dots : ℕ) (symbology : Symbology) (module_width : ℕ) (content es : List ℕ) → 2 ≤ module_width → module_width ≤ 6 →
+        elements symbology content ≡ Some es → sum (map (element_dots symbology module_width) es) ≤ line_dots →
+        drawn line_dots symbology module_width content ≡ Some (map (element_dots symbology module_width) es) }
 {}
 
 /// Nothing else is refused for its content: a content of UPC-A, EAN-13 and EAN-8 with its check digit, of ITF and of CODABAR, and one of

@@ -20,6 +20,6 @@ mod text;
 mod upc;
 
 pub use barcode::{interpretation, runs};
-pub use pen::{LINE_DOTS, MOST_RUNS, Runs, wide_dots};
+pub use pen::{MOST_RUNS, Runs, wide_dots};
 pub use qr::qr_modules;
 pub use text::{Interpretation, MOST_SHOWN};

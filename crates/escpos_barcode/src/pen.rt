@@ -6,18 +6,13 @@ ghost use Rattle.escpos_barcode.specs.Drawn.{has_two_widths, wide, element_dots,
 ghost use Rattle.escpos_barcode.specs.Pen.{Drawing, is_element, more, add, draw, blank};
 
 use arrayvec::ArrayVec;
-use escpos_command::Symbology;
+use escpos_command::{LineWidth, Symbology};
 use std::marker::Model;
 
-/// How wide a line is, in dots.
-pub const LINE_DOTS: u16 = 512;
+/// The most bars and spaces that fit on a line of 1,024 dots: each is at least two dots wide.
+pub const MOST_RUNS: usize = 512;
 
-const _: () = prove!(LINE_DOTS == 512);
-
-/// The most bars and spaces that fit on a line: each is at least two dots wide.
-pub const MOST_RUNS: usize = 256;
-
-const _: () = prove!(MOST_RUNS == 256);
+const _: () = prove!(MOST_RUNS == 512);
 
 /// The bars and spaces of a barcode from left to right, a bar first and a bar last: their widths in dots. They are part of
 /// the value itself, so they allocate nothing.
@@ -44,9 +39,10 @@ impl Runs {
     }
 }
 
-/// What is drawn so far, of one symbology in one module width, 2 to 6 dots.
+/// What is drawn so far on a line, of one symbology in one module width, 2 to 6 dots.
 #[derive(Drop)]
 pub struct Pen {
+    line_width: LineWidth,
     symbology: Symbology,
     module_width: u8,
     widths: ArrayVec<u8, MOST_RUNS>,
@@ -58,22 +54,22 @@ impl Model for Pen {
     ghost use Rattle.std.specs.Prelude.{◌≡◌, ◌≤◌, ◌*◌, ℕ, sum, length, IsTrue, Some, None, if◌then◌else◌};
     ghost use Rattle.escpos_barcode.specs.Drawn.{is_module};
     ghost use Rattle.escpos_barcode.specs.Pen.{Drawing};
-    ghost use Rattle.escpos_barcode.specs.declared.pen.TheConstants.{LINE_DOTS};
 
     ghost Value = { Drawing };
 
-    ghost view = { λ p. record { symbology = p.symbology; module_width = p.module_width; widths = if p.fits then Some p.widths.items else None } };
+    ghost view = { λ p. record { line_dots = p.line_width; symbology = p.symbology; module_width = p.module_width; widths = if p.fits then Some p.widths.items else None } };
 
-    ghost invariant = { λ p. IsTrue (is_module p.module_width) × (sum p.widths.items ≡ p.dots) × (p.dots ≤ LINE_DOTS) × (2 * length p.widths.items ≤ p.dots) };
+    ghost invariant = { λ p. IsTrue (is_module p.module_width) × (sum p.widths.items ≡ p.dots) × (p.dots ≤ p.line_width) × (2 * length p.widths.items ≤ p.dots) };
 }
 
 impl Pen {
     /// Nothing drawn yet.
-    pub fn new(symbology: Symbology, module_width: u8) -> Self
+    pub fn new(line_width: LineWidth, symbology: Symbology, module_width: u8) -> Self
         requires { IsTrue (is_module module_width) }
-        ensures { result ≡ blank symbology module_width }
+        ensures { result ≡ blank line_width symbology module_width }
     {
         Pen {
+            line_width,
             symbology,
             module_width,
             widths: ArrayVec::new(),
@@ -98,8 +94,9 @@ impl Pen {
         requires { 2 ≤ width }
         ensures { self.new ≡ add self.old (width ∷ []) }
     {
+        let line_dots = self.line_width.dots();
         let dots = self.dots + u16::from(width);
-        if self.fits && dots <= LINE_DOTS {
+        if self.fits && dots <= line_dots {
             self.widths.push(width);
             self.dots = dots;
         } else {

@@ -1,5 +1,5 @@
 -- Where the commands that the first profile lacked part from those that it had.
-use Rattle.std.proofs.Common.{◌≡◌, ◌<◌, ◌≤◌, zero, suc, ℕ, ◌+◌, ◌*◌, ◌/◌, ◌%◌, List, [], ◌∷◌, ◌++◌, length, refl, ◌∙◌, ap, append-nil, arith, Bool, true, false}
+use Rattle.std.proofs.Common.{◌≡◌, ◌<◌, ◌≤◌, zero, suc, ℕ, ◌+◌, ◌*◌, ◌/◌, ◌%◌, List, [], ◌∷◌, ◌++◌, length, refl, ◌∙◌, ap, append-nil, arith, true, false}
 use Rattle.std.specs.Prelude.{nat_le}
 use Rattle.std.specs.List.{list_all}
 use Rattle.std.proofs.lemmas.Bool.Decides.{nat_tests}
@@ -12,7 +12,7 @@ use Rattle.escpos_command.specs.Parameters.{is_byte, is_one_of_two, is_one_of_fo
 use Rattle.escpos_command.specs.Profiles.{ViableIn}
 use Rattle.escpos_command.specs.Rasters.{picture, is_width, is_height}
 use Rattle.escpos_command.specs.SecondProfile.{in_second_profile}
-use Rattle.escpos_command.specs.Tree.{leaf, walk, one, passing, these, counted, grammar, after_scale, after_width, after_low, dots_tree}
+use Rattle.escpos_command.specs.Tree.{leaf, walk, one, passing, these, grammar, after_scale, after_width, after_low, dots_tree}
 use Rattle.escpos_command.proofs.Profiles.{Parts, AllPart, chosen, counted_below, same_leaf, one_below, none_below}
 use Rattle.escpos_command.proofs.RasterTree.{in_range, width_low, width_high, low_byte, height_bytes, spelled}
 use Rattle.escpos_command.proofs.SecondProfile.{Earlier, after_escape, later_parts}

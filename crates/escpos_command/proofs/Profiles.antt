@@ -1,6 +1,6 @@
 -- The laws of an earlier profile, from one fact for each command of the table that the profile lacks: where its spelling parts
 -- from the commands that the profile has. Nothing else here is about a kind of command.
-use Rattle.std.proofs.Common.{zero, suc, ◌≡◌, ◌<◌, ◌⊎◌, inl, inr, ℕ, List, [], ◌∷◌, ◌++◌, length, take, refl, sym, ◌∙◌, ap, subst, append_assoc, append-nil, arith, Bool, true, false, cond, IsTrue, length-append}
+use Rattle.std.proofs.Common.{zero, suc, ◌≡◌, ◌⊎◌, inl, inr, ℕ, List, [], ◌∷◌, ◌++◌, length, take, refl, sym, ◌∙◌, ap, subst, append_assoc, append-nil, arith, Bool, true, false, cond, IsTrue, length-append}
 use Rattle.std.specs.Prelude.{◌==◌, slice_index}
 use Rattle.std.specs.List.{AllByRecursion}
 use Rattle.std.proofs.lemmas.Grind.{flat_map-append}
@@ -10,7 +10,7 @@ use Rattle.escpos_command.specs.declared.fault.FaultReason.{FaultReason}
 use Rattle.escpos_command.specs.CommandTable.{Spells, IsCommand, row, spell}
 use Rattle.escpos_command.specs.Grammar.{Half, Reads, FaultAt}
 use Rattle.escpos_command.specs.Places.{reason_after}
-use Rattle.escpos_command.specs.Profiles.{SpellsIn, ViableIn, HalfIn, ReadsIn, FaultAtIn, IsReadIn, IsRefusedIn}
+use Rattle.escpos_command.specs.Profiles.{ViableIn, HalfIn, ReadsIn, FaultAtIn, IsReadIn, IsRefusedIn}
 use Rattle.escpos_command.specs.Tree.{Tree, dead, leaf, node, walk, grammar, one, none, branch, these, passing, counted}
 use Rattle.escpos_command.proofs.Readings.{half_at_node, leads_spelling, no_prefix, not_empty, not_viable_at_dead, one_command, spelling_at_leaf, viable_where_live}
 use Rattle.escpos_command.proofs.Walks.{IsLive}

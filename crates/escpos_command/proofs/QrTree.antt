@@ -8,10 +8,10 @@ use Rattle.escpos_command.specs.declared.command.Command.{Command}
 use Rattle.escpos_command.specs.declared.command.Command.TheVariants as kind
 use Rattle.escpos_command.specs.Parameters.{is_byte, is_qr_model, is_qr_size, is_qr_level}
 use Rattle.escpos_command.specs.QrCodes.{is_qr_data, is_qr_length, most_qr_data}
-use Rattle.escpos_command.specs.CommandTable.{Spells, IsCommand}
-use Rattle.escpos_command.specs.Tree.{Tree, leaf, dead, walk, passing, these, one, none, branch, counted, at_length, qr_data, qr_functions, qr_function, qr_code, qr_high, qr}
+use Rattle.escpos_command.specs.CommandTable.{Spells}
+use Rattle.escpos_command.specs.Tree.{leaf, dead, walk, passing, these, one, none, branch, qr_data, qr_functions, qr_function, qr_code, qr_high, qr}
 use Rattle.escpos_command.proofs.Walks.{Good, IsLive}
-use Rattle.escpos_command.proofs.Combinators.{good_choice, good_passing, good_one, good_branch, good_these, good_counted, walk-counted, walk-one, live_choice, live_counted, all_from_all, and_left, and_right, both, same_number, at_row}
+use Rattle.escpos_command.proofs.Combinators.{good_choice, good_passing, good_one, good_branch, good_these, good_counted, walk-counted, live_choice, live_counted, all_from_all, and_left, and_right, both, same_number, at_row}
 
 -- ## Spellings lead
 

@@ -1,6 +1,6 @@
 -- Where the commands that are new since the second profile part from those of an earlier profile: at their letter. A kind of
 -- command adds a case to `later_parts`.
-use Rattle.std.proofs.Common.{◌≡◌, ℕ, ◌+◌, ◌-◌, ◌*◌, List, [], ◌∷◌, ◌++◌, refl, ap, ◌∙◌, Bool, true, false, cond, IsTrue, ◌⊎◌, inl, inr, sym, subst, append_assoc}
+use Rattle.std.proofs.Common.{◌≡◌, ℕ, ◌+◌, ◌-◌, ◌*◌, List, [], ◌∷◌, ◌++◌, refl, ap, ◌∙◌, Bool, true, false, cond, ◌⊎◌, inl, inr, sym, subst, append_assoc}
 use Rattle.std.specs.Prelude.{◌==◌, nat_le, ◌||◌}
 use Rattle.escpos_command.specs.Grammar.{Viable}
 use Rattle.escpos_command.specs.declared.bytes.TheConstants.{ESC, GS}

@@ -1,4 +1,5 @@
 pub mod Parameters
+pub mod LineWidths
 pub mod Meanings
 pub mod Barcodes
 pub mod Rasters

@@ -3,7 +3,7 @@
 //! `command` has the commands and `parameter` their parameters; `mark` has the ids of marks, `bars` barcodes, `raster`
 //! rasters and `qr` the data of QR codes, whose bytes are a `content`. `bytes` has the control bytes, `chars` makes commands of a text. `spelling` gives
 //! the bytes of a command, and `writing` puts those of a list. `answer` has what a printer answers, and `fault` why a byte
-//! is refused.
+//! is refused. `line_width` has how wide a line is, which no command says.
 //!
 //! `specs/CommandTable.antt` is the command table, `specs/Grammar.antt` defines what a byte list says by that table alone,
 //! and `laws` has what follows from it. The crate above reads bytes.
@@ -17,6 +17,7 @@ mod command;
 mod content;
 mod fault;
 pub mod laws;
+mod line_width;
 mod mark;
 mod parameter;
 mod qr;
@@ -31,6 +32,7 @@ pub use chars::{CharsFault, chars_of};
 pub use command::{Command, LONGEST_PREFIX, Parts};
 pub use content::Bytes;
 pub use fault::FaultReason;
+pub use line_width::{LineWidth, MOST_LINE_DOTS, USUAL_LINE_DOTS};
 pub use mark::{MarkId, is_mark_byte};
 pub use parameter::{
     Align, Alignment, BarHeight, BarWidth, Character, CharacterSet, Correction, Cut, Emphasis,

@@ -122,25 +122,25 @@ older_told of h after id first at (event.BadAnswer place) opening known (p, ps, 
 
 -- ## The four ways
 
-abbrev pub InWay : Sheet → List ℕ → List (List ℕ) → Option (List ℕ) → List Answer → Phase → List ℕ → ℕ → List (List Command) → List Answer → Type 0
-InWay sheet half ended live waiting phase out next records answers = Way phase out next records sheet half ended live (answered_marks (answers ++ waiting))
+abbrev pub InWay : ℕ → Sheet → List ℕ → List (List ℕ) → Option (List ℕ) → List Answer → Phase → List ℕ → ℕ → List (List Command) → List Answer → Type 0
+InWay width sheet half ended live waiting phase out next records answers = Way width phase out next records sheet half ended live (answered_marks (answers ++ waiting))
 
-stays : (sheet : Sheet) (half : List ℕ) (ended : List (List ℕ)) (live : Option (List ℕ)) (waiting : List Answer) (h after : HostView) (others : List Answer)
-    (e : HostEvent) → (EndsLink e → ⊥) → h.phase ≢ Down → after ≡ h → InWay sheet half ended live waiting h.phase h.out h.next h.records others
-    → Turned (InWay sheet half ended live waiting) h after others e
-stays sheet half ended live waiting h after others e on up same w = record {
+stays : (width : ℕ) (sheet : Sheet) (half : List ℕ) (ended : List (List ℕ)) (live : Option (List ℕ)) (waiting : List Answer) (h after : HostView) (others : List Answer)
+    (e : HostEvent) → (EndsLink e → ⊥) → h.phase ≢ Down → after ≡ h → InWay width sheet half ended live waiting h.phase h.out h.next h.records others
+    → Turned (InWay width sheet half ended live waiting) h after others e
+stays width sheet half ended live waiting h after others e on up same w = record {
   on = on;
   up = λ is_down. up (sym (ap (λ (v : HostView). v.phase) same) ∙ is_down);
   half = ap (λ (v : HostView). v.half) same;
-  holds = subst (λ (v : HostView). InWay sheet half ended live waiting v.phase v.out v.next v.records others) (sym same) w;
+  holds = subst (λ (v : HostView). InWay width sheet half ended live waiting v.phase v.out v.next v.records others) (sym same) w;
 }
 
-mark_way : OfNumbers → (sheet : Sheet) (half : List ℕ) (ended : List (List ℕ)) (live : Option (List ℕ)) (waiting : List Answer) (h after : HostView)
-    (id : List ℕ) (others : List Answer) (at : ℕ) (e : HostEvent) → h.phase ≢ Down → InWay sheet half ended live waiting h.phase h.out h.next h.records (answer.Mark id ∷ others)
-    → Turns h (answer.Mark id) at e after → Turned (InWay sheet half ended live waiting) h after others e
-mark_way of sheet half ended None waiting h after id others at e up (inl w) turns =
+mark_way : (width : ℕ) → OfNumbers → (sheet : Sheet) (half : List ℕ) (ended : List (List ℕ)) (live : Option (List ℕ)) (waiting : List Answer) (h after : HostView)
+    (id : List ℕ) (others : List Answer) (at : ℕ) (e : HostEvent) → h.phase ≢ Down → InWay width sheet half ended live waiting h.phase h.out h.next h.records (answer.Mark id ∷ others)
+    → Turns h (answer.Mark id) at e after → Turned (InWay width sheet half ended live waiting) h after others e
+mark_way width of sheet half ended None waiting h after id others at e up (inl w) turns =
     let rest = answered_marks (others ++ waiting) in
-    let t = mark_told (λ rs f. Owed rs f h.next sheet.items rest) h after id at e up (owed_turn of h.records (flight_of h.phase) h.next sheet.items id rest w.owed) turns in
+    let t = mark_told (λ rs f. Owed width rs f h.next sheet.items rest) h after id at e up (owed_turn width of h.records (flight_of h.phase) h.next sheet.items id rest w.owed) turns in
     record {
       on = t.on;
       up = t.up;
@@ -148,14 +148,14 @@ mark_way of sheet half ended None waiting h after id others at e up (inl w) turn
       holds = inl (record {
         up = t.up;
         only = w.only;
-        owed = subst (λ n. Owed after.records (flight_of after.phase) n sheet.items rest) (sym t.next) t.holds;
+        owed = subst (λ n. Owed width after.records (flight_of after.phase) n sheet.items rest) (sym t.next) t.holds;
       });
     }
-mark_way of sheet half ended None waiting h after id others at e up (inr w) turns = absurd (up w.down)
-mark_way of sheet half ended (Some bytes) waiting h after id others at e up (inl w) turns =
+mark_way width of sheet half ended None waiting h after id others at e up (inr w) turns = absurd (up w.down)
+mark_way width of sheet half ended (Some bytes) waiting h after id others at e up (inl w) turns =
     let rest = answered_marks (others ++ waiting) in
-    let t = mark_told (λ rs f. Course rs f h.next w.kept w.ran rest w.due) h after id at e up
-    (course_turn of h.records (flight_of h.phase) h.next w.kept w.ran id rest w.due w.course) turns in
+    let t = mark_told (λ rs f. Course width rs f h.next w.kept w.ran rest w.due) h after id at e up
+    (course_turn width of h.records (flight_of h.phase) h.next w.kept w.ran id rest w.due w.course) turns in
     record {
       on = t.on;
       up = t.up;
@@ -168,12 +168,12 @@ mark_way of sheet half ended (Some bytes) waiting h after id others at e up (inl
         due = w.due;
         sheet_is = w.sheet_is;
         aligned = subst (λ v. Reads (half ++ (bytes ++ v)) w.due []) (sym t.out) w.aligned;
-        course = subst (λ n. Course after.records (flight_of after.phase) n w.kept w.ran rest w.due) (sym t.next) t.holds;
+        course = subst (λ n. Course width after.records (flight_of after.phase) n w.kept w.ran rest w.due) (sym t.next) t.holds;
       });
     }
-mark_way of sheet half ended (Some bytes) waiting h after id others at e up (inr w) turns =
+mark_way width of sheet half ended (Some bytes) waiting h after id others at e up (inr w) turns =
     let t = older_told of h after id w.first at e w.opening w.known.0 turns in
-    stays sheet half ended (Some bytes) waiting h after others e t.0 up t.1 (inr (record {
+    stays width sheet half ended (Some bytes) waiting h after others e t.0 up t.1 (inr (record {
       first = w.first;
       opening = w.opening;
       within = w.within;
@@ -183,10 +183,10 @@ mark_way of sheet half ended (Some bytes) waiting h after id others at e up (inr
       newest = w.newest;
     }))
 
-pub turn_way : OfNumbers → (sheet : Sheet) (half : List ℕ) (ended : List (List ℕ)) (live : Option (List ℕ)) (waiting : List Answer) (h after : HostView)
-    (a : Answer) (others : List Answer) (at : ℕ) (e : HostEvent) → h.phase ≢ Down → InWay sheet half ended live waiting h.phase h.out h.next h.records (a ∷ others)
-    → Turns h a at e after → Turned (InWay sheet half ended live waiting) h after others e
-turn_way of sheet half ended live waiting h after (answer.Status b) others at e up w turns =
-    let t = status_told h after b at e turns in stays sheet half ended live waiting h after others e t.0 up t.1 w
-turn_way of sheet half ended live waiting h after (answer.Mark id) others at e up w turns =
-    mark_way of sheet half ended live waiting h after id others at e up w turns
+pub turn_way : (width : ℕ) → OfNumbers → (sheet : Sheet) (half : List ℕ) (ended : List (List ℕ)) (live : Option (List ℕ)) (waiting : List Answer) (h after : HostView)
+    (a : Answer) (others : List Answer) (at : ℕ) (e : HostEvent) → h.phase ≢ Down → InWay width sheet half ended live waiting h.phase h.out h.next h.records (a ∷ others)
+    → Turns h a at e after → Turned (InWay width sheet half ended live waiting) h after others e
+turn_way width of sheet half ended live waiting h after (answer.Status b) others at e up w turns =
+    let t = status_told h after b at e turns in stays width sheet half ended live waiting h after others e t.0 up t.1 w
+turn_way width of sheet half ended live waiting h after (answer.Mark id) others at e up w turns =
+    mark_way width of sheet half ended live waiting h after id others at e up w turns

@@ -45,14 +45,14 @@ unmarked before (c ∷ cs) each =
 -- ## What the host puts out
 
 -- One more opening mark.
-pub nudged_way : OfReadings → OfNumbers → OfPaper → (phase : Phase) (out : List ℕ) (next : ℕ) (records : List (List Command)) (sheet : Sheet) (half : List ℕ)
+pub nudged_way : (width : ℕ) → OfReadings → OfNumbers → OfPaper → (phase : Phase) (out : List ℕ) (next : ℕ) (records : List (List Command)) (sheet : Sheet) (half : List ℕ)
     (ended : List (List ℕ)) (live : Option (List ℕ)) (pending : List (List ℕ)) → IsOpening phase → next < mark_count
-    → Way phase out next records sheet half ended live pending
-    → Way phase (out ++ row (kind.Mark (mark_of next))) (next + 1) records sheet half ended live pending
-nudged_way below of paper phase out next records sheet half ended None pending is few (inl w) =
-    inl (record { up = w.up; only = w.only; owed = owed_more records (flight_of phase) next (next + 1) sheet.items pending (omega arith) w.owed })
-nudged_way below of paper phase out next records sheet half ended None pending is few (inr w) = absurd (opening_up phase is w.down)
-nudged_way below of paper phase out next records sheet half ended (Some bytes) pending is few (inl w) =
+    → Way width phase out next records sheet half ended live pending
+    → Way width phase (out ++ row (kind.Mark (mark_of next))) (next + 1) records sheet half ended live pending
+nudged_way width below of paper phase out next records sheet half ended None pending is few (inl w) =
+    inl (record { up = w.up; only = w.only; owed = owed_more width records (flight_of phase) next (next + 1) sheet.items pending (omega arith) w.owed })
+nudged_way width below of paper phase out next records sheet half ended None pending is few (inr w) = absurd (opening_up phase is w.down)
+nudged_way width below of paper phase out next records sheet half ended (Some bytes) pending is few (inl w) =
     let m = kind.Mark (mark_of next) in
     inl (record {
       up = w.up;
@@ -63,10 +63,10 @@ nudged_way below of paper phase out next records sheet half ended (Some bytes) p
       sheet_is = w.sheet_is;
       aligned = subst (λ v. Reads (half ++ (bytes ++ (out ++ v))) (w.due ++ m ∷ []) []) (one_row m)
           (step_add below half bytes out w.due (m ∷ []) w.aligned (of.ids next few, tt));
-      course = course_more paper records (flight_of phase) next (next + 1) w.kept w.ran pending w.due (m ∷ []) (none_opening phase is) (omega arith)
+      course = course_more width paper records (flight_of phase) next (next + 1) w.kept w.ran pending w.due (m ∷ []) (none_opening phase is) (omega arith)
           ((next, omega arith, few, refl), tt) w.course;
     })
-nudged_way below of paper phase out next records sheet half ended (Some bytes) pending is few (inr w) =
+nudged_way width below of paper phase out next records sheet half ended (Some bytes) pending is few (inr w) =
     let m = kind.Mark (mark_of next) in
     let within = w.within in
     inr (record {
@@ -90,20 +90,20 @@ open_up : (flight : List InFlight) → Open flight ≢ Down
 open_up flight e = cc e
 
 -- A receipt.
-pub submitted_way : OfReadings → OfNumbers → (phase : Phase) (out : List ℕ) (next : ℕ) (records : List (List Command)) (sheet : Sheet) (half : List ℕ)
+pub submitted_way : (width : ℕ) → OfReadings → OfNumbers → (phase : Phase) (out : List ℕ) (next : ℕ) (records : List (List Command)) (sheet : Sheet) (half : List ℕ)
     (ended : List (List ℕ)) (live : Option (List ℕ)) (pending : List (List ℕ)) (flight : List InFlight) (receipt : List Command) → phase ≡ Open flight
     → next < mark_count → marks receipt ≡ [] → AreCommands receipt → AreCommands (kind.Init ∷ (receipt ++ kind.Mark (mark_of next) ∷ []))
-    → Way phase out next records sheet half ended live pending
-    → Way (Open (flight ++ record { receipt = receipt; mark = mark_of next } ∷ [])) (out ++ spell (kind.Init ∷ (receipt ++ kind.Mark (mark_of next) ∷ []))) (next + 1)
+    → Way width phase out next records sheet half ended live pending
+    → Way width (Open (flight ++ record { receipt = receipt; mark = mark_of next } ∷ [])) (out ++ spell (kind.Init ∷ (receipt ++ kind.Mark (mark_of next) ∷ []))) (next + 1)
     records sheet half ended live pending
-submitted_way below of phase out next records sheet half ended None pending flight receipt is few none are all (inl w) = inl (record {
+submitted_way width below of phase out next records sheet half ended None pending flight receipt is few none are all (inl w) = inl (record {
   up = open_up _;
   only = w.only;
-  owed = owed_submit records flight next sheet.items pending (record { receipt = receipt; mark = mark_of next }) few refl
-      (subst (λ v. Owed records (flight_of v) next sheet.items pending) is w.owed);
+  owed = owed_submit width records flight next sheet.items pending (record { receipt = receipt; mark = mark_of next }) few refl
+      (subst (λ v. Owed width records (flight_of v) next sheet.items pending) is w.owed);
 })
-submitted_way below of phase out next records sheet half ended None pending flight receipt is few none are all (inr w) = absurd (not_down phase flight is w.down)
-submitted_way below of phase out next records sheet half ended (Some bytes) pending flight receipt is few none are all (inl w) =
+submitted_way width below of phase out next records sheet half ended None pending flight receipt is few none are all (inr w) = absurd (not_down phase flight is w.down)
+submitted_way width below of phase out next records sheet half ended (Some bytes) pending flight receipt is few none are all (inl w) =
     let cs = kind.Init ∷ (receipt ++ kind.Mark (mark_of next) ∷ []) in
     inl (record {
       up = open_up _;
@@ -113,20 +113,20 @@ submitted_way below of phase out next records sheet half ended (Some bytes) pend
       due = w.due ++ cs;
       sheet_is = w.sheet_is;
       aligned = step_add below half bytes out w.due cs w.aligned all;
-      course = course_submit records flight next w.kept w.ran pending w.due (record { receipt = receipt; mark = mark_of next }) few refl none
-          (subst (λ v. Course records (flight_of v) next w.kept w.ran pending w.due) is w.course);
+      course = course_submit width records flight next w.kept w.ran pending w.due (record { receipt = receipt; mark = mark_of next }) few refl none
+          (subst (λ v. Course width records (flight_of v) next w.kept w.ran pending w.due) is w.course);
     })
-submitted_way below of phase out next records sheet half ended (Some bytes) pending flight receipt is few none are all (inr w) =
+submitted_way width below of phase out next records sheet half ended (Some bytes) pending flight receipt is few none are all (inr w) =
     absurd (not_opening phase w.first flight is w.opening)
 
 -- A status request.
-pub asked_way : OfReadings → OfPaper → (phase : Phase) (out : List ℕ) (next : ℕ) (records : List (List Command)) (sheet : Sheet) (half : List ℕ)
+pub asked_way : (width : ℕ) → OfReadings → OfPaper → (phase : Phase) (out : List ℕ) (next : ℕ) (records : List (List Command)) (sheet : Sheet) (half : List ℕ)
     (ended : List (List ℕ)) (live : Option (List ℕ)) (pending : List (List ℕ)) (n : ℕ) → phase ≡ Open [] → IsCommand (kind.Status n)
-    → Way phase out next records sheet half ended live pending
-    → Way phase (out ++ row (kind.Status n)) next records sheet half ended live pending
-asked_way below paper phase out next records sheet half ended None pending n is ok (inl w) = inl w
-asked_way below paper phase out next records sheet half ended None pending n is ok (inr w) = inr w
-asked_way below paper phase out next records sheet half ended (Some bytes) pending n is ok (inl w) =
+    → Way width phase out next records sheet half ended live pending
+    → Way width phase (out ++ row (kind.Status n)) next records sheet half ended live pending
+asked_way width below paper phase out next records sheet half ended None pending n is ok (inl w) = inl w
+asked_way width below paper phase out next records sheet half ended None pending n is ok (inr w) = inr w
+asked_way width below paper phase out next records sheet half ended (Some bytes) pending n is ok (inl w) =
     let c = kind.Status n in
     inl (record {
       up = w.up;
@@ -136,20 +136,20 @@ asked_way below paper phase out next records sheet half ended (Some bytes) pendi
       due = w.due ++ c ∷ [];
       sheet_is = w.sheet_is;
       aligned = subst (λ v. Reads (half ++ (bytes ++ (out ++ v))) (w.due ++ c ∷ []) []) (one_row c) (step_add below half bytes out w.due (c ∷ []) w.aligned (ok, tt));
-      course = course_more paper records (flight_of phase) next next w.kept w.ran pending w.due (c ∷ []) (ap flight_of is) (omega arith) tt w.course;
+      course = course_more width paper records (flight_of phase) next next w.kept w.ran pending w.due (c ∷ []) (ap flight_of is) (omega arith) tt w.course;
     })
-asked_way below paper phase out next records sheet half ended (Some bytes) pending n is ok (inr w) = absurd (not_opening phase w.first [] is w.opening)
+asked_way width below paper phase out next records sheet half ended (Some bytes) pending n is ok (inr w) = absurd (not_opening phase w.first [] is w.opening)
 
 -- Bytes leave the host.
 kept_bytes : (bytes out : List ℕ) (n : ℕ) → bytes ++ out ≡ (bytes ++ take n out) ++ drop n out
 kept_bytes bytes out n = ap (λ v. bytes ++ v) (sym (take-append-drop n out)) ∙ sym (append_assoc bytes (take n out) (drop n out))
 
-pub moved_way : (phase : Phase) (out : List ℕ) (next : ℕ) (records : List (List Command)) (sheet : Sheet) (half : List ℕ) (ended : List (List ℕ))
-    (live : Option (List ℕ)) (pending : List (List ℕ)) (n : ℕ) → Way phase out next records sheet half ended live pending
-    → Way phase (drop n out) next records sheet half ended (put_on live (take n out)) pending
-moved_way phase out next records sheet half ended None pending n (inl w) = inl w
-moved_way phase out next records sheet half ended None pending n (inr w) = inr w
-moved_way phase out next records sheet half ended (Some bytes) pending n (inl w) = inl (record {
+pub moved_way : (width : ℕ) (phase : Phase) (out : List ℕ) (next : ℕ) (records : List (List Command)) (sheet : Sheet) (half : List ℕ) (ended : List (List ℕ))
+    (live : Option (List ℕ)) (pending : List (List ℕ)) (n : ℕ) → Way width phase out next records sheet half ended live pending
+    → Way width phase (drop n out) next records sheet half ended (put_on live (take n out)) pending
+moved_way width phase out next records sheet half ended None pending n (inl w) = inl w
+moved_way width phase out next records sheet half ended None pending n (inr w) = inr w
+moved_way width phase out next records sheet half ended (Some bytes) pending n (inl w) = inl (record {
   up = w.up;
   only = w.only;
   kept = w.kept;
@@ -159,7 +159,7 @@ moved_way phase out next records sheet half ended (Some bytes) pending n (inl w)
   aligned = subst (λ v. Reads (half ++ v) w.due []) (kept_bytes bytes out n) w.aligned;
   course = w.course;
 })
-moved_way phase out next records sheet half ended (Some bytes) pending n (inr w) = inr (record {
+moved_way width phase out next records sheet half ended (Some bytes) pending n (inr w) = inr (record {
   first = w.first;
   opening = w.opening;
   within = w.within;

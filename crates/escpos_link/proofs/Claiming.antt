@@ -27,8 +27,8 @@ use Rattle.escpos_link.proofs.Standing.{stands_add, stands_front, stands_more}
 
 -- What the layers below say of paper.
 pub record OfPaper : Type 0 where
-  pub init : (a b : List Command) → printed (a ++ kind.Init ∷ [] ++ b) ≡ printed a ++ printed b
-  pub grows : (a b : List Command) → (more : List Item) × (printed (a ++ b) ≡ printed a ++ more)
+  pub init : (width : ℕ) (a b : List Command) → printed width (a ++ kind.Init ∷ [] ++ b) ≡ printed width a ++ printed width b
+  pub grows : (width : ℕ) (a b : List Command) → (more : List Item) × (printed width (a ++ b) ≡ printed width a ++ more)
 
 closing_append : (a b : List InFlight) → closing_marks (a ++ b) ≡ closing_marks a ++ closing_marks b
 closing_append [] b = refl
@@ -93,9 +93,9 @@ front_queue base (o ∷ old) done (x ∷ xs) ys k e =
       done_is = r.done_is;
     }
 
-pub owed_front : (records : List (List Command)) (flight : List InFlight) (next : ℕ) (items : List Item) (xs ys : List (List ℕ))
-    → Owed records flight next items (xs ++ ys) → Owed records flight next items xs
-owed_front records flight next items xs ys w =
+pub owed_front : (width : ℕ) (records : List (List Command)) (flight : List InFlight) (next : ℕ) (items : List Item) (xs ys : List (List ℕ))
+    → Owed width records flight next items (xs ++ ys) → Owed width records flight next items xs
+owed_front width records flight next items xs ys w =
     let f = front_queue w.order.base w.order.old w.done xs ys w.order.known w.order.queue_is in
     let split : w.done ++ w.todo ≡ f.first ++ (f.more ++ w.todo) = ap (λ v. v ++ w.todo) f.done_is ∙ append_assoc f.first f.more w.todo in
     let all : records ++ receipts w.done ≡ (records ++ receipts f.first) ++ receipts f.more =
@@ -111,25 +111,25 @@ owed_front records flight next items xs ys w =
         rising = subst (λ v. Rising w.order.base v next) split w.order.rising;
         queue_is = f.front_is;
       };
-      stands = stands_front (records ++ receipts f.first) (receipts f.more) items (subst (λ v. Stands v items) all w.stands);
+      stands = stands_front width (records ++ receipts f.first) (receipts f.more) items (subst (λ v. Stands width v items) all w.stands);
     }
 
 -- ## What a course gives when nothing of it is run any more
 
-printed_so : OfPaper → (kept : List Item) (first run ran : List Command) → ran ≡ first ++ kind.Init ∷ [] ++ run
-    → (kept ++ printed first) ++ printed run ≡ kept ++ printed ran
-printed_so paper kept first run ran is =
-    append_assoc kept (printed first) (printed run) ∙ ap (λ v. kept ++ v) (sym (paper.init first run) ∙ ap printed (sym is))
+printed_so : (width : ℕ) → OfPaper → (kept : List Item) (first run ran : List Command) → ran ≡ first ++ kind.Init ∷ [] ++ run
+    → (kept ++ printed width first) ++ printed width run ≡ kept ++ printed width ran
+printed_so width paper kept first run ran is =
+    append_assoc kept (printed width first) (printed width run) ∙ ap (λ v. kept ++ v) (sym (paper.init width first run) ∙ ap (printed width) (sym is))
 
 marks_last : (left : List Command) (id : List ℕ) (rest : List Command) → rest ≡ left ++ kind.Mark id ∷ [] → marks rest ≡ marks left ++ id ∷ []
 marks_last left id rest is = ap marks is ∙ marks_append left (kind.Mark id ∷ [])
 
-settles : OfPaper → (records : List (List Command)) (flight done todo : List InFlight) (next : ℕ) (kept : List Item) (ran : List Command) (pending : List (List ℕ))
-    (rest : List Command) → flight ≡ done ++ todo → InOrder done todo next (pending ++ marks rest) → Stood records done rest kept ran
-    → (tail : List (List ℕ)) × Owed records flight next (kept ++ printed ran) (pending ++ tail)
-settles paper records flight done todo next kept ran pending rest is order (inl s) =
+settles : (width : ℕ) → OfPaper → (records : List (List Command)) (flight done todo : List InFlight) (next : ℕ) (kept : List Item) (ran : List Command) (pending : List (List ℕ))
+    (rest : List Command) → flight ≡ done ++ todo → InOrder done todo next (pending ++ marks rest) → Stood width records done rest kept ran
+    → (tail : List (List ℕ)) × Owed width records flight next (kept ++ printed width ran) (pending ++ tail)
+settles width paper records flight done todo next kept ran pending rest is order (inl s) =
     (marks rest, record { done = done; todo = todo; flight_is = is; order = order; stands = s })
-settles paper records flight done todo next kept ran pending rest is order (inr p) =
+settles width paper records flight done todo next kept ran pending rest is order (inr p) =
     let split : done ++ todo ≡ p.before ++ (p.current ∷ todo) = ap (λ v. v ++ todo) p.done_is ∙ append_assoc p.before (p.current ∷ []) todo in
     let id = p.current.mark in
     let long : (pending ++ marks p.to_run) ++ id ∷ [] ≡ (order.old ++ closing_marks p.before) ++ id ∷ [] =
@@ -147,27 +147,27 @@ settles paper records flight done todo next kept ran pending rest is order (inr 
           rising = subst (λ v. Rising order.base v next) split order.rising;
           queue_is = append_cancel_right (pending ++ marks p.to_run) (order.old ++ closing_marks p.before) (id ∷ []) long;
         };
-        stands = subst (λ v. Stands (records ++ receipts p.before) v) (printed_so paper kept p.first p.run ran p.ran_is)
-            (stands_more (records ++ receipts p.before) (kept ++ printed p.first) (printed p.run) p.stands);
+        stands = subst (λ v. Stands width (records ++ receipts p.before) v) (printed_so width paper kept p.first p.run ran p.ran_is)
+            (stands_more width (records ++ receipts p.before) (kept ++ printed width p.first) (printed width p.run) p.stands);
       },
     )
 
-pub course_owed : OfPaper → (records : List (List Command)) (flight : List InFlight) (next : ℕ) (kept : List Item) (ran : List Command) (xs ys : List (List ℕ))
-    (due : List Command) → Course records flight next kept ran (xs ++ ys) due → Owed records flight next (kept ++ printed ran) xs
-course_owed paper records flight next kept ran xs ys due c =
-    let s = settles paper records flight c.done c.todo next kept ran (xs ++ ys) c.rest c.flight_is c.order c.stood in
-    owed_front records flight next (kept ++ printed ran) xs (ys ++ s.0)
-    (subst (λ v. Owed records flight next (kept ++ printed ran) v) (append_assoc xs ys s.0) s.1)
+pub course_owed : (width : ℕ) → OfPaper → (records : List (List Command)) (flight : List InFlight) (next : ℕ) (kept : List Item) (ran : List Command) (xs ys : List (List ℕ))
+    (due : List Command) → Course width records flight next kept ran (xs ++ ys) due → Owed width records flight next (kept ++ printed width ran) xs
+course_owed width paper records flight next kept ran xs ys due c =
+    let s = settles width paper records flight c.done c.todo next kept ran (xs ++ ys) c.rest c.flight_is c.order c.stood in
+    owed_front width records flight next (kept ++ printed width ran) xs (ys ++ s.0)
+    (subst (λ v. Owed width records flight next (kept ++ printed width ran) v) (append_assoc xs ys s.0) s.1)
 
-pub owed_stands : (records : List (List Command)) (flight : List InFlight) (next : ℕ) (items : List Item) (pending : List (List ℕ))
-    → Owed records flight next items pending → Stands records items
-owed_stands records flight next items pending w = stands_front records (receipts w.done) items w.stands
+pub owed_stands : (width : ℕ) (records : List (List Command)) (flight : List InFlight) (next : ℕ) (items : List Item) (pending : List (List ℕ))
+    → Owed width records flight next items pending → Stands width records items
+owed_stands width records flight next items pending w = stands_front width records (receipts w.done) items w.stands
 
-pub course_stands : OfPaper → (records : List (List Command)) (flight : List InFlight) (next : ℕ) (kept : List Item) (ran : List Command) (pending : List (List ℕ))
-    (due : List Command) → Course records flight next kept ran pending due → Stands records (kept ++ printed ran)
-course_stands paper records flight next kept ran pending due c =
-    let s = settles paper records flight c.done c.todo next kept ran pending c.rest c.flight_is c.order c.stood in
-    owed_stands records flight next (kept ++ printed ran) (pending ++ s.0) s.1
+pub course_stands : (width : ℕ) → OfPaper → (records : List (List Command)) (flight : List InFlight) (next : ℕ) (kept : List Item) (ran : List Command) (pending : List (List ℕ))
+    (due : List Command) → Course width records flight next kept ran pending due → Stands width records (kept ++ printed width ran)
+course_stands width paper records flight next kept ran pending due c =
+    let s = settles width paper records flight c.done c.todo next kept ran pending c.rest c.flight_is c.order c.stood in
+    owed_stands width records flight next (kept ++ printed width ran) (pending ++ s.0) s.1
 
 order_known : (done todo : List InFlight) (next : ℕ) (queue : List (List ℕ)) → InOrder done todo next queue → Known next (queue ++ closing_marks todo)
 order_known done todo next queue o =
@@ -177,13 +177,13 @@ order_known done todo next queue o =
     subst (Known next) (sym all)
     (known_join next o.old (closing_marks (done ++ todo)) (known_more o.base next o.old within o.known) (rising_known o.base next (done ++ todo) o.rising))
 
-pub owed_known : (records : List (List Command)) (flight : List InFlight) (next : ℕ) (items : List Item) (pending : List (List ℕ))
-    → Owed records flight next items pending → Known next pending
-owed_known records flight next items pending w = known_front next pending (closing_marks w.todo) (order_known w.done w.todo next pending w.order)
+pub owed_known : (width : ℕ) (records : List (List Command)) (flight : List InFlight) (next : ℕ) (items : List Item) (pending : List (List ℕ))
+    → Owed width records flight next items pending → Known next pending
+owed_known width records flight next items pending w = known_front next pending (closing_marks w.todo) (order_known w.done w.todo next pending w.order)
 
-pub course_known : (records : List (List Command)) (flight : List InFlight) (next : ℕ) (kept : List Item) (ran : List Command) (pending : List (List ℕ))
-    (due : List Command) → Course records flight next kept ran pending due → Known next (pending ++ marks due)
-course_known records flight next kept ran pending due c =
+pub course_known : (width : ℕ) (records : List (List Command)) (flight : List InFlight) (next : ℕ) (kept : List Item) (ran : List Command) (pending : List (List ℕ))
+    (due : List Command) → Course width records flight next kept ran pending due → Known next (pending ++ marks due)
+course_known width records flight next kept ran pending due c =
     let of_due : marks due ≡ marks c.rest ++ closing_marks c.todo =
     ap marks c.due_is ∙ marks_append c.rest (sends c.todo) ∙ ap (λ v. marks c.rest ++ v) (marks_sends c.todo c.unmarked) in
     subst (Known next) (append_assoc pending (marks c.rest) (closing_marks c.todo) ∙ ap (λ v. pending ++ v) (sym of_due))
@@ -194,9 +194,9 @@ course_known records flight next kept ran pending due c =
 at_rest : (next : ℕ) (queue : List (List ℕ)) → Known next queue → InOrder [] [] next queue
 at_rest next queue known = record { old = queue; base = next; known = known; rising = omega arith; queue_is = sym (append-nil queue) }
 
-pub rested : (records : List (List Command)) (next : ℕ) (kept : List Item) (ran : List Command) (pending : List (List ℕ)) (due : List Command)
-    → Stands records (kept ++ printed ran) → Known next (pending ++ marks due) → Course records [] next kept ran pending due
-rested records next kept ran pending due s known = record {
+pub rested : (width : ℕ) (records : List (List Command)) (next : ℕ) (kept : List Item) (ran : List Command) (pending : List (List ℕ)) (due : List Command)
+    → Stands width records (kept ++ printed width ran) → Known next (pending ++ marks due) → Course width records [] next kept ran pending due
+rested width records next kept ran pending due s known = record {
   done = [];
   todo = [];
   rest = due;
@@ -204,33 +204,33 @@ rested records next kept ran pending due s known = record {
   order = at_rest next (pending ++ marks due) known;
   due_is = sym (append-nil due);
   unmarked = tt;
-  stood = inl (subst (λ v. Stands v (kept ++ printed ran)) (sym (append-nil records)) s);
+  stood = inl (subst (λ v. Stands width v (kept ++ printed width ran)) (sym (append-nil records)) s);
 }
 
-pub owed_rested : (records : List (List Command)) (next : ℕ) (items : List Item) (pending : List (List ℕ)) → Stands records items → Known next pending
-    → Owed records [] next items pending
-owed_rested records next items pending s known = record {
+pub owed_rested : (width : ℕ) (records : List (List Command)) (next : ℕ) (items : List Item) (pending : List (List ℕ)) → Stands width records items → Known next pending
+    → Owed width records [] next items pending
+owed_rested width records next items pending s known = record {
   done = [];
   todo = [];
   flight_is = refl;
   order = at_rest next pending known;
-  stands = subst (λ v. Stands v items) (sym (append-nil records)) s;
+  stands = subst (λ v. Stands width v items) (sym (append-nil records)) s;
 }
 
-pub course_more : OfPaper → (records : List (List Command)) (flight : List InFlight) (next n : ℕ) (kept : List Item) (ran : List Command) (pending : List (List ℕ))
-    (due cs : List Command) → flight ≡ [] → next ≤ n → Known n (marks cs) → Course records flight next kept ran pending due
-    → Course records flight n kept ran pending (due ++ cs)
-course_more paper records flight next n kept ran pending due cs none more known c =
-    let before = known_more next n (pending ++ marks due) more (course_known records flight next kept ran pending due c) in
+pub course_more : (width : ℕ) → OfPaper → (records : List (List Command)) (flight : List InFlight) (next n : ℕ) (kept : List Item) (ran : List Command) (pending : List (List ℕ))
+    (due cs : List Command) → flight ≡ [] → next ≤ n → Known n (marks cs) → Course width records flight next kept ran pending due
+    → Course width records flight n kept ran pending (due ++ cs)
+course_more width paper records flight next n kept ran pending due cs none more known c =
+    let before = known_more next n (pending ++ marks due) more (course_known width records flight next kept ran pending due c) in
     let all : (pending ++ marks due) ++ marks cs ≡ pending ++ marks (due ++ cs) =
     append_assoc pending (marks due) (marks cs) ∙ ap (λ v. pending ++ v) (sym (marks_append due cs)) in
-    subst (λ v. Course records v n kept ran pending (due ++ cs)) (sym none)
-    (rested records n kept ran pending (due ++ cs) (course_stands paper records flight next kept ran pending due c)
+    subst (λ v. Course width records v n kept ran pending (due ++ cs)) (sym none)
+    (rested width records n kept ran pending (due ++ cs) (course_stands width paper records flight next kept ran pending due c)
     (subst (Known n) all (known_join n (pending ++ marks due) (marks cs) before known)))
 
-pub owed_more : (records : List (List Command)) (flight : List InFlight) (next n : ℕ) (items : List Item) (pending : List (List ℕ)) → next ≤ n
-    → Owed records flight next items pending → Owed records flight n items pending
-owed_more records flight next n items pending more w = record {
+pub owed_more : (width : ℕ) (records : List (List Command)) (flight : List InFlight) (next n : ℕ) (items : List Item) (pending : List (List ℕ)) → next ≤ n
+    → Owed width records flight next items pending → Owed width records flight n items pending
+owed_more width records flight next n items pending more w = record {
   done = w.done;
   todo = w.todo;
   flight_is = w.flight_is;
@@ -256,10 +256,10 @@ order_add done todo next queue p few is o = record {
   queue_is = o.queue_is;
 }
 
-pub course_submit : (records : List (List Command)) (flight : List InFlight) (next : ℕ) (kept : List Item) (ran : List Command) (pending : List (List ℕ))
-    (due : List Command) (p : InFlight) → next < mark_count → p.mark ≡ mark_of next → marks p.receipt ≡ [] → Course records flight next kept ran pending due
-    → Course records (flight ++ p ∷ []) (next + 1) kept ran pending (due ++ sends (p ∷ []))
-course_submit records flight next kept ran pending due p few is none c = record {
+pub course_submit : (width : ℕ) (records : List (List Command)) (flight : List InFlight) (next : ℕ) (kept : List Item) (ran : List Command) (pending : List (List ℕ))
+    (due : List Command) (p : InFlight) → next < mark_count → p.mark ≡ mark_of next → marks p.receipt ≡ [] → Course width records flight next kept ran pending due
+    → Course width records (flight ++ p ∷ []) (next + 1) kept ran pending (due ++ sends (p ∷ []))
+course_submit width records flight next kept ran pending due p few is none c = record {
   done = c.done;
   todo = c.todo ++ p ∷ [];
   rest = c.rest;
@@ -270,9 +270,9 @@ course_submit records flight next kept ran pending due p few is none c = record 
   stood = c.stood;
 }
 
-pub owed_submit : (records : List (List Command)) (flight : List InFlight) (next : ℕ) (items : List Item) (pending : List (List ℕ)) (p : InFlight)
-    → next < mark_count → p.mark ≡ mark_of next → Owed records flight next items pending → Owed records (flight ++ p ∷ []) (next + 1) items pending
-owed_submit records flight next items pending p few is w = record {
+pub owed_submit : (width : ℕ) (records : List (List Command)) (flight : List InFlight) (next : ℕ) (items : List Item) (pending : List (List ℕ)) (p : InFlight)
+    → next < mark_count → p.mark ≡ mark_of next → Owed width records flight next items pending → Owed width records (flight ++ p ∷ []) (next + 1) items pending
+owed_submit width records flight next items pending p few is w = record {
   done = w.done;
   todo = w.todo ++ p ∷ [];
   flight_is = ap (λ v. v ++ p ∷ []) w.flight_is ∙ append_assoc w.done w.todo (p ∷ []);
@@ -282,29 +282,29 @@ owed_submit records flight next items pending p few is w = record {
 
 -- ## The printer runs a command that is due
 
-pub more_printed : OfPaper → (rs : List (List Command)) (kept : List Item) (ran cs : List Command) → Stands rs (kept ++ printed ran) → Stands rs (kept ++ printed (ran ++ cs))
-more_printed paper rs kept ran cs s =
-    let g = paper.grows ran cs in
-    subst (Stands rs) (append_assoc kept (printed ran) g.0 ∙ ap (λ v. kept ++ v) (sym g.1)) (stands_more rs (kept ++ printed ran) g.0 s)
+pub more_printed : (width : ℕ) → OfPaper → (rs : List (List Command)) (kept : List Item) (ran cs : List Command) → Stands width rs (kept ++ printed width ran) → Stands width rs (kept ++ printed width (ran ++ cs))
+more_printed width paper rs kept ran cs s =
+    let g = paper.grows width ran cs in
+    subst (Stands width rs) (append_assoc kept (printed width ran) g.0 ∙ ap (λ v. kept ++ v) (sym g.1)) (stands_more width rs (kept ++ printed width ran) g.0 s)
 
 -- A receipt that is printed to its end stands.
-finished : OfPaper → (records : List (List Command)) (done : List InFlight) (rest : List Command) (kept : List Item) (ran : List Command)
-    → (p : Printing records done rest kept ran) → p.to_run ≡ [] → Stands (records ++ receipts done) (kept ++ printed ran)
-finished paper records done rest kept ran p none =
+finished : (width : ℕ) → OfPaper → (records : List (List Command)) (done : List InFlight) (rest : List Command) (kept : List Item) (ran : List Command)
+    → (p : Printing width records done rest kept ran) → p.to_run ≡ [] → Stands width (records ++ receipts done) (kept ++ printed width ran)
+finished width paper records done rest kept ran p none =
     let whole : p.run ≡ p.current.receipt = sym (append-nil p.run) ∙ ap (λ v. p.run ++ v) (sym none) ∙ sym p.receipt_is in
     let all : (records ++ receipts p.before) ++ p.current.receipt ∷ [] ≡ records ++ receipts done =
     append_assoc records (receipts p.before) (p.current.receipt ∷ [])
     ∙ ap (λ v. records ++ v) (sym (receipts_append p.before (p.current ∷ [])) ∙ ap receipts (sym p.done_is)) in
-    subst (λ v. Stands v (kept ++ printed ran)) all
-    (subst (Stands ((records ++ receipts p.before) ++ p.current.receipt ∷ []))
-    (ap (λ v. (kept ++ printed p.first) ++ printed v) (sym whole) ∙ printed_so paper kept p.first p.run ran p.ran_is)
-    (stands_add (records ++ receipts p.before) p.current.receipt (kept ++ printed p.first) p.stands))
+    subst (λ v. Stands width v (kept ++ printed width ran)) all
+    (subst (Stands width ((records ++ receipts p.before) ++ p.current.receipt ∷ []))
+    (ap (λ v. (kept ++ printed width p.first) ++ printed width v) (sym whole) ∙ printed_so width paper kept p.first p.run ran p.ran_is)
+    (stands_add width (records ++ receipts p.before) p.current.receipt (kept ++ printed width p.first) p.stands))
 
-printing_on : OfPaper → (records : List (List Command)) (done : List InFlight) (d : Command) (rest : List Command) (kept : List Item) (ran left : List Command)
-    → (p : Printing records done (d ∷ rest) kept ran) → p.to_run ≡ left → Stood records done rest kept (ran ++ d ∷ [])
-printing_on paper records done d rest kept ran [] p is =
-    inl (more_printed paper (records ++ receipts done) kept ran (d ∷ []) (finished paper records done (d ∷ rest) kept ran p is))
-printing_on paper records done d rest kept ran (l ∷ left) p is =
+printing_on : (width : ℕ) → OfPaper → (records : List (List Command)) (done : List InFlight) (d : Command) (rest : List Command) (kept : List Item) (ran left : List Command)
+    → (p : Printing width records done (d ∷ rest) kept ran) → p.to_run ≡ left → Stood width records done rest kept (ran ++ d ∷ [])
+printing_on width paper records done d rest kept ran [] p is =
+    inl (more_printed width paper (records ++ receipts done) kept ran (d ∷ []) (finished width paper records done (d ∷ rest) kept ran p is))
+printing_on width paper records done d rest kept ran (l ∷ left) p is =
     let e : d ∷ rest ≡ l ∷ (left ++ kind.Mark p.current.mark ∷ []) = p.rest_is ∙ ap (λ v. v ++ kind.Mark p.current.mark ∷ []) is in
     let same = head_same d l rest (left ++ kind.Mark p.current.mark ∷ []) e in
     inr (record {
@@ -320,16 +320,16 @@ printing_on paper records done d rest kept ran (l ∷ left) p is =
       stands = p.stands;
     })
 
-stood_on : OfPaper → (records : List (List Command)) (done : List InFlight) (d : Command) (rest : List Command) (kept : List Item) (ran : List Command)
-    → Stood records done (d ∷ rest) kept ran → Stood records done rest kept (ran ++ d ∷ [])
-stood_on paper records done d rest kept ran (inl s) = inl (more_printed paper (records ++ receipts done) kept ran (d ∷ []) s)
-stood_on paper records done d rest kept ran (inr p) = printing_on paper records done d rest kept ran p.to_run p refl
+stood_on : (width : ℕ) → OfPaper → (records : List (List Command)) (done : List InFlight) (d : Command) (rest : List Command) (kept : List Item) (ran : List Command)
+    → Stood width records done (d ∷ rest) kept ran → Stood width records done rest kept (ran ++ d ∷ [])
+stood_on width paper records done d rest kept ran (inl s) = inl (more_printed width paper (records ++ receipts done) kept ran (d ∷ []) s)
+stood_on width paper records done d rest kept ran (inr p) = printing_on width paper records done d rest kept ran p.to_run p refl
 
 -- The next command of what was begun.
-step_on : OfPaper → (records : List (List Command)) (flight done todo : List InFlight) (next : ℕ) (kept : List Item) (ran : List Command) (pending : List (List ℕ))
+step_on : (width : ℕ) → OfPaper → (records : List (List Command)) (flight done todo : List InFlight) (next : ℕ) (kept : List Item) (ran : List Command) (pending : List (List ℕ))
     (d : Command) (rest due : List Command) → flight ≡ done ++ todo → InOrder done todo next (pending ++ marks (d ∷ rest)) → due ≡ rest ++ sends todo → Unmarked todo
-    → Stood records done (d ∷ rest) kept ran → Course records flight next kept (ran ++ d ∷ []) (pending ++ marks (d ∷ [])) due
-step_on paper records flight done todo next kept ran pending d rest due is order due_is unmarked stood = record {
+    → Stood width records done (d ∷ rest) kept ran → Course width records flight next kept (ran ++ d ∷ []) (pending ++ marks (d ∷ [])) due
+step_on width paper records flight done todo next kept ran pending d rest due is order due_is unmarked stood = record {
   done = done;
   todo = todo;
   rest = rest;
@@ -337,15 +337,15 @@ step_on paper records flight done todo next kept ran pending d rest due is order
   order = subst (InOrder done todo next) (ap (λ v. pending ++ v) (marks_append (d ∷ []) rest) ∙ sym (append_assoc pending (marks (d ∷ [])) (marks rest))) order;
   due_is = due_is;
   unmarked = unmarked;
-  stood = stood_on paper records done d rest kept ran stood;
+  stood = stood_on width paper records done d rest kept ran stood;
 }
 
 -- The Init of the next receipt.
-step_init : (records : List (List Command)) (flight done todo : List InFlight) (q : InFlight) (next : ℕ) (kept : List Item) (ran : List Command)
+step_init : (width : ℕ) (records : List (List Command)) (flight done todo : List InFlight) (q : InFlight) (next : ℕ) (kept : List Item) (ran : List Command)
     (pending : List (List ℕ)) → flight ≡ done ++ (q ∷ todo) → InOrder done (q ∷ todo) next (pending ++ []) → Unmarked (q ∷ todo)
-    → Stands (records ++ receipts done) (kept ++ printed ran)
-    → Course records flight next kept (ran ++ kind.Init ∷ []) (pending ++ []) (q.receipt ++ (kind.Mark q.mark ∷ sends todo))
-step_init records flight done todo q next kept ran pending is order unmarked s =
+    → Stands width (records ++ receipts done) (kept ++ printed width ran)
+    → Course width records flight next kept (ran ++ kind.Init ∷ []) (pending ++ []) (q.receipt ++ (kind.Mark q.mark ∷ sends todo))
+step_init width records flight done todo q next kept ran pending is order unmarked s =
     let split : done ++ (q ∷ todo) ≡ (done ++ q ∷ []) ++ todo = sym (append_assoc done (q ∷ []) todo) in
     let mark : marks (q.receipt ++ kind.Mark q.mark ∷ []) ≡ q.mark ∷ [] = marks_append q.receipt (kind.Mark q.mark ∷ []) ∙ ap (λ v. v ++ q.mark ∷ []) unmarked.0 in
     record {
@@ -381,36 +381,36 @@ ends_never : {X : Type 0} (xs : List X) (x : X) → [] ≡ xs ++ x ∷ [] → �
 ends_never [] x e = cc e
 ends_never (y ∷ xs) x e = cc e
 
-step_at : OfPaper → (records : List (List Command)) (flight done todo : List InFlight) (next : ℕ) (kept : List Item) (ran : List Command) (pending : List (List ℕ))
+step_at : (width : ℕ) → OfPaper → (records : List (List Command)) (flight done todo : List InFlight) (next : ℕ) (kept : List Item) (ran : List Command) (pending : List (List ℕ))
     (c : Command) (rest due : List Command) → flight ≡ done ++ todo → InOrder done todo next (pending ++ marks rest) → c ∷ due ≡ rest ++ sends todo → Unmarked todo
-    → Stood records done rest kept ran → Course records flight next kept (ran ++ c ∷ []) (pending ++ marks (c ∷ [])) due
-step_at paper records flight done todo next kept ran pending c (d ∷ rest) due is order due_is unmarked stood =
-    subst (λ v. Course records flight next kept (ran ++ v ∷ []) (pending ++ marks (v ∷ [])) due) (sym (head_same c d due (rest ++ sends todo) due_is))
-    (step_on paper records flight done todo next kept ran pending d rest due is order (tail_same c d due (rest ++ sends todo) due_is) unmarked stood)
-step_at paper records flight done [] next kept ran pending c [] due is order due_is unmarked stood = absurd (cc due_is)
-step_at paper records flight done (q ∷ todo) next kept ran pending c [] due is order due_is unmarked (inr p) = absurd (ends_never p.to_run (kind.Mark p.current.mark) p.rest_is)
-step_at paper records flight done (q ∷ todo) next kept ran pending c [] due is order due_is unmarked (inl s) =
+    → Stood width records done rest kept ran → Course width records flight next kept (ran ++ c ∷ []) (pending ++ marks (c ∷ [])) due
+step_at width paper records flight done todo next kept ran pending c (d ∷ rest) due is order due_is unmarked stood =
+    subst (λ v. Course width records flight next kept (ran ++ v ∷ []) (pending ++ marks (v ∷ [])) due) (sym (head_same c d due (rest ++ sends todo) due_is))
+    (step_on width paper records flight done todo next kept ran pending d rest due is order (tail_same c d due (rest ++ sends todo) due_is) unmarked stood)
+step_at width paper records flight done [] next kept ran pending c [] due is order due_is unmarked stood = absurd (cc due_is)
+step_at width paper records flight done (q ∷ todo) next kept ran pending c [] due is order due_is unmarked (inr p) = absurd (ends_never p.to_run (kind.Mark p.current.mark) p.rest_is)
+step_at width paper records flight done (q ∷ todo) next kept ran pending c [] due is order due_is unmarked (inl s) =
     let after = q.receipt ++ (kind.Mark q.mark ∷ sends todo) in
-    subst (λ v. Course records flight next kept (ran ++ v ∷ []) (pending ++ marks (v ∷ [])) due) (sym (head_same c kind.Init due after due_is))
-    (subst (λ v. Course records flight next kept (ran ++ kind.Init ∷ []) (pending ++ []) v) (sym (tail_same c kind.Init due after due_is))
-    (step_init records flight done todo q next kept ran pending is order unmarked s))
+    subst (λ v. Course width records flight next kept (ran ++ v ∷ []) (pending ++ marks (v ∷ [])) due) (sym (head_same c kind.Init due after due_is))
+    (subst (λ v. Course width records flight next kept (ran ++ kind.Init ∷ []) (pending ++ []) v) (sym (tail_same c kind.Init due after due_is))
+    (step_init width records flight done todo q next kept ran pending is order unmarked s))
 
-course_step : OfPaper → (records : List (List Command)) (flight : List InFlight) (next : ℕ) (kept : List Item) (ran : List Command) (pending : List (List ℕ))
-    (c : Command) (due : List Command) → Course records flight next kept ran pending (c ∷ due)
-    → Course records flight next kept (ran ++ c ∷ []) (pending ++ marks (c ∷ [])) due
-course_step paper records flight next kept ran pending c due course =
-    step_at paper records flight course.done course.todo next kept ran pending c course.rest due course.flight_is course.order course.due_is course.unmarked course.stood
+course_step : (width : ℕ) → OfPaper → (records : List (List Command)) (flight : List InFlight) (next : ℕ) (kept : List Item) (ran : List Command) (pending : List (List ℕ))
+    (c : Command) (due : List Command) → Course width records flight next kept ran pending (c ∷ due)
+    → Course width records flight next kept (ran ++ c ∷ []) (pending ++ marks (c ∷ [])) due
+course_step width paper records flight next kept ran pending c due course =
+    step_at width paper records flight course.done course.todo next kept ran pending c course.rest due course.flight_is course.order course.due_is course.unmarked course.stood
 
-pub course_run : OfPaper → (records : List (List Command)) (flight : List InFlight) (next : ℕ) (kept : List Item) (ran : List Command) (pending : List (List ℕ))
-    (cs due : List Command) → Course records flight next kept ran pending (cs ++ due) → Course records flight next kept (ran ++ cs) (pending ++ marks cs) due
-course_run paper records flight next kept ran pending [] due c =
-    subst (λ v. Course records flight next kept v (pending ++ []) due) (sym (append-nil ran))
-    (subst (λ v. Course records flight next kept ran v due) (sym (append-nil pending)) c)
-course_run paper records flight next kept ran pending (d ∷ cs) due c =
-    let one = course_step paper records flight next kept ran pending d (cs ++ due) c in
-    let all = course_run paper records flight next kept (ran ++ d ∷ []) (pending ++ marks (d ∷ [])) cs due one in
-    subst (λ v. Course records flight next kept v (pending ++ marks (d ∷ cs)) due) (append_assoc ran (d ∷ []) cs)
-    (subst (λ v. Course records flight next kept ((ran ++ d ∷ []) ++ cs) v due)
+pub course_run : (width : ℕ) → OfPaper → (records : List (List Command)) (flight : List InFlight) (next : ℕ) (kept : List Item) (ran : List Command) (pending : List (List ℕ))
+    (cs due : List Command) → Course width records flight next kept ran pending (cs ++ due) → Course width records flight next kept (ran ++ cs) (pending ++ marks cs) due
+course_run width paper records flight next kept ran pending [] due c =
+    subst (λ v. Course width records flight next kept v (pending ++ []) due) (sym (append-nil ran))
+    (subst (λ v. Course width records flight next kept ran v due) (sym (append-nil pending)) c)
+course_run width paper records flight next kept ran pending (d ∷ cs) due c =
+    let one = course_step width paper records flight next kept ran pending d (cs ++ due) c in
+    let all = course_run width paper records flight next kept (ran ++ d ∷ []) (pending ++ marks (d ∷ [])) cs due one in
+    subst (λ v. Course width records flight next kept v (pending ++ marks (d ∷ cs)) due) (append_assoc ran (d ∷ []) cs)
+    (subst (λ v. Course width records flight next kept ((ran ++ d ∷ []) ++ cs) v due)
     (append_assoc pending (marks (d ∷ [])) (marks cs) ∙ ap (λ v. pending ++ v) (sym (marks_append (d ∷ []) cs))) all)
 
 -- ## The host hears the next mark
@@ -453,9 +453,9 @@ shifted : (records : List (List Command)) (q : InFlight) (done others : List InF
     → records ++ receipts done ≡ (records ++ q.receipt ∷ []) ++ receipts others
 shifted records q done others is = ap (λ v. records ++ receipts v) is ∙ sym (append_assoc records (q.receipt ∷ []) (receipts others))
 
-pub owed_turn : OfNumbers → (records : List (List Command)) (flight : List InFlight) (next : ℕ) (items : List Item) (id : List ℕ) (pending : List (List ℕ))
-    → Owed records flight next items (id ∷ pending) → Popped (λ rs f. Owed rs f next items pending) records flight id
-owed_turn of records flight next items id pending w = elim (turn_order of w.done w.todo next id pending w.order) [
+pub owed_turn : (width : ℕ) → OfNumbers → (records : List (List Command)) (flight : List InFlight) (next : ℕ) (items : List Item) (id : List ℕ) (pending : List (List ℕ))
+    → Owed width records flight next items (id ∷ pending) → Popped (λ rs f. Owed width rs f next items pending) records flight id
+owed_turn width of records flight next items id pending w = elim (turn_order of w.done w.todo next id pending w.order) [
   | inl (stale, o) ↦ inl (
     subst (λ v. IsClosing v id → ⊥) (sym w.flight_is) stale,
     record { done = w.done; todo = w.todo; flight_is = w.flight_is; order = o; stands = w.stands },
@@ -465,7 +465,7 @@ owed_turn of records flight next items id pending w = elim (turn_order of w.done
     others ++ w.todo,
     w.flight_is ∙ ap (λ v. v ++ w.todo) is,
     mark,
-    record { done = others; todo = w.todo; flight_is = refl; order = o; stands = subst (λ v. Stands v items) (shifted records q w.done others is) w.stands },
+    record { done = others; todo = w.todo; flight_is = refl; order = o; stands = subst (λ v. Stands width v items) (shifted records q w.done others is) w.stands },
   )
 ]
 
@@ -474,14 +474,14 @@ marks_end left id pending rest is none =
     ends_never (pending ++ marks left) id
     (sym none ∙ ap (λ v. pending ++ v) (marks_last left id rest is) ∙ sym (append_assoc pending (marks left) (id ∷ [])))
 
-printing_turn : (records : List (List Command)) (done : List InFlight) (rest : List Command) (kept : List Item) (ran : List Command) (q : InFlight)
-    (others before : List InFlight) (pending : List (List ℕ)) → (p : Printing records done rest kept ran) → p.before ≡ before → done ≡ q ∷ others
-    → pending ++ marks rest ≡ closing_marks others → Printing (records ++ q.receipt ∷ []) others rest kept ran
-printing_turn records done rest kept ran q others [] pending p none is queue =
+printing_turn : (width : ℕ) (records : List (List Command)) (done : List InFlight) (rest : List Command) (kept : List Item) (ran : List Command) (q : InFlight)
+    (others before : List InFlight) (pending : List (List ℕ)) → (p : Printing width records done rest kept ran) → p.before ≡ before → done ≡ q ∷ others
+    → pending ++ marks rest ≡ closing_marks others → Printing width (records ++ q.receipt ∷ []) others rest kept ran
+printing_turn width records done rest kept ran q others [] pending p none is queue =
     let one : q ∷ others ≡ p.current ∷ [] = sym is ∙ p.done_is ∙ ap (λ v. v ++ p.current ∷ []) none in
     let last = tail_same q p.current others [] one in
     absurd (marks_end p.to_run p.current.mark pending rest p.rest_is (queue ∙ ap closing_marks last))
-printing_turn records done rest kept ran q others (b ∷ before) pending p some is queue =
+printing_turn width records done rest kept ran q others (b ∷ before) pending p some is queue =
     let all : q ∷ others ≡ b ∷ (before ++ p.current ∷ []) = sym is ∙ p.done_is ∙ ap (λ v. v ++ p.current ∷ []) some in
     let same = head_same q b others (before ++ p.current ∷ []) all in
     record {
@@ -494,20 +494,20 @@ printing_turn records done rest kept ran q others (b ∷ before) pending p some 
       ran_is = p.ran_is;
       receipt_is = p.receipt_is;
       rest_is = p.rest_is;
-      stands = subst (λ v. Stands v (kept ++ printed p.first)) (shifted records q p.before before (some ∙ ap (λ v. v ∷ before) (sym same))) p.stands;
+      stands = subst (λ v. Stands width v (kept ++ printed width p.first)) (shifted records q p.before before (some ∙ ap (λ v. v ∷ before) (sym same))) p.stands;
     }
 
-stood_turn : (records : List (List Command)) (done : List InFlight) (rest : List Command) (kept : List Item) (ran : List Command) (q : InFlight)
-    (others : List InFlight) (pending : List (List ℕ)) → done ≡ q ∷ others → pending ++ marks rest ≡ closing_marks others → Stood records done rest kept ran
-    → Stood (records ++ q.receipt ∷ []) others rest kept ran
-stood_turn records done rest kept ran q others pending is queue (inl s) =
-    inl (subst (λ v. Stands v (kept ++ printed ran)) (shifted records q done others is) s)
-stood_turn records done rest kept ran q others pending is queue (inr p) = inr (printing_turn records done rest kept ran q others p.before pending p refl is queue)
+stood_turn : (width : ℕ) (records : List (List Command)) (done : List InFlight) (rest : List Command) (kept : List Item) (ran : List Command) (q : InFlight)
+    (others : List InFlight) (pending : List (List ℕ)) → done ≡ q ∷ others → pending ++ marks rest ≡ closing_marks others → Stood width records done rest kept ran
+    → Stood width (records ++ q.receipt ∷ []) others rest kept ran
+stood_turn width records done rest kept ran q others pending is queue (inl s) =
+    inl (subst (λ v. Stands width v (kept ++ printed width ran)) (shifted records q done others is) s)
+stood_turn width records done rest kept ran q others pending is queue (inr p) = inr (printing_turn width records done rest kept ran q others p.before pending p refl is queue)
 
-pub course_turn : OfNumbers → (records : List (List Command)) (flight : List InFlight) (next : ℕ) (kept : List Item) (ran : List Command) (id : List ℕ)
-    (pending : List (List ℕ)) (due : List Command) → Course records flight next kept ran (id ∷ pending) due
-    → Popped (λ rs f. Course rs f next kept ran pending due) records flight id
-course_turn of records flight next kept ran id pending due c = elim (turn_order of c.done c.todo next id (pending ++ marks c.rest) c.order) [
+pub course_turn : (width : ℕ) → OfNumbers → (records : List (List Command)) (flight : List InFlight) (next : ℕ) (kept : List Item) (ran : List Command) (id : List ℕ)
+    (pending : List (List ℕ)) (due : List Command) → Course width records flight next kept ran (id ∷ pending) due
+    → Popped (λ rs f. Course width rs f next kept ran pending due) records flight id
+course_turn width of records flight next kept ran id pending due c = elim (turn_order of c.done c.todo next id (pending ++ marks c.rest) c.order) [
   | inl (stale, o) ↦ inl (
     subst (λ v. IsClosing v id → ⊥) (sym c.flight_is) stale,
     record { done = c.done; todo = c.todo; rest = c.rest; flight_is = c.flight_is; order = o; due_is = c.due_is; unmarked = c.unmarked; stood = c.stood },
@@ -525,7 +525,7 @@ course_turn of records flight next kept ran id pending due c = elim (turn_order 
       order = o;
       due_is = c.due_is;
       unmarked = c.unmarked;
-      stood = stood_turn records c.done c.rest kept ran q others pending is queue c.stood;
+      stood = stood_turn width records c.done c.rest kept ran q others pending is queue c.stood;
     },
   )
 ]

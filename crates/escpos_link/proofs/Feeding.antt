@@ -31,47 +31,47 @@ none_fed : (k n : ℕ) (xs : List ℕ) → xs ≡ [] → take k (take n xs) ≡ 
 none_fed k n xs none = none_taken k (take n xs) (none_taken n xs none)
 
 -- What the printer read, and what it has on its paper then.
-pub record Read (sheet after : Sheet) (half rest bytes : List ℕ) (cs : List Command) : Type 0 where
+pub record Read (width : ℕ) (sheet after : Sheet) (half rest bytes : List ℕ) (cs : List Command) : Type 0 where
   pub kept : List Item
   pub ran : List Command
-  pub before : SheetIs sheet kept ran
-  pub page : (on : List Item) (done : List Command) → SheetIs sheet on done → SheetIs after on (done ++ cs)
+  pub before : SheetIs width sheet kept ran
+  pub page : (on : List Item) (done : List Command) → SheetIs width sheet on done → SheetIs width after on (done ++ cs)
   pub was : IsRest half
   pub reads : Reads (half ++ bytes) cs rest
 
-still_stands : OfPaper → (records : List (List Command)) (sheet after : Sheet) (half rest bytes : List ℕ) (cs : List Command) → Read sheet after half rest bytes cs
-    → Stands records sheet.items → Stands records after.items
-still_stands paper records sheet after half rest bytes cs r s =
-    subst (Stands records) (sym (items_are after r.kept (r.ran ++ cs) (r.page r.kept r.ran r.before)))
-    (more_printed paper records r.kept r.ran cs (subst (Stands records) (items_are sheet r.kept r.ran r.before) s))
+still_stands : (width : ℕ) → OfPaper → (records : List (List Command)) (sheet after : Sheet) (half rest bytes : List ℕ) (cs : List Command) → Read width sheet after half rest bytes cs
+    → Stands width records sheet.items → Stands width records after.items
+still_stands width paper records sheet after half rest bytes cs r s =
+    subst (Stands width records) (sym (items_are width after r.kept (r.ran ++ cs) (r.page r.kept r.ran r.before)))
+    (more_printed width paper records r.kept r.ran cs (subst (Stands width records) (items_are width sheet r.kept r.ran r.before) s))
 
-same_items : (sheet after : Sheet) (half rest bytes : List ℕ) (cs : List Command) → Read sheet after half rest bytes cs → cs ≡ [] → after.items ≡ sheet.items
-same_items sheet after half rest bytes cs r none =
-    items_are after r.kept (r.ran ++ cs) (r.page r.kept r.ran r.before) ∙ ap (λ v. r.kept ++ printed (r.ran ++ v)) none
-    ∙ ap (λ v. r.kept ++ printed v) (append-nil r.ran) ∙ sym (items_are sheet r.kept r.ran r.before)
+same_items : (width : ℕ) (sheet after : Sheet) (half rest bytes : List ℕ) (cs : List Command) → Read width sheet after half rest bytes cs → cs ≡ [] → after.items ≡ sheet.items
+same_items width sheet after half rest bytes cs r none =
+    items_are width after r.kept (r.ran ++ cs) (r.page r.kept r.ran r.before) ∙ ap (λ v. r.kept ++ printed width (r.ran ++ v)) none
+    ∙ ap (λ v. r.kept ++ printed width v) (append-nil r.ran) ∙ sym (items_are width sheet r.kept r.ran r.before)
 
 none_pending : (pending : List (List ℕ)) (cs : List Command) → cs ≡ [] → pending ++ marks cs ≡ pending
 none_pending pending cs none = ap (λ v. pending ++ marks v) none ∙ append-nil pending
 
 -- A mark of the live link may be run.
-turns_way : OfReadings → OfNumbers → OfPaper → (phase : Phase) (out : List ℕ) (next first : ℕ) (records : List (List Command)) (sheet after : Sheet)
-    (half rest bytes left : List ℕ) (pending : List (List ℕ)) (cs : List Command) → phase ≡ Opening first → first ≤ next → Stands records sheet.items
-    → Known first pending → Read sheet after half rest bytes cs → StillOrTurned next rest (left ++ out) cs
-    → Way phase out next records after rest [] (Some left) (pending ++ marks cs)
-turns_way below of paper phase out next first records sheet after half rest bytes left pending cs opening within stands known r (inl (none, u)) = inr (record {
+turns_way : (width : ℕ) → OfReadings → OfNumbers → OfPaper → (phase : Phase) (out : List ℕ) (next first : ℕ) (records : List (List Command)) (sheet after : Sheet)
+    (half rest bytes left : List ℕ) (pending : List (List ℕ)) (cs : List Command) → phase ≡ Opening first → first ≤ next → Stands width records sheet.items
+    → Known first pending → Read width sheet after half rest bytes cs → StillOrTurned next rest (left ++ out) cs
+    → Way width phase out next records after rest [] (Some left) (pending ++ marks cs)
+turns_way width below of paper phase out next first records sheet after half rest bytes left pending cs opening within stands known r (inl (none, u)) = inr (record {
   first = first;
   opening = opening;
   within = within;
-  stands = still_stands paper records sheet after half rest bytes cs r stands;
+  stands = still_stands width paper records sheet after half rest bytes cs r stands;
   known = known_join first pending (marks cs) known (subst (Known first) (sym none) tt);
   given_up = tt;
   newest = u;
 })
-turns_way below of paper phase out next first records sheet after half rest bytes left pending cs opening within stands known r (inr (others, goes, all)) =
+turns_way width below of paper phase out next first records sheet after half rest bytes left pending cs opening within stands known r (inr (others, goes, all)) =
     let none : flight_of phase ≡ [] = ap flight_of opening in
     let here = r.page r.kept r.ran r.before in
     let pairs = subst (Known next) (sym (append_assoc pending (marks cs) (marks others))) (known_join next pending (marks cs ++ marks others) (known_more first next pending within known) all) in
-    let now = subst (Stands records) (items_are after r.kept (r.ran ++ cs) here) (still_stands paper records sheet after half rest bytes cs r stands) in
+    let now = subst (Stands width records) (items_are width after r.kept (r.ran ++ cs) here) (still_stands width paper records sheet after half rest bytes cs r stands) in
     inl (record {
       up = λ is_down. let bad : Opening first ≡ Down = sym opening ∙ is_down in cc;
       only = refl;
@@ -80,31 +80,31 @@ turns_way below of paper phase out next first records sheet after half rest byte
       due = others;
       sheet_is = here;
       aligned = goes;
-      course = subst (λ v. Course records v next r.kept (r.ran ++ cs) (pending ++ marks cs) others) (sym none)
-          (rested records next r.kept (r.ran ++ cs) (pending ++ marks cs) others now pairs);
+      course = subst (λ v. Course width records v next r.kept (r.ran ++ cs) (pending ++ marks cs) others) (sym none)
+          (rested width records next r.kept (r.ran ++ cs) (pending ++ marks cs) others now pairs);
     })
 
-pub fed_way : OfReadings → OfNumbers → OfPaper → (phase : Phase) (out : List ℕ) (next : ℕ) (records : List (List Command)) (sheet after : Sheet) (half rest : List ℕ)
+pub fed_way : (width : ℕ) → OfReadings → OfNumbers → OfPaper → (phase : Phase) (out : List ℕ) (next : ℕ) (records : List (List Command)) (sheet after : Sheet) (half rest : List ℕ)
     (ended : List (List ℕ)) (live : Option (List ℕ)) (pending : List (List ℕ)) (k n : ℕ) (cs : List Command) → k ≤ length (take n (first_of ended live))
-    → Read sheet after half rest (take k (take n (first_of ended live))) cs → Way phase out next records sheet half ended live pending
-    → Way phase out next records after rest (ended_fed ended k) (live_fed ended live k) (pending ++ marks cs)
-fed_way below of paper phase out next records sheet after half rest [] None pending k n cs few r (inl w) =
+    → Read width sheet after half rest (take k (take n (first_of ended live))) cs → Way width phase out next records sheet half ended live pending
+    → Way width phase out next records after rest (ended_fed ended k) (live_fed ended live k) (pending ++ marks cs)
+fed_way width below of paper phase out next records sheet after half rest [] None pending k n cs few r (inl w) =
     let none = none_read below half (take k (take n [])) cs rest r.was (none_fed k n [] refl) r.reads in
     inl (record {
       up = w.up;
       only = refl;
-      owed = subst (λ v. Owed records (flight_of phase) next v (pending ++ marks cs)) (sym (same_items sheet after half rest _ cs r none))
-          (subst (Owed records (flight_of phase) next sheet.items) (sym (none_pending pending cs none)) w.owed);
+      owed = subst (λ v. Owed width records (flight_of phase) next v (pending ++ marks cs)) (sym (same_items width sheet after half rest _ cs r none))
+          (subst (Owed width records (flight_of phase) next sheet.items) (sym (none_pending pending cs none)) w.owed);
     })
-fed_way below of paper phase out next records sheet after half rest [] None pending k n cs few r (inr w) =
+fed_way width below of paper phase out next records sheet after half rest [] None pending k n cs few r (inr w) =
     let none = none_read below half (take k (take n [])) cs rest r.was (none_fed k n [] refl) r.reads in
     inr (record {
       down = w.down;
-      stands = still_stands paper records sheet after half rest _ cs r w.stands;
+      stands = still_stands width paper records sheet after half rest _ cs r w.stands;
       known = subst (Known next) (sym (none_pending pending cs none)) w.known;
       given_up = tt;
     })
-fed_way below of paper phase out next records sheet after half rest [] (Some bytes) pending k n cs few r (inl w) =
+fed_way width below of paper phase out next records sheet after half rest [] (Some bytes) pending k n cs few r (inl w) =
     let piece = take k (take n bytes) in
     let all : half ++ (bytes ++ out) ≡ (half ++ piece) ++ (drop k bytes ++ out) =
     ap (λ v. half ++ (v ++ out)) (sym (fed_split k n bytes few)) ∙ ap (λ v. half ++ v) (append_assoc piece (drop k bytes) out)
@@ -118,33 +118,33 @@ fed_way below of paper phase out next records sheet after half rest [] (Some byt
       due = c.0;
       sheet_is = r.page w.kept w.ran w.sheet_is;
       aligned = c.2;
-      course = course_run paper records (flight_of phase) next w.kept w.ran pending cs c.0
-          (subst (Course records (flight_of phase) next w.kept w.ran pending) c.1 w.course);
+      course = course_run width paper records (flight_of phase) next w.kept w.ran pending cs c.0
+          (subst (Course width records (flight_of phase) next w.kept w.ran pending) c.1 w.course);
     })
-fed_way below of paper phase out next records sheet after half rest [] (Some bytes) pending k n cs few r (inr w) =
+fed_way width below of paper phase out next records sheet after half rest [] (Some bytes) pending k n cs few r (inr w) =
     let piece = take k (take n bytes) in
     let all : bytes ++ out ≡ piece ++ (drop k bytes ++ out) = ap (λ v. v ++ out) (sym (fed_split k n bytes few)) ∙ append_assoc piece (drop k bytes) out in
-    turns_way below of paper phase out next w.first records sheet after half rest piece (drop k bytes) pending cs w.opening w.within w.stands w.known r
+    turns_way width below of paper phase out next w.first records sheet after half rest piece (drop k bytes) pending cs w.opening w.within w.stands w.known r
     (unread_on below of next half piece (drop k bytes ++ out) rest cs (subst (Newest next half []) all w.newest) r.reads)
-fed_way below of paper phase out next records sheet after half rest (bytes ∷ others) None pending k n cs few r (inl w) = absurd (cc w.only)
-fed_way below of paper phase out next records sheet after half rest (bytes ∷ others) None pending k n cs few r (inr w) =
+fed_way width below of paper phase out next records sheet after half rest (bytes ∷ others) None pending k n cs few r (inl w) = absurd (cc w.only)
+fed_way width below of paper phase out next records sheet after half rest (bytes ∷ others) None pending k n cs few r (inr w) =
     let piece = take k (take n bytes) in
     let on = served_on below of next half piece (drop k bytes) rest cs (subst (ServedLink next half) (sym (fed_split k n bytes few)) w.given_up.0) r.reads in
     inr (record {
       down = w.down;
-      stands = still_stands paper records sheet after half rest piece cs r w.stands;
+      stands = still_stands width paper records sheet after half rest piece cs r w.stands;
       known = known_join next pending (marks cs) w.known on.1;
       given_up = (on.0, w.given_up.1);
     })
-fed_way below of paper phase out next records sheet after half rest (bytes ∷ others) (Some newer) pending k n cs few r (inl w) = absurd (cc w.only)
-fed_way below of paper phase out next records sheet after half rest (bytes ∷ others) (Some newer) pending k n cs few r (inr w) =
+fed_way width below of paper phase out next records sheet after half rest (bytes ∷ others) (Some newer) pending k n cs few r (inl w) = absurd (cc w.only)
+fed_way width below of paper phase out next records sheet after half rest (bytes ∷ others) (Some newer) pending k n cs few r (inr w) =
     let piece = take k (take n bytes) in
     let on = served_on below of w.first half piece (drop k bytes) rest cs (subst (ServedLink w.first half) (sym (fed_split k n bytes few)) w.given_up.0) r.reads in
     inr (record {
       first = w.first;
       opening = w.opening;
       within = w.within;
-      stands = still_stands paper records sheet after half rest piece cs r w.stands;
+      stands = still_stands width paper records sheet after half rest piece cs r w.stands;
       known = known_join w.first pending (marks cs) w.known on.1;
       given_up = (on.0, w.given_up.1);
       newest = w.newest;

@@ -13,7 +13,7 @@ use Rattle.escpos_link.specs.EventTable.{After, HandsOver, IsRefused, Leaves, co
 use Rattle.escpos_link.specs.Line.{IsLine, LineView}
 use Rattle.escpos_link.specs.Resumed.{RefusesResume, resumed, resumed_host}
 use Rattle.escpos_link.specs.Steps.{Happens}
-use Rattle.escpos_link.specs.Trusted.{IsFitting, Trusted, Trusting}
+use Rattle.escpos_link.specs.Trusted.{IsFitting, IsTrusted, StillTrusted, Trusting}
 use Rattle.escpos_link.specs.LowerLaws.{LeavesAnswers}
 use Rattle.escpos_link.proofs.AfterHearing.{answer_kept}
 use Rattle.escpos_link.proofs.Keeping.{AreAnswers, Fitting, Joined, delivered_kept, drop_kept, fed_answers, handed_kept, left_by_kept, moved_kept, off_link_kept, on_its_way_kept, opened_kept, with_host_kept, with_printer_kept, without_first_kept}
@@ -88,12 +88,12 @@ whatever_kept below e l after (Ok n) sound i happened refused = kept below e l a
 whatever_kept below e l after (Err why) sound i happened refused = left_kept below e l after sound i refused.line
 
 pub whatever_trusted : Trusting → (e : Event) (l after : LineView) (r : Result Note Refused) → IsFitting e → IsSound l.host → IsLine l
-    → IfOk r (λ n. After e l n after) → IfErr r (λ refused. IsRefused e l refused after) → Trusted l → Trusted after
+    → IfOk r (λ n. After e l n after) → IfErr r (λ refused. IsRefused e l refused after) → IsTrusted l → StillTrusted l after
 whatever_trusted law e l after (Ok n) fits sound i happened refused t = law.kept e l after n fits sound i happened t
 whatever_trusted law e l after (Err why) fits sound i happened refused t = law.leaves e l after sound i refused.line t
 
 -- The effect of an event is in turn.
-pub happens : Trusting → (e : Event) (l after : LineView) (r : Result Note Refused) → IsLine l → Trusted l → IfOk r (λ n. After e l n after)
+pub happens : Trusting → (e : Event) (l after : LineView) (r : Result Note Refused) → IsLine l → IsTrusted l → IfOk r (λ n. After e l n after)
     → IfOk r (λ n. Happens e l n after)
 happens law e l after (Ok n) i t happened = (happened, law.in_turn e l after n i t happened)
 happens law e l after (Err why) i t happened = tt
@@ -106,6 +106,6 @@ resume_kept l after f count (Ok done) i on_ok refused = subst IsLine (sym on_ok.
 resume_kept l after f count (Err why) i on_ok refused = subst IsLine (sym refused.same) i
 
 pub resume_trusted : Trusting → (l after : LineView) (f count : ℕ) (r : Result (Unit {0}) Refused) → OnOk r ((l.host.next ≤ f) × (after ≡ resumed l f count))
-    → IfErr r (λ refused. RefusesResume l f refused after) → Trusted l → Trusted after
-resume_trusted law l after f count (Ok done) on_ok refused t = subst Trusted (sym on_ok.1) (law.resumes l f count on_ok.0 t)
-resume_trusted law l after f count (Err why) on_ok refused t = subst Trusted (sym refused.same) t
+    → IfErr r (λ refused. RefusesResume l f refused after) → IsTrusted l → StillTrusted l after
+resume_trusted law l after f count (Ok done) on_ok refused t = subst (StillTrusted l) (sym on_ok.1) (law.resumes l f count on_ok.0 t)
+resume_trusted law l after f count (Err why) on_ok refused t = subst (StillTrusted l) (sym refused.same) (t, refl)

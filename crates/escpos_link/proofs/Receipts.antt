@@ -118,7 +118,7 @@ pub record IsOpened (l m : LineView) : Type 0 where
   pub ready : IsReady m
   pub records : m.host.records ≡ l.host.records
   pub next : m.host.next ≡ l.host.next + 1
-  pub page : (kept : List Item) (cs : List Command) → SheetIs l.printer.sheet kept cs → SheetIs m.printer.sheet kept (cs ++ kind.Mark (mark_of l.host.next) ∷ [])
+  pub page : (width : ℕ) (kept : List Item) (cs : List Command) → SheetIs width l.printer.sheet kept cs → SheetIs width m.printer.sheet kept (cs ++ kind.Mark (mark_of l.host.next) ∷ [])
 
 opened_by : Laws → (l m : LineView) (h : HostView) (p : PrinterView) → l.host ≡ h → l.printer ≡ p → is_offline p.condition ≡ false
     → Exchanged (plain_line (linked h) p [] []) (kind.Mark (mark_of h.next) ∷ []) (opened_host (emptied (linked h))) m → IsOpened l m
@@ -126,10 +126,10 @@ opened_by laws l m h p host printer online x = record {
   ready = subst IsReady (sym x.line) (taken_ready (opened_host (emptied (linked h))) p x.printer (kind.Mark (mark_of h.next) ∷ []) x.took x.half online refl refl refl);
   records = ap (λ (v : LineView). v.host.records) x.line ∙ sym (ap (λ (v : HostView). v.records) host);
   next = ap (λ (v : LineView). v.host.next) x.line ∙ sym (ap (λ (v : HostView). v.next + 1) host);
-  page = λ kept cs is.
-      subst (λ (v : LineView). SheetIs v.printer.sheet kept (cs ++ kind.Mark (mark_of l.host.next) ∷ [])) (sym x.line)
-      (subst (λ n. SheetIs x.printer.sheet kept (cs ++ kind.Mark (mark_of n) ∷ [])) (sym (ap (λ (v : HostView). v.next) host))
-      (x.took.ran.page kept cs (subst (λ (v : PrinterView). SheetIs v.sheet kept cs) printer is)));
+  page = λ width kept cs is.
+      subst (λ (v : LineView). SheetIs width v.printer.sheet kept (cs ++ kind.Mark (mark_of l.host.next) ∷ [])) (sym x.line)
+      (subst (λ n. SheetIs width x.printer.sheet kept (cs ++ kind.Mark (mark_of n) ∷ [])) (sym (ap (λ (v : HostView). v.next) host))
+      (x.took.ran.page width kept cs (subst (λ (v : PrinterView). SheetIs width v.sheet kept cs) printer is)));
 }
 
 pub opening_done : Laws → (l m : LineView) → Undisturbed l → l.host.phase ≡ Down → l.host.next < mark_count → Happened l (event.LinkUp ∷ exchange) m → IsOpened l m
@@ -212,7 +212,7 @@ pub record IsSentOn (m after : LineView) (receipt : List Command) : Type 0 where
   pub ready : IsReady after
   pub records : after.host.records ≡ m.host.records ++ receipt ∷ []
   pub next : after.host.next ≡ m.host.next + 1
-  pub page : (kept : List Item) (cs : List Command) → SheetIs m.printer.sheet kept cs → SheetIs after.printer.sheet kept (cs ++ sent_with receipt (mark_of m.host.next))
+  pub page : (width : ℕ) (kept : List Item) (cs : List Command) → SheetIs width m.printer.sheet kept cs → SheetIs width after.printer.sheet kept (cs ++ sent_with receipt (mark_of m.host.next))
 
 pub sending_done : Laws → (m after : LineView) (receipt : List Command) → IsReady m → Whole receipt → AreCommands receipt
     → length (submitted m.host [] receipt).out ≤ all_bytes → Happened m (event.Submit receipt ∷ exchange) after → IsSentOn m after receipt
@@ -230,16 +230,16 @@ sending_done laws m after receipt ready whole known short (n, m1, ((flight, done
       ready = subst IsReady (sym x.line) (taken_ready expected p x.printer (sent_with receipt (mark_of h.next)) x.took x.half ready.online refl refl ready.half);
       records = ap (λ (v : LineView). v.host.records) x.line;
       next = ap (λ (v : LineView). v.host.next) x.line;
-      page = λ kept cs is. subst (λ (v : LineView). SheetIs v.printer.sheet kept (cs ++ sent_with receipt (mark_of h.next))) (sym x.line) (x.took.ran.page kept cs is);
+      page = λ width kept cs is. subst (λ (v : LineView). SheetIs width v.printer.sheet kept (cs ++ sent_with receipt (mark_of h.next))) (sym x.line) (x.took.ran.page width kept cs is);
     }
 
 -- What is printed of it.
-sent_items : Laws → (before after : Sheet) (receipt : List Command) (id : List ℕ) (kept : List Item) (cs : List Command) → SheetIs before kept cs
-    → SheetIs after kept (cs ++ sent_with receipt id) → after.items ≡ before.items ++ printed receipt
-sent_items laws before after receipt id kept cs is done =
-    let end : printed (cs ++ sent_with receipt id) ≡ printed cs ++ printed receipt =
-    ap printed (sym (append_assoc cs (kind.Init ∷ []) (receipt ++ kind.Mark id ∷ []))) ∙ laws.init cs (receipt ++ kind.Mark id ∷ []) ∙ ap (λ v. printed cs ++ v) (laws.marks receipt id) in
-    ap (λ (s : Sheet). s.items) done ∙ ap (λ v. kept ++ v) end ∙ sym (append_assoc kept (printed cs) (printed receipt)) ∙ ap (λ v. v ++ printed receipt) (sym (ap (λ (s : Sheet). s.items) is))
+sent_items : Laws → (width : ℕ) (before after : Sheet) (receipt : List Command) (id : List ℕ) (kept : List Item) (cs : List Command) → SheetIs width before kept cs
+    → SheetIs width after kept (cs ++ sent_with receipt id) → after.items ≡ before.items ++ printed width receipt
+sent_items laws width before after receipt id kept cs is done =
+    let end : printed width (cs ++ sent_with receipt id) ≡ printed width cs ++ printed width receipt =
+    ap (printed width) (sym (append_assoc cs (kind.Init ∷ []) (receipt ++ kind.Mark id ∷ []))) ∙ laws.init width cs (receipt ++ kind.Mark id ∷ []) ∙ ap (λ v. printed width cs ++ v) (laws.marks width receipt id) in
+    ap (λ (s : Sheet). s.items) done ∙ ap (λ v. kept ++ v) end ∙ sym (append_assoc kept (printed width cs) (printed width receipt)) ∙ ap (λ v. v ++ printed width receipt) (sym (ap (λ (s : Sheet). s.items) is))
 
 -- ## The whole way
 
@@ -270,10 +270,10 @@ pub record IsBegun (l m : LineView) : Type 0 where
   pub next : m.host.next + 1 ≡ l.host.next + marks_for l.host.phase
   pub kept : List Item
   pub commands : List Command
-  pub sheet : SheetIs m.printer.sheet kept commands
+  pub sheet : SheetIs l.printer.sheet.line_dots m.printer.sheet kept commands
   pub items : m.printer.sheet.items ≡ l.printer.sheet.items
 
-pub begun : Laws → (l m : LineView) (kept : List Item) (cs : List Command) → Undisturbed l → IsLine l → IsSound l.host → SheetIs l.printer.sheet kept cs
+pub begun : Laws → (l m : LineView) (kept : List Item) (cs : List Command) → Undisturbed l → IsLine l → IsSound l.host → SheetIs l.printer.sheet.line_dots l.printer.sheet kept cs
     → Happened l (opening l.host.phase) m → IsBegun l m
 begun laws l m kept cs u i sound is happened = elim u.at_rest.1 [
   | inl (is_down, no_live) ↦
@@ -285,8 +285,8 @@ begun laws l m kept cs u i sound is happened = elim u.at_rest.1 [
         next = omega (arith, o.next, ap marks_for is_down);
         kept = kept;
         commands = cs ++ kind.Mark (mark_of l.host.next) ∷ [];
-        sheet = o.page kept cs is;
-        items = ap (λ (s : Sheet). s.items) (o.page kept cs is) ∙ ap (λ v. kept ++ v) (laws.marks cs (mark_of l.host.next)) ∙ sym (ap (λ (s : Sheet). s.items) is);
+        sheet = o.page l.printer.sheet.line_dots kept cs is;
+        items = ap (λ (s : Sheet). s.items) (o.page l.printer.sheet.line_dots kept cs is) ∙ ap (λ v. kept ++ v) (laws.marks l.printer.sheet.line_dots cs (mark_of l.host.next)) ∙ sym (ap (λ (s : Sheet). s.items) is);
       }
   | inr (phase, live, out) ↦
       let same : m ≡ l = subst (λ p. Happened l (opening p) m) phase happened in
@@ -296,7 +296,7 @@ begun laws l m kept cs u i sound is happened = elim u.at_rest.1 [
         next = omega (arith, ap (λ (v : LineView). v.host.next) same, ap marks_for phase);
         kept = kept;
         commands = cs;
-        sheet = subst (λ (v : LineView). SheetIs v.printer.sheet kept cs) (sym same) is;
+        sheet = subst (λ (v : LineView). SheetIs l.printer.sheet.line_dots v.printer.sheet kept cs) (sym same) is;
         items = ap (λ (v : LineView). v.printer.sheet.items) same;
       }
 ]
@@ -308,8 +308,8 @@ went laws l m after receipt b whole known short first second =
     record {
       number_is = refl;
       recorded = s.records ∙ ap (λ v. v ++ receipt ∷ []) b.records;
-      printed_after = sent_items laws m.printer.sheet after.printer.sheet receipt (mark_of m.host.next) b.kept b.commands b.sheet (s.page b.kept b.commands b.sheet)
-          ∙ ap (λ v. v ++ printed receipt) b.items;
+      printed_after = sent_items laws l.printer.sheet.line_dots m.printer.sheet after.printer.sheet receipt (mark_of m.host.next) b.kept b.commands b.sheet (s.page l.printer.sheet.line_dots b.kept b.commands b.sheet)
+          ∙ ap (λ v. v ++ printed l.printer.sheet.line_dots receipt) b.items;
       ready = s.ready.phase;
       link = (ap (λ (v : LineView). v.ended) s.ready.line, ap (λ (v : LineView). v.live) s.ready.line);
       next = s.next ∙ b.next;

@@ -31,7 +31,7 @@ use Rattle.escpos_link.specs.EventTable.{After, HandsOver, Leaves, Restarted, an
 use Rattle.escpos_link.specs.Line.{IsLine, LineView}
 use Rattle.escpos_link.specs.Resumed.{resumed, resumed_host}
 use Rattle.escpos_link.specs.Stands.{Stands}
-use Rattle.escpos_link.specs.Trusted.{IsFitting, IsRest, Known, Off, Trusted, Way, answered, answered_marks, flight_of}
+use Rattle.escpos_link.specs.Trusted.{IsFitting, IsRest, Known, IsTrusted, Off, StillTrusted, Trusted, Way, answered, answered_marks, flight_of}
 use Rattle.escpos_link.proofs.Aligning.{OfReadings, marks_append}
 use Rattle.escpos_link.proofs.AfterAnswers.{InWay, turn_way}
 use Rattle.escpos_link.proofs.Claiming.{OfPaper, course_stands, owed_stands}
@@ -51,9 +51,9 @@ pub record Laws : Type 0 where
   pub answers : OfAnswers
 
 -- The way of a line with these answers on their way to its host.
-abbrev pub WayOf : LineView → List Answer → Type 0
-WayOf l answers =
-    Way l.host.phase l.host.out l.host.next l.host.records l.printer.sheet l.printer.half l.ended l.live (answered_marks (answers ++ l.printer.waiting))
+abbrev pub WayOf : ℕ → LineView → List Answer → Type 0
+WayOf width l answers =
+    Way width l.host.phase l.host.out l.host.next l.host.records l.printer.sheet l.printer.half l.ended l.live (answered_marks (answers ++ l.printer.waiting))
 
 marks_join : (some others : List Answer) → answered_marks (some ++ others) ≡ answered_marks some ++ answered_marks others
 marks_join some others = flat_map-append answered some others
@@ -61,35 +61,45 @@ marks_join some others = flat_map-append answered some others
 none_heard : Hears [] [] []
 none_heard = record { in_range = tt; whole = refl; rest_is = inl refl }
 
+-- The width is that of the line's printer.
+width_is : (width : ℕ) (l : LineView) → Trusted width l → l.printer.sheet.line_dots ≡ width
+width_is width l t = ap (λ (s : Sheet). s.line_dots) t.reached.2
+
+-- So where a line is still trusted for the width of before, it is for its own, which is the same.
+pub still : (l after : LineView) → Trusted l.printer.sheet.line_dots after → StillTrusted l after
+still l after t =
+    let same = width_is l.printer.sheet.line_dots after t in
+    (subst (λ v. Trusted v after) (sym same) t, same)
+
 -- ## The headline
 
-way_stands : OfPaper → (phase : Phase) (out : List ℕ) (next : ℕ) (records : List (List Command)) (sheet : Sheet) (half : List ℕ) (ended : List (List ℕ))
-    (live : Option (List ℕ)) (pending : List (List ℕ)) → Way phase out next records sheet half ended live pending → Stands records sheet.items
-way_stands paper phase out next records sheet half ended None pending (inl w) = owed_stands records (flight_of phase) next sheet.items pending w.owed
-way_stands paper phase out next records sheet half ended None pending (inr w) = w.stands
-way_stands paper phase out next records sheet half ended (Some bytes) pending (inl w) =
-    subst (Stands records) (sym (items_are sheet w.kept w.ran w.sheet_is)) (course_stands paper records (flight_of phase) next w.kept w.ran pending w.due w.course)
-way_stands paper phase out next records sheet half ended (Some bytes) pending (inr w) = w.stands
+way_stands : (width : ℕ) → OfPaper → (phase : Phase) (out : List ℕ) (next : ℕ) (records : List (List Command)) (sheet : Sheet) (half : List ℕ) (ended : List (List ℕ))
+    (live : Option (List ℕ)) (pending : List (List ℕ)) → Way width phase out next records sheet half ended live pending → Stands width records sheet.items
+way_stands width paper phase out next records sheet half ended None pending (inl w) = owed_stands width records (flight_of phase) next sheet.items pending w.owed
+way_stands width paper phase out next records sheet half ended None pending (inr w) = w.stands
+way_stands width paper phase out next records sheet half ended (Some bytes) pending (inl w) =
+    subst (Stands width records) (sym (items_are width sheet w.kept w.ran w.sheet_is)) (course_stands width paper records (flight_of phase) next w.kept w.ran pending w.due w.course)
+way_stands width paper phase out next records sheet half ended (Some bytes) pending (inr w) = w.stands
 
-pub stands : OfPaper → (l : LineView) → Trusted l → Stands l.host.records l.printer.sheet.items
-stands paper l t = way_stands paper _ _ _ _ _ _ _ l.live _ t.way
+pub stands : (width : ℕ) → OfPaper → (l : LineView) → Trusted width l → Stands width l.host.records l.printer.sheet.items
+stands width paper l t = way_stands width paper _ _ _ _ _ _ _ l.live _ t.way
 
 -- ## What the host does
 
-opened_trusted : Laws → (l : LineView) → IsSound l.host → IsLine l → l.host.phase ≡ Down → HasMark l.host → Trusted l → Trusted (linked_up l)
-opened_trusted laws l sound i is_down few t = record {
+opened_trusted : (width : ℕ) → Laws → (l : LineView) → IsSound l.host → IsLine l → l.host.phase ≡ Down → HasMark l.host → Trusted width l → Trusted width (linked_up l)
+opened_trusted width laws l sound i is_down few t = record {
   answers = [];
   hears = subst (λ v. Hears v [] []) (sym (i.quiet is_down)) none_heard;
   half = t.half;
   reached = t.reached;
-  way = opened_way laws.paper l.host.phase l.host.out l.host.next l.host.records l.printer.sheet l.printer.half l.ended l.live (answered_marks t.answers)
+  way = opened_way width laws.paper l.host.phase l.host.out l.host.next l.host.records l.printer.sheet l.printer.half l.ended l.live (answered_marks t.answers)
       (answered_marks l.printer.waiting) (i.down is_down) is_down few t.half
-      (subst (Way l.host.phase l.host.out l.host.next l.host.records l.printer.sheet l.printer.half l.ended l.live) (marks_join t.answers l.printer.waiting) t.way);
+      (subst (Way width l.host.phase l.host.out l.host.next l.host.records l.printer.sheet l.printer.half l.ended l.live) (marks_join t.answers l.printer.waiting) t.way);
 }
 
 -- The host put something out, and nothing else happened.
-put_trusted : (l : LineView) (host : HostView) (t : Trusted l) → host.half ≡ l.host.half → WayOf (with_host l host) t.answers → Trusted (with_host l host)
-put_trusted l host t same way = record {
+put_trusted : (width : ℕ) (l : LineView) (host : HostView) (t : Trusted width l) → host.half ≡ l.host.half → WayOf width (with_host l host) t.answers → Trusted width (with_host l host)
+put_trusted width l host t same way = record {
   answers = t.answers;
   hears = subst (λ v. Hears (v ++ l.coming) t.answers []) (sym same) t.hears;
   half = t.half;
@@ -97,45 +107,45 @@ put_trusted l host t same way = record {
   way = way;
 }
 
-nudged_trusted : Laws → (l : LineView) → IsOpening l.host.phase → HasMark l.host → Trusted l → Trusted (with_host l (nudged l.host))
-nudged_trusted laws l is few t =
-    put_trusted l (nudged l.host) t refl
-    (nudged_way laws.readings laws.numbers laws.paper l.host.phase l.host.out l.host.next l.host.records l.printer.sheet l.printer.half l.ended l.live _ is few t.way)
+nudged_trusted : (width : ℕ) → Laws → (l : LineView) → IsOpening l.host.phase → HasMark l.host → Trusted width l → Trusted width (with_host l (nudged l.host))
+nudged_trusted width laws l is few t =
+    put_trusted width l (nudged l.host) t refl
+    (nudged_way width laws.readings laws.numbers laws.paper l.host.phase l.host.out l.host.next l.host.records l.printer.sheet l.printer.half l.ended l.live _ is few t.way)
 
 are_join : (some others : List Command) → AreCommands some → AreCommands others → AreCommands (some ++ others)
 are_join [] others a b = b
 are_join (c ∷ some) others a b = (a.0, are_join some others a.1 b)
 
-submitted_trusted : Laws → (l : LineView) (flight : List InFlight) (receipt : List Command) → l.host.phase ≡ Open flight → HasMark l.host
-    → IsFitting (event.Submit receipt) → Trusted l → Trusted (with_host l (submitted l.host flight receipt))
-submitted_trusted laws l flight receipt is few fits t =
+submitted_trusted : (width : ℕ) → Laws → (l : LineView) (flight : List InFlight) (receipt : List Command) → l.host.phase ≡ Open flight → HasMark l.host
+    → IsFitting (event.Submit receipt) → Trusted width l → Trusted width (with_host l (submitted l.host flight receipt))
+submitted_trusted width laws l flight receipt is few fits t =
     let all : AreCommands (kind.Init ∷ (receipt ++ kind.Mark (mark_of l.host.next) ∷ [])) =
     (refl, are_join receipt (kind.Mark (mark_of l.host.next) ∷ []) fits.1 (laws.numbers.ids l.host.next few, tt)) in
-    put_trusted l (submitted l.host flight receipt) t refl
-    (submitted_way laws.readings laws.numbers l.host.phase l.host.out l.host.next l.host.records l.printer.sheet l.printer.half l.ended l.live _ flight receipt is few
+    put_trusted width l (submitted l.host flight receipt) t refl
+    (submitted_way width laws.readings laws.numbers l.host.phase l.host.out l.host.next l.host.records l.printer.sheet l.printer.half l.ended l.live _ flight receipt is few
     fits.0 fits.1 all t.way)
 
-asked_trusted : Laws → (l : LineView) (n : ℕ) → l.host.phase ≡ Open [] → IsFitting (event.Ask n) → Trusted l → Trusted (with_host l (asked l.host n))
-asked_trusted laws l n is fits t =
-    put_trusted l (asked l.host n) t refl
-    (asked_way laws.readings laws.paper l.host.phase l.host.out l.host.next l.host.records l.printer.sheet l.printer.half l.ended l.live _ n is fits t.way)
+asked_trusted : (width : ℕ) → Laws → (l : LineView) (n : ℕ) → l.host.phase ≡ Open [] → IsFitting (event.Ask n) → Trusted width l → Trusted width (with_host l (asked l.host n))
+asked_trusted width laws l n is fits t =
+    put_trusted width l (asked l.host n) t refl
+    (asked_way width laws.readings laws.paper l.host.phase l.host.out l.host.next l.host.records l.printer.sheet l.printer.half l.ended l.live _ n is fits t.way)
 
-moved_trusted : (l : LineView) (n : ℕ) → Trusted l → Trusted (moved l n)
-moved_trusted l n t = record {
+moved_trusted : (width : ℕ) (l : LineView) (n : ℕ) → Trusted width l → Trusted width (moved l n)
+moved_trusted width l n t = record {
   answers = t.answers;
   hears = t.hears;
   half = t.half;
   reached = t.reached;
-  way = moved_way l.host.phase l.host.out l.host.next l.host.records l.printer.sheet l.printer.half l.ended l.live _ n t.way;
+  way = moved_way width l.host.phase l.host.out l.host.next l.host.records l.printer.sheet l.printer.half l.ended l.live _ n t.way;
 }
 
 -- The host is off its link, with the first of its records and a next number that isn't below the one it had.
-off_trusted : Laws → (l : LineView) (host : HostView) (forgotten : List (List Command)) → host.phase ≡ Down → host.half ≡ []
-    → l.host.records ≡ host.records ++ forgotten → l.host.next ≤ host.next → Trusted l → Trusted (off_link (with_host l host))
-off_trusted laws l host forgotten is_down none split more t =
-    let off = off_way laws.paper l.host.phase l.host.out l.host.next host.next l.host.records l.printer.sheet l.printer.half l.ended l.live (answered_marks t.answers)
+off_trusted : (width : ℕ) → Laws → (l : LineView) (host : HostView) (forgotten : List (List Command)) → host.phase ≡ Down → host.half ≡ []
+    → l.host.records ≡ host.records ++ forgotten → l.host.next ≤ host.next → Trusted width l → Trusted width (off_link (with_host l host))
+off_trusted width laws l host forgotten is_down none split more t =
+    let off = off_way width laws.paper l.host.phase l.host.out l.host.next host.next l.host.records l.printer.sheet l.printer.half l.ended l.live (answered_marks t.answers)
     (answered_marks l.printer.waiting) more
-    (subst (Way l.host.phase l.host.out l.host.next l.host.records l.printer.sheet l.printer.half l.ended l.live) (marks_join t.answers l.printer.waiting) t.way) in
+    (subst (Way width l.host.phase l.host.out l.host.next l.host.records l.printer.sheet l.printer.half l.ended l.live) (marks_join t.answers l.printer.waiting) t.way) in
     record {
       answers = [];
       hears = subst (λ v. Hears (v ++ []) [] []) (sym none) none_heard;
@@ -143,41 +153,42 @@ off_trusted laws l host forgotten is_down none split more t =
       reached = t.reached;
       way = inr (record {
         down = is_down;
-        stands = stands_front host.records forgotten l.printer.sheet.items (subst (λ v. Stands v l.printer.sheet.items) split off.stands);
+        stands = stands_front width host.records forgotten l.printer.sheet.items (subst (λ v. Stands width v l.printer.sheet.items) split off.stands);
         known = off.known;
         given_up = off.given_up;
       });
     }
 
-hung_trusted : Laws → (l : LineView) (phase : Phase) → l.host.phase ≡ phase → IsSound l.host → Trusted l → Trusted (off_link (with_host l (hung_up phase l.host)))
-hung_trusted laws l Down is sound t = off_trusted laws l l.host [] is (sound.quiet is).1 (sym (append-nil l.host.records)) (omega arith) t
-hung_trusted laws l (Opening first) is sound t = off_trusted laws l (gone_down l.host) [] refl refl (sym (append-nil l.host.records)) (omega arith) t
-hung_trusted laws l (Open flight) is sound t = off_trusted laws l (gone_down l.host) [] refl refl (sym (append-nil l.host.records)) (omega arith) t
+hung_trusted : (width : ℕ) → Laws → (l : LineView) (phase : Phase) → l.host.phase ≡ phase → IsSound l.host → Trusted width l → Trusted width (off_link (with_host l (hung_up phase l.host)))
+hung_trusted width laws l Down is sound t = off_trusted width laws l l.host [] is (sound.quiet is).1 (sym (append-nil l.host.records)) (omega arith) t
+hung_trusted width laws l (Opening first) is sound t = off_trusted width laws l (gone_down l.host) [] refl refl (sym (append-nil l.host.records)) (omega arith) t
+hung_trusted width laws l (Open flight) is sound t = off_trusted width laws l (gone_down l.host) [] refl refl (sym (append-nil l.host.records)) (omega arith) t
 
 -- The host goes on with the first of its records.
-pub resumed_trusted : Laws → (l : LineView) (f count : ℕ) → l.host.next ≤ f → Trusted l → Trusted (resumed l f count)
-resumed_trusted laws l f count least t =
-    off_trusted laws l (resumed_host l.host f count) (drop count l.host.records) refl refl (sym (take-append-drop count l.host.records)) least t
+pub resumed_trusted : (width : ℕ) → Laws → (l : LineView) (f count : ℕ) → l.host.next ≤ f → Trusted width l → Trusted width (resumed l f count)
+resumed_trusted width laws l f count least t =
+    off_trusted width laws l (resumed_host l.host f count) (drop count l.host.records) refl refl (sym (take-append-drop count l.host.records)) least t
 
 -- ## What the printer does
 
 -- The printer leaves its first link; it may have been switched off and on.
-left_trusted : Laws → (l : LineView) (printer : PrinterView) (kept : List Item) (ran : List Command) → SheetIs printer.sheet kept ran
-    → printer.sheet.items ≡ l.printer.sheet.items → IsRest printer.half → (t : Trusted l) (ys : List (List ℕ))
-    → answered_marks (t.answers ++ l.printer.waiting) ≡ answered_marks (t.answers ++ printer.waiting) ++ ys → Trusted (without_first (with_printer l printer))
-left_trusted laws l printer kept ran is same rest t ys split = record {
+left_trusted : (width : ℕ) → Laws → (l : LineView) (printer : PrinterView) (kept : List Item) (ran : List Command) → SheetIs width printer.sheet kept ran
+    → printer.sheet.items ≡ l.printer.sheet.items → IsRest printer.half → (t : Trusted width l) (ys : List (List ℕ))
+    → answered_marks (t.answers ++ l.printer.waiting) ≡ answered_marks (t.answers ++ printer.waiting) ++ ys → Trusted width (without_first (with_printer l printer))
+left_trusted width laws l printer kept ran is same rest t ys split = record {
   answers = t.answers;
   hears = t.hears;
   half = rest;
   reached = (kept, ran, is);
-  way = leaves_way laws.paper l.host.phase l.host.out l.host.next l.host.records l.printer.sheet printer.sheet l.printer.half printer.half l.ended l.live
+  way = leaves_way width laws.paper l.host.phase l.host.out l.host.next l.host.records l.printer.sheet printer.sheet l.printer.half printer.half l.ended l.live
       (answered_marks (t.answers ++ printer.waiting)) ys same rest
-      (subst (Way l.host.phase l.host.out l.host.next l.host.records l.printer.sheet l.printer.half l.ended l.live) split t.way);
+      (subst (Way width l.host.phase l.host.out l.host.next l.host.records l.printer.sheet l.printer.half l.ended l.live) split t.way);
 }
 
-restarted_trusted : Laws → (l : LineView) (printer : PrinterView) → Restarted l.printer printer → Trusted l → Trusted (without_first (with_printer l printer))
-restarted_trusted laws l printer r t =
-    left_trusted laws l printer l.printer.sheet.items [] r.sheet (items_are printer.sheet l.printer.sheet.items [] r.sheet ∙ append-nil l.printer.sheet.items) (inl r.half) t
+restarted_trusted : (width : ℕ) → Laws → (l : LineView) (printer : PrinterView) → Restarted l.printer printer → Trusted width l → Trusted width (without_first (with_printer l printer))
+restarted_trusted width laws l printer r t =
+    let sheet : SheetIs width printer.sheet l.printer.sheet.items [] = subst (λ v. SheetIs v printer.sheet l.printer.sheet.items []) (width_is width l t) r.sheet in
+    left_trusted width laws l printer l.printer.sheet.items [] sheet (items_are width printer.sheet l.printer.sheet.items [] sheet ∙ append-nil l.printer.sheet.items) (inl r.half) t
     (answered_marks l.printer.waiting)
     (marks_join t.answers l.printer.waiting
     ∙ ap (λ v. answered_marks v ++ answered_marks l.printer.waiting) (sym (append-nil t.answers) ∙ ap (λ v. t.answers ++ v) (sym r.waiting)))
@@ -195,12 +206,12 @@ answered_replies condition (c ∷ cs) =
     ∙ ap (λ v. marks (c ∷ []) ++ v) (answered_replies condition cs) ∙ sym (marks_append (c ∷ []) cs)
 
 -- Bytes of the first link reached the printer, which took all of them.
-taken_trusted : Laws → (l : LineView) (k n : ℕ) (cs : List Command) (printer : PrinterView) → k ≤ length (take n (first_link l))
-    → Took l.printer (take k (take n (first_link l))) cs printer → Trusted l → Trusted (delivered l k printer)
-taken_trusted laws l k n cs printer few took t =
+taken_trusted : (width : ℕ) → Laws → (l : LineView) (k n : ℕ) (cs : List Command) (printer : PrinterView) → k ≤ length (take n (first_link l))
+    → Took l.printer (take k (take n (first_link l))) cs printer → Trusted width l → Trusted width (delivered l k printer)
+taken_trusted width laws l k n cs printer few took t =
     let ran = took.ran in
-    let read : Read l.printer.sheet printer.sheet l.printer.half printer.half (take k (take n (first_link l))) cs =
-    record { kept = t.reached.0; ran = t.reached.1; before = t.reached.2; page = ran.page; was = t.half; reads = ran.reads } in
+    let read : Read width l.printer.sheet printer.sheet l.printer.half printer.half (take k (take n (first_link l))) cs =
+    record { kept = t.reached.0; ran = t.reached.1; before = t.reached.2; page = ran.page width; was = t.half; reads = ran.reads } in
     let grown : answered_marks (t.answers ++ l.printer.waiting) ++ marks cs ≡ answered_marks (t.answers ++ printer.waiting) =
     ap (λ v. answered_marks (t.answers ++ l.printer.waiting) ++ v) (sym (answered_replies l.printer.condition cs))
     ∙ sym (marks_join (t.answers ++ l.printer.waiting) (replies l.printer.condition cs))
@@ -209,28 +220,28 @@ taken_trusted laws l k n cs printer few took t =
       answers = t.answers;
       hears = t.hears;
       half = ran.reads.rest_is;
-      reached = (t.reached.0, t.reached.1 ++ cs, ran.page t.reached.0 t.reached.1 t.reached.2);
-      way = subst (Way l.host.phase l.host.out l.host.next l.host.records printer.sheet printer.half (ended_fed l.ended k) (live_fed l.ended l.live k)) grown
-          (fed_way laws.readings laws.numbers laws.paper l.host.phase l.host.out l.host.next l.host.records l.printer.sheet printer.sheet l.printer.half printer.half
+      reached = (t.reached.0, t.reached.1 ++ cs, ran.page width t.reached.0 t.reached.1 t.reached.2);
+      way = subst (Way width l.host.phase l.host.out l.host.next l.host.records printer.sheet printer.half (ended_fed l.ended k) (live_fed l.ended l.live k)) grown
+          (fed_way width laws.readings laws.numbers laws.paper l.host.phase l.host.out l.host.next l.host.records l.printer.sheet printer.sheet l.printer.half printer.half
           l.ended l.live _ k n cs few read t.way);
     }
 
 -- What a stop leaves of that.
-stopped_trusted : Laws → (l : LineView) (k : ℕ) (why : FeedStop) (taken : PrinterView) → Trusted (delivered l k taken)
-    → Trusted (left_by why (delivered l k (record { sheet = taken.sheet; half = left_half why taken.half; waiting = taken.waiting; condition = taken.condition })))
-stopped_trusted laws l k stop.All taken t = record { answers = t.answers; hears = t.hears; half = t.half; reached = t.reached; way = t.way }
-stopped_trusted laws l k stop.AnswersFull taken t = record { answers = t.answers; hears = t.hears; half = t.half; reached = t.reached; way = t.way }
-stopped_trusted laws l k stop.Offline taken t = record { answers = t.answers; hears = t.hears; half = t.half; reached = t.reached; way = t.way }
-stopped_trusted laws l k stop.Memory taken t = record { answers = t.answers; hears = t.hears; half = t.half; reached = t.reached; way = t.way }
-stopped_trusted laws l k (stop.Fault at why) taken t =
-    left_trusted laws (delivered l k taken) (record { sheet = taken.sheet; half = []; waiting = taken.waiting; condition = taken.condition }) t.reached.0 t.reached.1 t.reached.2
+stopped_trusted : (width : ℕ) → Laws → (l : LineView) (k : ℕ) (why : FeedStop) (taken : PrinterView) → Trusted width (delivered l k taken)
+    → Trusted width (left_by why (delivered l k (record { sheet = taken.sheet; half = left_half why taken.half; waiting = taken.waiting; condition = taken.condition })))
+stopped_trusted width laws l k stop.All taken t = record { answers = t.answers; hears = t.hears; half = t.half; reached = t.reached; way = t.way }
+stopped_trusted width laws l k stop.AnswersFull taken t = record { answers = t.answers; hears = t.hears; half = t.half; reached = t.reached; way = t.way }
+stopped_trusted width laws l k stop.Offline taken t = record { answers = t.answers; hears = t.hears; half = t.half; reached = t.reached; way = t.way }
+stopped_trusted width laws l k stop.Memory taken t = record { answers = t.answers; hears = t.hears; half = t.half; reached = t.reached; way = t.way }
+stopped_trusted width laws l k (stop.Fault at why) taken t =
+    left_trusted width laws (delivered l k taken) (record { sheet = taken.sheet; half = []; waiting = taken.waiting; condition = taken.condition }) t.reached.0 t.reached.1 t.reached.2
     refl (inl refl) t [] (sym (append-nil _))
 
-fed_trusted : Laws → (l : LineView) (k n : ℕ) (why : FeedStop) (printer : PrinterView) → Feeds l.printer (take n (first_link l)) k why printer → Trusted l
-    → Trusted (left_by why (delivered l k printer))
-fed_trusted laws l k n why printer feeds t =
-    subst (λ p. Trusted (left_by why (delivered l k p))) (sym feeds.leaves)
-    (stopped_trusted laws l k why feeds.taken (taken_trusted laws l k n feeds.commands feeds.taken feeds.within feeds.took t))
+fed_trusted : (width : ℕ) → Laws → (l : LineView) (k n : ℕ) (why : FeedStop) (printer : PrinterView) → Feeds l.printer (take n (first_link l)) k why printer → Trusted width l
+    → Trusted width (left_by why (delivered l k printer))
+fed_trusted width laws l k n why printer feeds t =
+    subst (λ p. Trusted width (left_by why (delivered l k p))) (sym feeds.leaves)
+    (stopped_trusted width laws l k why feeds.taken (taken_trusted width laws l k n feeds.commands feeds.taken feeds.within feeds.took t))
 
 -- ## Answers
 
@@ -242,14 +253,14 @@ known_lost b answers waiting a k =
     (known_join b (answered_marks answers) (answered_marks waiting) (known_front b (answered_marks answers) (answered_marks (a ∷ waiting)) split)
     (known_back b (answered a) (answered_marks waiting) (known_back b (answered_marks answers) (answered_marks (a ∷ waiting)) split)))
 
-lost_way : (phase : Phase) (out : List ℕ) (next : ℕ) (records : List (List Command)) (sheet : Sheet) (half : List ℕ) (ended : List (List ℕ))
-    (live : Option (List ℕ)) (xs ys : List (List ℕ)) → ended ≢ [] → ((b : ℕ) → Known b xs → Known b ys) → Way phase out next records sheet half ended live xs
-    → Way phase out next records sheet half ended live ys
-lost_way phase out next records sheet half ended None xs ys some fewer (inl w) = absurd (some w.only)
-lost_way phase out next records sheet half ended None xs ys some fewer (inr w) =
+lost_way : (width : ℕ) (phase : Phase) (out : List ℕ) (next : ℕ) (records : List (List Command)) (sheet : Sheet) (half : List ℕ) (ended : List (List ℕ))
+    (live : Option (List ℕ)) (xs ys : List (List ℕ)) → ended ≢ [] → ((b : ℕ) → Known b xs → Known b ys) → Way width phase out next records sheet half ended live xs
+    → Way width phase out next records sheet half ended live ys
+lost_way width phase out next records sheet half ended None xs ys some fewer (inl w) = absurd (some w.only)
+lost_way width phase out next records sheet half ended None xs ys some fewer (inr w) =
     inr (record { down = w.down; stands = w.stands; known = fewer next w.known; given_up = w.given_up })
-lost_way phase out next records sheet half ended (Some bytes) xs ys some fewer (inl w) = absurd (some w.only)
-lost_way phase out next records sheet half ended (Some bytes) xs ys some fewer (inr w) = inr (record {
+lost_way width phase out next records sheet half ended (Some bytes) xs ys some fewer (inl w) = absurd (some w.only)
+lost_way width phase out next records sheet half ended (Some bytes) xs ys some fewer (inr w) = inr (record {
   first = w.first;
   opening = w.opening;
   within = w.within;
@@ -259,19 +270,19 @@ lost_way phase out next records sheet half ended (Some bytes) xs ys some fewer (
   newest = w.newest;
 })
 
-lost_trusted : (l : LineView) (a : Answer) (answers : List Answer) → l.printer.waiting ≡ a ∷ answers → l.ended ≢ [] → Trusted l
-    → Trusted (with_printer l (answers_left l.printer answers))
-lost_trusted l a answers is some t = record {
+lost_trusted : (width : ℕ) (l : LineView) (a : Answer) (answers : List Answer) → l.printer.waiting ≡ a ∷ answers → l.ended ≢ [] → Trusted width l
+    → Trusted width (with_printer l (answers_left l.printer answers))
+lost_trusted width l a answers is some t = record {
   answers = t.answers;
   hears = t.hears;
   half = t.half;
   reached = t.reached;
-  way = lost_way l.host.phase l.host.out l.host.next l.host.records l.printer.sheet l.printer.half l.ended l.live _ _ some
+  way = lost_way width l.host.phase l.host.out l.host.next l.host.records l.printer.sheet l.printer.half l.ended l.live _ _ some
       (λ b k. known_lost b t.answers answers a (subst (λ v. Known b (answered_marks (t.answers ++ v))) is k)) t.way;
 }
 
-handed_trusted : Laws → (l : LineView) (a : Answer) (answers : List Answer) → IsLine l → l.printer.waiting ≡ a ∷ answers → Trusted l → Trusted (on_its_way l a answers)
-handed_trusted laws l a answers i is t =
+handed_trusted : (width : ℕ) → Laws → (l : LineView) (a : Answer) (answers : List Answer) → IsLine l → l.printer.waiting ≡ a ∷ answers → Trusted width l → Trusted width (on_its_way l a answers)
+handed_trusted width laws l a answers i is t =
     let fits = subst (AllByRecursion (λ (v : Answer). IsTrue (is_answer v))) is i.fitting in
     let one : Hears (answer_bytes a) (a ∷ []) [] =
     record { in_range = (fits.0, tt); whole = sym (append-nil (spell_answers (a ∷ [])) ∙ append-nil (answer_bytes a)); rest_is = inl refl } in
@@ -281,32 +292,32 @@ handed_trusted laws l a answers i is t =
           (laws.answers.joined (l.host.half ++ l.coming) (answer_bytes a) t.answers (a ∷ []) [] [] t.hears one);
       half = t.half;
       reached = t.reached;
-      way = subst (λ v. Way l.host.phase l.host.out l.host.next l.host.records l.printer.sheet l.printer.half l.ended l.live (answered_marks v))
+      way = subst (λ v. Way width l.host.phase l.host.out l.host.next l.host.records l.printer.sheet l.printer.half l.ended l.live (answered_marks v))
           (ap (λ v. t.answers ++ v) is ∙ sym (append_assoc t.answers (a ∷ []) answers)) t.way;
     }
 
-hands_trusted : Laws → (l after : LineView) (what : Handed) → IsLine l → HandsOver l what after → Trusted l → Trusted after
-hands_trusted laws l after handed.None i (none, same) t = subst Trusted (sym same) t
-hands_trusted laws l after handed.Lost i (a, answers, waits, links, same) t = subst Trusted (sym same) (lost_trusted l a answers waits links t)
-hands_trusted laws l after handed.On i (a, answers, waits, links, live, same) t = subst Trusted (sym same) (handed_trusted laws l a answers i waits t)
+hands_trusted : (width : ℕ) → Laws → (l after : LineView) (what : Handed) → IsLine l → HandsOver l what after → Trusted width l → Trusted width after
+hands_trusted width laws l after handed.None i (none, same) t = subst (Trusted width) (sym same) t
+hands_trusted width laws l after handed.Lost i (a, answers, waits, links, same) t = subst (Trusted width) (sym same) (lost_trusted width l a answers waits links t)
+hands_trusted width laws l after handed.On i (a, answers, waits, links, live, same) t = subst (Trusted width) (sym same) (handed_trusted width laws l a answers i waits t)
 
 -- The host hears answers, and none of them ends its link.
-pub record Answered (events : List HostEvent) (after : LineView) : Type 0 where
+pub record Answered (width : ℕ) (events : List HostEvent) (after : LineView) : Type 0 where
   pub on : EndsLink (last_of events) → ⊥
-  pub trusted : Trusted after
+  pub trusted : Trusted width after
 
-down_answered : (l : LineView) (consumed : ℕ) → IsLine l → l.host.phase ≡ Down → Trusted l → Trusted (heard_line l l.host (drop consumed l.coming))
-down_answered l consumed i is_down t =
-    subst (λ bs. Trusted (heard_line l l.host bs)) (sym (drop-nil consumed l.coming (i.quiet is_down)))
+down_answered : (width : ℕ) (l : LineView) (consumed : ℕ) → IsLine l → l.host.phase ≡ Down → Trusted width l → Trusted width (heard_line l l.host (drop consumed l.coming))
+down_answered width l consumed i is_down t =
+    subst (λ bs. Trusted width (heard_line l l.host bs)) (sym (drop-nil consumed l.coming (i.quiet is_down)))
     (record { answers = t.answers; hears = t.hears; half = t.half; reached = t.reached; way = t.way })
 
-pub answered_trusted : Laws → (l : LineView) (k consumed : ℕ) (events : List HostEvent) (host : HostView) → IsLine l
-    → HearsAll l.host (take k l.coming) events consumed host → Trusted l → Answered events (heard_to (last_of events) l consumed host)
-answered_trusted laws l k consumed events host i (inl (is_down, none, all, same)) t =
-    subst (λ es. Answered es (heard_to (last_of es) l consumed host)) (sym none)
-    (record { on = λ ends. ends; trusted = subst (λ h. Trusted (heard_line l h (drop consumed l.coming))) (sym same) (down_answered l consumed i is_down t) })
-answered_trusted laws l k consumed events host i (inr (up, hears)) t =
-    let P = InWay l.printer.sheet l.printer.half l.ended l.live l.printer.waiting in
+pub answered_trusted : (width : ℕ) → Laws → (l : LineView) (k consumed : ℕ) (events : List HostEvent) (host : HostView) → IsLine l
+    → HearsAll l.host (take k l.coming) events consumed host → Trusted width l → Answered width events (heard_to (last_of events) l consumed host)
+answered_trusted width laws l k consumed events host i (inl (is_down, none, all, same)) t =
+    subst (λ es. Answered width es (heard_to (last_of es) l consumed host)) (sym none)
+    (record { on = λ ends. ends; trusted = subst (λ h. Trusted width (heard_line l h (drop consumed l.coming))) (sym same) (down_answered width l consumed i is_down t) })
+answered_trusted width laws l k consumed events host i (inr (up, hears)) t =
+    let P = InWay width l.printer.sheet l.printer.half l.ended l.live l.printer.waiting in
     let goes : Goes P l.host (take k l.coming ++ drop k l.coming) =
     record {
       up = up;
@@ -314,12 +325,12 @@ answered_trusted laws l k consumed events host i (inr (up, hears)) t =
       hears = subst (λ v. Hears (l.host.half ++ v) t.answers []) (sym (take-append-drop k l.coming)) t.hears;
       holds = t.way;
     } in
-    let r = heard_in_turn P laws.answers (turn_way laws.numbers l.printer.sheet l.printer.half l.ended l.live l.printer.waiting) events l.host host (take k l.coming)
+    let r = heard_in_turn P laws.answers (turn_way width laws.numbers l.printer.sheet l.printer.half l.ended l.live l.printer.waiting) events l.host host (take k l.coming)
     (drop k l.coming) consumed goes hears in
     let rest : drop consumed l.coming ≡ drop k l.coming = ap (λ n. drop n l.coming) r.all ∙ dropped k l.coming in
     record {
       on = r.on;
-      trusted = subst Trusted (sym (heard_line_is (last_of events) l consumed host r.on)) (record {
+      trusted = subst (Trusted width) (sym (heard_line_is (last_of events) l consumed host r.on)) (record {
         answers = r.goes.answers;
         hears = subst (λ v. Hears (host.half ++ v) r.goes.answers []) (sym rest) r.goes.hears;
         half = t.half;
@@ -330,42 +341,42 @@ answered_trusted laws l k consumed events host i (inr (up, hears)) t =
 
 -- ## Every event
 
-pub trusted : Laws → (e : Event) (l after : LineView) (n : Note) → IsFitting e → IsSound l.host → IsLine l → After e l n after → Trusted l → Trusted after
-trusted laws event.LinkUp l after n fits sound i (done, is_down, mark, same) t = subst Trusted (sym same) (opened_trusted laws l sound i is_down mark t)
-trusted laws event.Nudge l after n fits sound i (done, opening, mark, same) t = subst Trusted (sym same) (nudged_trusted laws l opening mark t)
-trusted laws (event.Submit receipt) l after n fits sound i (flight, done, is, few, mark, same) t =
-    subst Trusted (sym same) (submitted_trusted laws l flight receipt is mark fits t)
-trusted laws (event.Ask kind) l after n fits sound i (done, is, same) t = subst Trusted (sym same) (asked_trusted laws l kind is fits t)
-trusted laws (event.Move k) l after n fits sound i (count, told, is, same) t = subst Trusted (sym same) (moved_trusted l count t)
-trusted laws (event.Deliver k) l after n fits sound i (fed, printer, told, feeds, memory, same) t =
-    subst Trusted (sym same) (fed_trusted laws l fed.consumed k fed.stop printer feeds t)
-trusted laws event.HandOver l after n fits sound i (what, told, hands) t = hands_trusted laws l after what i hands t
-trusted laws (event.Answer k) l after n fits sound i (events, consumed, host, told, hears, same) t =
-    subst Trusted (sym same) (answered_trusted laws l k consumed events host i hears t).trusted
-trusted laws event.PrinterLeaves l after n fits sound i (done, same) t =
-    subst Trusted (sym same) (left_trusted laws l l.printer t.reached.0 t.reached.1 t.reached.2 refl t.half t [] (sym (append-nil _)))
-trusted laws event.PrinterRestart l after n fits sound i (printer, done, restart, same) t = subst Trusted (sym same) (restarted_trusted laws l printer restart t)
-trusted laws event.HostDrops l after n fits sound i (done, same) t = subst Trusted (sym same) (hung_trusted laws l l.host.phase refl sound t)
-trusted laws (event.HostRestart f) l after n fits sound i (done, least, same) t =
-    subst Trusted (sym same) (off_trusted laws l (restarted l.host f) [] refl refl (sym (append-nil l.host.records)) least t)
-trusted laws (event.SetCondition condition) l after n fits sound i (done, same) t =
-    subst Trusted (sym same) (record { answers = t.answers; hears = t.hears; half = t.half; reached = t.reached; way = t.way })
+pub trusted : (width : ℕ) → Laws → (e : Event) (l after : LineView) (n : Note) → IsFitting e → IsSound l.host → IsLine l → After e l n after → Trusted width l → Trusted width after
+trusted width laws event.LinkUp l after n fits sound i (done, is_down, mark, same) t = subst (Trusted width) (sym same) (opened_trusted width laws l sound i is_down mark t)
+trusted width laws event.Nudge l after n fits sound i (done, opening, mark, same) t = subst (Trusted width) (sym same) (nudged_trusted width laws l opening mark t)
+trusted width laws (event.Submit receipt) l after n fits sound i (flight, done, is, few, mark, same) t =
+    subst (Trusted width) (sym same) (submitted_trusted width laws l flight receipt is mark fits t)
+trusted width laws (event.Ask kind) l after n fits sound i (done, is, same) t = subst (Trusted width) (sym same) (asked_trusted width laws l kind is fits t)
+trusted width laws (event.Move k) l after n fits sound i (count, told, is, same) t = subst (Trusted width) (sym same) (moved_trusted width l count t)
+trusted width laws (event.Deliver k) l after n fits sound i (fed, printer, told, feeds, memory, same) t =
+    subst (Trusted width) (sym same) (fed_trusted width laws l fed.consumed k fed.stop printer feeds t)
+trusted width laws event.HandOver l after n fits sound i (what, told, hands) t = hands_trusted width laws l after what i hands t
+trusted width laws (event.Answer k) l after n fits sound i (events, consumed, host, told, hears, same) t =
+    subst (Trusted width) (sym same) (answered_trusted width laws l k consumed events host i hears t).trusted
+trusted width laws event.PrinterLeaves l after n fits sound i (done, same) t =
+    subst (Trusted width) (sym same) (left_trusted width laws l l.printer t.reached.0 t.reached.1 t.reached.2 refl t.half t [] (sym (append-nil _)))
+trusted width laws event.PrinterRestart l after n fits sound i (printer, done, restart, same) t = subst (Trusted width) (sym same) (restarted_trusted width laws l printer restart t)
+trusted width laws event.HostDrops l after n fits sound i (done, same) t = subst (Trusted width) (sym same) (hung_trusted width laws l l.host.phase refl sound t)
+trusted width laws (event.HostRestart f) l after n fits sound i (done, least, same) t =
+    subst (Trusted width) (sym same) (off_trusted width laws l (restarted l.host f) [] refl refl (sym (append-nil l.host.records)) least t)
+trusted width laws (event.SetCondition condition) l after n fits sound i (done, same) t =
+    subst (Trusted width) (sym same) (record { answers = t.answers; hears = t.hears; half = t.half; reached = t.reached; way = t.way })
 
 -- A refusal leaves the line as it was, or as after fewer bytes.
-pub leaves_trusted : Laws → (e : Event) (l after : LineView) → IsSound l.host → IsLine l → Leaves e l after → Trusted l → Trusted after
-leaves_trusted laws event.LinkUp l after sound i same t = subst Trusted (sym same) t
-leaves_trusted laws event.Nudge l after sound i same t = subst Trusted (sym same) t
-leaves_trusted laws (event.Submit receipt) l after sound i same t = subst Trusted (sym same) t
-leaves_trusted laws (event.Ask kind) l after sound i same t = subst Trusted (sym same) t
-leaves_trusted laws (event.Move k) l after sound i (fewer, n, less, within, moves) t = trusted laws (event.Move fewer) l after n tt sound i moves t
-leaves_trusted laws (event.Deliver k) l after sound i (fewer, n, less, feeds, wanted) t = trusted laws (event.Deliver fewer) l after n tt sound i feeds t
-leaves_trusted laws event.HandOver l after sound i same t = subst Trusted (sym same) t
-leaves_trusted laws (event.Answer k) l after sound i same t = subst Trusted (sym same) t
-leaves_trusted laws event.PrinterLeaves l after sound i same t = subst Trusted (sym same) t
-leaves_trusted laws event.PrinterRestart l after sound i same t = subst Trusted (sym same) t
-leaves_trusted laws event.HostDrops l after sound i same t = subst Trusted (sym same) t
-leaves_trusted laws (event.HostRestart f) l after sound i same t = subst Trusted (sym same) t
-leaves_trusted laws (event.SetCondition condition) l after sound i same t = subst Trusted (sym same) t
+pub leaves_trusted : (width : ℕ) → Laws → (e : Event) (l after : LineView) → IsSound l.host → IsLine l → Leaves e l after → Trusted width l → Trusted width after
+leaves_trusted width laws event.LinkUp l after sound i same t = subst (Trusted width) (sym same) t
+leaves_trusted width laws event.Nudge l after sound i same t = subst (Trusted width) (sym same) t
+leaves_trusted width laws (event.Submit receipt) l after sound i same t = subst (Trusted width) (sym same) t
+leaves_trusted width laws (event.Ask kind) l after sound i same t = subst (Trusted width) (sym same) t
+leaves_trusted width laws (event.Move k) l after sound i (fewer, n, less, within, moves) t = trusted width laws (event.Move fewer) l after n tt sound i moves t
+leaves_trusted width laws (event.Deliver k) l after sound i (fewer, n, less, feeds, wanted) t = trusted width laws (event.Deliver fewer) l after n tt sound i feeds t
+leaves_trusted width laws event.HandOver l after sound i same t = subst (Trusted width) (sym same) t
+leaves_trusted width laws (event.Answer k) l after sound i same t = subst (Trusted width) (sym same) t
+leaves_trusted width laws event.PrinterLeaves l after sound i same t = subst (Trusted width) (sym same) t
+leaves_trusted width laws event.PrinterRestart l after sound i same t = subst (Trusted width) (sym same) t
+leaves_trusted width laws event.HostDrops l after sound i same t = subst (Trusted width) (sym same) t
+leaves_trusted width laws (event.HostRestart f) l after sound i same t = subst (Trusted width) (sym same) t
+leaves_trusted width laws (event.SetCondition condition) l after sound i same t = subst (Trusted width) (sym same) t
 
 -- ## No answer ends the host's link
 
@@ -379,53 +390,54 @@ told_ends (heard.BadAnswer place) consumed at is = tt
 last_told : (c d : ℕ) (e f : HostEvent) → note.Heard c e ≡ note.Heard d f → e ≡ f
 last_told c d e f is = cc is
 
-bad_told : Laws → (l after : LineView) (k consumed place : ℕ) (n : Note) → IsLine l → Trusted l → After (event.Answer k) l n after
+bad_told : (width : ℕ) → Laws → (l after : LineView) (k consumed place : ℕ) (n : Note) → IsLine l → Trusted width l → After (event.Answer k) l n after
     → n ≡ note.Heard consumed (heard.BadAnswer place) → ⊥
-bad_told laws l after k consumed place n i t (events, count, host, told, hears, same) bad =
-    let r = answered_trusted laws l k count events host i hears t in
+bad_told width laws l after k consumed place n i t (events, count, host, told, hears, same) bad =
+    let r = answered_trusted width laws l k count events host i hears t in
     r.on (told_ends (last_of events) count place (last_told count consumed _ _ (sym told ∙ bad)))
 
 done_told : (consumed place : ℕ) (n : Note) → n ≡ note.Done → n ≡ note.Heard consumed (heard.BadAnswer place) → ⊥
 done_told consumed place n done bad = let both : note.Done ≡ note.Heard consumed (heard.BadAnswer place) = sym done ∙ bad in cc
 
 -- No event reports a byte that fits no answer, or an answer out of turn.
-pub none_bad : Laws → (e : Event) (l after : LineView) (n : Note) (consumed place : ℕ) → IsLine l → Trusted l → After e l n after
+pub none_bad : (width : ℕ) → Laws → (e : Event) (l after : LineView) (n : Note) (consumed place : ℕ) → IsLine l → Trusted width l → After e l n after
     → n ≢ note.Heard consumed (heard.BadAnswer place)
-none_bad laws event.LinkUp l after n consumed place i t (done, is_down, mark, same) bad = done_told consumed place n done bad
-none_bad laws event.Nudge l after n consumed place i t (done, opening, mark, same) bad = done_told consumed place n done bad
-none_bad laws (event.Submit receipt) l after n consumed place i t (flight, done, is, few, mark, same) bad = done_told consumed place n done bad
-none_bad laws (event.Ask kind) l after n consumed place i t (done, is, same) bad = done_told consumed place n done bad
-none_bad laws (event.Move k) l after n consumed place i t (count, told, is, same) bad =
+none_bad width laws event.LinkUp l after n consumed place i t (done, is_down, mark, same) bad = done_told consumed place n done bad
+none_bad width laws event.Nudge l after n consumed place i t (done, opening, mark, same) bad = done_told consumed place n done bad
+none_bad width laws (event.Submit receipt) l after n consumed place i t (flight, done, is, few, mark, same) bad = done_told consumed place n done bad
+none_bad width laws (event.Ask kind) l after n consumed place i t (done, is, same) bad = done_told consumed place n done bad
+none_bad width laws (event.Move k) l after n consumed place i t (count, told, is, same) bad =
     let both : note.Moved count ≡ note.Heard consumed (heard.BadAnswer place) = sym told ∙ bad in cc
-none_bad laws (event.Deliver k) l after n consumed place i t (fed, printer, told, feeds, memory, same) bad =
+none_bad width laws (event.Deliver k) l after n consumed place i t (fed, printer, told, feeds, memory, same) bad =
     let both : note.Fed fed ≡ note.Heard consumed (heard.BadAnswer place) = sym told ∙ bad in cc
-none_bad laws event.HandOver l after n consumed place i t (what, told, hands) bad =
+none_bad width laws event.HandOver l after n consumed place i t (what, told, hands) bad =
     let both : note.Handed what ≡ note.Heard consumed (heard.BadAnswer place) = sym told ∙ bad in cc
-none_bad laws (event.Answer k) l after n consumed place i t answers bad = bad_told laws l after k consumed place n i t answers bad
-none_bad laws event.PrinterLeaves l after n consumed place i t (done, is) bad = done_told consumed place n done bad
-none_bad laws event.PrinterRestart l after n consumed place i t (printer, done, restart, same) bad = done_told consumed place n done bad
-none_bad laws event.HostDrops l after n consumed place i t (done, is) bad = done_told consumed place n done bad
-none_bad laws (event.HostRestart f) l after n consumed place i t (done, least, same) bad = done_told consumed place n done bad
-none_bad laws (event.SetCondition condition) l after n consumed place i t (done, is) bad = done_told consumed place n done bad
+none_bad width laws (event.Answer k) l after n consumed place i t answers bad = bad_told width laws l after k consumed place n i t answers bad
+none_bad width laws event.PrinterLeaves l after n consumed place i t (done, is) bad = done_told consumed place n done bad
+none_bad width laws event.PrinterRestart l after n consumed place i t (printer, done, restart, same) bad = done_told consumed place n done bad
+none_bad width laws event.HostDrops l after n consumed place i t (done, is) bad = done_told consumed place n done bad
+none_bad width laws (event.HostRestart f) l after n consumed place i t (done, least, same) bad = done_told consumed place n done bad
+none_bad width laws (event.SetCondition condition) l after n consumed place i t (done, is) bad = done_told consumed place n done bad
 
 -- ## A new line
 
-pub begun : (l : LineView) (first : ℕ)
-    → l.host ≡ record { phase = Down; out = []; half = []; next = first; records = []; left = [] } → SheetIs l.printer.sheet [] []
-    → l.printer.half ≡ [] → l.printer.waiting ≡ [] → l.ended ≡ [] → l.live ≡ None → l.coming ≡ [] → Trusted l
-begun l first host sheet half waiting ended live coming =
+pub begun : (width : ℕ) (l : LineView) (first : ℕ)
+    → l.host ≡ record { phase = Down; out = []; half = []; next = first; records = []; left = [] } → SheetIs width l.printer.sheet [] []
+    → l.printer.half ≡ [] → l.printer.waiting ≡ [] → l.ended ≡ [] → l.live ≡ None → l.coming ≡ [] → IsTrusted l
+begun width l first host sheet half waiting ended live coming =
     let plain : Hears ([] ++ []) [] [] = none_heard in
-    let off : Off Down first [] l.printer.sheet l.printer.half [] [] = record { down = refl; stands = tt; known = tt; given_up = tt } in
-    record {
+    let off : Off width Down first [] l.printer.sheet l.printer.half [] [] = record { down = refl; stands = tt; known = tt; given_up = tt } in
+    let whole : Trusted width l = record {
       answers = [];
       hears = subst (λ v. Hears (l.host.half ++ v) [] []) (sym coming) (subst (λ (h : HostView). Hears (h.half ++ []) [] []) (sym host) plain);
       half = inl half;
       reached = ([], [], sheet);
-      way = subst (λ v. Way l.host.phase l.host.out l.host.next l.host.records l.printer.sheet l.printer.half v l.live (answered_marks l.printer.waiting)) (sym ended)
-          (subst (λ v. Way l.host.phase l.host.out l.host.next l.host.records l.printer.sheet l.printer.half [] v (answered_marks l.printer.waiting)) (sym live)
-          (subst (λ v. Way l.host.phase l.host.out l.host.next l.host.records l.printer.sheet l.printer.half [] None (answered_marks v)) (sym waiting)
-          (subst (λ (h : HostView). Way h.phase h.out h.next h.records l.printer.sheet l.printer.half [] None []) (sym host) (inr off))));
-    }
+      way = subst (λ v. Way width l.host.phase l.host.out l.host.next l.host.records l.printer.sheet l.printer.half v l.live (answered_marks l.printer.waiting)) (sym ended)
+          (subst (λ v. Way width l.host.phase l.host.out l.host.next l.host.records l.printer.sheet l.printer.half [] v (answered_marks l.printer.waiting)) (sym live)
+          (subst (λ v. Way width l.host.phase l.host.out l.host.next l.host.records l.printer.sheet l.printer.half [] None (answered_marks v)) (sym waiting)
+          (subst (λ (h : HostView). Way width h.phase h.out h.next h.records l.printer.sheet l.printer.half [] None []) (sym host) (inr off))));
+    } in
+    subst (λ v. Trusted v l) (sym (ap (λ (s : Sheet). s.line_dots) sheet)) whole
 
 pub begun_line : (l : LineView) → l.host.half ≡ [] → l.printer.waiting ≡ [] → l.ended ≡ [] → l.live ≡ None → l.coming ≡ [] → IsLine l
 begun_line l half waiting ended live coming =

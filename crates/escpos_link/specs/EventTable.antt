@@ -140,7 +140,7 @@ told_at e consumed = e
 
 -- The printer was switched off and on.
 pub record Restarted (before after : PrinterView) : Type 0 where
-  pub sheet : SheetIs after.sheet before.sheet.items []
+  pub sheet : SheetIs before.sheet.line_dots after.sheet before.sheet.items []
   pub half : after.half ≡ []
   pub waiting : after.waiting ≡ []
   pub condition : after.condition ≡ before.condition

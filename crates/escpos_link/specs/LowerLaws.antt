@@ -30,6 +30,6 @@ pub record Laws : Type 0 where
       → HearsAll h (answer_bytes a) events consumed after → (at : ℕ) × Turns h a at (last_of events) after
   pub leaves : LeavesAnswers
   pub one_hearing : (bs : List ℕ) (some others : List Answer) (x y : List ℕ) → Hears bs some x → Hears bs others y → (some ≡ others) × (x ≡ y)
-  pub init : (a b : List Command) → printed (a ++ kind.Init ∷ [] ++ b) ≡ printed a ++ printed b
-  pub marks : (cs : List Command) (id : List ℕ) → printed (cs ++ kind.Mark id ∷ []) ≡ printed cs
+  pub init : (width : ℕ) (a b : List Command) → printed width (a ++ kind.Init ∷ [] ++ b) ≡ printed width a ++ printed width b
+  pub marks : (width : ℕ) (cs : List Command) (id : List ℕ) → printed width (cs ++ kind.Mark id ∷ []) ≡ printed width cs
   pub ids : (n : ℕ) → n < mark_count → IsTrue (is_mark_id (mark_of n))

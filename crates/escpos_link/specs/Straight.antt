@@ -54,11 +54,12 @@ opening _ = []
 abbrev pub straight_events : Phase → List Command → List Event
 straight_events phase receipt = opening phase ++ (event.Submit receipt ∷ exchange)
 
--- The receipt is recorded, with this number, and printed, and nothing is under way.
+-- The receipt is recorded, with this number, and printed, in lines of the width that the printer has, and nothing is under
+-- way.
 pub record WentStraight (l : LineView) (receipt : List Command) (number : ℕ) (after : LineView) : Type 0 where
   pub number_is : number ≡ length l.host.records
   pub recorded : after.host.records ≡ l.host.records ++ receipt ∷ []
-  pub printed_after : after.printer.sheet.items ≡ l.printer.sheet.items ++ printed receipt
+  pub printed_after : after.printer.sheet.items ≡ l.printer.sheet.items ++ printed l.printer.sheet.line_dots receipt
   pub ready : after.host.phase ≡ Open []
   pub link : (after.ended ≡ []) × (after.live ≡ Some [])
   pub next : after.host.next ≡ l.host.next + marks_for l.host.phase

@@ -90,7 +90,7 @@ pub record InOrder (done todo : List InFlight) (next : ℕ) (queue : List (List 
 
 -- The last of the receipts that are done is still being printed: its Init was run, and the rest of it and its closing mark
 -- are still to come.
-pub record Printing (records : List (List Command)) (done : List InFlight) (rest : List Command) (kept : List Item) (ran : List Command) : Type 0 where
+pub record Printing (width : ℕ) (records : List (List Command)) (done : List InFlight) (rest : List Command) (kept : List Item) (ran : List Command) : Type 0 where
   pub before : List InFlight
   pub current : InFlight
   pub first : List Command
@@ -100,15 +100,15 @@ pub record Printing (records : List (List Command)) (done : List InFlight) (rest
   pub ran_is : ran ≡ first ++ kind.Init ∷ [] ++ run
   pub receipt_is : current.receipt ≡ run ++ to_run
   pub rest_is : rest ≡ to_run ++ kind.Mark current.mark ∷ []
-  pub stands : Stands (records ++ receipts before) (kept ++ printed first)
+  pub stands : Stands width (records ++ receipts before) (kept ++ printed width first)
 
 -- What is recorded and what is done stands on the paper; or all of it but the last, which is being printed.
-abbrev pub Stood : List (List Command) → List InFlight → List Command → List Item → List Command → Type 0
-Stood records done rest kept ran = Stands (records ++ receipts done) (kept ++ printed ran) ⊎ Printing records done rest kept ran
+abbrev pub Stood : ℕ → List (List Command) → List InFlight → List Command → List Item → List Command → Type 0
+Stood width records done rest kept ran = Stands width (records ++ receipts done) (kept ++ printed width ran) ⊎ Printing width records done rest kept ran
 
 -- How far the receipts in flight are, where these commands were run on paper that held some items, these marks are answered
 -- and not heard yet, and these commands are due: the rest of what was begun, then the receipts to do.
-pub record Course (records : List (List Command)) (flight : List InFlight) (next : ℕ) (kept : List Item) (ran : List Command) (pending : List (List ℕ))
+pub record Course (width : ℕ) (records : List (List Command)) (flight : List InFlight) (next : ℕ) (kept : List Item) (ran : List Command) (pending : List (List ℕ))
     (due : List Command) : Type 0 where
   pub done : List InFlight
   pub todo : List InFlight
@@ -117,15 +117,15 @@ pub record Course (records : List (List Command)) (flight : List InFlight) (next
   pub order : InOrder done todo next (pending ++ marks rest)
   pub due_is : due ≡ rest ++ sends todo
   pub unmarked : AllByRecursion (λ (p : InFlight). marks p.receipt ≡ []) todo
-  pub stood : Stood records done rest kept ran
+  pub stood : Stood width records done rest kept ran
 
 -- The same where nothing is due any more: those of the receipts in flight whose closing marks are answered stand.
-pub record Owed (records : List (List Command)) (flight : List InFlight) (next : ℕ) (items : List Item) (pending : List (List ℕ)) : Type 0 where
+pub record Owed (width : ℕ) (records : List (List Command)) (flight : List InFlight) (next : ℕ) (items : List Item) (pending : List (List ℕ)) : Type 0 where
   pub done : List InFlight
   pub todo : List InFlight
   pub flight_is : flight ≡ done ++ todo
   pub order : InOrder done todo next pending
-  pub stands : Stands (records ++ receipts done) items
+  pub stands : Stands width (records ++ receipts done) items
 
 -- ## Links
 
@@ -174,52 +174,59 @@ Newest bound half (bytes ∷ others) stream = Fresh bound stream
 
 -- ## The four ways
 
-pub record Serving (phase : Phase) (out : List ℕ) (next : ℕ) (records : List (List Command)) (sheet : Sheet) (half : List ℕ) (ended : List (List ℕ))
+pub record Serving (width : ℕ) (phase : Phase) (out : List ℕ) (next : ℕ) (records : List (List Command)) (sheet : Sheet) (half : List ℕ) (ended : List (List ℕ))
     (live : List ℕ) (pending : List (List ℕ)) : Type 0 where
   pub up : phase ≢ Down
   pub only : ended ≡ []
   pub kept : List Item
   pub ran : List Command
   pub due : List Command
-  pub sheet_is : SheetIs sheet kept ran
+  pub sheet_is : SheetIs width sheet kept ran
   pub aligned : Reads (half ++ (live ++ out)) due []
-  pub course : Course records (flight_of phase) next kept ran pending due
+  pub course : Course width records (flight_of phase) next kept ran pending due
 
-pub record Unopened (phase : Phase) (out : List ℕ) (next : ℕ) (records : List (List Command)) (sheet : Sheet) (half : List ℕ) (ended : List (List ℕ))
+pub record Unopened (width : ℕ) (phase : Phase) (out : List ℕ) (next : ℕ) (records : List (List Command)) (sheet : Sheet) (half : List ℕ) (ended : List (List ℕ))
     (live : List ℕ) (pending : List (List ℕ)) : Type 0 where
   pub first : ℕ
   pub opening : phase ≡ Opening first
   pub within : first ≤ next
-  pub stands : Stands records sheet.items
+  pub stands : Stands width records sheet.items
   pub known : Known first pending
   pub given_up : GivenUp first half ended
   pub newest : Newest next half ended (live ++ out)
 
-pub record Left (phase : Phase) (next : ℕ) (records : List (List Command)) (sheet : Sheet) (ended : List (List ℕ)) (pending : List (List ℕ)) : Type 0 where
+pub record Left (width : ℕ) (phase : Phase) (next : ℕ) (records : List (List Command)) (sheet : Sheet) (ended : List (List ℕ)) (pending : List (List ℕ)) : Type 0 where
   pub up : phase ≢ Down
   pub only : ended ≡ []
-  pub owed : Owed records (flight_of phase) next sheet.items pending
+  pub owed : Owed width records (flight_of phase) next sheet.items pending
 
-pub record Off (phase : Phase) (next : ℕ) (records : List (List Command)) (sheet : Sheet) (half : List ℕ) (ended : List (List ℕ)) (pending : List (List ℕ))
+pub record Off (width : ℕ) (phase : Phase) (next : ℕ) (records : List (List Command)) (sheet : Sheet) (half : List ℕ) (ended : List (List ℕ)) (pending : List (List ℕ))
     : Type 0 where
   pub down : phase ≡ Down
-  pub stands : Stands records sheet.items
+  pub stands : Stands width records sheet.items
   pub known : Known next pending
   pub given_up : GivenUp next half ended
 
-abbrev pub Way : Phase → List ℕ → ℕ → List (List Command) → Sheet → List ℕ → List (List ℕ) → Option (List ℕ) → List (List ℕ) → Type 0
-Way phase out next records sheet half ended None pending = Left phase next records sheet ended pending ⊎ Off phase next records sheet half ended pending
-Way phase out next records sheet half ended (Some bytes) pending =
-    Serving phase out next records sheet half ended bytes pending ⊎ Unopened phase out next records sheet half ended bytes pending
+abbrev pub Way : ℕ → Phase → List ℕ → ℕ → List (List Command) → Sheet → List ℕ → List (List ℕ) → Option (List ℕ) → List (List ℕ) → Type 0
+Way width phase out next records sheet half ended None pending = Left width phase next records sheet ended pending ⊎ Off width phase next records sheet half ended pending
+Way width phase out next records sheet half ended (Some bytes) pending =
+    Serving width phase out next records sheet half ended bytes pending ⊎ Unopened width phase out next records sheet half ended bytes pending
 
--- What holds for every line, so that its records can be trusted.
-pub record Trusted (l : LineView) : Type 0 where
+-- What holds for a line whose printer prints lines of this width, so that its records can be trusted.
+pub record Trusted (width : ℕ) (l : LineView) : Type 0 where
   pub answers : List Answer
   pub hears : Hears (l.host.half ++ l.coming) answers []
   pub half : IsRest l.printer.half
-  pub reached : (kept : List Item) × (ran : List Command) × SheetIs l.printer.sheet kept ran
+  pub reached : (kept : List Item) × (ran : List Command) × SheetIs width l.printer.sheet kept ran
   pub way :
-      Way l.host.phase l.host.out l.host.next l.host.records l.printer.sheet l.printer.half l.ended l.live (answered_marks (answers ++ l.printer.waiting))
+      Way width l.host.phase l.host.out l.host.next l.host.records l.printer.sheet l.printer.half l.ended l.live (answered_marks (answers ++ l.printer.waiting))
+
+-- The same for the width that the line's printer has; and it still holds, for that width, after something happened.
+abbrev pub IsTrusted : LineView → Type 0
+IsTrusted l = Trusted l.printer.sheet.line_dots l
+
+abbrev pub StillTrusted : LineView → LineView → Type 0
+StillTrusted l after = IsTrusted after × (after.printer.sheet.line_dots ≡ l.printer.sheet.line_dots)
 
 -- ## Event after event
 
@@ -233,8 +240,8 @@ IsFitting _ = Unit {0}
 -- after any refusal, and if the host goes on with fewer records; and the host hears no byte that fits no answer, and no answer
 -- out of turn.
 pub record Trusting : Type 0 where
-  pub stands : (l : LineView) → Trusted l → Stands l.host.records l.printer.sheet.items
-  pub kept : (e : Event) (l after : LineView) (n : Note) → IsFitting e → IsSound l.host → IsLine l → After e l n after → Trusted l → Trusted after
-  pub leaves : (e : Event) (l after : LineView) → IsSound l.host → IsLine l → Leaves e l after → Trusted l → Trusted after
-  pub in_turn : (e : Event) (l after : LineView) (n : Note) → IsLine l → Trusted l → After e l n after → IsInTurn n
-  pub resumes : (l : LineView) (f count : ℕ) → l.host.next ≤ f → Trusted l → Trusted (resumed l f count)
+  pub stands : (l : LineView) → IsTrusted l → Stands l.printer.sheet.line_dots l.host.records l.printer.sheet.items
+  pub kept : (e : Event) (l after : LineView) (n : Note) → IsFitting e → IsSound l.host → IsLine l → After e l n after → IsTrusted l → StillTrusted l after
+  pub leaves : (e : Event) (l after : LineView) → IsSound l.host → IsLine l → Leaves e l after → IsTrusted l → StillTrusted l after
+  pub in_turn : (e : Event) (l after : LineView) (n : Note) → IsLine l → IsTrusted l → After e l n after → IsInTurn n
+  pub resumes : (l : LineView) (f count : ℕ) → l.host.next ≤ f → IsTrusted l → StillTrusted l (resumed l f count)

@@ -18,7 +18,7 @@ ghost use Rattle.escpos_link.specs.Resumed.{RefusesResume, resumed};
 
 use crate::event::{Event, Handed, Note, Refusal, Refused};
 use crate::undelivered::Undelivered;
-use escpos_command::{MarkId, StatusKind};
+use escpos_command::{LineWidth, MarkId, StatusKind};
 use escpos_host::{Host, HostError, HostEvent, HostState, Receipt, laws};
 use escpos_printer::{Condition, Fed, FeedStop, Printer};
 use std::alloc::{AllocError, Global};
@@ -55,11 +55,16 @@ impl Model for Line {
 }
 
 impl Line {
-    /// A line without links, between a host without records and a printer with nothing on its paper. The error is a failed
-    /// allocation.
-    pub fn new(alloc: Global, condition: Condition, first_mark: u32) -> Result<Self, AllocError>
+    /// A line without links, between a host without records and a printer with nothing on its paper that prints lines of this
+    /// width. The error is a failed allocation.
+    pub fn new(
+        alloc: Global,
+        condition: Condition,
+        first_mark: u32,
+        width: LineWidth,
+    ) -> Result<Self, AllocError>
         ensures host { IfOk result (λ line. line.host ≡ record { phase = Down; out = []; half = []; next = first_mark; records = []; left = [] }) }
-        ensures sheet { IfOk result (λ line. SheetIs line.printer.sheet [] []) }
+        ensures sheet { IfOk result (λ line. SheetIs width line.printer.sheet [] []) }
         ensures half { IfOk result (λ line. line.printer.half ≡ []) }
         ensures waiting { IfOk result (λ line. line.printer.waiting ≡ []) }
         ensures condition { IfOk result (λ line. line.printer.condition ≡ condition) }
@@ -67,7 +72,7 @@ impl Line {
         ensures live { IfOk result (λ line. line.live ≡ None) }
         ensures coming { IfOk result (λ line. line.coming ≡ []) }
     {
-        let printer = Printer::new(alloc, condition)?;
+        let printer = Printer::new(alloc, condition, width)?;
         Ok(Line {
             host: Host::new(alloc, first_mark),
             printer,

@@ -17,6 +17,7 @@ ghost use Rattle.escpos_link.specs.Straight.{StoppedStraight, Undisturbed, WentS
 use crate::event::{Event, Note, Refused};
 use crate::laws;
 use crate::line::Line;
+use escpos_command::LineWidth;
 use escpos_host::{Host, HostState, Receipt};
 use escpos_paper::Item;
 use escpos_printer::{Condition, Printer};
@@ -26,7 +27,7 @@ use std::marker::Model;
 
 /// A line between a host and a printer. Whatever happens to it, the receipts that the host has recorded stand on the
 /// printer's paper, whole and in the order of recording, each exactly what its commands print on a printer just
-/// initialised.
+/// initialised, in lines of the width that the printer was made with.
 #[derive(Drop)]
 pub struct Sim {
     line: Line,
@@ -34,13 +35,13 @@ pub struct Sim {
 
 impl Model for Sim {
     ghost use Rattle.escpos_link.specs.Line.{LineView, IsLine};
-    ghost use Rattle.escpos_link.specs.Trusted.{Trusted};
+    ghost use Rattle.escpos_link.specs.Trusted.{IsTrusted};
 
     ghost Value = { LineView };
 
     ghost view = { λ s. s.line };
 
-    ghost invariant = { λ s. IsLine s.line × Trusted s.line };
+    ghost invariant = { λ s. IsLine s.line × IsTrusted s.line };
 }
 
 /// A receipt that couldn't be sent, because an allocation failed.
@@ -61,19 +62,25 @@ pub struct RunStop {
 
 impl Sim {
     /// A line without links, between a host without records, whose first mark will have this number, and a printer with
-    /// nothing on its paper, switched on in this condition. The error is a failed allocation.
-    pub fn new(alloc: Global, condition: Condition, first_mark: u32) -> Result<Self, AllocError>
+    /// nothing on its paper, switched on in this condition, that prints lines of this width. No event changes the width. The
+    /// error is a failed allocation.
+    pub fn new(
+        alloc: Global,
+        condition: Condition,
+        first_mark: u32,
+        width: LineWidth,
+    ) -> Result<Self, AllocError>
         ensures host { IfOk result (λ sim. sim.host ≡ record { phase = Down; out = []; half = []; next = first_mark; records = []; left = [] }) }
-        ensures sheet { IfOk result (λ sim. SheetIs sim.printer.sheet [] []) }
+        ensures sheet { IfOk result (λ sim. SheetIs width sim.printer.sheet [] []) }
         ensures half { IfOk result (λ sim. sim.printer.half ≡ []) }
         ensures waiting { IfOk result (λ sim. sim.printer.waiting ≡ []) }
         ensures condition { IfOk result (λ sim. sim.printer.condition ≡ condition) }
         ensures ended { IfOk result (λ sim. sim.ended ≡ []) }
         ensures live { IfOk result (λ sim. sim.live ≡ None) }
         ensures coming { IfOk result (λ sim. sim.coming ≡ []) }
-        ensures stands { IfOk result (λ sim. Stands sim.host.records sim.printer.sheet.items) }
+        ensures stands { IfOk result (λ sim. Stands width sim.host.records sim.printer.sheet.items) }
     {
-        let line = Line::new(alloc, condition, first_mark)?;
+        let line = Line::new(alloc, condition, first_mark, width)?;
         Ok(Sim { line })
     }
 
@@ -85,7 +92,8 @@ impl Sim {
         ensures happened { IfOk result (λ told. Happens event self.old told self.new) }
         ensures refused { IfErr result (λ refused. IsRefused event self.old refused self.new) }
         // The recorded receipts stand on the paper, whatever happened.
-        ensures stands { Stands self.new.host.records self.new.printer.sheet.items }
+        ensures stands { Stands self.new.printer.sheet.line_dots self.new.host.records self.new.printer.sheet.items }
+        ensures width { self.new.printer.sheet.line_dots ≡ self.old.printer.sheet.line_dots }
     {
         // Proof only: what holds for a line holds after any event and any refusal.
         escpos_command::laws::answers();
@@ -104,7 +112,8 @@ impl Sim {
     pub fn resume(&mut self, first_mark: u32, count: usize) -> Result<(), Refused>
         ensures resumed { OnOk result ((self.old.host.next ≤ first_mark) × (self.new ≡ resumed self.old first_mark count)) }
         ensures refused { IfErr result (λ refused. RefusesResume self.old first_mark refused self.new) }
-        ensures stands { Stands self.new.host.records self.new.printer.sheet.items }
+        ensures stands { Stands self.new.printer.sheet.line_dots self.new.host.records self.new.printer.sheet.items }
+        ensures width { self.new.printer.sheet.line_dots ≡ self.old.printer.sheet.line_dots }
     {
         // Proof only: what holds for a line holds if its host goes on with fewer records.
         laws::trust();
@@ -118,7 +127,8 @@ impl Sim {
     pub fn run(&mut self, events: Vec<Event>) -> Result<(), RunStop>
         ensures happened { OnOk result (Happened self.old events.items self.new) }
         ensures refused { IfErr result (λ stop. IsStopped self.old events.items stop self.new) }
-        ensures stands { Stands self.new.host.records self.new.printer.sheet.items }
+        ensures stands { Stands self.new.printer.sheet.line_dots self.new.host.records self.new.printer.sheet.items }
+        ensures width { self.new.printer.sheet.line_dots ≡ self.old.printer.sheet.line_dots }
     {
         let count = events.len();
         let mut left = VecDeque::from_vec(events);
@@ -151,7 +161,8 @@ impl Sim {
         requires { Undisturbed self.old }
         ensures recorded { IfOk result (λ number. WentStraight self.old receipt number self.new) }
         ensures stopped { IfErr result (λ stop. StoppedStraight self.old receipt stop.receipt self.new) }
-        ensures stands { Stands self.new.host.records self.new.printer.sheet.items }
+        ensures stands { Stands self.new.printer.sheet.line_dots self.new.host.records self.new.printer.sheet.items }
+        ensures width { self.new.printer.sheet.line_dots ≡ self.old.printer.sheet.line_dots }
     {
         // Proof only: the laws below, what holds of every line and every receipt, and that what is recorded stands on the paper.
         laws::of_straight();
@@ -189,6 +200,7 @@ impl Sim {
         requires { Undisturbed self.old }
         ensures happened { OnOk result (Happened self.old (opening self.old.host.phase) self.new) }
         ensures stopped { OnErr result (StopsIn (opening self.old.host.phase) self.old self.new) }
+        ensures width { self.new.printer.sheet.line_dots ≡ self.old.printer.sheet.line_dots }
     {
         let HostState::Down = self.host().state() else {
             return Ok(());
@@ -204,6 +216,7 @@ impl Sim {
         ensures happened { OnOk result (Happened self.old exchange self.new) }
         ensures short { OnOk result (self.old.live ≢ None → length self.old.host.out ≤ all_bytes) }
         ensures stopped { OnErr result (StopsIn exchange self.old self.new) }
+        ensures width { self.new.printer.sheet.line_dots ≡ self.old.printer.sheet.line_dots }
     {
         if self.step(Event::Move(usize::MAX)).is_err() {
             return Err(AllocError);
@@ -226,9 +239,9 @@ impl Sim {
     pub fn paper(&self) -> &[Item]
         ensures items { result.now ≡ self.now.printer.sheet.items }
         // Every paper is one that commands leave, on paper that held some items.
-        ensures reached { (kept : List Item) × (cs : List Command) × SheetIs self.now.printer.sheet kept cs }
+        ensures reached { (kept : List Item) × (cs : List Command) × SheetIs self.now.printer.sheet.line_dots self.now.printer.sheet kept cs }
         // The receipts that the host has recorded stand on every paper.
-        ensures stands { Stands self.now.host.records result.now }
+        ensures stands { Stands self.now.printer.sheet.line_dots self.now.host.records result.now }
     {
         // Proof only: on a line that can be trusted the recorded receipts stand on the paper.
         laws::trust();

@@ -1,5 +1,5 @@
 -- Of all ways to cut the cells of a line into rows, the one at its width is the one that filling finds.
-use Rattle.std.proofs.Common.{◌≡◌, ◌≢◌, List, [], ◌∷◌, ◌++◌, refl, sym, ◌∙◌, ap, subst, append_assoc, Bool, true, false, cond, filter}
+use Rattle.std.proofs.Common.{◌≡◌, ◌≢◌, ℕ, List, [], ◌∷◌, ◌++◌, refl, sym, ◌∙◌, ap, subst, append_assoc, Bool, true, false, cond, filter}
 use Rattle.std.specs.Prelude.{flat_map}
 use Rattle.std.specs.List.{AllByRecursion}
 use Rattle.std.proofs.lemmas.List.Concat.{flat_map-append}
@@ -79,16 +79,16 @@ cuts_join (x ∷ xs) = all_flat (Joins xs) (Joins (x ∷ xs)) (with_first x) (fi
 
 -- ## So the one that passes is the cut
 
-passing : (xs : List Cell) (found rows : List (List Cell)) (more : List (List (List Cell))) (b : Bool) → IsCut xs found → Joins xs rows
-    → is_at_width rows ≡ b → AllByRecursion (λ r. r ≡ found) more → AllByRecursion (λ r. r ≡ found) (cond b (rows ∷ more) more)
-passing xs found rows more true h j e k = (one_cut xs rows found (record { joined = j.joined; each = j.each; at_width = e }) h, k)
-passing xs found rows more false h j e k = k
+passing : (w : ℕ) (xs : List Cell) (found rows : List (List Cell)) (more : List (List (List Cell))) (b : Bool) → IsCut w xs found → Joins xs rows
+    → is_at_width w rows ≡ b → AllByRecursion (λ r. r ≡ found) more → AllByRecursion (λ r. r ≡ found) (cond b (rows ∷ more) more)
+passing w xs found rows more true h j e k = (one_cut w xs rows found (record { joined = j.joined; each = j.each; at_width = e }) h, k)
+passing w xs found rows more false h j e k = k
 
-all_found : (xs : List Cell) (found : List (List Cell)) (all : List (List (List Cell))) → IsCut xs found → AllByRecursion (Joins xs) all
-    → AllByRecursion (λ r. r ≡ found) (filter is_at_width all)
-all_found xs found [] h k = tt
-all_found xs found (rows ∷ all) h k =
-    passing xs found rows (filter is_at_width all) (is_at_width rows) h k.0 refl (all_found xs found all h k.1)
+all_found : (w : ℕ) (xs : List Cell) (found : List (List Cell)) (all : List (List (List Cell))) → IsCut w xs found → AllByRecursion (Joins xs) all
+    → AllByRecursion (λ r. r ≡ found) (filter (is_at_width w) all)
+all_found w xs found [] h k = tt
+all_found w xs found (rows ∷ all) h k =
+    passing w xs found rows (filter (is_at_width w) all) (is_at_width w rows) h k.0 refl (all_found w xs found all h k.1)
 
 last_found : (start found : List (List Cell)) (all : List (List (List Cell))) → start ≡ found → AllByRecursion (λ r. r ≡ found) all
     → last_or start all ≡ found
@@ -101,22 +101,22 @@ found_last found [] [] back e h = absurd cc
 found_last found [] (r ∷ front) back e h = absurd cc
 found_last found (rows ∷ all) front back e h = last_found rows found all h.0 h.1
 
-found_passes : (found : List (List Cell)) (all : List (List (List Cell))) (h : Holds all found) → is_at_width found ≡ true
-    → filter is_at_width all ≡ filter is_at_width h.front ++ found ∷ filter is_at_width h.back
-found_passes found all h e =
-    ap (filter is_at_width) h.is ∙ filter-append is_at_width h.front (found ∷ h.back)
-    ∙ ap (λ b. filter is_at_width h.front ++ cond b (found ∷ filter is_at_width h.back) (filter is_at_width h.back)) e
+found_passes : (w : ℕ) (found : List (List Cell)) (all : List (List (List Cell))) (h : Holds all found) → is_at_width w found ≡ true
+    → filter (is_at_width w) all ≡ filter (is_at_width w) h.front ++ found ∷ filter (is_at_width w) h.back
+found_passes w found all h e =
+    ap (filter (is_at_width w)) h.is ∙ filter-append (is_at_width w) h.front (found ∷ h.back)
+    ∙ ap (λ b. filter (is_at_width w) h.front ++ cond b (found ∷ filter (is_at_width w) h.back) (filter (is_at_width w) h.back)) e
 
-the_cut : (xs : List Cell) (found : List (List Cell)) → IsCut xs found → Holds (cuts xs) found → last_or [] (filter is_at_width (cuts xs)) ≡ found
-the_cut xs found h k =
-    found_last found (filter is_at_width (cuts xs)) (filter is_at_width k.front) (filter is_at_width k.back)
-    (found_passes found (cuts xs) k h.at_width) (all_found xs found (cuts xs) h (cuts_join xs))
+the_cut : (w : ℕ) (xs : List Cell) (found : List (List Cell)) → IsCut w xs found → Holds (cuts xs) found → last_or [] (filter (is_at_width w) (cuts xs)) ≡ found
+the_cut w xs found h k =
+    found_last found (filter (is_at_width w) (cuts xs)) (filter (is_at_width w) k.front) (filter (is_at_width w) k.back)
+    (found_passes w found (cuts xs) k h.at_width) (all_found w xs found (cuts xs) h (cuts_join xs))
 
-held : (xs : List Cell) (found : List (List Cell)) → IsCut xs found → Holds (cuts xs) found
-held xs found h = subst (λ t. Holds (cuts t) found) h.joined (holds_cut found h.each)
+held : (w : ℕ) (xs : List Cell) (found : List (List Cell)) → IsCut w xs found → Holds (cuts xs) found
+held w xs found h = subst (λ t. Holds (cuts t) found) h.joined (holds_cut found h.each)
 
-pub rows_filled : (cs : List Command) → rows cs ≡ filled (cells cs)
-rows_filled cs = the_cut (cells cs) (filled (cells cs)) (is_cut cs) (held (cells cs) (filled (cells cs)) (is_cut cs))
+pub rows_filled : (w : ℕ) (cs : List Command) → rows w cs ≡ filled w (cells cs)
+rows_filled w cs = the_cut w (cells cs) (filled w (cells cs)) (is_cut w (cells cs)) (held w (cells cs) (filled w (cells cs)) (is_cut w (cells cs)))
 
-pub rows_cut : (cs : List Command) → IsCut (cells cs) (rows cs)
-rows_cut cs = subst (IsCut (cells cs)) (sym (rows_filled cs)) (is_cut cs)
+pub rows_cut : (w : ℕ) (cs : List Command) → IsCut w (cells cs) (rows w cs)
+rows_cut w cs = subst (IsCut w (cells cs)) (sym (rows_filled w cs)) (is_cut w (cells cs))

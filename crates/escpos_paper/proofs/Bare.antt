@@ -23,31 +23,27 @@ use Rattle.escpos_paper.proofs.Sheets.{sheet_of, sheet-snoc, sheet_step}
 use Rattle.escpos_paper.proofs.Applied.{one_more}
 
 -- Some commands leave just this, on paper that held nothing.
-pub record IsLeft (s : Sheet) : Type 0 where
+pub record IsLeft (w : ℕ) (s : Sheet) : Type 0 where
   pub commands : List Command
   pub in_range : AreCommands commands
-  pub left : s ≡ sheet_of [] commands
+  pub left : s ≡ sheet_of w [] commands
 
-same_sheet : (s t : Sheet) → t ≡ s → IsLeft s → IsLeft t
-same_sheet s t e h = record { commands = h.commands; in_range = h.in_range; left = e ∙ h.left }
+same_sheet : (w : ℕ) (s t : Sheet) → t ≡ s → IsLeft w s → IsLeft w t
+same_sheet w s t e h = record { commands = h.commands; in_range = h.in_range; left = e ∙ h.left }
 
-one_step : (s t : Sheet) (c : Command) → t ≡ sheet_after s c → IsCommand c → IsLeft s → IsLeft t
-one_step s t c e k h = record { commands = h.commands ++ c ∷ []; in_range = one_more h.commands c h.in_range k; left = sheet_step s t [] h.commands c e h.left }
+one_step : (w : ℕ) (s t : Sheet) (c : Command) → t ≡ sheet_after s c → IsCommand c → IsLeft w s → IsLeft w t
+one_step w s t c e k h = record { commands = h.commands ++ c ∷ []; in_range = one_more h.commands c h.in_range k; left = sheet_step w s t [] h.commands c e h.left }
 
 -- The sheet without its items and without its line.
 abbrev blank : Sheet → Sheet
-blank s = record { items = []; style = s.style; bar_style = s.bar_style; line_style = s.line_style; qr_style = s.qr_style; stored = s.stored; line = [] }
+blank s = record { line_dots = s.line_dots; items = []; style = s.style; bar_style = s.bar_style; line_style = s.line_style; qr_style = s.qr_style; stored = s.stored; line = [] }
 
-abbrev IsQuiet : Sheet → Type 0
-IsQuiet s = IsLeft (bare s) × IsLeft (blank s)
+abbrev IsQuiet : ℕ → Sheet → Type 0
+IsQuiet w s = IsLeft w (bare s) × IsLeft w (blank s)
 
 -- The same sheet with other items, settings of lines and line.
 abbrev with : Sheet → List Item → LineStyle → List Cell → Sheet
-with s items lines row = record { items = items; style = s.style; bar_style = s.bar_style; line_style = lines; qr_style = s.qr_style; stored = s.stored; line = row }
-
-either : {X : Type 0} (b : Bool) (x : X) → cond b x x ≡ x
-either true x = refl
-either false x = refl
+with s items lines row = record { line_dots = s.line_dots; items = items; style = s.style; bar_style = s.bar_style; line_style = lines; qr_style = s.qr_style; stored = s.stored; line = row }
 
 -- Settings that are the same at the beginning of a line and in it.
 abbrev anywhere : Bool → LineStyle → LineStyle
@@ -58,78 +54,77 @@ same_lines true lines = refl
 same_lines false lines = refl
 
 -- A command that ends the line, and changes no style.
-ends : (s : Sheet) (c : Command) → bare (sheet_after s c) ≡ with s [] (anywhere (is_empty s.line) s.line_style) [] → IsQuiet s → IsQuiet (sheet_after s c)
-ends s c e q =
+ends : (w : ℕ) (s : Sheet) (c : Command) → bare (sheet_after s c) ≡ with s [] (anywhere (is_empty s.line) s.line_style) [] → IsQuiet w s → IsQuiet w (sheet_after s c)
+ends w s c e q =
     let all : bare (sheet_after s c) ≡ blank s = e ∙ ap (λ v. with s [] v []) (same_lines (is_empty s.line) s.line_style) in
-    (same_sheet (blank s) (bare (sheet_after s c)) all q.1, same_sheet (blank s) (blank (sheet_after s c)) (ap blank all) q.1)
+    (same_sheet w (blank s) (bare (sheet_after s c)) all q.1, same_sheet w (blank s) (blank (sheet_after s c)) (ap blank all) q.1)
 
 -- A character that fits goes on with the line, and one that doesn't begins a new one.
-puts : (s : Sheet) (b : ℕ) (fit : Bool) → fits (s.line ++ cell s.style b ∷ []) ≡ fit → IsQuiet s → IsCommand (Char b) → IsQuiet (sheet_after s (Char b))
-puts s b true h q k =
+puts : (w : ℕ) (s : Sheet) (b : ℕ) (fit : Bool) → fits s.line_dots (s.line ++ cell s.style b ∷ []) ≡ fit → IsQuiet w s → IsCommand (Char b) → IsQuiet w (sheet_after s (Char b))
+puts w s b true h q k =
     let same = same_lines (is_empty s.line) s.line_style in
     let printed : sheet_after (bare s) (Char b) ≡ with s [] (anywhere (is_empty s.line) s.line_style) (s.line ++ cell s.style b ∷ []) = cc h in
     let now : bare (sheet_after s (Char b)) ≡ with s [] (anywhere (is_empty s.line) s.line_style) (s.line ++ cell s.style b ∷ []) = cc h in (
-      one_step (bare s) (bare (sheet_after s (Char b))) (Char b) (now ∙ sym printed) k q.0,
-      same_sheet (blank s) (blank (sheet_after s (Char b))) (ap (λ v. with s [] v []) same) q.1,
+      one_step w (bare s) (bare (sheet_after s (Char b))) (Char b) (now ∙ sym printed) k q.0,
+      same_sheet w (blank s) (blank (sheet_after s (Char b))) (ap (λ v. with s [] v []) same) q.1,
     )
-puts s b false h q k =
+puts w s b false h q k =
     let same = same_lines (is_empty s.line) s.line_style in
-    let alone : sheet_after (blank s) (Char b) ≡ with s [] s.line_style (cell s.style b ∷ []) =
-    cc (either (fits (cell s.style b ∷ [])) (cell s.style b ∷ []), either {X = List Item} (fits (cell s.style b ∷ [])) []) in
+    let alone : sheet_after (blank s) (Char b) ≡ with s [] s.line_style (cell s.style b ∷ []) = refl in
     let now : bare (sheet_after s (Char b)) ≡ with s [] (anywhere (is_empty s.line) s.line_style) (cell s.style b ∷ []) = cc h in (
-      one_step (blank s) (bare (sheet_after s (Char b))) (Char b) (now ∙ ap (λ v. with s [] v (cell s.style b ∷ [])) same ∙ sym alone) k q.1,
-      same_sheet (blank s) (blank (sheet_after s (Char b))) (ap (λ v. with s [] v []) same) q.1,
+      one_step w (blank s) (bare (sheet_after s (Char b))) (Char b) (now ∙ ap (λ v. with s [] v (cell s.style b ∷ [])) same ∙ sym alone) k q.1,
+      same_sheet w (blank s) (blank (sheet_after s (Char b))) (ap (λ v. with s [] v []) same) q.1,
     )
 
 -- What is set only at the beginning of a line counts where the line is empty.
-acts : (s : Sheet) (c : Command) (empty : Bool) → is_empty s.line ≡ empty
+acts : (w : ℕ) (s : Sheet) (c : Command) (empty : Bool) → is_empty s.line ≡ empty
     → blank (sheet_after s c) ≡ with s [] (line_style_after (is_empty s.line) s.line_style c) []
     → sheet_after (blank s) c ≡ with s [] (line_style_after true s.line_style c) [] → line_style_after false s.line_style c ≡ s.line_style
-    → IsQuiet s → IsCommand c → IsLeft (blank (sheet_after s c))
-acts s c true h now there kept q k =
-    one_step (blank s) (blank (sheet_after s c)) c (now ∙ ap (λ v. with s [] (line_style_after v s.line_style c) []) h ∙ sym there) k q.1
-acts s c false h now there kept q k =
-    same_sheet (blank s) (blank (sheet_after s c)) (now ∙ ap (λ v. with s [] (line_style_after v s.line_style c) []) h ∙ ap (λ v. with s [] v []) kept) q.1
+    → IsQuiet w s → IsCommand c → IsLeft w (blank (sheet_after s c))
+acts w s c true h now there kept q k =
+    one_step w (blank s) (blank (sheet_after s c)) c (now ∙ ap (λ v. with s [] (line_style_after v s.line_style c) []) h ∙ sym there) k q.1
+acts w s c false h now there kept q k =
+    same_sheet w (blank s) (blank (sheet_after s c)) (now ∙ ap (λ v. with s [] (line_style_after v s.line_style c) []) h ∙ ap (λ v. with s [] v []) kept) q.1
 
 -- A QR code ends the line if data is stored; otherwise nothing happens.
-prints_or_not : (s : Sheet) (data_then : Option (List ℕ)) → s.stored ≡ data_then → IsQuiet s → IsCommand QrPrint → IsQuiet (sheet_after s QrPrint)
-prints_or_not s (Some bytes) h q k = ends s QrPrint (ap (λ v. with s [] (anywhere (is_empty s.line) s.line_style) (cond (is_some v) [] s.line)) h) q
-prints_or_not s None h q k = (
-  same_sheet (bare s) (bare (sheet_after s QrPrint))
+prints_or_not : (w : ℕ) (s : Sheet) (data_then : Option (List ℕ)) → s.stored ≡ data_then → IsQuiet w s → IsCommand QrPrint → IsQuiet w (sheet_after s QrPrint)
+prints_or_not w s (Some bytes) h q k = ends w s QrPrint (ap (λ v. with s [] (anywhere (is_empty s.line) s.line_style) (cond (is_some v) [] s.line)) h) q
+prints_or_not w s None h q k = (
+  same_sheet w (bare s) (bare (sheet_after s QrPrint))
       (ap (λ v. with s [] v (cond (is_some s.stored) [] s.line)) (same_lines (is_empty s.line) s.line_style) ∙ ap (λ v. with s [] s.line_style (cond (is_some v) [] s.line)) h) q.0,
-  same_sheet (blank s) (blank (sheet_after s QrPrint)) (ap (λ v. with s [] v []) (same_lines (is_empty s.line) s.line_style)) q.1,
+  same_sheet w (blank s) (blank (sheet_after s QrPrint)) (ap (λ v. with s [] v []) (same_lines (is_empty s.line) s.line_style)) q.1,
 )
 
-quiet_step : (s : Sheet) (c : Command) → IsQuiet s → IsCommand c → IsQuiet (sheet_after s c)
-quiet_step s (Char b) q k = puts s b (fits (s.line ++ cell s.style b ∷ [])) refl q k
-quiet_step s LineFeed q k = ends s LineFeed refl q
-quiet_step s (FeedLines n) q k = ends s (FeedLines n) refl q
-quiet_step s (FeedUnits n) q k = ends s (FeedUnits n) refl q
-quiet_step s (Bars bars) q k = ends s (Bars bars) refl q
-quiet_step s (Raster raster) q k = ends s (Raster raster) refl q
-quiet_step s (Cut how) q k = ends s (Cut how) refl q
-quiet_step s QrPrint q k = prints_or_not s s.stored refl q k
-quiet_step s Init q k =
+quiet_step : (w : ℕ) (s : Sheet) (c : Command) → IsQuiet w s → IsCommand c → IsQuiet w (sheet_after s c)
+quiet_step w s (Char b) q k = puts w s b (fits s.line_dots (s.line ++ cell s.style b ∷ [])) refl q k
+quiet_step w s LineFeed q k = ends w s LineFeed refl q
+quiet_step w s (FeedLines n) q k = ends w s (FeedLines n) refl q
+quiet_step w s (FeedUnits n) q k = ends w s (FeedUnits n) refl q
+quiet_step w s (Bars bars) q k = ends w s (Bars bars) refl q
+quiet_step w s (Raster raster) q k = ends w s (Raster raster) refl q
+quiet_step w s (Cut how) q k = ends w s (Cut how) refl q
+quiet_step w s QrPrint q k = prints_or_not w s s.stored refl q k
+quiet_step w s Init q k =
     let same = ap (λ v. with (sheet_after s Init) [] v []) (same_lines (is_empty s.line) (line_style_after true s.line_style Init)) in
-    (one_step (blank s) (bare (sheet_after s Init)) Init same k q.1, one_step (blank s) (blank (sheet_after s Init)) Init same k q.1)
-quiet_step s (Align n) q k =
-    (one_step (bare s) (bare (sheet_after s (Align n))) (Align n) refl k q.0, acts s (Align n) (is_empty s.line) refl refl refl refl q k)
-quiet_step s (UpsideDown n) q k =
-    (one_step (bare s) (bare (sheet_after s (UpsideDown n))) (UpsideDown n) refl k q.0, acts s (UpsideDown n) (is_empty s.line) refl refl refl refl q k)
-quiet_step s c q k = (
-  one_step (bare s) (bare (sheet_after s c)) c refl k q.0,
-  one_step (blank s) (blank (sheet_after s c)) c
+    (one_step w (blank s) (bare (sheet_after s Init)) Init same k q.1, one_step w (blank s) (blank (sheet_after s Init)) Init same k q.1)
+quiet_step w s (Align n) q k =
+    (one_step w (bare s) (bare (sheet_after s (Align n))) (Align n) refl k q.0, acts w s (Align n) (is_empty s.line) refl refl refl refl q k)
+quiet_step w s (UpsideDown n) q k =
+    (one_step w (bare s) (bare (sheet_after s (UpsideDown n))) (UpsideDown n) refl k q.0, acts w s (UpsideDown n) (is_empty s.line) refl refl refl refl q k)
+quiet_step w s c q k = (
+  one_step w (bare s) (bare (sheet_after s c)) c refl k q.0,
+  one_step w (blank s) (blank (sheet_after s c)) c
       (ap (λ v. with (sheet_after s c) [] v []) (same_lines (is_empty s.line) (line_style_after true s.line_style c))) k q.1,
 )
 
-quiet_from : (before cs : List Command) → IsQuiet (sheet_of [] before) → AreCommands cs → IsQuiet (sheet_of [] (before ++ cs))
-quiet_from before [] q k = subst (λ v. IsQuiet (sheet_of [] v)) (sym (append-nil before)) q
-quiet_from before (c ∷ cs) q k =
-    subst (λ v. IsQuiet (sheet_of [] v)) (append_snoc before c cs)
-    (quiet_from (before ++ c ∷ []) cs (subst IsQuiet (sym (sheet-snoc [] before c)) (quiet_step (sheet_of [] before) c q k.0)) k.1)
+quiet_from : (w : ℕ) (before cs : List Command) → IsQuiet w (sheet_of w [] before) → AreCommands cs → IsQuiet w (sheet_of w [] (before ++ cs))
+quiet_from w before [] q k = subst (λ v. IsQuiet w (sheet_of w [] v)) (sym (append-nil before)) q
+quiet_from w before (c ∷ cs) q k =
+    subst (λ v. IsQuiet w (sheet_of w [] v)) (append_snoc before c cs)
+    (quiet_from w (before ++ c ∷ []) cs (subst (IsQuiet w) (sym (sheet-snoc w [] before c)) (quiet_step w (sheet_of w [] before) c q k.0)) k.1)
 
-nothing : IsLeft (sheet_of [] [])
-nothing = record { commands = []; in_range = tt; left = refl }
+nothing : (w : ℕ) → IsLeft w (sheet_of w [] [])
+nothing w = record { commands = []; in_range = tt; left = refl }
 
-pub bare_is_left : (s : Sheet) (kept : List Item) (cs : List Command) → AreCommands cs → s ≡ sheet_of kept cs → IsLeft (bare s)
-bare_is_left s kept cs k is = same_sheet (bare (sheet_of [] cs)) (bare s) (ap bare is) (quiet_from [] cs (nothing, nothing) k).0
+pub bare_is_left : (w : ℕ) (s : Sheet) (kept : List Item) (cs : List Command) → AreCommands cs → s ≡ sheet_of w kept cs → IsLeft w (bare s)
+bare_is_left w s kept cs k is = same_sheet w (bare (sheet_of w [] cs)) (bare s) (ap bare is) (quiet_from w [] cs (nothing w, nothing w) k).0

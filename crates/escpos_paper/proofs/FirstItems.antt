@@ -37,46 +37,46 @@ chosen false items h = tt
 few_rows : (n : ℕ) → nat_le n 2047 ≡ true → n ≤ 2047
 few_rows n h = grind (arith, nat_tests)
 
-prints_first : (before : List Command) (c : Command) → IsTrue (in_first_profile c) → AreFirst (prints before c)
-prints_first before (kind.Char b) h = chosen (nat_lt (length (rows before)) (length (rows (before ++ kind.Char b ∷ [])))) (row_and_feed (line_style before) (line before)) (row_with_feed (line_style before) (line before))
-prints_first before kind.LineFeed h = both (row_of (line_style before) (line before)) _ (row_is (line_style before) (line before)) (tt, tt)
-prints_first before (kind.FeedLines n) h = both (row_of (line_style before) (line before)) _ (row_is (line_style before) (line before)) (tt, tt)
-prints_first before (kind.FeedUnits n) h = absurd cc
-prints_first before (kind.Bars bars) h = both (row_and_feed (line_style before) (line before)) _ (row_with_feed (line_style before) (line before)) (tt, tt)
-prints_first before (kind.Raster raster) h = both (row_and_feed (line_style before) (line before)) _ (row_with_feed (line_style before) (line before)) (few_rows raster.height h, tt)
-prints_first before (kind.Cut cut) h = both (row_and_feed (line_style before) (line before)) _ (row_with_feed (line_style before) (line before)) (tt, tt)
-prints_first before kind.Return h = tt
-prints_first before kind.Init h = tt
-prints_first before (kind.Mode n) h = tt
-prints_first before (kind.Emphasis n) h = tt
-prints_first before (kind.Underline n) h = tt
-prints_first before (kind.Font n) h = tt
-prints_first before (kind.Table n) h = tt
-prints_first before (kind.Align n) h = tt
-prints_first before (kind.DoubleStrike n) h = absurd cc
-prints_first before (kind.CharacterSet n) h = absurd cc
-prints_first before (kind.Reverse n) h = absurd cc
-prints_first before (kind.Smoothing n) h = absurd cc
-prints_first before (kind.UpsideDown n) h = absurd cc
-prints_first before (kind.LineSpacing n) h = absurd cc
-prints_first before kind.DefaultSpacing h = absurd cc
-prints_first before (kind.QrModel n) h = absurd cc
-prints_first before (kind.QrSize n) h = absurd cc
-prints_first before (kind.QrLevel n) h = absurd cc
-prints_first before (kind.QrStore bytes) h = absurd cc
-prints_first before kind.QrPrint h = absurd cc
-prints_first before (kind.Size n) h = tt
-prints_first before (kind.BarHeight n) h = tt
-prints_first before (kind.BarWidth n) h = tt
-prints_first before (kind.HriPlace n) h = tt
-prints_first before (kind.HriFont n) h = tt
-prints_first before (kind.Pulse pulse) h = absurd cc
-prints_first before (kind.Status n) h = tt
-prints_first before (kind.Mark id) h = tt
+prints_first : (w : ℕ) (before : List Command) (c : Command) → IsTrue (in_first_profile c) → AreFirst (prints w before c)
+prints_first w before (kind.Char b) h = chosen (nat_lt (length (rows w before)) (length (rows w (before ++ kind.Char b ∷ [])))) (row_and_feed (line_style before) (line w before)) (row_with_feed (line_style before) (line w before))
+prints_first w before kind.LineFeed h = both (row_of (line_style before) (line w before)) _ (row_is (line_style before) (line w before)) (tt, tt)
+prints_first w before (kind.FeedLines n) h = both (row_of (line_style before) (line w before)) _ (row_is (line_style before) (line w before)) (tt, tt)
+prints_first w before (kind.FeedUnits n) h = absurd cc
+prints_first w before (kind.Bars bars) h = both (row_and_feed (line_style before) (line w before)) _ (row_with_feed (line_style before) (line w before)) (tt, tt)
+prints_first w before (kind.Raster raster) h = both (row_and_feed (line_style before) (line w before)) _ (row_with_feed (line_style before) (line w before)) (few_rows raster.height h, tt)
+prints_first w before (kind.Cut cut) h = both (row_and_feed (line_style before) (line w before)) _ (row_with_feed (line_style before) (line w before)) (tt, tt)
+prints_first w before kind.Return h = tt
+prints_first w before kind.Init h = tt
+prints_first w before (kind.Mode n) h = tt
+prints_first w before (kind.Emphasis n) h = tt
+prints_first w before (kind.Underline n) h = tt
+prints_first w before (kind.Font n) h = tt
+prints_first w before (kind.Table n) h = tt
+prints_first w before (kind.Align n) h = tt
+prints_first w before (kind.DoubleStrike n) h = absurd cc
+prints_first w before (kind.CharacterSet n) h = absurd cc
+prints_first w before (kind.Reverse n) h = absurd cc
+prints_first w before (kind.Smoothing n) h = absurd cc
+prints_first w before (kind.UpsideDown n) h = absurd cc
+prints_first w before (kind.LineSpacing n) h = absurd cc
+prints_first w before kind.DefaultSpacing h = absurd cc
+prints_first w before (kind.QrModel n) h = absurd cc
+prints_first w before (kind.QrSize n) h = absurd cc
+prints_first w before (kind.QrLevel n) h = absurd cc
+prints_first w before (kind.QrStore bytes) h = absurd cc
+prints_first w before kind.QrPrint h = absurd cc
+prints_first w before (kind.Size n) h = tt
+prints_first w before (kind.BarHeight n) h = tt
+prints_first w before (kind.BarWidth n) h = tt
+prints_first w before (kind.HriPlace n) h = tt
+prints_first w before (kind.HriFont n) h = tt
+prints_first w before (kind.Pulse pulse) h = absurd cc
+prints_first w before (kind.Status n) h = tt
+prints_first w before (kind.Mark id) h = tt
 
-after : (before cs : List Command) → AllByRecursion (λ c. IsTrue (in_first_profile c)) cs → AreFirst (over_places (λ b c following. prints b c) before cs)
-after before [] h = tt
-after before (c ∷ cs) h = both (prints before c) _ (prints_first before c h.0) (after (before ++ c ∷ []) cs h.1)
+after : (w : ℕ) (before cs : List Command) → AllByRecursion (λ c. IsTrue (in_first_profile c)) cs → AreFirst (over_places (λ b c following. prints w b c) before cs)
+after w before [] h = tt
+after w before (c ∷ cs) h = both (prints w before c) _ (prints_first w before c h.0) (after w (before ++ c ∷ []) cs h.1)
 
-pub first_items : (cs : List Command) → AllByRecursion (λ c. IsTrue (in_first_profile c)) cs → AllByRecursion IsFirstItem (printed cs)
-first_items cs h = after [] cs h
+pub first_items : (w : ℕ) (cs : List Command) → AllByRecursion (λ c. IsTrue (in_first_profile c)) cs → AllByRecursion IsFirstItem (printed w cs)
+first_items w cs h = after w [] cs h

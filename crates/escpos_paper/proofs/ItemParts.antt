@@ -1,5 +1,5 @@
 -- The line of an item is what comes before its dots, the dots, and the content of a QR code.
-use Rattle.std.proofs.Common.{◌≡◌, [], ◌++◌, refl, sym, ◌∙◌, ap, append-nil}
+use Rattle.std.proofs.Common.{◌≡◌, [], ◌++◌, sym, ◌∙◌, ap, append-nil}
 use Rattle.std.specs.Prelude.{flat_map}
 use Rattle.hex.specs.Hex.{encode_lower}
 use Rattle.escpos_paper.specs.declared.item.Item.{Item}

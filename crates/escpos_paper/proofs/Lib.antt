@@ -1,4 +1,5 @@
 pub mod OneMore
+pub mod Fits
 pub mod Filled
 pub mod Cuts
 pub mod Widths
@@ -16,3 +17,4 @@ pub mod ItemParts
 pub mod CharactersPut
 pub mod FirstItems
 pub mod SecondItems
+pub mod TypedLines

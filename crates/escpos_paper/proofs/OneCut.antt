@@ -1,54 +1,37 @@
 -- There is one cut of the cells of a line into rows.
-use Rattle.std.proofs.Common.{◌≡◌, ◌≢◌, ℕ, ◌*◌, ◌≤◌, ◌<◌, List, [], ◌∷◌, ◌++◌, take, refl, sym, ◌∙◌, ap, subst, append-nil, arith, Bool, true, false, cond, not, ◌&&◌, map}
+use Rattle.std.proofs.Common.{◌≡◌, ◌≢◌, ℕ, List, [], ◌∷◌, ◌++◌, take, refl, sym, ◌∙◌, ap, subst, append-nil, Bool, true, false, cond, not, ◌&&◌}
 use Rattle.std.specs.Prelude.{flat_map}
-use Rattle.std.specs.List.{AllByRecursion, list_any, list_all}
+use Rattle.std.specs.List.{AllByRecursion, list_all}
 use Rattle.std.proofs.lemmas.Bool.{and_from}
-use Rattle.std.proofs.lemmas.Bool.Decides.{nat_tests}
-use Rattle.std.proofs.lemmas.List.Sums.{sum_by-append, sum_by-cons}
 use Rattle.std.proofs.Math.Seq.{append_snoc}
-use Rattle.escpos_command.specs.declared.command.Command.{Command}
-use Rattle.escpos_command.specs.declared.parameter.choices.FontFace.{FontFace}
-use Rattle.escpos_command.specs.declared.parameter.choices.FontFace.TheVariants.{A, B}
-use Rattle.escpos_command.specs.Text.{characters, ends_later}
 use Rattle.escpos_paper.specs.declared.cell.Cell.{Cell}
-use Rattle.escpos_paper.specs.declared.style.Style.{Style}
-use Rattle.escpos_paper.specs.OverPlaces.{over_places}
-use Rattle.escpos_paper.specs.Styles.{style}
-use Rattle.escpos_paper.specs.Cells.{cell, cell_at, cells, face_dots, cell_dots, dots}
 use Rattle.escpos_paper.specs.Rows.{IsCut, fits, are_full}
+use Rattle.escpos_paper.proofs.Fits.{prefix_fits}
 use Rattle.escpos_paper.proofs.Filled.{filled_from, filled}
-use Rattle.escpos_paper.proofs.Widths.{width_in_range}
 
--- ## The tests of a cut as statements about numbers
+-- ## The tests of a cut as equations
 
-abbrev IsRow : List Cell → Type 0
-IsRow row = (row ≢ []) × (dots row ≤ 512)
+abbrev IsRow : ℕ → List Cell → Type 0
+IsRow w row = (row ≢ []) × (fits w row ≡ true)
 
-abbrev AreFull : List (List Cell) → Type 0
-AreFull [] = Unit {0}
-AreFull (row ∷ []) = Unit {0}
-AreFull (row ∷ next ∷ rows) = (512 < dots (row ++ take 1 next)) × AreFull (next ∷ rows)
+abbrev AreFull : ℕ → List (List Cell) → Type 0
+AreFull w [] = Unit {0}
+AreFull w (row ∷ []) = Unit {0}
+AreFull w (row ∷ next ∷ rows) = (fits w (row ++ take 1 next) ≡ false) × AreFull w (next ∷ rows)
 
--- What `IsCut` says, as orders of numbers in place of tests.
-record MeansCut (xs : List Cell) (rows : List (List Cell)) : Type 0 where
+-- What `IsCut` says, as equations for each row in place of tests of all.
+record MeansCut (w : ℕ) (xs : List Cell) (rows : List (List Cell)) : Type 0 where
   pub joined : flat_map (λ row. row) rows ≡ xs
-  pub each : AllByRecursion IsRow rows
-  pub full : AreFull rows
+  pub each : AllByRecursion (IsRow w) rows
+  pub full : AreFull w rows
 
-fit_means : (row : List Cell) → fits row ≡ true → dots row ≤ 512
-fit_means row h = grind (arith, nat_tests)
+not_true : (b : Bool) → not b ≡ true → b ≡ false
+not_true true h = absurd cc
+not_true false h = refl
 
-no_fit_means : (row : List Cell) → fits row ≡ false → 512 < dots row
-no_fit_means row h = grind (arith, nat_tests)
-
-fit_from : (row : List Cell) → dots row ≤ 512 → fits row ≡ true
-fit_from row h = grind (arith, nat_tests)
-
-no_fit_from : (row : List Cell) → 512 < dots row → not (fits row) ≡ true
-no_fit_from row h = grind (arith, nat_tests)
-
-not_fits : (row : List Cell) → not (fits row) ≡ true → 512 < dots row
-not_fits row h = grind (arith, nat_tests)
+from_false : (b : Bool) → b ≡ false → not b ≡ true
+from_false true h = absurd cc
+from_false false h = refl
 
 left_of : (a b : Bool) → (a && b) ≡ true → a ≡ true
 left_of true b h = refl
@@ -58,55 +41,48 @@ right_of : (a b : Bool) → (a && b) ≡ true → b ≡ true
 right_of true b h = h
 right_of false b h = absurd cc
 
-rows_mean : (rows : List (List Cell)) → AllByRecursion (λ row. row ≢ []) rows → list_all fits rows ≡ true → AllByRecursion IsRow rows
-rows_mean [] h fit = tt
-rows_mean (row ∷ rows) h fit =
-    ((h.0, fit_means row (left_of (fits row) (list_all fits rows) fit)), rows_mean rows h.1 (right_of (fits row) (list_all fits rows) fit))
+rows_mean : (w : ℕ) (rows : List (List Cell)) → AllByRecursion (λ row. row ≢ []) rows → list_all (fits w) rows ≡ true → AllByRecursion (IsRow w) rows
+rows_mean w [] h fit = tt
+rows_mean w (row ∷ rows) h fit =
+    ((h.0, left_of (fits w row) (list_all (fits w) rows) fit), rows_mean w rows h.1 (right_of (fits w row) (list_all (fits w) rows) fit))
 
-full_means : (rows : List (List Cell)) → are_full rows ≡ true → AreFull rows
-full_means [] h = tt
-full_means (row ∷ []) h = tt
-full_means (row ∷ next ∷ rows) h = (
-  not_fits (row ++ take 1 next) (left_of (not (fits (row ++ take 1 next))) (are_full (next ∷ rows)) h),
-  full_means (next ∷ rows) (right_of (not (fits (row ++ take 1 next))) (are_full (next ∷ rows)) h),
+full_means : (w : ℕ) (rows : List (List Cell)) → are_full w rows ≡ true → AreFull w rows
+full_means w [] h = tt
+full_means w (row ∷ []) h = tt
+full_means w (row ∷ next ∷ rows) h = (
+  not_true (fits w (row ++ take 1 next)) (left_of (not (fits w (row ++ take 1 next))) (are_full w (next ∷ rows)) h),
+  full_means w (next ∷ rows) (right_of (not (fits w (row ++ take 1 next))) (are_full w (next ∷ rows)) h),
 )
 
-means_cut : (xs : List Cell) (rows : List (List Cell)) → IsCut xs rows → MeansCut xs rows
-means_cut xs rows h = record {
+means_cut : (w : ℕ) (xs : List Cell) (rows : List (List Cell)) → IsCut w xs rows → MeansCut w xs rows
+means_cut w xs rows h = record {
   joined = h.joined;
-  each = rows_mean rows h.each (left_of (list_all fits rows) (are_full rows) h.at_width);
-  full = full_means rows (right_of (list_all fits rows) (are_full rows) h.at_width);
+  each = rows_mean w rows h.each (left_of (list_all (fits w) rows) (are_full w rows) h.at_width);
+  full = full_means w rows (right_of (list_all (fits w) rows) (are_full w rows) h.at_width);
 }
 
-each_from : (rows : List (List Cell)) → AllByRecursion IsRow rows → AllByRecursion (λ row. row ≢ []) rows
-each_from [] h = tt
-each_from (row ∷ rows) h = (h.0.0, each_from rows h.1)
+each_from : (w : ℕ) (rows : List (List Cell)) → AllByRecursion (IsRow w) rows → AllByRecursion (λ row. row ≢ []) rows
+each_from w [] h = tt
+each_from w (row ∷ rows) h = (h.0.0, each_from w rows h.1)
 
-fits_from : (rows : List (List Cell)) → AllByRecursion IsRow rows → list_all fits rows ≡ true
-fits_from [] h = refl
-fits_from (row ∷ rows) h = and_from (fits row) (list_all fits rows) (fit_from row h.0.1) (fits_from rows h.1)
+fits_from : (w : ℕ) (rows : List (List Cell)) → AllByRecursion (IsRow w) rows → list_all (fits w) rows ≡ true
+fits_from w [] h = refl
+fits_from w (row ∷ rows) h = and_from (fits w row) (list_all (fits w) rows) h.0.1 (fits_from w rows h.1)
 
-full_from : (rows : List (List Cell)) → AreFull rows → are_full rows ≡ true
-full_from [] h = refl
-full_from (row ∷ []) h = refl
-full_from (row ∷ next ∷ rows) h =
-    and_from (not (fits (row ++ take 1 next))) (are_full (next ∷ rows)) (no_fit_from (row ++ take 1 next) h.0) (full_from (next ∷ rows) h.1)
+full_from : (w : ℕ) (rows : List (List Cell)) → AreFull w rows → are_full w rows ≡ true
+full_from w [] h = refl
+full_from w (row ∷ []) h = refl
+full_from w (row ∷ next ∷ rows) h =
+    and_from (not (fits w (row ++ take 1 next))) (are_full w (next ∷ rows)) (from_false (fits w (row ++ take 1 next)) h.0) (full_from w (next ∷ rows) h.1)
 
-is_cut_from : (xs : List Cell) (rows : List (List Cell)) → MeansCut xs rows → IsCut xs rows
-is_cut_from xs rows h = record {
+is_cut_from : (w : ℕ) (xs : List Cell) (rows : List (List Cell)) → MeansCut w xs rows → IsCut w xs rows
+is_cut_from w xs rows h = record {
   joined = h.joined;
-  each = each_from rows h.each;
-  at_width = and_from (list_all fits rows) (are_full rows) (fits_from rows h.each) (full_from rows h.full);
+  each = each_from w rows h.each;
+  at_width = and_from (list_all (fits w) rows) (are_full w rows) (fits_from w rows h.each) (full_from w rows h.full);
 }
 
 -- ## Existence
-
--- A cell that fits on an empty line.
-abbrev IsNarrow : Cell → Type 0
-IsNarrow x = cell_dots x ≤ 512
-
-one_fits : (x : Cell) → IsNarrow x → IsRow (x ∷ [])
-one_fits x h = (λ e. absurd cc, omega arith)
 
 not_nothing : (row : List Cell) (x : Cell) → row ++ x ∷ [] ≢ []
 not_nothing [] x e = absurd cc
@@ -122,76 +98,52 @@ begins_longer : (row : List Cell) (x : Cell) (found : List (List Cell)) → Begi
 begins_longer row x found b =
     record { more = x ∷ b.more; rest = b.rest; is = b.is ∙ ap (λ r. r ∷ b.rest) (append_snoc row x b.more) }
 
-begins : (row xs : List Cell) → Begins row (filled_from row xs)
-begins row [] = record { more = []; rest = []; is = ap (λ r. r ∷ []) (sym (append-nil row)) }
-begins row (x ∷ xs) =
-    elim (fits (row ++ x ∷ [])) as (λ v. Begins row (cond v (filled_from (row ++ x ∷ []) xs) (row ∷ filled_from (x ∷ []) xs))) [
-      | true ↦ begins_longer row x (filled_from (row ++ x ∷ []) xs) (begins (row ++ x ∷ []) xs)
-      | false ↦ record { more = []; rest = filled_from (x ∷ []) xs; is = ap (λ r. r ∷ filled_from (x ∷ []) xs) (sym (append-nil row)) }
+begins : (w : ℕ) (row xs : List Cell) → Begins row (filled_from w row xs)
+begins w row [] = record { more = []; rest = []; is = ap (λ r. r ∷ []) (sym (append-nil row)) }
+begins w row (x ∷ xs) =
+    elim (fits w (row ++ x ∷ [])) as (λ v. Begins row (cond v (filled_from w (row ++ x ∷ []) xs) (row ∷ filled_from w (x ∷ []) xs))) [
+      | true ↦ begins_longer row x (filled_from w (row ++ x ∷ []) xs) (begins w (row ++ x ∷ []) xs)
+      | false ↦ record { more = []; rest = filled_from w (x ∷ []) xs; is = ap (λ r. r ∷ filled_from w (x ∷ []) xs) (sym (append-nil row)) }
     ]
 
-full_cons : (row : List Cell) (x : Cell) (found : List (List Cell)) → Begins (x ∷ []) found → 512 < dots (row ++ x ∷ []) → AreFull found
-    → AreFull (row ∷ found)
-full_cons row x found b wide full =
-    subst (λ rs. AreFull (row ∷ rs)) (sym b.is) (wide, subst AreFull b.is full)
+full_cons : (w : ℕ) (row : List Cell) (x : Cell) (found : List (List Cell)) → Begins (x ∷ []) found → fits w (row ++ x ∷ []) ≡ false → AreFull w found
+    → AreFull w (row ∷ found)
+full_cons w row x found b wide full =
+    subst (λ rs. AreFull w (row ∷ rs)) (sym b.is) (wide, subst (AreFull w) b.is full)
 
-joined_longer : (row : List Cell) (x : Cell) (xs : List Cell) → MeansCut ((row ++ x ∷ []) ++ xs) (filled_from (row ++ x ∷ []) xs)
-    → MeansCut (row ++ x ∷ xs) (filled_from (row ++ x ∷ []) xs)
-joined_longer row x xs h = subst (λ t. MeansCut t (filled_from (row ++ x ∷ []) xs)) (append_snoc row x xs) h
+joined_longer : (w : ℕ) (row : List Cell) (x : Cell) (xs : List Cell) → MeansCut w ((row ++ x ∷ []) ++ xs) (filled_from w (row ++ x ∷ []) xs)
+    → MeansCut w (row ++ x ∷ xs) (filled_from w (row ++ x ∷ []) xs)
+joined_longer w row x xs h = subst (λ t. MeansCut w t (filled_from w (row ++ x ∷ []) xs)) (append_snoc row x xs) h
 
-begins_anew : (row : List Cell) (x : Cell) (xs : List Cell) → IsRow row → 512 < dots (row ++ x ∷ []) → MeansCut (x ∷ xs) (filled_from (x ∷ []) xs)
-    → MeansCut (row ++ x ∷ xs) (row ∷ filled_from (x ∷ []) xs)
-begins_anew row x xs r wide rest = record {
+begins_anew : (w : ℕ) (row : List Cell) (x : Cell) (xs : List Cell) → IsRow w row → fits w (row ++ x ∷ []) ≡ false → MeansCut w (x ∷ xs) (filled_from w (x ∷ []) xs)
+    → MeansCut w (row ++ x ∷ xs) (row ∷ filled_from w (x ∷ []) xs)
+begins_anew w row x xs r wide rest = record {
   joined = ap (λ t. row ++ t) rest.joined;
   each = (r, rest.each);
-  full = full_cons row x (filled_from (x ∷ []) xs) (begins (x ∷ []) xs) wide rest.full;
+  full = full_cons w row x (filled_from w (x ∷ []) xs) (begins w (x ∷ []) xs) wide rest.full;
 }
 
 -- What filling makes of a row and one more cell x, by whether it fits.
-by_fit : (row : List Cell) (x : Cell) (xs : List Cell) (b : Bool) → fits (row ++ x ∷ []) ≡ b
-    → (b ≡ true → MeansCut (row ++ x ∷ xs) (filled_from (row ++ x ∷ []) xs)) → (b ≡ false → MeansCut (row ++ x ∷ xs) (row ∷ filled_from (x ∷ []) xs))
-    → MeansCut (row ++ x ∷ xs) (cond b (filled_from (row ++ x ∷ []) xs) (row ∷ filled_from (x ∷ []) xs))
-by_fit row x xs true e fit over = fit refl
-by_fit row x xs false e fit over = over refl
+by_fit : (w : ℕ) (row : List Cell) (x : Cell) (xs : List Cell) (b : Bool) → fits w (row ++ x ∷ []) ≡ b
+    → (b ≡ true → MeansCut w (row ++ x ∷ xs) (filled_from w (row ++ x ∷ []) xs)) → (b ≡ false → MeansCut w (row ++ x ∷ xs) (row ∷ filled_from w (x ∷ []) xs))
+    → MeansCut w (row ++ x ∷ xs) (cond b (filled_from w (row ++ x ∷ []) xs) (row ∷ filled_from w (x ∷ []) xs))
+by_fit w row x xs true e fit over = fit refl
+by_fit w row x xs false e fit over = over refl
 
-filled_from_means : (row xs : List Cell) → IsRow row → AllByRecursion IsNarrow xs → MeansCut (row ++ xs) (filled_from row xs)
-filled_from_means row [] r h = record { joined = refl; each = (r, tt); full = tt }
-filled_from_means row (x ∷ xs) r h =
-    by_fit row x xs (fits (row ++ x ∷ [])) refl
-    (λ e. joined_longer row x xs (filled_from_means (row ++ x ∷ []) xs (not_nothing row x, fit_means (row ++ x ∷ []) e) h.1))
-    (λ e. begins_anew row x xs r (no_fit_means (row ++ x ∷ []) e) (filled_from_means (x ∷ []) xs (one_fits x h.0) h.1))
+filled_from_means : (w : ℕ) (row xs : List Cell) → IsRow w row → MeansCut w (row ++ xs) (filled_from w row xs)
+filled_from_means w row [] r = record { joined = refl; each = (r, tt); full = tt }
+filled_from_means w row (x ∷ xs) r =
+    by_fit w row x xs (fits w (row ++ x ∷ [])) refl
+    (λ e. joined_longer w row x xs (filled_from_means w (row ++ x ∷ []) xs (not_nothing row x, e)))
+    (λ e. begins_anew w row x xs r e (filled_from_means w (x ∷ []) xs (not_nothing [] x, refl)))
 
-filled_means : (xs : List Cell) → AllByRecursion IsNarrow xs → MeansCut xs (filled xs)
-filled_means [] h = record { joined = refl; each = tt; full = tt }
-filled_means (x ∷ xs) h = filled_from_means (x ∷ []) xs (one_fits x h.0) h.1
+filled_means : (w : ℕ) (xs : List Cell) → MeansCut w xs (filled w xs)
+filled_means w [] = record { joined = refl; each = tt; full = tt }
+filled_means w (x ∷ xs) = filled_from_means w (x ∷ []) xs (not_nothing [] x, refl)
 
--- ## The cells of commands
-
-face_narrow : (face : FontFace) (n : ℕ) → n ≤ 8 → face_dots face * n ≤ 512
-face_narrow A n h = omega arith
-face_narrow B n h = omega arith
-
-narrow_all : (s : Style) (bs : List ℕ) → s.width ≤ 8 → AllByRecursion IsNarrow (map (cell s) bs)
-narrow_all s [] h = tt
-narrow_all s (b ∷ bs) h = (face_narrow s.font s.width h, narrow_all s bs h)
-
-narrow_place : (s : Style) (bs : List ℕ) (b : Bool) → s.width ≤ 8 → AllByRecursion IsNarrow (cond b [] (map (cell s) bs))
-narrow_place s bs true h = tt
-narrow_place s bs false h = narrow_all s bs h
-
-narrow_append : (xs ys : List Cell) → AllByRecursion IsNarrow xs → AllByRecursion IsNarrow ys → AllByRecursion IsNarrow (xs ++ ys)
-narrow_append [] ys h k = k
-narrow_append (x ∷ xs) ys h k = (h.0, narrow_append xs ys h.1 k)
-
-narrow_from : (before cs : List Command) → AllByRecursion IsNarrow (over_places cell_at before cs)
-narrow_from before [] = tt
-narrow_from before (c ∷ cs) =
-    narrow_append (cell_at before c cs) (over_places cell_at (before ++ c ∷ []) cs)
-    (narrow_place (style before) (characters c) (ends_later (before ++ c ∷ []) cs) (width_in_range before).most) (narrow_from (before ++ c ∷ []) cs)
-
--- So filling finds the cut of the cells of commands.
-pub is_cut : (cs : List Command) → IsCut (cells cs) (filled (cells cs))
-is_cut cs = is_cut_from (cells cs) (filled (cells cs)) (filled_means (cells cs) (narrow_from [] cs))
+-- So filling finds the cut of any cells.
+pub is_cut : (w : ℕ) (xs : List Cell) → IsCut w xs (filled w xs)
+is_cut w xs = is_cut_from w xs (filled w xs) (filled_means w xs)
 
 -- ## Uniqueness
 
@@ -219,40 +171,38 @@ seam (x ∷ a) b [] d e = longer x a refl (sym e)
 seam (x ∷ a) b (y ∷ c) d e =
     seam_cons x y a b c d (first_same x y (a ++ b) (c ++ d) e) (seam a b c d (rest_same x y (a ++ b) (c ++ d) e))
 
--- A row of one cut isn't a prefix of a wider row in another.
-wider : (row : List Cell) (x : Cell) (more : List Cell) → dots (row ++ x ∷ []) ≤ dots (row ++ x ∷ more)
-wider row x more = omega (arith, sum_by-append cell_dots row (x ∷ []), sum_by-append cell_dots row (x ∷ more), sum_by-cons cell_dots x more, sum_by-cons cell_dots x [])
-
-no_shorter : (row other : List Cell) (rest : List (List Cell)) (x : Cell) (more d : List Cell)
-    → AreFull (row ∷ rest) → AllByRecursion IsRow rest → dots other ≤ 512 → other ≡ row ++ x ∷ more → flat_map (λ r. r) rest ≡ x ∷ more ++ d → ⊥
-no_shorter row other [] x more d full each narrow e f = absurd cc
-no_shorter row other ([] ∷ rest) x more d full each narrow e f = each.0.0 refl
-no_shorter row other ((y ∷ next) ∷ rest) x more d full each narrow e f =
+-- A row of one cut isn't a prefix of a longer row in another.
+no_shorter : (w : ℕ) (row other : List Cell) (rest : List (List Cell)) (x : Cell) (more d : List Cell)
+    → AreFull w (row ∷ rest) → AllByRecursion (IsRow w) rest → fits w other ≡ true → other ≡ row ++ x ∷ more → flat_map (λ r. r) rest ≡ x ∷ more ++ d → ⊥
+no_shorter w row other [] x more d full each narrow e f = absurd cc
+no_shorter w row other ([] ∷ rest) x more d full each narrow e f = each.0.0 refl
+no_shorter w row other ((y ∷ next) ∷ rest) x more d full each narrow e f =
     let same_first : y ≡ x = first_same y x (next ++ flat_map (λ r. r) rest) (more ++ d) f in
-    let wide : 512 < dots (row ++ x ∷ []) = subst (λ z. 512 < dots (row ++ z ∷ [])) same_first full.0 in
-    let long : dots (row ++ x ∷ more) ≤ 512 = subst (λ r. dots r ≤ 512) e narrow in
-    absurd (omega (arith, wider row x more))
+    let wide : fits w (row ++ x ∷ []) ≡ false = subst (λ z. fits w (row ++ z ∷ []) ≡ false) same_first full.0 in
+    let short : fits w (row ++ x ∷ []) ≡ true = prefix_fits w row x more (subst (λ r. fits w r ≡ true) e narrow) in
+    let no : true ≡ false = sym short ∙ wide in
+    absurd cc
 
-tail_cut : (xs row : List Cell) (rest : List (List Cell)) → MeansCut xs (row ∷ rest) → MeansCut (flat_map (λ r. r) rest) rest
-tail_cut xs row [] h = record { joined = refl; each = tt; full = tt }
-tail_cut xs row (next ∷ rest) h = record { joined = refl; each = h.each.1; full = h.full.1 }
+tail_cut : (w : ℕ) (xs row : List Cell) (rest : List (List Cell)) → MeansCut w xs (row ∷ rest) → MeansCut w (flat_map (λ r. r) rest) rest
+tail_cut w xs row [] h = record { joined = refl; each = tt; full = tt }
+tail_cut w xs row (next ∷ rest) h = record { joined = refl; each = h.each.1; full = h.full.1 }
 
-one_meaning : (xs : List Cell) (found others : List (List Cell)) → MeansCut xs found → MeansCut xs others → found ≡ others
-one_meaning xs [] [] h k = refl
-one_meaning xs [] ([] ∷ others) h k = absurd (k.each.0.0 refl)
-one_meaning xs [] ((x ∷ row) ∷ others) h k = absurd (let no : [] ≡ x ∷ (row ++ flat_map (λ r. r) others) = h.joined ∙ sym k.joined in cc)
-one_meaning xs ([] ∷ found) [] h k = absurd (h.each.0.0 refl)
-one_meaning xs ((x ∷ row) ∷ found) [] h k = absurd (let no : [] ≡ x ∷ (row ++ flat_map (λ r. r) found) = k.joined ∙ sym h.joined in cc)
-one_meaning xs (row ∷ found) (other ∷ others) h k =
+one_meaning : (w : ℕ) (xs : List Cell) (found others : List (List Cell)) → MeansCut w xs found → MeansCut w xs others → found ≡ others
+one_meaning w xs [] [] h k = refl
+one_meaning w xs [] ([] ∷ others) h k = absurd (k.each.0.0 refl)
+one_meaning w xs [] ((x ∷ row) ∷ others) h k = absurd (let no : [] ≡ x ∷ (row ++ flat_map (λ r. r) others) = h.joined ∙ sym k.joined in cc)
+one_meaning w xs ([] ∷ found) [] h k = absurd (h.each.0.0 refl)
+one_meaning w xs ((x ∷ row) ∷ found) [] h k = absurd (let no : [] ≡ x ∷ (row ++ flat_map (λ r. r) found) = k.joined ∙ sym h.joined in cc)
+one_meaning w xs (row ∷ found) (other ∷ others) h k =
     elim (seam row (flat_map (λ r. r) found) other (flat_map (λ r. r) others) (h.joined ∙ sym k.joined)) [
       | same p q ↦
           let rest : found ≡ others =
-          one_meaning (flat_map (λ r. r) found) found others (tail_cut xs row found h)
-          (subst (λ t. MeansCut t others) (sym q) (tail_cut xs other others k)) in
+          one_meaning w (flat_map (λ r. r) found) found others (tail_cut w xs row found h)
+          (subst (λ t. MeansCut w t others) (sym q) (tail_cut w xs other others k)) in
           cc
-      | shorter x more p q ↦ absurd (no_shorter row other found x more (flat_map (λ r. r) others) h.full h.each.1 k.each.0.1 p q)
-      | longer x more p q ↦ absurd (no_shorter other row others x more (flat_map (λ r. r) found) k.full k.each.1 h.each.0.1 p q)
+      | shorter x more p q ↦ absurd (no_shorter w row other found x more (flat_map (λ r. r) others) h.full h.each.1 k.each.0.1 p q)
+      | longer x more p q ↦ absurd (no_shorter w other row others x more (flat_map (λ r. r) found) k.full k.each.1 h.each.0.1 p q)
     ]
 
-pub one_cut : (xs : List Cell) (found others : List (List Cell)) → IsCut xs found → IsCut xs others → found ≡ others
-one_cut xs found others h k = one_meaning xs found others (means_cut xs found h) (means_cut xs others k)
+pub one_cut : (w : ℕ) (xs : List Cell) (found others : List (List Cell)) → IsCut w xs found → IsCut w xs others → found ≡ others
+one_cut w xs found others h k = one_meaning w xs found others (means_cut w xs found h) (means_cut w xs others k)

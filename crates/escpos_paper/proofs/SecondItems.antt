@@ -17,8 +17,8 @@ use Rattle.escpos_paper.specs.OverPlaces.{over_places}
 use Rattle.escpos_paper.specs.Printed.{printed, prints, row_and_feed, row_of}
 use Rattle.escpos_paper.specs.Rows.{fits, line, rows}
 use Rattle.escpos_paper.specs.SecondPaper.{IsSecondCell, IsSecondItem}
-use Rattle.escpos_paper.specs.Steps.{line_after, line_style_after, style_after}
-use Rattle.escpos_paper.specs.Styles.{is_empty, line_style, style}
+use Rattle.escpos_paper.specs.Steps.{line_after, line_style_after}
+use Rattle.escpos_paper.specs.Styles.{is_empty, line_style, style, style_after}
 use Rattle.escpos_paper.proofs.OneMore.{style-snoc}
 use Rattle.escpos_paper.proofs.Sheets.{line-snoc, line_style_step}
 
@@ -34,9 +34,9 @@ record IsPlain (lines : LineStyle) : Type 0 where
   upright : lines.upside_down ≡ false
   default : lines.spacing ≡ None
 
-record IsSecond (cs : List Command) : Type 0 where
+record IsSecond (w : ℕ) (cs : List Command) : Type 0 where
   six : IsTrue (has_six_fields (style cs))
-  cells : AreCells (line cs)
+  cells : AreCells (line w cs)
   plain : IsPlain (line_style cs)
 
 style_stays : (s : Style) (c : Command) → IsTrue (in_second_profile c) → IsTrue (has_six_fields s) → IsTrue (has_six_fields (style_after s c))
@@ -63,17 +63,17 @@ with_one : (row : List Cell) (x : Cell) (there : Bool) → AreCells row → IsSe
 with_one row x true h k = and_one row x h k
 with_one row x false h k = (k, tt)
 
-line_stays : (s : Style) (old_data : Option (List ℕ)) (row : List Cell) (c : Command) → IsTrue (in_second_profile c) → IsTrue (has_six_fields s) → AreCells row → AreCells (line_after s old_data row c)
-line_stays s old_data row (kind.Char b) i h k = with_one row (cell s b) (fits (row ++ cell s b ∷ [])) k h
-line_stays s old_data row kind.LineFeed i h k = tt
-line_stays s old_data row (kind.FeedLines n) i h k = tt
-line_stays s old_data row (kind.FeedUnits n) i h k = tt
-line_stays s old_data row kind.Init i h k = tt
-line_stays s old_data row (kind.Bars bars) i h k = tt
-line_stays s old_data row (kind.Raster raster) i h k = tt
-line_stays s old_data row (kind.Cut how) i h k = tt
-line_stays s old_data row kind.QrPrint i h k = absurd cc
-line_stays s old_data row c i h k = k
+line_stays : (w : ℕ) (s : Style) (old_data : Option (List ℕ)) (row : List Cell) (c : Command) → IsTrue (in_second_profile c) → IsTrue (has_six_fields s) → AreCells row → AreCells (line_after w s old_data row c)
+line_stays w s old_data row (kind.Char b) i h k = with_one row (cell s b) (fits w (row ++ cell s b ∷ [])) k h
+line_stays w s old_data row kind.LineFeed i h k = tt
+line_stays w s old_data row (kind.FeedLines n) i h k = tt
+line_stays w s old_data row (kind.FeedUnits n) i h k = tt
+line_stays w s old_data row kind.Init i h k = tt
+line_stays w s old_data row (kind.Bars bars) i h k = tt
+line_stays w s old_data row (kind.Raster raster) i h k = tt
+line_stays w s old_data row (kind.Cut how) i h k = tt
+line_stays w s old_data row kind.QrPrint i h k = absurd cc
+line_stays w s old_data row c i h k = k
 
 lines_stay : (is_line_empty : Bool) (lines : LineStyle) (c : Command) → IsTrue (in_second_profile c) → IsPlain lines → IsPlain (line_style_after is_line_empty lines c)
 lines_stay e lines (kind.DoubleStrike n) k h = absurd cc
@@ -93,11 +93,11 @@ lines_stay false lines kind.Init k h = record { upright = refl; default = refl }
 lines_stay true lines c k h = record { upright = h.upright; default = h.default }
 lines_stay false lines c k h = record { upright = h.upright; default = h.default }
 
-one_further : (cs : List Command) (c : Command) → IsTrue (in_second_profile c) → IsSecond cs → IsSecond (cs ++ c ∷ [])
-one_further cs c k h = record {
+one_further : (w : ℕ) (cs : List Command) (c : Command) → IsTrue (in_second_profile c) → IsSecond w cs → IsSecond w (cs ++ c ∷ [])
+one_further w cs c k h = record {
   six = subst (λ s. IsTrue (has_six_fields s)) (sym (style-snoc cs c)) (style_stays (style cs) c k h.six);
-  cells = subst AreCells (sym (line-snoc cs c)) (line_stays (style cs) (stored cs) (line cs) c k h.six h.cells);
-  plain = subst IsPlain (sym (line_style_step cs c)) (lines_stay (is_empty (line cs)) (line_style cs) c k h.plain);
+  cells = subst AreCells (sym (line-snoc w cs c)) (line_stays w (style cs) (stored cs) (line w cs) c k h.six h.cells);
+  plain = subst IsPlain (sym (line_style_step w cs c)) (lines_stay (is_empty (line w cs)) (line_style cs) c k h.plain);
 }
 
 -- ## What each prints
@@ -118,29 +118,29 @@ chosen : (b : Bool) (items : List Item) → AreSecond items → AreSecond (cond 
 chosen true items h = h
 chosen false items h = tt
 
-prints_second : (before : List Command) (c : Command) → IsTrue (in_second_profile c) → IsSecond before → AreSecond (prints before c)
-prints_second before (kind.Char b) h s =
-    chosen (nat_lt (length (rows before)) (length (rows (before ++ kind.Char b ∷ [])))) (row_and_feed (line_style before) (line before))
-    (row_with_feed (line_style before) (line before) s.plain s.cells)
-prints_second before kind.LineFeed h s = both (row_of (line_style before) (line before)) _ (row_is (line_style before) (line before) s.plain s.cells) (s.plain.default, tt)
-prints_second before (kind.FeedLines n) h s = both (row_of (line_style before) (line before)) _ (row_is (line_style before) (line before) s.plain s.cells) (s.plain.default, tt)
-prints_second before (kind.FeedUnits n) h s = both (row_of (line_style before) (line before)) _ (row_is (line_style before) (line before) s.plain s.cells) (tt, tt)
-prints_second before (kind.Bars bars) h s = both (row_and_feed (line_style before) (line before)) _ (row_with_feed (line_style before) (line before) s.plain s.cells) (tt, tt)
-prints_second before (kind.Raster raster) h s = both (row_and_feed (line_style before) (line before)) _ (row_with_feed (line_style before) (line before) s.plain s.cells) (tt, tt)
-prints_second before (kind.Cut cut) h s = both (row_and_feed (line_style before) (line before)) _ (row_with_feed (line_style before) (line before) s.plain s.cells) (tt, tt)
-prints_second before (kind.QrModel n) h s = absurd cc
-prints_second before (kind.QrSize n) h s = absurd cc
-prints_second before (kind.QrLevel n) h s = absurd cc
-prints_second before (kind.QrStore bytes) h s = absurd cc
-prints_second before kind.QrPrint h s = absurd cc
-prints_second before c h s = tt
+prints_second : (w : ℕ) (before : List Command) (c : Command) → IsTrue (in_second_profile c) → IsSecond w before → AreSecond (prints w before c)
+prints_second w before (kind.Char b) h s =
+    chosen (nat_lt (length (rows w before)) (length (rows w (before ++ kind.Char b ∷ [])))) (row_and_feed (line_style before) (line w before))
+    (row_with_feed (line_style before) (line w before) s.plain s.cells)
+prints_second w before kind.LineFeed h s = both (row_of (line_style before) (line w before)) _ (row_is (line_style before) (line w before) s.plain s.cells) (s.plain.default, tt)
+prints_second w before (kind.FeedLines n) h s = both (row_of (line_style before) (line w before)) _ (row_is (line_style before) (line w before) s.plain s.cells) (s.plain.default, tt)
+prints_second w before (kind.FeedUnits n) h s = both (row_of (line_style before) (line w before)) _ (row_is (line_style before) (line w before) s.plain s.cells) (tt, tt)
+prints_second w before (kind.Bars bars) h s = both (row_and_feed (line_style before) (line w before)) _ (row_with_feed (line_style before) (line w before) s.plain s.cells) (tt, tt)
+prints_second w before (kind.Raster raster) h s = both (row_and_feed (line_style before) (line w before)) _ (row_with_feed (line_style before) (line w before) s.plain s.cells) (tt, tt)
+prints_second w before (kind.Cut cut) h s = both (row_and_feed (line_style before) (line w before)) _ (row_with_feed (line_style before) (line w before) s.plain s.cells) (tt, tt)
+prints_second w before (kind.QrModel n) h s = absurd cc
+prints_second w before (kind.QrSize n) h s = absurd cc
+prints_second w before (kind.QrLevel n) h s = absurd cc
+prints_second w before (kind.QrStore bytes) h s = absurd cc
+prints_second w before kind.QrPrint h s = absurd cc
+prints_second w before c h s = tt
 
-after : (before cs : List Command) → AllByRecursion (λ c. IsTrue (in_second_profile c)) cs → IsSecond before → AreSecond (over_places (λ b c following. prints b c) before cs)
-after before [] h s = tt
-after before (c ∷ cs) h s = both (prints before c) _ (prints_second before c h.0 s) (after (before ++ c ∷ []) cs h.1 (one_further before c h.0 s))
+after : (w : ℕ) (before cs : List Command) → AllByRecursion (λ c. IsTrue (in_second_profile c)) cs → IsSecond w before → AreSecond (over_places (λ b c following. prints w b c) before cs)
+after w before [] h s = tt
+after w before (c ∷ cs) h s = both (prints w before c) _ (prints_second w before c h.0 s) (after w (before ++ c ∷ []) cs h.1 (one_further w before c h.0 s))
 
-pub second_items : (cs : List Command) → AllByRecursion (λ c. IsTrue (in_second_profile c)) cs → AllByRecursion IsSecondItem (printed cs)
-second_items cs h = after [] cs h (record { six = refl; cells = tt; plain = record { upright = refl; default = refl } })
+pub second_items : (w : ℕ) (cs : List Command) → AllByRecursion (λ c. IsTrue (in_second_profile c)) cs → AllByRecursion IsSecondItem (printed w cs)
+second_items w cs h = after w [] cs h (record { six = refl; cells = tt; plain = record { upright = refl; default = refl } })
 
 -- The commands of the first profile are of the second.
 also_second : (c : Command) → IsTrue (in_first_profile c) → IsTrue (in_second_profile c)
@@ -153,5 +153,5 @@ all_second : (cs : List Command) → AllByRecursion (λ c. IsTrue (in_first_prof
 all_second [] h = tt
 all_second (c ∷ cs) h = (also_second c h.0, all_second cs h.1)
 
-pub items_of_first : (cs : List Command) → AllByRecursion (λ c. IsTrue (in_first_profile c)) cs → AllByRecursion IsSecondItem (printed cs)
-items_of_first cs h = second_items cs (all_second cs h)
+pub items_of_first : (w : ℕ) (cs : List Command) → AllByRecursion (λ c. IsTrue (in_first_profile c)) cs → AllByRecursion IsSecondItem (printed w cs)
+items_of_first w cs h = second_items w cs (all_second cs h)

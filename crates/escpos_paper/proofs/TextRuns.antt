@@ -1,16 +1,19 @@
 -- Characters of one style, side by side.
-use Rattle.std.proofs.Common.{◌≡◌, ℕ, ◌+◌, ◌*◌, ◌-◌, ◌/◌, ◌≤◌, List, [], ◌∷◌, ◌++◌, length, map, ◌∙◌, ap, arith, inl, inr}
+use Rattle.std.proofs.Common.{◌≡◌, ℕ, ◌+◌, ◌*◌, ◌-◌, ◌/◌, ◌≤◌, ◌<◌, List, [], ◌∷◌, ◌++◌, length, length-append, map, ◌∙◌, ap, arith, inl, inr, true, false}
 use Rattle.std.specs.Prelude.{IsTrue, IsFalse}
-use Rattle.std.proofs.Math.Nat.{le-div_iff_mul-le, mul-le-mul, mul-le-mul_right, mul_comm}
-use Rattle.std.proofs.lemmas.Bool.{cases_lt, le-leb, leb-true, lt-leb}
+use Rattle.std.proofs.Math.Nat.{le-div_iff_mul-le, mul-le-mul, mul-le-mul_right}
+use Rattle.std.proofs.lemmas.Bool.{cases_lt}
+use Rattle.std.proofs.lemmas.List.{length-map}
 use Rattle.std.proofs.lemmas.List.Sums.{sum_by-append, sum_by-cons}
+use Rattle.escpos_command.specs.declared.line_width.TheConstants.{MOST_LINE_DOTS}
 use Rattle.escpos_command.specs.declared.parameter.choices.FontFace.{FontFace}
 use Rattle.escpos_command.specs.declared.parameter.choices.FontFace.TheVariants.{A, B}
 use Rattle.escpos_paper.specs.declared.cell.Cell.{Cell}
-use Rattle.escpos_paper.specs.declared.cell.TheConstants.{LINE_DOTS}
 use Rattle.escpos_paper.specs.declared.style.Style.{Style}
 use Rattle.escpos_paper.specs.Cells.{cell, cell_dots, dots, face_dots}
 use Rattle.escpos_paper.specs.Rows.{fits}
+use Rattle.escpos_paper.specs.Styles.{is_empty}
+use Rattle.escpos_paper.proofs.Fits.{fit_means, one_fits, narrow_fits, too_wide}
 
 -- How wide they are together.
 pub dots_of_text : (s : Style) (bs : List ℕ) → dots (map (cell s) bs) ≡ length bs * (face_dots s.font * s.width)
@@ -20,29 +23,53 @@ dots_of_text s (b ∷ bs) = let rest = dots_of_text s bs in omega (arith, rest, 
 pub dots_with_text : (s : Style) (row : List Cell) (bs : List ℕ) → dots (row ++ map (cell s) bs) ≡ dots row + length bs * (face_dots s.font * s.width)
 dots_with_text s row bs = sum_by-append cell_dots row (map (cell s) bs) ∙ ap (λ n. dots row + n) (dots_of_text s bs)
 
--- As many as the room that is left, divided by their width, fit.
-pub text_fits : (s : Style) (row : List Cell) (bs : List ℕ) → 1 ≤ face_dots s.font * s.width → dots row ≤ LINE_DOTS
-    → length bs ≤ (LINE_DOTS - dots row) / (face_dots s.font * s.width) → IsTrue (fits (row ++ map (cell s) bs))
-text_fits s row bs wide inside few =
-    let room : length bs * (face_dots s.font * s.width) ≤ LINE_DOTS - dots row = (le-div_iff_mul-le wide).0 few in
-    le-leb _ _ (omega (arith, dots_with_text s row bs))
+-- At least one, and as many as the room that is left, divided by their width, fit.
+pub text_fits : (w : ℕ) (s : Style) (row : List Cell) (bs : List ℕ) → 1 ≤ face_dots s.font * s.width → 1 ≤ length bs
+    → length bs ≤ (w - dots row) / (face_dots s.font * s.width) → IsTrue (fits w (row ++ map (cell s) bs))
+text_fits w s row bs wide some few =
+    let room : length bs * (face_dots s.font * s.width) ≤ w - dots row = (le-div_iff_mul-le wide).0 few in
+    let least : 1 ≤ length bs * (face_dots s.font * s.width) = mul-le-mul some wide in
+    narrow_fits w _ (omega (arith, dots_with_text s row bs))
 
--- If that is none, not one more fits.
-pub none_fits : (s : Style) (row : List Cell) (b : ℕ) → 1 ≤ face_dots s.font * s.width → dots row ≤ LINE_DOTS
-    → (LINE_DOTS - dots row) / (face_dots s.font * s.width) ≡ 0 → IsFalse (fits (row ++ cell s b ∷ []))
-none_fits s row b wide inside none =
+-- If that is none, not one more fits after others.
+pub none_fits : (w : ℕ) (s : Style) (row : List Cell) (b : ℕ) → 1 ≤ face_dots s.font * s.width → is_empty row ≡ false
+    → (w - dots row) / (face_dots s.font * s.width) ≡ 0 → IsFalse (fits w (row ++ cell s b ∷ []))
+none_fits w s [] b wide others none = absurd cc
+none_fits w s (x ∷ row) b wide others none =
     let width = face_dots s.font * s.width in
-    let one = dots_with_text s row (b ∷ []) in
-    elim (cases_lt (LINE_DOTS - dots row) width) [
-      | inl narrow ↦ lt-leb _ _ (omega (arith, one))
-      | inr room ↦ absurd (let some : 1 ≤ (LINE_DOTS - dots row) / width = (le-div_iff_mul-le wide).1 (omega (arith, room)) in omega (arith, some, none))
+    let one = dots_with_text s (x ∷ row) (b ∷ []) in
+    let many : 1 < length ((x ∷ row) ++ cell s b ∷ []) = omega (arith, length-append row (cell s b ∷ [])) in
+    elim (cases_lt (w - dots (x ∷ row)) width) [
+      | inl narrow ↦ too_wide w ((x ∷ row) ++ cell s b ∷ []) many (omega (arith, one))
+      | inr room ↦ absurd (let some : 1 ≤ (w - dots (x ∷ row)) / width = (le-div_iff_mul-le wide).1 (omega (arith, room)) in omega (arith, some, none))
     ]
 
--- Characters that fit aren't wider than the line, together with those before them.
-pub text_inside : (s : Style) (row : List Cell) (bs : List ℕ) → IsTrue (fits (row ++ map (cell s) bs)) → dots row + (face_dots s.font * s.width) * length bs ≤ LINE_DOTS
-text_inside s row bs fit =
-    let inside = leb-true _ _ fit in
-    omega (arith, inside, dots_with_text s row bs, mul_comm (face_dots s.font * s.width) (length bs))
+-- One fits where there is no other.
+pub alone_fits : (w : ℕ) (s : Style) (row : List Cell) (bs : List ℕ) → is_empty row ≡ true → length bs ≤ 1 → IsTrue (fits w (row ++ map (cell s) bs))
+alone_fits w s [] bs none few = one_fits w (map (cell s) bs) (omega (arith, length-map bs (cell s)))
+alone_fits w s (x ∷ row) bs none few = absurd cc
+
+-- Characters that fit aren't wider than the widest line, together with those before them.
+pub narrow_at : (face : FontFace) (n : ℕ) → n ≤ 8 → face_dots face * n ≤ MOST_LINE_DOTS
+narrow_at A n h = omega arith
+narrow_at B n h = omega arith
+
+alone_inside : (s : Style) (row : List Cell) (bs : List ℕ) → s.width ≤ 8 → length row ≤ 0 → length bs ≤ 1 → dots (row ++ map (cell s) bs) ≤ MOST_LINE_DOTS
+alone_inside s [] [] narrow none one = omega arith
+alone_inside s [] (b ∷ []) narrow none one =
+    let inside = narrow_at s.font s.width narrow in
+    omega (arith, inside, sum_by-cons cell_dots (cell s b) [])
+alone_inside s [] (b ∷ c ∷ bs) narrow none one = absurd (omega arith)
+alone_inside s (x ∷ row) bs narrow none one = absurd (omega arith)
+
+pub text_inside : (w : ℕ) (s : Style) (row : List Cell) (bs : List ℕ) → w ≤ MOST_LINE_DOTS → s.width ≤ 8 → 1 ≤ length bs
+    → IsTrue (fits w (row ++ map (cell s) bs)) → dots (row ++ map (cell s) bs) ≤ MOST_LINE_DOTS
+text_inside w s row bs small narrow some fit =
+    elim (fit_means w (row ++ map (cell s) bs) fit) [
+      | inl one ↦ alone_inside s row bs narrow (omega (arith, one, some, length-append row (map (cell s) bs), length-map bs (cell s)))
+          (omega (arith, one, some, length-append row (map (cell s) bs), length-map bs (cell s)))
+      | inr inside ↦ omega (arith, inside)
+    ]
 
 -- A character is at least 9 dots wide.
 wide_at : (face : FontFace) → 9 ≤ face_dots face

@@ -4,6 +4,7 @@ pub mod Cells
 pub mod CheckDigit
 pub mod Rows
 pub mod Printed
+pub mod Typed
 pub mod QrStore
 pub mod Page
 pub mod Torn

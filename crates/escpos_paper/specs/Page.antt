@@ -1,7 +1,8 @@
 -- The model of a page, and which commands leave it.
-use Rattle.std.specs.Prelude.{ℕ, ◌≡◌, Bool, List, ◌++◌, Option, if◌then◌else◌}
+use Rattle.std.specs.Prelude.{ℕ, ◌≡◌, Bool, IsTrue, List, ◌++◌, Option, if◌then◌else◌}
 use Rattle.escpos_command.specs.declared.command.Command.{Command}
 use Rattle.escpos_command.specs.CommandTable.{AreCommands}
+use Rattle.escpos_command.specs.LineWidths.{is_line_width}
 use Rattle.escpos_command.specs.Settings.{stored}
 use Rattle.escpos_paper.specs.declared.cell.Cell.{Cell}
 use Rattle.escpos_paper.specs.declared.item.Item.{Item}
@@ -13,9 +14,10 @@ use Rattle.escpos_paper.specs.Styles.{style, bar_style, line_style, qr_style}
 use Rattle.escpos_paper.specs.Rows.{line}
 use Rattle.escpos_paper.specs.Printed.{printed}
 
--- What commands leave: the items on paper, the styles of characters, barcodes, lines and QR codes, the data of QR codes that is
+-- What commands leave: the dots of a line, which no command changes, the items on paper, the styles of characters, barcodes, lines and QR codes, the data of QR codes that is
 -- stored, and the line that isn't printed yet.
 pub record Sheet : Type 0 where
+  pub line_dots : ℕ
   pub items : List Item
   pub style : Style
   pub bar_style : BarStyle
@@ -34,25 +36,28 @@ abbrev pub room_for_items : Bool → ℕ → ℕ
 room_for_items is_ready room = if is_ready then room else 0
 
 -- The sheet is what these commands leave on paper that held the items `kept`, from power-on styles and an
--- empty line.
-abbrev pub SheetIs : Sheet → List Item → List Command → Type 0
-SheetIs sheet kept cs = sheet ≡ record {
-  items = kept ++ printed cs;
+-- empty line, in lines of this width in dots.
+abbrev pub SheetIs : ℕ → Sheet → List Item → List Command → Type 0
+SheetIs width sheet kept cs = sheet ≡ record {
+  line_dots = width;
+  items = kept ++ printed width cs;
   style = style cs;
   bar_style = bar_style cs;
   line_style = line_style cs;
   qr_style = qr_style cs;
   stored = stored cs;
-  line = line cs;
+  line = line width cs;
 }
 
 -- The same for a page; its room is left open.
-abbrev pub PageIs : PageView → List Item → List Command → Type 0
-PageIs page kept cs = SheetIs page.sheet kept cs
+abbrev pub PageIs : ℕ → PageView → List Item → List Command → Type 0
+PageIs width page kept cs = SheetIs width page.sheet kept cs
 
--- The page is what some commands leave, on paper that held some items.
+-- The page is what some commands leave, on paper that held some items, in lines of some width.
 pub record IsReached (page : PageView) : Type 0 where
+  pub line_dots : ℕ
+  pub line_in_range : IsTrue (is_line_width line_dots)
   pub kept : List Item
   pub commands : List Command
   pub in_range : AreCommands commands
-  pub page_is : PageIs page kept commands
+  pub page_is : PageIs line_dots page kept commands

@@ -1,4 +1,4 @@
--- What commands print.
+-- What commands print, for each width of the line in dots.
 use Rattle.std.specs.Prelude.{ℕ, nat_lt, List, [], ◌∷◌, ◌++◌, Option, None, Some, length, if◌then◌else◌}
 use Rattle.escpos_command.specs.declared.command.Command.{Command}
 use Rattle.escpos_command.specs.declared.command.Command.TheVariants as kind
@@ -50,45 +50,45 @@ prints_stored lines style (Some bytes) row = row_and_feed lines row ++ qr_item l
 -- What a command prints after others. LF, ESC d and ESC J print the line and their feed; a barcode, a raster, a QR code
 -- or a cut prints the line with a feed of one, then the item; a character that begins a row prints the line before it with a feed of
 -- one.
-abbrev pub prints : List Command → Command → List Item
-prints before (kind.Char b) =
-    if nat_lt (length (rows before)) (length (rows (before ++ kind.Char b ∷ []))) then row_and_feed (line_style before) (line before) else []
-prints before kind.LineFeed = row_of (line_style before) (line before) ++ Feed 1 (line_style before).spacing ∷ []
-prints before (kind.FeedLines n) = row_of (line_style before) (line before) ++ Feed n (line_style before).spacing ∷ []
-prints before (kind.FeedUnits n) = row_of (line_style before) (line before) ++ FeedUnits n ∷ []
-prints before (kind.Bars bars) =
-    row_and_feed (line_style before) (line before) ++ bars_item ((line_style before).alignment) (bar_style before) bars ∷ []
-prints before (kind.Raster raster) = row_and_feed (line_style before) (line before) ++ raster_item ((line_style before).alignment) raster ∷ []
-prints before (kind.Cut cut) = row_and_feed (line_style before) (line before) ++ Cut (leaves_a_point cut.0) cut.1 ∷ []
-prints before kind.QrPrint = prints_stored (line_style before) (qr_style before) (stored before) (line before)
-prints before (kind.QrModel n) = []
-prints before (kind.QrSize n) = []
-prints before (kind.QrLevel n) = []
-prints before (kind.QrStore bytes) = []
-prints before kind.Return = []
-prints before kind.Init = []
-prints before (kind.Mode n) = []
-prints before (kind.Emphasis n) = []
-prints before (kind.Underline n) = []
-prints before (kind.Font n) = []
-prints before (kind.Table n) = []
-prints before (kind.Align n) = []
-prints before (kind.DoubleStrike n) = []
-prints before (kind.CharacterSet n) = []
-prints before (kind.Reverse n) = []
-prints before (kind.Smoothing n) = []
-prints before (kind.UpsideDown n) = []
-prints before (kind.LineSpacing n) = []
-prints before kind.DefaultSpacing = []
-prints before (kind.Size n) = []
-prints before (kind.BarHeight n) = []
-prints before (kind.BarWidth n) = []
-prints before (kind.HriPlace n) = []
-prints before (kind.HriFont n) = []
-prints before (kind.Pulse pulse) = []
-prints before (kind.Status n) = []
-prints before (kind.Mark id) = []
+abbrev pub prints : ℕ → List Command → Command → List Item
+prints width before (kind.Char b) =
+    if nat_lt (length (rows width before)) (length (rows width (before ++ kind.Char b ∷ []))) then row_and_feed (line_style before) (line width before) else []
+prints width before kind.LineFeed = row_of (line_style before) (line width before) ++ Feed 1 (line_style before).spacing ∷ []
+prints width before (kind.FeedLines n) = row_of (line_style before) (line width before) ++ Feed n (line_style before).spacing ∷ []
+prints width before (kind.FeedUnits n) = row_of (line_style before) (line width before) ++ FeedUnits n ∷ []
+prints width before (kind.Bars bars) =
+    row_and_feed (line_style before) (line width before) ++ bars_item ((line_style before).alignment) (bar_style before) bars ∷ []
+prints width before (kind.Raster raster) = row_and_feed (line_style before) (line width before) ++ raster_item ((line_style before).alignment) raster ∷ []
+prints width before (kind.Cut cut) = row_and_feed (line_style before) (line width before) ++ Cut (leaves_a_point cut.0) cut.1 ∷ []
+prints width before kind.QrPrint = prints_stored (line_style before) (qr_style before) (stored before) (line width before)
+prints width before (kind.QrModel n) = []
+prints width before (kind.QrSize n) = []
+prints width before (kind.QrLevel n) = []
+prints width before (kind.QrStore bytes) = []
+prints width before kind.Return = []
+prints width before kind.Init = []
+prints width before (kind.Mode n) = []
+prints width before (kind.Emphasis n) = []
+prints width before (kind.Underline n) = []
+prints width before (kind.Font n) = []
+prints width before (kind.Table n) = []
+prints width before (kind.Align n) = []
+prints width before (kind.DoubleStrike n) = []
+prints width before (kind.CharacterSet n) = []
+prints width before (kind.Reverse n) = []
+prints width before (kind.Smoothing n) = []
+prints width before (kind.UpsideDown n) = []
+prints width before (kind.LineSpacing n) = []
+prints width before kind.DefaultSpacing = []
+prints width before (kind.Size n) = []
+prints width before (kind.BarHeight n) = []
+prints width before (kind.BarWidth n) = []
+prints width before (kind.HriPlace n) = []
+prints width before (kind.HriFont n) = []
+prints width before (kind.Pulse pulse) = []
+prints width before (kind.Status n) = []
+prints width before (kind.Mark id) = []
 
 -- What a list of commands prints: at each place, what the command there prints after those before it.
-abbrev pub printed : List Command → List Item
-printed cs = over_places (λ before c following. prints before c) [] cs
+abbrev pub printed : ℕ → List Command → List Item
+printed width cs = over_places (λ before c following. prints width before c) [] cs

@@ -1,31 +1,31 @@
--- The line cut into rows.
-use Rattle.std.specs.Prelude.{◌≡◌, ◌≢◌, ◌&&◌, nat_le, not, Bool, true, IsTrue, List, [], ◌∷◌, ◌++◌, take, flat_map, filter}
+-- The line cut into rows, for each width of the line in dots.
+use Rattle.std.specs.Prelude.{ℕ, ◌≡◌, ◌≢◌, ◌&&◌, ◌||◌, nat_le, not, Bool, true, IsTrue, List, [], ◌∷◌, ◌++◌, length, take, flat_map, filter}
 use Rattle.std.specs.List.{AllByRecursion, list_all}
 use Rattle.escpos_command.specs.declared.command.Command.{Command}
 use Rattle.escpos_paper.specs.declared.cell.Cell.{Cell}
-use Rattle.escpos_paper.specs.declared.cell.TheConstants.{LINE_DOTS}
 use Rattle.escpos_command.specs.Settings.{last_or}
 use Rattle.escpos_paper.specs.Cells.{cells, dots}
 
--- A row isn't wider than the line.
-abbrev pub fits : List Cell → Bool
-fits row = nat_le (dots row) LINE_DOTS
+-- A row isn't wider than the line, or has one cell alone: a character wider than the line has a row of its own. (Reference:
+-- GS W widens a print area narrower than a character to one character.)
+abbrev pub fits : ℕ → List Cell → Bool
+fits width row = nat_le (length row) 1 || nat_le (dots row) width
 
 -- Each row but the last would be wider than the line with the first cell of the next.
-abbrev pub are_full : List (List Cell) → Bool
-are_full [] = true
-are_full (row ∷ []) = true
-are_full (row ∷ next ∷ rows) = not (fits (row ++ take 1 next)) && are_full (next ∷ rows)
+abbrev pub are_full : ℕ → List (List Cell) → Bool
+are_full width [] = true
+are_full width (row ∷ []) = true
+are_full width (row ∷ next ∷ rows) = not (fits width (row ++ take 1 next)) && are_full width (next ∷ rows)
 
 -- Rows as long as the width of the line allows.
-abbrev pub is_at_width : List (List Cell) → Bool
-is_at_width rows = list_all fits rows && are_full rows
+abbrev pub is_at_width : ℕ → List (List Cell) → Bool
+is_at_width width rows = list_all (fits width) rows && are_full width rows
 
 -- The rows are the cells cut at the width of the line: joined they are the cells, and each has a cell.
-pub record IsCut (xs : List Cell) (rows : List (List Cell)) : Type 0 where
+pub record IsCut (width : ℕ) (xs : List Cell) (rows : List (List Cell)) : Type 0 where
   pub joined : flat_map (λ row. row) rows ≡ xs
   pub each : AllByRecursion (λ row. row ≢ []) rows
-  pub at_width : IsTrue (is_at_width rows)
+  pub at_width : IsTrue (is_at_width width rows)
 
 -- Every way to cut cells into rows of at least one cell: the cells after the first are cut in every way, and
 -- the first cell begins their first row or is a row of its own.
@@ -39,9 +39,9 @@ cuts (x ∷ xs) = flat_map (with_first x) (cuts xs)
 
 -- The rows of the line: the one of all ways to cut its cells into rows that is at the width of the line. The law `one_cut`
 -- says that there is exactly one.
-abbrev pub rows : List Command → List (List Cell)
-rows cs = last_or [] (filter is_at_width (cuts (cells cs)))
+abbrev pub rows : ℕ → List Command → List (List Cell)
+rows width cs = last_or [] (filter (is_at_width width) (cuts (cells cs)))
 
 -- The last of the rows. It isn't printed yet.
-abbrev pub line : List Command → List Cell
-line cs = last_or [] (rows cs)
+abbrev pub line : ℕ → List Command → List Cell
+line width cs = last_or [] (rows width cs)

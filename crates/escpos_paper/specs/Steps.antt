@@ -1,7 +1,6 @@
--- What one more command makes of styles, line and paper. Only private clauses and proofs use these definitions; those of a
+-- What one more command makes of the other styles, line and paper. Only private clauses and proofs use these definitions; those of a
 -- whole list of commands are proved to agree with them.
 use Rattle.std.specs.Prelude.{ℕ, Bool, false, List, [], ◌∷◌, ◌++◌, Option, None, if◌then◌else◌}
-use Rattle.std.specs.Option.{unwrap_or}
 use Rattle.escpos_command.specs.declared.command.Command.{Command}
 use Rattle.escpos_command.specs.declared.command.Command.TheVariants as kind
 use Rattle.escpos_command.specs.declared.parameter.choices.FontFace.TheVariants.{A}
@@ -18,29 +17,12 @@ use Rattle.escpos_paper.specs.declared.style.Style.{Style}
 use Rattle.escpos_paper.specs.declared.paper.Paper.{Paper}
 use Rattle.escpos_paper.specs.declared.item.Item.{Item}
 use Rattle.escpos_paper.specs.declared.item.Item.TheVariants.{Feed, FeedUnits, Cut}
-use Rattle.escpos_paper.specs.Styles.{acts_at_line_start, is_empty, sets_table, sets_font, sets_width, sets_height, sets_bold, sets_underline, sets_strike, sets_reverse, sets_character_set, sets_alignment, sets_upside_down, sets_spacing, sets_bar_height, sets_module_width, sets_hri_place, sets_hri_font, sets_qr_model, sets_qr_size, sets_correction}
-use Rattle.escpos_command.specs.Settings.{is_init, sets_stored}
+use Rattle.escpos_paper.specs.Styles.{acts_at_line_start, is_empty, set_after, style_after, sets_alignment, sets_upside_down, sets_spacing, sets_bar_height, sets_module_width, sets_hri_place, sets_hri_font, sets_qr_model, sets_qr_size, sets_correction}
+use Rattle.escpos_command.specs.Settings.{sets_stored}
 use Rattle.escpos_paper.specs.Cells.{cell}
 use Rattle.escpos_paper.specs.Rows.{fits}
 use Rattle.escpos_paper.specs.Printed.{row_of, row_and_feed, bars_item, raster_item, prints_stored}
 use Rattle.escpos_paper.specs.Page.{Sheet}
-
--- The value of an attribute after a command.
-abbrev pub set_after : {X : Type 0} → (Command → Option X) → X → X → Command → X
-set_after sets start value c = if is_init c then start else unwrap_or (sets c) value
-
-abbrev pub style_after : Style → Command → Style
-style_after s c = record {
-  table = set_after sets_table 0 s.table c;
-  font = set_after sets_font A s.font c;
-  width = set_after sets_width 1 s.width c;
-  height = set_after sets_height 1 s.height c;
-  bold = set_after sets_bold false s.bold c;
-  underline = set_after sets_underline 0 s.underline c;
-  strike = set_after sets_strike false s.strike c;
-  reverse = set_after sets_reverse false s.reverse c;
-  character_set = set_after sets_character_set 0 s.character_set c;
-}
 
 abbrev pub bar_style_after : BarStyle → Command → BarStyle
 bar_style_after s c = record {
@@ -65,8 +47,8 @@ line_style_after is_line_empty s c = record {
 }
 
 -- The line with one more cell, which begins a new line where it doesn't fit.
-abbrev pub with_cell : List Cell → Cell → List Cell
-with_cell row x = if fits (row ++ x ∷ []) then row ++ x ∷ [] else x ∷ []
+abbrev pub with_cell : ℕ → List Cell → Cell → List Cell
+with_cell width row x = if fits width (row ++ x ∷ []) then row ++ x ∷ [] else x ∷ []
 
 abbrev pub qr_style_after : QrStyle → Command → QrStyle
 qr_style_after s c = record {
@@ -75,25 +57,26 @@ qr_style_after s c = record {
   correction = set_after sets_correction L s.correction c;
 }
 
-abbrev pub line_after : Style → Option (List ℕ) → List Cell → Command → List Cell
-line_after s stored row (kind.Char b) = with_cell row (cell s b)
-line_after s stored row kind.QrPrint = if is_some stored then [] else row
-line_after s stored row c = if ends_text c then [] else row
+abbrev pub line_after : ℕ → Style → Option (List ℕ) → List Cell → Command → List Cell
+line_after width s stored row (kind.Char b) = with_cell width row (cell s b)
+line_after width s stored row kind.QrPrint = if is_some stored then [] else row
+line_after width s stored row c = if ends_text c then [] else row
 
-abbrev pub step_prints : Style → BarStyle → LineStyle → QrStyle → Option (List ℕ) → List Cell → Command → List Item
-step_prints s bars lines qr stored row (kind.Char b) = if fits (row ++ cell s b ∷ []) then [] else row_and_feed lines row
-step_prints s bars lines qr stored row kind.LineFeed = row_of lines row ++ Feed 1 lines.spacing ∷ []
-step_prints s bars lines qr stored row (kind.FeedLines n) = row_of lines row ++ Feed n lines.spacing ∷ []
-step_prints s bars lines qr stored row (kind.FeedUnits n) = row_of lines row ++ FeedUnits n ∷ []
-step_prints s bars lines qr stored row (kind.Bars barcode) = row_and_feed lines row ++ bars_item lines.alignment bars barcode ∷ []
-step_prints s bars lines qr stored row (kind.Raster raster) = row_and_feed lines row ++ raster_item lines.alignment raster ∷ []
-step_prints s bars lines qr stored row (kind.Cut cut) = row_and_feed lines row ++ Cut (leaves_a_point cut.0) cut.1 ∷ []
-step_prints s bars lines qr stored row kind.QrPrint = prints_stored lines qr stored row
-step_prints s bars lines qr stored row _ = []
+abbrev pub step_prints : ℕ → Style → BarStyle → LineStyle → QrStyle → Option (List ℕ) → List Cell → Command → List Item
+step_prints width s bars lines qr stored row (kind.Char b) = if fits width (row ++ cell s b ∷ []) then [] else row_and_feed lines row
+step_prints width s bars lines qr stored row kind.LineFeed = row_of lines row ++ Feed 1 lines.spacing ∷ []
+step_prints width s bars lines qr stored row (kind.FeedLines n) = row_of lines row ++ Feed n lines.spacing ∷ []
+step_prints width s bars lines qr stored row (kind.FeedUnits n) = row_of lines row ++ FeedUnits n ∷ []
+step_prints width s bars lines qr stored row (kind.Bars barcode) = row_and_feed lines row ++ bars_item lines.alignment bars barcode ∷ []
+step_prints width s bars lines qr stored row (kind.Raster raster) = row_and_feed lines row ++ raster_item lines.alignment raster ∷ []
+step_prints width s bars lines qr stored row (kind.Cut cut) = row_and_feed lines row ++ Cut (leaves_a_point cut.0) cut.1 ∷ []
+step_prints width s bars lines qr stored row kind.QrPrint = prints_stored lines qr stored row
+step_prints width s bars lines qr stored row _ = []
 
 -- What a paper has, as a sheet.
 abbrev pub sheet_on : Paper → Sheet
 sheet_on paper = record {
+  line_dots = paper.line_width;
   items = paper.items.items;
   style = paper.style;
   bar_style = paper.bar_style;
@@ -106,13 +89,14 @@ sheet_on paper = record {
 -- The sheet after a command.
 abbrev pub sheet_after : Sheet → Command → Sheet
 sheet_after sheet c = record {
-  items = sheet.items ++ step_prints sheet.style sheet.bar_style sheet.line_style sheet.qr_style sheet.stored sheet.line c;
+  line_dots = sheet.line_dots;
+  items = sheet.items ++ step_prints sheet.line_dots sheet.style sheet.bar_style sheet.line_style sheet.qr_style sheet.stored sheet.line c;
   style = style_after sheet.style c;
   bar_style = bar_style_after sheet.bar_style c;
   line_style = line_style_after (is_empty sheet.line) sheet.line_style c;
   qr_style = qr_style_after sheet.qr_style c;
   stored = set_after sets_stored None sheet.stored c;
-  line = line_after sheet.style sheet.stored sheet.line c;
+  line = line_after sheet.line_dots sheet.style sheet.stored sheet.line c;
 }
 
 -- The sheet after these commands, one after another.

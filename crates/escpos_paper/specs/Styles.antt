@@ -1,8 +1,8 @@
 -- The styles after a list of commands. For each attribute the last command that sets it decides, of those
 -- after the last Init; where none sets it, it has its power-on value. (Reference: ESC !, ESC -, ESC E,
 -- ESC G, ESC M, ESC R, ESC a, ESC t, ESC {, ESC 2, ESC 3, GS !, GS B, GS h, GS w, GS H, GS f, GS ( k, ESC @.)
-use Rattle.std.specs.Prelude.{ℕ, ◌==◌, ◌&&◌, not, Bool, true, false, List, [], ◌∷◌, ◌++◌, Option, None, Some, if◌then◌else◌}
-use Rattle.std.specs.List.{list_any}
+use Rattle.std.specs.Prelude.{ℕ, ◌==◌, ◌&&◌, not, Bool, true, false, List, [], ◌∷◌, Option, None, Some, if◌then◌else◌}
+use Rattle.std.specs.Option.{unwrap_or}
 use Rattle.escpos_command.specs.declared.command.Command.{Command}
 use Rattle.escpos_command.specs.declared.command.Command.TheVariants as kind
 use Rattle.escpos_command.specs.declared.parameter.choices.FontFace.{FontFace}
@@ -14,7 +14,7 @@ use Rattle.escpos_command.specs.declared.parameter.choices.Alignment.TheVariants
 use Rattle.escpos_command.specs.declared.parameter.choices.HriPosition.{HriPosition}
 use Rattle.escpos_command.specs.declared.parameter.choices.HriPosition.TheVariants.{Nowhere}
 use Rattle.escpos_command.specs.Meanings.{has_bit, choice, face_of, alignment_of, hri_position_of, face_of_mode, magnified, underline_of_mode, size_width, size_height, model_number, correction_of}
-use Rattle.escpos_command.specs.Settings.{setting}
+use Rattle.escpos_command.specs.Settings.{is_init, setting}
 use Rattle.escpos_command.specs.Text.{text}
 use Rattle.escpos_paper.specs.declared.style.Style.{Style}
 use Rattle.escpos_paper.specs.declared.style.BarStyle.{BarStyle}
@@ -160,6 +160,24 @@ style cs = record {
   strike = setting sets_strike false cs;
   reverse = setting sets_reverse false cs;
   character_set = setting sets_character_set 0 cs;
+}
+
+-- The value of an attribute after a command.
+abbrev pub set_after : {X : Type 0} → (Command → Option X) → X → X → Command → X
+set_after sets start value c = if is_init c then start else unwrap_or (sets c) value
+
+-- The style of characters after one more command: the law `styles_grow` says that this is so.
+abbrev pub style_after : Style → Command → Style
+style_after s c = record {
+  table = set_after sets_table 0 s.table c;
+  font = set_after sets_font A s.font c;
+  width = set_after sets_width 1 s.width c;
+  height = set_after sets_height 1 s.height c;
+  bold = set_after sets_bold false s.bold c;
+  underline = set_after sets_underline 0 s.underline c;
+  strike = set_after sets_strike false s.strike c;
+  reverse = set_after sets_reverse false s.reverse c;
+  character_set = set_after sets_character_set 0 s.character_set c;
 }
 
 -- The settings that a barcode after the commands gets.

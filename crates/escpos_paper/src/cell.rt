@@ -9,15 +9,10 @@ use arrayvec::ArrayVec;
 use escpos_command::FontFace;
 use std::marker::Model;
 
-/// How wide a line is, in dots.
-pub const LINE_DOTS: usize = 512;
+/// The most cells that a line has: those of font B at width 1 in a line of 1,024 dots.
+pub const LINE_CELLS: usize = 113;
 
-const _: () = prove!(LINE_DOTS == 512);
-
-/// The most cells that a line has: those of font B at width 1.
-pub const LINE_CELLS: usize = 56;
-
-const _: () = prove!(LINE_CELLS == 56);
+const _: () = prove!(LINE_CELLS == 113);
 
 /// A character in a line.
 #[derive(Clone, Copy, Debug, PartialEq, Eq)]
@@ -57,7 +52,7 @@ impl Default for Cell {
     }
 }
 
-/// The cells of a row, in order: at most 56. They are part of the value itself, so they allocate nothing.
+/// The cells of a row, in order: at most 113. They are part of the value itself, so they allocate nothing.
 #[derive(Debug, Drop)]
 pub struct Cells {
     cells: ArrayVec<Cell, LINE_CELLS>,

@@ -1,7 +1,7 @@
 //! What a printer's commands put on paper: styles, lines cut into rows, barcodes and rasters, and the paper as text.
 //!
 //! A `Page` takes commands one at a time and keeps the items that they print until they are torn off, the styles that are
-//! set and the line that isn't printed yet. The definitions of `specs/` say the same of a whole list of commands,
+//! set and the line that isn't printed yet. How wide a line is, is a setting of the page that no command changes. The definitions of `specs/` say the same of a whole list of commands,
 //! and look back in it instead of keeping anything.
 //!
 //! `page` has the page, and `paper` what one command does to the items, the styles and the line. `style` has the styles,
@@ -24,7 +24,7 @@ mod style;
 mod text;
 mod write;
 
-pub use cell::{Cell, Cells, LINE_CELLS, LINE_DOTS};
+pub use cell::{Cell, Cells, LINE_CELLS};
 pub use content::{CONTENT_BYTES, Content, DOT_BYTES, Dots, QrContent};
 pub use digits::{all_digits, check_digit};
 pub use item::Item;

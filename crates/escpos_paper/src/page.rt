@@ -3,9 +3,10 @@
 //! What is printed stays on a page until it is torn off; where each command's items are torn off, a stream of any length
 //! can be printed in the memory that one command takes. A page keeps one style of characters, one of barcodes, one of lines and
 //! one line. The invariant of its type says that these are what the definitions find by looking back in the whole list of
-//! commands. What each command does to them is left to `paper`; a page makes room for it.
+//! commands. What each command does to them is left to `paper`; a page makes room for it. How wide a line is, is set when a
+//! page is made.
 
-ghost use Rattle.std.specs.Prelude.{◌≡◌, ◌+◌, ◌≤◌, nat_le, IsOk, IfOk, IfErr, OnOk, OnErr, List, [], ◌∷◌, ◌++◌, length, map, take};
+ghost use Rattle.std.specs.Prelude.{◌≡◌, ◌+◌, ◌≤◌, ℕ, nat_le, IsOk, IfOk, IfErr, OnOk, OnErr, List, [], ◌∷◌, ◌++◌, length, map, take};
 ghost use Rattle.std.specs.List.{AllPass};
 ghost use Rattle.escpos_command.specs.declared.command.Command.{Command};
 ghost use Rattle.escpos_command.specs.declared.command.Command.TheVariants.{Char};
@@ -16,7 +17,7 @@ ghost use Rattle.escpos_paper.specs.Torn.{TornIs, bare};
 
 use crate::item::Item;
 use crate::paper::{MOST_ITEMS, Paper};
-use escpos_command::{Command, laws};
+use escpos_command::{Command, LineWidth, laws};
 use std::alloc::{AllocError, Global};
 use std::marker::Model;
 
@@ -37,6 +38,7 @@ impl Model for Page {
 
     ghost view = { λ p. record {
       sheet = record {
+        line_dots = p.paper.line_width;
         items = p.paper.items.items;
         style = p.paper.style;
         bar_style = p.paper.bar_style;
@@ -50,6 +52,7 @@ impl Model for Page {
 
     ghost invariant = { λ p. IsReached (record {
       sheet = record {
+        line_dots = p.paper.line_width;
         items = p.paper.items.items;
         style = p.paper.style;
         bar_style = p.paper.bar_style;
@@ -63,13 +66,20 @@ impl Model for Page {
 }
 
 impl Page {
-    /// Paper with nothing on it, power-on styles and an empty line. Allocates nothing.
-    pub fn new(alloc: Global) -> Self
-        ensures { PageIs result [] [] }
+    /// Paper with nothing on it, power-on styles and an empty line, in lines of this width. Allocates nothing.
+    pub fn new(alloc: Global, width: LineWidth) -> Self
+        ensures { PageIs width result [] [] }
     {
         Page {
-            paper: Paper::new(alloc),
+            paper: Paper::new(alloc, width),
         }
+    }
+
+    /// How wide a line is. Allocates nothing.
+    pub fn line_width(&self) -> LineWidth
+        ensures { result ≡ self.now.sheet.line_dots }
+    {
+        self.paper.line_width
     }
 
     /// Makes room for the items of any one command. The error is a failed allocation.
@@ -95,10 +105,10 @@ impl Page {
     /// Carries out a command. `Err` returns the command where an allocation failed, and leaves items, styles and line as
     /// they were. Allocates nothing where the page has room.
     pub fn apply(&mut self, command: Command) -> Result<(), Command>
-        ensures taken { OnOk result ((kept : List Item) (cs : List Command) →
-            PageIs self.old kept cs → PageIs self.new kept (cs ++ command ∷ [])) }
-        ensures torn { OnOk result ((gone : List Item) (cs : List Command) →
-            TornIs self.old gone cs → TornIs self.new gone (cs ++ command ∷ [])) }
+        ensures taken { OnOk result ((width : ℕ) (kept : List Item) (cs : List Command) →
+            PageIs width self.old kept cs → PageIs width self.new kept (cs ++ command ∷ [])) }
+        ensures torn { OnOk result ((width : ℕ) (gone : List Item) (cs : List Command) →
+            TornIs width self.old gone cs → TornIs width self.new gone (cs ++ command ∷ [])) }
         ensures same { OnErr result (self.new.sheet ≡ self.old.sheet) }
         ensures given_back { IfErr result (λ back. back ≡ command) }
         ensures no_memory { MOST_ITEMS ≤ self.old.room → IsOk result }
@@ -118,10 +128,10 @@ impl Page {
         requires some { 1 ≤ length text.now }
         requires characters { AllPass is_character text.now }
         ensures count { IfOk result (λ count. (1 ≤ count) × (count ≤ length text.now)) }
-        ensures taken { IfOk result (λ count. (kept : List Item) (cs : List Command) →
-            PageIs self.old kept cs → PageIs self.new kept (cs ++ map Char (take count text.now))) }
-        ensures torn { IfOk result (λ count. (gone : List Item) (cs : List Command) →
-            TornIs self.old gone cs → TornIs self.new gone (cs ++ map Char (take count text.now))) }
+        ensures taken { IfOk result (λ count. (width : ℕ) (kept : List Item) (cs : List Command) →
+            PageIs width self.old kept cs → PageIs width self.new kept (cs ++ map Char (take count text.now))) }
+        ensures torn { IfOk result (λ count. (width : ℕ) (gone : List Item) (cs : List Command) →
+            TornIs width self.old gone cs → TornIs width self.new gone (cs ++ map Char (take count text.now))) }
         ensures same { OnErr result (self.new.sheet ≡ self.old.sheet) }
         ensures no_memory { MOST_ITEMS ≤ self.old.room → IsOk result }
     {
@@ -137,8 +147,8 @@ impl Page {
         self.paper.items.as_slice()
     }
 
-    /// Drops what is printed on the paper. Styles and line stay, and so does the room of what was dropped. Allocates
-    /// nothing.
+    /// Drops what is printed on the paper. Styles, line and its width stay, and so does the room of what was dropped.
+    /// Allocates nothing.
     pub fn tear_off(&mut self)
         ensures torn { self.new.sheet ≡ bare self.old.sheet }
         ensures room { self.old.room ≤ self.new.room }
@@ -146,9 +156,10 @@ impl Page {
         self.paper.items.clear();
     }
 
-    /// Forgets the commands so far: drops the line and restores the power-on styles. The paper stays. Allocates nothing.
+    /// Forgets the commands so far: drops the line and restores the power-on styles. The paper stays, and so does the width
+    /// of a line. Allocates nothing.
     pub fn restart(&mut self)
-        ensures forgotten { PageIs self.new self.old.sheet.items [] }
+        ensures forgotten { PageIs self.old.sheet.line_dots self.new self.old.sheet.items [] }
         ensures same_room { self.old.room ≤ self.new.room }
     {
         self.paper.initialise();

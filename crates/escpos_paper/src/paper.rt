@@ -11,9 +11,9 @@ ghost use Rattle.escpos_command.specs.Text.{is_some};
 ghost use Rattle.escpos_paper.specs.Printed.{row_of, row_and_feed, prints_stored};
 ghost use Rattle.escpos_paper.specs.declared.item.Item.TheVariants as item;
 ghost use Rattle.escpos_paper.specs.Rows.{fits};
-ghost use Rattle.escpos_paper.specs.Styles.{power_on, power_on_bars, power_on_lines, power_on_qr, is_empty};
+ghost use Rattle.escpos_paper.specs.Styles.{power_on, power_on_bars, power_on_lines, power_on_qr, is_empty, style_after, set_after};
 ghost use Rattle.escpos_paper.specs.Cells.{cell};
-ghost use Rattle.escpos_paper.specs.Steps.{sheet_on, sheet_after_all, step_prints, style_after, bar_style_after, line_style_after, qr_style_after, set_after, line_after, with_cell};
+ghost use Rattle.escpos_paper.specs.Steps.{sheet_on, sheet_after_all, step_prints, bar_style_after, line_style_after, qr_style_after, line_after, with_cell};
 
 use crate::barcode::{bars_item, raster_item};
 use crate::cell::Cell;
@@ -21,7 +21,7 @@ use crate::item::Item;
 use crate::print_buffer::PrintBuffer;
 use crate::qr_store::QrStore;
 use crate::style::{BarStyle, LineStyle, QrStyle, Style};
-use escpos_command::{Command, Cut};
+use escpos_command::{Command, Cut, LineWidth};
 use std::alloc::Global;
 
 /// The most items that one command prints: a row, a feed and a barcode, a raster, a QR code or a cut.
@@ -29,10 +29,11 @@ pub const MOST_ITEMS: usize = 3;
 
 const _: () = prove!(MOST_ITEMS == 3);
 
-/// What commands leave: the items on paper, the styles of characters, barcodes, lines and QR codes, the data of QR codes that is
+/// What commands leave: how wide a line is, which no command changes, the items on paper, the styles of characters, barcodes, lines and QR codes, the data of QR codes that is
 /// stored, and the line that isn't printed yet.
 #[derive(Drop)]
 pub struct Paper {
+    pub line_width: LineWidth,
     pub items: Vec<Item>,
     pub style: Style,
     pub bar_style: BarStyle,
@@ -43,8 +44,9 @@ pub struct Paper {
 }
 
 impl Paper {
-    /// Paper with nothing on it, power-on styles and an empty line. Allocates nothing.
-    pub fn new(alloc: Global) -> Self
+    /// Paper with nothing on it, power-on styles and an empty line, in lines of this width. Allocates nothing.
+    pub fn new(alloc: Global, width: LineWidth) -> Self
+        ensures line_width { result.line_width ≡ width }
         ensures items { result.items.items ≡ [] }
         ensures style { result.style ≡ power_on }
         ensures bar_style { result.bar_style ≡ power_on_bars }
@@ -54,6 +56,7 @@ impl Paper {
         ensures line { result.line ≡ [] }
     {
         Paper {
+            line_width: width,
             items: Vec::new(alloc),
             style: Style::power_on(),
             bar_style: BarStyle::power_on(),
@@ -64,8 +67,9 @@ impl Paper {
         }
     }
 
-    /// Drops the line and restores the power-on styles. The items stay.
+    /// Drops the line and restores the power-on styles. The items stay, and so does the width of a line.
     pub fn initialise(&mut self)
+        ensures line_width { self.new.line_width ≡ self.old.line_width }
         ensures items { self.new.items ≡ self.old.items }
         ensures style { self.new.style ≡ power_on }
         ensures bar_style { self.new.bar_style ≡ power_on_bars }
@@ -89,19 +93,26 @@ impl Paper {
         requires ready { IsTrue self.old.store.ready }
         requires visible { 1 ≤ self.old.style.width }
         requires narrow { self.old.style.width ≤ 8 }
+        ensures line_width { self.new.line_width ≡ self.old.line_width }
         ensures items { self.new.items.items
-            ≡ self.old.items.items ++ step_prints self.old.style self.old.bar_style self.old.line_style self.old.qr_style self.old.store.stored self.old.line command }
+            ≡ self.old.items.items ++ step_prints self.old.line_width self.old.style self.old.bar_style self.old.line_style self.old.qr_style self.old.store.stored self.old.line command }
         ensures style { self.new.style ≡ style_after self.old.style command }
         ensures bar_style { self.new.bar_style ≡ bar_style_after self.old.bar_style command }
         ensures line_style { self.new.line_style ≡ line_style_after (is_empty self.old.line) self.old.line_style command }
         ensures qr_style { self.new.qr_style ≡ qr_style_after self.old.qr_style command }
         ensures stored { self.new.store.stored ≡ set_after sets_stored None self.old.store.stored command }
-        ensures line { self.new.line ≡ line_after self.old.style self.old.store.stored self.old.line command }
+        ensures line { self.new.line ≡ line_after self.old.line_width self.old.style self.old.store.stored self.old.line command }
     {
         match command {
             Command::Char(character) => {
                 let cell = self.style.cell(character.byte());
-                put_cell(&mut self.items, &mut self.line, self.line_style, cell);
+                put_cell(
+                    &mut self.items,
+                    &mut self.line,
+                    self.line_width,
+                    self.line_style,
+                    cell,
+                );
             }
             Command::LineFeed => self.feed(self.feed_of(1)),
             Command::FeedLines(lines) => self.feed(self.feed_of(lines.byte())),
@@ -161,10 +172,12 @@ impl Paper {
         make_room(
             &mut self.items,
             &mut self.line,
+            self.line_width,
             self.line_style,
             &self.style,
         );
-        let count = text.len().min(self.line.room_for(&self.style));
+        let room = self.line.room_for(self.line_width, &self.style);
+        let count = text.len().min(room);
         self.line.extend(self.style, &text[..count]);
         count
     }
@@ -184,6 +197,7 @@ impl Paper {
         requires { vec_len self.old.items + 2 ≤ vec_capacity self.old.items }
         ensures items { self.new.items.items
             ≡ self.old.items.items ++ row_of self.old.line_style self.old.line ++ feed ∷ [] }
+        ensures line_width { self.new.line_width ≡ self.old.line_width }
         ensures style { self.new.style ≡ self.old.style }
         ensures bar_style { self.new.bar_style ≡ self.old.bar_style }
         ensures line_style { self.new.line_style ≡ self.old.line_style }
@@ -201,6 +215,7 @@ impl Paper {
         requires ready { IsTrue self.old.store.ready }
         ensures items { self.new.items.items
             ≡ self.old.items.items ++ prints_stored self.old.line_style self.old.qr_style self.old.store.stored self.old.line }
+        ensures line_width { self.new.line_width ≡ self.old.line_width }
         ensures style { self.new.style ≡ self.old.style }
         ensures bar_style { self.new.bar_style ≡ self.old.bar_style }
         ensures line_style { self.new.line_style ≡ self.old.line_style }
@@ -224,6 +239,7 @@ impl Paper {
         requires { vec_len self.old.items + MOST_ITEMS ≤ vec_capacity self.old.items }
         ensures items { self.new.items.items
             ≡ self.old.items.items ++ row_and_feed self.old.line_style self.old.line ++ item ∷ [] }
+        ensures line_width { self.new.line_width ≡ self.old.line_width }
         ensures style { self.new.style ≡ self.old.style }
         ensures bar_style { self.new.bar_style ≡ self.old.bar_style }
         ensures line_style { self.new.line_style ≡ self.old.line_style }
@@ -237,30 +253,42 @@ impl Paper {
 }
 
 // Ends the line if no further character of the style fits.
-fn make_room(items: &mut Vec<Item>, line: &mut PrintBuffer, lines: LineStyle, style: &Style)
+fn make_room(
+    items: &mut Vec<Item>,
+    line: &mut PrintBuffer,
+    width: LineWidth,
+    lines: LineStyle,
+    style: &Style,
+)
     requires room { vec_len items.old + 2 ≤ vec_capacity items.old }
     requires visible { 1 ≤ style.now.width }
     requires narrow { style.now.width ≤ 8 }
     ensures printed { (byte : ℕ) → items.new.items ≡ items.old.items
-        ++ (if fits (line.old ++ cell style.now byte ∷ []) then [] else row_and_feed lines line.old) }
-    ensures left { (byte : ℕ) → line.new ≡ (if fits (line.old ++ cell style.now byte ∷ []) then line.old else []) }
-    ensures fits { (byte : ℕ) → IsTrue (fits (line.new ++ cell style.now byte ∷ [])) }
+        ++ (if fits width (line.old ++ cell style.now byte ∷ []) then [] else row_and_feed lines line.old) }
+    ensures left { (byte : ℕ) → line.new ≡ (if fits width (line.old ++ cell style.now byte ∷ []) then line.old else []) }
+    ensures fits { (byte : ℕ) → IsTrue (fits width (line.new ++ cell style.now byte ∷ [])) }
 {
-    if line.room_for(style) == 0 {
+    if line.room_for(width, style) == 0 {
         end_line(items, line, lines);
     }
 }
 
 // Puts a cell into the line; if it doesn't fit, ends the line before it.
-fn put_cell(items: &mut Vec<Item>, line: &mut PrintBuffer, lines: LineStyle, cell: Cell)
+fn put_cell(
+    items: &mut Vec<Item>,
+    line: &mut PrintBuffer,
+    width: LineWidth,
+    lines: LineStyle,
+    cell: Cell,
+)
     requires room { vec_len items.old + 2 ≤ vec_capacity items.old }
     requires visible { 1 ≤ cell.style.width }
     requires narrow { cell.style.width ≤ 8 }
     ensures printed { items.new.items ≡ items.old.items
-        ++ (if fits (line.old ++ cell ∷ []) then [] else row_and_feed lines line.old) }
-    ensures left { line.new ≡ with_cell line.old cell }
+        ++ (if fits width (line.old ++ cell ∷ []) then [] else row_and_feed lines line.old) }
+    ensures left { line.new ≡ with_cell width line.old cell }
 {
-    if !line.has_room_for(&cell) {
+    if !line.has_room_for(width, &cell) {
         end_line(items, line, lines);
     }
     line.push(cell);

@@ -1,18 +1,21 @@
 //! The line that isn't printed yet.
 //!
-//! It keeps its width in dots beside its cells, so that one addition decides whether one more cell fits.
+//! It keeps its width in dots beside its cells, so that one addition decides whether one more cell fits. How wide it may be
+//! is the page's, and a parameter here.
 
 ghost use Rattle.std.specs.Prelude.{◌≡◌, ◌+◌, ◌*◌, ◌≤◌, IsTrue, IsFalse, ℕ, List, [], ◌∷◌, ◌++◌, length, map};
+ghost use Rattle.escpos_command.specs.declared.line_width.TheConstants.{MOST_LINE_DOTS};
 ghost use Rattle.escpos_paper.specs.Cells.{cell, dots};
 ghost use Rattle.escpos_paper.specs.Rows.{fits};
 ghost use Rattle.escpos_paper.specs.Styles.{is_empty};
 
-use crate::cell::{Cell, Cells, LINE_DOTS};
+use crate::cell::{Cell, Cells};
 use crate::style::Style;
+use escpos_command::LineWidth;
 use std::marker::Model;
 use std::mem;
 
-/// Cells that together aren't wider than a line. The model of a line is the list of its cells.
+/// Cells that together aren't wider than the widest line. The model of a line is the list of its cells.
 #[derive(Drop)]
 pub struct PrintBuffer {
     cells: Cells,
@@ -22,14 +25,14 @@ pub struct PrintBuffer {
 impl Model for PrintBuffer {
     ghost use Rattle.std.specs.Prelude.{List, length, ◌*◌, ◌≤◌, ◌≡◌};
     ghost use Rattle.escpos_paper.specs.declared.cell.Cell.{Cell};
-    ghost use Rattle.escpos_paper.specs.declared.cell.TheConstants.{LINE_DOTS};
+    ghost use Rattle.escpos_command.specs.declared.line_width.TheConstants.{MOST_LINE_DOTS};
     ghost use Rattle.escpos_paper.specs.Cells.{dots};
 
     ghost Value = { List Cell };
 
     ghost view = { λ l. l.cells };
 
-    ghost invariant = { λ l. (l.used ≡ dots l.cells) × (l.used ≤ LINE_DOTS) × (9 * length l.cells ≤ l.used) };
+    ghost invariant = { λ l. (l.used ≡ dots l.cells) × (l.used ≤ MOST_LINE_DOTS) × (9 * length l.cells ≤ l.used) };
 }
 
 impl PrintBuffer {
@@ -49,25 +52,34 @@ impl PrintBuffer {
         self.cells.as_slice().is_empty()
     }
 
-    /// Whether the cell fits after the others.
-    pub fn has_room_for(&self, cell: &Cell) -> bool
-        ensures { result ≡ fits (self.now ++ cell.now ∷ []) }
+    /// Whether the cell fits after the others in a line of this width. It does if there is none before it.
+    pub fn has_room_for(&self, width: LineWidth, cell: &Cell) -> bool
+        ensures value { result ≡ fits width (self.now ++ cell.now ∷ []) }
+        ensures most { width ≤ MOST_LINE_DOTS }
     {
-        cell.dots() <= LINE_DOTS - self.used
+        let dots = width.dots() as usize;
+        self.is_empty() || self.used <= dots && cell.dots() <= dots - self.used
     }
 
-    /// How many characters of the style fit after the others.
-    pub fn room_for(&self, style: &Style) -> usize
+    /// How many characters of the style fit after the others in a line of this width. One fits if there is none before it.
+    pub fn room_for(&self, width: LineWidth, style: &Style) -> usize
         requires visible { 1 ≤ style.now.width }
-        ensures fit { (text : List ℕ) → length text ≤ result → IsTrue (fits (self.now ++ map (cell style.now) text)) }
-        ensures none { result ≡ 0 → (byte : ℕ) → IsFalse (fits (self.now ++ cell style.now byte ∷ [])) }
+        ensures fit { (text : List ℕ) → 1 ≤ length text → length text ≤ result
+            → IsTrue (fits width (self.now ++ map (cell style.now) text)) }
+        ensures none { result ≡ 0 → (byte : ℕ) → IsFalse (fits width (self.now ++ cell style.now byte ∷ [])) }
+        ensures most { width ≤ MOST_LINE_DOTS }
     {
-        (LINE_DOTS - self.used) / style.dots()
+        let room = (width.dots() as usize).saturating_sub(self.used) / style.dots();
+        if room == 0 && self.is_empty() {
+            1
+        } else {
+            room
+        }
     }
 
-    /// Puts characters of one style after the others, where they must fit.
+    /// Puts characters of one style after the others, where together they must not be wider than the widest line.
     pub fn extend(&mut self, style: Style, text: &[u8])
-        requires room { IsTrue (fits (self.old ++ map (cell style) text.now)) }
+        requires room { dots (self.old ++ map (cell style) text.now) ≤ MOST_LINE_DOTS }
         requires visible { 1 ≤ style.width }
         ensures { self.new ≡ self.old ++ map (cell style) text.now }
     {
@@ -75,9 +87,9 @@ impl PrintBuffer {
         self.cells.extend(style, text);
     }
 
-    /// Puts a cell after the others, where it must fit.
+    /// Puts a cell after the others, where together they must not be wider than the widest line.
     pub fn push(&mut self, cell: Cell)
-        requires room { IsTrue (fits (self.old ++ cell ∷ [])) }
+        requires room { dots (self.old ++ cell ∷ []) ≤ MOST_LINE_DOTS }
         requires visible { 1 ≤ cell.style.width }
         ensures { self.new ≡ self.old ++ cell ∷ [] }
     {

@@ -3,9 +3,9 @@
 
 ghost use Rattle.std.specs.Prelude.{◌≡◌, ◌↔◌, ◌*◌, IsTrue};
 ghost use Rattle.escpos_command.specs.declared.command.Command.TheVariants as kind;
-ghost use Rattle.escpos_paper.specs.Styles.{power_on, power_on_bars, power_on_lines, power_on_qr, same_style};
+ghost use Rattle.escpos_paper.specs.Styles.{power_on, power_on_bars, power_on_lines, power_on_qr, same_style, style_after};
 ghost use Rattle.escpos_paper.specs.Cells.{cell, face_dots};
-ghost use Rattle.escpos_paper.specs.Steps.{style_after, line_style_after};
+ghost use Rattle.escpos_paper.specs.Steps.{line_style_after};
 
 use crate::cell::{Cell, face_dots};
 use escpos_command::{Align, Alignment, Correction, FontFace, HriPosition, Mode, Size, Switch};

@@ -1,5 +1,5 @@
 -- A link in parts, and under paper that was torn off.
-use Rattle.std.proofs.Common.{◌≡◌, ℕ, ◌+◌, inl, inr, List, ◌++◌, sym, ap, subst, length-append, arith, Option, Some, None}
+use Rattle.std.proofs.Common.{◌≡◌, ℕ, ◌+◌, inl, inr, List, ◌++◌, sym, ◌∙◌, ap, subst, length-append, arith, Option, Some, None}
 use Rattle.std.proofs.KnownBytes.{Consumes-trans}
 use Rattle.escpos_command.specs.declared.command.Command.{Command}
 use Rattle.escpos_paper.specs.declared.item.Item.{Item}
@@ -45,14 +45,19 @@ in_parts join p q t came left rest before between after most further first more 
 
 -- The law of paper above, as escpos_paper states it.
 abbrev pub AboveLaw : Type 0
-AboveLaw = (above : List Item) (old new : Sheet) (first : List Item) (before more : List Command) → SheetIs old first before → SheetIs new first (before ++ more)
-    → (kept : List Item) (cs : List Command) → SheetIs (below above old) kept cs → SheetIs (below above new) kept (cs ++ more)
+AboveLaw = (width : ℕ) (above : List Item) (old new : Sheet) (first : List Item) (before more : List Command) → SheetIs width old first before → SheetIs width new first (before ++ more)
+    → (kept : List Item) (cs : List Command) → SheetIs width (below above old) kept cs → SheetIs width (below above new) kept (cs ++ more)
 
-ran_under : AboveLaw → (gone : List Item) (p q : PrinterView) (bytes : List ℕ) (cs : List Command) (kept : List Item) (before : List Command)
-    → SheetIs p.sheet kept before → Ran p bytes cs q → Ran (under gone p) bytes cs (under gone q)
-ran_under law gone p q bytes cs kept before is r = record {
+-- A printer whose sheet is one that commands leave, in lines of its own width, so that commands that follow print there as below
+-- any items.
+ran_under : AboveLaw → (gone : List Item) (p q : PrinterView) (bytes : List ℕ) (cs : List Command) (width : ℕ) (kept : List Item) (before : List Command)
+    → SheetIs width p.sheet kept before → Ran p bytes cs q → Ran (under gone p) bytes cs (under gone q)
+ran_under law gone p q bytes cs width kept before is r = record {
   reads = r.reads;
-  page = law gone p.sheet q.sheet kept before cs is (r.page kept before is);
+  page = λ others above more h.
+      let same : width ≡ others = ap (λ (s : Sheet). s.line_dots) (sym is) ∙ ap (λ (s : Sheet). s.line_dots) h in
+      law others gone p.sheet q.sheet kept before cs (subst (λ v. SheetIs v p.sheet kept before) same is)
+      (r.page others kept before (subst (λ v. SheetIs v p.sheet kept before) same is)) above more h;
   condition = r.condition;
   passes = r.passes;
 }
@@ -78,9 +83,9 @@ left_under (Some (Fault why)) gone t r bytes k h = ap (under gone) h
 left_under (Some Offline) gone t r bytes k h = ap (under gone) h
 left_under (Some Memory) gone t r bytes k h = ap (under gone) h
 
-pub serves_under : AboveLaw → (gone : List Item) (p q : PrinterView) (l : LinkView) (most : ℕ) (served : Served) (kept : List Item) (cs : List Command)
-    → SheetIs p.sheet kept cs → Serves p l most served q → Serves (under gone p) l most served (under gone q)
-serves_under law gone p q l most served kept cs is h =
+pub serves_under : AboveLaw → (gone : List Item) (p q : PrinterView) (l : LinkView) (most : ℕ) (served : Served) (width : ℕ) (kept : List Item) (cs : List Command)
+    → SheetIs width p.sheet kept cs → Serves p l most served q → Serves (under gone p) l most served (under gone q)
+serves_under law gone p q l most served width kept cs is h =
     let c = h.carries in
     record {
       bytes = h.bytes;
@@ -91,7 +96,7 @@ serves_under law gone p q l most served kept cs is h =
         commands = c.commands;
         taken = under gone c.taken;
         within = c.within;
-        ran = ran_under law gone p c.taken _ c.commands kept cs is c.ran;
+        ran = ran_under law gone p c.taken _ c.commands width kept cs is c.ran;
         answers = c.answers;
         cause = cause_under (Some served.end) gone c.taken h.bytes served.consumed c.cause;
         leaves = left_under (Some served.end) gone c.taken q h.bytes served.consumed c.leaves;

@@ -36,7 +36,7 @@ all_pass condition (c ∷ cs) ds h k = (h.0, all_pass condition cs ds h.1 k)
 pub ran_on : JoinLaw → (p m q : PrinterView) (x y : List ℕ) (cs ds : List Command) → Ran p x cs m → Ran m y ds q → Ran p (x ++ y) (cs ++ ds) q
 ran_on join p m q x y cs ds t u = record {
   reads = subst (λ v. Reads v (cs ++ ds) q.half) (append_assoc p.half x y) (join (p.half ++ x) y cs ds m.half q.half t.reads u.reads);
-  page = λ kept before h. subst (λ v. SheetIs q.sheet kept v) (append_assoc before cs ds) (u.page kept (before ++ cs) (t.page kept before h));
+  page = λ width kept before h. subst (λ v. SheetIs width q.sheet kept v) (append_assoc before cs ds) (u.page width kept (before ++ cs) (t.page width kept before h));
   condition = u.condition ∙ t.condition;
   passes = all_pass p.condition cs ds t.passes (subst (λ v. AllByRecursion (PassesOffline v) ds) t.condition u.passes);
 }
@@ -56,7 +56,7 @@ took_on join p m q x y cs ds t u = record {
 pub ran_none : (p : PrinterView) → (p.half ≡ []) ⊎ Half p.half → Ran p [] [] p
 ran_none p left = record {
   reads = record { commands = tt; whole = append-nil p.half; rest_is = left };
-  page = λ kept before h. subst (λ v. SheetIs p.sheet kept v) (sym (append-nil before)) h;
+  page = λ width kept before h. subst (λ v. SheetIs width p.sheet kept v) (sym (append-nil before)) h;
   condition = refl;
   passes = tt;
 }
@@ -175,7 +175,7 @@ pub more_taken : (p : PrinterView) (b : ℕ) (sheet : Sheet) (half : List ℕ) �
 more_taken p b sheet half h e f room = record {
   ran = record {
     reads = record { commands = tt; whole = sym f; rest_is = inr (subst (λ v. Half v) (sym f) h) };
-    page = λ kept before is. subst (λ v. SheetIs sheet kept v) (sym (append-nil before)) (e ∙ is);
+    page = λ width kept before is. subst (λ v. SheetIs width sheet kept v) (sym (append-nil before)) (e ∙ is);
     condition = refl;
     passes = tt;
   };
@@ -203,7 +203,7 @@ reply_fits p c ahead.Other room (other is none) free = let k = one_reply p.condi
 
 -- It completes a command.
 pub done_taken : (p q : PrinterView) (b : ℕ) (c : Command) → Spells c (p.half ++ b ∷ [])
-    → ((kept : List Item) (cs : List Command) → SheetIs p.sheet kept cs → SheetIs q.sheet kept (cs ++ c ∷ []))
+    → ((width : ℕ) (kept : List Item) (cs : List Command) → SheetIs width p.sheet kept cs → SheetIs width q.sheet kept (cs ++ c ∷ []))
     → q.half ≡ [] → q.waiting ≡ p.waiting ++ reply p.condition c → q.condition ≡ p.condition → PassesOffline p.condition c → length q.waiting ≤ most_waiting
     → Took p (b ∷ []) (c ∷ []) q
 done_taken p q b c s page none waits same passes room = record {
@@ -237,7 +237,7 @@ pub room_after : (xs ys zs : List Answer) → zs ≡ xs ++ ys → length xs + le
 room_after xs ys zs e h = let k = ap length e ∙ length-append xs ys in omega (arith, k, h)
 
 pub done_by : (p q : PrinterView) (b : ℕ) (c : Command) → Passes p c → Spells c (p.half ++ b ∷ [])
-    → ((kept : List Item) (cs : List Command) → SheetIs p.sheet kept cs → SheetIs q.sheet kept (cs ++ c ∷ []))
+    → ((width : ℕ) (kept : List Item) (cs : List Command) → SheetIs width p.sheet kept cs → SheetIs width q.sheet kept (cs ++ c ∷ []))
     → q.half ≡ [] → q.waiting ≡ p.waiting ++ reply p.condition c → q.condition ≡ p.condition → Took p (b ∷ []) (c ∷ []) q
 done_by p q b c pass s page none waits same =
     done_taken p q b c s page none waits same pass.offline (room_after p.waiting (reply p.condition c) q.waiting waits pass.fits)
@@ -251,7 +251,7 @@ pub run_taken : (p : PrinterView) (run half : List ℕ) → (p.half ≡ []) ⊎ 
 run_taken p run half left room on = record {
   ran = record {
     reads = on p.half [] (record { commands = tt; whole = refl; rest_is = left });
-    page = λ kept before is. subst (λ v. SheetIs p.sheet kept v) (sym (append-nil before)) is;
+    page = λ width kept before is. subst (λ v. SheetIs width p.sheet kept v) (sym (append-nil before)) is;
     condition = refl;
     passes = tt;
   };

@@ -38,10 +38,10 @@ PassesOffline condition c = IsTrue (is_offline condition) → IsTrue (is_status 
 abbrev pub IsAnswered : Condition → Command → Type 0
 IsAnswered condition c = length (replies condition (c ∷ [])) ≡ 1
 
--- These bytes were read as these commands, which the page took; offline all of them are status requests.
+-- These bytes were read as these commands, which the page took in lines of the width that it had; offline all of them are status requests.
 pub record Ran (before : PrinterView) (bytes : List ℕ) (commands : List Command) (after : PrinterView) : Type 0 where
   pub reads : Reads (before.half ++ bytes) commands after.half
-  pub page : (kept : List Item) (cs : List Command) → SheetIs before.sheet kept cs → SheetIs after.sheet kept (cs ++ commands)
+  pub page : (width : ℕ) (kept : List Item) (cs : List Command) → SheetIs width before.sheet kept cs → SheetIs width after.sheet kept (cs ++ commands)
   pub condition : after.condition ≡ before.condition
   pub passes : AllByRecursion (PassesOffline before.condition) commands
 

@@ -49,8 +49,8 @@ pub fn parts()
 /// Paper above: a link is served in the same way whatever stands on the paper above, if the printer's own sheet is one that
 /// commands leave.
 pub fn paper_above()
-    ensures { (gone : List Item) (p q : PrinterView) (l : LinkView) (most : ℕ) (served : Served) (kept : List Item) (cs : List Command) →
-        SheetIs p.sheet kept cs → Serves p l most served q → Serves (under gone p) l most served (under gone q) }
+    ensures { (gone : List Item) (p q : PrinterView) (l : LinkView) (most : ℕ) (served : Served) (width : ℕ) (kept : List Item) (cs : List Command) →
+        SheetIs width p.sheet kept cs → Serves p l most served q → Serves (under gone p) l most served (under gone q) }
 {
     escpos_paper::laws::paper_above();
 }

@@ -19,7 +19,7 @@ ghost use Rattle.escpos_printer.specs.FeedSteps.{is_command, obstacle};
 use crate::condition::Condition;
 use arrayvec::ArrayVec;
 use circular_buffer::HeapCircularBuffer;
-use escpos_command::{Answer, Command, FaultReason};
+use escpos_command::{Answer, Command, FaultReason, LineWidth};
 use escpos_decode::{Ahead, DecodeFault, Decoder, Step};
 use escpos_paper::{Item, MOST_ITEMS, Page};
 use std::alloc::{AllocError, Global};
@@ -88,17 +88,17 @@ pub struct Fed {
 }
 
 impl Printer {
-    /// A printer with nothing on its paper, switched on in this condition. Allocates room for 16 answers and nothing else;
-    /// fails only if that does.
-    pub fn new(alloc: Global, condition: Condition) -> Result<Self, AllocError>
-        ensures sheet { IfOk result (λ printer. SheetIs printer.sheet [] []) }
+    /// A printer with nothing on its paper, switched on in this condition, that prints lines of this width. Allocates room for
+    /// 16 answers and nothing else; fails only if that does.
+    pub fn new(alloc: Global, condition: Condition, width: LineWidth) -> Result<Self, AllocError>
+        ensures sheet { IfOk result (λ printer. SheetIs width printer.sheet [] []) }
         ensures half { IfOk result (λ printer. printer.half ≡ []) }
         ensures waiting { IfOk result (λ printer. printer.waiting ≡ []) }
         ensures condition { IfOk result (λ printer. printer.condition ≡ condition) }
     {
         let waiting = HeapCircularBuffer::with_capacity(alloc, MOST_WAITING)?;
         Ok(Printer {
-            page: Page::new(alloc),
+            page: Page::new(alloc, width),
             decoder: Decoder::new(alloc),
             waiting,
             condition,
@@ -229,9 +229,9 @@ impl Printer {
     }
 
     /// Switches the printer off and on: the half command, the answers that wait and the line are dropped, and the styles
-    /// are those of power-on. What is printed stays, and so does the condition. Allocates nothing.
+    /// are those of power-on. What is printed stays, and so do the condition and the width of a line. Allocates nothing.
     pub fn restart(&mut self)
-        ensures sheet { SheetIs self.new.sheet self.old.sheet.items [] }
+        ensures sheet { SheetIs self.old.sheet.line_dots self.new.sheet self.old.sheet.items [] }
         ensures half { self.new.half ≡ [] }
         ensures waiting { self.new.waiting ≡ [] }
         ensures condition { self.new.condition ≡ self.old.condition }
@@ -248,11 +248,18 @@ impl Printer {
         self.page.tear_off();
     }
 
+    /// How wide a line is: the width that the printer was made with. Allocates nothing.
+    pub fn line_width(&self) -> LineWidth
+        ensures { result ≡ self.now.sheet.line_dots }
+    {
+        self.page.line_width()
+    }
+
     /// What is printed on the paper and wasn't torn off, from top to bottom. Allocates nothing.
     pub fn items(&self) -> &[Item]
         ensures items { result.now ≡ self.now.sheet.items }
         // Every sheet is one that commands leave, on paper that held some items.
-        ensures reached { (kept : List Item) × (cs : List Command) × SheetIs self.now.sheet kept cs }
+        ensures reached { (kept : List Item) × (cs : List Command) × SheetIs self.now.sheet.line_dots self.now.sheet kept cs }
     {
         self.page.items()
     }

@@ -1,12 +1,15 @@
 //! Pages (escpos_paper): each call on its happy path, and what no clause says. The worked rows of paper stand in escpos_tests, in
 //! `program/render`, where they are read from bytes.
 
-use escpos_command::{Align, Bars, Character, Command, Cut, FeedLines, Form, Raster, Symbology};
+use escpos_command::{
+    Align, Bars, Character, Command, Cut, FeedLines, Form, LineWidth, Raster, Symbology,
+};
 use escpos_io::{ByteOut, Device, MemoryOut, Outgoing};
 use escpos_paper::*;
 use std::process::Abort;
 
 mod qr_codes;
+mod widths;
 
 // Carries out a command, for which there is memory.
 fn apply(rt: &impl Abort, page: &mut Page, command: Command) {
@@ -48,7 +51,7 @@ fn expect_text(rt: &impl Abort, page: &Page, text: &[u8]) {
 
 #[test]
 fn short_writer(rt: HostRuntime) {
-    let mut page = Page::new(rt.alloc());
+    let mut page = Page::new(rt.alloc(), LineWidth::usual());
     apply(&rt, &mut page, Command::Init);
     print(&rt, &mut page, b'H');
     print(&rt, &mut page, b'i');
@@ -62,7 +65,7 @@ fn short_writer(rt: HostRuntime) {
 #[test]
 fn restart_drops_the_line_and_keeps_the_paper(rt: HostRuntime) {
     let centre = Align::new(1).expect(&rt, "align");
-    let mut page = Page::new(rt.alloc());
+    let mut page = Page::new(rt.alloc(), LineWidth::usual());
     apply(&rt, &mut page, Command::LineFeed);
     apply(&rt, &mut page, Command::Align(centre));
     print(&rt, &mut page, b'B');
@@ -75,7 +78,7 @@ fn restart_drops_the_line_and_keeps_the_paper(rt: HostRuntime) {
 // A new page has no room, and one made ready has room for all that a command can print.
 #[test]
 fn room_for_one_command(rt: HostRuntime) {
-    let mut page = Page::new(rt.alloc());
+    let mut page = Page::new(rt.alloc(), LineWidth::usual());
     assert!(rt; !page.has_room());
     print(&rt, &mut page, b'A');
     page.ready().expect(&rt, "memory");
@@ -97,7 +100,7 @@ fn are_feeds(rt: &impl Abort, text: &[u8]) {
 #[test]
 fn long_paper(rt: HostRuntime) {
     let feed = FeedLines::new(255).expect(&rt, "feed");
-    let mut page = Page::new(rt.alloc());
+    let mut page = Page::new(rt.alloc(), LineWidth::usual());
     for _ in 0..100_000 {
         apply(&rt, &mut page, Command::FeedLines(feed));
     }
@@ -156,7 +159,7 @@ fn a_raster_cut_short(rt: HostRuntime) {
     let mut dots = vec![in rt.alloc(); 0u8; 524_160].expect(&rt, "memory");
     dots[0] = 0xF0;
     let raster = Raster::new(0, 128, 4095, dots).expect(&rt, "memory");
-    let mut page = Page::new(rt.alloc());
+    let mut page = Page::new(rt.alloc(), LineWidth::usual());
     apply(&rt, &mut page, Command::Raster(raster));
     let text = b"raster left normal 128 4095 f0".as_slice();
     let short = (Err(Device { written: 30 }), text);
@@ -194,7 +197,7 @@ fn content_and_dots_on_paper(rt: HostRuntime) {
         [0xF0, 0x0F].to_vec(rt.alloc()).expect(&rt, "memory"),
     )
     .expect(&rt, "memory");
-    let mut page = Page::new(rt.alloc());
+    let mut page = Page::new(rt.alloc(), LineWidth::usual());
     apply(&rt, &mut page, Command::Bars(ean8));
     apply(&rt, &mut page, Command::Raster(picture));
     assert!(rt; has_content_and_dots(page.items()));

@@ -6,7 +6,7 @@ use std::test::Fail;
 // A page takes any number of items, and never has more than twice the room that they need.
 #[test]
 fn room_is_modest(rt: HostRuntime) -> Result<(), Fail> {
-    let mut page = Page::new(rt.alloc());
+    let mut page = Page::new(rt.alloc(), LineWidth::usual());
     for _ in 0..200_000 {
         page.apply(Command::LineFeed)?;
     }

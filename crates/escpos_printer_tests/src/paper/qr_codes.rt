@@ -2,7 +2,7 @@
 
 use crate::paper::{apply, expect_text, print, write_items_to};
 use crate::support::decoders::{bytes_of, decode_all};
-use escpos_command::{Command, QrData};
+use escpos_command::{Command, LineWidth, QrData};
 use escpos_io::{Device, MemoryOut, Outgoing};
 use escpos_paper::*;
 use std::alloc::Global;
@@ -123,7 +123,7 @@ fn printed_streams() -> &'static [(&'static [u8], &'static [u8])] {
 #[test]
 fn printed(rt: HostRuntime) {
     for (bytes, text) in printed_streams() {
-        let mut page = Page::new(rt.alloc());
+        let mut page = Page::new(rt.alloc(), LineWidth::usual());
         apply_bytes(&rt, rt.alloc(), &mut page, bytes);
         expect_text(&rt, &page, text);
     }
@@ -132,7 +132,7 @@ fn printed(rt: HostRuntime) {
 // A restart forgets what is stored and what is set.
 #[test]
 fn restart_forgets(rt: HostRuntime) {
-    let mut page = Page::new(rt.alloc());
+    let mut page = Page::new(rt.alloc(), LineWidth::usual());
     apply_bytes(&rt, rt.alloc(), &mut page, b"\x1D(k\x03\x001C\x08");
     apply_bytes(&rt, rt.alloc(), &mut page, STORE);
     page.restart();
@@ -147,7 +147,7 @@ fn restart_forgets(rt: HostRuntime) {
 // Paper that is torn off takes nothing along of what is stored and set.
 #[test]
 fn tear_off_keeps_the_store(rt: HostRuntime) {
-    let mut page = Page::new(rt.alloc());
+    let mut page = Page::new(rt.alloc(), LineWidth::usual());
     apply_bytes(&rt, rt.alloc(), &mut page, b"\x1D(k\x03\x001C\x08");
     apply_bytes(&rt, rt.alloc(), &mut page, STORE);
     for _ in 0..3 {
@@ -161,7 +161,7 @@ fn tear_off_keeps_the_store(rt: HostRuntime) {
 // Text that is put as a whole stands in the line before a QR code, too.
 #[test]
 fn text_before_a_qr_code(rt: HostRuntime) {
-    let mut page = Page::new(rt.alloc());
+    let mut page = Page::new(rt.alloc(), LineWidth::usual());
     apply_bytes(&rt, rt.alloc(), &mut page, STORE);
     assert!(rt; page.apply_text(b"Hi").expect(&rt, "memory") == 2);
     apply_bytes(&rt, rt.alloc(), &mut page, PRINT);
@@ -177,7 +177,7 @@ fn has_room(rt: &impl Abort, page: &Page, wanted: bool) {
 // after a print.
 #[test]
 fn room_for_a_copy(rt: HostRuntime) {
-    let mut page = Page::new(rt.alloc());
+    let mut page = Page::new(rt.alloc(), LineWidth::usual());
     page.ready().expect(&rt, "memory");
     has_room(&rt, &page, true);
     apply_bytes(&rt, rt.alloc(), &mut page, STORE);
@@ -216,7 +216,7 @@ fn are_long_lines(rt: &impl Abort, alloc: Global, text: &[u8], count: usize) {
 
 #[test]
 fn longest_content(rt: HostRuntime) {
-    let mut page = Page::new(rt.alloc());
+    let mut page = Page::new(rt.alloc(), LineWidth::usual());
     store_of(&rt, rt.alloc(), &mut page, 0x1B, 7089);
     for _ in 0..3 {
         apply_bytes(&rt, rt.alloc(), &mut page, PRINT);
@@ -229,7 +229,7 @@ fn longest_content(rt: HostRuntime) {
 // Wherever the writer fails in the line of a QR code, it has the first of its bytes, and the error says how many these are.
 #[test]
 fn a_qr_code_cut_short(rt: HostRuntime) {
-    let mut page = Page::new(rt.alloc());
+    let mut page = Page::new(rt.alloc(), LineWidth::usual());
     store_of(&rt, rt.alloc(), &mut page, b'7', 7089);
     apply_bytes(&rt, rt.alloc(), &mut page, PRINT);
     let line = bytes_of(&rt, rt.alloc(), (b"qr left 2 3 L ", b'7', 7089, b"\n"));
@@ -262,7 +262,7 @@ fn has_content(items: &[Item]) -> bool {
 // The bytes of a content that lies on paper can be read there; each QR code has a copy of its own.
 #[test]
 fn content_on_paper(rt: HostRuntime) {
-    let mut page = Page::new(rt.alloc());
+    let mut page = Page::new(rt.alloc(), LineWidth::usual());
     let settings = b"\x1D(k\x04\x001A1\x00\x1D(k\x03\x001C\x05";
     apply_bytes(&rt, rt.alloc(), &mut page, settings);
     apply_bytes(&rt, rt.alloc(), &mut page, STORE);

@@ -1,6 +1,6 @@
 //! A printer that is lent to checks, which own nothing, and the bytes that it is fed.
 
-use escpos_command::{Answer, MarkId};
+use escpos_command::{Answer, LineWidth, MarkId};
 use escpos_printer::{Condition, Fed, FeedStop, Printer};
 use std::alloc::{AllocError, Global};
 use std::process::Abort;
@@ -78,12 +78,12 @@ pub const RECEIPT: &[u8] =
 
 // A printer in this condition.
 pub fn new_printer(rt: &impl Abort, alloc: Global, condition: Condition) -> Printer {
-    Printer::new(alloc, condition).expect(rt, "memory")
+    Printer::new(alloc, condition, LineWidth::usual()).expect(rt, "memory")
 }
 
 // A printer, online. Where its memory is refused it is asked for again.
 pub fn printer_at_last(rt: &impl Abort, alloc: Global) -> Printer {
-    match Printer::new(alloc, ONLINE) {
+    match Printer::new(alloc, ONLINE, LineWidth::usual()) {
         Ok(printer) => printer,
         Err(AllocError) => new_printer(rt, alloc, ONLINE),
     }

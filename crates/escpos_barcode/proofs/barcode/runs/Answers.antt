@@ -9,12 +9,12 @@ pub returns-then-draw : goal.returns-then-draw
 returns-then-draw c =
     let whole = c.as_slice.ensures.value ∙ c.with_added-whole.ensures in
     let range = sym c.is_module.ensures ∙ c.if-not-is_module.false in
-    let found = runs_drawn c.args.symbology c.args.module_width (elements c.args.symbology c.as_slice.result.now) c.draw.new.pen range
+    let found = runs_drawn c.args.width c.args.symbology c.args.module_width (elements c.args.symbology c.as_slice.result.now) c.draw.new.pen range
     (sym c.if-draw.true ∙ c.draw.ensures.answer) (c.draw.ensures.drawn ∙ ap (λ d. attempt d (elements c.args.symbology c.as_slice.result.now)) c.new-pen.ensures) in
-    c.finish.ensures ∙ found ∙ ap (drawn c.args.symbology c.args.module_width) whole
+    c.finish.ensures ∙ found ∙ ap (drawn c.args.width c.args.symbology c.args.module_width) whole
 
 pub returns-else-draw : goal.returns-else-draw
 returns-else-draw c =
     let whole = c.as_slice.ensures.value ∙ c.with_added-whole.ensures in
-    sym (not_drawn c.args.symbology c.args.module_width (elements c.args.symbology c.as_slice.result.now) (sym c.if-draw.false ∙ c.draw.ensures.answer))
-    ∙ ap (drawn c.args.symbology c.args.module_width) whole
+    sym (not_drawn c.args.width c.args.symbology c.args.module_width (elements c.args.symbology c.as_slice.result.now) (sym c.if-draw.false ∙ c.draw.ensures.answer))
+    ∙ ap (drawn c.args.width c.args.symbology c.args.module_width) whole

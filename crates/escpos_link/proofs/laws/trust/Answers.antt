@@ -1,4 +1,5 @@
-use Rattle.escpos_link.proofs.Trusting.{Laws, leaves_trusted, none_bad, resumed_trusted, stands, trusted}
+use Rattle.escpos_link.proofs.Trusting.{Laws, leaves_trusted, none_bad, resumed_trusted, stands, still, trusted}
+use Rattle.escpos_link.specs.Resumed.{resumed}
 use Rattle.escpos_link.proofs.laws.trust.Goals as goal
 
 pub returns : goal.returns
@@ -19,9 +20,9 @@ returns c =
       answers = record { no_prefix = c.answers.ensures.no_prefix; joined = c.answers.ensures.joined; cut = c.answers.ensures.cut };
     } in
     record {
-      stands = stands laws.paper;
-      kept = λ e l after n fits sound i happened t. trusted laws e l after n fits sound i happened t;
-      leaves = λ e l after sound i leaves t. leaves_trusted laws e l after sound i leaves t;
-      resumes = λ l f count least t. resumed_trusted laws l f count least t;
-      in_turn = λ e l after n i t happened consumed at. none_bad laws e l after n consumed at i t happened;
+      stands = λ l t. stands l.printer.sheet.line_dots laws.paper l t;
+      kept = λ e l after n fits sound i happened t. still l after (trusted l.printer.sheet.line_dots laws e l after n fits sound i happened t);
+      leaves = λ e l after sound i leaves t. still l after (leaves_trusted l.printer.sheet.line_dots laws e l after sound i leaves t);
+      resumes = λ l f count least t. still l (resumed l f count) (resumed_trusted l.printer.sheet.line_dots laws l f count least t);
+      in_turn = λ e l after n i t happened consumed at. none_bad l.printer.sheet.line_dots laws e l after n consumed at i t happened;
     }

@@ -5,4 +5,4 @@ use Rattle.escpos_paper.proofs.Sheets.{printed-snoc}
 use Rattle.escpos_paper.proofs.laws.marks.Goals as goal
 
 pub returns : goal.returns
-returns c = λ cs id. printed-snoc cs (Mark id) ∙ append-nil (printed cs)
+returns c = λ width cs id. printed-snoc width cs (Mark id) ∙ append-nil (printed width cs)

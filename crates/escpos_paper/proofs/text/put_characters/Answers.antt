@@ -1,8 +1,6 @@
-use Rattle.std.proofs.Common.{◌≡◌, ◌+◌, ◌∷◌, ◌++◌, [], Ok, Err, refl, sym, ◌∙◌, ap, append_assoc, append-nil, drop, get_or}
+use Rattle.std.proofs.Common.{◌+◌, ◌++◌, [], Ok, Err, refl, sym, ◌∙◌, ap, append_assoc, append-nil, drop, get_or}
 use Rattle.std.specs.Prelude.{flat_map}
 use Rattle.std.proofs.lemmas.List.{at_drop_more, drop_all}
-use Rattle.escpos_io.specs.Giving.{IsGiven}
-use Rattle.escpos_io.specs.Putting.{passage}
 use Rattle.escpos_io.proofs.Giving.{given_appended, given_in_turn, given_in_the_front}
 use Rattle.escpos_paper.specs.ItemsText.{byte_text}
 use Rattle.escpos_paper.proofs.text.put_characters.Goals as goal

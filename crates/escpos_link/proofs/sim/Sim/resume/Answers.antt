@@ -1,4 +1,6 @@
 -- What holds for a line holds if its host goes on with fewer records.
+use Rattle.std.proofs.Common.{◌∙◌, ap}
+use Rattle.escpos_link.specs.Line.{LineView}
 use Rattle.escpos_link.proofs.Happening.{resume_kept, resume_trusted}
 use Rattle.escpos_link.proofs.sim.Sim.resume.Goals as goal
 
@@ -6,5 +8,11 @@ pub invariant_of-self : goal.invariant_of-self
 invariant_of-self c =
     let line = c.self.inside.line in (
       resume_kept line c.resume.new.self c.args.first_mark c.args.count c.resume.result c.self.invariant.0 c.resume.ensures.resumed c.resume.ensures.refused,
-      resume_trusted c.trust.ensures line c.resume.new.self c.args.first_mark c.args.count c.resume.result c.resume.ensures.resumed c.resume.ensures.refused c.self.invariant.1,
+      (resume_trusted c.trust.ensures line c.resume.new.self c.args.first_mark c.args.count c.resume.result c.resume.ensures.resumed c.resume.ensures.refused c.self.invariant.1).0,
     )
+
+pub returns-clause-width : goal.returns-clause-width
+returns-clause-width c =
+    let line = c.self.inside.line in
+    (resume_trusted c.trust.ensures line c.resume.new.self c.args.first_mark c.args.count c.resume.result c.resume.ensures.resumed c.resume.ensures.refused c.self.invariant.1).1
+    ∙ ap (λ (l : LineView). l.printer.sheet.line_dots) c.self.view_is

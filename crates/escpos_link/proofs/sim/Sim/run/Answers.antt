@@ -1,4 +1,4 @@
-use Rattle.std.proofs.Common.{◌≡◌, ◌∷◌, ap, length, length-append, arith}
+use Rattle.std.proofs.Common.{◌≡◌, ◌∷◌, ◌∙◌, ap, length, length-append, arith}
 use Rattle.escpos_link.proofs.Running.{go_on, stopped}
 use Rattle.escpos_link.proofs.sim.Sim.run.Goals as goal
 
@@ -16,5 +16,9 @@ loop-event-preserved c =
     let first : c.loop-event.left.items ≡ c.in-Some.event ∷ c.pop_front.new.self.items = c.in-Some.ensures.items in
     record {
       so_far = go_on c.args.self.now c.loop-event.self c.step.new.self c.args.events.items c.loop-event.left.items c.pop_front.new.self.items c.in-Some.event c.in_default-step.field-0 s.so_far first c.in_default-step.ensures.happened;
+      width = c.step.ensures.width ∙ s.width;
       count = s.count;
     }
+
+pub returns-in-Err-clause-width : goal.returns-in-Err-clause-width
+returns-in-Err-clause-width c = c.step.ensures.width ∙ c.loop-event.invariant.width

@@ -13,32 +13,34 @@ use Rattle.escpos_paper.proofs.page.Page.apply_text.Goals as goal
 
 pub put_text-requires-clause-visible : goal.put_text-requires-clause-visible
 put_text-requires-clause-visible c =
-    (width_of c.self.inside.paper.style _ c.self.invariant.kept c.self.invariant.commands refl c.self.invariant.page_is).least
+    (width_of c.self.invariant.line_dots c.self.inside.paper.style _ c.self.invariant.kept c.self.invariant.commands refl c.self.invariant.page_is).least
 
 pub put_text-requires-clause-narrow : goal.put_text-requires-clause-narrow
 put_text-requires-clause-narrow c =
-    (width_of c.self.inside.paper.style _ c.self.invariant.kept c.self.invariant.commands refl c.self.invariant.page_is).most
+    (width_of c.self.invariant.line_dots c.self.inside.paper.style _ c.self.invariant.kept c.self.invariant.commands refl c.self.invariant.page_is).most
 
 pub invariant_of-self : goal.invariant_of-self
 invariant_of-self c =
     let text = take c.put_text.result c.args.text.now in
     record {
+      line_dots = c.self.invariant.line_dots;
+      line_in_range = c.self.invariant.line_in_range;
       kept = c.self.invariant.kept;
       commands = c.self.invariant.commands ++ map Char text;
       in_range =
           all_append c.self.invariant.commands (map Char text) c.self.invariant.in_range
           (characters_in_range text (All-take (λ x. IsTrue (is_character x)) c.put_text.result c.args.text.now c.requires.characters));
-      page_is = sheet_steps _ _ c.self.invariant.kept c.self.invariant.commands (map Char text) c.put_text.ensures.sheet c.self.invariant.page_is;
+      page_is = sheet_steps c.self.invariant.line_dots _ _ c.self.invariant.kept c.self.invariant.commands (map Char text) c.put_text.ensures.sheet c.self.invariant.page_is;
     }
 
 pub returns-clause-taken : goal.returns-clause-taken
-returns-clause-taken c = λ kept cs is.
-    sheet_steps _ _ kept cs (map Char (take c.put_text.result c.args.text.now)) c.put_text.ensures.sheet
+returns-clause-taken c = λ width kept cs is.
+    sheet_steps width _ _ kept cs (map Char (take c.put_text.result c.args.text.now)) c.put_text.ensures.sheet
     (ap (λ (page : PageView). page.sheet) c.self.view_is ∙ c.in_ok-ready.ensures.same ∙ is)
 
 -- The same, below what was torn off.
 pub returns-clause-torn : goal.returns-clause-torn
-returns-clause-torn c = λ gone cs is.
+returns-clause-torn c = λ width gone cs is.
     let text = map Char (take c.put_text.result c.args.text.now) in
-    sheet_steps (below gone _) (below gone _) [] cs text (ap (below gone) c.put_text.ensures.sheet ∙ steps_below gone _ text)
+    sheet_steps width (below gone _) (below gone _) [] cs text (ap (below gone) c.put_text.ensures.sheet ∙ steps_below gone _ text)
     (ap (below gone) (ap (λ (page : PageView). page.sheet) c.self.view_is ∙ c.in_ok-ready.ensures.same) ∙ is)

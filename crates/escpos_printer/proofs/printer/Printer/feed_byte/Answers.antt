@@ -54,7 +54,7 @@ returns-in-Ok-Done-clause-taken c =
           (record { sheet = c.apply.new.self.sheet; half = c.push.new.self; waiting = c.put_reply.new.waiting.items; condition = c.self.inside.condition }))
           c.self.view_is
           (done_by _ _ c.args.byte c.in-Ok-Done.command (passes_at c) step.0
-          (λ kept cs is. taken kept cs (c.make_room.ensures.same ∙ is)) step.1 c.put_reply.ensures.items refl),
+          (λ width kept cs is. taken width kept cs (c.make_room.ensures.same ∙ is)) step.1 c.put_reply.ensures.items refl),
     )
 
 pub invariant_of-self-in-Ok-Done : goal.invariant_of-self-in-Ok-Done

@@ -1,0 +1,89 @@
+-- Characters that fit on the line print nothing, and LF prints them.
+use Rattle.std.proofs.Common.{◌≡◌, ℕ, List, [], ◌∷◌, ◌++◌, refl, sym, ap, subst, ◌∙◌, append-nil, Bool, true, false, cond}
+use Rattle.std.specs.List.{AllByRecursion}
+use Rattle.std.proofs.Math.Seq.{append_snoc}
+use Rattle.escpos_command.specs.declared.command.Command.{Command}
+use Rattle.escpos_command.specs.declared.command.Command.TheVariants.{Char, LineFeed, Table}
+use Rattle.escpos_paper.specs.declared.item.Item.TheVariants.{Feed}
+use Rattle.escpos_paper.specs.declared.style.LineStyle.{LineStyle}
+use Rattle.escpos_paper.specs.Styles.{is_empty, style, line_style}
+use Rattle.escpos_paper.specs.Cells.{cell}
+use Rattle.escpos_paper.specs.Rows.{fits, line}
+use Rattle.escpos_paper.specs.Printed.{printed, row_of, row_and_feed}
+use Rattle.escpos_paper.specs.Steps.{line_style_after}
+use Rattle.escpos_paper.specs.Typed.{IsTyping, typed, GoesOnLine}
+use Rattle.escpos_paper.proofs.Fits.{prefix_fits}
+use Rattle.escpos_paper.proofs.Sheets.{line-snoc, printed-snoc, line_style_step}
+
+-- Neither sets how lines are printed.
+char_keeps : (empty : Bool) (lines : LineStyle) (b : ℕ) → line_style_after empty lines (Char b) ≡ lines
+char_keeps true lines b = refl
+char_keeps false lines b = refl
+
+table_keeps : (empty : Bool) (lines : LineStyle) (n : ℕ) → line_style_after empty lines (Table n) ≡ lines
+table_keeps true lines n = refl
+table_keeps false lines n = refl
+
+feed_keeps : (empty : Bool) (lines : LineStyle) → line_style_after empty lines LineFeed ≡ lines
+feed_keeps true lines = refl
+feed_keeps false lines = refl
+
+-- A character that fits.
+one_char : (w : ℕ) (before : List Command) (b : ℕ) → fits w (line w before ++ cell (style before) b ∷ []) ≡ true → GoesOnLine w before (Char b ∷ [])
+one_char w before b h = record {
+  prints_nothing =
+      printed-snoc w before (Char b) ∙ ap (λ v. printed w before ++ cond v [] (row_and_feed (line_style before) (line w before))) h ∙ append-nil (printed w before);
+  stands = line-snoc w before (Char b) ∙ ap (λ v. cond v (line w before ++ cell (style before) b ∷ []) (cell (style before) b ∷ [])) h;
+  same_lines = line_style_step w before (Char b) ∙ char_keeps (is_empty (line w before)) (line_style before) b;
+}
+
+one_table : (w : ℕ) (before : List Command) (n : ℕ) → GoesOnLine w before (Table n ∷ [])
+one_table w before n = record {
+  prints_nothing = printed-snoc w before (Table n) ∙ append-nil (printed w before);
+  stands = line-snoc w before (Table n) ∙ sym (append-nil (line w before));
+  same_lines = line_style_step w before (Table n) ∙ table_keeps (is_empty (line w before)) (line_style before) n;
+}
+
+-- Any number of them.
+pub typed_line : (w : ℕ) (before cs : List Command) → AllByRecursion IsTyping cs → fits w (line w before ++ typed before cs) ≡ true → GoesOnLine w before cs
+typed_line w before [] h fit = record {
+  prints_nothing = ap (printed w) (append-nil before);
+  stands = ap (line w) (append-nil before) ∙ sym (append-nil (line w before));
+  same_lines = ap line_style (append-nil before);
+}
+typed_line w before (Char b ∷ cs) h fit =
+    let row = line w before in
+    let x = cell (style before) b in
+    let more = typed (before ++ Char b ∷ []) cs in
+    let one = one_char w before b (prefix_fits w row x more fit) in
+    let whole = append_snoc before (Char b) cs in
+    let rest = typed_line w (before ++ Char b ∷ []) cs h.1
+    (subst (λ r. fits w (r ++ more) ≡ true) (sym one.stands) (subst (λ r. fits w r ≡ true) (sym (append_snoc row x more)) fit)) in
+    record {
+      prints_nothing = ap (printed w) (sym whole) ∙ rest.prints_nothing ∙ one.prints_nothing;
+      stands = ap (line w) (sym whole) ∙ rest.stands ∙ ap (λ r. r ++ more) one.stands ∙ append_snoc row x more;
+      same_lines = ap line_style (sym whole) ∙ rest.same_lines ∙ one.same_lines;
+    }
+typed_line w before (Table n ∷ cs) h fit =
+    let row = line w before in
+    let more = typed (before ++ Table n ∷ []) cs in
+    let one = one_table w before n in
+    let whole = append_snoc before (Table n) cs in
+    let kept : line w (before ++ Table n ∷ []) ≡ row = one.stands ∙ append-nil row in
+    let rest = typed_line w (before ++ Table n ∷ []) cs h.1 (subst (λ r. fits w (r ++ more) ≡ true) (sym kept) fit) in
+    record {
+      prints_nothing = ap (printed w) (sym whole) ∙ rest.prints_nothing ∙ one.prints_nothing;
+      stands = ap (line w) (sym whole) ∙ rest.stands ∙ ap (λ r. r ++ more) kept;
+      same_lines = ap line_style (sym whole) ∙ rest.same_lines ∙ one.same_lines;
+    }
+typed_line w before (_ ∷ cs) h fit = absurd (h.0)
+
+-- LF prints the line and its feed.
+pub feed_prints : (w : ℕ) (cs : List Command) → printed w (cs ++ LineFeed ∷ []) ≡ printed w cs ++ (row_of (line_style cs) (line w cs) ++ Feed 1 (line_style cs).spacing ∷ [])
+feed_prints w cs = printed-snoc w cs LineFeed
+
+pub feed_empties : (w : ℕ) (cs : List Command) → line w (cs ++ LineFeed ∷ []) ≡ []
+feed_empties w cs = line-snoc w cs LineFeed
+
+pub feed_same_lines : (cs : List Command) → line_style (cs ++ LineFeed ∷ []) ≡ line_style cs
+feed_same_lines cs = line_style_step 0 cs LineFeed ∙ feed_keeps (is_empty (line 0 cs)) (line_style cs)
