@@ -1,11 +1,18 @@
 -- Printed bytes are escaped as text.
-use Rattle.std.proofs.Common.{◌≡◌, ℕ, zero, suc, ◌-◌, List, [], ◌∷◌, ◌++◌, get_or, refl, sym, subst, append_assoc, arith, Bool, true, false, cond}
-use Rattle.std.specs.Prelude.{◌==◌, ◌&&◌, not, nat_lt, codes}
+use Rattle.std.proofs.Common.{◌≡◌, ℕ, ◌<◌, ◌≤◌, List, [], ◌∷◌, ◌++◌, get_or, length, Option, None, Some, refl, sym, subst, append_assoc, append-nil, arith, inl, inr, Bool, true, false, cond}
+use Rattle.std.specs.Option.{unwrap_or}
+use Rattle.std.proofs.lemmas.Bool.{cases_lt}
+use Rattle.std.proofs.lemmas.Grind.{get_or_default_zero}
+use Rattle.std.proofs.lemmas.List.Sums.{list_all-from_AllPass}
+use Rattle.std.proofs.lemmas.Str.{inside_one}
+use Rattle.std.specs.Prelude.{◌==◌, ◌&&◌, nat_lt, codes}
 use Rattle.std.specs.Char.{encode_utf8}
 use Rattle.std.specs.List.{Contains, list_all}
 use Rattle.std.proofs.lemmas.Bool.Decides.{nat_tests}
-use Rattle.escpos_picture.specs.CodeTables.{pc437, pc850, wpc1252, pc858}
-use Rattle.escpos_picture.specs.Characters.{replacement, upper_half, escaped, character_text}
+use Rattle.escpos_text.specs.Printed.{is_printable}
+use Rattle.escpos_text.specs.Reading.{reads}
+use Rattle.escpos_text.proofs.Printable.{printable}
+use Rattle.escpos_picture.specs.Characters.{replacement, escaped, character_text}
 use Rattle.escpos_picture.specs.Escaping.{entities, is_plain, utf8_of, IsEscaped, nothing, byte, entity}
 use Rattle.escpos_picture.specs.Rows.{characters_text}
 
@@ -29,50 +36,27 @@ plain_text (b ∷ bytes) all =
 
 -- ## Characters from 80 on
 
--- A character that is spelled with plain bytes.
-abbrev is_upper : ℕ → Bool
-is_upper c = not (nat_lt c 0x80) && list_all is_plain (encode_utf8 c)
+-- All bytes of such a character are above those of ASCII, and so plain.
+high_plain : (b : ℕ) → 0x80 ≤ b → is_plain b ≡ true
+high_plain b h = grind (arith, nat_tests)
 
-upper_text : (c : ℕ) → is_upper c ≡ true → IsEscaped (encode_utf8 c) (character_text c)
-upper_text c upper =
-    let parts = both (not (nat_lt c 0x80)) (list_all is_plain (encode_utf8 c)) upper in
+byte_plain : (c : ℕ) → 0x80 ≤ c → (k : ℕ) → k < length (encode_utf8 c) → is_plain (get_or (encode_utf8 c) k 0) ≡ true
+byte_plain c h k lt = elim (cases_lt (get_or (encode_utf8 c) k 0) 128) [
+  | inl low ↦
+      let same : c ≡ get_or (encode_utf8 c) k 0 = inside_one c [] (encode_utf8 c) k (sym (append-nil (encode_utf8 c))) lt low in
+      absurd (omega (arith, h, low, same))
+  | inr from ↦ high_plain (get_or (encode_utf8 c) k 0) from
+]
+
+all_plain : (c : ℕ) → 0x80 ≤ c → list_all is_plain (encode_utf8 c) ≡ true
+all_plain c h =
+    list_all-from_AllPass is_plain (encode_utf8 c)
+    (λ k d lt. subst (λ b. is_plain b ≡ true) (sym (get_or_default_zero (encode_utf8 c) k d lt)) (byte_plain c h k lt))
+
+upper_text : (c : ℕ) → 0x80 ≤ c → IsEscaped (encode_utf8 c) (character_text c)
+upper_text c h =
     let large : nat_lt c 0x80 ≡ false = grind (arith, nat_tests) in
-    subst (λ v. IsEscaped (encode_utf8 c) (cond v (escaped c) (encode_utf8 c))) (sym large) (plain_text (encode_utf8 c) parts.1)
-
-each_or : (xs : List ℕ) (i d : ℕ) → list_all is_upper xs ≡ true → is_upper d ≡ true → is_upper (get_or xs i d) ≡ true
-each_or [] i d all last = last
-each_or (x ∷ xs) zero d all last = (both (is_upper x) (list_all is_upper xs) all).0
-each_or (x ∷ xs) (suc i) d all last = each_or xs i d (both (is_upper x) (list_all is_upper xs) all).1 last
-
-pc437_upper : list_all is_upper pc437 ≡ true
-unfolding encode_utf8
-pc437_upper = refl
-
-pc850_upper : list_all is_upper pc850 ≡ true
-unfolding encode_utf8
-pc850_upper = refl
-
-wpc1252_upper : list_all is_upper wpc1252 ≡ true
-unfolding encode_utf8
-wpc1252_upper = refl
-
-pc858_upper : list_all is_upper pc858 ≡ true
-unfolding encode_utf8
-pc858_upper = refl
-
-replacement_upper : is_upper replacement ≡ true
-unfolding encode_utf8
-replacement_upper = refl
-
-of_tables : (p q r s : Bool) → list_all is_upper (cond p pc437 (cond q pc850 (cond r wpc1252 (cond s pc858 [])))) ≡ true
-of_tables true q r s = pc437_upper
-of_tables false true r s = pc850_upper
-of_tables false false true s = wpc1252_upper
-of_tables false false false true = pc858_upper
-of_tables false false false false = refl
-
-upper_half_upper : (table : ℕ) → list_all is_upper (upper_half table) ≡ true
-upper_half_upper table = of_tables (table == 0) (table == 2) (table == 16) (table == 19)
+    subst (λ v. IsEscaped (encode_utf8 c) (cond v (escaped c) (encode_utf8 c))) (sym large) (plain_text (encode_utf8 c) (all_plain c h))
 
 -- ## ASCII
 
@@ -104,17 +88,16 @@ small_text b printed ascii =
 
 -- ## All
 
-byte_of : (table b : ℕ) (p q r : Bool) → nat_lt b 0x20 ≡ p → nat_lt b 0x7F ≡ q
-    → let c = cond p replacement (cond q b (cond r replacement (get_or (upper_half table) (b - 0x80) replacement))) in
-    IsEscaped (encode_utf8 c) (character_text c)
-byte_of table b true q r _ _ = upper_text replacement replacement_upper
-byte_of table b false true r printed ascii = small_text b printed ascii
-byte_of table b false false true _ _ = upper_text replacement replacement_upper
-byte_of table b false false false _ _ =
-    upper_text (get_or (upper_half table) (b - 0x80) replacement)
-    (each_or (upper_half table) (b - 0x80) replacement (upper_half_upper table) replacement_upper)
+printable_text : (c : ℕ) → is_printable c ≡ true → IsEscaped (encode_utf8 c) (character_text c)
+printable_text c h = elim (cases_lt c 0x80) [
+  | inl low ↦ small_text c (grind (arith, nat_tests)) (grind (arith, nat_tests))
+  | inr from ↦ upper_text c from
+]
 
-pub text_escaped : (table : ℕ) (bytes : List ℕ) → IsEscaped (utf8_of table bytes) (characters_text table bytes)
-text_escaped table [] = nothing
-text_escaped table (b ∷ bytes) =
-    in_turn (byte_of table b (nat_lt b 0x20) (nat_lt b 0x7F) (nat_lt b 0x80) refl refl) (text_escaped table bytes)
+read_text : (o : Option ℕ) → ((c : ℕ) → o ≡ Some c → is_printable c ≡ true) → IsEscaped (encode_utf8 (unwrap_or o replacement)) (character_text (unwrap_or o replacement))
+read_text None h = upper_text replacement (omega arith)
+read_text (Some c) h = printable_text c (h c refl)
+
+pub text_escaped : (set table : ℕ) (bytes : List ℕ) → IsEscaped (utf8_of set table bytes) (characters_text set table bytes)
+text_escaped set table [] = nothing
+text_escaped set table (b ∷ bytes) = in_turn (read_text (reads set table b) (λ c. printable set table b c)) (text_escaped set table bytes)

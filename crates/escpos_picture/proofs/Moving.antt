@@ -17,7 +17,6 @@ use Rattle.escpos_picture.specs.Rows.{runs, runs_drawing, characters_text}
 use Rattle.escpos_picture.specs.Spans.{line_text}
 use Rattle.escpos_picture.specs.Rasters.{rows_of, rows_text}
 use Rattle.escpos_command.specs.declared.parameter.choices.Correction.{Correction}
-use Rattle.escpos_paper.specs.declared.cell.TheConstants.{LINE_DOTS}
 use Rattle.escpos_picture.specs.declared.qr.TheConstants.{BOX_HEIGHT}
 use Rattle.escpos_picture.specs.QrSides.{qr_side}
 use Rattle.escpos_picture.specs.QrItems.{qr_group, qr_frame, qr_text, qr_start}
@@ -54,61 +53,61 @@ further more text rest moves = record {
   is = λ down. rw (moves.is down) simp append_assoc;
 }
 
-pub rows_move : (align : Alignment) (upside_down : Bool) (cells : List Cell)
-    → MovesDown (base_line upside_down (tallest cells)) (λ down. drawing_at down (Row align upside_down cells))
-rows_move align upside_down cells =
+pub rows_move : (line_dots : ℕ) (align : Alignment) (upside_down : Bool) (cells : List Cell)
+    → MovesDown (base_line upside_down (tallest cells)) (λ down. drawing_at line_dots down (Row align upside_down cells))
+rows_move line_dots align upside_down cells =
     let more = base_line upside_down (tallest cells) in
     further more _ (codes "</g>\n") (further more _ (runs_drawing 0 (runs cells)) (further more _ (row_turn upside_down)
-    (placed (codes "<g class=\"row\" transform=\"translate(") (row_start upside_down (indent align (dots cells))) more)))
+    (placed (codes "<g class=\"row\" transform=\"translate(") (row_start line_dots upside_down (indent line_dots align (dots cells))) more)))
 
-bars_group_moves : (align : Alignment) (width : ℕ) → MovesDown 0 (λ down. bars_group down align width)
+bars_group_moves : (line_dots : ℕ) (align : Alignment) (width : ℕ) → MovesDown 0 (λ down. bars_group line_dots down align width)
 unfolding bars_group
-bars_group_moves align width =
-    further 0 _ (codes ")\">\n") (placed_here (codes "<g class=\"bars\" transform=\"translate(") (indent align width))
+bars_group_moves line_dots align width =
+    further 0 _ (codes ")\">\n") (placed_here (codes "<g class=\"bars\" transform=\"translate(") (indent line_dots align width))
 
-bars_or_box_moves : (align : Alignment) (style : BarStyle) (text content : List ℕ) (o : Option (List ℕ))
-    → MovesDown 0 (λ down. bars_or_box down align style text content o)
-bars_or_box_moves align style text content None =
-    further 0 _ (codes "</text></svg>\n</g>\n") (further 0 _ (characters_text 0 content)
-    (further 0 _ (box_text (bars_top style) style.height (length content)) (further 0 _ (box_frame (bars_top style) style.height) (bars_group_moves Left 512))))
-bars_or_box_moves align style text content (Some widths) =
+bars_or_box_moves : (line_dots : ℕ) (align : Alignment) (style : BarStyle) (text content : List ℕ) (o : Option (List ℕ))
+    → MovesDown 0 (λ down. bars_or_box line_dots down align style text content o)
+bars_or_box_moves line_dots align style text content None =
+    further 0 _ (codes "</text></svg>\n</g>\n") (further 0 _ (characters_text 0 0 content)
+    (further 0 _ (box_text line_dots (bars_top style) style.height (length content)) (further 0 _ (box_frame line_dots (bars_top style) style.height) (bars_group_moves line_dots Left line_dots))))
+bars_or_box_moves line_dots align style text content (Some widths) =
     further 0 _ (bars_end style (sum widths) text) (further 0 _ (line_text 0 (bar_spans true widths))
-    (further 0 _ (bars_frame style (sum widths)) (further 0 _ (label_above style (sum widths) text) (bars_group_moves align (sum widths)))))
+    (further 0 _ (bars_frame style (sum widths)) (further 0 _ (label_above style (sum widths) text) (bars_group_moves line_dots align (sum widths)))))
 
-pub bars_move : (align : Alignment) (symbology : Symbology) (style : BarStyle) (content : List ℕ) (added : Option ℕ)
-    → MovesDown 0 (λ down. drawing_at down (Bars align symbology style.height style.module_width style.place style.hri_font content added))
-bars_move align symbology style content added =
-    bars_or_box_moves align style (shown symbology (with_added content added)) (with_added content added)
-    (drawn symbology style.module_width (with_added content added))
+pub bars_move : (line_dots : ℕ) (align : Alignment) (symbology : Symbology) (style : BarStyle) (content : List ℕ) (added : Option ℕ)
+    → MovesDown 0 (λ down. drawing_at line_dots down (Bars align symbology style.height style.module_width style.place style.hri_font content added))
+bars_move line_dots align symbology style content added =
+    bars_or_box_moves line_dots align style (shown symbology (with_added content added)) (with_added content added)
+    (drawn line_dots symbology style.module_width (with_added content added))
 
-raster_start_moves : (align : Alignment) (scale : Scale) (x : ℕ) → MovesDown 0 (λ down. raster_start down align scale x)
+raster_start_moves : (line_dots : ℕ) (align : Alignment) (scale : Scale) (x : ℕ) → MovesDown 0 (λ down. raster_start line_dots down align scale x)
 unfolding raster_start
-raster_start_moves align scale x =
-    further 0 _ (scale_text scale) (placed_here (codes "<g class=\"raster\" transform=\"translate(") (indent align (8 * x * across scale)))
+raster_start_moves line_dots align scale x =
+    further 0 _ (scale_text scale) (placed_here (codes "<g class=\"raster\" transform=\"translate(") (indent line_dots align (8 * x * across scale)))
 
-pub rasters_move : (align : Alignment) (scale : Scale) (x y : ℕ) (dots : List ℕ) → MovesDown 0 (λ down. drawing_at down (Raster align scale x y dots))
-rasters_move align scale x y dots =
-    further 0 _ (codes "</g></g>\n") (further 0 _ (rows_text 0 (rows_of x y dots)) (raster_start_moves align scale x))
+pub rasters_move : (line_dots : ℕ) (align : Alignment) (scale : Scale) (x y : ℕ) (dots : List ℕ) → MovesDown 0 (λ down. drawing_at line_dots down (Raster align scale x y dots))
+rasters_move line_dots align scale x y dots =
+    further 0 _ (codes "</g></g>\n") (further 0 _ (rows_text 0 (rows_of x y dots)) (raster_start_moves line_dots align scale x))
 
-qr_group_moves : (align : Alignment) (width : ℕ) → MovesDown 0 (λ down. qr_group down align width)
+qr_group_moves : (line_dots : ℕ) (align : Alignment) (width : ℕ) → MovesDown 0 (λ down. qr_group line_dots down align width)
 unfolding qr_group
-qr_group_moves align width =
-    further 0 _ (codes ")\">\n") (placed_here (codes "<g class=\"qr\" transform=\"translate(") (indent align width))
+qr_group_moves line_dots align width =
+    further 0 _ (codes ")\">\n") (placed_here (codes "<g class=\"qr\" transform=\"translate(") (indent line_dots align width))
 
-qr_start_moves : (align : Alignment) (side : Option ℕ) (count : ℕ) → MovesDown 0 (λ down. qr_start down align side count)
-qr_start_moves align None count =
-    further 0 _ (box_text 0 BOX_HEIGHT count) (further 0 _ (box_frame 0 BOX_HEIGHT) (qr_group_moves Left LINE_DOTS))
-qr_start_moves align (Some side) count =
-    further 0 _ (qr_text side count) (further 0 _ (qr_frame side) (qr_group_moves align side))
+qr_start_moves : (line_dots : ℕ) (align : Alignment) (side : Option ℕ) (count : ℕ) → MovesDown 0 (λ down. qr_start line_dots down align side count)
+qr_start_moves line_dots align None count =
+    further 0 _ (box_text line_dots 0 BOX_HEIGHT count) (further 0 _ (box_frame line_dots 0 BOX_HEIGHT) (qr_group_moves line_dots Left line_dots))
+qr_start_moves line_dots align (Some side) count =
+    further 0 _ (qr_text side count) (further 0 _ (qr_frame side) (qr_group_moves line_dots align side))
 
-pub qr_codes_move : (align : Alignment) (model size : ℕ) (level : Correction) (content : List ℕ)
-    → MovesDown 0 (λ down. drawing_at down (Qr align model size level content))
-qr_codes_move align model size level content =
-    further 0 _ (codes "</text></svg>\n</g>\n") (further 0 _ (characters_text 0 content) (qr_start_moves align (qr_side size level content) (length content)))
+pub qr_codes_move : (line_dots : ℕ) (align : Alignment) (model size : ℕ) (level : Correction) (content : List ℕ)
+    → MovesDown 0 (λ down. drawing_at line_dots down (Qr align model size level content))
+qr_codes_move line_dots align model size level content =
+    further 0 _ (codes "</text></svg>\n</g>\n") (further 0 _ (characters_text 0 0 content) (qr_start_moves line_dots align (qr_side line_dots size level content) (length content)))
 
-pub cuts_move : (partial : Bool) (feed : Option ℕ) → MovesDown (cut_place feed) (λ down. drawing_at down (Cut partial feed))
-cuts_move partial feed =
-    let line = cut_line partial in
+pub cuts_move : (line_dots : ℕ) (partial : Bool) (feed : Option ℕ) → MovesDown (cut_place feed) (λ down. drawing_at line_dots down (Cut partial feed))
+cuts_move line_dots partial feed =
+    let line = cut_line line_dots partial in
     further (cut_place feed) _ (codes "\"/></g>\n") (further (cut_place feed) _ line (further (cut_place feed)
     (λ down. codes "<g class=\"cut\" transform=\"translate(0," ++ quarters (4 * MARGIN + down + cut_place feed))
     (codes ")\"><circle cx=\"8\" cy=\"6\" r=\"4\"/><circle cx=\"8\" cy=\"18\" r=\"4\"/><path d=\"M11 9L28 18M11 15L28 6\"/><path class=\"dashes\" d=\"")

@@ -11,7 +11,6 @@ use Rattle.escpos_command.specs.declared.parameter.choices.HriPosition.{HriPosit
 use Rattle.escpos_command.specs.declared.parameter.choices.HriPosition.TheVariants as place
 use Rattle.escpos_command.specs.declared.parameter.choices.Scale.{Scale}
 use Rattle.escpos_paper.specs.declared.cell.Cell.{Cell}
-use Rattle.escpos_paper.specs.declared.cell.TheConstants.{LINE_DOTS}
 use Rattle.escpos_paper.specs.declared.item.Item.TheVariants.{Row, Bars, Raster, Cut}
 use Rattle.escpos_paper.specs.declared.style.BarStyle.{BarStyle}
 use Rattle.escpos_picture.specs.BarItems.{stands_above, stands_below, bars_top}
@@ -33,10 +32,10 @@ none_taller false row (x ∷ xs) most =
     let others : tallest xs ≤ row = omega arith in
     ((omega arith, omega arith), none_taller false row xs others)
 
-pub rows_within : (above : ℕ) (align : Alignment) (upside_down : Bool) (cells : List Cell)
+pub rows_within : (line_dots : ℕ) (above : ℕ) (align : Alignment) (upside_down : Bool) (cells : List Cell)
     → AllByRecursion (λ (x : Cell). (base_line upside_down (cell_height x) ≤ base_line upside_down (tallest cells))
-    × (base_line upside_down (tallest cells) + base_line (not upside_down) (cell_height x) ≤ depth above (Row align upside_down cells))) cells
-rows_within above align upside_down cells = none_taller upside_down (tallest cells) cells (omega arith)
+    × (base_line upside_down (tallest cells) + base_line (not upside_down) (cell_height x) ≤ depth line_dots above (Row align upside_down cells))) cells
+rows_within line_dots above align upside_down cells = none_taller upside_down (tallest cells) cells (omega arith)
 
 underline_within : (face : FontFace) (height underline : ℕ) → 1 ≤ height → underline ≤ 2
     → face_height face * height - 4 * underline + 4 * underline ≡ face_height face * height
@@ -51,9 +50,9 @@ row_count : (x y : ℕ) (dots : List ℕ) → length (rows_of x y dots) ≡ y
 row_count x zero dots = refl
 row_count x (suc y) dots = ap suc (row_count x y (drop x dots))
 
-pub rasters_within : (above : ℕ) (align : Alignment) (scale : Scale) (x y : ℕ) (dots : List ℕ)
-    → 4 * (downwards scale * length (rows_of x y dots)) ≡ depth above (Raster align scale x y dots)
-rasters_within above align scale x y dots = ap (λ n. 4 * (downwards scale * n)) (row_count x y dots)
+pub rasters_within : (line_dots : ℕ) (above : ℕ) (align : Alignment) (scale : Scale) (x y : ℕ) (dots : List ℕ)
+    → 4 * (downwards scale * length (rows_of x y dots)) ≡ depth line_dots above (Raster align scale x y dots)
+rasters_within line_dots above align scale x y dots = ap (λ n. 4 * (downwards scale * n)) (row_count x y dots)
 
 texts : (height : ℕ) (place : HriPosition) (face : FontFace)
     → 4 * (cond (stands_above place) (face_height face) 0 + height + cond (stands_below place) (face_height face) 0)
@@ -63,25 +62,25 @@ texts height place.Above face = omega arith
 texts height place.Below face = omega arith
 texts height place.Both face = omega arith
 
-pub bars_within : (above : ℕ) (align : Alignment) (symbology : Symbology) (style : BarStyle) (content : List ℕ) (added : Option ℕ)
+pub bars_within : (line_dots : ℕ) (above : ℕ) (align : Alignment) (symbology : Symbology) (style : BarStyle) (content : List ℕ) (added : Option ℕ)
     → 4 * (bars_top style + style.height + bars_bottom style)
-    ≡ depth above (Bars align symbology style.height style.module_width style.place style.hri_font content added)
-bars_within above align symbology style content added = texts style.height style.place style.hri_font
+    ≡ depth line_dots above (Bars align symbology style.height style.module_width style.place style.hri_font content added)
+bars_within line_dots above align symbology style content added = texts style.height style.place style.hri_font
 
 pub labels_within : (style : BarStyle) → (IsTrue (stands_above style.place) → bars_top style ≡ face_height style.hri_font)
     × (IsTrue (stands_below style.place) → bars_bottom style ≡ face_height style.hri_font)
 labels_within style =
     (λ above. ap (λ v. cond v (face_height style.hri_font) 0) above, λ below. ap (λ v. cond v (face_height style.hri_font) 0) below)
 
-pub cuts_within : (above : ℕ) (partial : Bool) (feed : Option ℕ) → cut_place feed + 4 * 24 ≡ depth above (Cut partial feed)
-cuts_within above partial None = refl
-cuts_within above partial (Some n) = refl
+pub cuts_within : (line_dots : ℕ) (above : ℕ) (partial : Bool) (feed : Option ℕ) → cut_place feed + 4 * 24 ≡ depth line_dots above (Cut partial feed)
+cuts_within line_dots above partial None = refl
+cuts_within line_dots above partial (Some n) = refl
 
-pub across : (align : Alignment) (width : ℕ) → width ≤ LINE_DOTS → indent align width + width ≤ LINE_DOTS
-across Left width fits = omega arith
-across Center width fits = omega arith
-across Right width fits = omega arith
+pub across : (line_dots : ℕ) (align : Alignment) (width : ℕ) → width ≤ line_dots → indent line_dots align width + width ≤ line_dots
+across line_dots Left width fits = omega arith
+across line_dots Center width fits = omega arith
+across line_dots Right width fits = omega arith
 
-pub turned : (align : Alignment) (width : ℕ) → width ≤ LINE_DOTS
-    → (width ≤ row_start true (indent align width)) × (row_start true (indent align width) + indent align width ≡ LINE_DOTS)
-turned align width fits = let free = across align width fits in (omega arith, omega arith)
+pub turned : (line_dots : ℕ) (align : Alignment) (width : ℕ) → width ≤ line_dots
+    → (width ≤ row_start line_dots true (indent line_dots align width)) × (row_start line_dots true (indent line_dots align width) + indent line_dots align width ≡ line_dots)
+turned line_dots align width fits = let free = across line_dots align width fits in (omega arith, omega arith)

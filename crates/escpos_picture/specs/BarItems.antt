@@ -43,7 +43,7 @@ label_tag face width base count =
     codes "<text class=\"" ++ label_class face ++ label_place width base ++ codes "\" textLength=\"" ++ decimal (face_dots face * count) ++ codes "\">"
 
 unfoldable pub label : FontFace → ℕ → ℕ → List ℕ → List ℕ
-label face width base text = label_tag face width base (length text) ++ characters_text 0 text ++ codes "</text>"
+label face width base text = label_tag face width base (length text) ++ characters_text 0 0 text ++ codes "</text>"
 
 -- The line above the bars takes the height of its font, and so does the one below.
 abbrev pub bars_top : BarStyle → ℕ
@@ -74,45 +74,45 @@ bars_frame style width =
     codes "<svg y=\"" ++ decimal (bars_top style) ++ codes "\" width=\"" ++ decimal width ++ codes "\" height=\"" ++ decimal style.height
     ++ codes "\" viewBox=\"0 0 " ++ decimal width ++ codes " 1\" preserveAspectRatio=\"none\">\n"
 
-unfoldable pub bars_group : ℕ → Alignment → ℕ → List ℕ
-bars_group down align width = codes "<g class=\"bars\" transform=\"translate(" ++ moved (indent align width) down ++ codes ")\">\n"
+unfoldable pub bars_group : ℕ → ℕ → Alignment → ℕ → List ℕ
+bars_group line_dots down align width = codes "<g class=\"bars\" transform=\"translate(" ++ moved (indent line_dots align width) down ++ codes ")\">\n"
 
-abbrev pub bars_start : ℕ → Alignment → BarStyle → ℕ → List ℕ → List ℕ
-bars_start down align style width text = bars_group down align width ++ label_above style width text ++ bars_frame style width
+abbrev pub bars_start : ℕ → ℕ → Alignment → BarStyle → ℕ → List ℕ → List ℕ
+bars_start line_dots down align style width text = bars_group line_dots down align width ++ label_above style width text ++ bars_frame style width
 
 abbrev pub bars_end : BarStyle → ℕ → List ℕ → List ℕ
 bars_end style width text = codes "</svg>\n" ++ label_below style width text ++ codes "</g>\n"
 
-abbrev pub scannable : ℕ → Alignment → BarStyle → List ℕ → List ℕ → List ℕ
-scannable down align style text widths =
-    bars_start down align style (sum widths) text ++ line_text 0 (bar_spans true widths) ++ bars_end style (sum widths) text
+abbrev pub scannable : ℕ → ℕ → Alignment → BarStyle → List ℕ → List ℕ → List ℕ
+scannable line_dots down align style text widths =
+    bars_start line_dots down align style (sum widths) text ++ line_text 0 (bar_spans true widths) ++ bars_end style (sum widths) text
 
 -- ## What no scanner reads
 
 -- An empty box as wide as the line, with the content and the words "not scannable", both as large as the box's height allows.
-unfoldable pub box_frame : ℕ → ℕ → List ℕ
-box_frame top height =
-    codes "<svg y=\"" ++ decimal top ++ codes "\" width=\"512\" height=\"" ++ decimal height
-    ++ codes "\"><rect class=\"box\" width=\"512\" height=\"" ++ decimal height ++ codes "\"/></svg>\n"
+unfoldable pub box_frame : ℕ → ℕ → ℕ → List ℕ
+box_frame line_dots top height =
+    codes "<svg y=\"" ++ decimal top ++ codes "\" width=\"" ++ decimal line_dots ++ codes "\" height=\"" ++ decimal height
+    ++ codes "\"><rect class=\"box\" width=\"" ++ decimal line_dots ++ codes "\" height=\"" ++ decimal height ++ codes "\"/></svg>\n"
 
-unfoldable pub box_text : ℕ → ℕ → ℕ → List ℕ
-box_text top height count =
-    codes "<svg y=\"" ++ decimal top ++ codes "\" width=\"512\" height=\"" ++ decimal height
+unfoldable pub box_text : ℕ → ℕ → ℕ → ℕ → List ℕ
+box_text line_dots top height count =
+    codes "<svg y=\"" ++ decimal top ++ codes "\" width=\"" ++ decimal line_dots ++ codes "\" height=\"" ++ decimal height
     ++ codes "\" viewBox=\"0 0 512 48\"><text class=\"middle\" x=\"256\" y=\"18\">not scannable</text><text class=\"middle\" x=\"256\" y=\"42\" textLength=\""
     ++ decimal (min (12 * count) 496) ++ codes "\" lengthAdjust=\"spacingAndGlyphs\">"
 
-abbrev pub box : ℕ → BarStyle → List ℕ → List ℕ
-box down style content =
-    bars_group down Left 512 ++ box_frame (bars_top style) style.height ++ box_text (bars_top style) style.height (length content)
-    ++ characters_text 0 content ++ codes "</text></svg>\n</g>\n"
+abbrev pub box : ℕ → ℕ → BarStyle → List ℕ → List ℕ
+box line_dots down style content =
+    bars_group line_dots down Left line_dots ++ box_frame line_dots (bars_top style) style.height ++ box_text line_dots (bars_top style) style.height (length content)
+    ++ characters_text 0 0 content ++ codes "</text></svg>\n</g>\n"
 
 -- ## Both
 
-abbrev pub bars_or_box : ℕ → Alignment → BarStyle → List ℕ → List ℕ → Option (List ℕ) → List ℕ
-bars_or_box down align style text content (Some widths) = scannable down align style text widths
-bars_or_box down align style text content None = box down style content
+abbrev pub bars_or_box : ℕ → ℕ → Alignment → BarStyle → List ℕ → List ℕ → Option (List ℕ) → List ℕ
+bars_or_box line_dots down align style text content (Some widths) = scannable line_dots down align style text widths
+bars_or_box line_dots down align style text content None = box line_dots down style content
 
-abbrev pub bars_drawing : ℕ → Alignment → Symbology → BarStyle → List ℕ → Option ℕ → List ℕ
-bars_drawing down align symbology style content added =
-    bars_or_box down align style (shown symbology (with_added content added)) (with_added content added)
-    (drawn symbology style.module_width (with_added content added))
+abbrev pub bars_drawing : ℕ → ℕ → Alignment → Symbology → BarStyle → List ℕ → Option ℕ → List ℕ
+bars_drawing line_dots down align symbology style content added =
+    bars_or_box line_dots down align style (shown symbology (with_added content added)) (with_added content added)
+    (drawn line_dots symbology style.module_width (with_added content added))

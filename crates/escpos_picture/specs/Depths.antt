@@ -10,9 +10,9 @@ use Rattle.escpos_picture.specs.Places.{depth, row_above, face_height}
 use Rattle.escpos_picture.specs.BarItems.{stands_below}
 
 -- The sum of what items take, in quarters of a dot, under a row that is `above` dots tall, or 0 where none stands there.
-abbrev pub depths : ℕ → List Item → ℕ
-depths above [] = 0
-depths above (item ∷ items) = depth above item + depths (row_above item) items
+abbrev pub depths : ℕ → ℕ → List Item → ℕ
+depths line_dots above [] = 0
+depths line_dots above (item ∷ items) = depth line_dots above item + depths line_dots (row_above item) items
 
 -- The height of the row right under which the next item stands: that of the last item, if it is a row, otherwise 0.
 abbrev pub row_above_next : ℕ → List Item → ℕ
@@ -24,7 +24,7 @@ abbrev pub bars_bottom : BarStyle → ℕ
 bars_bottom style = if stands_below style.place then face_height style.hri_font else 0
 
 -- The sizes of an item are numbers that its fields can hold: two bytes for the rows of a raster, one byte for all others. No
--- QR code is higher than the line is wide.
+-- QR code is higher than the line is wide, or than the box of one that doesn't fit.
 abbrev pub HasSizes : Item → Type 0
 HasSizes (Row align upside_down cells) = AllByRecursion (λ (x : Cell). x.style.height < 256) cells
 HasSizes (Feed n None) = n < 256

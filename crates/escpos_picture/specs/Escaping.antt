@@ -20,5 +20,5 @@ pub data IsEscaped : List ℕ → List ℕ → Type 0 where
   entity : (b : ℕ) (e bytes text : List ℕ) → Contains entities (b, e) → IsEscaped bytes text → IsEscaped (b ∷ bytes) (e ++ text)
 
 -- The characters of printed bytes in UTF-8.
-abbrev pub utf8_of : ℕ → List ℕ → List ℕ
-utf8_of table bytes = flat_map (λ b. encode_utf8 (character table b)) bytes
+abbrev pub utf8_of : ℕ → ℕ → List ℕ → List ℕ
+utf8_of set table bytes = flat_map (λ b. encode_utf8 (character set table b)) bytes

@@ -1,5 +1,4 @@
 pub mod Numbers
-pub mod CodeTables
 pub mod Characters
 pub mod Escaping
 pub mod QrSides

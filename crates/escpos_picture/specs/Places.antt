@@ -9,7 +9,6 @@ use Rattle.escpos_command.specs.declared.parameter.choices.HriPosition.TheVarian
 use Rattle.escpos_command.specs.declared.parameter.choices.Scale.{Scale}
 use Rattle.escpos_command.specs.declared.parameter.choices.Scale.TheVariants as scale
 use Rattle.escpos_paper.specs.declared.cell.Cell.{Cell}
-use Rattle.escpos_paper.specs.declared.cell.TheConstants.{LINE_DOTS}
 use Rattle.escpos_paper.specs.declared.item.Item.{Item}
 use Rattle.escpos_paper.specs.declared.item.Item.TheVariants.{Row, Feed, FeedUnits, Bars, Raster, Qr, Cut}
 use Rattle.escpos_picture.specs.declared.pen.TheConstants.{DEEPEST, MARGIN}
@@ -60,43 +59,44 @@ line_depth (Some units) = 2 * units
 abbrev pub feed_depth : ℕ → ℕ → ℕ → ℕ
 feed_depth line above n = if n == 0 then 0 else (line - 4 * above) + line * (n - 1)
 
--- What an item takes down the paper, in quarters of a dot. A motion unit is half a dot.
-abbrev pub depth : ℕ → Item → ℕ
-depth above (Row align upside_down cells) = 4 * tallest cells
-depth above (Feed n spacing) = feed_depth (line_depth spacing) above n
-depth above (FeedUnits n) = 2 * n
-depth above (Bars align symbology height width place face content added) = 4 * (height + text_lines place * face_height face)
-depth above (Raster align scale x y dots) = 4 * (downwards scale * y)
-depth above (Qr align model size level content) = 4 * qr_height size level content
-depth above (Cut partial None) = 96
-depth above (Cut partial (Some n)) = 2 * n + 96
+-- What an item takes down the paper on a line of so many dots, in quarters of a dot. A motion unit is half a dot.
+abbrev pub depth : ℕ → ℕ → Item → ℕ
+depth line_dots above (Row align upside_down cells) = 4 * tallest cells
+depth line_dots above (Feed n spacing) = feed_depth (line_depth spacing) above n
+depth line_dots above (FeedUnits n) = 2 * n
+depth line_dots above (Bars align symbology height width place face content added) = 4 * (height + text_lines place * face_height face)
+depth line_dots above (Raster align scale x y dots) = 4 * (downwards scale * y)
+depth line_dots above (Qr align model size level content) = 4 * qr_height line_dots size level content
+depth line_dots above (Cut partial None) = 96
+depth line_dots above (Cut partial (Some n)) = 2 * n + 96
 
 -- The height of an item if it is a row, otherwise 0.
 abbrev pub row_above : Item → ℕ
 row_above (Row align upside_down cells) = tallest cells
 row_above item = 0
 
--- Where the next item begins: the quarters of a dot from the first item down to it, and the height of the row right above it, or
+-- Where the next item begins, on lines of so many dots: the quarters of a dot from the first item down to it, and the height of the row right above it, or
 -- 0. Quarters are counted up to 2 ^ 62, which no paper comes near.
 pub record Place : Type 0 where
+  pub line_dots : ℕ
   pub down : ℕ
   pub above : ℕ
 
-abbrev pub top : Place
-top = record { down = 0; above = 0 }
+abbrev pub top : ℕ → Place
+top line_dots = record { line_dots = line_dots; down = 0; above = 0 }
 
 abbrev pub place_after : Place → Item → Place
-place_after place item = record { down = min (place.down + depth place.above item) DEEPEST; above = row_above item }
+place_after place item = record { line_dots = place.line_dots; down = min (place.down + depth place.line_dots place.above item) DEEPEST; above = row_above item }
 
 abbrev pub place_after_all : Place → List Item → Place
 place_after_all place [] = place
 place_after_all place (item ∷ items) = place_after_all (place_after place item) items
 
--- How many dots of the line are left free to the left of something this wide.
-abbrev pub indent : Alignment → ℕ → ℕ
-indent Left width = 0
-indent Center width = (LINE_DOTS - width) / 2
-indent Right width = LINE_DOTS - width
+-- How many dots of a line of so many dots are left free to the left of something this wide.
+abbrev pub indent : ℕ → Alignment → ℕ → ℕ
+indent line_dots Left width = 0
+indent line_dots Center width = (line_dots - width) / 2
+indent line_dots Right width = line_dots - width
 
 -- The place of a group: this many dots from the left end of the line, and this many quarters of a dot under the first item.
 abbrev pub moved : ℕ → ℕ → List ℕ

@@ -3,15 +3,14 @@ use Rattle.std.specs.Prelude.{ℕ, ◌*◌, min, List, ◌++◌, length, Option,
 use Rattle.escpos_command.specs.declared.parameter.choices.Alignment.{Alignment}
 use Rattle.escpos_command.specs.declared.parameter.choices.Alignment.TheVariants.{Left}
 use Rattle.escpos_command.specs.declared.parameter.choices.Correction.{Correction}
-use Rattle.escpos_paper.specs.declared.cell.TheConstants.{LINE_DOTS}
 use Rattle.escpos_picture.specs.declared.qr.TheConstants.{BOX_HEIGHT}
 use Rattle.escpos_picture.specs.BarItems.{box_frame, box_text}
 use Rattle.escpos_picture.specs.Places.{indent, moved}
 use Rattle.escpos_picture.specs.QrSides.{qr_side}
 use Rattle.escpos_picture.specs.Rows.{characters_text}
 
-unfoldable pub qr_group : ℕ → Alignment → ℕ → List ℕ
-qr_group down align width = codes "<g class=\"qr\" transform=\"translate(" ++ moved (indent align width) down ++ codes ")\">\n"
+unfoldable pub qr_group : ℕ → ℕ → Alignment → ℕ → List ℕ
+qr_group line_dots down align width = codes "<g class=\"qr\" transform=\"translate(" ++ moved (indent line_dots align width) down ++ codes ")\">\n"
 
 unfoldable pub qr_frame : ℕ → List ℕ
 qr_frame side =
@@ -26,10 +25,10 @@ qr_text side count =
     ++ codes "\" lengthAdjust=\"spacingAndGlyphs\">"
 
 -- All that comes before the content.
-abbrev pub qr_start : ℕ → Alignment → Option ℕ → ℕ → List ℕ
-qr_start down align None count = qr_group down Left LINE_DOTS ++ box_frame 0 BOX_HEIGHT ++ box_text 0 BOX_HEIGHT count
-qr_start down align (Some side) count = qr_group down align side ++ qr_frame side ++ qr_text side count
+abbrev pub qr_start : ℕ → ℕ → Alignment → Option ℕ → ℕ → List ℕ
+qr_start line_dots down align None count = qr_group line_dots down Left line_dots ++ box_frame line_dots 0 BOX_HEIGHT ++ box_text line_dots 0 BOX_HEIGHT count
+qr_start line_dots down align (Some side) count = qr_group line_dots down align side ++ qr_frame side ++ qr_text side count
 
-abbrev pub qr_drawing : ℕ → Alignment → ℕ → Correction → List ℕ → List ℕ
-qr_drawing down align size level content =
-    qr_start down align (qr_side size level content) (length content) ++ characters_text 0 content ++ codes "</text></svg>\n</g>\n"
+abbrev pub qr_drawing : ℕ → ℕ → Alignment → ℕ → Correction → List ℕ → List ℕ
+qr_drawing line_dots down align size level content =
+    qr_start line_dots down align (qr_side line_dots size level content) (length content) ++ characters_text 0 0 content ++ codes "</text></svg>\n</g>\n"

@@ -62,9 +62,9 @@ class_of B true true = codes " class=\"B bold white\""
 unfoldable pub text_class : Style → List ℕ
 text_class s = class_of s.font (s.bold || s.strike) s.reverse
 
--- The characters of a run, printed with the code table of its style.
-abbrev pub characters_text : ℕ → List ℕ → List ℕ
-characters_text table bytes = flat_map (byte_text table) bytes
+-- The characters of these bytes, printed with a character set and a code table.
+abbrev pub characters_text : ℕ → ℕ → List ℕ → List ℕ
+characters_text set table bytes = flat_map (byte_text set table) bytes
 
 -- The tag before a run's characters. As wide as the run they are, whatever font the viewer has.
 unfoldable pub text_start : ℕ → Style → List ℕ
@@ -74,7 +74,7 @@ unfoldable pub run_tag : ℕ → Run → List ℕ
 run_tag x r = text_start x r.style ++ codes " textLength=\"" ++ decimal (face_dots r.style.font * length r.bytes) ++ codes "\">"
 
 abbrev pub run_text : ℕ → Run → List ℕ
-run_text x r = run_tag x r ++ characters_text r.style.table r.bytes ++ codes "</text>"
+run_text x r = run_tag x r ++ characters_text r.style.character_set r.style.table r.bytes ++ codes "</text>"
 
 -- A line at the lower end of the run's cells, a quarter of their height below the base line.
 unfoldable pub underline_text : ℕ → Run → List ℕ

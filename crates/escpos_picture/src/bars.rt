@@ -1,6 +1,7 @@
 //! Barcodes: bars between lines of text, or a box where no scanner would read the bars.
 
 ghost use Rattle.std.specs.Prelude.{◌≡◌, ◌+◌, ◌*◌, ◌≤◌, ◌++◌, length, sum, true, []};
+ghost use Rattle.escpos_command.specs.declared.line_width.TheConstants.{MOST_LINE_DOTS};
 ghost use Rattle.escpos_command.specs.QrCodes.{most_qr_data};
 ghost use Rattle.escpos_io.specs.Giving.{IsGiven};
 ghost use Rattle.escpos_io.specs.Putting.{passage};
@@ -18,7 +19,7 @@ use crate::pen::{DEEPEST, indent};
 use crate::span::{LINE_START_BYTES, SPAN_BYTES, append_line_start, append_span};
 use escpos_barcode::laws::bars_fit;
 use escpos_barcode::{interpretation, runs};
-use escpos_command::{Alignment, Symbology};
+use escpos_command::{Alignment, LineWidth, Symbology};
 use escpos_io::{ByteOut, Device, GATHERED_BYTES, Gather, append_number};
 use escpos_paper::{BarStyle, CONTENT_BYTES};
 
@@ -33,12 +34,13 @@ pub struct Symbol {
     pub added: Option<u8>,
 }
 
-/// Gives the drawing of a barcode whose upper edge is this many quarters of a dot down the paper.
+/// Gives the drawing of a barcode on a line of this width whose upper edge is this many quarters of a dot down the paper.
 ///
 /// On `Err` the sink has failed, and took exactly the first `written` of all bytes ever given to the gather, as long as these are
 /// few enough to be counted.
 pub fn put_bars<W: ByteOut>(
     gather: &mut Gather,
+    width: LineWidth,
     symbol: &Symbol,
     content: &[u8],
     down: usize,
@@ -47,16 +49,18 @@ pub fn put_bars<W: ByteOut>(
     requires few { length content.now ≤ CONTENT_BYTES }
     requires small { down ≤ DEEPEST }
     ensures { IsGiven result (passage (W.written writer.old) (W.written writer.new) (W.failed writer.old) (W.failed writer.new))
-        gather.old gather.new (bars_drawing down symbol.now.align symbol.now.symbology symbol.now.style content.now symbol.now.added) }
+        gather.old gather.new (bars_drawing width down symbol.now.align symbol.now.symbology symbol.now.style content.now symbol.now.added) }
 {
     let module_width = symbol.style.module_width;
-    match runs(symbol.symbology, module_width, content, symbol.added) {
+    match runs(width, symbol.symbology, module_width, content, symbol.added) {
         Some(runs) => {
-            // Proof only: the runs fit on the line.
+            // Proof only: the runs fit on the line, which has no more than 1,024 dots.
             bars_fit();
+            let _ = width.dots();
             let text = interpretation(symbol.symbology, content, symbol.added);
             put_scannable(
                 gather,
+                width,
                 symbol,
                 runs.as_slice(),
                 text.as_slice(),
@@ -66,7 +70,7 @@ pub fn put_bars<W: ByteOut>(
         }
         None => {
             gather.room(BOX_BYTES, writer)?;
-            append_box(gather, &symbol.style, content, symbol.added, down);
+            append_box(gather, width, &symbol.style, content, symbol.added, down);
             Ok(())
         }
     }
@@ -75,30 +79,31 @@ pub fn put_bars<W: ByteOut>(
 // Gives bars of these widths and spaces between them, with a text.
 fn put_scannable<W: ByteOut>(
     gather: &mut Gather,
+    width: LineWidth,
     symbol: &Symbol,
     widths: &[u8],
     text: &[u8],
     down: usize,
     writer: &mut W,
 ) -> Result<(), Device>
-    requires narrow { sum widths.now ≤ 512 }
+    requires narrow { sum widths.now ≤ MOST_LINE_DOTS }
     requires few { length text.now ≤ 512 }
     requires small { down ≤ DEEPEST }
     ensures { IsGiven result (passage (W.written writer.old) (W.written writer.new) (W.failed writer.old) (W.failed writer.new))
-        gather.old gather.new (scannable down symbol.now.align symbol.now.style text.now widths.now) }
+        gather.old gather.new (scannable width down symbol.now.align symbol.now.style text.now widths.now) }
 {
-    let width = width_of(widths);
+    let dots = width_of(widths);
     gather.room(LABEL_BYTES + 512, writer)?;
-    append_start(gather, symbol, width, text, down);
+    append_start(gather, width, symbol, dots, text, down);
     put_line(gather, widths, writer)?;
     gather.room(LABEL_BYTES + 64, writer)?;
-    append_end(gather, &symbol.style, width, text);
+    append_end(gather, &symbol.style, dots, text);
     Ok(())
 }
 
 // How wide bars and spaces are together.
 fn width_of(widths: &[u8]) -> usize
-    requires { sum widths.now ≤ 512 }
+    requires { sum widths.now ≤ MOST_LINE_DOTS }
     ensures { result ≡ sum widths.now }
 {
     let mut sum = 0;
@@ -109,30 +114,37 @@ fn width_of(widths: &[u8]) -> usize
 }
 
 // Appends what comes before the bars.
-fn append_start(gather: &mut Gather, symbol: &Symbol, width: usize, text: &[u8], down: usize)
-    requires narrow { width ≤ 512 }
+fn append_start(
+    gather: &mut Gather,
+    width: LineWidth,
+    symbol: &Symbol,
+    dots: usize,
+    text: &[u8],
+    down: usize,
+)
+    requires narrow { dots ≤ MOST_LINE_DOTS }
     requires few { length text.now ≤ 512 }
     requires small { down ≤ DEEPEST }
     requires room { length gather.old.kept + LABEL_BYTES + 512 ≤ GATHERED_BYTES }
-    ensures kept { gather.new.kept ≡ gather.old.kept ++ bars_start down symbol.now.align symbol.now.style width text.now }
+    ensures kept { gather.new.kept ≡ gather.old.kept ++ bars_start width down symbol.now.align symbol.now.style dots text.now }
     ensures same_count { gather.new.written ≡ gather.old.written }
 {
-    append_group(gather, symbol.align, width, down);
-    append_label_above(gather, &symbol.style, width, text);
-    append_frame(gather, &symbol.style, width);
+    append_group(gather, width, symbol.align, dots, down);
+    append_label_above(gather, &symbol.style, dots, text);
+    append_frame(gather, &symbol.style, dots);
 }
 
 // Appends the tag of the group.
 #[tactic(auto, unfolding(crate::specs::BarItems::bars_group))]
-fn append_group(gather: &mut Gather, align: Alignment, width: usize, down: usize)
+fn append_group(gather: &mut Gather, width: LineWidth, align: Alignment, dots: usize, down: usize)
     requires small { down ≤ DEEPEST }
     requires room { length gather.old.kept + 96 ≤ GATHERED_BYTES }
-    ensures kept { gather.new.kept ≡ gather.old.kept ++ bars_group down align width }
+    ensures kept { gather.new.kept ≡ gather.old.kept ++ bars_group width down align dots }
     ensures same_count { gather.new.written ≡ gather.old.written }
     ensures short { length gather.new.kept ≤ length gather.old.kept + 96 }
 {
     gather.extend(b"<g class=\"bars\" transform=\"translate(");
-    append_place(gather, indent(align, width), down);
+    append_place(gather, indent(width, align, dots), down);
     gather.extend(b")\">\n");
 }
 
@@ -188,7 +200,7 @@ fn put_bar_spans<W: ByteOut>(
 
 // Appends what comes after the bars.
 fn append_end(gather: &mut Gather, style: &BarStyle, width: usize, text: &[u8])
-    requires narrow { width ≤ 512 }
+    requires narrow { width ≤ MOST_LINE_DOTS }
     requires few { length text.now ≤ 512 }
     requires room { length gather.old.kept + LABEL_BYTES + 64 ≤ GATHERED_BYTES }
     ensures kept { gather.new.kept ≡ gather.old.kept ++ bars_end style.now width text.now }
@@ -205,18 +217,26 @@ const BOX_BYTES: usize = 2304;
 const _: () = prove!(BOX_BYTES == 2304);
 
 // Appends a box with a content that no scanner would read.
-fn append_box(gather: &mut Gather, style: &BarStyle, content: &[u8], added: Option<u8>, down: usize)
+fn append_box(
+    gather: &mut Gather,
+    width: LineWidth,
+    style: &BarStyle,
+    content: &[u8],
+    added: Option<u8>,
+    down: usize,
+)
     requires few { length content.now ≤ CONTENT_BYTES }
     requires small { down ≤ DEEPEST }
     requires room { length gather.old.kept + BOX_BYTES ≤ GATHERED_BYTES }
-    ensures kept { gather.new.kept ≡ gather.old.kept ++ box down style.now (with_added content.now added) }
+    ensures kept { gather.new.kept ≡ gather.old.kept ++ box width down style.now (with_added content.now added) }
     ensures same_count { gather.new.written ≡ gather.old.written }
 {
     let top = bars_top(style);
     let height = usize::from(style.height);
-    append_group(gather, Alignment::Left, 512, down);
-    append_box_frame(gather, top, height);
-    append_box_text(gather, top, height, shown_len(content, added));
+    let line_dots = usize::from(width.dots());
+    append_group(gather, width, Alignment::Left, line_dots, down);
+    append_box_frame(gather, width, top, height);
+    append_box_text(gather, width, top, height, shown_len(content, added));
     append_characters(gather, content);
     append_added(gather, added);
     gather.extend(b"</text></svg>\n</g>\n");
@@ -234,34 +254,44 @@ fn shown_len(content: &[u8], added: Option<u8>) -> usize
     }
 }
 
-/// Appends the frame of a box.
+/// Appends the frame of a box as wide as the line.
 #[tactic(auto, unfolding(crate::specs::BarItems::box_frame))]
-pub fn append_box_frame(gather: &mut Gather, top: usize, height: usize)
+pub fn append_box_frame(gather: &mut Gather, width: LineWidth, top: usize, height: usize)
     requires room { length gather.old.kept + 192 ≤ GATHERED_BYTES }
-    ensures kept { gather.new.kept ≡ gather.old.kept ++ box_frame top height }
+    ensures kept { gather.new.kept ≡ gather.old.kept ++ box_frame width top height }
     ensures same_count { gather.new.written ≡ gather.old.written }
     ensures short { length gather.new.kept ≤ length gather.old.kept + 192 }
 {
-    append_between(gather, b"<svg y=\"", top, b"\" width=\"512\" height=\"");
+    let line_dots = usize::from(width.dots());
+    append_between(gather, b"<svg y=\"", top, b"\" width=\"");
+    append_between(gather, b"", line_dots, b"\" height=\"");
     append_number(gather, height);
     append_between(
         gather,
-        b"\"><rect class=\"box\" width=\"512\" height=\"",
-        height,
-        b"\"/></svg>\n",
+        b"\"><rect class=\"box\" width=\"",
+        line_dots,
+        b"\" height=\"",
     );
+    append_between(gather, b"", height, b"\"/></svg>\n");
 }
 
 /// Appends the texts of a box, up to its content of so many characters.
 #[tactic(auto, unfolding(crate::specs::BarItems::box_text))]
-pub fn append_box_text(gather: &mut Gather, top: usize, height: usize, count: usize)
+pub fn append_box_text(
+    gather: &mut Gather,
+    width: LineWidth,
+    top: usize,
+    height: usize,
+    count: usize,
+)
     requires few { count ≤ most_qr_data }
     requires room { length gather.old.kept + 384 ≤ GATHERED_BYTES }
-    ensures kept { gather.new.kept ≡ gather.old.kept ++ box_text top height count }
+    ensures kept { gather.new.kept ≡ gather.old.kept ++ box_text width top height count }
     ensures same_count { gather.new.written ≡ gather.old.written }
     ensures short { length gather.new.kept ≤ length gather.old.kept + 384 }
 {
-    append_between(gather, b"<svg y=\"", top, b"\" width=\"512\" height=\"");
+    append_between(gather, b"<svg y=\"", top, b"\" width=\"");
+    append_between(gather, b"", usize::from(width.dots()), b"\" height=\"");
     append_number(gather, height);
     gather.extend(
         b"\" viewBox=\"0 0 512 48\"><text class=\"middle\" x=\"256\" y=\"18\">not scannable</text><text class=\"middle\" x=\"256\" y=\"42\" textLength=\"",
@@ -277,11 +307,11 @@ pub fn append_box_text(gather: &mut Gather, top: usize, height: usize, count: us
 // Appends a check digit that is added.
 fn append_added(gather: &mut Gather, added: Option<u8>)
     requires room { length gather.old.kept + 6 ≤ GATHERED_BYTES }
-    ensures kept { gather.new.kept ≡ gather.old.kept ++ characters_text 0 (with_added [] added) }
+    ensures kept { gather.new.kept ≡ gather.old.kept ++ characters_text 0 0 (with_added [] added) }
     ensures same_count { gather.new.written ≡ gather.old.written }
     ensures short { length gather.new.kept ≤ length gather.old.kept + 6 }
 {
     if let Some(number) = added {
-        append_byte(gather, 0, b'0' + number % 10);
+        append_byte(gather, 0, 0, b'0' + number % 10);
     }
 }

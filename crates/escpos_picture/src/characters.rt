@@ -1,10 +1,10 @@
 //! Printed bytes as characters of the document.
 
 ghost use Rattle.std.specs.Prelude.{◌≡◌, ◌+◌, ◌*◌, ◌≤◌, ◌<◌, ◌++◌, length, flat_map, get_or, encode_utf8};
-ghost use Rattle.escpos_picture.specs.Characters.{replacement, upper_half, character, escaped, character_text, byte_text};
+ghost use Rattle.escpos_picture.specs.Characters.{replacement, character, escaped, character_text, byte_text};
 
-use crate::code_tables::{PC437, PC850, PC858, WPC1252};
 use escpos_io::{GATHERED_BYTES, Gather};
+use escpos_text::reads;
 
 /// The most bytes that a printed byte takes as text: those of `&quot;`.
 pub const CHARACTER_BYTES: usize = 6;
@@ -14,43 +14,23 @@ const _: () = prove!(CHARACTER_BYTES == 6);
 // What stands for a byte that is no character.
 const REPLACEMENT: char = '\u{FFFD}';
 
-/// Appends a byte that is printed with this code table.
+/// Appends a byte that is printed with this character set and this code table.
 #[inline]
-pub fn append_byte(gather: &mut Gather, table: u8, byte: u8)
+pub fn append_byte(gather: &mut Gather, set: u8, table: u8, byte: u8)
     requires { length gather.old.kept + CHARACTER_BYTES ≤ GATHERED_BYTES }
-    ensures kept { gather.new.kept ≡ gather.old.kept ++ byte_text table byte }
+    ensures kept { gather.new.kept ≡ gather.old.kept ++ byte_text set table byte }
     ensures same_count { gather.new.written ≡ gather.old.written }
-    ensures short { length (byte_text table byte) ≤ CHARACTER_BYTES }
+    ensures short { length (byte_text set table byte) ≤ CHARACTER_BYTES }
 {
-    append_character(gather, character(table, byte));
+    append_character(gather, character(set, table, byte));
 }
 
 // The character of a byte.
 #[inline]
-fn character(table: u8, byte: u8) -> char
-    ensures { result ≡ character table byte }
+fn character(set: u8, table: u8, byte: u8) -> char
+    ensures { result ≡ character set table byte }
 {
-    match byte {
-        0x20..=0x7E => char::from(byte),
-        0x80..=0xFF => upper_character(table, byte - 0x80),
-        _ => REPLACEMENT,
-    }
-}
-
-// The character of the byte 80 + `place`, which is below 128.
-#[inline(never)]
-fn upper_character(table: u8, place: u8) -> char
-    requires { place < 128 }
-    ensures { result ≡ get_or (upper_half table) place replacement }
-{
-    let place = usize::from(place);
-    match table {
-        0 => PC437[place],
-        2 => PC850[place],
-        16 => WPC1252[place],
-        19 => PC858[place],
-        _ => REPLACEMENT,
-    }
+    reads(set, table, byte).unwrap_or(REPLACEMENT)
 }
 
 // Appends a character.

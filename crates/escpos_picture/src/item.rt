@@ -4,17 +4,17 @@ ghost use Rattle.std.specs.Prelude.{◌≡◌, ◌≤◌, OnOk, OnErr};
 ghost use Rattle.escpos_io.specs.Giving.{IsGiven};
 ghost use Rattle.escpos_io.specs.Putting.{passage};
 ghost use Rattle.escpos_picture.specs.Places.{place_after, place_after_all};
-ghost use Rattle.escpos_picture.specs.Groups.{drawing, drawings, drawing_at, row_drawing, cut_drawing};
+ghost use Rattle.escpos_picture.specs.Groups.{drawing, drawings, drawing_at, cut_drawing};
 
 use crate::bars::{Symbol, put_bars};
 use crate::cut::{CUT_BYTES, append_cut};
 use crate::pen::{DEEPEST, Pen};
 use crate::qr::put_qr;
 use crate::raster::{Frame, put_raster};
-use crate::row::{CELL_BYTES, ROW_BYTES, append_row};
-use escpos_command::Alignment;
+use crate::row::put_row;
+use escpos_command::LineWidth;
 use escpos_io::{ByteOut, Device, Gather};
-use escpos_paper::{BarStyle, Cells, Item};
+use escpos_paper::{BarStyle, Item};
 
 /// Gives the drawings of items one under another, the first at the place of the pen, and goes on to the place under the last.
 ///
@@ -52,35 +52,36 @@ pub fn put_item<W: ByteOut>(
     ensures place { OnOk result (pen.new ≡ place_after pen.old item.now) }
     ensures stays { OnErr result (pen.new ≡ pen.old) }
 {
-    put_drawing(gather, pen.down(), item, writer)?;
+    put_drawing(gather, pen.line_width(), pen.down(), item, writer)?;
     pen.pass(item);
     Ok(())
 }
 
-// Gives the drawing of an item that begins this many quarters of a dot down the paper.
+// Gives the drawing of an item on a line of this width that begins this many quarters of a dot down the paper.
 fn put_drawing<W: ByteOut>(
     gather: &mut Gather,
+    width: LineWidth,
     down: usize,
     item: &Item,
     writer: &mut W,
 ) -> Result<(), Device>
     requires { down ≤ DEEPEST }
     ensures { IsGiven result (passage (W.written writer.old) (W.written writer.new) (W.failed writer.old) (W.failed writer.new))
-        gather.old gather.new (drawing_at down item.now) }
+        gather.old gather.new (drawing_at width down item.now) }
 {
     match item {
         Item::Row {
             align,
             upside_down,
             cells,
-        } => put_row(gather, *align, *upside_down, cells, down, writer),
+        } => put_row(gather, width, *align, *upside_down, cells, down, writer),
         Item::Feed { .. } => gather.put(b"<g class=\"feed\"/>\n", writer),
         Item::FeedUnits(_) => gather.put(b"<g class=\"units\"/>\n", writer),
         Item::Bars {
             align,
             symbology,
             height,
-            module: width,
+            module,
             place,
             hri_font,
             content,
@@ -91,13 +92,13 @@ fn put_drawing<W: ByteOut>(
                 symbology: *symbology,
                 style: BarStyle {
                     height: *height,
-                    module_width: *width,
+                    module_width: *module,
                     place: *place,
                     hri_font: *hri_font,
                 },
                 added: *added,
             };
-            put_bars(gather, &symbol, content.as_slice(), down, writer)
+            put_bars(gather, width, &symbol, content.as_slice(), down, writer)
         }
         Item::Raster {
             align,
@@ -112,7 +113,7 @@ fn put_drawing<W: ByteOut>(
                 x: *x,
                 y: *y,
             };
-            put_raster(gather, &frame, dots, down, writer)
+            put_raster(gather, width, &frame, dots, down, writer)
         }
         Item::Qr {
             align,
@@ -122,6 +123,7 @@ fn put_drawing<W: ByteOut>(
             ..
         } => put_qr(
             gather,
+            width,
             *align,
             *size,
             *level,
@@ -129,32 +131,14 @@ fn put_drawing<W: ByteOut>(
             down,
             writer,
         ),
-        Item::Cut { partial, feed } => put_cut(gather, *partial, *feed, down, writer),
+        Item::Cut { partial, feed } => put_cut(gather, width, *partial, *feed, down, writer),
     }
-}
-
-// Gives a row.
-fn put_row<W: ByteOut>(
-    gather: &mut Gather,
-    align: Alignment,
-    upside_down: bool,
-    cells: &Cells,
-    down: usize,
-    writer: &mut W,
-) -> Result<(), Device>
-    requires { down ≤ DEEPEST }
-    ensures { IsGiven result (passage (W.written writer.old) (W.written writer.new) (W.failed writer.old) (W.failed writer.new))
-        gather.old gather.new (row_drawing down align upside_down cells.now) }
-{
-    let row = cells.as_slice();
-    gather.room(ROW_BYTES + CELL_BYTES * row.len(), writer)?;
-    append_row(gather, align, upside_down, row, down);
-    Ok(())
 }
 
 // Gives a cut.
 fn put_cut<W: ByteOut>(
     gather: &mut Gather,
+    width: LineWidth,
     partial: bool,
     feed: Option<u8>,
     down: usize,
@@ -162,9 +146,9 @@ fn put_cut<W: ByteOut>(
 ) -> Result<(), Device>
     requires { down ≤ DEEPEST }
     ensures { IsGiven result (passage (W.written writer.old) (W.written writer.new) (W.failed writer.old) (W.failed writer.new))
-        gather.old gather.new (cut_drawing down partial feed) }
+        gather.old gather.new (cut_drawing width down partial feed) }
 {
     gather.room(CUT_BYTES, writer)?;
-    append_cut(gather, partial, feed, down);
+    append_cut(gather, width, partial, feed, down);
     Ok(())
 }

@@ -1,6 +1,7 @@
 //! The lines of text above and below a barcode. (Reference: GS H, GS f.)
 
 ghost use Rattle.std.specs.Prelude.{◌≡◌, ◌+◌, ◌*◌, ◌≤◌, ◌++◌, length};
+ghost use Rattle.escpos_command.specs.declared.line_width.TheConstants.{MOST_LINE_DOTS};
 ghost use Rattle.escpos_picture.specs.Rows.{characters_text};
 ghost use Rattle.escpos_picture.specs.BarItems.{stands_above, stands_below, label_class, label_place, label_tag, label, bars_top, label_above, label_below};
 
@@ -45,7 +46,7 @@ pub fn bars_top(style: &BarStyle) -> usize
 /// Appends the line of text above bars that are this wide, if there is one.
 #[tactic(auto, unfolding(crate::specs::BarItems::label_above))]
 pub fn append_label_above(gather: &mut Gather, style: &BarStyle, width: usize, text: &[u8])
-    requires narrow { width ≤ 512 }
+    requires narrow { width ≤ MOST_LINE_DOTS }
     requires few { length text.now ≤ 512 }
     requires room { length gather.old.kept + LABEL_BYTES ≤ GATHERED_BYTES }
     ensures kept { gather.new.kept ≡ gather.old.kept ++ label_above style.now width text.now }
@@ -66,7 +67,7 @@ pub fn append_label_above(gather: &mut Gather, style: &BarStyle, width: usize, t
 /// Appends the line of text below bars that are this wide, if there is one.
 #[tactic(auto, unfolding(crate::specs::BarItems::label_below))]
 pub fn append_label_below(gather: &mut Gather, style: &BarStyle, width: usize, text: &[u8])
-    requires narrow { width ≤ 512 }
+    requires narrow { width ≤ MOST_LINE_DOTS }
     requires few { length text.now ≤ 512 }
     requires room { length gather.old.kept + LABEL_BYTES ≤ GATHERED_BYTES }
     ensures kept { gather.new.kept ≡ gather.old.kept ++ label_below style.now width text.now }
@@ -83,7 +84,7 @@ pub fn append_label_below(gather: &mut Gather, style: &BarStyle, width: usize, t
 // Appends a line of text in the middle of something so wide, whose base line is so many quarters of a dot down.
 #[tactic(auto, unfolding(crate::specs::BarItems::label))]
 fn append_label(gather: &mut Gather, face: FontFace, width: usize, base: usize, text: &[u8])
-    requires narrow { width ≤ 512 }
+    requires narrow { width ≤ MOST_LINE_DOTS }
     requires few { length text.now ≤ 512 }
     requires room { length gather.old.kept + LABEL_BYTES ≤ GATHERED_BYTES }
     ensures kept { gather.new.kept ≡ gather.old.kept ++ label face width base text.now }
@@ -98,7 +99,7 @@ fn append_label(gather: &mut Gather, face: FontFace, width: usize, base: usize, 
 // Appends the tag before a line of so many characters.
 #[tactic(auto, unfolding(crate::specs::BarItems::label_tag))]
 fn append_label_tag(gather: &mut Gather, face: FontFace, width: usize, base: usize, count: usize)
-    requires narrow { width ≤ 512 }
+    requires narrow { width ≤ MOST_LINE_DOTS }
     requires few { count ≤ 512 }
     requires room { length gather.old.kept + 160 ≤ GATHERED_BYTES }
     ensures kept { gather.new.kept ≡ gather.old.kept ++ label_tag face width base count }
@@ -119,7 +120,7 @@ fn append_label_tag(gather: &mut Gather, face: FontFace, width: usize, base: usi
 // Appends the place of a line of text.
 #[tactic(auto, unfolding(crate::specs::BarItems::label_place))]
 fn append_label_place(gather: &mut Gather, width: usize, base: usize)
-    requires narrow { width ≤ 512 }
+    requires narrow { width ≤ MOST_LINE_DOTS }
     requires room { length gather.old.kept + 60 ≤ GATHERED_BYTES }
     ensures kept { gather.new.kept ≡ gather.old.kept ++ label_place width base }
     ensures same_count { gather.new.written ≡ gather.old.written }
@@ -144,11 +145,11 @@ fn label_class(face: FontFace) -> &'static [u8]
 /// Appends the characters of a text, printed with code table 0.
 pub fn append_characters(gather: &mut Gather, text: &[u8])
     requires { length gather.old.kept + 6 * length text.now ≤ GATHERED_BYTES }
-    ensures kept { gather.new.kept ≡ gather.old.kept ++ characters_text 0 text.now }
+    ensures kept { gather.new.kept ≡ gather.old.kept ++ characters_text 0 0 text.now }
     ensures same_count { gather.new.written ≡ gather.old.written }
     ensures short { length gather.new.kept ≤ length gather.old.kept + 6 * length text.now }
 {
     for byte in text {
-        append_byte(gather, 0, *byte);
+        append_byte(gather, 0, 0, *byte);
     }
 }

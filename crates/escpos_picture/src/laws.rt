@@ -8,7 +8,7 @@ ghost use Rattle.escpos_command.specs.declared.parameter.choices.Alignment.{Alig
 ghost use Rattle.escpos_command.specs.declared.parameter.choices.Correction.{Correction};
 ghost use Rattle.escpos_command.specs.declared.parameter.choices.Scale.{Scale};
 ghost use Rattle.escpos_paper.specs.declared.cell.Cell.{Cell};
-ghost use Rattle.escpos_paper.specs.declared.cell.TheConstants.{LINE_DOTS};
+ghost use Rattle.escpos_command.specs.declared.line_width.TheConstants.{MOST_LINE_DOTS};
 ghost use Rattle.escpos_paper.specs.declared.item.Item.{Item};
 ghost use Rattle.escpos_paper.specs.declared.item.Item.TheVariants.{Row, Bars, Raster, Qr, Cut};
 ghost use Rattle.escpos_paper.specs.declared.style.BarStyle.{BarStyle};
@@ -38,15 +38,15 @@ pub fn drawings_in_turn()
 /// paper is as high as the depth of all items and the two margins. So it is as long as the sum stays within the places that are
 /// counted, from which 2^40 items are far: a printer that prints a thousand a second takes 34 years to print so many.
 pub fn items_stand_in_order()
-    ensures places { (items : List Item) → depths 0 items ≤ DEEPEST → (place_after_all top items).down ≡ depths 0 items }
-    ensures drawn { (front : List Item) (item : Item) (more : List Item) → depths 0 front ≤ DEEPEST →
-        drawings top (front ++ item ∷ more) ≡
-        drawings top front ++ (drawing_at (depths 0 front) item ++ drawings (place_after_all top (front ++ item ∷ [])) more) }
-    ensures next { (front : List Item) (item : Item) →
-        depths 0 (front ++ item ∷ []) ≡ depths 0 front + depth (row_above_next 0 front) item }
-    ensures height { (items : List Item) → depths 0 items ≤ DEEPEST →
-        paper_height (place_after_all top items).down ≡ 4 * MARGIN + depths 0 items + 4 * MARGIN }
-    ensures few { (items : List Item) → AllByRecursion HasSizes items → length items ≤ 2 ^ 40 → depths 0 items ≤ DEEPEST }
+    ensures places { (line_dots : ℕ) (items : List Item) → depths line_dots 0 items ≤ DEEPEST → (place_after_all (top line_dots) items).down ≡ depths line_dots 0 items }
+    ensures drawn { (line_dots : ℕ) (front : List Item) (item : Item) (more : List Item) → depths line_dots 0 front ≤ DEEPEST →
+        drawings (top line_dots) (front ++ item ∷ more) ≡
+        drawings (top line_dots) front ++ (drawing_at line_dots (depths line_dots 0 front) item ++ drawings (place_after_all (top line_dots) (front ++ item ∷ [])) more) }
+    ensures next { (line_dots : ℕ) (front : List Item) (item : Item) →
+        depths line_dots 0 (front ++ item ∷ []) ≡ depths line_dots 0 front + depth line_dots (row_above_next 0 front) item }
+    ensures height { (line_dots : ℕ) (items : List Item) → depths line_dots 0 items ≤ DEEPEST →
+        paper_height (place_after_all (top line_dots) items).down ≡ 4 * MARGIN + depths line_dots 0 items + 4 * MARGIN }
+    ensures few { (line_dots : ℕ) (items : List Item) → line_dots ≤ MOST_LINE_DOTS → AllByRecursion HasSizes items → length items ≤ 2 ^ 40 → depths line_dots 0 items ≤ DEEPEST }
 {}
 
 /// Depth: what is drawn of an item stays within its depth, so that no item is drawn over the one above it or below. The base line of
@@ -56,24 +56,24 @@ pub fn items_stand_in_order()
 /// right end of the line as it otherwise is from the left one. The lines of a raster, the bars of a barcode with its lines of text,
 /// the box of a QR code and a cut fill their depth exactly. And what is no wider than the line ends within it.
 pub fn items_stay_within()
-    ensures rows_within { (above : ℕ) (align : Alignment) (upside_down : Bool) (cells : List Cell) → AllByRecursion (λ (x : Cell).
+    ensures rows_within { (line_dots : ℕ) (above : ℕ) (align : Alignment) (upside_down : Bool) (cells : List Cell) → AllByRecursion (λ (x : Cell).
         (base_line upside_down (cell_height x) ≤ base_line upside_down (tallest cells))
-        × (base_line upside_down (tallest cells) + base_line (not upside_down) (cell_height x) ≤ depth above (Row align upside_down cells))) cells }
+        × (base_line upside_down (tallest cells) + base_line (not upside_down) (cell_height x) ≤ depth line_dots above (Row align upside_down cells))) cells }
     ensures underlines_within { (x : Cell) → 1 ≤ x.style.height → x.style.underline ≤ 2 →
         cell_height x - 4 * x.style.underline + 4 * x.style.underline ≡ cell_height x }
-    ensures rasters_within { (above : ℕ) (align : Alignment) (scale : Scale) (x y : ℕ) (dots : List ℕ) →
-        4 * (downwards scale * length (rows_of x y dots)) ≡ depth above (Raster align scale x y dots) }
-    ensures bars_within { (above : ℕ) (align : Alignment) (symbology : Symbology) (style : BarStyle) (content : List ℕ) (added : Option ℕ) →
+    ensures rasters_within { (line_dots : ℕ) (above : ℕ) (align : Alignment) (scale : Scale) (x y : ℕ) (dots : List ℕ) →
+        4 * (downwards scale * length (rows_of x y dots)) ≡ depth line_dots above (Raster align scale x y dots) }
+    ensures bars_within { (line_dots : ℕ) (above : ℕ) (align : Alignment) (symbology : Symbology) (style : BarStyle) (content : List ℕ) (added : Option ℕ) →
         4 * (bars_top style + style.height + bars_bottom style) ≡
-        depth above (Bars align symbology style.height style.module_width style.place style.hri_font content added) }
+        depth line_dots above (Bars align symbology style.height style.module_width style.place style.hri_font content added) }
     ensures labels_within { (style : BarStyle) → (IsTrue (stands_above style.place) → bars_top style ≡ face_height style.hri_font)
         × (IsTrue (stands_below style.place) → bars_bottom style ≡ face_height style.hri_font) }
-    ensures codes_within { (above : ℕ) (align : Alignment) (model size : ℕ) (level : Correction) (content : List ℕ) →
-        4 * qr_height size level content ≡ depth above (Qr align model size level content) }
-    ensures cuts_within { (above : ℕ) (partial : Bool) (feed : Option ℕ) → cut_place feed + 4 * 24 ≡ depth above (Cut partial feed) }
-    ensures across { (align : Alignment) (width : ℕ) → width ≤ LINE_DOTS → indent align width + width ≤ LINE_DOTS }
-    ensures turned { (align : Alignment) (width : ℕ) → width ≤ LINE_DOTS →
-        (width ≤ row_start true (indent align width)) × (row_start true (indent align width) + indent align width ≡ LINE_DOTS) }
+    ensures codes_within { (line_dots : ℕ) (above : ℕ) (align : Alignment) (model size : ℕ) (level : Correction) (content : List ℕ) →
+        4 * qr_height line_dots size level content ≡ depth line_dots above (Qr align model size level content) }
+    ensures cuts_within { (line_dots : ℕ) (above : ℕ) (partial : Bool) (feed : Option ℕ) → cut_place feed + 4 * 24 ≡ depth line_dots above (Cut partial feed) }
+    ensures across { (line_dots : ℕ) (align : Alignment) (width : ℕ) → width ≤ line_dots → indent line_dots align width + width ≤ line_dots }
+    ensures turned { (line_dots : ℕ) (align : Alignment) (width : ℕ) → width ≤ line_dots →
+        (width ≤ row_start line_dots true (indent line_dots align width)) × (row_start line_dots true (indent line_dots align width) + indent line_dots align width ≡ line_dots) }
 {}
 
 /// Dots: what paths draw is exactly the black dots, each once, from left to right and row by row: the dots that are 1 of the rows
@@ -85,23 +85,23 @@ pub fn spans_cover_dots()
     ensures bars { (column : ℕ) (widths : List ℕ) → covered column (bar_spans true widths) ≡ black_columns column (bar_dots true widths) }
 {}
 
-/// Text: whatever bytes were printed, and with whatever code table, a reader of the document takes their text for exactly their
+/// Text: whatever bytes were printed, and with whatever character set and code table, a reader of the document takes their text for exactly their
 /// characters: the text has no control character and none of & < > " ' but in the five entities, each for its character. All that
 /// stands between a tag `<text ..>` of an item and its `</text>` is such text, in a row, beside a barcode and in a box, but for the
 /// words "not scannable". So nothing that was printed ends a text or begins a tag.
 pub fn text_is_escaped()
-    ensures { (table : ℕ) (bytes : List ℕ) → IsEscaped (utf8_of table bytes) (characters_text table bytes) }
+    ensures { (set table : ℕ) (bytes : List ℕ) → IsEscaped (utf8_of set table bytes) (characters_text set table bytes) }
 {}
 
 /// Place: an item is drawn the same wherever it stands. All that tells how far down the paper that is is one number in its group: the
 /// margin, the place of the item, and the way from there to the base line of a row or the end of the feed of a cut.
 pub fn items_move()
-    ensures rows { (align : Alignment) (upside_down : Bool) (cells : List Cell) →
-        MovesDown (base_line upside_down (tallest cells)) (λ down. drawing_at down (Row align upside_down cells)) }
-    ensures bars { (align : Alignment) (symbology : Symbology) (style : BarStyle) (content : List ℕ) (added : Option ℕ) →
-        MovesDown 0 (λ down. drawing_at down (Bars align symbology style.height style.module_width style.place style.hri_font content added)) }
-    ensures rasters { (align : Alignment) (scale : Scale) (x y : ℕ) (dots : List ℕ) → MovesDown 0 (λ down. drawing_at down (Raster align scale x y dots)) }
-    ensures qr_codes { (align : Alignment) (model size : ℕ) (level : Correction) (content : List ℕ) →
-        MovesDown 0 (λ down. drawing_at down (Qr align model size level content)) }
-    ensures cuts { (partial : Bool) (feed : Option ℕ) → MovesDown (cut_place feed) (λ down. drawing_at down (Cut partial feed)) }
+    ensures rows { (line_dots : ℕ) (align : Alignment) (upside_down : Bool) (cells : List Cell) →
+        MovesDown (base_line upside_down (tallest cells)) (λ down. drawing_at line_dots down (Row align upside_down cells)) }
+    ensures bars { (line_dots : ℕ) (align : Alignment) (symbology : Symbology) (style : BarStyle) (content : List ℕ) (added : Option ℕ) →
+        MovesDown 0 (λ down. drawing_at line_dots down (Bars align symbology style.height style.module_width style.place style.hri_font content added)) }
+    ensures rasters { (line_dots : ℕ) (align : Alignment) (scale : Scale) (x y : ℕ) (dots : List ℕ) → MovesDown 0 (λ down. drawing_at line_dots down (Raster align scale x y dots)) }
+    ensures qr_codes { (line_dots : ℕ) (align : Alignment) (model size : ℕ) (level : Correction) (content : List ℕ) →
+        MovesDown 0 (λ down. drawing_at line_dots down (Qr align model size level content)) }
+    ensures cuts { (line_dots : ℕ) (partial : Bool) (feed : Option ℕ) → MovesDown (cut_place feed) (λ down. drawing_at line_dots down (Cut partial feed)) }
 {}

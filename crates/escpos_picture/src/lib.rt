@@ -9,7 +9,7 @@
 //! place and its size. `row` draws rows, `raster` rasters, `cut` cuts, `qr` QR codes, and `bars` barcodes, with their lines of
 //! text from `label`. `span` appends dots of one colour in a line, of bars and of very long rows of rasters. Other rows wait in a
 //! `span_buffer`, where `short_row` puts them together of the texts that `byte_spans` has of each byte's dots and `moves` of white
-//! bytes and ways back. `characters` turns printed bytes into text, by the tables of `code_tables`, and `numbers` appends
+//! bytes and ways back. `characters` turns printed bytes into text, and `numbers` appends
 //! numbers of dots. `laws` has what follows from the definitions: nothing overlaps, text is escaped, and spans cover exactly the black
 //! dots.
 //!
@@ -21,7 +21,6 @@
 mod bars;
 mod byte_spans;
 mod characters;
-mod code_tables;
 mod cut;
 mod document;
 mod item;

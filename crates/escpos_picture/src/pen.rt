@@ -1,12 +1,13 @@
 //! Where the next item is drawn: how far down the paper each item goes.
 
 ghost use Rattle.std.specs.Prelude.{◌≡◌, ◌*◌, ◌≤◌};
+ghost use Rattle.escpos_command.specs.declared.line_width.TheConstants.{MOST_LINE_DOTS};
 ghost use Rattle.escpos_paper.specs.Cells.{face_dots};
 ghost use Rattle.escpos_picture.specs.Places.{Place, top, place_after, place_after_all, depth, row_above, face_height, cell_height, tallest, text_lines, across, downwards, line_depth, feed_depth, indent};
 
 use crate::qr::qr_height;
-use escpos_command::{Alignment, FontFace, HriPosition, Scale};
-use escpos_paper::{Cell, Item, LINE_DOTS};
+use escpos_command::{Alignment, FontFace, HriPosition, LineWidth, Scale};
+use escpos_paper::{Cell, Item};
 use std::marker::Model;
 
 /// As far down as places are counted, in quarters of a dot: no paper comes near.
@@ -24,9 +25,10 @@ pub const MARGIN: usize = 32;
 
 const _: () = prove!(MARGIN == 32);
 
-/// The place where the next item is drawn.
+/// The place where the next item is drawn, on lines of a width.
 #[derive(Drop)]
 pub struct Pen {
+    width: LineWidth,
     down: usize,
     above: usize,
 }
@@ -38,17 +40,28 @@ impl Model for Pen {
 
     ghost Value = { Place };
 
-    ghost view = { λ p. record { down = p.down; above = p.above } };
+    ghost view = { λ p. record { line_dots = p.width; down = p.down; above = p.above } };
 
     ghost invariant = { λ p. (p.down ≤ DEEPEST) × (p.above ≤ 6120) };
 }
 
 impl Pen {
-    /// The place of the first item.
-    pub fn new() -> Self
-        ensures { result ≡ top }
+    /// The place of the first item, on lines of this width.
+    pub fn new(width: LineWidth) -> Self
+        ensures { result ≡ top width }
     {
-        Pen { down: 0, above: 0 }
+        Pen {
+            width,
+            down: 0,
+            above: 0,
+        }
+    }
+
+    /// How wide a line is.
+    pub fn line_width(&self) -> LineWidth
+        ensures { result ≡ self.now.line_dots }
+    {
+        self.width
     }
 
     /// How far down the paper the place is, in quarters of a dot, counted from the first item.
@@ -73,15 +86,15 @@ impl Pen {
         ensures { self.new ≡ place_after self.old item.now }
     {
         let above = row_above(item);
-        self.down = (self.down + depth(self.above, item)).min(DEEPEST);
+        self.down = (self.down + depth(self.width, self.above, item)).min(DEEPEST);
         self.above = above;
     }
 }
 
 // What an item takes down the paper, in quarters of a dot, under a row that is this tall.
-fn depth(above: usize, item: &Item) -> usize
+fn depth(width: LineWidth, above: usize, item: &Item) -> usize
     requires { above ≤ 6120 }
-    ensures value { result ≡ depth above item.now }
+    ensures value { result ≡ depth width above item.now }
     ensures small { result ≤ 524280 }
 {
     match item {
@@ -100,7 +113,7 @@ fn depth(above: usize, item: &Item) -> usize
             level,
             content,
             ..
-        } => 4 * qr_height(*size, *level, content.as_slice()),
+        } => 4 * qr_height(width, *size, *level, content.as_slice()),
         Item::Cut { feed, .. } => {
             if let Some(units) = feed {
                 2 * usize::from(*units) + 96
@@ -222,12 +235,13 @@ pub fn downwards(scale: Scale) -> usize
     }
 }
 
-/// How many dots of the line are left free to the left of something this wide.
-pub fn indent(align: Alignment, width: usize) -> usize
-    ensures value { result ≡ indent align width }
-    ensures small { result ≤ LINE_DOTS }
+/// How many dots of a line are left free to the left of something this many dots wide.
+pub fn indent(width: LineWidth, align: Alignment, dots: usize) -> usize
+    ensures value { result ≡ indent width align dots }
+    ensures within { result ≤ width }
+    ensures small { result ≤ MOST_LINE_DOTS }
 {
-    let free = LINE_DOTS.saturating_sub(width);
+    let free = usize::from(width.dots()).saturating_sub(dots);
     match align {
         Alignment::Left => 0,
         Alignment::Center => free / 2,

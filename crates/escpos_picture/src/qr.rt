@@ -2,6 +2,7 @@
 
 ghost use Rattle.std.specs.Prelude.{◌≡◌, ◌+◌, ◌≤◌, ◌++◌, IfSome, length, take, drop, true};
 ghost use Rattle.std.specs.List.{list_all};
+ghost use Rattle.escpos_command.specs.declared.line_width.TheConstants.{MOST_LINE_DOTS};
 ghost use Rattle.escpos_command.specs.QrCodes.{most_qr_data};
 ghost use Rattle.escpos_io.specs.Giving.{IsGiven};
 ghost use Rattle.escpos_io.specs.Putting.{passage};
@@ -15,43 +16,44 @@ use crate::characters::{CHARACTER_BYTES, append_byte};
 use crate::numbers::{append_between, append_place};
 use crate::pen::{DEEPEST, indent};
 use escpos_barcode::qr_modules;
-use escpos_command::{Alignment, Correction};
+use escpos_command::{Alignment, Correction, LineWidth};
 use escpos_io::{ByteOut, Device, GATHERED_BYTES, Gather, append_number};
-use escpos_paper::LINE_DOTS;
 
 /// The height of the box of a QR code that a printer would not print, in dots.
 pub const BOX_HEIGHT: usize = 48;
 
 const _: () = prove!(BOX_HEIGHT == 48);
 
-/// The side of the smallest QR code that holds a content, in dots; `None` where there is none that fits on the line.
-fn qr_side(size: u8, level: Correction, content: &[u8]) -> Option<usize>
+// The side of the smallest QR code that holds a content, in dots; `None` where there is none that fits on the line.
+fn qr_side(width: LineWidth, size: u8, level: Correction, content: &[u8]) -> Option<usize>
     requires { length content.now ≤ most_qr_data }
-    ensures side { result ≡ qr_side size level content.now }
-    ensures small { IfSome result (λ side. side ≤ LINE_DOTS) }
+    ensures side { result ≡ qr_side width size level content.now }
+    ensures small { IfSome result (λ side. side ≤ MOST_LINE_DOTS) }
 {
+    let line_dots = usize::from(width.dots());
     let side = usize::from(size) * qr_modules(level, content)?;
-    if side <= LINE_DOTS { Some(side) } else { None }
+    if side <= line_dots { Some(side) } else { None }
 }
 
-/// How high a QR code is drawn, in dots.
-pub fn qr_height(size: u8, level: Correction, content: &[u8]) -> usize
+/// How high a QR code is drawn on a line of this width, in dots.
+pub fn qr_height(width: LineWidth, size: u8, level: Correction, content: &[u8]) -> usize
     requires { length content.now ≤ most_qr_data }
-    ensures height { result ≡ qr_height size level content.now }
-    ensures small { result ≤ LINE_DOTS }
+    ensures height { result ≡ qr_height width size level content.now }
+    ensures small { result ≤ MOST_LINE_DOTS }
 {
-    match qr_side(size, level, content) {
+    match qr_side(width, size, level, content) {
         Some(side) => side,
         None => BOX_HEIGHT,
     }
 }
 
-/// Gives the drawing of a QR code whose upper edge is this many quarters of a dot down the paper.
+/// Gives the drawing of a QR code on a line of this width whose upper edge is this many quarters of a dot down the paper.
 ///
 /// On `Err` the sink has failed, and took exactly the first `written` of all bytes ever given to the gather, as long as these are
 /// few enough to be counted.
 pub fn put_qr<W: ByteOut>(
     gather: &mut Gather,
+    width: LineWidth,
     align: Alignment,
     size: u8,
     level: Correction,
@@ -62,11 +64,11 @@ pub fn put_qr<W: ByteOut>(
     requires few { length content.now ≤ most_qr_data }
     requires small { down ≤ DEEPEST }
     ensures { IsGiven result (passage (W.written writer.old) (W.written writer.new) (W.failed writer.old) (W.failed writer.new))
-        gather.old gather.new (qr_drawing down align size level content.now) }
+        gather.old gather.new (qr_drawing width down align size level content.now) }
 {
-    let side = qr_side(size, level, content);
+    let side = qr_side(width, size, level, content);
     gather.room(START_BYTES, writer)?;
-    append_start(gather, align, side, content.len(), down);
+    append_start(gather, width, align, side, content.len(), down);
     put_characters(gather, content, writer)?;
     gather.put(b"</text></svg>\n</g>\n", writer)
 }
@@ -79,43 +81,45 @@ const _: () = prove!(START_BYTES == 768);
 // Appends all that comes before a content of so many characters.
 fn append_start(
     gather: &mut Gather,
+    width: LineWidth,
     align: Alignment,
     side: Option<usize>,
     count: usize,
     down: usize,
 )
-    requires narrow { IfSome side (λ side. side ≤ LINE_DOTS) }
+    requires narrow { IfSome side (λ side. side ≤ MOST_LINE_DOTS) }
     requires few { count ≤ most_qr_data }
     requires small { down ≤ DEEPEST }
     requires room { length gather.old.kept + START_BYTES ≤ GATHERED_BYTES }
-    ensures kept { gather.new.kept ≡ gather.old.kept ++ qr_start down align side count }
+    ensures kept { gather.new.kept ≡ gather.old.kept ++ qr_start width down align side count }
     ensures same_count { gather.new.written ≡ gather.old.written }
 {
     match side {
         Some(side) => {
-            append_group(gather, align, side, down);
+            append_group(gather, width, align, side, down);
             append_frame(gather, side);
             append_text_tag(gather, side, count);
         }
         None => {
-            append_group(gather, Alignment::Left, LINE_DOTS, down);
-            append_box_frame(gather, 0, BOX_HEIGHT);
-            append_box_text(gather, 0, BOX_HEIGHT, count);
+            let line_dots = usize::from(width.dots());
+            append_group(gather, width, Alignment::Left, line_dots, down);
+            append_box_frame(gather, width, 0, BOX_HEIGHT);
+            append_box_text(gather, width, 0, BOX_HEIGHT, count);
         }
     }
 }
 
 // Appends the tag of the group.
 #[tactic(auto, unfolding(crate::specs::QrItems::qr_group))]
-fn append_group(gather: &mut Gather, align: Alignment, width: usize, down: usize)
+fn append_group(gather: &mut Gather, width: LineWidth, align: Alignment, side: usize, down: usize)
     requires small { down ≤ DEEPEST }
     requires room { length gather.old.kept + 96 ≤ GATHERED_BYTES }
-    ensures kept { gather.new.kept ≡ gather.old.kept ++ qr_group down align width }
+    ensures kept { gather.new.kept ≡ gather.old.kept ++ qr_group width down align side }
     ensures same_count { gather.new.written ≡ gather.old.written }
     ensures short { length gather.new.kept ≤ length gather.old.kept + 96 }
 {
     gather.extend(b"<g class=\"qr\" transform=\"translate(");
-    append_place(gather, indent(align, width), down);
+    append_place(gather, indent(width, align, side), down);
     gather.extend(b")\">\n");
 }
 
@@ -169,7 +173,7 @@ fn put_characters<W: ByteOut>(
     writer: &mut W,
 ) -> Result<(), Device>
     ensures { IsGiven result (passage (W.written writer.old) (W.written writer.new) (W.failed writer.old) (W.failed writer.new))
-        gather.old gather.new (characters_text 0 content.now) }
+        gather.old gather.new (characters_text 0 0 content.now) }
 {
     let mut rest = content;
     while !rest.is_empty() {
@@ -183,7 +187,7 @@ fn put_characters<W: ByteOut>(
 
 // The bytes at the beginning that stand in a text as they are, and those after them.
 fn split_plain(content: &[u8]) -> (&[u8], &[u8])
-    ensures text { characters_text 0 content.now ≡ result.0.now ++ characters_text 0 result.1.now }
+    ensures text { characters_text 0 0 content.now ≡ result.0.now ++ characters_text 0 0 result.1.now }
     ensures shorter { length result.1.now ≤ length content.now }
 {
     content.split_at(plain_len(content))
@@ -212,11 +216,11 @@ fn stands_as_it_is(byte: u8) -> bool
 // Gives the first character, if there is one.
 fn put_first<W: ByteOut>(gather: &mut Gather, content: &[u8], writer: &mut W) -> Result<(), Device>
     ensures { IsGiven result (passage (W.written writer.old) (W.written writer.new) (W.failed writer.old) (W.failed writer.new))
-        gather.old gather.new (characters_text 0 (take 1 content.now)) }
+        gather.old gather.new (characters_text 0 0 (take 1 content.now)) }
 {
     if let [first, ..] = content {
         gather.room(CHARACTER_BYTES, writer)?;
-        append_byte(gather, 0, *first);
+        append_byte(gather, 0, 0, *first);
     }
     Ok(())
 }

@@ -16,7 +16,7 @@ use crate::pen::{DEEPEST, across, downwards, indent};
 use crate::short_row::STEP_BYTES;
 use crate::span::{LINE_START_BYTES, append_line_start, append_span};
 use crate::span_buffer::{SPAN_BUFFER_BYTES, SpanBuffer};
-use escpos_command::{Alignment, Scale};
+use escpos_command::{Alignment, LineWidth, Scale};
 use escpos_io::{ByteOut, Device, GATHERED_BYTES, Gather};
 use escpos_paper::{DOT_BYTES, Dots};
 
@@ -44,12 +44,13 @@ pub struct Frame {
     pub y: u16,
 }
 
-/// Gives the drawing of a raster whose upper edge is this many quarters of a dot down the paper.
+/// Gives the drawing of a raster on a line of this width whose upper edge is this many quarters of a dot down the paper.
 ///
 /// On `Err` the sink has failed, and took exactly the first `written` of all bytes ever given to the gather, as long as these are
 /// few enough to be counted.
 pub fn put_raster<W: ByteOut>(
     gather: &mut Gather,
+    width: LineWidth,
     frame: &Frame,
     dots: &Dots,
     down: usize,
@@ -57,10 +58,10 @@ pub fn put_raster<W: ByteOut>(
 ) -> Result<(), Device>
     requires { down ≤ DEEPEST }
     ensures { IsGiven result (passage (W.written writer.old) (W.written writer.new) (W.failed writer.old) (W.failed writer.new))
-        gather.old gather.new (raster_drawing down frame.now.align frame.now.scale frame.now.x frame.now.y dots.now) }
+        gather.old gather.new (raster_drawing width down frame.now.align frame.now.scale frame.now.x frame.now.y dots.now) }
 {
     gather.room(START_BYTES, writer)?;
-    append_start(gather, frame, down);
+    append_start(gather, width, frame, down);
     put_rows(
         gather,
         usize::from(frame.x),
@@ -73,15 +74,15 @@ pub fn put_raster<W: ByteOut>(
 
 // Appends what comes before the rows.
 #[tactic(auto, unfolding(crate::specs::Groups::raster_start))]
-fn append_start(gather: &mut Gather, frame: &Frame, down: usize)
+fn append_start(gather: &mut Gather, width: LineWidth, frame: &Frame, down: usize)
     requires small { down ≤ DEEPEST }
     requires room { length gather.old.kept + START_BYTES ≤ GATHERED_BYTES }
-    ensures kept { gather.new.kept ≡ gather.old.kept ++ raster_start down frame.now.align frame.now.scale frame.now.x }
+    ensures kept { gather.new.kept ≡ gather.old.kept ++ raster_start width down frame.now.align frame.now.scale frame.now.x }
     ensures same_count { gather.new.written ≡ gather.old.written }
 {
-    let width = 8 * usize::from(frame.x) * across(frame.scale);
+    let dots = 8 * usize::from(frame.x) * across(frame.scale);
     gather.extend(b"<g class=\"raster\" transform=\"translate(");
-    append_place(gather, indent(frame.align, width), down);
+    append_place(gather, indent(width, frame.align, dots), down);
     append_scale(gather, frame.scale);
 }
 

@@ -1,29 +1,58 @@
 //! A row: its cells, neighbours of one style as one text.
 
 ghost use Rattle.std.specs.Prelude.{◌≡◌, ◌+◌, ◌*◌, ◌<◌, ◌≤◌, ◌∷◌, ◌++◌, length, take, drop};
+ghost use Rattle.escpos_command.specs.declared.line_width.TheConstants.{MOST_LINE_DOTS};
+ghost use Rattle.escpos_io.specs.Giving.{IsGiven};
+ghost use Rattle.escpos_io.specs.Putting.{passage};
 ghost use Rattle.escpos_paper.specs.Cells.{dots, face_dots};
 ghost use Rattle.escpos_picture.specs.Rows.{run, runs, bytes_of, same_count, is_plain_size, scaled_place, text_place, text_class, characters_text, underline_text, text_start, run_tag, run_text, ground_text, run_drawing, runs_drawing};
-ghost use Rattle.escpos_picture.specs.Groups.{row_drawing, base_line, row_start, row_turn};
+ghost use Rattle.escpos_picture.specs.Groups.{row_drawing, row_tag, base_line, row_start, row_turn};
 
 use crate::characters::append_byte;
 use crate::numbers::{append_between, append_place, append_quarters};
 use crate::pen::{DEEPEST, face_height, face_width, indent, tallest};
-use escpos_command::{Alignment, FontFace};
-use escpos_io::{GATHERED_BYTES, Gather, append_number, append_small_number};
-use escpos_paper::{Cell, LINE_CELLS, LINE_DOTS, Style};
+use escpos_command::{Alignment, FontFace, LineWidth};
+use escpos_io::{ByteOut, Device, GATHERED_BYTES, Gather, append_number, append_small_number};
+use escpos_paper::{Cell, Cells, LINE_CELLS, Style};
 
-/// The most bytes that a row of no cells takes, and each cell more.
-pub const ROW_BYTES: usize = 128;
+/// The most bytes that come before the cells of a row.
+const START_BYTES: usize = 128;
 
-pub const CELL_BYTES: usize = 264;
+const _: () = prove!(START_BYTES == 128);
 
-const _: () = prove!(ROW_BYTES == 128);
+/// The most bytes that neighbours of one style take.
+const RUN_BYTES: usize = 1024;
 
-const _: () = prove!(CELL_BYTES == 264);
+const _: () = prove!(RUN_BYTES == 1024);
 
-/// Appends a row of these cells whose upper edge is this many quarters of a dot down the paper.
-pub fn append_row(
+/// Gives the drawing of a row on a line of this width, whose upper edge is this many quarters of a dot down the paper.
+///
+/// On `Err` the sink has failed, and took exactly the first `written` of all bytes ever given to the gather, as long as these are
+/// few enough to be counted.
+pub fn put_row<W: ByteOut>(
     gather: &mut Gather,
+    width: LineWidth,
+    align: Alignment,
+    upside_down: bool,
+    cells: &Cells,
+    down: usize,
+    writer: &mut W,
+) -> Result<(), Device>
+    requires { down ≤ DEEPEST }
+    ensures { IsGiven result (passage (W.written writer.old) (W.written writer.new) (W.failed writer.old) (W.failed writer.new))
+        gather.old gather.new (row_drawing width down align upside_down cells.now) }
+{
+    let row = cells.as_slice();
+    gather.room(START_BYTES, writer)?;
+    append_start(gather, width, align, upside_down, row, down);
+    put_runs(gather, row, writer)?;
+    gather.put(b"</g>\n", writer)
+}
+
+// Appends the tag of the group.
+fn append_start(
+    gather: &mut Gather,
+    width: LineWidth,
     align: Alignment,
     upside_down: bool,
     cells: &[Cell],
@@ -31,19 +60,17 @@ pub fn append_row(
 )
     requires few { length cells.now ≤ LINE_CELLS }
     requires small { down ≤ DEEPEST }
-    requires room { length gather.old.kept + ROW_BYTES + CELL_BYTES * length cells.now ≤ GATHERED_BYTES }
-    ensures kept { gather.new.kept ≡ gather.old.kept ++ row_drawing down align upside_down cells.now }
+    requires room { length gather.old.kept + START_BYTES ≤ GATHERED_BYTES }
+    ensures kept { gather.new.kept ≡ gather.old.kept ++ row_tag width down align upside_down cells.now }
     ensures same_count { gather.new.written ≡ gather.old.written }
 {
     gather.extend(b"<g class=\"row\" transform=\"translate(");
     append_place(
         gather,
-        row_start(upside_down, indent(align, dots(cells))),
+        row_start(width, upside_down, indent(width, align, dots(cells))),
         down + base_line(upside_down, tallest(cells)),
     );
     gather.extend(row_turn(upside_down));
-    append_runs(gather, cells);
-    gather.extend(b"</g>\n");
 }
 
 // How far the base line of a row this tall is under its upper edge, in quarters of a dot.
@@ -56,12 +83,13 @@ fn base_line(upside_down: bool, height: usize) -> usize
 }
 
 // Where a row begins that leaves so many dots of its line free before it.
-fn row_start(upside_down: bool, free: usize) -> usize
-    requires { free ≤ LINE_DOTS }
-    ensures value { result ≡ row_start upside_down free }
-    ensures small { result ≤ LINE_DOTS }
+fn row_start(width: LineWidth, upside_down: bool, free: usize) -> usize
+    requires { free ≤ width }
+    ensures value { result ≡ row_start width upside_down free }
+    ensures small { result ≤ MOST_LINE_DOTS }
 {
-    if upside_down { LINE_DOTS - free } else { free }
+    let line_dots = usize::from(width.dots());
+    if upside_down { line_dots - free } else { free }
 }
 
 fn row_turn(upside_down: bool) -> &'static [u8]
@@ -87,23 +115,23 @@ fn dots(cells: &[Cell]) -> usize
     sum
 }
 
-// Appends the runs of these cells.
-fn append_runs(gather: &mut Gather, cells: &[Cell])
+// Gives the runs of these cells.
+fn put_runs<W: ByteOut>(gather: &mut Gather, cells: &[Cell], writer: &mut W) -> Result<(), Device>
     requires few { length cells.now ≤ LINE_CELLS }
-    requires room { length gather.old.kept + CELL_BYTES * length cells.now ≤ GATHERED_BYTES }
-    ensures kept { gather.new.kept ≡ gather.old.kept ++ runs_drawing 0 (runs cells.now) }
-    ensures same_count { gather.new.written ≡ gather.old.written }
-    ensures short { length gather.new.kept ≤ length gather.old.kept + CELL_BYTES * length cells.now }
+    ensures { IsGiven result (passage (W.written writer.old) (W.written writer.new) (W.failed writer.old) (W.failed writer.new))
+        gather.old gather.new (runs_drawing 0 (runs cells.now)) }
 {
     let mut rest = cells;
     let mut x = 0;
     while !rest.is_empty() {
         let (style, count) = first_run(rest);
         let (run, following) = rest.split_at(count);
+        gather.room(RUN_BYTES, writer)?;
         append_run(gather, x, &style, run);
         x += style_dots(&style) * count;
         rest = following;
     }
+    Ok(())
 }
 
 // The style of the first run of these cells, and how many cells it has.
@@ -161,7 +189,7 @@ fn append_run_text(gather: &mut Gather, x: usize, style: &Style, cells: &[Cell])
     ensures short { length gather.new.kept ≤ length gather.old.kept + 128 + 6 * length cells.now }
 {
     append_run_tag(gather, x, style, cells);
-    append_cells(gather, style.table, cells);
+    append_cells(gather, style, cells);
     gather.extend(b"</text>");
 }
 
@@ -269,15 +297,15 @@ fn text_class(style: &Style) -> &'static [u8]
     }
 }
 
-// Appends the characters of these cells, printed with a code table.
-fn append_cells(gather: &mut Gather, table: u8, cells: &[Cell])
+// Appends the characters of these cells, printed with the character set and the code table of a style.
+fn append_cells(gather: &mut Gather, style: &Style, cells: &[Cell])
     requires { length gather.old.kept + 6 * length cells.now ≤ GATHERED_BYTES }
-    ensures kept { gather.new.kept ≡ gather.old.kept ++ characters_text table (bytes_of cells.now) }
+    ensures kept { gather.new.kept ≡ gather.old.kept ++ characters_text style.now.character_set style.now.table (bytes_of cells.now) }
     ensures same_count { gather.new.written ≡ gather.old.written }
     ensures short { length gather.new.kept ≤ length gather.old.kept + 6 * length cells.now }
 {
     for cell in cells {
-        append_byte(gather, table, cell.byte);
+        append_byte(gather, style.character_set, style.table, cell.byte);
     }
 }
 

@@ -3,4 +3,4 @@ use Rattle.escpos_picture.proofs.cut.append_cut.Goals as goal
 
 pub returns-clause-kept : goal.returns-clause-kept
 returns-clause-kept c =
-    rw (c.extend-4.ensures.kept, c.extend-3.ensures.kept, c.extend-2.ensures.kept, c.append_quarters.ensures.kept, c.extend.ensures.kept, c.cut_line.ensures.line, c.cut_place.ensures.value) simp append_assoc
+    rw (c.extend-3.ensures.kept, c.append_cut_line.ensures.kept, c.extend-2.ensures.kept, c.append_quarters.ensures.kept, c.extend.ensures.kept, c.cut_place.ensures.value) simp append_assoc

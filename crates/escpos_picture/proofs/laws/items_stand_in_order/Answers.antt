@@ -8,7 +8,7 @@ pub returns-clause-drawn : goal.returns-clause-drawn
 returns-clause-drawn c = drawn_at_sum
 
 pub returns-clause-next : goal.returns-clause-next
-returns-clause-next c = depths_in_turn 0
+returns-clause-next c = λ line_dots. depths_in_turn line_dots 0
 
 pub returns-clause-height : goal.returns-clause-height
 returns-clause-height c = height_is_sum

@@ -13,7 +13,7 @@ returns-in_err-room g c =
 pub returns-in_err-put_rows : goal.returns-in_err-put_rows
 returns-in_err-put_rows g c =
     let frame = c.args.frame.now in
-    let start = raster_start c.args.down frame.align frame.scale frame.x in
+    let start = raster_start c.args.width c.args.down frame.align frame.scale frame.x in
     let placed = given_appended (g.W.ByteOut.written c.room.new.writer) (g.W.ByteOut.failed c.room.new.writer) _ _ start c.append_start.ensures.kept c.append_start.ensures.same_count in
     let first = given_in_turn (Ok tt) _ _ _ _ _ _ _ _ _ [] start start c.in_ok-room.ensures.given placed refl in
     let rows = rows_text 0 (rows_of c.from.result c.from-2.result c.as_slice.result.now) in
@@ -25,7 +25,7 @@ returns-in_err-put_rows g c =
 pub returns : goal.returns
 returns g c =
     let frame = c.args.frame.now in
-    let start = raster_start c.args.down frame.align frame.scale frame.x in
+    let start = raster_start c.args.width c.args.down frame.align frame.scale frame.x in
     let placed = given_appended (g.W.ByteOut.written c.room.new.writer) (g.W.ByteOut.failed c.room.new.writer) _ _ start c.append_start.ensures.kept c.append_start.ensures.same_count in
     let first = given_in_turn (Ok tt) _ _ _ _ _ _ _ _ _ [] start start c.in_ok-room.ensures.given placed refl in
     let rows = rows_text 0 (rows_of c.from.result c.from-2.result c.as_slice.result.now) in

@@ -5,7 +5,7 @@ use Rattle.escpos_picture.proofs.row.append_cells.Given as goal
 
 abbrev pub invariant-loop-cell : goal.invariant-loop-cell
 invariant-loop-cell l = record {
-  whole : l.initial.gather.kept ++ characters_text l.table (bytes_of l.cells) ≡ l.gather.kept ++ characters_text l.table (bytes_of (drop l.cell-index l.cells));
+  whole : l.initial.gather.kept ++ characters_text l.style.character_set l.style.table (bytes_of l.cells) ≡ l.gather.kept ++ characters_text l.style.character_set l.style.table (bytes_of (drop l.cell-index l.cells));
   short : length l.gather.kept ≤ length l.initial.gather.kept + 6 * l.cell-index;
   same_count : l.gather.written ≡ l.initial.gather.written;
 }
