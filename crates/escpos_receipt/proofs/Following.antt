@@ -1,14 +1,13 @@
 -- What one more command does: whether there is text in the line then, and whether each command may follow those before it.
-use Rattle.std.proofs.Common.{◌≡◌, ◌+◌, ◌<◌, ℕ, List, [], ◌∷◌, ◌++◌, ◌⊎◌, inl, inr, refl, sym, ◌∙◌, ap, subst, append_assoc, append-nil, arith, map, take, drop, get_or, Bool, true, false, cond, IsTrue}
+use Rattle.std.proofs.Common.{◌≡◌, ◌+◌, ◌<◌, ℕ, List, [], ◌∷◌, ◌++◌, ◌⊎◌, inl, inr, refl, sym, ◌∙◌, ap, subst, append_assoc, append-nil, arith, take, drop, get_or, Bool, true, false, cond, IsTrue}
 use Rattle.std.specs.Prelude.{◌||◌, ◌&&◌, ◌==◌, not, length}
-use Rattle.std.proofs.lemmas.Bool.Decides.{nat_tests}
 use Rattle.std.proofs.lemmas.List.{length-take-le}
 use Rattle.escpos_command.specs.declared.command.Command.{Command}
-use Rattle.escpos_command.specs.declared.command.Command.TheVariants.{Char, LineFeed, QrPrint}
+use Rattle.escpos_command.specs.declared.command.Command.TheVariants.{Char, LineFeed, QrPrint, Table}
 use Rattle.escpos_command.specs.Text.{text, ends_line, ends_text, characters}
 use Rattle.escpos_command.proofs.Lines.{text-snoc}
-use Rattle.escpos_command.proofs.Settings.{or_false, or_true}
 use Rattle.escpos_receipt.specs.declared.receipt.ReceiptFault.TheVariants as fault
+use Rattle.escpos_receipt.specs.SpelledText.{AreOfLines, text_left}
 use Rattle.escpos_receipt.specs.Whole.{EachMayFollow, IsReceiptFault, MayFollow, StandsFirst, has_text, is_forbidden, is_nonempty, needs_empty_line}
 use Rattle.escpos_receipt.proofs.Prefixes.{split_at}
 
@@ -75,24 +74,28 @@ one_more_follows cs c each last before d following e = elim (split_snoc cs befor
   | inr within ↦ each before d within.0 within.1
 ]
 
--- Characters may follow any commands, and are text in the line.
+-- A text may follow any commands, and is text in the line.
 character_follows : (cs : List Command) (b : ℕ) → MayFollow cs (Char b)
 character_follows cs b = record { allowed = refl; at_line_start = λ e. cc }
 
 pub line_feed_follows : (cs : List Command) → MayFollow cs LineFeed
 line_feed_follows cs = record { allowed = refl; at_line_start = λ e. cc }
 
-pub text_follows : (cs : List Command) (bs : List ℕ) → EachMayFollow cs → EachMayFollow (cs ++ map Char bs)
-text_follows cs [] each = subst EachMayFollow (sym (append-nil cs)) each
-text_follows cs (b ∷ bs) each =
-    subst EachMayFollow (append_assoc cs (Char b ∷ []) (map Char bs))
-    (text_follows (cs ++ Char b ∷ []) bs (one_more_follows cs (Char b) each (character_follows cs b)))
+table_follows : (cs : List Command) (n : ℕ) → MayFollow cs (Table n)
+table_follows cs n = record { allowed = refl; at_line_start = λ e. cc }
 
-pub text_flag : (cs : List Command) (bs : List ℕ) → has_text (cs ++ map Char bs) ≡ (has_text cs || is_nonempty bs)
-text_flag cs [] = ap has_text (append-nil cs) ∙ sym (or_false (has_text cs))
-text_flag cs (b ∷ bs) =
-    ap has_text (sym (append_assoc cs (Char b ∷ []) (map Char bs))) ∙ text_flag (cs ++ Char b ∷ []) bs
-    ∙ ap (λ t. t || is_nonempty bs) (sym (after_a_character cs (Char b) (character_follows cs b) refl)) ∙ sym (or_true (has_text cs))
+pub text_follows : (cs ts : List Command) → AreOfLines ts → EachMayFollow cs → EachMayFollow (cs ++ ts)
+text_follows cs [] t each = subst EachMayFollow (sym (append-nil cs)) each
+text_follows cs (Char b ∷ ts) (least, most, t) each =
+    subst EachMayFollow (append_assoc cs (Char b ∷ []) ts)
+    (text_follows (cs ++ Char b ∷ []) ts t (one_more_follows cs (Char b) each (character_follows cs b)))
+text_follows cs (Table n ∷ ts) (first, t) each =
+    subst EachMayFollow (append_assoc cs (Table n ∷ []) ts)
+    (text_follows (cs ++ Table n ∷ []) ts t (one_more_follows cs (Table n) each (table_follows cs n)))
+text_follows cs (LineFeed ∷ ts) t each =
+    subst EachMayFollow (append_assoc cs (LineFeed ∷ []) ts)
+    (text_follows (cs ++ LineFeed ∷ []) ts t (one_more_follows cs LineFeed each (line_feed_follows cs)))
+text_follows cs (c ∷ ts) t each = absurd t
 
 and_false : (a : Bool) → (a && false) ≡ false
 and_false true = refl
@@ -101,11 +104,26 @@ and_false false = refl
 pub line_flag : (cs : List Command) → has_text (cs ++ LineFeed ∷ []) ≡ false
 line_flag cs = has_text-snoc cs LineFeed (line_feed_follows cs) ∙ and_false (has_text cs)
 
-pub some_text : (bs : List ℕ) → not (length bs == 0) ≡ is_nonempty bs
-some_text [] = refl
-some_text (b ∷ bs) =
-    let long : (length (b ∷ bs) == 0) ≡ false = grind (arith, nat_tests) in
-    ap not long
+and_true : (a : Bool) → (a && true) ≡ a
+and_true true = refl
+and_true false = refl
+
+table_flag : (cs : List Command) (n : ℕ) → has_text (cs ++ Table n ∷ []) ≡ has_text cs
+table_flag cs n = has_text-snoc cs (Table n) (table_follows cs n) ∙ and_true (has_text cs)
+
+-- Whether there is text in the line after a text.
+pub text_goes : (cs ts : List Command) → AreOfLines ts → has_text (cs ++ ts) ≡ text_left (has_text cs) ts
+text_goes cs [] t = ap has_text (append-nil cs)
+text_goes cs (Char b ∷ ts) (least, most, t) =
+    ap has_text (sym (append_assoc cs (Char b ∷ []) ts)) ∙ text_goes (cs ++ Char b ∷ []) ts t
+    ∙ ap (λ v. text_left v ts) (sym (after_a_character cs (Char b) (character_follows cs b) refl))
+text_goes cs (Table n ∷ ts) (first, t) =
+    ap has_text (sym (append_assoc cs (Table n ∷ []) ts)) ∙ text_goes (cs ++ Table n ∷ []) ts t
+    ∙ ap (λ v. text_left v ts) (table_flag cs n)
+text_goes cs (LineFeed ∷ ts) t =
+    ap has_text (sym (append_assoc cs (LineFeed ∷ []) ts)) ∙ text_goes (cs ++ LineFeed ∷ []) ts t
+    ∙ ap (λ v. text_left v ts) (line_flag cs)
+text_goes cs (c ∷ ts) t = absurd t
 
 -- A command in a list, where each command before it may follow those before it.
 pub stands_at : (cs : List Command) (i : ℕ) (c : Command) → i < length cs → c ≡ get_or cs i c → EachMayFollow (take i cs) → StandsFirst cs i (take i cs) c

@@ -2,6 +2,12 @@ pub mod Following
 pub mod Prefixes
 pub mod ValueViews
 pub mod Meanings
+pub mod InForce
+pub mod Numbers
+pub mod SpelledTexts
 pub mod MoreEntries
-pub mod Plain
 pub mod Tables
+pub mod LineStates
+pub mod LayoutBytes
+pub mod LaidOut
+pub mod PrintedStrings

@@ -7,7 +7,7 @@ use Rattle.serde_json.specs.Events.{members_len}
 use Rattle.serde_json.specs.Find.{as_array, as_object, get}
 use Rattle.serde_json.specs.View.{view, items_view, members_view}
 use Rattle.serde_json.specs.declared.value.Value.{Value}
-use Rattle.escpos_receipt.specs.Entries.{field, only_member, size_in}
+use Rattle.escpos_receipt.specs.Entries.{field, only_member, size_in, two_values}
 
 abbrev Entry : Type 0
 Entry = String Global × Value
@@ -38,6 +38,15 @@ size_of_list (v ∷ w ∷ x ∷ vs) h = refl
 
 pub no_size : (d : Data) (vs : List Value) → Some (items_view vs) ≡ as_array d → length vs ≢ 2 → None ≡ size_in d
 no_size d vs e h = sym (ap size_in (array_of d (items_view vs) e) ∙ size_of_list vs h)
+
+two_of_list : (vs : List Value) → length vs ≢ 2 → two_values (array (items_view vs)) ≡ None
+two_of_list [] h = refl
+two_of_list (v ∷ []) h = refl
+two_of_list (v ∷ w ∷ []) h = absurd (h refl)
+two_of_list (v ∷ w ∷ x ∷ vs) h = refl
+
+pub no_two : (d : Data) (vs : List Value) → Some (items_view vs) ≡ as_array d → length vs ≢ 2 → None ≡ two_values d
+no_two d vs e h = sym (ap two_values (array_of d (items_view vs) e) ∙ two_of_list vs h)
 
 -- ## Members
 

@@ -2,13 +2,13 @@
 -- gives.
 --
 -- An entry is an object with one member, as `serde_json` reads it. A number is one that its `as_u64` gives.
-use Rattle.std.specs.Prelude.{ℕ, ◌+◌, ◌-◌, ◌*◌, ◌==◌, ◌&&◌, nat_le, nat_lt, not, Bool, List, [], ◌∷◌, ◌++◌, map, find, position, slice_index, codes, Option, Some, None, option_map, Result, Ok, Err, if◌then◌else◌}
+use Rattle.std.specs.Prelude.{ℕ, ℤ, pos, negsuc, Bool, ◌+◌, ◌-◌, ◌*◌, ◌==◌, ◌&&◌, nat_le, List, [], ◌∷◌, ◌++◌, find, filter_map, chars, codes, Option, Some, None, option_map, Result, Ok, Err, if◌then◌else◌}
 use Rattle.std.specs.Str.{bytes_eq}
 use Rattle.hex.specs.Hex.{decode_of}
 use Rattle.hex.specs.declared.error.FromHexError.{FromHexError}
-use Rattle.serde_json.specs.Data.{Data, string, array, object, no_items, item, no_members, member}
-use Rattle.serde_json.specs.Events.{members_len}
-use Rattle.serde_json.specs.Find.{as_bool, as_number, as_str, as_u64, get_member}
+use Rattle.serde_json.specs.Data.{Data, Items, string, array, object, no_items, item, no_members, member}
+use Rattle.serde_json.specs.Events.{items_len, members_len}
+use Rattle.serde_json.specs.Find.{as_bool, as_i64, as_number, as_str, as_u64, get_member}
 use Rattle.escpos_command.specs.declared.bars.Form.TheVariants as form
 use Rattle.escpos_command.specs.declared.bars.Symbology.{Symbology}
 use Rattle.escpos_command.specs.declared.bars.Symbology.TheVariants.{UpcA, Ean13, Ean8, Code39, Itf, Codabar, Code128}
@@ -17,8 +17,29 @@ use Rattle.escpos_command.specs.declared.command.Command.TheVariants as kind
 use Rattle.escpos_command.specs.Barcodes.{barcode, is_barcode}
 use Rattle.escpos_command.specs.QrCodes.{is_qr_data}
 use Rattle.escpos_command.specs.Rasters.{picture, is_raster, widest, highest}
+use Rattle.escpos_command.specs.Settings.{last_or, stored}
+use Rattle.escpos_command.specs.Text.{is_some}
+use Rattle.escpos_paper.specs.Styles.{style}
+use Rattle.escpos_text.specs.declared.encoding.Encoding.{Encoding}
+use Rattle.escpos_text.specs.declared.encoding.TextFault.{TextFault}
+use Rattle.escpos_text.specs.declared.encoding.TextFault.TheVariants as cannot
+use Rattle.escpos_text.specs.declared.choice.TheConstants.{MOST_TABLES}
+use Rattle.escpos_text.specs.Choices.{usual_tables}
+use Rattle.escpos_text.specs.Writing.{written}
+use Rattle.unicode_normalization.specs.Forms.{nfc}
+use Rattle.escpos_layout.specs.declared.row.Side.{Side}
+use Rattle.escpos_layout.specs.declared.row.Side.TheVariants.{Left, Right}
+use Rattle.escpos_layout.specs.Columns.{columns_of}
+use Rattle.escpos_layout.specs.declared.row.Field.{Field}
+use Rattle.escpos_layout.specs.Layouts.{fields_fit, pair, row, rule}
+use Rattle.escpos_layout.specs.Wrapping.{wrap}
+use Rattle.escpos_layout.specs.Writing.{lines_written}
 use Rattle.escpos_receipt.specs.declared.entry.EntryFault.{EntryFault}
-use Rattle.escpos_receipt.specs.declared.entry.EntryFault.TheVariants.{BadShape, ControlByte, NotAscii}
+use Rattle.escpos_receipt.specs.declared.entry.EntryFault.TheVariants.{BadShape, ControlByte, NoCharacter, Memory}
+use Rattle.escpos_receipt.specs.declared.options.ReceiptOptions.{ReceiptOptions}
+use Rattle.escpos_receipt.specs.declared.in_force.InForce.{InForce}
+use Rattle.escpos_receipt.specs.declared.in_force.LineState.{LineState}
+use Rattle.escpos_receipt.specs.Whole.{has_text}
 use Rattle.escpos_receipt.specs.declared.member.Member.{Member}
 use Rattle.escpos_receipt.specs.declared.member.Member.TheVariants as has
 
@@ -36,10 +57,11 @@ named table name = option_map (λ row. row.1) (find (λ row. bytes_eq row.0 name
 
 abbrev pub members : List (List ℕ × Member)
 members =
-    (codes "text", has.Text) ∷ (codes "line", has.Line) ∷ (codes "feed", has.Feed) ∷ (codes "units", has.Units)
+    (codes "text", has.Text) ∷ (codes "line", has.Line) ∷ (codes "pair", has.Pair) ∷ (codes "row", has.Row) ∷ (codes "rule", has.Rule)
+    ∷ (codes "wrap", has.Wrap) ∷ (codes "feed", has.Feed) ∷ (codes "units", has.Units)
     ∷ (codes "spacing", has.Spacing) ∷ (codes "pulse", has.Pulse) ∷ (codes "mode", has.Mode) ∷ (codes "bold", has.Bold)
     ∷ (codes "strike", has.Strike) ∷ (codes "reverse", has.Reverse) ∷ (codes "underline", has.Underline)
-    ∷ (codes "font", has.Font) ∷ (codes "table", has.Table) ∷ (codes "charset", has.CharacterSet)
+    ∷ (codes "font", has.Font) ∷ (codes "table", has.Table) ∷ (codes "tables", has.Tables) ∷ (codes "charset", has.CharacterSet)
     ∷ (codes "align", has.Align) ∷ (codes "upside", has.Upside) ∷ (codes "size", has.Size)
     ∷ (codes "bar_height", has.BarHeight) ∷ (codes "bar_width", has.BarWidth) ∷ (codes "hri", has.Hri)
     ∷ (codes "hri_font", has.HriFont) ∷ (codes "bars", has.Bars) ∷ (codes "raster", has.Raster) ∷ (codes "qr", has.Qr)
@@ -172,32 +194,118 @@ qr_of size level content = if is_qr_data content then Some (qr_commands size lev
 abbrev pub qr_in : Data → Option (List Command)
 qr_in v = qr_parts v >>= λ p. qr_of p.0 p.1 p.2
 
+-- What each value of a list is, if each is something.
+abbrev pub each_of : {A : Type 0} → (Data → Option A) → Items → Option (List A)
+each_of is no_items = Some []
+each_of is (item v vs) = do
+  x ← is v
+  xs ← each_of is vs
+  Some (x ∷ xs)
+
+-- The numbers of a list, each of a byte.
+abbrev pub numbers_in : Items → Option (List ℕ)
+numbers_in vs = each_of (number_in 0 255) vs
+
+-- At most 32 code tables, by their numbers.
+abbrev pub tables_in : Data → Option (List ℕ)
+tables_in (array vs) = if nat_le (items_len vs) MOST_TABLES then numbers_in vs else None
+tables_in _ = None
+
 -- ## Text
 
--- A character that a receipt's text may have: 20 to 7F hexadecimal.
-abbrev pub is_plain : ℕ → Bool
-is_plain b = nat_le 0x20 b && nat_lt b 0x80
+-- Why an entry gives no commands, by why its text can't be printed.
+abbrev pub fault_of : TextFault → EntryFault
+fault_of (cannot.Control c) = ControlByte
+fault_of (cannot.NoCharacter c) = NoCharacter c
+fault_of cannot.Memory = Memory
 
--- Why a character is refused. (In UTF-8 each byte of a character that isn't ASCII is 80 or more.)
-abbrev pub refusal_of : ℕ → EntryFault
-refusal_of b = if nat_lt b 0x20 then ControlByte else NotAscii
+abbrev pub or_fault : Result (List Command) TextFault → Result (List Command) EntryFault
+or_fault (Ok cs) = Ok cs
+or_fault (Err why) = Err (fault_of why)
 
--- The place of the first byte that isn't that of a plain character.
-abbrev pub first_not_plain : List ℕ → Option ℕ
-first_not_plain bytes = position (λ b. not (is_plain b)) bytes
-
--- The first character that isn't plain decides.
-abbrev pub characters_or : List Command → Option ℕ → Result (List Command) EntryFault
-characters_or cs None = Ok cs
-characters_or cs (Some b) = Err (refusal_of b)
-
-abbrev pub text_in : Option (List ℕ) → Result (List Command) EntryFault
-text_in None = Err BadShape
-text_in (Some bytes) = characters_or (map kind.Char bytes) (option_map (slice_index bytes) (first_not_plain bytes))
+-- A string is printed in its composed form, character after character.
+abbrev pub text_in : Encoding → Option (List ℕ) → Result (List Command) EntryFault
+text_in e None = Err BadShape
+text_in e (Some bytes) = or_fault (written e (nfc (chars bytes)))
 
 abbrev pub with_line_feed : Result (List Command) EntryFault → Result (List Command) EntryFault
 with_line_feed (Ok cs) = Ok (cs ++ kind.LineFeed ∷ [])
 with_line_feed (Err e) = Err e
+
+-- ## Layouts
+
+-- How many characters a line has.
+abbrev pub columns_in : LineState → ℕ
+columns_in l = columns_of l.width l.font l.times
+
+-- A string in its composed form.
+abbrev pub composed_in : Data → Option (List ℕ)
+composed_in v = option_map (λ bytes. nfc (chars bytes)) (as_str v)
+
+-- The two values of an array of two.
+abbrev pub two_values : Data → Option (Data × Data)
+two_values (array (item first (item second no_items))) = Some (first, second)
+two_values _ = None
+
+-- A text on the left and a text on the right.
+abbrev pub pair_in : Data → Option (List ℕ × List ℕ)
+pair_in v = do
+  values ← two_values v
+  left ← composed_in values.0
+  right ← composed_in values.1
+  Some (left, right)
+
+-- A string of one character.
+abbrev pub one_character : List ℕ → Option ℕ
+one_character (c ∷ []) = Some c
+one_character _ = None
+
+-- The width of a field and the side of its text: the left one, or, where the number is negative, the right one.
+abbrev pub side_of : ℤ → Option (Side × ℕ)
+side_of (pos n) = Some (Left, n)
+side_of (negsuc n) = Some (Right, n + 1)
+
+abbrev pub side_in : Data → Option (Side × ℕ)
+side_in v = as_number v >>= as_i64 >>= side_of
+
+-- A text, and the width of its field.
+abbrev pub field_in : Data → Option Field
+field_in v = do
+  values ← two_values v
+  side ← side_in values.1
+  text ← composed_in values.0
+  Some (record { text = text; width = side.1; side = side.0 })
+
+abbrev pub items_in : Data → Option Items
+items_in (array vs) = Some vs
+items_in _ = None
+
+abbrev pub row_fields : Data → Option (List Field)
+row_fields v = items_in v >>= each_of field_in
+
+-- Fields that fit on a line, as that line.
+abbrev pub row_of : ℕ → List Field → Option (List (List ℕ))
+row_of columns fields = if fields_fit columns fields then Some (row fields ∷ []) else None
+
+-- The lines of a layout, where a line has so many characters; none for any other member.
+abbrev pub lines_of : ℕ → Member → Data → Option (List (List ℕ))
+lines_of columns has.Pair v = option_map (λ p. pair columns p.0 p.1) (pair_in v)
+lines_of columns has.Row v = row_fields v >>= row_of columns
+lines_of columns has.Rule v = option_map (λ c. rule columns c ∷ []) (composed_in v >>= one_character)
+lines_of columns has.Wrap v = option_map (wrap columns) (composed_in v)
+lines_of columns _ v = None
+
+-- Lines begin on a line of their own: text that is in the line is printed first.
+abbrev pub line_ended : Bool → List Command
+line_ended in_line = if in_line then kind.LineFeed ∷ [] else []
+
+abbrev pub after_line : Bool → Result (List Command) EntryFault → Result (List Command) EntryFault
+after_line in_line (Ok cs) = Ok (line_ended in_line ++ cs)
+after_line in_line (Err why) = Err why
+
+abbrev pub laid_out : InForce → Option (List (List ℕ)) → Result (List Command) EntryFault
+laid_out f None = Err BadShape
+laid_out f (Some lines) = after_line f.line.in_line (or_fault (lines_written f.encoding lines))
 
 -- ## The table
 
@@ -209,7 +317,12 @@ abbrev pub all : Option (List Command) → Result (List Command) EntryFault
 all None = Err BadShape
 all (Some cs) = Ok cs
 
--- The command of a member with this value; none for a text or a QR code, which aren't one command.
+-- A choice of code tables prints nothing.
+abbrev pub nothing : Option (List ℕ) → Result (List Command) EntryFault
+nothing None = Err BadShape
+nothing (Some ns) = Ok []
+
+-- The command of a member with this value; none for a text, a layout, a QR code or a choice of code tables, which aren't one command.
 abbrev pub command_of : Member → Data → Option Command
 command_of has.Feed v = option_map kind.FeedLines (number_in 0 255 v)
 command_of has.Units v = option_map kind.FeedUnits (number_in 0 255 v)
@@ -236,25 +349,68 @@ command_of has.Cut v = option_map (λ m. kind.Cut (m, None)) (choice_in cuts v)
 command_of has.FeedCut v = option_map kind.Cut (feed_cut_in v)
 command_of _ v = None
 
--- The commands of a member with this value, or why there are none.
-abbrev pub commands_of : Member → Data → Result (List Command) EntryFault
-commands_of has.Text v = text_in (as_str v)
-commands_of has.Line v = with_line_feed (text_in (as_str v))
-commands_of has.Qr v = all (qr_in v)
-commands_of m v = one (command_of m v)
+-- The commands of a member with this value, where this is in force; or why there are none.
+abbrev pub commands_of : InForce → Member → Data → Result (List Command) EntryFault
+commands_of f has.Text v = text_in f.encoding (as_str v)
+commands_of f has.Line v = with_line_feed (text_in f.encoding (as_str v))
+commands_of f has.Pair v = laid_out f (lines_of (columns_in f.line) has.Pair v)
+commands_of f has.Row v = laid_out f (lines_of (columns_in f.line) has.Row v)
+commands_of f has.Rule v = laid_out f (lines_of (columns_in f.line) has.Rule v)
+commands_of f has.Wrap v = laid_out f (lines_of (columns_in f.line) has.Wrap v)
+commands_of f has.Qr v = all (qr_in v)
+commands_of f has.Tables v = nothing (tables_in v)
+commands_of f m v = one (command_of m v)
 
 -- The name and the value of an object's only member.
 abbrev pub only_member : Data → Option (List ℕ × Data)
 only_member (object (member name v no_members)) = Some (name, v)
 only_member _ = None
 
--- What an entry means: its commands, or why there are none.
-abbrev pub commands_or : Option (Member × Data) → Result (List Command) EntryFault
-commands_or None = Err BadShape
-commands_or (Some m) = commands_of m.0 m.1
-
-abbrev pub meaning : Data → Result (List Command) EntryFault
-meaning d = commands_or (do
+-- The only member of an entry, if it is one of the table, and its value.
+abbrev pub member_of : Data → Option (Member × Data)
+member_of d = do
   m ← only_member d
   has ← named members m.0
-  Some (has, m.1))
+  Some (has, m.1)
+
+-- What an entry means where this is in force: its commands, or why there are none.
+abbrev pub commands_or : InForce → Option (Member × Data) → Result (List Command) EntryFault
+commands_or f None = Err BadShape
+commands_or f (Some m) = commands_of f m.0 m.1
+
+abbrev pub meaning : InForce → Data → Result (List Command) EntryFault
+meaning f d = commands_or f (member_of d)
+
+-- ## What is in force
+
+-- The code tables that an entry names to choose from.
+abbrev pub names_tables : Option (Member × Data) → Option (List ℕ)
+names_tables None = None
+names_tables (Some (has.Tables, v)) = tables_in v
+names_tables (Some m) = None
+
+abbrev pub chosen_by : Data → Option (List ℕ)
+chosen_by d = names_tables (member_of d)
+
+-- The encoding in force for the entry after these, which give these commands: code table and character set are those that the
+-- commands set, from power on; the tables to choose from are those of the last entry that names some, or the usual ones.
+abbrev pub encoding_for : ReceiptOptions → List Data → List Command → Encoding
+encoding_for options earlier before = record {
+  set = (style before).character_set;
+  table = (style before).table;
+  choice = last_or usual_tables (filter_map chosen_by earlier);
+  replacement = options.replacement;
+}
+
+-- What a line is like after these commands: font and width of its characters, and whether text is in it.
+abbrev pub line_state : ReceiptOptions → List Command → LineState
+line_state options before = record {
+  width = options.width;
+  font = (style before).font;
+  times = (style before).width;
+  in_line = has_text before;
+  stored = is_some (stored before);
+}
+
+abbrev pub in_force : ReceiptOptions → List Data → List Command → InForce
+in_force options earlier before = record { encoding = encoding_for options earlier before; line = line_state options before }

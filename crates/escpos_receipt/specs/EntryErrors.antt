@@ -10,5 +10,5 @@ use Rattle.escpos_receipt.specs.declared.json.JsonFault.TheVariants as fault
 abbrev pub error_at : ℕ → EntryFault → JsonError
 error_at at bad.BadShape = Refused (fault.BadShape at)
 error_at at bad.ControlByte = Refused (fault.ControlByte at)
-error_at at bad.NotAscii = Refused (fault.NotAscii at)
+error_at at (bad.NoCharacter c) = Refused (fault.NoCharacter at c)
 error_at at bad.Memory = Memory

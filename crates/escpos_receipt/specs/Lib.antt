@@ -1,6 +1,10 @@
 pub mod Describes
 pub mod Entries
+pub mod Layouts
+pub mod SpelledText
+pub mod Options
 pub mod Refusals
 pub mod Whole
 pub mod EntryErrors
 pub mod EntryCommands
+pub mod ReadBack

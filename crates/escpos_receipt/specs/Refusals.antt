@@ -2,7 +2,7 @@
 -- print them.
 use Rattle.std.specs.Prelude.{ℕ, List, Option, Some, None, codes}
 use Rattle.escpos_receipt.specs.declared.json.JsonFault.{JsonFault}
-use Rattle.escpos_receipt.specs.declared.json.JsonFault.TheVariants.{NotWhole, NotJson, BadShape, ControlByte, NotAscii}
+use Rattle.escpos_receipt.specs.declared.json.JsonFault.TheVariants.{NotWhole, NotJson, BadShape, ControlByte, NoCharacter}
 use Rattle.escpos_receipt.specs.declared.receipt.ReceiptFault.{ReceiptFault}
 use Rattle.escpos_receipt.specs.declared.receipt.ReceiptFault.TheVariants.{Empty, Forbidden, TextLeft, MidLine}
 
@@ -30,14 +30,14 @@ json_number (NotWhole why) = receipt_number why
 json_number NotJson = 5
 json_number (BadShape at) = 6
 json_number (ControlByte at) = 7
-json_number (NotAscii at) = 8
+json_number (NoCharacter at c) = 8
 
 abbrev pub json_name : JsonFault → List ℕ
 json_name (NotWhole why) = receipt_name why
 json_name NotJson = codes "NotJson"
 json_name (BadShape at) = codes "BadShape"
 json_name (ControlByte at) = codes "ControlByte"
-json_name (NotAscii at) = codes "NotAscii"
+json_name (NoCharacter at c) = codes "NoCharacter"
 
 -- The place of the command or the entry, counted from 0.
 abbrev pub json_place : JsonFault → Option ℕ
@@ -45,4 +45,9 @@ json_place (NotWhole why) = receipt_place why
 json_place NotJson = None
 json_place (BadShape at) = Some at
 json_place (ControlByte at) = Some at
-json_place (NotAscii at) = Some at
+json_place (NoCharacter at c) = Some at
+
+-- The character that no code table has.
+abbrev pub json_character : JsonFault → Option ℕ
+json_character (NoCharacter at c) = Some c
+json_character _ = None

@@ -33,8 +33,16 @@ fn text_after(had_text: bool, entry: &Entry<'_>) -> Option<bool>
         ¬ EachMayFollow (before ++ (commands_in entry.now ++ following)) }
 {
     match entry {
-        Entry::Text(text) => Some(had_text || !text.bytes().is_empty()),
-        Entry::Line(_) => Some(false),
+        Entry::Text(text) => {
+            // Proof only: what a text is.
+            text.in_order();
+            Some(text.leaves_text(had_text))
+        }
+        Entry::Line(text) => {
+            // Proof only: what a text is.
+            text.in_order();
+            Some(false)
+        }
         Entry::Command(command) => {
             if is_forbidden(command) || had_text && needs_empty_line(command) {
                 return None;
@@ -49,7 +57,7 @@ fn gives_commands(entry: &Entry<'_>) -> bool
     ensures { IsTrue result ↔ (commands_in entry.now ≢ []) }
 {
     match entry {
-        Entry::Text(text) => !text.bytes().is_empty(),
+        Entry::Text(text) => !text.is_empty(),
         Entry::Line(_) | Entry::Command(_) => true,
     }
 }

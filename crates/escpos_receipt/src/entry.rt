@@ -3,23 +3,25 @@
 //! The definition is the table in `specs/Entries.antt`. `member` has the names of the members; `json_value` reads their
 //! values, and `json_object` those with several parts.
 
-ghost use Rattle.std.specs.Prelude.{◌≡◌, ◌≢◌, ◌<◌, [], ◌∷◌, ◌++◌, length, Ok, Err, Some, None, IfOk, IfErr, IfSome, map, option_map};
-ghost use Rattle.escpos_command.specs.declared.command.Command.TheVariants as kind;
+ghost use Rattle.std.specs.Prelude.{◌≡◌, ◌≢◌, [], ◌∷◌, ◌++◌, length, Ok, Err, Some, None, IfOk, IfErr, IfSome, map, option_map};
 ghost use Rattle.serde_json.specs.Find.{as_str};
 ghost use Rattle.serde_json.specs.View.{view};
-ghost use Rattle.escpos_receipt.specs.EntryCommands.{commands_meant};
-ghost use Rattle.escpos_receipt.specs.Entries.{command_of, meaning, only_member, text_in};
+ghost use Rattle.escpos_receipt.specs.EntryCommands.{commands_meant, force_after, force_after_member, line_step, with_commands};
+ghost use Rattle.escpos_receipt.specs.Entries.{command_of, commands_of, meaning, member_of, only_member, text_in};
 
+use crate::in_force::InForce;
 use crate::json_names::{ALIGNMENTS, CUTS, FONTS, HRI_POSITIONS};
 use crate::json_object::{bars_in, feed_cut_in, pulse_in, raster_in, size_in, spacing_in};
-use crate::json_value::{byte_in, choice_in, named, switch_in};
+use crate::json_value::{byte_in, choice_in, named, switch_in, tables_in};
+use crate::layout::layout_in;
 use crate::member::{MEMBERS, Member};
-use crate::plain_text::PlainText;
 use crate::qr_code::{QrCode, qr_in};
+use crate::spelled_text::SpelledText;
 use escpos_command::{
     Align, BarHeight, BarWidth, CharacterSet, Command, Cut, Emphasis, FeedLines, FeedUnits, Font,
     HriFont, HriPlace, Mode, Size, Table, Underline,
 };
+use escpos_text::{Choice, Encoding, TextFault, first_not_plain, write_text};
 use serde_json::Value;
 use std::alloc::{AllocError, Global};
 
@@ -28,10 +30,10 @@ use std::alloc::{AllocError, Global};
 pub enum EntryFault {
     /// It isn't an object with one member of the table and a value that this member may have.
     BadShape,
-    /// The first character of its text that isn't plain is a control character, below 20 hexadecimal.
+    /// The first character of its text that can't be printed is a control character, below 20 hexadecimal.
     ControlByte,
-    /// The first character of its text that isn't plain isn't ASCII.
-    NotAscii,
+    /// The first character of its text that can't be printed is this one: no code table of the choice has it.
+    NoCharacter(char),
     /// Out of memory.
     Memory,
 }
@@ -47,13 +49,29 @@ impl From<AllocError> for EntryFault {
     }
 }
 
-/// What an entry gives: characters as they stand in its text, or one other command.
+impl EntryFault {
+    ghost use Rattle.std.specs.Prelude.{◌≡◌};
+    ghost use Rattle.escpos_receipt.specs.Entries.{fault_of};
+
+    /// Why an entry gives no commands, by why its text can't be printed.
+    pub(crate) fn of_text(fault: TextFault) -> Self
+        ensures { result ≡ fault_of fault }
+    {
+        match fault {
+            TextFault::Control(_) => EntryFault::ControlByte,
+            TextFault::NoCharacter(character) => EntryFault::NoCharacter(character),
+            TextFault::Memory => EntryFault::Memory,
+        }
+    }
+}
+
+/// What an entry gives: a text, or one other command.
 #[derive(Drop)]
 pub enum Entry<'a> {
-    /// Characters.
-    Text(PlainText<'a>),
-    /// Characters, and then the line feed that prints them.
-    Line(PlainText<'a>),
+    /// Characters with their code tables, or the lines of a layout.
+    Text(SpelledText<'a>),
+    /// The same, and then the line feed that prints them.
+    Line(SpelledText<'a>),
     /// One command.
     Command(Command),
 }
@@ -65,36 +83,108 @@ pub enum Meaning<'a> {
     Entry(Entry<'a>),
     /// A QR code: the commands that set it up and print it.
     QrCode(QrCode),
+    /// The code tables to choose from are others. That prints nothing.
+    Choice,
 }
 
-/// Reads an entry. Only the content of a barcode or a QR code and the dots of a raster are allocated.
-pub fn read_entry(alloc: Global, entry: &Value) -> Result<Meaning<'_>, EntryFault>
-    ensures commands { IfOk result (λ given. meaning (view entry.now) ≡ Ok (commands_meant given)) }
-    ensures refused { IfErr result (λ fault. fault ≢ EntryFault.Memory → meaning (view entry.now) ≡ Err fault) }
+/// Reads an entry, and leaves what is in force after it. After an `Err` what is left isn't said. Only texts that aren't ASCII, layouts,
+/// the content of a barcode or a QR code, and the dots of a raster are allocated.
+pub fn read_entry<'a>(
+    alloc: Global,
+    in_force: &mut InForce,
+    entry: &'a Value,
+) -> Result<Meaning<'a>, EntryFault>
+    ensures commands { IfOk result (λ given. meaning in_force.old (view entry.now) ≡ Ok (commands_meant given)) }
+    ensures next { IfOk result (λ given. in_force.new ≡ force_after in_force.old (view entry.now) (commands_meant given)) }
+    ensures refused { IfErr result (λ fault. fault ≢ EntryFault.Memory → meaning in_force.old (view entry.now) ≡ Err fault) }
 {
-    let Some((name, value)) = only_member(entry) else {
-        return Err(EntryFault::BadShape);
-    };
-    let Some(member) = named(name, &MEMBERS) else {
-        return Err(EntryFault::BadShape);
-    };
+    match member_of(entry) {
+        Some((member, value)) => read_member(alloc, in_force, member, value),
+        None => Err(EntryFault::BadShape),
+    }
+}
+
+// The only member of an entry, if it is one of the table, and its value.
+fn member_of(entry: &Value) -> Option<(Member, &Value)>
+    ensures { option_map (λ m. (m.0, view m.1.now)) result ≡ member_of (view entry.now) }
+{
+    let (name, value) = only_member(entry)?;
+    let member = named(name, &MEMBERS)?;
+    Some((member, value))
+}
+
+// Reads a member with this value.
+fn read_member<'a>(
+    alloc: Global,
+    in_force: &mut InForce,
+    member: Member,
+    value: &'a Value,
+) -> Result<Meaning<'a>, EntryFault>
+    ensures commands { IfOk result (λ given. commands_of in_force.old member (view value.now) ≡ Ok (commands_meant given)) }
+    ensures next { IfOk result (λ given. in_force.new ≡ force_after_member in_force.old member (view value.now) (commands_meant given)) }
+    ensures refused { IfErr result (λ fault. fault ≢ EntryFault.Memory → commands_of in_force.old member (view value.now) ≡ Err fault) }
+{
     match member {
-        Member::Text => match text_in(value) {
-            Ok(text) => Ok(Meaning::Entry(Entry::Text(text))),
+        Member::Text => match text_in(alloc, &mut in_force.encoding, value) {
+            Ok(text) => {
+                in_force.line.follow_text(&text);
+                Ok(Meaning::Entry(Entry::Text(text)))
+            }
             Err(fault) => Err(fault),
         },
-        Member::Line => match text_in(value) {
-            Ok(text) => Ok(Meaning::Entry(Entry::Line(text))),
+        Member::Line => match text_in(alloc, &mut in_force.encoding, value) {
+            Ok(text) => {
+                in_force.line.follow_line(&text);
+                Ok(Meaning::Entry(Entry::Line(text)))
+            }
             Err(fault) => Err(fault),
         },
+        Member::Pair | Member::Row | Member::Rule | Member::Wrap => {
+            match layout_in(alloc, in_force, member, value) {
+                Ok(text) => {
+                    in_force.line.follow_text(&text);
+                    Ok(Meaning::Entry(Entry::Text(text)))
+                }
+                Err(fault) => Err(fault),
+            }
+        }
         Member::Qr => match qr_in(alloc, value) {
-            Ok(code) => Ok(Meaning::QrCode(code)),
+            Ok(code) => {
+                in_force.line.follow_code();
+                Ok(Meaning::QrCode(code))
+            }
             Err(fault) => Err(fault),
+        },
+        Member::Tables => match tables_in(value) {
+            Some(choice) => {
+                in_force.encoding.choice = choice;
+                Ok(Meaning::Choice)
+            }
+            None => Err(EntryFault::BadShape),
         },
         _ => match command_of(alloc, member, value) {
-            Ok(command) => Ok(Meaning::Entry(Entry::Command(command))),
+            Ok(command) => {
+                follow(&mut in_force.encoding, &command);
+                in_force.line.follow(&command);
+                Ok(Meaning::Entry(Entry::Command(command)))
+            }
             Err(fault) => Err(fault),
         },
+    }
+}
+
+// Sets the encoding as a command does.
+fn follow(encoding: &mut Encoding, command: &Command)
+    ensures { encoding.new ≡ with_commands encoding.old (command.now ∷ []) }
+{
+    match command {
+        Command::Table(table) => encoding.table = table.byte(),
+        Command::CharacterSet(set) => encoding.set = set.byte(),
+        Command::Init => {
+            encoding.table = 0;
+            encoding.set = 0;
+        }
+        _ => {}
     }
 }
 
@@ -110,16 +200,39 @@ fn only_member(entry: &Value) -> Option<(&str, &Value)>
     Some((name.as_str(), value))
 }
 
-// The characters of a text. The first that isn't plain decides why the text is refused.
-fn text_in(value: &Value) -> Result<PlainText<'_>, EntryFault>
-    ensures text { IfOk result (λ text. text_in (as_str (view value.now)) ≡ Ok (map kind.Char text)) }
-    ensures refused { IfErr result (λ fault. text_in (as_str (view value.now)) ≡ Err fault) }
+// The characters of a text with their code tables. A text in ASCII that the character set doesn't change stays where it stands.
+fn text_in<'a>(
+    alloc: Global,
+    encoding: &mut Encoding,
+    value: &'a Value,
+) -> Result<SpelledText<'a>, EntryFault>
+    ensures text { IfOk result (λ text. text_in encoding.old (as_str (view value.now)) ≡ Ok text) }
+    ensures next { IfOk result (λ text. encoding.new ≡ with_commands encoding.old text) }
+    ensures refused { IfErr result (λ fault. fault ≢ EntryFault.Memory → text_in encoding.old (as_str (view value.now)) ≡ Err fault) }
 {
-    let text = value.as_str().ok_or(EntryFault::BadShape)?.as_bytes();
-    match PlainText::new(text) {
-        Ok(text) => Ok(text),
-        Err(at) if text[at] < 0x20 => Err(EntryFault::ControlByte),
-        Err(_) => Err(EntryFault::NotAscii),
+    let Some(text) = value.as_str() else {
+        return Err(EntryFault::BadShape);
+    };
+    match first_not_plain(encoding.set, text.as_bytes()) {
+        None => Ok(SpelledText::given(text.as_bytes())),
+        Some(_) => written(alloc, encoding, text),
+    }
+}
+
+// The same for a text that has other characters.
+fn written<'a>(
+    alloc: Global,
+    encoding: &mut Encoding,
+    text: &str,
+) -> Result<SpelledText<'a>, EntryFault>
+    ensures text { IfOk result (λ given. text_in encoding.old (Some text.now) ≡ Ok given) }
+    ensures next { IfOk result (λ given. encoding.new ≡ with_commands encoding.old given) }
+    ensures refused { IfErr result (λ fault. fault ≢ EntryFault.Memory → text_in encoding.old (Some text.now) ≡ Err fault) }
+{
+    let mut bytes = Vec::new(alloc);
+    match write_text(alloc, encoding, text, &mut bytes) {
+        Ok(()) => Ok(SpelledText::made(bytes)),
+        Err(fault) => Err(EntryFault::of_text(fault)),
     }
 }
 
@@ -164,6 +277,15 @@ fn short_command_of(member: Member, value: &Value) -> Option<Command>
         Member::HriFont => Command::HriFont(HriFont::new(choice_in(value, &FONTS)?)?),
         Member::Cut => Command::Cut(Cut::new(choice_in(value, &CUTS)?)?),
         Member::FeedCut => Command::Cut(feed_cut_in(value)?),
-        Member::Text | Member::Line | Member::Bars | Member::Raster | Member::Qr => return None,
+        Member::Text
+        | Member::Line
+        | Member::Pair
+        | Member::Row
+        | Member::Rule
+        | Member::Wrap
+        | Member::Tables
+        | Member::Bars
+        | Member::Raster
+        | Member::Qr => return None,
     })
 }

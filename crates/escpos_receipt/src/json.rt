@@ -1,24 +1,29 @@
 //! Receipts read from text in JSON: an array whose entries give the commands, one after another.
 
-ghost use Rattle.std.specs.Prelude.{◌≡◌, ◌≢◌, ℕ, List, None, Ok, Err, IfErr, ◌≤◌, ◌+◌, ◌++◌, ◌⊎◌, length, IfOk, IfSome, OnOk, IsErrOf, map, flat_map, vec_len, vec_capacity};
+ghost use Rattle.std.specs.Prelude.{◌≡◌, ◌≢◌, ℕ, List, [], ◌∷◌, ◌<◌, None, Ok, Err, IfErr, ◌≤◌, ◌+◌, ◌++◌, ◌⊎◌, length, IfOk, IfSome, MatchOption, OnOk, IsErrOf, map, flat_map, vec_len, vec_capacity};
 ghost use Rattle.escpos_command.specs.declared.command.Command.{Command};
-ghost use Rattle.std.specs.List.{AllPass};
-ghost use Rattle.escpos_command.specs.declared.command.Command.TheVariants.{Char};
-ghost use Rattle.escpos_command.specs.Parameters.{is_character};
+ghost use Rattle.escpos_receipt.specs.SpelledText.{IsTextBytes, lines_commands};
+ghost use Rattle.escpos_receipt.specs.declared.options.ReceiptOptions.{ReceiptOptions};
 ghost use Rattle.escpos_receipt.specs.EntryCommands.{IsValueOf, commands_in, commands_meant};
 ghost use Rattle.serde_json.specs.Data.{array};
 ghost use Rattle.serde_json.specs.Find.{as_array};
 ghost use Rattle.serde_json.specs.View.{items_view, view};
 ghost use Rattle.serde_json.specs.Errors.{IsMemory};
-ghost use Rattle.escpos_receipt.specs.Describes.{Describes, Give, IsJsonFault, IsRefusedArray, IsRefusedEntry};
-ghost use Rattle.escpos_receipt.specs.Entries.{meaning};
+ghost use Rattle.escpos_receipt.specs.Describes.{Describes, DescribesWith, Give, IsFaultWith, IsJsonFault, IsRefusedArray, IsRefusedEntry};
+ghost use Rattle.escpos_receipt.specs.Entries.{in_force, meaning};
+ghost use Rattle.escpos_receipt.specs.EntryCommands.{force_after};
 ghost use Rattle.escpos_receipt.specs.EntryErrors.{error_at};
+ghost use Rattle.escpos_receipt.specs.Options.{usual_options};
+ghost use Rattle.escpos_receipt.specs.ReadBack.{PrintsAsWritten};
 ghost use Rattle.escpos_receipt.specs.Whole.{Whole};
 
 use crate::entries::are_whole;
 use crate::entry::{Entry, EntryFault, Meaning, read_entry};
+use crate::in_force::InForce;
+use crate::laws;
+use crate::options::ReceiptOptions;
 use crate::receipt::{Receipt, ReceiptFault};
-use escpos_command::{Character, Command};
+use escpos_command::{Character, Command, ESC, LF, Table};
 use serde_json::{Category, Value};
 use std::alloc::{AllocError, Global};
 use std::marker::Model;
@@ -36,12 +41,12 @@ pub enum JsonFault {
     BadShape { at: usize },
     /// 7: the text of the entry at this place has a control character.
     ControlByte { at: usize },
-    /// 8: the text of the entry at this place has a character that isn't ASCII.
-    NotAscii { at: usize },
+    /// 8: the text of the entry at this place has this character, which no code table of the choice has.
+    NoCharacter { at: usize, character: char },
 }
 
 impl JsonFault {
-    ghost use Rattle.escpos_receipt.specs.Refusals.{json_name, json_number, json_place};
+    ghost use Rattle.escpos_receipt.specs.Refusals.{json_character, json_name, json_number, json_place};
 
     /// The number that programs print.
     pub fn number(self) -> u8
@@ -52,7 +57,7 @@ impl JsonFault {
             JsonFault::NotJson => 5,
             JsonFault::BadShape { .. } => 6,
             JsonFault::ControlByte { .. } => 7,
-            JsonFault::NotAscii { .. } => 8,
+            JsonFault::NoCharacter { .. } => 8,
         }
     }
 
@@ -66,7 +71,7 @@ impl JsonFault {
             JsonFault::NotJson => "NotJson",
             JsonFault::BadShape { .. } => "BadShape",
             JsonFault::ControlByte { .. } => "ControlByte",
-            JsonFault::NotAscii { .. } => "NotAscii",
+            JsonFault::NoCharacter { .. } => "NoCharacter",
         }
     }
 
@@ -79,8 +84,18 @@ impl JsonFault {
             JsonFault::NotWhole(fault) => fault.place(),
             JsonFault::BadShape { at }
             | JsonFault::ControlByte { at }
-            | JsonFault::NotAscii { at } => Some(at),
+            | JsonFault::NoCharacter { at, .. } => Some(at),
             JsonFault::NotJson => None,
+        }
+    }
+
+    /// The character that no code table of the choice has, for `NoCharacter`; `None` for the other faults.
+    pub fn character(self) -> Option<char>
+        ensures { result ≡ json_character self }
+    {
+        match self {
+            JsonFault::NoCharacter { character, .. } => Some(character),
+            _ => None,
         }
     }
 }
@@ -113,7 +128,9 @@ impl EntryFault {
         match self {
             EntryFault::BadShape => JsonError::Refused(JsonFault::BadShape { at }),
             EntryFault::ControlByte => JsonError::Refused(JsonFault::ControlByte { at }),
-            EntryFault::NotAscii => JsonError::Refused(JsonFault::NotAscii { at }),
+            EntryFault::NoCharacter(character) => {
+                JsonError::Refused(JsonFault::NoCharacter { at, character })
+            }
             EntryFault::Memory => JsonError::Memory,
         }
     }
@@ -141,7 +158,7 @@ impl ReceiptText {
     /// Reads a text as JSON.
     pub fn new(alloc: Global, text: &[u8]) -> Result<Self, JsonError>
         ensures value { IfOk result (λ json. IsValueOf text.now json) }
-        ensures refused { (fault : JsonFault) → IsErrOf result (JsonError.Refused fault) → IsJsonFault fault text.now }
+        ensures refused { (fault : JsonFault) → IsErrOf result (JsonError.Refused fault) → (options : ReceiptOptions) → IsFaultWith options fault text.now }
     {
         match Value::from_slice(alloc, text) {
             Ok(value) => Ok(ReceiptText { value }),
@@ -149,24 +166,28 @@ impl ReceiptText {
         }
     }
 
-    /// What the entries of a receipt give, one after another. Characters stay where they are.
-    pub fn entries(&self, alloc: Global) -> Result<Vec<Entry<'_>>, JsonError>
-        ensures commands { IfOk result (λ given. (text : List ℕ) → IsValueOf text self.now → Describes text (flat_map commands_in given.items)) }
+    /// What the entries of a receipt give, one after another. Texts in ASCII stay where they are.
+    pub fn entries(
+        &self,
+        alloc: Global,
+        options: &ReceiptOptions,
+    ) -> Result<Vec<Entry<'_>>, JsonError>
+        ensures commands { IfOk result (λ given. (text : List ℕ) → IsValueOf text self.now → DescribesWith options.now text (flat_map commands_in given.items)) }
         ensures whole { IfOk result (λ given. Whole (flat_map commands_in given.items)) }
         ensures refused { (fault : JsonFault) → IsErrOf result (JsonError.Refused fault) → (text : List ℕ) → IsValueOf text self.now
-            → IsJsonFault fault text }
+            → IsFaultWith options.now fault text }
     {
-        whole_entries(alloc, values_of(&self.value)?)
+        whole_entries(alloc, options, values_of(&self.value)?)
     }
 
     /// The receipt.
-    pub fn receipt(&self, alloc: Global) -> Result<Receipt, JsonError>
-        ensures receipt { IfOk result (λ receipt. (text : List ℕ) → IsValueOf text self.now → Describes text receipt) }
+    pub fn receipt(&self, alloc: Global, options: &ReceiptOptions) -> Result<Receipt, JsonError>
+        ensures receipt { IfOk result (λ receipt. (text : List ℕ) → IsValueOf text self.now → DescribesWith options.now text receipt) }
         ensures whole { IfOk result (λ receipt. Whole receipt) }
         ensures refused { (fault : JsonFault) → IsErrOf result (JsonError.Refused fault) → (text : List ℕ) → IsValueOf text self.now
-            → IsJsonFault fault text }
+            → IsFaultWith options.now fault text }
     {
-        receipt_of(alloc, values_of(&self.value)?)
+        receipt_of(alloc, options, values_of(&self.value)?)
     }
 }
 
@@ -174,10 +195,26 @@ impl Receipt {
     /// The receipt that a text in JSON describes: an array of objects with one member each, as docs/PROFILE.md has them.
     pub fn from_json(alloc: Global, text: &[u8]) -> Result<Self, JsonError>
         ensures receipt { IfOk result (λ receipt. Describes text.now receipt × Whole receipt) }
+        ensures as_written { IfOk result (λ receipt. PrintsAsWritten usual_options text.now receipt) }
         ensures refused { (fault : JsonFault) → IsErrOf result (JsonError.Refused fault) → IsJsonFault fault text.now }
     {
+        Receipt::from_json_with(alloc, &ReceiptOptions::usual(), text)
+    }
+
+    /// The same with these options.
+    pub fn from_json_with(
+        alloc: Global,
+        options: &ReceiptOptions,
+        text: &[u8],
+    ) -> Result<Self, JsonError>
+        ensures receipt { IfOk result (λ receipt. DescribesWith options.now text.now receipt × Whole receipt) }
+        ensures as_written { IfOk result (λ receipt. PrintsAsWritten options.now text.now receipt) }
+        ensures refused { (fault : JsonFault) → IsErrOf result (JsonError.Refused fault) → IsFaultWith options.now fault text.now }
+    {
+        // Proof only: what the text describes prints its strings as they are written.
+        laws::printed_as_written();
         match ReceiptText::new(alloc, text) {
-            Ok(json) => json.receipt(alloc),
+            Ok(json) => json.receipt(alloc, options),
             Err(error) => Err(error),
         }
     }
@@ -206,30 +243,38 @@ fn values_of(value: &Value) -> Result<&[Value], JsonError>
 }
 
 // What the values give as entries, if that is a receipt.
-fn whole_entries(alloc: Global, values: &[Value]) -> Result<Vec<Entry<'_>>, JsonError>
-    ensures commands { IfOk result (λ given. Give (map view values.now) (flat_map commands_in given.items)) }
+fn whole_entries<'a>(
+    alloc: Global,
+    options: &ReceiptOptions,
+    values: &'a [Value],
+) -> Result<Vec<Entry<'a>>, JsonError>
+    ensures commands { IfOk result (λ given. Give options.now (map view values.now) (flat_map commands_in given.items)) }
     ensures whole { IfOk result (λ given. Whole (flat_map commands_in given.items)) }
-    ensures refused { (fault : JsonFault) → IsErrOf result (JsonError.Refused fault) → IsRefusedArray fault (map view values.now) }
+    ensures refused { (fault : JsonFault) → IsErrOf result (JsonError.Refused fault) → IsRefusedArray options.now fault (map view values.now) }
 {
-    match entries_if_whole(alloc, values) {
+    match entries_if_whole(alloc, options, values) {
         Ok(Some(entries)) => return Ok(entries),
         Ok(None) => {}
         Err(error) => return Err(error),
     }
-    match receipt_of(alloc, values) {
+    match receipt_of(alloc, options, values) {
         Ok(_) => unreachable!(),
         Err(error) => Err(error),
     }
 }
 
 // The same; `None` if it is no receipt. Then the entries are dropped before anyone asks why.
-fn entries_if_whole(alloc: Global, values: &[Value]) -> Result<Option<Vec<Entry<'_>>>, JsonError>
-    ensures commands { IfOk result (λ given. IfSome given (λ given. Give (map view values.now) (flat_map commands_in given.items))) }
+fn entries_if_whole<'a>(
+    alloc: Global,
+    options: &ReceiptOptions,
+    values: &'a [Value],
+) -> Result<Option<Vec<Entry<'a>>>, JsonError>
+    ensures commands { IfOk result (λ given. IfSome given (λ given. Give options.now (map view values.now) (flat_map commands_in given.items))) }
     ensures whole { IfOk result (λ given. IfSome given (λ given. Whole (flat_map commands_in given.items))) }
-    ensures none { IfOk result (λ given. given ≡ None → (commands : List Command) × Give (map view values.now) commands × ¬ Whole commands) }
-    ensures refused { (fault : JsonFault) → IsErrOf result (JsonError.Refused fault) → IsRefusedEntry fault (map view values.now) }
+    ensures none { IfOk result (λ given. given ≡ None → (commands : List Command) × Give options.now (map view values.now) commands × ¬ Whole commands) }
+    ensures refused { (fault : JsonFault) → IsErrOf result (JsonError.Refused fault) → IsRefusedEntry options.now fault (map view values.now) }
 {
-    let entries = read_entries(alloc, values)?;
+    let entries = read_entries(alloc, options, values)?;
     Ok(if are_whole(&entries) {
         Some(entries)
     } else {
@@ -238,11 +283,15 @@ fn entries_if_whole(alloc: Global, values: &[Value]) -> Result<Option<Vec<Entry<
 }
 
 // The receipt of the commands that the values give.
-fn receipt_of(alloc: Global, values: &[Value]) -> Result<Receipt, JsonError>
-    ensures commands { IfOk result (λ receipt. Give (map view values.now) receipt × Whole receipt) }
-    ensures refused { (fault : JsonFault) → IsErrOf result (JsonError.Refused fault) → IsRefusedArray fault (map view values.now) }
+fn receipt_of(
+    alloc: Global,
+    options: &ReceiptOptions,
+    values: &[Value],
+) -> Result<Receipt, JsonError>
+    ensures commands { IfOk result (λ receipt. Give options.now (map view values.now) receipt × Whole receipt) }
+    ensures refused { (fault : JsonFault) → IsErrOf result (JsonError.Refused fault) → IsRefusedArray options.now fault (map view values.now) }
 {
-    let commands = match read_commands(alloc, values) {
+    let commands = match read_commands(alloc, options, values) {
         Ok(commands) => commands,
         Err(error) => return Err(error),
     };
@@ -253,25 +302,36 @@ fn receipt_of(alloc: Global, values: &[Value]) -> Result<Receipt, JsonError>
 }
 
 // What the value at this place means as an entry.
-fn read_at(alloc: Global, at: usize, value: &Value) -> Result<Meaning<'_>, JsonError>
-    ensures commands { IfOk result (λ given. meaning (view value.now) ≡ Ok (commands_meant given)) }
+fn read_at<'a>(
+    alloc: Global,
+    at: usize,
+    in_force: &mut InForce,
+    value: &'a Value,
+) -> Result<Meaning<'a>, JsonError>
+    ensures commands { IfOk result (λ given. meaning in_force.old (view value.now) ≡ Ok (commands_meant given)) }
+    ensures next { IfOk result (λ given. in_force.new ≡ force_after in_force.old (view value.now) (commands_meant given)) }
     ensures refused { IfErr result (λ error. (why : EntryFault) × (error ≡ error_at at why)
-        × (why ≢ EntryFault.Memory → meaning (view value.now) ≡ Err why)) }
+        × (why ≢ EntryFault.Memory → meaning in_force.old (view value.now) ≡ Err why)) }
 {
-    match read_entry(alloc, value) {
+    match read_entry(alloc, in_force, value) {
         Ok(entry) => Ok(entry),
         Err(fault) => Err(fault.at(at)),
     }
 }
 
 // The entries, one after another.
-fn read_entries(alloc: Global, values: &[Value]) -> Result<Vec<Entry<'_>>, JsonError>
-    ensures commands { IfOk result (λ given. Give (map view values.now) (flat_map commands_in given.items)) }
-    ensures refused { (fault : JsonFault) → IsErrOf result (JsonError.Refused fault) → IsRefusedEntry fault (map view values.now) }
+fn read_entries<'a>(
+    alloc: Global,
+    options: &ReceiptOptions,
+    values: &'a [Value],
+) -> Result<Vec<Entry<'a>>, JsonError>
+    ensures commands { IfOk result (λ given. Give options.now (map view values.now) (flat_map commands_in given.items)) }
+    ensures refused { (fault : JsonFault) → IsErrOf result (JsonError.Refused fault) → IsRefusedEntry options.now fault (map view values.now) }
 {
+    let mut in_force = options.in_force();
     let mut given = Vec::new(alloc);
     for (at, value) in values.iter().enumerate() {
-        let meaning = match read_at(alloc, at, value) {
+        let meaning = match read_at(alloc, at, &mut in_force, value) {
             Ok(meaning) => meaning,
             Err(error) => return Err(error),
         };
@@ -284,13 +344,18 @@ fn read_entries(alloc: Global, values: &[Value]) -> Result<Vec<Entry<'_>>, JsonE
 }
 
 // The commands of the entries, one after another. The entries aren't listed.
-fn read_commands(alloc: Global, values: &[Value]) -> Result<Vec<Command>, JsonError>
-    ensures commands { IfOk result (λ given. Give (map view values.now) given.items) }
-    ensures refused { (fault : JsonFault) → IsErrOf result (JsonError.Refused fault) → IsRefusedEntry fault (map view values.now) }
+fn read_commands(
+    alloc: Global,
+    options: &ReceiptOptions,
+    values: &[Value],
+) -> Result<Vec<Command>, JsonError>
+    ensures commands { IfOk result (λ given. Give options.now (map view values.now) given.items) }
+    ensures refused { (fault : JsonFault) → IsErrOf result (JsonError.Refused fault) → IsRefusedEntry options.now fault (map view values.now) }
 {
+    let mut in_force = options.in_force();
     let mut given = Vec::new(alloc);
     for (at, value) in values.iter().enumerate() {
-        let meaning = match read_at(alloc, at, value) {
+        let meaning = match read_at(alloc, at, &mut in_force, value) {
             Ok(meaning) => meaning,
             Err(error) => return Err(error),
         };
@@ -318,6 +383,7 @@ fn add_entries<'a>(entries: &mut Vec<Entry<'a>>, meaning: Meaning<'a>) -> Result
             entries.push_reserved(Entry::Command(Command::QrStore(code.stored)));
             entries.push_reserved(Entry::Command(Command::QrPrint));
         }
+        Meaning::Choice => {}
     }
     Ok(())
 }
@@ -327,9 +393,9 @@ fn add_commands(commands: &mut Vec<Command>, meaning: Meaning<'_>) -> Result<(),
     ensures { OnOk result (commands.new.items ≡ commands.old.items ++ commands_meant meaning.entry) }
 {
     match meaning {
-        Meaning::Entry(Entry::Text(text)) => add_characters(commands, text.bytes(), 0),
+        Meaning::Entry(Entry::Text(text)) => add_text(commands, text.bytes(), 0),
         Meaning::Entry(Entry::Line(text)) => {
-            add_characters(commands, text.bytes(), 1)?;
+            add_text(commands, text.bytes(), 1)?;
             commands.push_reserved(Command::LineFeed);
             Ok(())
         }
@@ -346,22 +412,50 @@ fn add_commands(commands: &mut Vec<Command>, meaning: Meaning<'_>) -> Result<(),
             commands.push_reserved(Command::QrPrint);
             Ok(())
         }
+        Meaning::Choice => Ok(()),
     }
 }
 
-// Adds characters, and makes room for `more` commands after them.
-fn add_characters(commands: &mut Vec<Command>, text: &[u8], more: usize) -> Result<(), AllocError>
-    requires characters { AllPass is_character text.now }
+// Adds the commands that these bytes spell, and makes room for `more` commands after them.
+fn add_text(commands: &mut Vec<Command>, text: &[u8], more: usize) -> Result<(), AllocError>
+    requires spelled { IsTextBytes text.now }
     requires few { more ≤ 1 }
-    ensures added { OnOk result (commands.new.items ≡ commands.old.items ++ map Char text.now) }
+    ensures added { OnOk result (commands.new.items ≡ commands.old.items ++ lines_commands text.now) }
     ensures room { OnOk result (vec_len commands.new + more ≤ vec_capacity commands.new) }
 {
     commands.reserve(text.len() + more)?;
-    for byte in text {
-        match Character::new(*byte) {
-            Some(character) => commands.push_reserved(Command::Char(character)),
-            None => unreachable!(),
-        }
+    let mut rest = text;
+    while let Some((command, following)) = first_of_text(rest) {
+        commands.push_reserved(command);
+        rest = following;
     }
     Ok(())
+}
+
+// The first of the commands that these bytes spell, and the bytes of the others.
+fn first_of_text(text: &[u8]) -> Option<(Command, &[u8])>
+    requires { IsTextBytes text.now }
+    ensures first { IfSome result (λ first. (lines_commands text.now ≡ first.0 ∷ lines_commands first.1.now) × IsTextBytes first.1.now × (length first.1.now < length text.now)) }
+    ensures none { result ≡ None → text.now ≡ [] }
+{
+    let (byte, rest) = first_byte(text)?;
+    if byte == ESC {
+        let (_, rest) = first_byte(rest)?;
+        let (number, rest) = first_byte(rest)?;
+        return Some((Command::Table(Table::new(number)?), rest));
+    }
+    if byte == LF {
+        return Some((Command::LineFeed, rest));
+    }
+    Some((Command::Char(Character::new(byte)?), rest))
+}
+
+// The first of these bytes, and the others.
+fn first_byte(text: &[u8]) -> Option<(u8, &[u8])>
+    ensures { MatchOption result (text.now ≡ []) (λ first. text.now ≡ first.0 ∷ first.1.now) }
+{
+    match text {
+        [] => None,
+        [byte, rest @ ..] => Some((*byte, rest)),
+    }
 }

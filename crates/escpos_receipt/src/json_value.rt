@@ -4,9 +4,11 @@
 
 ghost use Rattle.std.specs.Prelude.{◌≡◌, ◌≤◌, IfSome, map, option_map};
 ghost use Rattle.serde_json.specs.View.{view};
-ghost use Rattle.escpos_receipt.specs.Entries.{choice_in, field, named, number_in, switch_in};
+ghost use Rattle.escpos_receipt.specs.Entries.{choice_in, field, named, number_in, switch_in, tables_in};
 
+use arrayvec::ArrayVec;
 use escpos_command::Switch;
+use escpos_text::{Choice, MOST_TABLES};
 use serde_json::Value;
 
 /// The number that the value is; `None` unless it is one from `least` to `most`.
@@ -64,4 +66,19 @@ pub fn field<'v>(value: &'v Value, count: usize, name: &str) -> Option<&'v Value
         return None;
     }
     value.get(name)
+}
+
+/// The code tables that a list of numbers names; `None` unless it is a list of at most 32, each 0 to 255.
+pub fn tables_in(value: &Value) -> Option<Choice>
+    ensures { result ≡ tables_in (view value.now) }
+{
+    let values = value.as_array()?.as_slice();
+    if values.len() > MOST_TABLES {
+        return None;
+    }
+    let mut numbers = ArrayVec::<u8, MOST_TABLES>::new();
+    for value in values {
+        numbers.push(byte_in(value, 0, 255)?);
+    }
+    Choice::of(numbers.as_slice())
 }

@@ -10,6 +10,14 @@ pub enum Member {
     Text,
     /// `line`: characters, and the line feed that prints them.
     Line,
+    /// `pair`: a text on the left and a text on the right.
+    Pair,
+    /// `row`: texts in fields of so many characters, side by side.
+    Row,
+    /// `rule`: a line full of one character.
+    Rule,
+    /// `wrap`: a text in lines that are broken at blanks.
+    Wrap,
     /// `feed`: a feed of 0 to 255 lines.
     Feed,
     /// `units`: a feed of 0 to 255 motion units.
@@ -32,6 +40,8 @@ pub enum Member {
     Font,
     /// `table`: the character code table, 0 to 255.
     Table,
+    /// `tables`: the code tables to choose from, by their numbers.
+    Tables,
     /// `charset`: the international character set, 0 to 17.
     CharacterSet,
     /// `align`: `"left"`, `"center"` or `"right"`.
@@ -61,9 +71,13 @@ pub enum Member {
 }
 
 /// The members' names.
-pub const MEMBERS: [(&str, Member); 26] = [
+pub const MEMBERS: [(&str, Member); 31] = [
     ("text", Member::Text),
     ("line", Member::Line),
+    ("pair", Member::Pair),
+    ("row", Member::Row),
+    ("rule", Member::Rule),
+    ("wrap", Member::Wrap),
     ("feed", Member::Feed),
     ("units", Member::Units),
     ("spacing", Member::Spacing),
@@ -75,6 +89,7 @@ pub const MEMBERS: [(&str, Member); 26] = [
     ("underline", Member::Underline),
     ("font", Member::Font),
     ("table", Member::Table),
+    ("tables", Member::Tables),
     ("charset", Member::CharacterSet),
     ("align", Member::Align),
     ("upside", Member::Upside),

@@ -1,42 +1,35 @@
-use Rattle.std.proofs.Common.{◌≡◌, [], ◌∷◌, ◌++◌, true, false, map, refl, sym, ◌∙◌, ap, subst, append_assoc}
-use Rattle.std.specs.Prelude.{◌||◌, not}
-use Rattle.escpos_command.specs.declared.command.Command.TheVariants.{Char, LineFeed}
-use Rattle.escpos_receipt.specs.Whole.{EachMayFollow, MayFollow, has_text, is_nonempty}
-use Rattle.escpos_receipt.proofs.Following.{line_feed_follows, line_flag, one_more_follows, some_text, text_flag, text_follows}
+use Rattle.std.proofs.Common.{◌≡◌, [], ◌∷◌, ◌++◌, true, false, refl, sym, ◌∙◌, ap, subst, append_assoc}
+use Rattle.escpos_command.specs.declared.command.Command.TheVariants.{LineFeed}
+use Rattle.escpos_receipt.specs.SpelledText.{text_left}
+use Rattle.escpos_receipt.specs.Whole.{EachMayFollow, MayFollow, has_text}
+use Rattle.escpos_receipt.proofs.Following.{line_feed_follows, line_flag, one_more_follows, text_follows, text_goes}
 use Rattle.escpos_receipt.proofs.entries.text_after.Goals as goal
-use Rattle.escpos_receipt.proofs.entries.text_after.Goals.{then-is_forbidden-via-then-is_forbidden, then-is_forbidden-via-else-is_forbidden+then-needs_empty_line, then-had_text-2, else-had_text-2}
+use Rattle.escpos_receipt.proofs.entries.text_after.Goals.{then-is_forbidden-via-then-is_forbidden, then-is_forbidden-via-else-is_forbidden+then-needs_empty_line, then-had_text, else-had_text}
 
-pub returns-then-had_text-clause-follows : goal.returns-then-had_text-clause-follows
-returns-then-had_text-clause-follows c = λ before each same. rw c.in-Text.is (
-  text_follows before c.in-Text.text each,
-  c.if-had_text.true ∙ sym (text_flag before c.in-Text.text ∙ ap (λ t. t || is_nonempty c.in-Text.text) (sym same ∙ c.if-had_text.true)),
-)
-
-pub returns-else-had_text-clause-follows : goal.returns-else-had_text-clause-follows
-returns-else-had_text-clause-follows c = λ before each same. rw c.in-Text.is (
-  text_follows before c.in-Text.text each,
-  ap not c.is_empty.ensures ∙ some_text c.bytes.result.now ∙ ap is_nonempty c.bytes.ensures.same
-      ∙ sym (text_flag before c.in-Text.text ∙ ap (λ t. t || is_nonempty c.in-Text.text) (sym same ∙ c.if-had_text.false)),
+pub returns-in-Text-clause-follows : goal.returns-in-Text-clause-follows
+returns-in-Text-clause-follows c = λ before each same. rw c.in-Text.is (
+  text_follows before c.in-Text.text c.in_order.ensures each,
+  c.leaves_text.ensures ∙ ap (λ v. text_left v c.in-Text.text) same ∙ sym (text_goes before c.in-Text.text c.in_order.ensures),
 )
 
 pub returns-in-Line-clause-follows : goal.returns-in-Line-clause-follows
 returns-in-Line-clause-follows c = λ before each same.
-    let text = c.in-Line.field-0 in
-    let joined = append_assoc before (map Char text) (LineFeed ∷ []) in
+    let text = c.in-Line.text in
+    let joined = append_assoc before text (LineFeed ∷ []) in
     rw c.in-Line.is (
-      subst EachMayFollow joined (one_more_follows (before ++ map Char text) LineFeed (text_follows before text each) (line_feed_follows (before ++ map Char text))),
-      sym (line_flag (before ++ map Char text)) ∙ ap has_text joined,
+      subst EachMayFollow joined (one_more_follows (before ++ text) LineFeed (text_follows before text c.in_order-in-Line.ensures each) (line_feed_follows (before ++ text))),
+      sym (line_flag (before ++ text)) ∙ ap has_text joined,
     )
 
 pub returns-else-needs_empty_line-clause-follows : goal.returns-else-needs_empty_line-clause-follows
 returns-else-needs_empty_line-clause-follows c = λ before each same.
     let follows : MayFollow before c.in-Command.command = record {
       allowed = sym c.is_forbidden.ensures ∙ c.if-is_forbidden.false;
-      at_line_start = λ needs. elim c.if-had_text-2.branch [
-        | then-had_text-2 w ↦
+      at_line_start = λ needs. elim c.if-had_text.branch [
+        | then-had_text w ↦
             let clash : true ≡ false = sym needs ∙ sym w.needs_empty_line.ensures ∙ sym w.value-is ∙ c.if-needs_empty_line.false in
             cc
-        | else-had_text-2 w ↦ sym same ∙ w.if-had_text-2.false
+        | else-had_text w ↦ sym same ∙ w.if-had_text.false
       ];
     } in
     rw c.in-Command.is (one_more_follows before c.in-Command.command each follows, c.has_text_after.ensures before follows same)
@@ -48,13 +41,13 @@ returns-then-is_forbidden-clause-refused c = λ _ before following same each.
       | then-is_forbidden-via-then-is_forbidden w ↦
           let clash : true ≡ false = sym w.if-is_forbidden.true ∙ c.is_forbidden.ensures ∙ may.allowed in
           cc
-      | then-is_forbidden-via-else-is_forbidden+then-needs_empty_line w ↦ elim w.if-had_text-2.branch [
-        | then-had_text-2 v ↦
+      | then-is_forbidden-via-else-is_forbidden+then-needs_empty_line w ↦ elim w.if-had_text.branch [
+        | then-had_text v ↦
             let needs = sym v.needs_empty_line.ensures ∙ sym v.value-is ∙ w.if-needs_empty_line.true in
-            let clash : true ≡ false = sym v.if-had_text-2.true ∙ same ∙ may.at_line_start needs in
+            let clash : true ≡ false = sym v.if-had_text.true ∙ same ∙ may.at_line_start needs in
             cc
-        | else-had_text-2 v ↦
-            let clash : true ≡ false = sym w.if-needs_empty_line.true ∙ v.value-is ∙ v.if-had_text-2.false in
+        | else-had_text v ↦
+            let clash : true ≡ false = sym w.if-needs_empty_line.true ∙ v.value-is ∙ v.if-had_text.false in
             cc
       ]
     ]

@@ -5,4 +5,4 @@ use Rattle.escpos_receipt.proofs.MoreEntries.{refused_array}
 use Rattle.escpos_receipt.proofs.json.receipt_of.Goals as goal
 
 pub returns-in-Err-clause-refused : goal.returns-in-Err-clause-refused
-returns-in-Err-clause-refused c = λ because e. refused_array because (map view c.args.values.now) (c.in-Err.ensures.refused because (ap Err cc))
+returns-in-Err-clause-refused c = λ because e. refused_array c.args.options.now because (map view c.args.values.now) (c.in-Err.ensures.refused because (ap Err cc))

@@ -6,10 +6,10 @@ use Rattle.escpos_receipt.proofs.MoreEntries.{gives_once, refused_array}
 use Rattle.escpos_receipt.proofs.json.whole_entries.Goals as goal
 
 pub returns-in-Err-clause-refused : goal.returns-in-Err-clause-refused
-returns-in-Err-clause-refused c = λ because e. refused_array because (map view c.args.values.now) (c.in-Err.ensures.refused because (ap Err cc))
+returns-in-Err-clause-refused c = λ because e. refused_array c.args.options.now because (map view c.args.values.now) (c.in-Err.ensures.refused because (ap Err cc))
 
 pub unreachable-requires : goal.unreachable-requires
 unreachable-requires c =
     let (commands, give, broken) = c.in-Ok-None.ensures.none c.in-Ok-None.field-0-is in
     let (read, whole) = c.in-Ok.ensures.commands in
-    broken (subst Whole (gives_once (map view c.args.values.now) c.in-Ok.field-0 commands read give) whole)
+    broken (subst Whole (gives_once c.args.options.now (map view c.args.values.now) c.in-Ok.field-0 commands read give) whole)

@@ -7,5 +7,5 @@ use Rattle.escpos_receipt.proofs.json.ReceiptText.entries.Goals as goal
 
 pub returns-clause-refused : goal.returns-clause-refused
 returns-clause-refused c = λ because e text json.
-    of_array because text (view c.self.inside.value) c.in_ok-values_of.field-0.now (subst (λ v. IsJson text (view v)) (sym c.self.view_is) json)
+    of_array c.args.options.now because text (view c.self.inside.value) c.in_ok-values_of.field-0.now (subst (λ v. IsJson text (view v)) (sym c.self.view_is) json)
     c.in_ok-values_of.ensures.values (c.whole_entries.ensures.refused because e)

@@ -1,0 +1,125 @@
+-- The cells of a line's text.
+use Rattle.std.proofs.Common.{◌≡◌, ℕ, ◌+◌, ◌*◌, ◌/◌, ◌≤◌, ◌<◌, ◌⊎◌, inl, inr, zero, suc, List, [], ◌∷◌, ◌++◌, length, map, refl, sym, ap, ◌∙◌, arith, append-nil, Bool, true, false}
+use Rattle.std.specs.Prelude.{◌||◌, nat_le}
+use Rattle.std.specs.List.{AllByRecursion}
+use Rattle.std.proofs.Math.Nat.{le-div_iff_mul-le, lt-div-mul-add, mul-le-mul}
+use Rattle.std.proofs.Math.Seq.{append_snoc}
+use Rattle.std.proofs.lemmas.Bool.{le-leb}
+use Rattle.std.proofs.lemmas.List.Sums.{sum_by-cons}
+use Rattle.escpos_command.specs.declared.command.Command.{Command}
+use Rattle.escpos_command.specs.declared.command.Command.TheVariants.{Char, Table}
+use Rattle.escpos_command.specs.declared.parameter.choices.FontFace.{FontFace}
+use Rattle.escpos_command.specs.declared.parameter.choices.FontFace.TheVariants.{A, B}
+use Rattle.escpos_paper.specs.declared.cell.Cell.{Cell}
+use Rattle.escpos_paper.specs.declared.style.Style.{Style}
+use Rattle.escpos_paper.specs.Cells.{cell_dots, dots, face_dots}
+use Rattle.escpos_paper.specs.Rows.{fits}
+use Rattle.escpos_paper.specs.Styles.{style, style_after}
+use Rattle.escpos_paper.specs.Typed.{IsTyping, typed}
+use Rattle.escpos_text.specs.Laws.{read_back}
+use Rattle.escpos_text.specs.Reading.{reads}
+use Rattle.escpos_text.specs.SpelledTexts.{AreOfText}
+use Rattle.escpos_text.specs.Writing.{table_after}
+use Rattle.escpos_layout.specs.Columns.{at_least_one, columns_of}
+use Rattle.escpos_layout.specs.OnPaper.{read_cell, HasStyle, EndsAtLineEnd}
+
+-- ## Laws of the crates below
+
+abbrev pub StylesGrow : Type 0
+StylesGrow = (cs : List Command) (c : Command) → style (cs ++ c ∷ []) ≡ style_after (style cs) c
+
+-- ## Texts
+
+pub are_typing : (cs : List Command) → AreOfText cs → AllByRecursion IsTyping cs
+are_typing [] h = tt
+are_typing (Char b ∷ cs) h = (tt, are_typing cs h.2)
+are_typing (Table n ∷ cs) h = (tt, are_typing cs h.1)
+are_typing (c ∷ cs) h = absurd h
+
+-- The style after a text is the one before it, but for the code table.
+pub style_then : StylesGrow → (before cs : List Command) → AreOfText cs → style (before ++ cs) ≡ record (style before) { table = table_after (style before).table cs }
+style_then grow before [] h = ap style (append-nil before)
+style_then grow before (Char b ∷ cs) h =
+    ap style (sym (append_snoc before (Char b) cs)) ∙ style_then grow (before ++ Char b ∷ []) cs h.2
+    ∙ ap (λ (s : Style). record s { table = table_after s.table cs }) (grow before (Char b))
+style_then grow before (Table n ∷ cs) h =
+    ap style (sym (append_snoc before (Table n) cs)) ∙ style_then grow (before ++ Table n ∷ []) cs h.1
+    ∙ ap (λ (s : Style). record s { table = table_after s.table cs }) (grow before (Table n))
+style_then grow before (c ∷ cs) h = absurd h
+
+-- Its cells read as its commands do.
+pub text_read : StylesGrow → (before cs : List Command) → AreOfText cs → map read_cell (typed before cs) ≡ read_back (style before).character_set (style before).table cs
+text_read grow before [] h = refl
+text_read grow before (Char b ∷ cs) h =
+    ap (λ l. reads (style before).character_set (style before).table b ∷ l) (text_read grow (before ++ Char b ∷ []) cs h.2)
+    ∙ ap (λ (s : Style). reads (style before).character_set (style before).table b ∷ read_back s.character_set s.table cs) (grow before (Char b))
+text_read grow before (Table n ∷ cs) h =
+    text_read grow (before ++ Table n ∷ []) cs h.1 ∙ ap (λ (s : Style). read_back s.character_set s.table cs) (grow before (Table n))
+text_read grow before (c ∷ cs) h = absurd h
+
+-- The commands have set this style, but for the code table.
+abbrev pub IsSet : Style → List Command → Type 0
+IsSet s before = style before ≡ record s { table = (style before).table }
+
+is_set_after : StylesGrow → (s : Style) (before : List Command) (c : Command) → IsTyping c → IsSet s before → IsSet s (before ++ c ∷ [])
+is_set_after grow s before (Char b) h is = grow before (Char b) ∙ is ∙ ap (λ (t : Style). record s { table = t.table }) (sym (grow before (Char b)))
+is_set_after grow s before (Table n) h is =
+    grow before (Table n) ∙ ap (λ (t : Style). record t { table = n }) is ∙ ap (λ (t : Style). record s { table = t.table }) (sym (grow before (Table n)))
+is_set_after grow s before c h is = absurd h
+
+pub cells_in_style : StylesGrow → (s : Style) (before cs : List Command) → AreOfText cs → IsSet s before → AllByRecursion (HasStyle s) (typed before cs)
+cells_in_style grow s before [] h is = tt
+cells_in_style grow s before (Char b ∷ cs) h is = (is, cells_in_style grow s (before ++ Char b ∷ []) cs h.2 (is_set_after grow s before (Char b) tt is))
+cells_in_style grow s before (Table n ∷ cs) h is = cells_in_style grow s (before ++ Table n ∷ []) cs h.1 (is_set_after grow s before (Table n) tt is)
+cells_in_style grow s before (c ∷ cs) h is = absurd h
+
+-- ## Widths
+
+pub dots_in_style : (s : Style) (row : List Cell) → AllByRecursion (HasStyle s) row → dots row ≡ length row * (face_dots s.font * s.width)
+dots_in_style s [] h = omega arith
+dots_in_style s (x ∷ row) h =
+    let rest = dots_in_style s row h.1 in
+    let one : cell_dots x ≡ face_dots s.font * s.width = ap (λ (t : Style). face_dots t.font * t.width) h.0 in
+    omega (arith, rest, one, sum_by-cons cell_dots x row)
+
+at_least : (n m : ℕ) → n ≤ at_least_one m → (n ≤ 1) ⊎ (n ≤ m)
+at_least n zero h = inl h
+at_least n (suc m) h = inr h
+
+either : (a b : Bool) → (a ≡ true) ⊎ (b ≡ true) → (a || b) ≡ true
+either true b h = refl
+either false b (inl h) = absurd cc
+either false b (inr h) = h
+
+inside : (width n d : ℕ) → n ≤ width / d → n * d ≤ width
+inside width n zero h = omega arith
+inside width n (suc d) h = (le-div_iff_mul-le (omega arith)).0 h
+
+-- A line's characters fit on a row.
+pub row_fits : (width : ℕ) (s : Style) (row : List Cell) → AllByRecursion (HasStyle s) row → length row ≤ columns_of width s.font s.width → fits width row ≡ true
+row_fits width s row h few = either (nat_le (length row) 1) (nat_le (dots row) width) (go (at_least (length row) (width / (face_dots s.font * s.width)) few)) where
+  go : (length row ≤ 1) ⊎ (length row ≤ width / (face_dots s.font * s.width)) → (nat_le (length row) 1 ≡ true) ⊎ (nat_le (dots row) width ≡ true)
+  go (inl one) = inl (le-leb _ _ one)
+  go (inr some) = inr (le-leb _ _ (omega (arith, inside width (length row) (face_dots s.font * s.width) some, dots_in_style s row h)))
+
+-- ## The end of a line
+
+face_some : (face : FontFace) → 1 ≤ face_dots face
+face_some A = omega arith
+face_some B = omega arith
+
+-- One character more isn't on the line.
+one_over : (width d : ℕ) → 1 ≤ d → width < at_least_one (width / d) * d + d
+one_over width d some = go (width / d) (lt-div-mul-add some) where
+  go : (m : ℕ) → width < m * d + d → width < at_least_one m * d + d
+  go zero h = omega (arith, h)
+  go (suc m) h = h
+
+pub ends_at_line_end : (width : ℕ) (s : Style) (row : List Cell) → 1 ≤ s.width → AllByRecursion (HasStyle s) row → length row ≡ columns_of width s.font s.width
+    → EndsAtLineEnd width s row
+ends_at_line_end width s row some h full =
+    let d = face_dots s.font * s.width in
+    let wide : 1 ≤ d = mul-le-mul (face_some s.font) some in
+    let dots_are = dots_in_style s row h in
+    let same : length row * d ≡ at_least_one (width / d) * d = ap (λ n. n * d) full in
+    omega (arith, dots_are, same, one_over width d wide)
