@@ -1,0 +1,13 @@
+pub mod DotSteps
+pub mod Ranges
+pub mod Diffusing
+pub mod Worked
+pub mod PackedRows
+pub mod WhiteAndBlack
+pub mod Fields
+pub mod RawPictures
+pub mod Bitmaps
+pub mod BitmapRows
+pub mod Means
+pub mod PlainFormats
+pub mod PlainBitmaps

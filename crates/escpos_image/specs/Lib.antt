@@ -1,0 +1,14 @@
+pub mod Faults
+pub mod Scan
+pub mod Headers
+pub mod Samples
+pub mod Grays
+pub mod Pictures
+pub mod Scaling
+pub mod DotRows
+pub mod Diffusion
+pub mod Shading
+pub mod Packing
+pub mod Entries
+pub mod Whole
+pub mod Format

@@ -1,0 +1,3 @@
+pub mod AllCells
+pub mod Strings
+pub mod Worked
