@@ -45,7 +45,7 @@ enum {
     ESCPOS_NOT_JSON = 5,          /* not JSON in UTF-8 */
     ESCPOS_BAD_SHAPE = 6,         /* not an array, or an entry that isn't one of a receipt's */
     ESCPOS_CONTROL_BYTE = 7,      /* a character below 20 (hexadecimal) in a text */
-    ESCPOS_NOT_ASCII = 8,         /* a character above 7F in a text */
+    ESCPOS_NO_CHARACTER = 8,      /* a character that no code table of the choice has */
     ESCPOS_TOO_LONG = 9           /* more than 16,777,216 bytes */
 };
 
@@ -60,6 +60,10 @@ int escpos_listing(const uint8_t *bytes, size_t len, uint8_t *out, size_t capaci
 
 /* The paper that a stream prints, as text, as `escpos_cli render --raw` prints it. 1 is as for escpos_listing. */
 int escpos_paper(const uint8_t *bytes, size_t len, uint8_t *out, size_t capacity, size_t *written);
+
+/* The same as plain text, as `escpos_cli render --raw --text` prints it: rows without styles, in the characters that they show, in
+ * UTF-8. 1 is as for escpos_listing. */
+int escpos_paper_text(const uint8_t *bytes, size_t len, uint8_t *out, size_t capacity, size_t *written);
 
 /* The paper that a stream prints, as a picture in SVG, as `escpos_cli draw --raw` prints it. 1 is as for escpos_listing, with that last
  * line under the paper. */

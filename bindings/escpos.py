@@ -16,7 +16,7 @@ feed 1
 import collections, ctypes, json, os, threading
 
 __all__ = [
-    "encode", "listing", "paper", "picture", "Host", "Printer", "Refused", "NotNow", "Text", "Event", "Fed",
+    "encode", "listing", "paper", "picture", "Host", "Printer", "Refused", "NotNow", "Text", "Paper", "Event", "Fed",
     "RECEIPT_REASONS", "HOST_REASONS", "FAULT_REASONS", "EVENTS", "STATES", "STOPS",
 ]
 
@@ -26,7 +26,7 @@ _LONGEST = 16777216
 
 #: Why a text gives no receipt, by number.
 RECEIPT_REASONS = {
-    1: "Empty", 2: "Forbidden", 3: "TextLeft", 4: "MidLine", 5: "NotJson", 6: "BadShape", 7: "ControlByte", 8: "NotAscii", 9: "TooLong",
+    1: "Empty", 2: "Forbidden", 3: "TextLeft", 4: "MidLine", 5: "NotJson", 6: "BadShape", 7: "ControlByte", 8: "NoCharacter", 9: "TooLong",
 }
 #: Why a host takes no call, by number.
 HOST_REASONS = {1: "NotReady", 2: "MarksUsedUp", 3: "AlreadyUp", 6: "InFlightFull", 9: "NoKind"}
@@ -39,6 +39,17 @@ STOPS = ("all", "answers full", "offline", "fault", "memory")
 
 Text = collections.namedtuple("Text", "text whole")
 Text.__doc__ = "A text of a stream; `whole` is false where the stream isn't read to its end, and a last line in the text says why."
+
+
+class Paper(Text):
+    """The text of a paper."""
+
+    @property
+    def plain(self):
+        """The same as plain text: rows without styles, in the characters that they show, and U+FFFD for each that isn't known."""
+        return _text(_library.escpos_paper_text, self._stream, 4).text
+
+
 Event = collections.namedtuple("Event", "kind number")
 Event.__doc__ = "What a host heard: one of EVENTS, and the record's number, the status byte or the place of the bad answer."
 Fed = collections.namedtuple("Fed", "consumed stop reason at")
@@ -90,6 +101,7 @@ _CALLS = {
     "escpos_encode": [*_BYTES, *_BUFFER, _SIZE, _U32, _SIZE],
     "escpos_listing": _TEXT,
     "escpos_paper": _TEXT,
+    "escpos_paper_text": _TEXT,
     "escpos_picture": _TEXT,
     "escpos_host_new": [_HANDLE, ctypes.c_uint32],
     "escpos_host_resume": [_HANDLE, ctypes.c_uint32, ctypes.c_size_t],
@@ -211,12 +223,17 @@ def listing(stream):
 
 
 def paper(stream):
-    """Prints a stream on paper, as text.
+    """Prints a stream on paper, as text. Its `plain` is the same without styles, rows in the characters that they show.
 
     >>> paper(b"A\\n\\x1dV\\x00")
-    Text(text='row left A\\nfeed 1\\ncut full\\n', whole=True)
+    Paper(text='row left A\\nfeed 1\\ncut full\\n', whole=True)
+    >>> paper(encode([{"line": "Café 4,20 €"}])).plain
+    'row left Café 4,20 €\\nfeed 1\\n'
     """
-    return _text(_library.escpos_paper, stream, 4)
+    stream = _bytes(stream)
+    printed = Paper(*_text(_library.escpos_paper, stream, 4))
+    printed._stream = stream
+    return printed
 
 
 def picture(stream):

@@ -85,7 +85,7 @@ static const struct refused REFUSED[] = {
     {"[", ESCPOS_NOT_JSON, ESCPOS_NO_PLACE},
     {"[{\"line\":\"A\"},{\"fed\":1}]", ESCPOS_BAD_SHAPE, 1},
     {"[{\"line\":\"\\t\"}]", ESCPOS_CONTROL_BYTE, 0},
-    {"[{\"line\":\"\\u00e4\"}]", ESCPOS_NOT_ASCII, 0},
+    {"[{\"line\":\"\\u6f22\"}]", ESCPOS_NO_CHARACTER, 0},
 };
 
 static void encodes(void) {
@@ -135,6 +135,9 @@ static void lists_and_prints(void) {
     GIVES(escpos_paper, "\x1B" "E\x01" "A\x1B" "E\x00" "B\n", "row left [A,1,1,1,0,0]A[A,1,1,0,0,0]B\nfeed 1\n", ESCPOS_GOOD);
     GIVES(escpos_paper, "\n\x1DV", "feed 1\nend 3 pending 2\n", ESCPOS_REFUSED);
     GIVES(escpos_paper, "\nA\x06", "feed 1\nfault 2 1 UnknownByte\n", ESCPOS_REFUSED);
+    GIVES(escpos_paper_text, "", "", ESCPOS_GOOD);
+    GIVES(escpos_paper_text, "\x1B" "E\x01" "Caf\x82\x1Bt\x13\xD5\n", "row left Caf\xC3\xA9\xE2\x82\xAC\nfeed 1\n", ESCPOS_GOOD);
+    GIVES(escpos_paper_text, "\x1Bt\x06\xD5\n\x06", "row left \xEF\xBF\xBD\nfeed 1\nfault 5 1 UnknownByte\n", ESCPOS_REFUSED);
 }
 
 /* The document of an empty paper, and of one with a row and a feed. */
@@ -399,6 +402,7 @@ static void results_stay(void) {
         IS(CALL(escpos_encode(bytes("[]"), 2, buffer, 9, place(0), place(1), place(2))) == ESCPOS_REFUSED && STAY_3(s, u, s));
         IS(CALL(escpos_listing(bytes("A"), 1, buffer, CAPACITY, place(0))) == ESCPOS_GOOD && stays(0, s));
         IS(CALL(escpos_paper(bytes("A"), 1, buffer, CAPACITY, place(0))) == ESCPOS_GOOD && stays(0, s));
+        IS(CALL(escpos_paper_text(bytes("A"), 1, buffer, CAPACITY, place(0))) == ESCPOS_GOOD && stays(0, s));
         IS(CALL(escpos_picture(bytes("A"), 1, buffer, CAPACITY, place(0))) == ESCPOS_GOOD && stays(0, s));
         IS(CALL(escpos_host_nudge(&host, place(0))) == refused && stays(0, u));
         IS(CALL(escpos_host_ask(&host, 1, place(0))) == refused && stays(0, u));

@@ -27,6 +27,8 @@ def main(program):
         stream = bytes.fromhex(content(f"{name}.hex", "r"))
         compare(f"{name}: the listing", escpos.listing(stream).text.encode(), content(f"{name}.listing"))
         compare(f"{name}: the paper", escpos.paper(stream).text.encode(), content(f"{name}.paper"))
+        plain = subprocess.run([program, "render", "--raw", "--text"], input=stream, stdout=subprocess.PIPE, check=True).stdout
+        compare(f"{name}: the plain text", escpos.paper(stream).plain.encode(), plain)
         drawn = subprocess.run([program, "draw", "--raw"], input=stream, stdout=subprocess.PIPE, check=True).stdout
         compare(f"{name}: the picture", escpos.picture(stream).text.encode(), drawn)
         with escpos.Printer() as printer:

@@ -1,4 +1,5 @@
 pub mod TaskValues
+pub mod WidthValues
 pub mod TaskWords
 pub mod TillWords
 pub mod TillValues

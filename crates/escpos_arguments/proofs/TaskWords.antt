@@ -3,7 +3,7 @@ use Rattle.std.proofs.Common.{◌≡◌, ◌⊎◌, ◌∙◌, ◌||◌, ◌&&�
 use Rattle.std.specs.Prelude.{if◌then◌else◌, IfOk}
 use Rattle.std.specs.Box.{box_value}
 use Rattle.std.specs.Str.{bytes_eq}
-use Rattle.clap.specs.Words.{App, Row, Rule, Shape, Text, app_of, built, fault_of, first_of, is_simple_and_free, is_simple, subcommand_of, subcommand_rows, subcommand_rows_of, subcommand_name_of, FailsBy, HasKind, Kinds, HasMatchesOf, kind_of, IsAmong}
+use Rattle.clap.specs.Words.{App, Row, Rule, Shape, Text, app_of, built, fault_of, first_of, one_of, is_simple_and_free, is_simple, subcommand_of, subcommand_rows, subcommand_rows_of, subcommand_name_of, FailsBy, HasKind, Kinds, HasMatchesOf, kind_of, IsAmong}
 use Rattle.clap.specs.Walk.{Held, Names, Outcome, Step, Walk, after_flag, after_step, answers_to, idle, nothing_held, done, waits, plain, refused, short_or_plain, long_or_other, stop_after, subcommand_met, subcommand_or_other, trailing, walk_from, walked}
 use Rattle.clap.specs.Simple.{names_of, entered}
 use Rattle.clap.specs.Lexer.{long_of, short_of}
@@ -15,12 +15,12 @@ use Rattle.clap.specs.declared.builder.command.Command.{Command}
 use Rattle.clap.specs.declared.builder.command.Command.TheViews.{out-Command}
 use Rattle.clap.specs.declared.parser.matches.ArgMatches.{ArgMatches}
 use Rattle.clap.specs.declared.parser.matches.ArgMatches.TheViews.{out-ArgMatches, out-SubCommand}
-use Rattle.escpos_arguments.specs.Arguments.{AsksBy, HasRaw, IsPlain, command_words, help_words, name_of, words_of}
+use Rattle.escpos_arguments.specs.Arguments.{AsksBy, IsBare, IsPlain, command_words, help_words, name_of, words_of}
 use Rattle.escpos_arguments.specs.ClapAnswers.{no_task_of}
 use Rattle.escpos_jobs.specs.declared.task.NoTask.{NoTask}
 use Rattle.escpos_jobs.specs.declared.task.NoTask.TheVariants.{Help, Memory}
 use Rattle.escpos_jobs.specs.declared.task.Task.{Task}
-use Rattle.escpos_jobs.specs.declared.task.Task.TheVariants.{Check, CheckRaw, Render, RenderRaw, Draw, DrawRaw, Encode, EncodeRaw, Play, Emulate, EmulateIn, Follow, Send, SendWithin, Status, Loop}
+use Rattle.escpos_jobs.specs.declared.task.Task.TheVariants.{Check, CheckRaw, Render, RenderRaw, RenderAt, RenderRawAt, Draw, DrawRaw, DrawAt, DrawRawAt, RenderText, Encode, EncodeRaw, EncodeWith, Image, Play, Emulate, EmulateIn, EmulateAt, Follow, FollowAt, Send, SendWithin, SendWith, Status, Loop, LoopAt}
 use Rattle.std.proofs.lemmas.Slice.Eq.{bytes_eq-Decides}
 
 pub is_exact : is_simple_and_free command_words ≡ true
@@ -289,48 +289,50 @@ first_met word (name ∷ others) = if answers name word then Some name else firs
 
 -- the names of all subcommands
 abbrev own_names : List Text
-own_names = codes "check" ∷ codes "render" ∷ codes "draw" ∷ codes "encode" ∷ codes "play" ∷ codes "emulate" ∷ codes "send" ∷ codes "status" ∷ codes "loop" ∷ codes "help" ∷ []
+own_names = codes "check" ∷ codes "render" ∷ codes "draw" ∷ codes "encode" ∷ codes "image" ∷ codes "play" ∷ codes "emulate" ∷ codes "send" ∷ codes "status" ∷ codes "loop" ∷ codes "help" ∷ []
 
--- the same for the ten names, by which of them the argument is
-abbrev pub met_if : Bool → Bool → Bool → Bool → Bool → Bool → Bool → Bool → Bool → Bool → Option Text
-met_if c r d e p m s t l h =
-    if c then Some (codes "check") else (if r then Some (codes "render") else (if d then Some (codes "draw") else (if e then Some (codes "encode") else (if p then Some (codes "play") else (if m then Some (codes "emulate") else (if s then Some (codes "send") else (if t then Some (codes "status") else (if l then Some (codes "loop") else (if h then Some (codes "help") else None)))))))))
+-- the same for the eleven names, by which of them the argument is
+abbrev pub met_if : Bool → Bool → Bool → Bool → Bool → Bool → Bool → Bool → Bool → Bool → Bool → Option Text
+met_if c r d e i p m s t l h =
+    if c then Some (codes "check") else (if r then Some (codes "render") else (if d then Some (codes "draw") else (if e then Some (codes "encode") else (if i then Some (codes "image") else (if p then Some (codes "play") else (if m then Some (codes "emulate") else (if s then Some (codes "send") else (if t then Some (codes "status") else (if l then Some (codes "loop") else (if h then Some (codes "help") else None))))))))))
 
-met_conds : (c r d e p m s t l h : Bool) → option_map (λ (s : Text × List Text). s.0)
-    (if c then Some (codes "check", []) else (if r then Some (codes "render", []) else (if d then Some (codes "draw", []) else (if e then Some (codes "encode", []) else (if p then Some (codes "play", []) else (if m then Some (codes "emulate", []) else (if s then Some (codes "send", []) else (if t then Some (codes "status", []) else (if l then Some (codes "loop", []) else (if h then Some (codes "help", []) else None))))))))))
-    ≡ met_if c r d e p m s t l h
-met_conds true r d e p m s t l h = refl
-met_conds false true d e p m s t l h = refl
-met_conds false false true e p m s t l h = refl
-met_conds false false false true p m s t l h = refl
-met_conds false false false false true m s t l h = refl
-met_conds false false false false false true s t l h = refl
-met_conds false false false false false false true t l h = refl
-met_conds false false false false false false false true l h = refl
-met_conds false false false false false false false false true h = refl
-met_conds false false false false false false false false false true = refl
-met_conds false false false false false false false false false false = refl
+met_conds : (c r d e i p m s t l h : Bool) → option_map (λ (s : Text × List Text). s.0)
+    (if c then Some (codes "check", []) else (if r then Some (codes "render", []) else (if d then Some (codes "draw", []) else (if e then Some (codes "encode", []) else (if i then Some (codes "image", []) else (if p then Some (codes "play", []) else (if m then Some (codes "emulate", []) else (if s then Some (codes "send", []) else (if t then Some (codes "status", []) else (if l then Some (codes "loop", []) else (if h then Some (codes "help", []) else None)))))))))))
+    ≡ met_if c r d e i p m s t l h
+met_conds true r d e i p m s t l h = refl
+met_conds false true d e i p m s t l h = refl
+met_conds false false true e i p m s t l h = refl
+met_conds false false false true i p m s t l h = refl
+met_conds false false false false true p m s t l h = refl
+met_conds false false false false false true m s t l h = refl
+met_conds false false false false false false true s t l h = refl
+met_conds false false false false false false false true t l h = refl
+met_conds false false false false false false false false true l h = refl
+met_conds false false false false false false false false false true h = refl
+met_conds false false false false false false false false false false true = refl
+met_conds false false false false false false false false false false false = refl
 
 met_word : (word : Text) → subcommand_met names idle word ≡ first_met word own_names
-met_word word = met_conds (answers (codes "check") word) (answers (codes "render") word) (answers (codes "draw") word) (answers (codes "encode") word) (answers (codes "play") word) (answers (codes "emulate") word) (answers (codes "send") word) (answers (codes "status") word) (answers (codes "loop") word) (answers (codes "help") word)
+met_word word = met_conds (answers (codes "check") word) (answers (codes "render") word) (answers (codes "draw") word) (answers (codes "encode") word) (answers (codes "image") word) (answers (codes "play") word) (answers (codes "emulate") word) (answers (codes "send") word) (answers (codes "status") word) (answers (codes "loop") word) (answers (codes "help") word)
 
 -- a name that is met is entered
-entered_if : (c r d e p m s t l h : Bool) → entered_name (met_if c r d e p m s t l h) ≡ met_if c r d e p m s t l h
+entered_if : (c r d e i p m s t l h : Bool) → entered_name (met_if c r d e i p m s t l h) ≡ met_if c r d e i p m s t l h
 unfolding clap_on_literals
-entered_if true r d e p m s t l h = refl
-entered_if false true d e p m s t l h = refl
-entered_if false false true e p m s t l h = refl
-entered_if false false false true p m s t l h = refl
-entered_if false false false false true m s t l h = refl
-entered_if false false false false false true s t l h = refl
-entered_if false false false false false false true t l h = refl
-entered_if false false false false false false false true l h = refl
-entered_if false false false false false false false false true h = refl
-entered_if false false false false false false false false false true = refl
-entered_if false false false false false false false false false false = refl
+entered_if true r d e i p m s t l h = refl
+entered_if false true d e i p m s t l h = refl
+entered_if false false true e i p m s t l h = refl
+entered_if false false false true i p m s t l h = refl
+entered_if false false false false true p m s t l h = refl
+entered_if false false false false false true m s t l h = refl
+entered_if false false false false false false true s t l h = refl
+entered_if false false false false false false false true t l h = refl
+entered_if false false false false false false false false true l h = refl
+entered_if false false false false false false false false false true h = refl
+entered_if false false false false false false false false false false true = refl
+entered_if false false false false false false false false false false false = refl
 
 entered_met : (word : Text) → entered_name (first_met word own_names) ≡ first_met word own_names
-entered_met word = entered_if (answers (codes "check") word) (answers (codes "render") word) (answers (codes "draw") word) (answers (codes "encode") word) (answers (codes "play") word) (answers (codes "emulate") word) (answers (codes "send") word) (answers (codes "status") word) (answers (codes "loop") word) (answers (codes "help") word)
+entered_met word = entered_if (answers (codes "check") word) (answers (codes "render") word) (answers (codes "draw") word) (answers (codes "encode") word) (answers (codes "image") word) (answers (codes "play") word) (answers (codes "emulate") word) (answers (codes "send") word) (answers (codes "status") word) (answers (codes "loop") word) (answers (codes "help") word)
 
 or_false : (b : Bool) → (b || false) ≡ true → b ≡ true
 or_false true e = refl
@@ -369,36 +371,58 @@ task_met Check alone = check_met
 task_met CheckRaw alone = absurd alone
 task_met Render alone = render_met
 task_met RenderRaw alone = absurd alone
+task_met (RenderAt width) alone = absurd alone
+task_met (RenderRawAt width) alone = absurd alone
 task_met Draw alone = draw_met
 task_met DrawRaw alone = absurd alone
+task_met (DrawAt width) alone = absurd alone
+task_met (DrawRawAt width) alone = absurd alone
+task_met (RenderText raw width) alone = absurd alone
 task_met Encode alone = encode_met
 task_met EncodeRaw alone = absurd alone
+task_met (EncodeWith raw options) alone = absurd alone
+task_met (Image width threshold) alone = absurd alone
 task_met Play alone = play_met
 task_met (Emulate address links) alone = absurd alone
 task_met (EmulateIn address links condition) alone = absurd alone
+task_met (EmulateAt address links condition width) alone = absurd alone
 task_met (Follow address condition) alone = absurd alone
+task_met (FollowAt address condition width) alone = absurd alone
 task_met (Send address first openings) alone = absurd alone
 task_met (SendWithin address first openings wait) alone = absurd alone
+task_met (SendWith address first openings wait options) alone = absurd alone
 task_met (Status address wait) alone = absurd alone
 task_met Loop alone = loop_met
+task_met (LoopAt width) alone = absurd alone
 
 pub task_passes : (task : Task) → IsPlain task → fault_of command_words (words_of task) ≡ []
 task_passes Check alone = check_passes
 task_passes CheckRaw alone = absurd alone
 task_passes Render alone = render_passes
 task_passes RenderRaw alone = absurd alone
+task_passes (RenderAt width) alone = absurd alone
+task_passes (RenderRawAt width) alone = absurd alone
 task_passes Draw alone = draw_passes
 task_passes DrawRaw alone = absurd alone
+task_passes (DrawAt width) alone = absurd alone
+task_passes (DrawRawAt width) alone = absurd alone
+task_passes (RenderText raw width) alone = absurd alone
 task_passes Encode alone = encode_passes
 task_passes EncodeRaw alone = absurd alone
+task_passes (EncodeWith raw options) alone = absurd alone
+task_passes (Image width threshold) alone = absurd alone
 task_passes Play alone = play_passes
 task_passes (Emulate address links) alone = absurd alone
 task_passes (EmulateIn address links condition) alone = absurd alone
+task_passes (EmulateAt address links condition width) alone = absurd alone
 task_passes (Follow address condition) alone = absurd alone
+task_passes (FollowAt address condition width) alone = absurd alone
 task_passes (Send address first openings) alone = absurd alone
 task_passes (SendWithin address first openings wait) alone = absurd alone
+task_passes (SendWith address first openings wait options) alone = absurd alone
 task_passes (Status address wait) alone = absurd alone
 task_passes Loop alone = loop_passes
+task_passes (LoopAt width) alone = absurd alone
 
 -- a task without values is asked for by its name
 pub plain_name : (task : Task) (name : Text) (rows : List Row) → IsPlain task → AsksBy name rows task → name ≡ name_of task
@@ -406,81 +430,125 @@ plain_name Check name rows alone asks = asks
 plain_name CheckRaw name rows alone asks = absurd alone
 plain_name Render name rows alone asks = asks
 plain_name RenderRaw name rows alone asks = absurd alone
+plain_name (RenderAt width) name rows alone asks = absurd alone
+plain_name (RenderRawAt width) name rows alone asks = absurd alone
 plain_name Draw name rows alone asks = asks
 plain_name DrawRaw name rows alone asks = absurd alone
+plain_name (DrawAt width) name rows alone asks = absurd alone
+plain_name (DrawRawAt width) name rows alone asks = absurd alone
+plain_name (RenderText raw width) name rows alone asks = absurd alone
 plain_name Encode name rows alone asks = asks
 plain_name EncodeRaw name rows alone asks = absurd alone
+plain_name (EncodeWith raw options) name rows alone asks = absurd alone
+plain_name (Image width threshold) name rows alone asks = absurd alone
 plain_name Play name rows alone asks = asks
 plain_name (Emulate address links) name rows alone asks = absurd alone
 plain_name (EmulateIn address links condition) name rows alone asks = absurd alone
+plain_name (EmulateAt address links condition width) name rows alone asks = absurd alone
 plain_name (Follow address condition) name rows alone asks = absurd alone
+plain_name (FollowAt address condition width) name rows alone asks = absurd alone
 plain_name (Send address first openings) name rows alone asks = absurd alone
 plain_name (SendWithin address first openings wait) name rows alone asks = absurd alone
+plain_name (SendWith address first openings wait options) name rows alone asks = absurd alone
 plain_name (Status address wait) name rows alone asks = absurd alone
 plain_name Loop name rows alone asks = asks
+plain_name (LoopAt width) name rows alone asks = absurd alone
 
--- ---- the flag of a task without values
+-- ---- the values of a task without values
 
--- the flag that follows the name
-abbrev raw_of : List Text → Option (Option Text)
-raw_of texts = option_map (λ p. first_of (codes "raw") p.1) (subcommand_of command_words texts)
+-- what the values say for raw, text, width and replacement
+abbrev Said : Type 0
+Said = Option Text × Option Text × Option Text × Option Text
 
-check_flag : raw_of (codes "check" ∷ []) ≡ Some (Some (codes "false"))
-unfolding clap_on_literals
-check_flag = refl
+abbrev said_in : List Row → Said
+said_in rows = (first_of (codes "raw") rows, first_of (codes "text") rows, one_of (codes "width") rows, first_of (codes "replace") rows)
 
-render_flag : raw_of (codes "render" ∷ []) ≡ Some (Some (codes "false"))
-unfolding clap_on_literals
-render_flag = refl
+-- what is said after the name
+abbrev said_of : List Text → Option Said
+said_of texts = option_map (λ p. said_in p.1) (subcommand_of command_words texts)
 
-draw_flag : raw_of (codes "draw" ∷ []) ≡ Some (Some (codes "false"))
-unfolding clap_on_literals
-draw_flag = refl
+-- a flag isn't there, or off
+abbrev IsOff : Option Text → Type 0
+IsOff o = o ≡ Some (codes "true") → ⊥
 
-encode_flag : raw_of (codes "encode" ∷ []) ≡ Some (Some (codes "false"))
-unfolding clap_on_literals
-encode_flag = refl
+none_off : IsOff None
+none_off e = cc
 
-play_flag : raw_of (codes "play" ∷ []) ≡ Some None
-unfolding clap_on_literals
-play_flag = refl
-
-loop_flag : raw_of (codes "loop" ∷ []) ≡ Some None
-unfolding clap_on_literals
-loop_flag = refl
-
-some_other : (o : Option Text) → Some o ≡ Some (Some (codes "false")) → o ≡ Some (codes "true") → ⊥
-some_other o e h = let no : Some (codes "true") ≡ Some (codes "false") = cc in let bad : codes "true" ≡ codes "false" = cc in text_other (ap length bad)
+false_off : IsOff (Some (codes "false"))
+false_off e = let bad : codes "false" ≡ codes "true" = cc in lengths (ap length bad)
   where
-    text_other : length (codes "true") ≡ length (codes "false") → ⊥
-    text_other e = omega (arith, e)
+    lengths : length (codes "false") ≡ length (codes "true") → ⊥
+    lengths e = omega (arith, e)
 
-none_other : (o : Option Text) → Some o ≡ Some None → o ≡ Some (codes "true") → ⊥
-none_other o e h = let no : None ≡ Some (codes "true") = cc in cc
+bare_of : (rows : List Row) (raw text width replacement : Option Text) → Some (said_in rows) ≡ Some (raw, text, width, replacement)
+    → IsOff raw → IsOff text → width ≡ None → replacement ≡ None → IsBare rows
+bare_of rows raw text width replacement e raw_off text_off no_width no_replacement =
+    let said : said_in rows ≡ (raw, text, width, replacement) = cc in
+    (
+      λ h. raw_off (sym (ap (λ (s : Said). s.0) said) ∙ h),
+      λ h. text_off (sym (ap (λ (s : Said). s.1) said) ∙ h),
+      ap (λ (s : Said). s.2) said ∙ no_width,
+      ap (λ (s : Said). s.3) said ∙ no_replacement,
+    )
 
-no_flag : (task : Task) → IsPlain task → (o : Option Text) → Some o ≡ raw_of (words_of task) → o ≡ Some (codes "true") → ⊥
-no_flag Check alone o e = some_other o (e ∙ check_flag)
-no_flag CheckRaw alone o e = absurd alone
-no_flag Render alone o e = some_other o (e ∙ render_flag)
-no_flag RenderRaw alone o e = absurd alone
-no_flag Draw alone o e = some_other o (e ∙ draw_flag)
-no_flag DrawRaw alone o e = absurd alone
-no_flag Encode alone o e = some_other o (e ∙ encode_flag)
-no_flag EncodeRaw alone o e = absurd alone
-no_flag Play alone o e = none_other o (e ∙ play_flag)
-no_flag (Emulate address links) alone o e = absurd alone
-no_flag (EmulateIn address links condition) alone o e = absurd alone
-no_flag (Follow address condition) alone o e = absurd alone
-no_flag (Send address first openings) alone o e = absurd alone
-no_flag (SendWithin address first openings wait) alone o e = absurd alone
-no_flag (Status address wait) alone o e = absurd alone
-no_flag Loop alone o e = none_other o (e ∙ loop_flag)
+check_said : said_of (codes "check" ∷ []) ≡ Some (Some (codes "false"), None, None, None)
+unfolding clap_on_literals
+check_said = refl
 
--- the arguments of a task without values have no such flag
-pub not_raw : (task : Task) (texts : List Text) (name : Text) (rows : List Row) → IsPlain task → Some (name, rows) ≡ subcommand_of command_words texts
-    → texts ≡ words_of task → ¬ HasRaw rows
-not_raw task texts name rows alone found e =
-    no_flag task alone (first_of (codes "raw") rows) (ap (option_map (λ p. first_of (codes "raw") p.1)) found ∙ ap raw_of e)
+render_said : said_of (codes "render" ∷ []) ≡ Some (Some (codes "false"), Some (codes "false"), None, None)
+unfolding clap_on_literals
+render_said = refl
+
+draw_said : said_of (codes "draw" ∷ []) ≡ Some (Some (codes "false"), None, None, None)
+unfolding clap_on_literals
+draw_said = refl
+
+encode_said : said_of (codes "encode" ∷ []) ≡ Some (Some (codes "false"), None, None, None)
+unfolding clap_on_literals
+encode_said = refl
+
+play_said : said_of (codes "play" ∷ []) ≡ Some (None, None, None, None)
+unfolding clap_on_literals
+play_said = refl
+
+loop_said : said_of (codes "loop" ∷ []) ≡ Some (None, None, None, None)
+unfolding clap_on_literals
+loop_said = refl
+
+bare_task : (task : Task) → IsPlain task → (rows : List Row) → Some (said_in rows) ≡ said_of (words_of task) → IsBare rows
+bare_task Check alone rows e = bare_of rows _ _ _ _ (e ∙ check_said) false_off none_off refl refl
+bare_task CheckRaw alone rows e = absurd alone
+bare_task Render alone rows e = bare_of rows _ _ _ _ (e ∙ render_said) false_off false_off refl refl
+bare_task RenderRaw alone rows e = absurd alone
+bare_task (RenderAt width) alone rows e = absurd alone
+bare_task (RenderRawAt width) alone rows e = absurd alone
+bare_task Draw alone rows e = bare_of rows _ _ _ _ (e ∙ draw_said) false_off none_off refl refl
+bare_task DrawRaw alone rows e = absurd alone
+bare_task (DrawAt width) alone rows e = absurd alone
+bare_task (DrawRawAt width) alone rows e = absurd alone
+bare_task (RenderText raw width) alone rows e = absurd alone
+bare_task Encode alone rows e = bare_of rows _ _ _ _ (e ∙ encode_said) false_off none_off refl refl
+bare_task EncodeRaw alone rows e = absurd alone
+bare_task (EncodeWith raw options) alone rows e = absurd alone
+bare_task (Image width threshold) alone rows e = absurd alone
+bare_task Play alone rows e = bare_of rows _ _ _ _ (e ∙ play_said) none_off none_off refl refl
+bare_task (Emulate address links) alone rows e = absurd alone
+bare_task (EmulateIn address links condition) alone rows e = absurd alone
+bare_task (EmulateAt address links condition width) alone rows e = absurd alone
+bare_task (Follow address condition) alone rows e = absurd alone
+bare_task (FollowAt address condition width) alone rows e = absurd alone
+bare_task (Send address first openings) alone rows e = absurd alone
+bare_task (SendWithin address first openings wait) alone rows e = absurd alone
+bare_task (SendWith address first openings wait options) alone rows e = absurd alone
+bare_task (Status address wait) alone rows e = absurd alone
+bare_task Loop alone rows e = bare_of rows _ _ _ _ (e ∙ loop_said) none_off none_off refl refl
+bare_task (LoopAt width) alone rows e = absurd alone
+
+-- the arguments of a task without values set nothing
+pub is_bare : (task : Task) (texts : List Text) (name : Text) (rows : List Row) → IsPlain task → Some (name, rows) ≡ subcommand_of command_words texts
+    → texts ≡ words_of task → IsBare rows
+is_bare task texts name rows alone found e =
+    bare_task task alone rows (ap (option_map (λ p. said_in p.1)) found ∙ ap said_of e)
 
 -- ---- what a parse of the arguments gives
 

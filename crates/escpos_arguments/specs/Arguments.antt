@@ -1,5 +1,5 @@
 -- The arguments of the command line, and what they ask for.
-use Rattle.std.specs.Prelude.{◌≡◌, ◌<◌, ◌≤◌, ℕ, ⊤, List, [], ◌∷◌, Option, Some, None, IfSome, IsSomeAnd, codes, Bool, true, false}
+use Rattle.std.specs.Prelude.{◌≡◌, ◌<◌, ◌≤◌, ℕ, ⊤, List, [], ◌∷◌, Option, Some, None, IfSome, IsSomeAnd, IsTrue, codes, Bool, true, false}
 use Rattle.std.specs.declared.net.socket_addr.SocketAddrV4.{SocketAddrV4}
 use Rattle.std.specs.Net.Grammar.{IsSocketV4Text}
 use Rattle.std.specs.Net.Text.{socket_v4_text}
@@ -7,10 +7,15 @@ use Rattle.clap.specs.Words.{App, Row, Rule, Shape, Text, first_of, new_app, new
 use Rattle.clap.specs.Simple.{new_shape, on_top}
 use Rattle.clap.specs.declared.builder.action.ArgAction.TheVariants.{Set, SetTrue}
 use Rattle.escpos_command.specs.Digits.{mark_count}
+use Rattle.escpos_command.specs.LineWidths.{is_line_width}
+use Rattle.escpos_command.specs.declared.line_width.TheConstants.{USUAL_LINE_DOTS}
+use Rattle.escpos_text.specs.Replacements.{is_replacement}
+use Rattle.escpos_receipt.specs.declared.options.ReceiptOptions.{ReceiptOptions}
 use Rattle.escpos_arguments.specs.declared.arguments.TheConstants.{LINKS, MOST_LINKS, OPENINGS, MOST_OPENINGS, MOST_WAIT}
+use Rattle.escpos_arguments.specs.declared.image.TheConstants.{MOST_THRESHOLD}
 use Rattle.escpos_printer.specs.declared.condition.Condition.{Condition}
 use Rattle.escpos_jobs.specs.declared.task.Task.{Task}
-use Rattle.escpos_jobs.specs.declared.task.Task.TheVariants.{Check, CheckRaw, Render, RenderRaw, Draw, DrawRaw, Encode, EncodeRaw, Play, Emulate, EmulateIn, Follow, Send, SendWithin, Status, Loop}
+use Rattle.escpos_jobs.specs.declared.task.Task.TheVariants.{Check, CheckRaw, Render, RenderRaw, RenderAt, RenderRawAt, Draw, DrawRaw, DrawAt, DrawRawAt, RenderText, Encode, EncodeRaw, EncodeWith, Image, Play, Emulate, EmulateIn, EmulateAt, Follow, FollowAt, Send, SendWithin, SendWith, Status, Loop, LoopAt}
 use Rattle.escpos_jobs.specs.Conditions.{condition_text, online}
 use Rattle.escpos_arguments.specs.ClapAnswers.{IsNumber, IsNumberIn}
 
@@ -33,31 +38,53 @@ name_of Check = codes "check"
 name_of CheckRaw = codes "check"
 name_of Render = codes "render"
 name_of RenderRaw = codes "render"
+name_of (RenderAt width) = codes "render"
+name_of (RenderRawAt width) = codes "render"
 name_of Draw = codes "draw"
 name_of DrawRaw = codes "draw"
+name_of (DrawAt width) = codes "draw"
+name_of (DrawRawAt width) = codes "draw"
+name_of (RenderText raw width) = codes "render"
 name_of Encode = codes "encode"
 name_of EncodeRaw = codes "encode"
+name_of (EncodeWith raw options) = codes "encode"
+name_of (Image width threshold) = codes "image"
 name_of Play = codes "play"
 name_of (Emulate address links) = codes "emulate"
 name_of (EmulateIn address links condition) = codes "emulate"
+name_of (EmulateAt address links condition width) = codes "emulate"
 name_of (Follow address condition) = codes "emulate"
+name_of (FollowAt address condition width) = codes "emulate"
 name_of (Send address first openings) = codes "send"
 name_of (SendWithin address first openings wait) = codes "send"
+name_of (SendWith address first openings wait options) = codes "send"
 name_of (Status address wait) = codes "status"
 name_of Loop = codes "loop"
+name_of (LoopAt width) = codes "loop"
 
 -- the task has no values, so that its name is all that asks for it
 abbrev pub IsPlain : Task → Type 0
 IsPlain CheckRaw = ⊥
 IsPlain RenderRaw = ⊥
+IsPlain (RenderAt width) = ⊥
+IsPlain (RenderRawAt width) = ⊥
 IsPlain DrawRaw = ⊥
+IsPlain (DrawAt width) = ⊥
+IsPlain (DrawRawAt width) = ⊥
+IsPlain (RenderText raw width) = ⊥
 IsPlain EncodeRaw = ⊥
+IsPlain (EncodeWith raw options) = ⊥
+IsPlain (Image width threshold) = ⊥
 IsPlain (Emulate address links) = ⊥
 IsPlain (EmulateIn address links condition) = ⊥
+IsPlain (EmulateAt address links condition width) = ⊥
 IsPlain (Follow address condition) = ⊥
+IsPlain (FollowAt address condition width) = ⊥
 IsPlain (Send address first openings) = ⊥
 IsPlain (SendWithin address first openings wait) = ⊥
+IsPlain (SendWith address first openings wait options) = ⊥
 IsPlain (Status address wait) = ⊥
+IsPlain (LoopAt width) = ⊥
 IsPlain _ = ⊤
 
 -- the arguments that ask for a task without values: its name, and nothing more
@@ -72,51 +99,125 @@ HasFlag name rows = first_of name rows ≡ Some (codes "true")
 abbrev pub HasRaw : List Row → Type 0
 HasRaw rows = HasFlag (codes "raw") rows
 
+-- the flag `--text` is among the values
+abbrev pub HasText : List Row → Type 0
+HasText rows = HasFlag (codes "text") rows
+
+-- whether something holds
+abbrev pub IsWhether : Bool → Type 0 → Type 0
+IsWhether true holds = holds
+IsWhether false holds = ¬ holds
+
+-- no width is among the values
+abbrev pub HasNoWidth : List Row → Type 0
+HasNoWidth rows = one_of (codes "width") rows ≡ None
+
+-- no replacement is among the values
+abbrev pub HasNoReplacement : List Row → Type 0
+HasNoReplacement rows = first_of (codes "replace") rows ≡ None
+
+-- nothing is set: the flags are off, and there is no width and no replacement
+abbrev pub IsBare : List Row → Type 0
+IsBare rows = (¬ HasRaw rows) × (¬ HasText rows) × HasNoWidth rows × HasNoReplacement rows
+
+-- neither a width nor a replacement is among the values
+abbrev pub HasNoOptions : List Row → Type 0
+HasNoOptions rows = HasNoWidth rows × HasNoReplacement rows
+
+-- the replacement that a text says, if there is a text: its one character
+abbrev pub IsReplacedBy : Option Text → Option ℕ → Type 0
+IsReplacedBy None replacement = replacement ≡ None
+IsReplacedBy (Some text) replacement = (c : ℕ) × (text ≡ c ∷ []) × (replacement ≡ Some c)
+
+-- a width or a replacement is among the values, and the options are what these say
+abbrev pub HasOptions : List Row → ReceiptOptions → Type 0
+HasOptions rows options = (¬ HasNoOptions rows)
+    × IsNumberOr USUAL_LINE_DOTS (one_of (codes "width") rows) options.width
+    × IsReplacedBy (first_of (codes "replace") rows) options.replacement
+
 -- what the sensors of a printer say, where this text was given for it, if any
 abbrev pub IsConditionOr : Option Text → Condition → Type 0
 IsConditionOr None condition = condition ≡ online
 IsConditionOr (Some text) condition = text ≡ condition_text condition
+
+-- this width is among the values
+abbrev pub HasWidth : List Row → ℕ → Type 0
+HasWidth rows width = IsSomeAnd (one_of (codes "width") rows) (λ text. IsNumber text width)
 
 -- this name, with the values that were given after it, asks for the task
 abbrev pub AsksBy : Text → List Row → Task → Type 0
 AsksBy name rows Check = name ≡ codes "check"
 AsksBy name rows CheckRaw = (name ≡ codes "check") × HasRaw rows
 AsksBy name rows Render = name ≡ codes "render"
-AsksBy name rows RenderRaw = (name ≡ codes "render") × HasRaw rows
+AsksBy name rows RenderRaw = (name ≡ codes "render") × HasRaw rows × HasNoWidth rows × (¬ HasText rows)
+AsksBy name rows (RenderAt width) = (name ≡ codes "render") × (¬ HasRaw rows) × HasWidth rows width × (¬ HasText rows)
+AsksBy name rows (RenderRawAt width) = (name ≡ codes "render") × HasRaw rows × HasWidth rows width × (¬ HasText rows)
+AsksBy name rows (RenderText raw width) = (name ≡ codes "render") × IsWhether raw (HasRaw rows)
+    × IsNumberOr USUAL_LINE_DOTS (one_of (codes "width") rows) width × HasText rows
 AsksBy name rows Draw = name ≡ codes "draw"
-AsksBy name rows DrawRaw = (name ≡ codes "draw") × HasRaw rows
+AsksBy name rows DrawRaw = (name ≡ codes "draw") × HasRaw rows × HasNoWidth rows
+AsksBy name rows (DrawAt width) = (name ≡ codes "draw") × (¬ HasRaw rows) × HasWidth rows width
+AsksBy name rows (DrawRawAt width) = (name ≡ codes "draw") × HasRaw rows × HasWidth rows width
 AsksBy name rows Encode = name ≡ codes "encode"
-AsksBy name rows EncodeRaw = (name ≡ codes "encode") × HasRaw rows
+AsksBy name rows EncodeRaw = (name ≡ codes "encode") × HasRaw rows × HasNoOptions rows
+AsksBy name rows (EncodeWith raw options) = (name ≡ codes "encode") × IsWhether raw (HasRaw rows) × HasOptions rows options
+AsksBy name rows (Image width threshold) = (name ≡ codes "image")
+    × IsNumberOr USUAL_LINE_DOTS (one_of (codes "width") rows) width
+    × IsNumberIn (one_of (codes "threshold") rows) threshold
 AsksBy name rows Play = name ≡ codes "play"
 AsksBy name rows (Emulate address links) = (name ≡ codes "emulate")
     × IsSomeAnd (first_of (codes "address") rows) (λ text. IsAddress text address)
     × IsNumberOr LINKS (one_of (codes "links") rows) links
     × (first_of (codes "condition") rows ≡ None)
     × (¬ HasFlag (codes "follow") rows)
+    × HasNoWidth rows
 AsksBy name rows (EmulateIn address links condition) = (name ≡ codes "emulate")
     × IsSomeAnd (first_of (codes "address") rows) (λ text. IsAddress text address)
     × IsNumberOr LINKS (one_of (codes "links") rows) links
     × IsSomeAnd (first_of (codes "condition") rows) (λ text. text ≡ condition_text condition)
     × (¬ HasFlag (codes "follow") rows)
+    × HasNoWidth rows
+AsksBy name rows (EmulateAt address links condition width) = (name ≡ codes "emulate")
+    × IsSomeAnd (first_of (codes "address") rows) (λ text. IsAddress text address)
+    × IsNumberOr LINKS (one_of (codes "links") rows) links
+    × IsConditionOr (first_of (codes "condition") rows) condition
+    × (¬ HasFlag (codes "follow") rows)
+    × HasWidth rows width
 AsksBy name rows (Follow address condition) = (name ≡ codes "emulate")
     × IsSomeAnd (first_of (codes "address") rows) (λ text. IsAddress text address)
     × (one_of (codes "links") rows ≡ None)
     × IsConditionOr (first_of (codes "condition") rows) condition
     × HasFlag (codes "follow") rows
+    × HasNoWidth rows
+AsksBy name rows (FollowAt address condition width) = (name ≡ codes "emulate")
+    × IsSomeAnd (first_of (codes "address") rows) (λ text. IsAddress text address)
+    × (one_of (codes "links") rows ≡ None)
+    × IsConditionOr (first_of (codes "condition") rows) condition
+    × HasFlag (codes "follow") rows
+    × HasWidth rows width
 AsksBy name rows (Send address first openings) = (name ≡ codes "send")
     × IsSomeAnd (first_of (codes "address") rows) (λ text. IsAddress text address)
     × IsSomeAnd (one_of (codes "first") rows) (λ text. IsNumber text first)
     × IsNumberOr OPENINGS (one_of (codes "openings") rows) openings
     × (one_of (codes "wait") rows ≡ None)
+    × HasNoOptions rows
 AsksBy name rows (SendWithin address first openings wait) = (name ≡ codes "send")
     × IsSomeAnd (first_of (codes "address") rows) (λ text. IsAddress text address)
     × IsSomeAnd (one_of (codes "first") rows) (λ text. IsNumber text first)
     × IsNumberOr OPENINGS (one_of (codes "openings") rows) openings
     × IsSomeAnd (one_of (codes "wait") rows) (λ text. IsNumber text wait)
+    × HasNoOptions rows
+AsksBy name rows (SendWith address first openings wait options) = (name ≡ codes "send")
+    × IsSomeAnd (first_of (codes "address") rows) (λ text. IsAddress text address)
+    × IsSomeAnd (one_of (codes "first") rows) (λ text. IsNumber text first)
+    × IsNumberOr OPENINGS (one_of (codes "openings") rows) openings
+    × IsNumberIn (one_of (codes "wait") rows) wait
+    × HasOptions rows options
 AsksBy name rows (Status address wait) = (name ≡ codes "status")
     × IsSomeAnd (first_of (codes "address") rows) (λ text. IsAddress text address)
     × IsNumberIn (one_of (codes "wait") rows) wait
 AsksBy name rows Loop = name ≡ codes "loop"
+AsksBy name rows (LoopAt width) = (name ≡ codes "loop") × HasWidth rows width
 
 -- what `clap` finds in the arguments, a name and the values after it, asks for the task
 abbrev pub Asks : Option (Text × List Row) → Task → Type 0
@@ -126,12 +227,31 @@ Asks found task = IsSomeAnd found (λ p. AsksBy p.0 p.1 task)
 abbrev pub IsWait : ℕ → Type 0
 IsWait n = (1 ≤ n) × (n ≤ MOST_WAIT)
 
+-- a gray value that dots may be compared with
+abbrev pub IsThreshold : ℕ → Type 0
+IsThreshold n = (1 ≤ n) × (n ≤ MOST_THRESHOLD)
+
+-- the width of the options is one of a line, and the replacement, if there is one, a printed character of ASCII
+abbrev pub IsOptions : ReceiptOptions → Type 0
+IsOptions options = IsTrue (is_line_width options.width) × IfSome options.replacement (λ c. IsTrue (is_replacement c))
+
 -- the numbers of the task are in range
 abbrev pub InRange : Task → Type 0
 InRange (Emulate address links) = (1 ≤ links) × (links ≤ MOST_LINKS)
 InRange (EmulateIn address links condition) = (1 ≤ links) × (links ≤ MOST_LINKS)
+InRange (EmulateAt address links condition width) = (1 ≤ links) × (links ≤ MOST_LINKS) × IsTrue (is_line_width width)
+InRange (FollowAt address condition width) = IsTrue (is_line_width width)
+InRange (RenderAt width) = IsTrue (is_line_width width)
+InRange (RenderRawAt width) = IsTrue (is_line_width width)
+InRange (RenderText raw width) = IsTrue (is_line_width width)
+InRange (EncodeWith raw options) = IsOptions options
+InRange (Image width threshold) = IsTrue (is_line_width width) × IfSome threshold IsThreshold
+InRange (DrawAt width) = IsTrue (is_line_width width)
+InRange (DrawRawAt width) = IsTrue (is_line_width width)
+InRange (LoopAt width) = IsTrue (is_line_width width)
 InRange (Send address first openings) = (first < mark_count) × (1 ≤ openings) × (openings ≤ MOST_OPENINGS)
 InRange (SendWithin address first openings wait) = (first < mark_count) × (1 ≤ openings) × (openings ≤ MOST_OPENINGS) × IsWait wait
+InRange (SendWith address first openings wait options) = (first < mark_count) × (1 ≤ openings) × (openings ≤ MOST_OPENINGS) × IfSome wait IsWait × IsOptions options
 InRange (Status address wait) = IfSome wait IsWait
 InRange _ = ⊤
 
@@ -161,19 +281,47 @@ option_rule name required = record (new_rule name) { long = Some name; required 
 abbrev pub flag_rule : Text → Rule
 flag_rule name = record (new_rule name) { long = Some name; action = Some SetTrue }
 
--- what may follow `check`, `render`, `draw` and `encode`
+-- what may follow `check`
 abbrev pub raw_words : Text → Shape
 raw_words name = (with_rule (new_app name) (flag_rule (codes "raw"))).top
 
+-- the width of a line
+abbrev pub width_rule : Rule
+width_rule = option_rule (codes "width") false
+
+-- what is printed in place of a character that isn't to be had
+abbrev pub replace_rule : Rule
+replace_rule = option_rule (codes "replace") false
+
+-- what may follow `encode`
+abbrev pub encode_words : Shape
+encode_words = (with_rule (with_rule (with_rule (new_app (codes "encode")) (flag_rule (codes "raw"))) width_rule) replace_rule).top
+
+-- what may follow `render`
+abbrev pub render_words : Shape
+render_words = (with_rule (with_rule (with_rule (new_app (codes "render")) (flag_rule (codes "raw"))) width_rule) (flag_rule (codes "text"))).top
+
+-- what may follow `image`
+abbrev pub image_words : Shape
+image_words = (with_rule (with_rule (new_app (codes "image")) width_rule) (option_rule (codes "threshold") false)).top
+
+-- what may follow `draw`
+abbrev pub paper_words : Text → Shape
+paper_words name = (with_rule (with_rule (new_app name) (flag_rule (codes "raw"))) width_rule).top
+
+-- what may follow `loop`
+abbrev pub loop_words : Shape
+loop_words = (with_rule (new_app (codes "loop")) width_rule).top
+
 -- what may follow `emulate`
 abbrev pub emulate_words : Shape
-emulate_words = (with_rule (with_rule (with_rule (with_rule (new_app (codes "emulate")) address_rule) (option_rule (codes "links") false))
-    (flag_rule (codes "follow"))) (option_rule (codes "condition") false)).top
+emulate_words = (with_rule (with_rule (with_rule (with_rule (with_rule (new_app (codes "emulate")) address_rule) (option_rule (codes "links") false))
+    (flag_rule (codes "follow"))) (option_rule (codes "condition") false)) width_rule).top
 
 -- what may follow `send`
 abbrev pub send_words : Shape
-send_words = (with_rule (with_rule (with_rule (with_rule (new_app (codes "send")) address_rule) (option_rule (codes "first") true))
-    (option_rule (codes "openings") false)) (option_rule (codes "wait") false)).top
+send_words = (with_rule (with_rule (with_rule (with_rule (with_rule (with_rule (new_app (codes "send")) address_rule) (option_rule (codes "first") true))
+    (option_rule (codes "openings") false)) (option_rule (codes "wait") false)) width_rule) replace_rule).top
 
 -- what may follow `status`
 abbrev pub status_words : Shape
@@ -187,10 +335,10 @@ stream_words =
       disable_help_subcommand = true;
       subcommand_required = true;
     }) (new_app (codes "escpos_cli")) in
-    with_subcommand (with_subcommand (with_subcommand (with_subcommand (with_subcommand top
-    (raw_words (codes "check"))) (raw_words (codes "render"))) (raw_words (codes "draw"))) (raw_words (codes "encode"))) (new_shape (codes "play"))
+    with_subcommand (with_subcommand (with_subcommand (with_subcommand (with_subcommand (with_subcommand top
+    (raw_words (codes "check"))) render_words) (paper_words (codes "draw"))) encode_words) image_words) (new_shape (codes "play"))
 
 -- the name of a task with its values, or `help`, and nothing more
 abbrev pub command_words : App
 command_words = with_subcommand (with_subcommand (with_subcommand (with_subcommand (with_subcommand stream_words
-    emulate_words) send_words) status_words) (new_shape (codes "loop"))) (new_shape (codes "help"))
+    emulate_words) send_words) status_words) loop_words) (new_shape (codes "help"))

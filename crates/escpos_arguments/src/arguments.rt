@@ -6,14 +6,17 @@ ghost use Rattle.clap.specs.Words.{HasKind, IsAmong, app_of, fault_of, first_of,
 ghost use Rattle.escpos_command.specs.Digits.{mark_count};
 ghost use Rattle.escpos_printer.specs.declared.condition.Condition.{Condition};
 ghost use Rattle.escpos_jobs.specs.declared.task.Task.{Task};
-ghost use Rattle.escpos_jobs.specs.declared.task.Task.TheVariants.{Follow};
 ghost use Rattle.escpos_jobs.specs.Conditions.{condition_text, online};
-ghost use Rattle.escpos_arguments.specs.Arguments.{Asks, AsksBy, HasFlag, HasRaw, InRange, IsAddress, IsConditionOr, IsNumberOr, IsPlain, IsWait, address_rule, command_words, emulate_words, flag_rule, help_words, name_of, option_rule, raw_words, send_words, status_words, stream_words, words_of};
+ghost use Rattle.escpos_arguments.specs.Arguments.{Asks, AsksBy, HasFlag, InRange, IsAddress, IsConditionOr, IsNumberOr, IsBare, IsPlain, IsWait, address_rule, command_words, emulate_words, encode_words, flag_rule, help_words, image_words, loop_words, name_of, option_rule, paper_words, raw_words, render_words, send_words, status_words, stream_words, words_of};
+ghost use Rattle.escpos_arguments.specs.EmulateTasks.{follow_task, links_task};
 ghost use Rattle.escpos_arguments.specs.ClapAnswers.{IsNumber, IsNumberIn, no_task_of};
 
+use crate::image::image_asked;
+use crate::options::{encode_asked, options_given};
+use crate::width::{draw_asked, loop_asked, render_asked, width_given};
 use clap::error::ErrorKind;
 use clap::{Arg, ArgAction, ArgMatches, Command};
-use escpos_command::MarkId;
+use escpos_command::{LineWidth, MarkId};
 use escpos_jobs::emulate::ONLINE;
 use escpos_jobs::script::condition_of;
 use escpos_jobs::task::{NoTask, Task};
@@ -111,7 +114,7 @@ fn task_asked(alloc: Global, name: &str, given: &ArgMatches, count: usize) -> Re
     ensures asks { IfOk result (AsksBy name.now (rows_of (found_of given.now))) }
     ensures ranges { IfOk result InRange }
     ensures alone { IfOk result (λ task. IsPlain task → count ≡ 1) }
-    ensures named { (task : Task) → IsPlain task → name.now ≡ name_of task → count ≡ 1 → ¬ HasRaw (rows_of (found_of given.now)) → result ≡ Ok task }
+    ensures named { (task : Task) → IsPlain task → name.now ≡ name_of task → count ≡ 1 → IsBare (rows_of (found_of given.now)) → result ≡ Ok task }
     ensures taken { (task : Task) → ¬ IsPlain task → AsksBy name.now (rows_of (found_of given.now)) task → InRange task
         → (result ≡ Ok task) ⊎ (result ≡ Err NoTask.Memory) }
     ensures help { name.now ≡ codes "help" → count ≡ 1 → result ≡ Err NoTask.Help }
@@ -120,24 +123,22 @@ fn task_asked(alloc: Global, name: &str, given: &ArgMatches, count: usize) -> Re
     match name {
         "check" if has_flag(given, "raw") => Ok(Task::CheckRaw),
         "check" if count == 1 => Ok(Task::Check),
-        "render" if has_flag(given, "raw") => Ok(Task::RenderRaw),
-        "render" if count == 1 => Ok(Task::Render),
-        "draw" if has_flag(given, "raw") => Ok(Task::DrawRaw),
-        "draw" if count == 1 => Ok(Task::Draw),
-        "encode" if has_flag(given, "raw") => Ok(Task::EncodeRaw),
-        "encode" if count == 1 => Ok(Task::Encode),
+        "render" => render_asked(given, count),
+        "draw" => draw_asked(given, count),
+        "encode" => encode_asked(given, count),
+        "image" => image_asked(given),
         "play" if count == 1 => Ok(Task::Play),
         "emulate" => emulate_asked(alloc, given),
         "send" => send_asked(alloc, given),
         "status" => status_asked(alloc, given),
-        "loop" if count == 1 => Ok(Task::Loop),
+        "loop" => loop_asked(given, count),
         "help" if count == 1 => Err(NoTask::Help),
         _ => Err(NoTask::Usage),
     }
 }
 
 // Whether the flag of this name is given.
-fn has_flag(given: &ArgMatches, name: &str) -> bool
+pub(crate) fn has_flag(given: &ArgMatches, name: &str) -> bool
     ensures { IsTrue result ↔ HasFlag name.now (rows_of (found_of given.now)) }
 {
     match given.get_str(name) {
@@ -157,17 +158,36 @@ fn emulate_asked(alloc: Global, given: &ArgMatches) -> Result<Task, NoTask>
 {
     let address = address_of(alloc, given)?;
     let condition = condition_given(given)?;
+    let width = width_given(given)?;
     if has_flag(given, "follow") {
-        return follow_asked(given, address, condition);
+        return follow_asked(given, address, condition, width);
     }
     let links = count_of(given, "links", LINKS, MOST_LINKS)?;
-    match condition {
-        Some(condition) => Ok(Task::EmulateIn {
+    Ok(links_asked(address, links, condition, width))
+}
+
+// The task of `emulate` for this many links.
+fn links_asked(
+    address: SocketAddrV4,
+    links: u32,
+    condition: Option<Condition>,
+    width: Option<LineWidth>,
+) -> Task
+    ensures { result ≡ links_task address links condition width }
+{
+    match (width, condition) {
+        (Some(width), condition) => Task::EmulateAt {
+            address,
+            links,
+            condition: condition.unwrap_or(ONLINE),
+            width,
+        },
+        (None, Some(condition)) => Task::EmulateIn {
             address,
             links,
             condition,
-        }),
-        None => Ok(Task::Emulate { address, links }),
+        },
+        (None, None) => Task::Emulate { address, links },
     }
 }
 
@@ -176,17 +196,21 @@ fn follow_asked(
     given: &ArgMatches,
     address: SocketAddrV4,
     condition: Option<Condition>,
+    width: Option<LineWidth>,
 ) -> Result<Task, NoTask>
-    ensures follows { IfOk result (λ task. (task ≡ Follow address (unwrap_or condition online)) × (one_of (codes "links") (rows_of (found_of given.now)) ≡ None)) }
-    ensures taken { one_of (codes "links") (rows_of (found_of given.now)) ≡ None → result ≡ Ok (Follow address (unwrap_or condition online)) }
+    ensures follows { IfOk result (λ task. (task ≡ follow_task address (unwrap_or condition online) width) × (one_of (codes "links") (rows_of (found_of given.now)) ≡ None)) }
+    ensures taken { one_of (codes "links") (rows_of (found_of given.now)) ≡ None → result ≡ Ok (follow_task address (unwrap_or condition online) width) }
     ensures usage { IfErr result (λ why. why ≡ NoTask.Usage) }
 {
-    match number_given(given, "links")? {
-        Some(_) => Err(NoTask::Usage),
-        None => Ok(Task::Follow {
+    let condition = condition.unwrap_or(ONLINE);
+    match (number_given(given, "links")?, width) {
+        (Some(_), _) => Err(NoTask::Usage),
+        (None, Some(width)) => Ok(Task::FollowAt {
             address,
-            condition: condition.unwrap_or(ONLINE),
+            condition,
+            width,
         }),
+        (None, None) => Ok(Task::Follow { address, condition }),
     }
 }
 
@@ -221,14 +245,22 @@ fn send_asked(alloc: Global, given: &ArgMatches) -> Result<Task, NoTask>
     let address = address_of(alloc, given)?;
     let first = first_mark_of(given)?;
     let openings = count_of(given, "openings", OPENINGS, MOST_OPENINGS)?;
-    match wait_given(given)? {
-        Some(wait) => Ok(Task::SendWithin {
+    let wait = wait_given(given)?;
+    match (options_given(given)?, wait) {
+        (Some(options), wait) => Ok(Task::SendWith {
+            address,
+            first,
+            openings,
+            wait,
+            options,
+        }),
+        (None, Some(wait)) => Ok(Task::SendWithin {
             address,
             first,
             openings,
             wait,
         }),
-        None => Ok(Task::Send {
+        (None, None) => Ok(Task::Send {
             address,
             first,
             openings,
@@ -363,10 +395,11 @@ fn command_of_all<'a>(alloc: Global) -> Result<Command<'a>, AllocError>
     let links = streams.subcommand(emulate)?;
     let send = send_command(alloc)?;
     let status = status_command(alloc)?;
+    let round = loop_command(alloc)?;
     let command = links
         .subcommand(send)?
         .subcommand(status)?
-        .subcommand(Command::new(alloc, "loop"))?
+        .subcommand(round)?
         .subcommand(Command::new(alloc, "help"))?;
     Ok(command)
 }
@@ -376,9 +409,10 @@ fn command_of_streams<'a>(alloc: Global) -> Result<Command<'a>, AllocError>
     ensures shape { IfOk result (λ command. app_of command ≡ stream_words) }
 {
     let check = raw_command(alloc, "check")?;
-    let render = raw_command(alloc, "render")?;
-    let draw = raw_command(alloc, "draw")?;
-    let encode = raw_command(alloc, "encode")?;
+    let render = render_command(alloc)?;
+    let draw = paper_command(alloc, "draw")?;
+    let encode = encode_command(alloc)?;
+    let image = image_command(alloc)?;
     let command = Command::new(alloc, "escpos_cli")
         .no_binary_name(true)
         .disable_help_subcommand(true)
@@ -387,6 +421,7 @@ fn command_of_streams<'a>(alloc: Global) -> Result<Command<'a>, AllocError>
         .subcommand(render)?
         .subcommand(draw)?
         .subcommand(encode)?
+        .subcommand(image)?
         .subcommand(Command::new(alloc, "play"))?;
     Ok(command)
 }
@@ -399,6 +434,56 @@ fn raw_command<'a>(alloc: Global, name: &'a str) -> Result<Command<'a>, AllocErr
     Ok(command)
 }
 
+// The subcommand `encode` with its arguments.
+fn encode_command<'a>(alloc: Global) -> Result<Command<'a>, AllocError>
+    ensures shape { IfOk result (λ command. (app_of command).top ≡ encode_words) }
+{
+    let command = Command::new(alloc, "encode")
+        .arg(flag(alloc, "raw"))?
+        .arg(option(alloc, "width", false))?
+        .arg(option(alloc, "replace", false))?;
+    Ok(command)
+}
+
+// The subcommand `image` with its arguments.
+fn image_command<'a>(alloc: Global) -> Result<Command<'a>, AllocError>
+    ensures shape { IfOk result (λ command. (app_of command).top ≡ image_words) }
+{
+    let command = Command::new(alloc, "image")
+        .arg(option(alloc, "width", false))?
+        .arg(option(alloc, "threshold", false))?;
+    Ok(command)
+}
+
+// The subcommand `render` with its arguments.
+fn render_command<'a>(alloc: Global) -> Result<Command<'a>, AllocError>
+    ensures shape { IfOk result (λ command. (app_of command).top ≡ render_words) }
+{
+    let command = Command::new(alloc, "render")
+        .arg(flag(alloc, "raw"))?
+        .arg(option(alloc, "width", false))?
+        .arg(flag(alloc, "text"))?;
+    Ok(command)
+}
+
+// A subcommand that may be followed by `--raw` and `--width`.
+fn paper_command<'a>(alloc: Global, name: &'a str) -> Result<Command<'a>, AllocError>
+    ensures shape { IfOk result (λ command. (app_of command).top ≡ paper_words name.entry.now) }
+{
+    let command = Command::new(alloc, name)
+        .arg(flag(alloc, "raw"))?
+        .arg(option(alloc, "width", false))?;
+    Ok(command)
+}
+
+// The subcommand `loop` with its arguments.
+fn loop_command<'a>(alloc: Global) -> Result<Command<'a>, AllocError>
+    ensures shape { IfOk result (λ command. (app_of command).top ≡ loop_words) }
+{
+    let command = Command::new(alloc, "loop").arg(option(alloc, "width", false))?;
+    Ok(command)
+}
+
 // The subcommand `emulate` with its arguments.
 fn emulate_command<'a>(alloc: Global) -> Result<Command<'a>, AllocError>
     ensures shape { IfOk result (λ command. (app_of command).top ≡ emulate_words) }
@@ -407,7 +492,8 @@ fn emulate_command<'a>(alloc: Global) -> Result<Command<'a>, AllocError>
         .arg(address(alloc))?
         .arg(option(alloc, "links", false))?
         .arg(flag(alloc, "follow"))?
-        .arg(option(alloc, "condition", false))?;
+        .arg(option(alloc, "condition", false))?
+        .arg(option(alloc, "width", false))?;
     Ok(command)
 }
 
@@ -419,7 +505,9 @@ fn send_command<'a>(alloc: Global) -> Result<Command<'a>, AllocError>
         .arg(address(alloc))?
         .arg(option(alloc, "first", true))?
         .arg(option(alloc, "openings", false))?
-        .arg(option(alloc, "wait", false))?;
+        .arg(option(alloc, "wait", false))?
+        .arg(option(alloc, "width", false))?
+        .arg(option(alloc, "replace", false))?;
     Ok(command)
 }
 

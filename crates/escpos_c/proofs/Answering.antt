@@ -118,3 +118,10 @@ module _ (is_text is_short : List ℕ → List ℕ → Type 0) (bytes text : Lis
         = subst (λ o. IfSome o (λ read. RunsRawAs (ReportsAs is_text is_short) (job_end empty (Some text) failed status) read)) is_source ran in
         let into : Ran status = subst (λ o. RunsRawAs (ReportsAs is_text is_short) (job_end o (Some text) failed status) bytes) is_empty over in
         subst (λ n. AnswersText is_text bytes n before after written) (sym (number_kept answer z is_number)) (answers_text status answer into (subst (λ t. AnsweredWith status t answer before after written) is_shown given))
+
+-- An answer for a width is the answer for what the width is.
+pub at_width : (is_text : ℕ → List ℕ → List ℕ → Type 0) (width usual : ℕ) → width ≡ usual
+    → (bytes : List ℕ) (status : ℤ) (before after : List ℕ) (written : ℕ)
+    → AnswersText (is_text width) bytes status before after written → AnswersText (is_text usual) bytes status before after written
+at_width is_text width usual is bytes status before after written answers =
+    subst (λ w. AnswersText (is_text w) bytes status before after written) is answers

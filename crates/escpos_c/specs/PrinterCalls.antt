@@ -1,6 +1,7 @@
 -- What the calls of a printer answer. Each does what the call of escpos_printer does that it stands for.
 use Rattle.std.specs.Prelude.{ℕ, ℤ, pos, ◌≡◌, ◌⊎◌, ◌<◌, ◌≤◌, List, [], ◌∷◌, length, Option, Some, None}
 use Rattle.escpos_command.specs.declared.answer.Answer.{Answer}
+use Rattle.escpos_command.specs.declared.line_width.TheConstants.{USUAL_LINE_DOTS}
 use Rattle.escpos_command.specs.Answers.{answer_bytes}
 use Rattle.escpos_paper.specs.ItemsText.{items_text}
 use Rattle.escpos_paper.specs.Page.{SheetIs}
@@ -17,9 +18,9 @@ use Rattle.escpos_c.specs.PrinterNumbers.{stop_kind, stop_place, stop_reason}
 abbrev pub condition_of : Sensors → Condition
 condition_of sensors = record { cover_open = sensors.cover_open; near_end = sensors.near_end; paper_end = sensors.paper_end }
 
--- The printer has just been switched on in this condition.
+-- The printer has just been switched on in this condition. Its lines have the usual width.
 pub record IsNewPrinter (printer : PrinterView) (condition : Condition) : Type 0 where
-  pub sheet : SheetIs printer.sheet [] []
+  pub sheet : SheetIs USUAL_LINE_DOTS printer.sheet [] []
   pub half : printer.half ≡ []
   pub waiting : printer.waiting ≡ []
   pub condition_is : printer.condition ≡ condition

@@ -10,7 +10,7 @@ use crate::no_receipt::{NoReceipt, no_receipt};
 use crate::refusal::Refusal;
 use crate::spelling::spelled;
 use escpos_jobs::input::INPUT_LIMIT;
-use escpos_receipt::ReceiptText;
+use escpos_receipt::{ReceiptOptions, ReceiptText};
 use std::alloc::Global;
 
 /// Encodes a receipt in JSON as the bytes of its commands, as `encode --raw` does.
@@ -53,7 +53,7 @@ fn encoding(alloc: Global, json: &[u8]) -> Result<Vec<u8>, NoReceipt>
         return Err(NoReceipt::Refused(Refusal::too_long()));
     }
     match ReceiptText::new(alloc, json) {
-        Ok(text) => match text.entries(alloc) {
+        Ok(text) => match text.entries(alloc, &ReceiptOptions::usual()) {
             Ok(entries) => match spelled(alloc, &entries) {
                 Ok(bytes) => Ok(bytes),
                 Err(_) => Err(NoReceipt::Memory),

@@ -8,6 +8,7 @@ ghost use Rattle.escpos_c.specs.PrinterNumbers.{stop_kind, stop_place, stop_reas
 use crate::buffer::give;
 use crate::call_status::CallStatus;
 use crate::refusal::{NO_PLACE, NO_REASON};
+use escpos_command::LineWidth;
 use escpos_io::Outgoing;
 use escpos_paper::write_items;
 use escpos_printer::{Condition, FeedStop, Printer};
@@ -38,7 +39,7 @@ impl PrinterCore {
     pub fn boxed(alloc: Global, condition: Condition) -> Option<Box<PrinterCore>>
         ensures { IfSome result (λ core. IsNewPrinter core.value.printer condition) }
     {
-        let printer = match Printer::new(alloc, condition) {
+        let printer = match Printer::new(alloc, condition, LineWidth::usual()) {
             Ok(printer) => printer,
             Err(_) => return None,
         };

@@ -1,18 +1,20 @@
-//! Calls that keep nothing: a stream as a listing, as its paper, as a picture.
+//! Calls that keep nothing: a stream as a listing, as its paper in two texts, as a picture.
 
+ghost use Rattle.escpos_command.specs.declared.line_width.TheConstants.{USUAL_LINE_DOTS};
 ghost use Rattle.escpos_jobs.specs.Report.{IsText};
 ghost use Rattle.escpos_jobs.specs.Check.{listing_shape};
-ghost use Rattle.escpos_jobs.specs.Render.{paper_shape};
+ghost use Rattle.escpos_jobs.specs.Render.{paper_shape, plain_shape};
 ghost use Rattle.escpos_jobs.specs.Draw.{IsPicture};
 ghost use Rattle.escpos_c.specs.Answered.{AnsweredWith};
 ghost use Rattle.escpos_c.specs.TextCalls.{AnswersText};
 
 use crate::buffer::give;
 use crate::call_status::CallStatus;
+use escpos_command::LineWidth;
 use escpos_io::{MemoryIn, Outgoing};
 use escpos_jobs::check::check_raw;
 use escpos_jobs::draw::draw_raw;
-use escpos_jobs::render::render_raw;
+use escpos_jobs::render::{render_raw, render_text_raw};
 use escpos_jobs::status::Status;
 use std::alloc::Global;
 
@@ -40,11 +42,27 @@ pub extern "C" fn escpos_paper(
     out: &mut [u8],
     written: &mut usize,
 ) -> i32
-    ensures { AnswersText (IsText paper_shape) bytes.now result out.old out.new written.new }
+    ensures { AnswersText (IsText (paper_shape USUAL_LINE_DOTS)) bytes.now result out.old out.new written.new }
 {
     let mut input = MemoryIn::new(bytes, usize::MAX);
     let mut text = Outgoing::new(Vec::new(alloc));
-    let status = render_raw(alloc, &mut input, &mut text);
+    let status = render_raw(alloc, LineWidth::usual(), &mut input, &mut text);
+    answer(status, &text.into_inner(), out, written).number()
+}
+
+/// Prints what a stream prints as plain text, as `render --raw --text` does.
+#[unsafe(no_mangle)]
+pub extern "C" fn escpos_paper_text(
+    alloc: Global,
+    bytes: &[u8],
+    out: &mut [u8],
+    written: &mut usize,
+) -> i32
+    ensures { AnswersText (IsText (plain_shape USUAL_LINE_DOTS)) bytes.now result out.old out.new written.new }
+{
+    let mut input = MemoryIn::new(bytes, usize::MAX);
+    let mut text = Outgoing::new(Vec::new(alloc));
+    let status = render_text_raw(alloc, LineWidth::usual(), &mut input, &mut text);
     answer(status, &text.into_inner(), out, written).number()
 }
 
@@ -56,11 +74,11 @@ pub extern "C" fn escpos_picture(
     out: &mut [u8],
     written: &mut usize,
 ) -> i32
-    ensures { AnswersText IsPicture bytes.now result out.old out.new written.new }
+    ensures { AnswersText (IsPicture USUAL_LINE_DOTS) bytes.now result out.old out.new written.new }
 {
     let mut input = MemoryIn::new(bytes, usize::MAX);
     let mut text = Outgoing::new(Vec::new(alloc));
-    let status = draw_raw(alloc, &mut input, &mut text);
+    let status = draw_raw(alloc, LineWidth::usual(), &mut input, &mut text);
     answer(status, &text.into_inner(), out, written).number()
 }
 

@@ -23,31 +23,31 @@ use Rattle.escpos_jobs.proofs.Reports.{short_as}
 use Rattle.escpos_jobs.specs.DrawSteps.{IsDrawn, IsMeasured}
 
 -- What commands left after the paper that was torn off is torn off too, and passed.
-pub measured_on : ((place : Place) (front more : List Item) → place_after_all place (front ++ more) ≡ place_after_all (place_after_all place front) more)
-    → (left torn : Sheet) (here next : Place) (cs ds : List Command) → here ≡ place_after_all top (printed cs)
-    → SheetIs (below (printed cs) left) [] (cs ++ ds) → torn ≡ bare left → next ≡ place_after_all here left.items → IsMeasured torn next (cs ++ ds)
-measured_on turns left torn here next cs ds here_is is off passed =
-    let all : printed cs ++ left.items ≡ printed (cs ++ ds) = ap (λ (s : Sheet). s.items) is in
-    let stays : below (printed cs ++ left.items) (bare left) ≡ below (printed cs) left = let e = append-nil (printed cs ++ left.items) in cc e in
+pub measured_on : (width : ℕ) → ((place : Place) (front more : List Item) → place_after_all place (front ++ more) ≡ place_after_all (place_after_all place front) more)
+    → (left torn : Sheet) (here next : Place) (cs ds : List Command) → here ≡ place_after_all (top width) (printed width cs)
+    → SheetIs width (below (printed width cs) left) [] (cs ++ ds) → torn ≡ bare left → next ≡ place_after_all here left.items → IsMeasured width torn next (cs ++ ds)
+measured_on width turns left torn here next cs ds here_is is off passed =
+    let all : printed width cs ++ left.items ≡ printed width (cs ++ ds) = ap (λ (s : Sheet). s.items) is in
+    let stays : below (printed width cs ++ left.items) (bare left) ≡ below (printed width cs) left = let e = append-nil (printed width cs ++ left.items) in cc e in
     record {
       torn = ap (λ (s : Sheet). s.items) off;
-      sheet_is = subst (λ v. SheetIs (below v torn) [] (cs ++ ds)) all (ap (below (printed cs ++ left.items)) off ∙ stays ∙ is);
-      place_is = passed ∙ ap (λ p. place_after_all p left.items) here_is ∙ sym (turns top (printed cs) left.items) ∙ ap (place_after_all top) all;
+      sheet_is = subst (λ v. SheetIs width (below v torn) [] (cs ++ ds)) all (ap (below (printed width cs ++ left.items)) off ∙ stays ∙ is);
+      place_is = passed ∙ ap (λ p. place_after_all p left.items) here_is ∙ sym (turns (top width) (printed width cs) left.items) ∙ ap (place_after_all (top width)) all;
     }
 
 -- The same, and drawn.
-pub drawn_on : ((place : Place) (front more : List Item) → place_after_all place (front ++ more) ≡ place_after_all (place_after_all place front) more)
+pub drawn_on : (width : ℕ) → ((place : Place) (front more : List Item) → place_after_all place (front ++ more) ≡ place_after_all (place_after_all place front) more)
     → ((place : Place) (front more : List Item) → drawings place (front ++ more) ≡ drawings place front ++ drawings (place_after_all place front) more)
     → (start : List ℕ) (first sink : Option (List ℕ)) (gather : Gathered) (left torn : Sheet) (here next : Place) (cs ds : List Command)
-    → here ≡ place_after_all top (printed cs) → SheetIs (below (printed cs) left) [] (cs ++ ds) → torn ≡ bare left → next ≡ place_after_all here left.items
-    → Carries first sink gather (start ++ drawings top (printed cs) ++ drawings here left.items) → IsDrawn start first sink gather torn next (cs ++ ds)
-drawn_on places turns start first sink gather left torn here next cs ds here_is is off passed carried =
-    let all : printed cs ++ left.items ≡ printed (cs ++ ds) = ap (λ (s : Sheet). s.items) is in
-    let text : start ++ drawings top (printed cs) ++ drawings here left.items ≡ start ++ drawings top (printed (cs ++ ds)) =
-    append_assoc start (drawings top (printed cs)) (drawings here left.items)
-    ∙ ap (λ t. start ++ t) (ap (λ p. drawings top (printed cs) ++ drawings p left.items) here_is ∙ sym (turns top (printed cs) left.items) ∙ ap (drawings top) all) in
+    → here ≡ place_after_all (top width) (printed width cs) → SheetIs width (below (printed width cs) left) [] (cs ++ ds) → torn ≡ bare left → next ≡ place_after_all here left.items
+    → Carries first sink gather (start ++ drawings (top width) (printed width cs) ++ drawings here left.items) → IsDrawn width start first sink gather torn next (cs ++ ds)
+drawn_on width places turns start first sink gather left torn here next cs ds here_is is off passed carried =
+    let all : printed width cs ++ left.items ≡ printed width (cs ++ ds) = ap (λ (s : Sheet). s.items) is in
+    let text : start ++ drawings (top width) (printed width cs) ++ drawings here left.items ≡ start ++ drawings (top width) (printed width (cs ++ ds)) =
+    append_assoc start (drawings (top width) (printed width cs)) (drawings here left.items)
+    ∙ ap (λ t. start ++ t) (ap (λ p. drawings (top width) (printed width cs) ++ drawings p left.items) here_is ∙ sym (turns (top width) (printed width cs) left.items) ∙ ap (drawings (top width)) all) in
     record {
-      measured = measured_on places left torn here next cs ds here_is is off passed;
+      measured = measured_on width places left torn here next cs ds here_is is off passed;
       carried = subst (Carries first sink gather) text carried;
     }
 
@@ -72,8 +72,8 @@ foot_without down [] e = refl
 foot_without down (x ∷ xs) e = cc
 
 -- A page on which nothing is printed.
-pub measured_at_first : (sheet : Sheet) (place : Place) → SheetIs sheet [] [] → place ≡ top → IsMeasured sheet place []
-measured_at_first sheet place is at = record { torn = ap (λ (s : Sheet). s.items) is; sheet_is = ap (below []) is; place_is = at }
+pub measured_at_first : (width : ℕ) (sheet : Sheet) (place : Place) → SheetIs width sheet [] [] → place ≡ top width → IsMeasured width sheet place []
+measured_at_first width sheet place is at = record { torn = ap (λ (s : Sheet). s.items) is; sheet_is = ap (below []) is; place_is = at }
 
 -- ## The outcome of a byte list
 
@@ -89,27 +89,27 @@ one_outcome bytes cs ds last line (inr a) (inr b) =
     (same.0, a.4 ∙ ap (λ n. fault_line n a.2) same.2 ∙ ap (λ w. fault_line b.1 w) same.3 ∙ sym b.4)
 
 -- The head of the first reading, the items and the foot of the second are one picture.
-pub picture_is : (bytes : List ℕ) (measured down : ℕ) (has_last : Bool) (all cs : List Command) (last line : List ℕ)
-    → IsOutcome bytes all last → measured ≡ (place_after_all top (printed all)).down → has_last ≡ not (is_empty last)
+pub picture_is : (width : ℕ) (bytes : List ℕ) (measured down : ℕ) (has_last : Bool) (all cs : List Command) (last line : List ℕ)
+    → IsOutcome bytes all last → measured ≡ (place_after_all (top width) (printed width all)).down → has_last ≡ not (is_empty last)
     → IsOutcome bytes cs line → down ≡ measured
-    → IsPicture bytes (head measured has_last ++ drawings top (printed cs) ++ foot down line)
-picture_is bytes measured down has_last all cs last line first depth has second same =
+    → IsPicture width bytes (head width measured has_last ++ drawings (top width) (printed width cs) ++ foot down line)
+picture_is width bytes measured down has_last all cs last line first depth has second same =
     let one = one_outcome bytes all cs last line first second in
-    let deep : measured ≡ (place_after_all top (printed cs)).down = depth ∙ ap (λ ds. (place_after_all top (printed ds)).down) one.0 in (
+    let deep : measured ≡ (place_after_all (top width) (printed width cs)).down = depth ∙ ap (λ ds. (place_after_all (top width) (printed width ds)).down) one.0 in (
       cs,
       line,
       second,
-      ap (λ d. head measured has_last ++ drawings top (printed cs) ++ foot d line) (same ∙ deep)
-          ∙ ap (λ d. head d has_last ++ drawings top (printed cs) ++ foot (place_after_all top (printed cs)).down line) deep
-          ∙ ap (λ b. head (place_after_all top (printed cs)).down b ++ drawings top (printed cs) ++ foot (place_after_all top (printed cs)).down line)
+      ap (λ d. head width measured has_last ++ drawings (top width) (printed width cs) ++ foot d line) (same ∙ deep)
+          ∙ ap (λ d. head width d has_last ++ drawings (top width) (printed width cs) ++ foot (place_after_all (top width) (printed width cs)).down line) deep
+          ∙ ap (λ b. head width (place_after_all (top width) (printed width cs)).down b ++ drawings (top width) (printed width cs) ++ foot (place_after_all (top width) (printed width cs)).down line)
           (has ∙ ap (λ l. not (is_empty l)) one.1),
     )
 
 -- The head of the first reading, some items of the second, and the line that says that an allocation failed.
-pub short_is : (bytes : List ℕ) (measured : ℕ) (has_last : Bool) (all cs : List Command) (last rest : List ℕ) (k : ℕ)
-    → IsOutcome bytes all last → measured ≡ (place_after_all top (printed all)).down → has_last ≡ not (is_empty last) → Reads (take k bytes) cs rest
-    → IsShortPicture bytes (head measured has_last ++ drawings top (printed cs) ++ memory_line)
-short_is bytes measured has_last all cs last rest k first depth has read =
+pub short_is : (width : ℕ) (bytes : List ℕ) (measured : ℕ) (has_last : Bool) (all cs : List Command) (last rest : List ℕ) (k : ℕ)
+    → IsOutcome bytes all last → measured ≡ (place_after_all (top width) (printed width all)).down → has_last ≡ not (is_empty last) → Reads (take k bytes) cs rest
+    → IsShortPicture width bytes (head width measured has_last ++ drawings (top width) (printed width cs) ++ memory_line)
+short_is width bytes measured has_last all cs last rest k first depth has read =
     inr (
       all,
       last,
@@ -118,8 +118,8 @@ short_is bytes measured has_last all cs last rest k first depth has read =
       cs,
       rest,
       read,
-      ap (λ d. head d has_last ++ drawings top (printed cs) ++ memory_line) depth
-          ∙ ap (λ b. head (place_after_all top (printed all)).down b ++ drawings top (printed cs) ++ memory_line) has,
+      ap (λ d. head width d has_last ++ drawings (top width) (printed width cs) ++ memory_line) depth
+          ∙ ap (λ b. head width (place_after_all (top width) (printed width all)).down b ++ drawings (top width) (printed width cs) ++ memory_line) has,
     )
 
 -- A status of content is no other.
@@ -138,5 +138,5 @@ pub refused_is_no_usage : Refused ≢ Usage
 refused_is_no_usage e = cc
 
 -- Only the line that says that an allocation failed is printed.
-pub draws_at_memory : (o : JobEnd) (bytes : List ℕ) → PrintsText o memory_line Memory → Draws o bytes
-draws_at_memory o bytes says = short_as IsPicture IsShortPicture o bytes memory_line (inl refl) says
+pub draws_at_memory : (width : ℕ) (o : JobEnd) (bytes : List ℕ) → PrintsText o memory_line Memory → Draws width o bytes
+draws_at_memory width o bytes says = short_as (IsPicture width) (IsShortPicture width) o bytes memory_line (inl refl) says

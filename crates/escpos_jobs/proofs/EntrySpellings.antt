@@ -1,27 +1,23 @@
 -- The spelling of an entry of a receipt, and of the first entries.
-use Rattle.std.proofs.Common.{◌≡◌, ℕ, ◌+◌, ◌<◌, List, [], ◌∷◌, ◌++◌, length, map, take, drop, refl, sym, ◌∙◌, ap, add-one, get_or, append-nil}
+use Rattle.std.proofs.Common.{◌≡◌, ℕ, ◌+◌, ◌<◌, List, [], ◌∷◌, ◌++◌, length, take, drop, sym, ◌∙◌, ap, add-one, get_or, append-nil}
 use Rattle.std.specs.List.{flat_map}
 use Rattle.std.proofs.lemmas.Grind.{flat_map-append}
 use Rattle.std.proofs.lemmas.List.{take-append-drop}
 use Rattle.std.proofs.Math.Seq.{take-suc}
 use Rattle.escpos_command.specs.CommandTable.{row, spell}
 use Rattle.escpos_command.specs.declared.bytes.TheConstants.{LF}
+use Rattle.escpos_command.specs.declared.command.Command.{Command}
 use Rattle.escpos_command.specs.declared.command.Command.TheVariants as kind
 use Rattle.escpos_receipt.specs.declared.entry.Entry.{Entry}
 use Rattle.escpos_receipt.specs.declared.entry.Entry.TheVariants as entry
 use Rattle.escpos_receipt.specs.EntryCommands.{commands_in}
 
--- Characters are their own spelling, and a line feed follows those of a line.
-chars_spelled : (bs : List ℕ) → spell (map kind.Char bs) ≡ bs
-chars_spelled [] = refl
-chars_spelled (b ∷ bs) = ap (λ t. b ∷ t) (chars_spelled bs)
+-- A line feed follows the text of a line.
+pub text_spelled : (e : Entry) (cs : List Command) → e ≡ entry.Text cs → spell (commands_in e) ≡ spell cs
+text_spelled e cs is = ap (λ (x : Entry). spell (commands_in x)) is
 
-pub text_spelled : (e : Entry) (bs : List ℕ) → e ≡ entry.Text bs → spell (commands_in e) ≡ bs
-text_spelled e bs is = ap (λ (x : Entry). spell (commands_in x)) is ∙ chars_spelled bs
-
-pub line_spelled : (e : Entry) (bs : List ℕ) → e ≡ entry.Line bs → spell (commands_in e) ≡ bs ++ LF ∷ []
-line_spelled e bs is =
-    ap (λ (x : Entry). spell (commands_in x)) is ∙ flat_map-append row (map kind.Char bs) (kind.LineFeed ∷ []) ∙ ap (λ v. v ++ LF ∷ []) (chars_spelled bs)
+pub line_spelled : (e : Entry) (cs : List Command) → e ≡ entry.Line cs → spell (commands_in e) ≡ spell cs ++ LF ∷ []
+line_spelled e cs is = ap (λ (x : Entry). spell (commands_in x)) is ∙ flat_map-append row cs (kind.LineFeed ∷ [])
 
 -- The bytes of all commands of these entries.
 abbrev pub entries_spelled : List Entry → List ℕ

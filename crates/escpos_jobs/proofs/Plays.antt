@@ -6,6 +6,8 @@ use Rattle.std.proofs.lemmas.Grind.{flat_map-append}
 use Rattle.std.specs.Prelude.{Option, is_ok, ⊤}
 use Rattle.std.specs.Io.KnownBytes.{Appends}
 use Rattle.escpos_link.specs.Line.{LineView}
+use Rattle.escpos_command.specs.declared.line_width.TheConstants.{USUAL_LINE_DOTS}
+use Rattle.escpos_paper.specs.Page.{Sheet}
 use Rattle.escpos_link.specs.Stands.{Stands}
 use Rattle.escpos_jobs.specs.declared.play.ScriptEnd.{ScriptEnd}
 use Rattle.escpos_jobs.specs.declared.play.ScriptEnd.TheVariants as end
@@ -142,9 +144,15 @@ told_of ended wanted script before after first sink same well told =
 as_said : (o : JobEnd) (text : List ℕ) (wanted other : Status) → PrintsText o text wanted → wanted ≢ other → status.Device ≢ other → o.status ≢ other
 as_said o text wanted other says differs failed is = elim says.ends [ inl e ↦ differs (sym e ∙ is) | inr e ↦ failed (sym e.0 ∙ is) ]
 
+-- What stands in lines of the width that the printer has stands in lines of 512 dots, where a new line kept its width.
+pub usual_stands : (start after : LineView) → IsNew start → after.printer.sheet.line_dots ≡ start.printer.sheet.line_dots
+    → Stands after.printer.sheet.line_dots after.host.records after.printer.sheet.items → Stands USUAL_LINE_DOTS after.host.records after.printer.sheet.items
+usual_stands start after new same stand =
+    subst (λ width. Stands width after.host.records after.printer.sheet.items) (same ∙ ap (λ (s : Sheet). s.line_dots) new.sheet) stand
+
 -- The script was played to its end, and what is left was shown.
 pub played : (o : JobEnd) (script : List ℕ) (between : Option (List ℕ)) (start after : LineView) (text : List ℕ) → IsNew start → LinesGo (Ok tt) script [] start text after
-    → Appends o.before between text → Stands after.host.records after.printer.sheet.items
+    → Appends o.before between text → Stands USUAL_LINE_DOTS after.host.records after.printer.sheet.items
     → PrintsText (job_end between o.after o.failed o.status) (closing_text after) status.Good → PlaysScript o script
 played o script between start after text new goes told stand says = record {
   good = λ good. (
@@ -169,7 +177,7 @@ played o script between start after text new goes told stand says = record {
 
 -- A line of the script can't be read, and what is left was shown.
 pub unreadable : (o : JobEnd) (script : List ℕ) (between : Option (List ℕ)) (start after : LineView) (text : List ℕ) → IsNew start
-    → LinesGo (Err end.Unreadable) script [] start text after → Appends o.before between text → Stands after.host.records after.printer.sheet.items
+    → LinesGo (Err end.Unreadable) script [] start text after → Appends o.before between text → Stands USUAL_LINE_DOTS after.host.records after.printer.sheet.items
     → PrintsText (job_end between o.after o.failed o.status) (closing_text after) status.Refused → PlaysScript o script
 unreadable o script between start after text new goes told stand says = record {
   good = λ good. absurd (as_said (job_end between o.after o.failed o.status) (closing_text after) status.Refused status.Good says (λ e. cc) (λ e. cc) good);

@@ -60,6 +60,20 @@ memory_is_no_device e = cc
 pub memory_is_no_usage : Memory ≢ Usage
 memory_is_no_usage e = cc
 
+pub fitting_is_no_device : (status : Status) (half : ℕ) → StatusFits status half → status ≢ Device
+fitting_is_no_device status half (inl e) h = let k = sym h ∙ e.0 in cc
+fitting_is_no_device status half (inr e) h = let k = sym h ∙ e.0 in cc
+
+pub fitting_is_no_usage : (status : Status) (half : ℕ) → StatusFits status half → status ≢ Usage
+fitting_is_no_usage status half (inl e) h = let k = sym h ∙ e.0 in cc
+fitting_is_no_usage status half (inr e) h = let k = sym h ∙ e.0 in cc
+
+pub refused_is_no_device : Refused ≢ Device
+refused_is_no_device e = cc
+
+pub refused_is_no_usage : Refused ≢ Usage
+refused_is_no_usage e = cc
+
 memory_never_fits : (status : Status) (half : ℕ) → StatusFits status half → status ≢ Memory
 memory_never_fits status half (inl e) h = let k = sym h ∙ e.0 in cc
 memory_never_fits status half (inr e) h = let k = sym h ∙ e.0 in cc

@@ -24,19 +24,19 @@ ServesPart p l most served before text q =
 
 -- The law of paper above, as escpos_printer states it.
 abbrev pub AboveLaw : Type 0
-AboveLaw = (gone : List Item) (p q : PrinterView) (l : LinkView) (most : ℕ) (served : Served) (kept : List Item) (cs : List Command)
-    → SheetIs p.sheet kept cs → Serves p l most served q → Serves (under gone p) l most served (under gone q)
+AboveLaw = (gone : List Item) (p q : PrinterView) (l : LinkView) (most : ℕ) (served : Served) (width : ℕ) (kept : List Item) (cs : List Command)
+    → SheetIs width p.sheet kept cs → Serves p l most served q → Serves (under gone p) l most served (under gone q)
 
 both_above : (above gone : List Item) (p : PrinterView) → under above (under gone p) ≡ under (above ++ gone) p
 both_above above gone p = let e = sym (append_assoc above gone p.sheet.items) in cc e
 
 -- A part was served, and what it printed was torn off.
-pub torn_part : AboveLaw → (p q t : PrinterView) (l : LinkView) (most : ℕ) (served : Served) (before text : List ℕ) (gone kept : List Item) (cs : List Command)
-    → SheetIs p.sheet kept cs → Serves p l most served q → text ≡ before ++ items_text gone → q ≡ under gone t → ServesPart p l most served before text t
-torn_part law p q t l most served before text gone kept cs is h e f = (
+pub torn_part : AboveLaw → (p q t : PrinterView) (l : LinkView) (most : ℕ) (served : Served) (before text : List ℕ) (gone : List Item) (width : ℕ) (kept : List Item) (cs : List Command)
+    → SheetIs width p.sheet kept cs → Serves p l most served q → text ≡ before ++ items_text gone → q ≡ under gone t → ServesPart p l most served before text t
+torn_part law p q t l most served before text gone width kept cs is h e f = (
   gone,
   e,
-  λ above. subst (λ v. Serves (under above p) l most served v) (ap (under above) f ∙ both_above above gone t) (law above p q l most served kept cs is h),
+  λ above. subst (λ v. Serves (under above p) l most served v) (ap (under above) f ∙ both_above above gone t) (law above p q l most served width kept cs is h),
 )
 
 pub first_part : (p q : PrinterView) (l : LinkView) (most : ℕ) (served : Served) (before text : List ℕ)

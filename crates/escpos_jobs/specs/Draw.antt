@@ -1,4 +1,4 @@
--- What `draw` prints: the paper as a picture, with the last line of the listing under it where not all bytes are read.
+-- What `draw` prints, in lines of a width in dots: the paper as a picture, with the last line of the listing under it where not all bytes are read.
 use Rattle.std.specs.Prelude.{ℕ, ◌≡◌, ◌⊎◌, not, List, ◌++◌, length, take}
 use Rattle.escpos_command.specs.declared.command.Command.{Command}
 use Rattle.escpos_command.specs.declared.fault.FaultReason.{FaultReason}
@@ -20,24 +20,24 @@ IsOutcome bytes cs last =
     ⊎ ((rest : List ℕ) × (place : ℕ) × (why : FaultReason) × FaultAt bytes cs rest place why × (last ≡ fault_line place why))
 
 -- The picture of a byte list. There is one, since a byte list has exactly one reading or one fault.
-abbrev pub IsPicture : List ℕ → List ℕ → Type 0
-IsPicture bytes text = (cs : List Command) × (last : List ℕ) × IsOutcome bytes cs last × (text ≡ picture_text (printed cs) last)
+abbrev pub IsPicture : ℕ → List ℕ → List ℕ → Type 0
+IsPicture width bytes text = (cs : List Command) × (last : List ℕ) × IsOutcome bytes cs last × (text ≡ picture_text width (printed width cs) last)
 
 -- What is printed where an allocation fails: only the line that says so; or the head of the picture and the items that the
 -- commands of some prefix of the bytes print, and then that line.
-abbrev pub IsShortPicture : List ℕ → List ℕ → Type 0
-IsShortPicture bytes text =
+abbrev pub IsShortPicture : ℕ → List ℕ → List ℕ → Type 0
+IsShortPicture width bytes text =
     (text ≡ memory_line)
     ⊎ ((all : List Command) × (last : List ℕ) × IsOutcome bytes all last × (k : ℕ) × (cs : List Command) × (rest : List ℕ) × Reads (take k bytes) cs rest
-    × (text ≡ head (place_after_all top (printed all)).down (not (is_empty last)) ++ drawings top (printed cs) ++ memory_line))
+    × (text ≡ head width (place_after_all (top width) (printed width all)).down (not (is_empty last)) ++ drawings (top width) (printed width cs) ++ memory_line))
 
-abbrev pub Draws : JobEnd → List ℕ → Type 0
-Draws o bytes = ReportsAs IsPicture IsShortPicture o bytes
+abbrev pub Draws : ℕ → JobEnd → List ℕ → Type 0
+Draws width o bytes = ReportsAs (IsPicture width) (IsShortPicture width) o bytes
 
 -- What `draw_raw` does with its input, a stream.
-abbrev pub DrawsRaw : JobEnd → List ℕ → Type 0
-DrawsRaw o input = RunsRawAs Draws o input
+abbrev pub DrawsRaw : ℕ → JobEnd → List ℕ → Type 0
+DrawsRaw width o input = RunsRawAs (Draws width) o input
 
 -- What `draw` does with its input, a stream in hexadecimal.
-abbrev pub DrawsInput : JobEnd → List ℕ → Type 0
-DrawsInput o input = RunsAs Draws o input
+abbrev pub DrawsInput : ℕ → JobEnd → List ℕ → Type 0
+DrawsInput width o input = RunsAs (Draws width) o input

@@ -8,13 +8,13 @@ use Rattle.escpos_paper.specs.Printed.{printed}
 use Rattle.escpos_picture.specs.Places.{Place, top, place_after_all}
 use Rattle.escpos_picture.specs.Groups.{drawings}
 
--- All that these commands print was torn off the sheet, and this is the place after it.
-pub record IsMeasured (sheet : Sheet) (place : Place) (cs : List Command) : Type 0 where
+-- All that these commands print in lines of this width was torn off the sheet, and this is the place after it.
+pub record IsMeasured (width : ℕ) (sheet : Sheet) (place : Place) (cs : List Command) : Type 0 where
   pub torn : sheet.items ≡ []
-  pub sheet_is : SheetIs (below (printed cs) sheet) [] cs
-  pub place_is : place ≡ place_after_all top (printed cs)
+  pub sheet_is : SheetIs width (below (printed width cs) sheet) [] cs
+  pub place_is : place ≡ place_after_all (top width) (printed width cs)
 
 -- It was drawn too, after some text: it is printed or kept back.
-pub record IsDrawn (start : List ℕ) (first sink : Option (List ℕ)) (gather : Gathered) (sheet : Sheet) (place : Place) (cs : List Command) : Type 0 where
-  pub measured : IsMeasured sheet place cs
-  pub carried : Carries first sink gather (start ++ drawings top (printed cs))
+pub record IsDrawn (width : ℕ) (start : List ℕ) (first sink : Option (List ℕ)) (gather : Gathered) (sheet : Sheet) (place : Place) (cs : List Command) : Type 0 where
+  pub measured : IsMeasured width sheet place cs
+  pub carried : Carries first sink gather (start ++ drawings (top width) (printed width cs))

@@ -5,7 +5,8 @@ use Rattle.escpos_command.specs.declared.bytes.TheConstants.{LF}
 use Rattle.escpos_command.specs.declared.command.Command.{Command}
 use Rattle.escpos_command.specs.CommandTable.{spell}
 use Rattle.escpos_receipt.specs.declared.json.JsonFault.{JsonFault}
-use Rattle.escpos_receipt.specs.Describes.{Describes, IsJsonFault}
+use Rattle.escpos_receipt.specs.Describes.{DescribesWith, IsFaultWith}
+use Rattle.escpos_receipt.specs.declared.options.ReceiptOptions.{ReceiptOptions}
 use Rattle.escpos_receipt.specs.Whole.{Whole}
 use Rattle.escpos_jobs.specs.declared.input.TheConstants.{INPUT_LIMIT}
 use Rattle.escpos_jobs.specs.declared.status.Status.TheVariants.{Good, Refused, Memory}
@@ -18,20 +19,20 @@ digits_line cs = encode_lower (spell cs) ++ LF ∷ []
 
 -- What is done with a text: a receipt that it describes is written, as `written` says, or the line of a reason for which it
 -- describes none is printed; or, if an allocation fails, the one that says so.
-pub record EncodesTextAs (written : List Command → List ℕ) (o : JobEnd) (text : List ℕ) : Type 0 where
-  pub good : o.status ≡ Good → (cs : List Command) × Describes text cs × Whole cs × Puts o (written cs)
-  pub refused : o.status ≡ Refused → (why : JsonFault) × IsJsonFault why text × Puts o (refusal_line why)
+pub record EncodesTextAs (options : ReceiptOptions) (written : List Command → List ℕ) (o : JobEnd) (text : List ℕ) : Type 0 where
+  pub good : o.status ≡ Good → (cs : List Command) × DescribesWith options text cs × Whole cs × Puts o (written cs)
+  pub refused : o.status ≡ Refused → (why : JsonFault) × IsFaultWith options why text × Puts o (refusal_line why)
   pub memory : o.status ≡ Memory → Puts o memory_line
 
 -- What is done with input: too long, or a text.
-pub record EncodesAs (written : List Command → List ℕ) (o : JobEnd) (input : List ℕ) : Type 0 where
+pub record EncodesAs (options : ReceiptOptions) (written : List Command → List ℕ) (o : JobEnd) (input : List ℕ) : Type 0 where
   pub too_long : INPUT_LIMIT < length input → RefusesInput o (codes "refused input\n")
-  pub short : length input ≤ INPUT_LIMIT → EncodesTextAs written o input
+  pub short : length input ≤ INPUT_LIMIT → EncodesTextAs options written o input
 
--- What `encode` does with its input: a receipt's bytes are written in hexadecimal.
-abbrev pub Encodes : JobEnd → List ℕ → Type 0
-Encodes o input = EncodesAs digits_line o input
+-- What `encode` does with its input, where receipts are read with these options: a receipt's bytes are written in hexadecimal.
+abbrev pub Encodes : ReceiptOptions → JobEnd → List ℕ → Type 0
+Encodes options o input = EncodesAs options digits_line o input
 
 -- What `encode_raw` does with its input: a receipt's bytes are written as they are.
-abbrev pub EncodesRaw : JobEnd → List ℕ → Type 0
-EncodesRaw o input = EncodesAs spell o input
+abbrev pub EncodesRaw : ReceiptOptions → JobEnd → List ℕ → Type 0
+EncodesRaw options o input = EncodesAs options spell o input

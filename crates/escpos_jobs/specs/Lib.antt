@@ -10,6 +10,7 @@ pub mod Check
 pub mod Render
 pub mod Obstacle
 pub mod Refusal
+pub mod Image
 pub mod Encode
 pub mod Links
 pub mod Send

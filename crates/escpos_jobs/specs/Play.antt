@@ -4,6 +4,7 @@
 -- things happen to. Here the former are told of by texts, and the latter is a `LineView`.
 use Rattle.std.specs.Prelude.{ℕ, ◌≡◌, ◌≢◌, ◌+◌, ◌<◌, ◌≤◌, ◌⊎◌, List, [], ◌∷◌, ◌++◌, length, None, false, codes}
 use Rattle.std.specs.List.{flat_map}
+use Rattle.escpos_command.specs.declared.line_width.TheConstants.{USUAL_LINE_DOTS}
 use Rattle.escpos_host.specs.Machine.{Down}
 use Rattle.escpos_receipt.specs.declared.json.JsonFault.{JsonFault}
 use Rattle.escpos_link.specs.EventTable.{IsRefused}
@@ -23,10 +24,11 @@ use Rattle.escpos_jobs.specs.Refusal.{refusal_line}
 use Rattle.escpos_jobs.specs.ScriptLines.{AfterLines}
 use Rattle.escpos_jobs.specs.ScriptOutput.{records_line, refused_line, event_line, unreadable_line}
 
--- Nothing has happened to the line yet: the printer is online, and the host's first mark has the number 0.
+-- Nothing has happened to the line yet: the printer is online and prints lines of 512 dots, and the host's first mark has the
+-- number 0.
 pub record IsNew (l : LineView) : Type 0 where
   pub host : l.host ≡ record { phase = Down; out = []; half = []; next = 0; records = []; left = [] }
-  pub sheet : SheetIs l.printer.sheet [] []
+  pub sheet : SheetIs USUAL_LINE_DOTS l.printer.sheet [] []
   pub half : l.printer.half ≡ []
   pub waiting : l.printer.waiting ≡ []
   pub condition : l.printer.condition ≡ record { cover_open = false; near_end = false; paper_end = false }
@@ -75,7 +77,7 @@ pub record Closes (o : JobEnd) (script rest last : List ℕ) (count : ℕ) : Typ
   pub read : AfterLines count script rest
   pub each : length texts ≡ count
   pub told : AreTold start texts line
-  pub stand : Stands line.host.records line.printer.sheet.items
+  pub stand : Stands USUAL_LINE_DOTS line.host.records line.printer.sheet.items
   pub out : Puts o (joined texts ++ last ++ closing_text line)
 
 -- A script was played on a new line up to a line for which there was no memory.

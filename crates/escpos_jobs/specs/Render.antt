@@ -1,7 +1,9 @@
--- What `render` prints: the paper as text, and a last line only where not all bytes are read.
-use Rattle.std.specs.Prelude.{ℕ, ◌==◌, List, [], if◌then◌else◌, refl}
+-- What `render` prints, in lines of a width in dots: the paper as text, and a last line only where not all bytes are read.
+use Rattle.std.specs.Prelude.{ℕ, ◌==◌, List, [], flat_map, if◌then◌else◌, refl}
+use Rattle.escpos_paper.specs.declared.item.Item.{Item}
 use Rattle.escpos_paper.specs.Printed.{printed}
-use Rattle.escpos_paper.specs.ItemsText.{items_text}
+use Rattle.escpos_paper.specs.ItemsText.{item_text}
+use Rattle.escpos_plain.specs.PlainText.{plain_text}
 use Rattle.escpos_jobs.specs.Lines.{end_line}
 use Rattle.escpos_jobs.specs.Ending.{JobEnd}
 use Rattle.escpos_jobs.specs.Report.{Shape, Runs, RunsRaw}
@@ -10,13 +12,28 @@ use Rattle.escpos_jobs.specs.Report.{Shape, Runs, RunsRaw}
 abbrev pub half_line : ℕ → ℕ → List ℕ
 half_line count half = if half == 0 then [] else end_line count half
 
-abbrev pub paper_shape : Shape
-paper_shape = record { gives = λ cs. items_text (printed cs); last = half_line; starts_empty = refl }
+-- The paper, where an item has this line.
+abbrev pub text_shape : (Item → List ℕ) → ℕ → Shape
+text_shape text width = record { gives = λ cs. flat_map text (printed width cs); last = half_line; starts_empty = refl }
+
+abbrev pub paper_shape : ℕ → Shape
+paper_shape width = text_shape item_text width
+
+abbrev pub plain_shape : ℕ → Shape
+plain_shape width = text_shape plain_text width
 
 -- What `render_raw` does with its input, a stream.
-abbrev pub RendersRaw : JobEnd → List ℕ → Type 0
-RendersRaw o input = RunsRaw paper_shape o input
+abbrev pub RendersRaw : ℕ → JobEnd → List ℕ → Type 0
+RendersRaw width o input = RunsRaw (paper_shape width) o input
 
 -- What `render` does with its input, a stream in hexadecimal.
-abbrev pub RendersInput : JobEnd → List ℕ → Type 0
-RendersInput o input = Runs paper_shape o input
+abbrev pub RendersInput : ℕ → JobEnd → List ℕ → Type 0
+RendersInput width o input = Runs (paper_shape width) o input
+
+-- What `render_text_raw` does with its input, a stream.
+abbrev pub RendersTextRaw : ℕ → JobEnd → List ℕ → Type 0
+RendersTextRaw width o input = RunsRaw (plain_shape width) o input
+
+-- What `render_text` does with its input, a stream in hexadecimal.
+abbrev pub RendersText : ℕ → JobEnd → List ℕ → Type 0
+RendersText width o input = Runs (plain_shape width) o input

@@ -12,7 +12,7 @@ ghost use Rattle.escpos_jobs.specs.Check.{Checks, ChecksRaw, listing_shape};
 use crate::job::{Job, Obstacle, run, run_raw};
 use crate::lines::{LINE_BYTES, Last, append_character, put_line};
 use crate::status::Status;
-use escpos_command::Command;
+use escpos_command::{Command, LineWidth};
 use escpos_decode::Consumer;
 use escpos_io::{ByteIn, ByteOut, Gather};
 use std::alloc::Global;
@@ -26,7 +26,7 @@ pub fn check<R: ByteIn, W: ByteOut>(alloc: Global, input: &mut R, output: &mut W
         (R.pull_count input.old, R.pull_count input.new) }
     ensures nothing_put { IsTrue (R.failed input.new) → output.new ≡ output.old }
 {
-    run::<R, W, Listing>(alloc, input, output)
+    run::<R, W, Listing>(alloc, LineWidth::usual(), input, output)
 }
 
 /// Reads a stream from `input`, as it is, and lists its commands on `output`, as `check` does.
@@ -36,7 +36,7 @@ pub fn check_raw<R: ByteIn, W: ByteOut>(alloc: Global, input: &mut R, output: &m
         (R.pull_count input.old, R.pull_count input.new) }
     ensures nothing_put { IsTrue (R.failed input.new) → output.new ≡ output.old }
 {
-    run_raw::<R, W, Listing>(alloc, input, output)
+    run_raw::<R, W, Listing>(alloc, LineWidth::usual(), input, output)
 }
 
 // The lines that aren't printed yet.
@@ -77,13 +77,14 @@ impl<W: ByteOut> Consumer<W> for Listing {
 }
 
 impl<W: ByteOut> Job<W> for Listing {
-    ghost shape = { listing_shape };
+    ghost shape = { λ width. listing_shape };
 
-    ghost is_new = { λ listing. (sink : Option (List ℕ)) → Carries sink sink listing.gather [] };
+    ghost is_new = { λ width listing. (sink : Option (List ℕ)) → Carries sink sink listing.gather [] };
 
     ghost gather = { λ listing. listing.gather };
 
-    fn new(_alloc: Global) -> Self {
+    // A listing is the same for paper of any width.
+    fn new(_alloc: Global, _width: LineWidth) -> Self {
         Listing {
             gather: Gather::new(),
         }
@@ -97,7 +98,7 @@ impl<W: ByteOut> Job<W> for Listing {
         self.gather
     }
 
-    ghost carried = { λ start now cs new taken. taken.0 (W.written start.1) [] (new (W.written start.1)) };
+    ghost carried = { λ width start now cs new taken. taken.0 (W.written start.1) [] (new (W.written start.1)) };
 
     ghost well = { λ start now cs taken. taken.1 };
 

@@ -26,7 +26,7 @@ use crate::input::{hexadecimal_input, raw_input};
 use crate::job::Obstacle;
 use crate::lines::Last;
 use crate::status::Status;
-use escpos_command::Command;
+use escpos_command::{Command, LineWidth};
 use escpos_decode::{Consumer, Decoder, Stop, read_piece};
 use escpos_io::{ByteIn, ByteOut, Device, Gather, Piece};
 use escpos_paper::Page;
@@ -34,46 +34,57 @@ use escpos_picture::laws::drawings_in_turn;
 use escpos_picture::{HEAD_BYTES, LAST_TAG_BYTES, Pen, append_head, append_last_tag, put_items};
 use std::alloc::Global;
 
-/// Reads a stream in hexadecimal from `input` and writes the paper that it prints to `output` as a picture, an SVG document, with
-/// the last line of the listing under it after a fault or with a half command at the end.
+/// Reads a stream in hexadecimal from `input` and writes the paper that it prints, in lines of this width, to `output` as a
+/// picture, an SVG document, with the last line of the listing under it after a fault or with a half command at the end.
 ///
 /// The statuses are those of `render`, and so is the one line in place of a picture where the input is too long or isn't
 /// hexadecimal. With `Memory` the line `memory` follows the head of the picture and the items of the commands so far, or comes
 /// alone. The picture isn't kept.
-pub fn draw<R: ByteIn, W: ByteOut>(alloc: Global, input: &mut R, output: &mut W) -> Status
-    ensures draws { IfSome (R.to_come input.old) (λ text. DrawsInput (job_end (W.written output.old) (W.written output.new) (W.failed output.new) result) text) }
+pub fn draw<R: ByteIn, W: ByteOut>(
+    alloc: Global,
+    width: LineWidth,
+    input: &mut R,
+    output: &mut W,
+) -> Status
+    ensures draws { IfSome (R.to_come input.old) (λ text. DrawsInput width (job_end (W.written output.old) (W.written output.new) (W.failed output.new) result) text) }
     ensures fair { IsFair result (R.failed input.new) (W.failed output.old, W.failed output.new)
         (R.pull_count input.old, R.pull_count input.new) }
     ensures nothing_put { IsTrue (R.failed input.new) → output.new ≡ output.old }
 {
     match hexadecimal_input(alloc, input) {
-        Ok(bytes) => draw_bytes(alloc, &bytes, output),
+        Ok(bytes) => draw_bytes(alloc, width, &bytes, output),
         Err(fault) => refuse(fault, output),
     }
 }
 
-/// Reads a stream from `input`, as it is, and writes the paper that it prints to `output` as a picture, as `draw` does.
-pub fn draw_raw<R: ByteIn, W: ByteOut>(alloc: Global, input: &mut R, output: &mut W) -> Status
-    ensures draws { IfSome (R.to_come input.old) (λ bytes. DrawsRaw (job_end (W.written output.old) (W.written output.new) (W.failed output.new) result) bytes) }
+/// Reads a stream from `input`, as it is, and writes the paper that it prints, in lines of this width, to `output` as a picture, as
+/// `draw` does.
+pub fn draw_raw<R: ByteIn, W: ByteOut>(
+    alloc: Global,
+    width: LineWidth,
+    input: &mut R,
+    output: &mut W,
+) -> Status
+    ensures draws { IfSome (R.to_come input.old) (λ bytes. DrawsRaw width (job_end (W.written output.old) (W.written output.new) (W.failed output.new) result) bytes) }
     ensures fair { IsFair result (R.failed input.new) (W.failed output.old, W.failed output.new)
         (R.pull_count input.old, R.pull_count input.new) }
     ensures nothing_put { IsTrue (R.failed input.new) → output.new ≡ output.old }
 {
     match raw_input(alloc, input) {
-        Ok(bytes) => draw_bytes(alloc, &bytes, output),
+        Ok(bytes) => draw_bytes(alloc, width, &bytes, output),
         Err(fault) => refuse(fault, output),
     }
 }
 
-// Draws what these bytes print.
-fn draw_bytes<W: ByteOut>(alloc: Global, bytes: &[u8], output: &mut W) -> Status
-    ensures draws { Draws (job_end (W.written output.old) (W.written output.new) (W.failed output.new) result) bytes.now }
+// Draws what these bytes print in lines of this width.
+fn draw_bytes<W: ByteOut>(alloc: Global, width: LineWidth, bytes: &[u8], output: &mut W) -> Status
+    ensures draws { Draws width (job_end (W.written output.old) (W.written output.new) (W.failed output.new) result) bytes.now }
     ensures device { result ≡ Status.Device → IsTrue (W.failed output.new) }
     ensures not_hidden { result ≢ Status.Device → ¬ IsTrue (W.failed output.old) → ¬ IsTrue (W.failed output.new) }
     ensures never_usage { result ≢ Status.Usage }
 {
-    match measure(alloc, bytes) {
-        Some(measured) => draw_measured(alloc, bytes, measured, output),
+    match measure(alloc, width, bytes) {
+        Some(measured) => draw_measured(alloc, width, bytes, measured, output),
         None => say(MEMORY, output, Status::Memory),
     }
 }
@@ -85,15 +96,15 @@ struct Measured {
     has_last: bool,
 }
 
-// Measures what these bytes print. `None`: out of memory.
-fn measure(alloc: Global, bytes: &[u8]) -> Option<Measured>
+// Measures what these bytes print in lines of this width. `None`: out of memory.
+fn measure(alloc: Global, width: LineWidth, bytes: &[u8]) -> Option<Measured>
     ensures outcome { IfSome result (λ measured. (all : List Command) × (last : List ℕ) × IsOutcome bytes.now all last
-        × (measured.down ≡ (place_after_all top (printed all)).down) × (measured.has_last ≡ not (is_empty last))) }
+        × (measured.down ≡ (place_after_all (top width) (printed width all)).down) × (measured.has_last ≡ not (is_empty last))) }
     ensures small { IfSome result (λ measured. measured.down ≤ DEEPEST) }
 {
     let mut measuring = Measuring {
-        page: Page::new(alloc),
-        pen: Pen::new(),
+        page: Page::new(alloc, width),
+        pen: Pen::new(width),
     };
     let mut decoder = Decoder::new(alloc);
     match read_piece(&mut decoder, bytes, &mut measuring, &mut ()) {
@@ -131,8 +142,8 @@ impl Consumer<()> for Measuring {
     // Out of memory.
     type Refusal = ();
 
-    ghost accepted = { λ start now cs. (before : List Command) → IsMeasured start.0.page.sheet start.0.pen before
-        → IsMeasured now.0.page.sheet now.0.pen (before ++ cs) };
+    ghost accepted = { λ start now cs. (width : ℕ) (before : List Command) → IsMeasured width start.0.page.sheet start.0.pen before
+        → IsMeasured width now.0.page.sheet now.0.pen (before ++ cs) };
 
     ghost refused = { λ last now refusal. ⊤ };
 
@@ -158,25 +169,26 @@ impl Consumer<()> for Measuring {
         Ok(count)
     }
 
-    ghost nothing = { λ start before is. subst (IsMeasured start.0.page.sheet start.0.pen) (sym (append-nil before)) is };
+    ghost nothing = { λ start width before is. subst (IsMeasured width start.0.page.sheet start.0.pen) (sym (append-nil before)) is };
 }
 
 // Draws what these bytes print, of which the first reading found this.
 fn draw_measured<W: ByteOut>(
     alloc: Global,
+    width: LineWidth,
     bytes: &[u8],
     measured: Measured,
     output: &mut W,
 ) -> Status
     requires outcome { (all : List Command) × (last : List ℕ) × IsOutcome bytes.now all last
-        × (measured.down ≡ (place_after_all top (printed all)).down) × (measured.has_last ≡ not (is_empty last)) }
+        × (measured.down ≡ (place_after_all (top width) (printed width all)).down) × (measured.has_last ≡ not (is_empty last)) }
     requires small { measured.down ≤ DEEPEST }
-    ensures draws { Draws (job_end (W.written output.old) (W.written output.new) (W.failed output.new) result) bytes.now }
+    ensures draws { Draws width (job_end (W.written output.old) (W.written output.new) (W.failed output.new) result) bytes.now }
     ensures device { result ≡ Status.Device → IsTrue (W.failed output.new) }
     ensures not_hidden { result ≢ Status.Device → ¬ IsTrue (W.failed output.old) → ¬ IsTrue (W.failed output.new) }
     ensures never_usage { result ≢ Status.Usage }
 {
-    let mut drawing = Drawing::new(alloc, measured);
+    let mut drawing = Drawing::new(alloc, width, measured);
     let mut decoder = Decoder::new(alloc);
     match read_piece(&mut decoder, bytes, &mut drawing, output) {
         Ok(()) => {
@@ -215,16 +227,16 @@ struct Drawing {
 
 impl Drawing {
     // A drawing with nothing but its head.
-    fn new(alloc: Global, measured: Measured) -> Self
+    fn new(alloc: Global, width: LineWidth, measured: Measured) -> Self
         requires { measured.down ≤ DEEPEST }
-        ensures drawn { (sink : Option (List ℕ)) → IsDrawn (head measured.down measured.has_last) sink sink result.gather result.page.sheet result.pen [] }
+        ensures drawn { (sink : Option (List ℕ)) → IsDrawn width (head width measured.down measured.has_last) sink sink result.gather result.page.sheet result.pen [] }
         ensures down { result.down ≡ measured.down }
     {
         let mut gather = Gather::new();
-        append_head(&mut gather, measured.down, measured.has_last);
+        append_head(&mut gather, width, measured.down, measured.has_last);
         Drawing {
-            page: Page::new(alloc),
-            pen: Pen::new(),
+            page: Page::new(alloc, width),
+            pen: Pen::new(width),
             gather,
             down: measured.down,
         }
@@ -252,8 +264,8 @@ impl<W: ByteOut> Consumer<W> for Drawing {
     type Refusal = Obstacle;
 
     ghost accepted = { λ start now cs.
-        ((text : List ℕ) (first : Option (List ℕ)) (before : List Command) → IsDrawn text first (W.written start.1) start.0.gather start.0.page.sheet start.0.pen before
-        → IsDrawn text first (W.written now.1) now.0.gather now.0.page.sheet now.0.pen (before ++ cs))
+        ((width : ℕ) (text : List ℕ) (first : Option (List ℕ)) (before : List Command) → IsDrawn width text first (W.written start.1) start.0.gather start.0.page.sheet start.0.pen before
+        → IsDrawn width text first (W.written now.1) now.0.gather now.0.page.sheet now.0.pen (before ++ cs))
         × (now.0.down ≡ start.0.down)
         × (¬ IsTrue (W.failed start.1) → ¬ IsTrue (W.failed now.1)) };
 
@@ -283,7 +295,7 @@ impl<W: ByteOut> Consumer<W> for Drawing {
     }
 
     ghost nothing = { λ start. (
-      λ text first before is. subst (IsDrawn text first (W.written start.1) start.0.gather start.0.page.sheet start.0.pen) (sym (append-nil before)) is,
+      λ width text first before is. subst (IsDrawn width text first (W.written start.1) start.0.gather start.0.page.sheet start.0.pen) (sym (append-nil before)) is,
       refl,
       λ well. well,
     ) };

@@ -18,7 +18,7 @@ use crate::ending::{MEMORY, say};
 use crate::lines::SPACE;
 use crate::paper_text::PaperText;
 use crate::status::Status;
-use escpos_command::LF;
+use escpos_command::{LF, LineWidth};
 use escpos_io::{
     ByteIn, ByteOut, Device, GATHERED_BYTES, Gather, Incoming, Outgoing, append_number, laws,
 };
@@ -67,28 +67,37 @@ pub fn emulate<N: Net<Stream = TcpStream, Listener = TcpListener>, W: ByteOut>(
     ensures never_usage { result ≢ Status.Usage }
     ensures not_hidden { result ≢ Status.Device → ¬ IsTrue (W.failed output.old) → ¬ IsTrue (W.failed output.new) }
 {
-    emulate_in(net, alloc, address, links, ONLINE, output)
+    emulate_in(
+        net,
+        alloc,
+        address,
+        links,
+        ONLINE,
+        LineWidth::usual(),
+        output,
+    )
 }
 
-// The same as a printer whose sensors say this.
+// The same as a printer whose sensors say this, and that prints lines of this width.
 pub(crate) fn emulate_in<N: Net<Stream = TcpStream, Listener = TcpListener>, W: ByteOut>(
     net: &N,
     alloc: Global,
     address: SocketAddrV4,
     links: u32,
     condition: Condition,
+    width: LineWidth,
     output: &mut W,
 ) -> Status
     ensures never_usage { result ≢ Status.Usage }
     ensures not_hidden { result ≢ Status.Device → ¬ IsTrue (W.failed output.old) → ¬ IsTrue (W.failed output.new) }
 {
     match TcpListener::bind(net, address) {
-        Ok(listener) => emulate_in_on(alloc, &listener, links, condition, output),
+        Ok(listener) => emulate_in_on(alloc, &listener, links, condition, width, output),
         Err(_) => Status::Device,
     }
 }
 
-/// Serves `links` links of `listener`, one after another, as one printer that is online; each is read up to 16,777,216
+/// Serves `links` links of `listener`, one after another, as one printer that is online and prints lines of 512 dots; each is read up to 16,777,216
 /// bytes. Prints a line when a link has ended, `link I read R consumed C written W END`, and the paper at the end.
 ///
 /// The status is `Device` if a link can't be accepted or `output` has failed. If a link ends because memory ran out, no
@@ -103,21 +112,22 @@ pub fn emulate_on<W: ByteOut>(
     ensures never_usage { result ≢ Status.Usage }
     ensures not_hidden { result ≢ Status.Device → ¬ IsTrue (W.failed output.old) → ¬ IsTrue (W.failed output.new) }
 {
-    emulate_in_on(alloc, listener, links, ONLINE, output)
+    emulate_in_on(alloc, listener, links, ONLINE, LineWidth::usual(), output)
 }
 
-// The same as a printer whose sensors say this.
+// The same as a printer whose sensors say this, and that prints lines of this width.
 fn emulate_in_on<W: ByteOut>(
     alloc: Global,
     listener: &TcpListener,
     links: u32,
     condition: Condition,
+    width: LineWidth,
     output: &mut W,
 ) -> Status
     ensures never_usage { result ≢ Status.Usage }
     ensures not_hidden { result ≢ Status.Device → ¬ IsTrue (W.failed output.old) → ¬ IsTrue (W.failed output.new) }
 {
-    let Ok(mut printer) = Printer::new(alloc, condition) else {
+    let Ok(mut printer) = Printer::new(alloc, condition, width) else {
         return say(MEMORY, output, Status::Memory);
     };
     let mut paper = PaperText::new(alloc);
@@ -162,19 +172,20 @@ pub(crate) fn follow<N: Net<Stream = TcpStream, Listener = TcpListener>, W: Byte
     alloc: Global,
     address: SocketAddrV4,
     condition: Condition,
+    width: LineWidth,
     output: &mut W,
 ) -> Status
     ensures never_usage { result ≢ Status.Usage }
     ensures not_hidden { result ≢ Status.Device → ¬ IsTrue (W.failed output.old) → ¬ IsTrue (W.failed output.new) }
 {
     match TcpListener::bind(net, address) {
-        Ok(listener) => follow_on(alloc, &listener, condition, output),
+        Ok(listener) => follow_on(alloc, &listener, condition, width, output),
         Err(_) => Status::Device,
     }
 }
 
-/// Serves links of `listener`, one after another, as one printer whose sensors say this, until it is ended; no more than
-/// 4,294,967,295. Each is read up to 16,777,216 bytes. When a link has ended, it prints the line of the link and what that
+/// Serves links of `listener`, one after another, as one printer whose sensors say this and that prints lines of this width,
+/// until it is ended; no more than 4,294,967,295. Each is read up to 16,777,216 bytes. When a link has ended, it prints the line of the link and what that
 /// link printed.
 ///
 /// The status is `Device` if a link can't be accepted or `output` has failed. If a link ends because memory ran out, no other
@@ -183,12 +194,13 @@ pub fn follow_on<W: ByteOut>(
     alloc: Global,
     listener: &TcpListener,
     condition: Condition,
+    width: LineWidth,
     output: &mut W,
 ) -> Status
     ensures never_usage { result ≢ Status.Usage }
     ensures not_hidden { result ≢ Status.Device → ¬ IsTrue (W.failed output.old) → ¬ IsTrue (W.failed output.new) }
 {
-    let Ok(mut printer) = Printer::new(alloc, condition) else {
+    let Ok(mut printer) = Printer::new(alloc, condition, width) else {
         return say(MEMORY, output, Status::Memory);
     };
     for number in 1..=u32::MAX {

@@ -7,7 +7,8 @@ ghost use Rattle.escpos_io.specs.Putting.{passage};
 ghost use Rattle.escpos_jobs.specs.Encode.{Encodes, EncodesAs, EncodesRaw, EncodesTextAs};
 ghost use Rattle.escpos_receipt.specs.declared.json.JsonError.{JsonError};
 ghost use Rattle.escpos_receipt.specs.declared.json.JsonFault.{JsonFault};
-ghost use Rattle.escpos_receipt.specs.Describes.{IsJsonFault};
+ghost use Rattle.escpos_receipt.specs.Describes.{IsFaultWith};
+ghost use Rattle.escpos_receipt.specs.declared.options.ReceiptOptions.{ReceiptOptions};
 ghost use Rattle.escpos_receipt.specs.EntryCommands.{IsValueOf, commands_in};
 ghost use Rattle.escpos_jobs.specs.Ending.{IsFair, PrintsText, job_end};
 
@@ -18,62 +19,79 @@ use crate::receipt_input::refuse_text;
 use crate::status::Status;
 use escpos_command::{Command, LF};
 use escpos_io::{ByteIn, ByteOut, Device, Gather, laws, read_to_end};
-use escpos_receipt::{Entry, JsonError, ReceiptText};
+use escpos_receipt::{Entry, JsonError, ReceiptOptions, ReceiptText};
 use std::alloc::Global;
 
-/// Reads a receipt in JSON from `input`, and prints the bytes of its commands on `output`, in hexadecimal and in one line.
+/// Reads a receipt in JSON from `input`, with these options, and prints the bytes of its commands on `output`, in hexadecimal and
+/// in one line.
 ///
 /// The status is `Good` if the text describes a receipt. It is `Refused` if the input is too long or the text gives no
 /// receipt, for which the one line that says why is printed. It is `Memory` if an allocation failed: then the line `memory`
 /// is printed, and nothing else. `Device` comes only where `input` or `output` has failed, and no other status hides that
 /// one of them has failed in this call; `Usage` never comes. `input` is pulled at most 16,777,217 times.
-pub fn encode<R: ByteIn, W: ByteOut>(alloc: Global, input: &mut R, output: &mut W) -> Status
-    ensures encodes { IfSome (R.to_come input.old) (λ text. Encodes (job_end (W.written output.old) (W.written output.new) (W.failed output.new) result) text) }
+pub fn encode<R: ByteIn, W: ByteOut>(
+    alloc: Global,
+    options: &ReceiptOptions,
+    input: &mut R,
+    output: &mut W,
+) -> Status
+    ensures encodes { IfSome (R.to_come input.old) (λ text. Encodes options.now (job_end (W.written output.old) (W.written output.new) (W.failed output.new) result) text) }
     ensures fair { IsFair result (R.failed input.new) (W.failed output.old, W.failed output.new)
         (R.pull_count input.old, R.pull_count input.new) }
     ensures nothing_put { IsTrue (R.failed input.new) → output.new ≡ output.old }
 {
-    encode_as::<Hexadecimal, R, W>(alloc, input, output)
+    encode_as::<Hexadecimal, R, W>(alloc, options, input, output)
 }
 
 /// Reads a receipt in JSON from `input`, and prints the bytes of its commands on `output`, as they are. What is refused, and
 /// with which line and status, is as for `encode`.
-pub fn encode_raw<R: ByteIn, W: ByteOut>(alloc: Global, input: &mut R, output: &mut W) -> Status
-    ensures encodes { IfSome (R.to_come input.old) (λ text. EncodesRaw (job_end (W.written output.old) (W.written output.new) (W.failed output.new) result) text) }
+pub fn encode_raw<R: ByteIn, W: ByteOut>(
+    alloc: Global,
+    options: &ReceiptOptions,
+    input: &mut R,
+    output: &mut W,
+) -> Status
+    ensures encodes { IfSome (R.to_come input.old) (λ text. EncodesRaw options.now (job_end (W.written output.old) (W.written output.new) (W.failed output.new) result) text) }
     ensures fair { IsFair result (R.failed input.new) (W.failed output.old, W.failed output.new)
         (R.pull_count input.old, R.pull_count input.new) }
     ensures nothing_put { IsTrue (R.failed input.new) → output.new ≡ output.old }
 {
-    encode_as::<Raw, R, W>(alloc, input, output)
+    encode_as::<Raw, R, W>(alloc, options, input, output)
 }
 
 // The same for either form.
 fn encode_as<F: ByteForm, R: ByteIn, W: ByteOut>(
     alloc: Global,
+    options: &ReceiptOptions,
     input: &mut R,
     output: &mut W,
 ) -> Status
     ensures encodes { IfSome (R.to_come input.old) (λ text.
-        EncodesAs (λ cs. F.written (spell cs)) (job_end (W.written output.old) (W.written output.new) (W.failed output.new) result) text) }
+        EncodesAs options.now (λ cs. F.written (spell cs)) (job_end (W.written output.old) (W.written output.new) (W.failed output.new) result) text) }
     ensures fair { IsFair result (R.failed input.new) (W.failed output.old, W.failed output.new)
         (R.pull_count input.old, R.pull_count input.new) }
     ensures nothing_put { IsTrue (R.failed input.new) → output.new ≡ output.old }
 {
     match read_to_end(alloc, input, INPUT_LIMIT) {
-        Ok(text) => encode_text::<F, W>(alloc, text, output),
+        Ok(text) => encode_text::<F, W>(alloc, options, text, output),
         Err(error) => refuse(InputFault::from(error), output),
     }
 }
 
 // Prints the line for a text.
-fn encode_text<F: ByteForm, W: ByteOut>(alloc: Global, text: Vec<u8>, output: &mut W) -> Status
-    ensures encodes { EncodesTextAs (λ cs. F.written (spell cs)) (job_end (W.written output.old) (W.written output.new) (W.failed output.new) result) text.items }
+fn encode_text<F: ByteForm, W: ByteOut>(
+    alloc: Global,
+    options: &ReceiptOptions,
+    text: Vec<u8>,
+    output: &mut W,
+) -> Status
+    ensures encodes { EncodesTextAs options.now (λ cs. F.written (spell cs)) (job_end (W.written output.old) (W.written output.new) (W.failed output.new) result) text.items }
     ensures device { result ≡ Status.Device → IsTrue (W.failed output.new) }
     ensures not_hidden { result ≢ Status.Device → ¬ IsTrue (W.failed output.old) → ¬ IsTrue (W.failed output.new) }
     ensures never_usage { result ≢ Status.Usage }
 {
     match json_of(alloc, text) {
-        Ok(json) => encode_json::<F, W>(alloc, &json, output),
+        Ok(json) => encode_json::<F, W>(alloc, options, &json, output),
         Err(fault) => refuse_text(fault, output),
     }
 }
@@ -81,21 +99,26 @@ fn encode_text<F: ByteForm, W: ByteOut>(alloc: Global, text: Vec<u8>, output: &m
 // The value of a text in JSON. The text itself is dropped, before its commands are written.
 fn json_of(alloc: Global, text: Vec<u8>) -> Result<ReceiptText, JsonError>
     ensures value { IfOk result (λ json. IsValueOf text.items json) }
-    ensures refused { (fault : JsonFault) → IsErrOf result (JsonError.Refused fault) → IsJsonFault fault text.items }
+    ensures refused { (fault : JsonFault) → IsErrOf result (JsonError.Refused fault) → (options : ReceiptOptions) → IsFaultWith options fault text.items }
 {
     ReceiptText::new(alloc, &text)
 }
 
-// Prints the line for a text with this value. The commands of a receipt aren't listed: its characters go out from where they
+// Prints the line for a text with this value. The commands of a receipt aren't listed: texts in ASCII go out from where they
 // stand.
-fn encode_json<F: ByteForm, W: ByteOut>(alloc: Global, json: &ReceiptText, output: &mut W) -> Status
+fn encode_json<F: ByteForm, W: ByteOut>(
+    alloc: Global,
+    options: &ReceiptOptions,
+    json: &ReceiptText,
+    output: &mut W,
+) -> Status
     ensures encodes { (text : List ℕ) → IsValueOf text json.now →
-        EncodesTextAs (λ cs. F.written (spell cs)) (job_end (W.written output.old) (W.written output.new) (W.failed output.new) result) text }
+        EncodesTextAs options.now (λ cs. F.written (spell cs)) (job_end (W.written output.old) (W.written output.new) (W.failed output.new) result) text }
     ensures device { result ≡ Status.Device → IsTrue (W.failed output.new) }
     ensures not_hidden { result ≢ Status.Device → ¬ IsTrue (W.failed output.old) → ¬ IsTrue (W.failed output.new) }
     ensures never_usage { result ≢ Status.Usage }
 {
-    match json.entries(alloc) {
+    match json.entries(alloc, options) {
         Ok(entries) => put_whole::<F, W>(&entries, output),
         Err(fault) => refuse_text(fault, output),
     }

@@ -1,10 +1,10 @@
 //! What the program does, over any source, sink and network: a job for each task. escpos_arguments reads the command line.
 //!
 //! `task` has what may be asked for, and `perform` does it; `usage` has the texts of usage and help. `check`, `render`,
-//! `encode` and `play` are the jobs over any source and sink, and `emulate`, `send`, `printer_status` and `loop_link` those
+//! `encode`, `image` and `play` are the jobs over any source and sink, and `emulate`, `send`, `printer_status` and `loop_link` those
 //! over TCP; over the network of `wait` no wait lasts longer than a given time. `job` has what `check` and `render` share,
 //! `script` reads the lines of a script and `script_output` has those that `play` prints, `lines` has the lines of a listing,
-//! `notes` the note on a wrong check digit, and `paper_text` keeps the paper of `emulate`. `input`, `hexadecimal` and
+//! `notes` the note on a wrong check digit, `item_form` the two texts of an item on paper, and `paper_text` keeps the paper of `emulate`. `input`, `hexadecimal` and
 //! `receipt_input` read the input, `byte_form` has the two forms in which `encode` writes, `refusal` has the line that refuses
 //! a receipt, `ending` the line that a job prints in place of everything else, and `status` the exit status of the program.
 //! `laws` has why the last line can stand in a picture as it is.
@@ -17,7 +17,9 @@ pub mod emulate;
 pub mod encode;
 pub mod ending;
 pub mod hexadecimal;
+pub mod image;
 pub mod input;
+mod item_form;
 mod job;
 pub mod laws;
 mod lines;

@@ -10,11 +10,12 @@ use crate::ending::{MEMORY, say};
 use crate::receipt_input::{read_receipt, refuse_input};
 use crate::send::{NO_LINK, is_memory_fault};
 use crate::status::Status;
-use escpos_command::LF;
+use escpos_command::{LF, LineWidth};
 use escpos_host::{Heard, Host, HostError, HostEvent, Receipt, SendFault};
 use escpos_io::{ByteIn, ByteOut, Device, Failed, Gather, Incoming, Outgoing, laws, put_all};
 use escpos_paper::write_items;
 use escpos_printer::{LinkEnd, Printer, serve_link};
+use escpos_receipt::ReceiptOptions;
 use std::alloc::Global;
 use std::io;
 use std::net::{Ipv4Addr, Net, SocketAddrV4, TcpListener, TcpStream};
@@ -90,11 +91,12 @@ impl From<HostError> for Broken {
     }
 }
 
-/// Reads a receipt in JSON from `input`, and sends it over a link on 127.0.0.1 as `both_ends` does. If there is no receipt,
+/// Reads a receipt in JSON for lines of this width from `input`, and sends it over a link on 127.0.0.1 as `both_ends` does. If there is no receipt,
 /// the line that says why is printed, as for `encode`.
 pub fn loop_receipt<N: Net<Stream = TcpStream, Listener = TcpListener>, R: ByteIn, W: ByteOut>(
     net: &N,
     alloc: Global,
+    width: LineWidth,
     input: &mut R,
     output: &mut W,
 ) -> Status
@@ -104,13 +106,17 @@ pub fn loop_receipt<N: Net<Stream = TcpStream, Listener = TcpListener>, R: ByteI
     ensures nothing_put { IsTrue (R.failed input.new) → output.new ≡ output.old }
     ensures pulls { R.pull_count input.new ≤ R.pull_count input.old + INPUT_LIMIT + 1 }
 {
-    match read_receipt(alloc, input) {
-        Ok(receipt) => both_ends(net, alloc, receipt, output),
+    let options = ReceiptOptions {
+        width,
+        replacement: None,
+    };
+    match read_receipt(alloc, &options, input) {
+        Ok(receipt) => both_ends(net, alloc, width, receipt, output),
         Err(fault) => refuse_input(fault, output),
     }
 }
 
-/// Sends a receipt over a link on 127.0.0.1 from a new host to a new printer that is online, and prints the paper and then
+/// Sends a receipt over a link on 127.0.0.1 from a new host to a new printer that is online and prints lines of this width, and prints the paper and then
 /// the line `recorded 0`. The two take turns: the host puts out at most 512 bytes, the printer is served with these, and
 /// the host hears the answers.
 ///
@@ -119,6 +125,7 @@ pub fn loop_receipt<N: Net<Stream = TcpStream, Listener = TcpListener>, R: ByteI
 pub fn both_ends<N: Net<Stream = TcpStream, Listener = TcpListener>, W: ByteOut>(
     net: &N,
     alloc: Global,
+    width: LineWidth,
     receipt: Receipt,
     output: &mut W,
 ) -> Status
@@ -128,7 +135,7 @@ pub fn both_ends<N: Net<Stream = TcpStream, Listener = TcpListener>, W: ByteOut>
     let Ok((near, far)) = connection(net) else {
         return say(NO_LINK, output, Status::Device);
     };
-    let Ok(mut printer) = Printer::new(alloc, ONLINE) else {
+    let Ok(mut printer) = Printer::new(alloc, ONLINE, width) else {
         return say(MEMORY, output, Status::Memory);
     };
     both_ends_of(alloc, &near, &far, &mut printer, receipt, output)

@@ -1,31 +1,39 @@
 //! What the program does for its arguments, over any source and sink: a job, a link, or a text.
 
-ghost use Rattle.std.specs.Prelude.{◌≡◌, ◌≢◌, ◌⊎◌, ◌+◌, ◌≤◌, IfSome, IsTrue};
+ghost use Rattle.std.specs.Prelude.{◌≡◌, ◌≢◌, ◌⊎◌, ◌+◌, ◌≤◌, ℕ, Option, IfSome, IsTrue};
+ghost use Rattle.escpos_command.specs.declared.line_width.TheConstants.{USUAL_LINE_DOTS};
 ghost use Rattle.escpos_jobs.specs.declared.input.TheConstants.{INPUT_LIMIT};
 ghost use Rattle.escpos_jobs.specs.Check.{Checks, ChecksRaw};
 ghost use Rattle.escpos_jobs.specs.Draw.{DrawsInput, DrawsRaw};
 ghost use Rattle.escpos_jobs.specs.Encode.{Encodes, EncodesRaw};
-ghost use Rattle.escpos_jobs.specs.Render.{RendersInput, RendersRaw};
+ghost use Rattle.escpos_jobs.specs.Render.{RendersInput, RendersRaw, RendersText, RendersTextRaw};
 ghost use Rattle.escpos_jobs.specs.Ending.{PrintsText, memory_line, job_end};
+ghost use Rattle.escpos_jobs.specs.Image.{MakesEntries};
 ghost use Rattle.escpos_jobs.specs.Play.{Plays};
 ghost use Rattle.escpos_jobs.specs.declared.usage.TheConstants.{HELP, USAGE};
 ghost use Rattle.escpos_jobs.specs.Perform.{ReadsInput, UsesLinks};
+ghost use Rattle.std.specs.Prelude.{true, false};
+ghost use Rattle.escpos_receipt.specs.declared.options.ReceiptOptions.{ReceiptOptions};
+ghost use Rattle.escpos_receipt.specs.Options.{usual_options};
 
 use crate::check::{check, check_raw};
 use crate::draw::{draw, draw_raw};
 use crate::emulate::{ONLINE, emulate_in, follow};
 use crate::encode::{encode, encode_raw};
 use crate::ending::{MEMORY, say};
+use crate::image::image;
 use crate::loop_link::loop_receipt;
 use crate::play::play;
 use crate::printer_status::show_status;
-use crate::render::{render, render_raw};
-use crate::send::send_to;
+use crate::render::{render, render_raw, render_text, render_text_raw};
+use crate::send::{Marks, send_to};
 use crate::status::Status;
 use crate::task::{NoTask, Task};
 use crate::usage::{HELP, USAGE};
 use crate::wait::Within;
+use escpos_command::LineWidth;
 use escpos_io::{ByteIn, ByteOut};
+use escpos_receipt::ReceiptOptions;
 use std::alloc::Global;
 use std::net::{Net, TcpListener, TcpStream};
 
@@ -44,19 +52,37 @@ pub fn perform<N: Net<Stream = TcpStream, Listener = TcpListener>, R: ByteIn, W:
     ensures check { asked ≡ Ok Task.Check →
         IfSome (R.to_come input.old) (λ text. Checks (job_end (W.written output.old) (W.written output.new) (W.failed output.new) result) text) }
     ensures render { asked ≡ Ok Task.Render →
-        IfSome (R.to_come input.old) (λ text. RendersInput (job_end (W.written output.old) (W.written output.new) (W.failed output.new) result) text) }
+        IfSome (R.to_come input.old) (λ text. RendersInput USUAL_LINE_DOTS (job_end (W.written output.old) (W.written output.new) (W.failed output.new) result) text) }
     ensures draw { asked ≡ Ok Task.Draw →
-        IfSome (R.to_come input.old) (λ text. DrawsInput (job_end (W.written output.old) (W.written output.new) (W.failed output.new) result) text) }
+        IfSome (R.to_come input.old) (λ text. DrawsInput USUAL_LINE_DOTS (job_end (W.written output.old) (W.written output.new) (W.failed output.new) result) text) }
     ensures encode { asked ≡ Ok Task.Encode →
-        IfSome (R.to_come input.old) (λ text. Encodes (job_end (W.written output.old) (W.written output.new) (W.failed output.new) result) text) }
+        IfSome (R.to_come input.old) (λ text. Encodes usual_options (job_end (W.written output.old) (W.written output.new) (W.failed output.new) result) text) }
     ensures check_raw { asked ≡ Ok Task.CheckRaw →
         IfSome (R.to_come input.old) (λ bytes. ChecksRaw (job_end (W.written output.old) (W.written output.new) (W.failed output.new) result) bytes) }
     ensures render_raw { asked ≡ Ok Task.RenderRaw →
-        IfSome (R.to_come input.old) (λ bytes. RendersRaw (job_end (W.written output.old) (W.written output.new) (W.failed output.new) result) bytes) }
+        IfSome (R.to_come input.old) (λ bytes. RendersRaw USUAL_LINE_DOTS (job_end (W.written output.old) (W.written output.new) (W.failed output.new) result) bytes) }
     ensures draw_raw { asked ≡ Ok Task.DrawRaw →
-        IfSome (R.to_come input.old) (λ bytes. DrawsRaw (job_end (W.written output.old) (W.written output.new) (W.failed output.new) result) bytes) }
+        IfSome (R.to_come input.old) (λ bytes. DrawsRaw USUAL_LINE_DOTS (job_end (W.written output.old) (W.written output.new) (W.failed output.new) result) bytes) }
+    ensures render_at { (width : ℕ) → asked ≡ Ok (Task.RenderAt width) →
+        IfSome (R.to_come input.old) (λ text. RendersInput width (job_end (W.written output.old) (W.written output.new) (W.failed output.new) result) text) }
+    ensures draw_at { (width : ℕ) → asked ≡ Ok (Task.DrawAt width) →
+        IfSome (R.to_come input.old) (λ text. DrawsInput width (job_end (W.written output.old) (W.written output.new) (W.failed output.new) result) text) }
+    ensures render_raw_at { (width : ℕ) → asked ≡ Ok (Task.RenderRawAt width) →
+        IfSome (R.to_come input.old) (λ bytes. RendersRaw width (job_end (W.written output.old) (W.written output.new) (W.failed output.new) result) bytes) }
+    ensures draw_raw_at { (width : ℕ) → asked ≡ Ok (Task.DrawRawAt width) →
+        IfSome (R.to_come input.old) (λ bytes. DrawsRaw width (job_end (W.written output.old) (W.written output.new) (W.failed output.new) result) bytes) }
     ensures encode_raw { asked ≡ Ok Task.EncodeRaw →
-        IfSome (R.to_come input.old) (λ text. EncodesRaw (job_end (W.written output.old) (W.written output.new) (W.failed output.new) result) text) }
+        IfSome (R.to_come input.old) (λ text. EncodesRaw usual_options (job_end (W.written output.old) (W.written output.new) (W.failed output.new) result) text) }
+    ensures render_text { (width : ℕ) → asked ≡ Ok (Task.RenderText false width) →
+        IfSome (R.to_come input.old) (λ text. RendersText width (job_end (W.written output.old) (W.written output.new) (W.failed output.new) result) text) }
+    ensures render_text_raw { (width : ℕ) → asked ≡ Ok (Task.RenderText true width) →
+        IfSome (R.to_come input.old) (λ bytes. RendersTextRaw width (job_end (W.written output.old) (W.written output.new) (W.failed output.new) result) bytes) }
+    ensures encode_with { (options : ReceiptOptions) → asked ≡ Ok (Task.EncodeWith false options) →
+        IfSome (R.to_come input.old) (λ text. Encodes options (job_end (W.written output.old) (W.written output.new) (W.failed output.new) result) text) }
+    ensures encode_raw_with { (options : ReceiptOptions) → asked ≡ Ok (Task.EncodeWith true options) →
+        IfSome (R.to_come input.old) (λ text. EncodesRaw options (job_end (W.written output.old) (W.written output.new) (W.failed output.new) result) text) }
+    ensures image { (width : ℕ) (threshold : Option ℕ) → asked ≡ Ok (Task.Image width threshold) →
+        IfSome (R.to_come input.old) (λ bytes. MakesEntries width threshold (job_end (W.written output.old) (W.written output.new) (W.failed output.new) result) bytes) }
     ensures play { asked ≡ Ok Task.Play →
         IfSome (R.to_come input.old) (λ text. Plays (job_end (W.written output.old) (W.written output.new) (W.failed output.new) result) text) }
     ensures help { asked ≡ Err NoTask.Help →
@@ -73,18 +99,41 @@ pub fn perform<N: Net<Stream = TcpStream, Listener = TcpListener>, R: ByteIn, W:
     ensures nothing_put { ReadsInput asked → IsTrue (R.failed input.new) → output.new ≡ output.old }
     ensures pulls { R.pull_count input.new ≤ R.pull_count input.old + INPUT_LIMIT + 1 }
 {
-    match asked {
+    match &asked {
         Ok(Task::Check) => check(alloc, input, output),
         Ok(Task::CheckRaw) => check_raw(alloc, input, output),
-        Ok(Task::Render) => render(alloc, input, output),
-        Ok(Task::RenderRaw) => render_raw(alloc, input, output),
-        Ok(Task::Draw) => draw(alloc, input, output),
-        Ok(Task::DrawRaw) => draw_raw(alloc, input, output),
-        Ok(Task::Encode) => encode(alloc, input, output),
-        Ok(Task::EncodeRaw) => encode_raw(alloc, input, output),
+        Ok(Task::Render) => render(alloc, LineWidth::usual(), input, output),
+        Ok(Task::RenderRaw) => render_raw(alloc, LineWidth::usual(), input, output),
+        Ok(Task::Draw) => draw(alloc, LineWidth::usual(), input, output),
+        Ok(Task::DrawRaw) => draw_raw(alloc, LineWidth::usual(), input, output),
+        Ok(Task::RenderAt { width }) => render(alloc, *width, input, output),
+        Ok(Task::RenderRawAt { width }) => render_raw(alloc, *width, input, output),
+        Ok(Task::DrawAt { width }) => draw(alloc, *width, input, output),
+        Ok(Task::DrawRawAt { width }) => draw_raw(alloc, *width, input, output),
+        Ok(Task::RenderText { raw, width }) => if *raw {
+            render_text_raw(alloc, *width, input, output)
+        } else {
+            render_text(alloc, *width, input, output)
+        },
+        Ok(Task::Encode) => encode(alloc, &ReceiptOptions::usual(), input, output),
+        Ok(Task::EncodeRaw) => encode_raw(alloc, &ReceiptOptions::usual(), input, output),
+        Ok(Task::EncodeWith { raw, options }) => {
+            if *raw {
+                encode_raw(alloc, options, input, output)
+            } else {
+                encode(alloc, options, input, output)
+            }
+        }
+        Ok(Task::Image { width, threshold }) => image(alloc, *width, *threshold, input, output),
         Ok(Task::Play) => play(alloc, input, output),
         Ok(Task::Emulate { address, links }) => emulate_in(
-            net, alloc, address, links, ONLINE, output,
+            net,
+            alloc,
+            *address,
+            *links,
+            ONLINE,
+            LineWidth::usual(),
+            output,
         ),
         Ok(
             Task::EmulateIn {
@@ -92,15 +141,51 @@ pub fn perform<N: Net<Stream = TcpStream, Listener = TcpListener>, R: ByteIn, W:
                 links,
                 condition,
             },
-        ) => emulate_in(net, alloc, address, links, condition, output),
-        Ok(Task::Follow { address, condition }) => follow(net, alloc, address, condition, output),
+        ) => emulate_in(
+            net,
+            alloc,
+            *address,
+            *links,
+            *condition,
+            LineWidth::usual(),
+            output,
+        ),
+        Ok(
+            Task::EmulateAt {
+                address,
+                links,
+                condition,
+                width,
+            },
+        ) => emulate_in(net, alloc, *address, *links, *condition, *width, output),
+        Ok(Task::Follow { address, condition }) => {
+            follow(net, alloc, *address, *condition, LineWidth::usual(), output)
+        }
+        Ok(
+            Task::FollowAt {
+                address,
+                condition,
+                width,
+            },
+        ) => follow(net, alloc, *address, *condition, *width, output),
         Ok(
             Task::Send {
                 address,
                 first,
                 openings,
             },
-        ) => send_to(net, alloc, address, first, openings, input, output),
+        ) => send_to(
+            net,
+            alloc,
+            *address,
+            Marks {
+                first: *first,
+                openings: *openings,
+            },
+            &ReceiptOptions::usual(),
+            input,
+            output,
+        ),
         Ok(
             Task::SendWithin {
                 address,
@@ -109,27 +194,49 @@ pub fn perform<N: Net<Stream = TcpStream, Listener = TcpListener>, R: ByteIn, W:
                 wait,
             },
         ) => send_to(
-            &Within::new(net, wait),
+            &Within::new(net, *wait),
             alloc,
-            address,
-            first,
-            openings,
+            *address,
+            Marks {
+                first: *first,
+                openings: *openings,
+            },
+            &ReceiptOptions::usual(),
             input,
             output,
         ),
         Ok(
-            Task::Status {
+            Task::SendWith {
                 address,
-                wait: Some(wait),
+                first,
+                openings,
+                wait,
+                options,
             },
-        ) => show_status(&Within::new(net, wait), address, output),
-        Ok(
-            Task::Status {
-                address,
-                wait: None,
-            },
-        ) => show_status(net, address, output),
-        Ok(Task::Loop) => loop_receipt(net, alloc, input, output),
+        ) => {
+            let marks = Marks {
+                first: *first,
+                openings: *openings,
+            };
+            match *wait {
+                Some(wait) => send_to(
+                    &Within::new(net, wait),
+                    alloc,
+                    *address,
+                    marks,
+                    options,
+                    input,
+                    output,
+                ),
+                None => send_to(net, alloc, *address, marks, options, input, output),
+            }
+        }
+        Ok(Task::Status { address, wait }) => match *wait {
+            Some(wait) => show_status(&Within::new(net, wait), *address, output),
+            None => show_status(net, *address, output),
+        },
+        Ok(Task::Loop) => loop_receipt(net, alloc, LineWidth::usual(), input, output),
+        Ok(Task::LoopAt { width }) => loop_receipt(net, alloc, *width, input, output),
         Err(NoTask::Help) => say(HELP.as_bytes(), output, Status::Good),
         Err(NoTask::Usage) => say(USAGE.as_bytes(), output, Status::Usage),
         Err(NoTask::Memory) => say(MEMORY, output, Status::Memory),

@@ -19,6 +19,7 @@ use crate::script_output::{
     EVENT_BYTES, append_note, append_records, append_refused, append_unreadable,
 };
 use crate::status::Status;
+use escpos_command::LineWidth;
 use escpos_io::{ByteIn, ByteOut, Device, GATHERED_BYTES, Gather, put_all, read_to_end};
 use escpos_link::{Refusal, Sim};
 use escpos_paper::write_items;
@@ -73,7 +74,7 @@ fn play_script<W: ByteOut>(alloc: Global, script: &[u8], output: &mut W) -> Stat
     ensures not_hidden { result ≢ Status.Device → ¬ IsTrue (W.failed output.old) → ¬ IsTrue (W.failed output.new) }
     ensures never_usage { result ≢ Status.Usage }
 {
-    let Ok(mut sim) = Sim::new(alloc, ONLINE, 0) else {
+    let Ok(mut sim) = Sim::new(alloc, ONLINE, 0, LineWidth::usual()) else {
         return say(MEMORY, output, Status::Memory);
     };
     play_on(alloc, script, &mut sim, output)
@@ -103,6 +104,7 @@ fn play_lines<W: ByteOut>(
 ) -> Result<(), ScriptEnd>
     ensures told { result ≢ Err ScriptEnd.Device → (text : List ℕ) × LinesGo result script.now [] sim.old text sim.new
         × Appends (W.written output.old) (W.written output.new) text }
+    ensures width { sim.new.printer.sheet.line_dots ≡ sim.old.printer.sheet.line_dots }
     ensures device { result ≡ Err ScriptEnd.Device → IsTrue (W.failed output.new) }
     ensures not_hidden { result ≢ Err ScriptEnd.Device → ¬ IsTrue (W.failed output.old) → ¬ IsTrue (W.failed output.new) }
 {
@@ -132,6 +134,7 @@ fn play_line(
     requires { length gather.old.kept + EVENT_BYTES ≤ GATHERED_BYTES }
     ensures told { (text : List ℕ) × LineGoes result number sim.old text sim.new × (gather.new.kept ≡ gather.old.kept ++ text) }
     ensures same_count { gather.new.written ≡ gather.old.written }
+    ensures width { sim.new.printer.sheet.line_dots ≡ sim.old.printer.sheet.line_dots }
     ensures no_device { result ≢ Err ScriptEnd.Device }
 {
     match event_of(alloc, line) {
@@ -161,7 +164,7 @@ fn play_line(
 fn close<W: ByteOut>(sim: &Sim, output: &mut W, status: Status) -> Status
     requires { (status ≡ Status.Good) ⊎ (status ≡ Status.Refused) }
     ensures says { PrintsText (job_end (W.written output.old) (W.written output.new) (W.failed output.new) result) (closing_text sim.now) status }
-    ensures stand { Stands sim.now.host.records sim.now.printer.sheet.items }
+    ensures stand { Stands sim.now.printer.sheet.line_dots sim.now.host.records sim.now.printer.sheet.items }
     ensures device { result ≡ Status.Device → IsTrue (W.failed output.new) }
     ensures not_hidden { result ≢ Status.Device → ¬ IsTrue (W.failed output.old) → ¬ IsTrue (W.failed output.new) }
     ensures never_usage { result ≢ Status.Usage }
@@ -175,7 +178,7 @@ fn close<W: ByteOut>(sim: &Sim, output: &mut W, status: Status) -> Status
 // Prints the paper, and how many receipts are recorded.
 fn put_closing<W: ByteOut>(sim: &Sim, output: &mut W) -> Result<(), Device>
     ensures put { OnOk result (Appends (W.written output.old) (W.written output.new) (closing_text sim.now)) }
-    ensures stand { Stands sim.now.host.records sim.now.printer.sheet.items }
+    ensures stand { Stands sim.now.printer.sheet.line_dots sim.now.host.records sim.now.printer.sheet.items }
     ensures failed { OnErr result (IsTrue (W.failed output.new)) }
     ensures not_failed { OnOk result (¬ IsTrue (W.failed output.old) → ¬ IsTrue (W.failed output.new)) }
 {

@@ -1,7 +1,7 @@
 //! Receipt input: a receipt in JSON, read from a source to its end, and what is printed if there is none.
 
 ghost use Rattle.std.specs.Prelude.{◌≡◌, ◌≢◌, ◌⊎◌, ◌+◌, ◌<◌, ◌≤◌, length, Err, IfOk, IfSome, IsErrOf, IsTrue, OnOk, codes};
-ghost use Rattle.escpos_receipt.specs.Describes.{Describes, IsJsonFault};
+ghost use Rattle.escpos_receipt.specs.Describes.{DescribesWith, IsFaultWith};
 ghost use Rattle.escpos_receipt.specs.Whole.{Whole};
 ghost use Rattle.escpos_receipt.specs.declared.json.JsonError.{JsonError};
 ghost use Rattle.escpos_receipt.specs.declared.json.JsonFault.{JsonFault};
@@ -16,6 +16,7 @@ use crate::refusal::refuse_receipt;
 use crate::status::Status;
 use escpos_host::{JsonError, Receipt};
 use escpos_io::{ByteIn, ByteOut, ReadError, read_to_end};
+use escpos_receipt::ReceiptOptions;
 use std::alloc::Global;
 use thiserror::Error;
 
@@ -50,19 +51,23 @@ impl From<JsonError> for NoReceipt {
     }
 }
 
-/// The receipt that `input` describes in JSON. At most 16,777,217 bytes are pulled, in at most as many calls.
-pub fn read_receipt<R: ByteIn>(alloc: Global, input: &mut R) -> Result<Receipt, NoReceipt>
+/// The receipt that `input` describes in JSON, with these options. At most 16,777,217 bytes are pulled, in at most as many calls.
+pub fn read_receipt<R: ByteIn>(
+    alloc: Global,
+    options: &ReceiptOptions,
+    input: &mut R,
+) -> Result<Receipt, NoReceipt>
     ensures receipt { IfOk result (λ receipt. IfSome (R.to_come input.old) (λ text.
-        (length text ≤ INPUT_LIMIT) × Describes text receipt × Whole receipt)) }
+        (length text ≤ INPUT_LIMIT) × DescribesWith options.now text receipt × Whole receipt)) }
     ensures refused { (fault : JsonFault) → IsErrOf result (NoReceipt.Text (JsonError.Refused fault)) →
-        IfSome (R.to_come input.old) (λ text. (length text ≤ INPUT_LIMIT) × IsJsonFault fault text) }
+        IfSome (R.to_come input.old) (λ text. (length text ≤ INPUT_LIMIT) × IsFaultWith options.now fault text) }
     ensures too_long { IsErrOf result (NoReceipt.Input InputFault.TooLong) → IfSome (R.to_come input.old) (λ text. INPUT_LIMIT < length text) }
     ensures device { IsErrOf result (NoReceipt.Input InputFault.Device) → IsTrue (R.failed input.new) }
     ensures not_hidden { IsTrue (R.failed input.new) → IsErrOf result (NoReceipt.Input InputFault.Device) }
     ensures pulls { R.pull_count input.new ≤ R.pull_count input.old + INPUT_LIMIT + 1 }
 {
     let text = read_to_end(alloc, input, INPUT_LIMIT)?;
-    Ok(Receipt::from_json(alloc, &text)?)
+    Ok(Receipt::from_json_with(alloc, options, &text)?)
 }
 
 /// Prints the line that says why an input gives no receipt: `refused input` or the line of the reason, with `Refused`, or

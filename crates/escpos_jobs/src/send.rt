@@ -14,6 +14,7 @@ use crate::status::Status;
 use escpos_command::LF;
 use escpos_host::{Host, HostError, Receipt, SendFault, Sent, send_link};
 use escpos_io::{ByteIn, ByteOut, GATHERED_BYTES, Gather, Incoming, Outgoing, append_number, laws};
+use escpos_receipt::ReceiptOptions;
 use std::alloc::Global;
 use std::net::{Net, SocketAddrV4, TcpStream};
 
@@ -27,7 +28,8 @@ const TEXT_BYTES: usize = 128;
 
 const _: () = prove!(TEXT_BYTES == 128);
 
-/// Reads a receipt in JSON from `input`, connects to the printer at `address`, and sends the receipt as `send_on` does.
+/// Reads a receipt in JSON from `input`, with these options, connects to the printer at `address`, and sends the receipt as `send_on`
+/// does.
 ///
 /// If there is no receipt, nothing is connected, and the line that says why is printed, as for `encode`. If there is no
 /// connection, the line is `no link` and the status `Device`.
@@ -35,8 +37,8 @@ pub fn send_to<N: Net<Stream = TcpStream>, R: ByteIn, W: ByteOut>(
     net: &N,
     alloc: Global,
     address: SocketAddrV4,
-    first: u32,
-    openings: u32,
+    marks: Marks,
+    options: &ReceiptOptions,
     input: &mut R,
     output: &mut W,
 ) -> Status
@@ -46,12 +48,12 @@ pub fn send_to<N: Net<Stream = TcpStream>, R: ByteIn, W: ByteOut>(
     ensures nothing_put { IsTrue (R.failed input.new) → output.new ≡ output.old }
     ensures pulls { R.pull_count input.new ≤ R.pull_count input.old + INPUT_LIMIT + 1 }
 {
-    let receipt = match read_receipt(alloc, input) {
+    let receipt = match read_receipt(alloc, options, input) {
         Ok(receipt) => receipt,
         Err(fault) => return refuse_input(fault, output),
     };
     match TcpStream::connect(net, address) {
-        Ok(stream) => send_on(alloc, &stream, first, openings, receipt, output),
+        Ok(stream) => send_on(alloc, &stream, marks.first, marks.openings, receipt, output),
         Err(_) => say(NO_LINK, output, Status::Device),
     }
 }

@@ -12,14 +12,17 @@ pub const VERSION: &str = "escpos_cli 1.0.0, profile 3\n";
 /// The text for arguments that name no task.
 pub const USAGE: &str = "\
 usage: escpos_cli check [--raw] < STREAM
-       escpos_cli render [--raw] < STREAM
-       escpos_cli draw [--raw] < STREAM
-       escpos_cli encode [--raw] < RECEIPT
+       escpos_cli render [--raw] [--width D] [--text] < STREAM
+       escpos_cli draw [--raw] [--width D] < STREAM
+       escpos_cli encode [--raw] [--width D] [--replace C] < RECEIPT
+       escpos_cli image [--width D] [--threshold T] < PICTURE
        escpos_cli play < SCRIPT
        escpos_cli emulate ADDRESS [--links N | --follow] [--condition CNP]
-       escpos_cli send ADDRESS --first F [--openings N] [--wait S] < RECEIPT
+                                  [--width D]
+       escpos_cli send ADDRESS --first F [--openings N] [--wait S]
+                               [--width D] [--replace C] < RECEIPT
        escpos_cli status ADDRESS [--wait S]
-       escpos_cli loop < RECEIPT
+       escpos_cli loop [--width D] < RECEIPT
        escpos_cli queue LEDGER < RECEIPT
        escpos_cli deliver LEDGER ADDRESS [--openings N] [--copy TEXT]
                                          [--wait S]
@@ -159,12 +162,12 @@ line `memory` says that the program ran out of memory.
           1D 7A     GS z    refused: settings of the machine
           1D 7C     GS |    refused: settings of the machine
 
-  escpos_cli render [--raw]
+  escpos_cli render [--raw] [--width D] [--text]
       Writes the paper that the commands print, an item a line: rows of
       characters with their alignment and styles, barcodes, rasters, QR codes,
       feeds of lines (`feed`) and of motion units (`units`), and cuts. After a
       refused byte or a command that isn't complete the last line of `check`
-      follows.
+      follows. A line has 512 dots, or as many as --width says, 1 to 1024.
 
           $ escpos_cli render --raw < capture.bin
           $ echo '1B 40 48 69 0A 1D 56 00' | escpos_cli render
@@ -191,7 +194,15 @@ line `memory` says that the program ran out of memory.
           $ echo '1D 6B 44 07 35 35 31 32 33 34 35' | escpos_cli render
           bars left ean8 162 3 none A 55123457
 
-  escpos_cli draw [--raw]
+      With --text a row has no styles: it is `row ALIGN TEXT`, in the characters
+      that its bytes print with their code table and character set, in UTF-8,
+      and U+FFFD for each that isn't known.
+
+          $ echo '1B 74 13 D5 34 0A' | escpos_cli render --text
+          row left €4
+          feed 1
+
+  escpos_cli draw [--raw] [--width D]
       Draws the same paper as a picture, an SVG document that any browser shows:
       text that can be selected, the dots of rasters, and barcodes that a
       scanner reads. One that doesn't fit on the line, or that its symbology
@@ -203,7 +214,7 @@ line `memory` says that the program ran out of memory.
           $ escpos_cli draw --raw < capture.bin > receipt.svg
           $ echo '1B 40 48 69 0A 1D 56 00' | escpos_cli draw > receipt.svg
 
-  escpos_cli encode [--raw]
+  escpos_cli encode [--raw] [--width D] [--replace C]
       Reads a receipt in JSON from standard input, and writes the bytes of its
       commands: with `--raw` as they are, with no line end, otherwise in
       hexadecimal, in one line.
@@ -215,8 +226,15 @@ line `memory` says that the program ran out of memory.
       A receipt is an array of objects with one member each. A number is an
       integer without sign, fraction or exponent.
 
-          {\"text\":\"Total\"}           characters 20 to 7F, hexadecimal
+          {\"text\":\"Total\"}           text in Unicode, without control characters
           {\"line\":\"Total\"}           the same, and a line feed
+          {\"pair\":[\"Coffee\",\"4.20\"]} a text on the left, one at the end of the
+                                     line
+          {\"row\":[[\"Coffee\",20],[\"4.20\",-9]]}
+                                     texts in fields of so many characters, at
+                                     the right where the number is negative
+          {\"rule\":\"-\"}               a line full of a character
+          {\"wrap\":\"Thank you\"}       a text, broken at blanks into lines
           {\"feed\":3}                 a feed of 0 to 255 lines
           {\"units\":40}               a feed of 0 to 255 motion units
           {\"spacing\":40}             a line spacing of 0 to 255 motion units, or
@@ -232,6 +250,7 @@ line `memory` says that the program ran out of memory.
           {\"underline\":1}            underline of 0 to 2 dots
           {\"font\":\"B\"}               font, \"A\" or \"B\"
           {\"table\":16}               code table, 0 to 255
+          {\"tables\":[0,19]}          code tables that texts may use, see below
           {\"charset\":2}              international character set, 0 to 17
           {\"align\":\"center\"}         \"left\", \"center\" or \"right\"
           {\"upside\":true}            lines upside down, true or false
@@ -260,8 +279,40 @@ line `memory` says that the program ran out of memory.
       barcode, an image, a QR code or a cut. Input that isn't a receipt gives
       one line, `refused N NAME` or `refused N NAME PLACE`: 1 Empty, 3 TextLeft,
       4 MidLine (where PLACE is the command's), 5 NotJson, 6 BadShape,
-      7 ControlByte, 8 NotAscii (where PLACE is the entry's). Places are counted
-      from 0.
+      7 ControlByte, 8 NoCharacter (where PLACE is the entry's). Places are
+      counted from 0. NoCharacter is followed by the character, as U+6F22.
+
+      Each character of a text is printed with the code table in force if that
+      has it, otherwise with the first of `tables` that has it, which is then in
+      force. Where no `tables` are given, these are 0, 19, 16, 18, 17, 14, 13, 1
+      and then all others that are known, by their numbers. With --replace the
+      character C, 20 to 7E hexadecimal, is printed in place of one that none
+      has; otherwise a receipt with such a character is refused.
+
+      A pair, a row, a rule and a wrapped text are whole lines, in the font and
+      size in force; text that is in the line is printed first. A line has 512
+      dots, or as many as --width says. What doesn't fit on it is wrapped: a
+      pair's right text comes on a line of its own if it must. Text that doesn't
+      fit into its field is cut off.
+
+          $ echo '[{\"pair\":[\"Tea\",\"2.10\"]}]' |
+            escpos_cli encode --width 144 | escpos_cli render --width 144
+          row left Tea     2.10
+          feed 1
+
+  escpos_cli image [--width D] [--threshold T]
+      Reads a PBM, PGM or PPM picture (P1 to P6), and writes the entries of a
+      receipt that print it, an entry a line. A picture that is wider than a
+      line, of D dots, 1 to 1024, or 512 without --width, is scaled down to it.
+      With --threshold a dot is black where its gray value, 0 to 255, is below
+      T, 1 to 255; otherwise the grays are shown by dots that lie closer or
+      wider (Floyd and Steinberg). Input that is no picture gives one line,
+      `refused N NAME` or `refused N NAME PLACE`, with the place of the byte: 1
+      NotPicture, 2 BadHeader, 3 BadSize, 4 BadMaximum, 5 BadSample, 6 CutShort.
+
+          $ pngtopnm logo.png | escpos_cli image --width 384
+          $ printf 'P1 8 2 11110000 00001111' | escpos_cli image
+          {\"raster\":{\"scale\":\"normal\",\"x\":1,\"y\":2,\"dots\":\"f00f\"}}
 
   escpos_cli play
       Reads a script of what happens on a line between a host, as a till is, and
@@ -329,6 +380,7 @@ line `memory` says that the program ran out of memory.
                                       records 1
 
   escpos_cli emulate ADDRESS [--links N | --follow] [--condition CNP]
+                             [--width D]
       Is a printer that listens at ADDRESS, an IPv4 address and a port as in
       127.0.0.1:9100. It serves N links one after another, 1 to 1000; one
       without --links. When a link has ended it prints `link I read R consumed C
@@ -351,6 +403,7 @@ line `memory` says that the program ran out of memory.
           feed 1
 
   escpos_cli send ADDRESS --first F [--openings N] [--wait S]
+                          [--width D] [--replace C]
       Reads a receipt in JSON as `encode` does, connects to the printer at
       ADDRESS, sends the receipt, and waits for the answer to the mark after it.
       Then the receipt is on paper, and the first line is `recorded 0`;
@@ -359,6 +412,7 @@ line `memory` says that the program ran out of memory.
       MarksUsedUp; or it is `memory`. A receipt that isn't recorded may be on
       paper or not. Without a connection the one line is `no link`. Input that
       isn't a receipt is refused as by `encode`, and nothing is connected.
+      --width and --replace are those of `encode`.
 
       With --wait the connection is made within S seconds, 1 to 3600, or there
       is none, and a wait of S seconds for a byte, or to put one, gives
@@ -386,7 +440,7 @@ line `memory` says that the program ran out of memory.
           cover closed
           paper there
 
-  escpos_cli loop
+  escpos_cli loop [--width D]
       Reads a receipt, is both ends of a link over 127.0.0.1, and prints the
       paper and then `recorded 0`. If something goes wrong, the last line is
       that of `send`, or `not recorded` and the end of the printer's link.

@@ -1,5 +1,5 @@
 -- What a till's owner wants to be sure of follows from what holds for every till.
-use Rattle.std.proofs.Common.{◌≡◌, None, Result, Ok, Err, IfErr, List, [], refl, sym, subst, arith}
+use Rattle.std.proofs.Common.{◌≡◌, ℕ, None, Result, Ok, Err, IfErr, List, [], refl, sym, subst, arith}
 use Rattle.std.specs.Prelude.{IfOk, OnOk}
 use Rattle.escpos_paper.specs.declared.item.Item.{Item}
 use Rattle.escpos_host.specs.Machine.{Down, HostView}
@@ -22,11 +22,11 @@ use Rattle.escpos_till_model.specs.Steps.{After, GoesOnLine, Refuses}
 use Rattle.escpos_till_model.proofs.Accounts.{each_is_kept}
 use Rattle.escpos_till_model.proofs.Tilling.{keeps, keeps_refused}
 
-pub till_stands : (t : TillParts) (paper : List Item) → IsTill t → Stands t.line.host.records paper → RecordedStand (entries_of t) paper
-till_stands t paper till stands = record {
+pub till_stands : (width : ℕ) (t : TillParts) (paper : List Item) → IsTill t → Stands width t.line.host.records paper → RecordedStand width (entries_of t) paper
+till_stands width t paper till stands = record {
   receipts = till.keeps.receipts;
   are = till.keeps.are;
-  stand = stands_front till.keeps.receipts till.keeps.answered paper (subst (λ rs. Stands rs paper) till.keeps.records stands);
+  stand = stands_front width till.keeps.receipts till.keeps.answered paper (subst (λ rs. Stands width rs paper) till.keeps.records stands);
 }
 
 pub till_keeps : (t : TillParts) → IsTill t → EachIsKept (entries_of t)

@@ -50,11 +50,12 @@ AreReceipts entries receipts = AllZip (IsReceiptOf entries) (recorded entries) r
 abbrev pub Extends : List Entry → List Entry → Type 0
 Extends entries after = (more : List Entry) × (after ≡ entries ++ more)
 
--- What is recorded stands on the paper whole, one receipt after another in the order of recording.
-pub record RecordedStand (entries : List Entry) (paper : List Item) : Type 0 where
+-- What is recorded stands on the paper whole, one receipt after another in the order of recording, each as a printer with lines
+-- of this width in dots prints it.
+pub record RecordedStand (width : ℕ) (entries : List Entry) (paper : List Item) : Type 0 where
   pub receipts : List (List Command)
   pub are : AreReceipts entries receipts
-  pub stand : Stands receipts paper
+  pub stand : Stands width receipts paper
 
 -- Each receipt that was taken waits or is recorded, and none is both; what is recorded was taken, and none is recorded twice.
 pub record EachIsKept (entries : List Entry) : Type 0 where

@@ -39,6 +39,7 @@ impl TillParts {
         ensures number { IfOk result (λ number. number ≡ length (taken (entries_of self.new))) }
         ensures refused { IfErr result (λ why. Refuses (event.Queue json.now) why self.old self.new) }
         ensures desk { IsDesk self.new.desk }
+        ensures width { self.new.line.printer.sheet.line_dots ≡ self.old.line.printer.sheet.line_dots }
     {
         let Desk::On(ledger) = &mut self.desk else {
             return Err(TillRefusal::SwitchedOff);
@@ -57,6 +58,7 @@ impl TillParts {
         ensures happened { OnOk result (After (event.Raise first) self.old self.new) }
         ensures refused { IfErr result (λ why. Refuses (event.Raise first) why self.old self.new) }
         ensures desk { IsDesk self.new.desk }
+        ensures width { self.new.line.printer.sheet.line_dots ≡ self.old.line.printer.sheet.line_dots }
     {
         let Desk::On(ledger) = &mut self.desk else {
             return Err(TillRefusal::SwitchedOff);
@@ -82,6 +84,7 @@ impl TillParts {
         ensures number { IfOk result (λ number. (hand : Hand) × (self.new.hand ≡ Some hand) × (number ≡ hand.number)) }
         ensures refused { IfErr result (λ why. Refuses (event.TakeInHand openings (option_map (λ t. t.now) copy.entry)) why self.old self.new) }
         ensures desk { IsDesk self.new.desk }
+        ensures width { self.new.line.printer.sheet.line_dots ≡ self.old.line.printer.sheet.line_dots }
     {
         if self.hand.is_some() {
             return Err(TillRefusal::InHand);
@@ -118,6 +121,7 @@ impl TillParts {
         requires { IsTill self.old }
         ensures happened { OnOk result (After (event.TakeInHand openings copy.now) self.old self.new) }
         ensures refused { IfErr result (λ why. Refuses (event.TakeInHand openings copy.now) why self.old self.new) }
+        ensures width { self.new.line.printer.sheet.line_dots ≡ self.old.line.printer.sheet.line_dots }
     {
         let taken = match copy {
             None => self.take_in_hand(alloc, openings, None),
@@ -133,6 +137,7 @@ impl TillParts {
     pub(crate) fn use_mark(&mut self, event: Event) -> Result<(), TillRefusal>
         ensures happened { OnOk result ((hand : Hand) × UsesMark event self.old hand hand self.new) }
         ensures refused { IfErr result (λ why. RefusesMark event why self.old self.new) }
+        ensures width { self.new.line.printer.sheet.line_dots ≡ self.old.line.printer.sheet.line_dots }
     {
         let Some(hand) = &self.hand else {
             return Err(TillRefusal::NothingInHand);
@@ -150,6 +155,7 @@ impl TillParts {
     pub(crate) fn submit(&mut self) -> Result<(), TillRefusal>
         ensures happened { OnOk result (After event.Submit self.old self.new) }
         ensures refused { IfErr result (λ why. Refuses event.Submit why self.old self.new) }
+        ensures width { self.new.line.printer.sheet.line_dots ≡ self.old.line.printer.sheet.line_dots }
     {
         let Some(hand) = &mut self.hand else {
             return Err(TillRefusal::NothingInHand);
@@ -163,6 +169,7 @@ impl TillParts {
         ensures number { IfOk result (λ number. (hand : Hand) × (self.old.hand ≡ Some hand) × (number ≡ hand.number)) }
         ensures refused { IfErr result (λ why. Refuses event.Record why self.old self.new) }
         ensures desk { IsDesk self.new.desk }
+        ensures width { self.new.line.printer.sheet.line_dots ≡ self.old.line.printer.sheet.line_dots }
     {
         // Proof only: what the ledger has is in its store.
         self.desk.is_sound();
@@ -187,6 +194,7 @@ impl TillParts {
     pub(crate) fn give_up(&mut self) -> Result<(), TillRefusal>
         ensures happened { OnOk result (After event.GiveUp self.old self.new) }
         ensures refused { IfErr result (λ why. Refuses event.GiveUp why self.old self.new) }
+        ensures width { self.new.line.printer.sheet.line_dots ≡ self.old.line.printer.sheet.line_dots }
     {
         if self.hand.is_none() {
             return Err(TillRefusal::NothingInHand);
@@ -198,7 +206,8 @@ impl TillParts {
 
     // The till is switched off.
     pub(crate) fn crash(&mut self, alloc: Global)
-        ensures { After event.Crash self.old self.new }
+        ensures crashed { After event.Crash self.old self.new }
+        ensures width { self.new.line.printer.sheet.line_dots ≡ self.old.line.printer.sheet.line_dots }
     {
         let desk = replace(&mut self.desk, Desk::empty(alloc));
         self.desk = Desk::Off(desk.into_store(alloc, Failure::Never));
@@ -210,6 +219,7 @@ impl TillParts {
     pub(crate) fn start(&mut self, alloc: Global, failure: Failure) -> Result<(), TillRefusal>
         ensures happened { OnOk result (After (event.Start failure) self.old self.new) }
         ensures refused { IfErr result (λ why. Refuses (event.Start failure) why self.old self.new) }
+        ensures width { self.new.line.printer.sheet.line_dots ≡ self.old.line.printer.sheet.line_dots }
     {
         let Desk::Off(_) = &self.desk else {
             return Err(TillRefusal::SwitchedOn);
@@ -235,6 +245,7 @@ impl TillParts {
         ensures happened { OnOk result (After happening self.old self.new) }
         ensures refused { IfErr result (λ why. Refuses happening why self.old self.new) }
         ensures desk { IsDesk self.new.desk }
+        ensures width { self.new.line.printer.sheet.line_dots ≡ self.old.line.printer.sheet.line_dots }
     {
         let result = self.happen_so(alloc, happening);
         // Proof only: what the ledger has is in its store.
@@ -247,6 +258,7 @@ impl TillParts {
         requires { IsTill self.old }
         ensures happened { OnOk result (After happening self.old self.new) }
         ensures refused { IfErr result (λ why. Refuses happening why self.old self.new) }
+        ensures width { self.new.line.printer.sheet.line_dots ≡ self.old.line.printer.sheet.line_dots }
     {
         match happening {
             TillEvent::Queue(json) => match self.queue(alloc, json.bytes()) {
@@ -279,6 +291,7 @@ impl TillParts {
     pub(crate) fn on_line(&mut self, happening: Event) -> Result<Note, TillRefusal>
         ensures happened { IfOk result (λ note. GoesOnLine happening self.old note self.new) }
         ensures refused { IfErr result (λ why. Refuses (event.OnLine happening) why self.old self.new) }
+        ensures width { self.new.line.printer.sheet.line_dots ≡ self.old.line.printer.sheet.line_dots }
     {
         if is_host_call(&happening) {
             return Err(TillRefusal::IsHostCall);
@@ -294,6 +307,7 @@ impl TillParts {
 fn give(hand: &mut Hand, line: &mut Sim) -> Result<(), TillRefusal>
     ensures gives { OnOk result (Gives hand.old line.old hand.new line.new) }
     ensures refused { IfErr result (λ why. RefusesGiving why hand.old line.old hand.new line.new) }
+    ensures width { line.new.printer.sheet.line_dots ≡ line.old.printer.sheet.line_dots }
 {
     if line.host().next_mark() >= hand.limit {
         return Err(TillRefusal::NoneReserved);

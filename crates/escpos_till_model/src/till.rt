@@ -18,6 +18,7 @@ use crate::desk::Desk;
 use crate::event::{TillEvent, TillRefusal};
 use crate::hand::Hand;
 use crate::parts::TillParts;
+use escpos_command::LineWidth;
 use escpos_link::{Event, Note, Sim};
 use escpos_paper::Item;
 use escpos_printer::Condition;
@@ -27,7 +28,8 @@ use std::collections::VecDeque;
 use std::marker::Model;
 
 /// A till over a line. Whatever happens to it, each receipt that it has taken waits or is recorded, and those that are
-/// recorded stand on the printer's paper, whole and in the order of recording.
+/// recorded stand on the printer's paper, whole and in the order of recording, in lines of the width that the printer was made
+/// with.
 #[derive(Drop)]
 pub struct Till {
     parts: TillParts,
@@ -47,22 +49,23 @@ impl Model for Till {
 
 impl Till {
     /// A till that is switched off and has taken no receipt, over a line without links to a printer with nothing on its paper,
-    /// switched on in this condition. The error is a failed allocation.
-    pub fn new(alloc: Global, condition: Condition) -> Result<Self, AllocError>
+    /// switched on in this condition, that prints lines of this width. No event changes the width. The error is a failed
+    /// allocation.
+    pub fn new(alloc: Global, condition: Condition, width: LineWidth) -> Result<Self, AllocError>
         ensures desk { IfOk result (λ till. till.desk ≡ Off []) }
         ensures hand { IfOk result (λ till. till.hand ≡ None) }
         ensures host { IfOk result (λ till. till.line.host ≡ record { phase = Down; out = []; half = []; next = 0; records = []; left = [] }) }
-        ensures sheet { IfOk result (λ till. SheetIs till.line.printer.sheet [] []) }
+        ensures sheet { IfOk result (λ till. SheetIs width till.line.printer.sheet [] []) }
         ensures half { IfOk result (λ till. till.line.printer.half ≡ []) }
         ensures waiting { IfOk result (λ till. till.line.printer.waiting ≡ []) }
         ensures condition { IfOk result (λ till. till.line.printer.condition ≡ condition) }
         ensures ended { IfOk result (λ till. till.line.ended ≡ []) }
         ensures live { IfOk result (λ till. till.line.live ≡ None) }
         ensures coming { IfOk result (λ till. till.line.coming ≡ []) }
-        ensures stands { IfOk result (λ till. RecordedStand (entries_of till) till.line.printer.sheet.items) }
+        ensures stands { IfOk result (λ till. RecordedStand width (entries_of till) till.line.printer.sheet.items) }
         ensures kept { IfOk result (λ till. EachIsKept (entries_of till)) }
     {
-        let line = Sim::new(alloc, condition, 0)?;
+        let line = Sim::new(alloc, condition, 0, width)?;
         Ok(Till {
             parts: TillParts {
                 desk: Desk::empty(alloc),
@@ -85,7 +88,8 @@ impl Till {
         ensures unused { OnErr result (UsesMarks self.old [] self.new) }
         // Whatever happened, what the ledger had it has; what is recorded stands on the paper; each receipt waits or is recorded.
         ensures extends { Extends (entries_of self.old) (entries_of self.new) }
-        ensures stands { RecordedStand (entries_of self.new) self.new.line.printer.sheet.items }
+        ensures stands { RecordedStand self.new.line.printer.sheet.line_dots (entries_of self.new) self.new.line.printer.sheet.items }
+        ensures width { self.new.line.printer.sheet.line_dots ≡ self.old.line.printer.sheet.line_dots }
         ensures kept { EachIsKept (entries_of self.new) }
     {
         let result = self.parts.happen(self.alloc, happening);
@@ -100,7 +104,8 @@ impl Till {
         ensures ran { RanWell self.old events.items self.new }
         // What the ledger had it has; what is recorded stands on the paper; each receipt that was taken waits or is recorded.
         ensures extends { Extends (entries_of self.old) (entries_of self.new) }
-        ensures stands { RecordedStand (entries_of self.new) self.new.line.printer.sheet.items }
+        ensures stands { RecordedStand self.new.line.printer.sheet.line_dots (entries_of self.new) self.new.line.printer.sheet.items }
+        ensures width { self.new.line.printer.sheet.line_dots ≡ self.old.line.printer.sheet.line_dots }
         ensures kept { EachIsKept (entries_of self.new) }
     {
         let mut left = VecDeque::from_vec(events);
@@ -119,6 +124,7 @@ impl Till {
         ensures number { IfOk result (λ number. number ≡ length (taken (entries_of self.new))) }
         ensures taken { IfOk result (λ number. IsTaken (entries_of self.new) number json.now) }
         ensures refused { IfErr result (λ why. Refuses (event.Queue json.now) why self.old self.new) }
+        ensures width { self.new.line.printer.sheet.line_dots ≡ self.old.line.printer.sheet.line_dots }
     {
         self.parts.queue(self.alloc, json)
     }
@@ -129,6 +135,7 @@ impl Till {
     pub fn raise(&mut self, first: u32) -> Result<(), TillRefusal>
         ensures happened { OnOk result (After (event.Raise first) self.old self.new) }
         ensures refused { IfErr result (λ why. Refuses (event.Raise first) why self.old self.new) }
+        ensures width { self.new.line.printer.sheet.line_dots ≡ self.old.line.printer.sheet.line_dots }
     {
         self.parts.raise(first)
     }
@@ -148,6 +155,7 @@ impl Till {
         ensures happened { OnOk result (After (event.TakeInHand openings (option_map (λ t. t.now) copy.entry)) self.old self.new) }
         ensures number { IfOk result (λ number. (hand : Hand) × (self.new.hand ≡ Some hand) × (number ≡ hand.number)) }
         ensures refused { IfErr result (λ why. Refuses (event.TakeInHand openings (option_map (λ t. t.now) copy.entry)) why self.old self.new) }
+        ensures width { self.new.line.printer.sheet.line_dots ≡ self.old.line.printer.sheet.line_dots }
     {
         self.parts.take_in_hand(self.alloc, openings, copy)
     }
@@ -160,6 +168,7 @@ impl Till {
         ensures happened { OnOk result (After event.LinkUp self.old self.new) }
         ensures refused { IfErr result (λ why. Refuses event.LinkUp why self.old self.new) }
         ensures possible { IfErr result IsPossible }
+        ensures width { self.new.line.printer.sheet.line_dots ≡ self.old.line.printer.sheet.line_dots }
     {
         let result = self.parts.use_mark(Event::LinkUp);
         // Proof only: what the ledger has is in its store.
@@ -175,6 +184,7 @@ impl Till {
         ensures happened { OnOk result (After event.Nudge self.old self.new) }
         ensures refused { IfErr result (λ why. Refuses event.Nudge why self.old self.new) }
         ensures possible { IfErr result IsPossible }
+        ensures width { self.new.line.printer.sheet.line_dots ≡ self.old.line.printer.sheet.line_dots }
     {
         let result = self.parts.use_mark(Event::Nudge);
         // Proof only: what the ledger has is in its store.
@@ -191,6 +201,7 @@ impl Till {
         ensures happened { OnOk result (After event.Submit self.old self.new) }
         ensures refused { IfErr result (λ why. Refuses event.Submit why self.old self.new) }
         ensures possible { IfErr result IsPossible }
+        ensures width { self.new.line.printer.sheet.line_dots ≡ self.old.line.printer.sheet.line_dots }
     {
         let result = self.parts.submit();
         // Proof only: what the ledger has is in its store.
@@ -207,6 +218,7 @@ impl Till {
         ensures happened { OnOk result (After event.Record self.old self.new) }
         ensures number { IfOk result (λ number. (hand : Hand) × (self.old.hand ≡ Some hand) × (number ≡ hand.number)) }
         ensures refused { IfErr result (λ why. Refuses event.Record why self.old self.new) }
+        ensures width { self.new.line.printer.sheet.line_dots ≡ self.old.line.printer.sheet.line_dots }
     {
         self.parts.record()
     }
@@ -215,6 +227,7 @@ impl Till {
     pub fn give_up(&mut self) -> Result<(), TillRefusal>
         ensures happened { OnOk result (After event.GiveUp self.old self.new) }
         ensures refused { IfErr result (λ why. Refuses event.GiveUp why self.old self.new) }
+        ensures width { self.new.line.printer.sheet.line_dots ≡ self.old.line.printer.sheet.line_dots }
     {
         let result = self.parts.give_up();
         // Proof only: what the ledger has is in its store.
@@ -225,7 +238,8 @@ impl Till {
     /// The till is switched off, whatever it was doing: its host and the receipt in hand are gone, and what its store has is
     /// left.
     pub fn crash(&mut self)
-        ensures { After event.Crash self.old self.new }
+        ensures crashed { After event.Crash self.old self.new }
+        ensures width { self.new.line.printer.sheet.line_dots ≡ self.old.line.printer.sheet.line_dots }
     {
         self.parts.crash(self.alloc);
     }
@@ -238,6 +252,7 @@ impl Till {
         ensures happened { OnOk result (After (event.Start failure) self.old self.new) }
         ensures refused { IfErr result (λ why. Refuses (event.Start failure) why self.old self.new) }
         ensures possible { IfErr result IsPossible }
+        ensures width { self.new.line.printer.sheet.line_dots ≡ self.old.line.printer.sheet.line_dots }
     {
         let result = self.parts.start(self.alloc, failure);
         // Proof only: what the ledger has is in its store.
@@ -252,6 +267,7 @@ impl Till {
         ensures happened { IfOk result (λ note. GoesOnLine happening self.old note self.new) }
         ensures refused { IfErr result (λ why. Refuses (event.OnLine happening) why self.old self.new) }
         ensures possible { IfErr result IsPossible }
+        ensures width { self.new.line.printer.sheet.line_dots ≡ self.old.line.printer.sheet.line_dots }
     {
         let result = self.parts.on_line(happening);
         // Proof only: what the ledger has is in its store.
@@ -284,7 +300,7 @@ impl Till {
     pub fn paper(&self) -> &[Item]
         ensures items { result.now ≡ self.now.line.printer.sheet.items }
         // What the ledger has as recorded stands on every paper.
-        ensures stands { RecordedStand (entries_of self.now) result.now }
+        ensures stands { RecordedStand self.now.line.printer.sheet.line_dots (entries_of self.now) result.now }
         ensures kept { EachIsKept (entries_of self.now) }
     {
         self.parts.line.paper()
@@ -294,7 +310,7 @@ impl Till {
     /// stands on the paper; and each receipt that was taken waits or is recorded.
     pub fn is_sound(&self)
         ensures till { IsTill self.now }
-        ensures stands { RecordedStand (entries_of self.now) self.now.line.printer.sheet.items }
+        ensures stands { RecordedStand self.now.line.printer.sheet.line_dots (entries_of self.now) self.now.line.printer.sheet.items }
         ensures kept { EachIsKept (entries_of self.now) }
     {
         // Proof only: what the host has recorded stands on the paper.

@@ -16,9 +16,10 @@ returns c =
     ∙ ap (on_top (λ s. record s { no_binary_name = true })) c.new.ensures.app)) in
     let app_is : app_of c.in_ok-command.command ≡ stream_words =
     c.in_ok-command.ensures.shape c.new-2.ensures.local
+    ∙ ap₂ with_subcommand (c.in_ok-subcommand-5.ensures.shape (is_local c.in_ok-image.image _ c.in_ok-image.ensures.shape refl)
     ∙ ap₂ with_subcommand (c.in_ok-subcommand-4.ensures.shape (is_local c.in_ok-encode.encode _ c.in_ok-encode.ensures.shape refl)
     ∙ ap₂ with_subcommand (c.in_ok-subcommand-3.ensures.shape (is_local c.in_ok-draw.draw _ c.in_ok-draw.ensures.shape refl)
     ∙ ap₂ with_subcommand (c.in_ok-subcommand-2.ensures.shape (is_local c.in_ok-render.render _ c.in_ok-render.ensures.shape refl)
     ∙ ap₂ with_subcommand (c.in_ok-subcommand.ensures.shape (is_local c.in_ok-check.check _ c.in_ok-check.ensures.shape refl)
-    ∙ ap₂ with_subcommand top_is c.in_ok-check.ensures.shape) c.in_ok-render.ensures.shape) c.in_ok-draw.ensures.shape) c.in_ok-encode.ensures.shape) (ap top c.new-2.ensures.app) in
+    ∙ ap₂ with_subcommand top_is c.in_ok-check.ensures.shape) c.in_ok-render.ensures.shape) c.in_ok-draw.ensures.shape) c.in_ok-encode.ensures.shape) c.in_ok-image.ensures.shape) (ap top c.new-2.ensures.app) in
     record { shape = app_is }

@@ -1,15 +1,17 @@
 use Rattle.std.proofs.Common.{◌≡◌, ◌∙◌, ap, ap₂, true, false, codes}
 use Rattle.clap.specs.Words.{App, app_of, new_app, with_rule}
-use Rattle.escpos_arguments.specs.Arguments.{address_rule, option_rule}
+use Rattle.escpos_arguments.specs.Arguments.{address_rule, option_rule, replace_rule, width_rule}
 use Rattle.escpos_arguments.proofs.arguments.send_command.Goals as goal
 
 pub returns : goal.returns
 returns c =
-    let app_is : app_of c.in_ok-command.command ≡ with_rule (with_rule (with_rule (with_rule (new_app (codes "send")) address_rule)
-    (option_rule (codes "first") true)) (option_rule (codes "openings") false)) (option_rule (codes "wait") false) =
-    c.in_ok-command.ensures.shape c.option-3.ensures.local
+    let app_is : app_of c.in_ok-command.command ≡ with_rule (with_rule (with_rule (with_rule (with_rule (with_rule (new_app (codes "send")) address_rule)
+    (option_rule (codes "first") true)) (option_rule (codes "openings") false)) (option_rule (codes "wait") false)) width_rule) replace_rule =
+    c.in_ok-command.ensures.shape c.option-5.ensures.local
+    ∙ ap₂ with_rule (c.in_ok-arg-5.ensures.shape c.option-4.ensures.local
+    ∙ ap₂ with_rule (c.in_ok-arg-4.ensures.shape c.option-3.ensures.local
     ∙ ap₂ with_rule (c.in_ok-arg-3.ensures.shape c.option-2.ensures.local
     ∙ ap₂ with_rule (c.in_ok-arg-2.ensures.shape c.option.ensures.local
     ∙ ap₂ with_rule (c.in_ok-arg.ensures.shape c.address.ensures.local
-    ∙ ap₂ with_rule c.new.ensures.app c.address.ensures.rule) c.option.ensures.rule) c.option-2.ensures.rule) c.option-3.ensures.rule in
+    ∙ ap₂ with_rule c.new.ensures.app c.address.ensures.rule) c.option.ensures.rule) c.option-2.ensures.rule) c.option-3.ensures.rule) c.option-4.ensures.rule) c.option-5.ensures.rule in
     record { shape = ap (λ (a : App). a.top) app_is }

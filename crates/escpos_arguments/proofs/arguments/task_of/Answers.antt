@@ -4,7 +4,7 @@ use Rattle.std.proofs.lemmas.Result.{IfOk-weaker}
 use Rattle.std.proofs.lemmas.List.{length-map}
 use Rattle.clap.specs.Words.{fault_of, found_of, rows_of}
 use Rattle.escpos_arguments.specs.Arguments.{Asks, command_words, name_of}
-use Rattle.escpos_arguments.proofs.TaskWords.{help_is_among, help_met, help_passes, is_found, is_help, is_word, met_by, none_found, not_raw, plain_words, refused_for_help, refused_for_memory, same_name, task_met, task_passes}
+use Rattle.escpos_arguments.proofs.TaskWords.{help_is_among, help_met, help_passes, is_bare, is_found, is_help, is_word, met_by, none_found, plain_words, refused_for_help, refused_for_memory, same_name, task_met, task_passes}
 use Rattle.escpos_jobs.specs.declared.task.NoTask.TheVariants.{Help}
 use Rattle.escpos_arguments.proofs.arguments.task_of.Goals as goal
 
@@ -55,7 +55,7 @@ returns-in-Some-clause-named g c = λ task alone e.
     let rows = rows_of (found_of c.in-Some.given.now) in
     let found = is_found c.in-Ok.matches texts name rows c.in-Ok.ensures.found c.in-Some.ensures.name c.in-Some.ensures.rows in
     inl (c.task_asked.ensures.named task alone (same_name texts name (name_of task) rows found (ap met_by e ∙ task_met task alone))
-    (sym (length-map _ _) ∙ ap length e) (not_raw task texts name rows alone found e))
+    (sym (length-map _ _) ∙ ap length e) (is_bare task texts name rows alone found e))
 
 pub returns-in-Some-clause-taken : goal.returns-in-Some-clause-taken
 returns-in-Some-clause-taken g c = λ task valued passes asks ranges.

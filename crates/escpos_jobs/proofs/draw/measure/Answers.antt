@@ -10,7 +10,7 @@ use Rattle.escpos_jobs.proofs.draw.measure.Goals as goal
 pub returns-in-Ok-clause-outcome : goal.returns-in-Ok-clause-outcome
 returns-in-Ok-clause-outcome c =
     let (cs, read, taken) = rw c.new-decoder.ensures at c.in-Ok.ensures.read in
-    let m = taken _ (measured_at_first _ _ c.new.ensures c.new-2.ensures) in
+    let m = taken c.args.width _ (measured_at_first c.args.width _ _ c.new.ensures c.new-2.ensures) in
     let half = c.pending_len-half.ensures.value in (
       cs,
       half_line (length c.args.bytes.now) (length c.read_piece.new.decoder),
@@ -22,7 +22,7 @@ returns-in-Ok-clause-outcome c =
 pub returns-in-Err-Fault-clause-outcome : goal.returns-in-Err-Fault-clause-outcome
 returns-in-Err-Fault-clause-outcome c =
     let (cs, rest, fault, taken, none) = rw c.new-decoder.ensures at (rw c.in-Err-Fault.field-0-is at c.in-Err-Fault.ensures.stopped) in
-    let m = taken _ (measured_at_first _ _ c.new.ensures c.new-2.ensures) in (
+    let m = taken c.args.width _ (measured_at_first c.args.width _ _ c.new.ensures c.new-2.ensures) in (
       cs,
       fault_line c.in-Err-Fault.at c.in-Err-Fault.why,
       inr (rest, _, c.in-Err-Fault.why, fault, ap (λ n. fault_line n c.in-Err-Fault.why) (sym (zero-add c.in-Err-Fault.at))),

@@ -8,4 +8,4 @@ use Rattle.escpos_jobs.proofs.encode.encode_as.Goals as goal
 pub returns-in-Ok-clause-encodes : goal.returns-in-Ok-clause-encodes
 returns-in-Ok-clause-encodes g c =
     let short : length c.in-Ok.text.items ≤ INPUT_LIMIT = search rules in
-    encodes_input (λ cs. g.F.ByteForm.written (spell cs)) _ (g.R.ByteIn.to_come c.args.input.now) c.in-Ok.text.items c.in-Ok.ensures.whole short c.encode_text.ensures.encodes
+    encodes_input c.args.options.now (λ cs. g.F.ByteForm.written (spell cs)) _ (g.R.ByteIn.to_come c.args.input.now) c.in-Ok.text.items c.in-Ok.ensures.whole short c.encode_text.ensures.encodes

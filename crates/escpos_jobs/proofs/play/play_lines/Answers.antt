@@ -11,6 +11,7 @@ pub loop-end-init : goal.loop-end-init
 loop-end-init g c = record {
   told = ([], begun c.args.script.now c.args.sim.now, begun_none c.args.script.now c.args.sim.now, c.new-gather.ensures.carries (g.W.ByteOut.written c.args.output.now));
   few = omega arith;
+  width = refl;
   no_device = no_device_so_far _ refl;
   well = λ well. well;
 }
@@ -31,6 +32,7 @@ loop-end-preserved g c =
     record {
       told = (before.0 ++ more.0, next.0, next.1, given.ok first before.0 roomed);
       few = omega (arith, c.loop-end.invariant.few, c.first_line.ensures.shorter);
+      width = c.play_line-end.ensures.width ∙ c.loop-end.invariant.width;
       no_device = c.play_line-end.ensures.no_device;
       well = λ well. c.in_ok-room.ensures.given.not_failed (c.loop-end.invariant.well well);
     }

@@ -11,7 +11,7 @@ use Rattle.escpos_jobs.proofs.draw.Drawing.new.Goals as goal
 pub returns-clause-drawn : goal.returns-clause-drawn
 unfolding drawings
 returns-clause-drawn c = λ sink.
-    let text = head c.args.measured.down c.args.measured.has_last in
+    let text = head c.args.width c.args.measured.down c.args.measured.has_last in
     record {
       measured = record { torn = ap (λ (s : Sheet). s.items) c.new.ensures; sheet_is = ap (below []) c.new.ensures; place_is = c.new-2.ensures };
       carried = subst (Carries sink sink c.append_head.new.gather) (sym (append-nil text))

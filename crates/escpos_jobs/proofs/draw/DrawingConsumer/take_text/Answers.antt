@@ -10,14 +10,14 @@ use Rattle.escpos_jobs.proofs.draw.DrawingConsumer.take_text.Goals as goal
 
 pub returns-in-Ok-print-clause-accepted : goal.returns-in-Ok-print-clause-accepted
 returns-in-Ok-print-clause-accepted g c = λ start cs placed taken. (
-  λ text first before is.
-      let now = taken.0 text first before is in
+  λ width text first before is.
+      let now = taken.0 width text first before is in
       let all = before ++ cs in
       let more = map Char (take c.in-Ok.count c.args.text.now) in
-      subst (IsDrawn text first (g.W.ByteOut.written c.print.new.output) c.print.new.self.gather c.print.new.self.page.sheet c.print.new.self.pen) (append_assoc before cs more)
-      (drawn_on c.drawings_in_turn.ensures.places c.drawings_in_turn.ensures.drawn text first _ _ c.apply_text.new.self.sheet c.print.new.self.page.sheet c.args.self.now.pen c.print.new.self.pen all more
-      now.measured.place_is (c.in-Ok.ensures.torn (printed all) all now.measured.sheet_is) c.in-Ok-print.ensures.torn c.in-Ok-print.ensures.place
-      (c.in-Ok-print.ensures.given first (text ++ drawings top (printed all)) now.carried)),
+      subst (IsDrawn width text first (g.W.ByteOut.written c.print.new.output) c.print.new.self.gather c.print.new.self.page.sheet c.print.new.self.pen) (append_assoc before cs more)
+      (drawn_on width c.drawings_in_turn.ensures.places c.drawings_in_turn.ensures.drawn text first _ _ c.apply_text.new.self.sheet c.print.new.self.page.sheet c.args.self.now.pen c.print.new.self.pen all more
+      now.measured.place_is (c.in-Ok.ensures.torn width (printed width all) all now.measured.sheet_is) c.in-Ok-print.ensures.torn c.in-Ok-print.ensures.place
+      (c.in-Ok-print.ensures.given first (text ++ drawings (top width) (printed width all)) now.carried)),
   c.in-Ok-print.ensures.same ∙ taken.1,
   λ well. c.in-Ok-print.ensures.not_failed (taken.2 well),
 )

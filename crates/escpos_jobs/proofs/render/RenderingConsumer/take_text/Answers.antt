@@ -2,17 +2,17 @@
 use Rattle.std.proofs.Common.{subst, append_assoc, ◌++◌, map, take}
 use Rattle.escpos_command.specs.declared.command.Command.TheVariants.{Char}
 use Rattle.escpos_paper.specs.Printed.{printed}
-use Rattle.escpos_paper.specs.ItemsText.{items_text}
+use Rattle.std.specs.Prelude.{flat_map}
 use Rattle.escpos_jobs.specs.RenderSteps.{IsRendered}
 use Rattle.escpos_jobs.proofs.Renderings.{rendered_on}
 use Rattle.escpos_jobs.proofs.render.RenderingConsumer.take_text.Goals as goal
 
 pub returns-in-Ok-print-clause-accepted : goal.returns-in-Ok-print-clause-accepted
 returns-in-Ok-print-clause-accepted g c = λ start cs placed taken. (
-  λ first before is.
-      let now = taken.0 first before is in
+  λ width first before is.
+      let now = taken.0 width first before is in
       let all = before ++ cs in
-      subst (IsRendered first (g.W.ByteOut.written c.print.new.output) c.print.new.self.gather c.print.new.self.page.sheet) (append_assoc before cs (map Char (take c.in-Ok.count c.args.text.now)))
-      (rendered_on first _ _ c.apply_text.new.self.sheet c.print.new.self.page.sheet all (map Char (take c.in-Ok.count c.args.text.now)) (c.in-Ok.ensures.torn (printed all) all now.sheet_is) c.in-Ok-print.ensures.torn (c.in-Ok-print.ensures.given first (items_text (printed all)) now.carried)),
+      subst (IsRendered g.F.ItemForm.text width first (g.W.ByteOut.written c.print.new.output) c.print.new.self.gather c.print.new.self.page.sheet) (append_assoc before cs (map Char (take c.in-Ok.count c.args.text.now)))
+      (rendered_on g.F.ItemForm.text width first _ _ c.apply_text.new.self.sheet c.print.new.self.page.sheet all (map Char (take c.in-Ok.count c.args.text.now)) (c.in-Ok.ensures.torn width (printed width all) all now.sheet_is) c.in-Ok-print.ensures.torn (c.in-Ok-print.ensures.given first (flat_map g.F.ItemForm.text (printed width all)) now.carried)),
   λ well. c.in-Ok-print.ensures.not_failed (taken.1 well),
 )

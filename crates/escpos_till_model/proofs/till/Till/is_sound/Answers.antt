@@ -10,8 +10,8 @@ use Rattle.escpos_till_model.proofs.till.Till.is_sound.Goals as goal
 pub returns-clause-stands : goal.returns-clause-stands
 returns-clause-stands c =
     let t = c.self.inside.parts in
-    let stands = subst (Stands t.line.host.records) c.paper.ensures.items c.paper.ensures.stands in
-    subst (λ (v : TillParts). RecordedStand (entries_of v) v.line.printer.sheet.items) c.self.view_is (till_stands t t.line.printer.sheet.items c.self.invariant stands)
+    let stands = subst (Stands t.line.printer.sheet.line_dots t.line.host.records) c.paper.ensures.items c.paper.ensures.stands in
+    subst (λ (v : TillParts). RecordedStand v.line.printer.sheet.line_dots (entries_of v) v.line.printer.sheet.items) c.self.view_is (till_stands t.line.printer.sheet.line_dots t t.line.printer.sheet.items c.self.invariant stands)
 
 pub returns-clause-kept : goal.returns-clause-kept
 returns-clause-kept c = subst (λ (v : TillParts). EachIsKept (entries_of v)) c.self.view_is (till_keeps c.self.inside.parts c.self.invariant)

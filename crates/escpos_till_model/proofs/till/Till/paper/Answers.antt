@@ -8,8 +8,8 @@ use Rattle.escpos_till_model.proofs.till.Till.paper.Goals as goal
 
 pub returns-clause-stands : goal.returns-clause-stands
 returns-clause-stands c =
-    subst (λ (v : TillParts). RecordedStand (entries_of v) c.paper.result.now) c.self.view_is
-    (till_stands c.self.inside.parts c.paper.result.now c.self.invariant c.paper.ensures.stands)
+    subst (λ (v : TillParts). RecordedStand v.line.printer.sheet.line_dots (entries_of v) c.paper.result.now) c.self.view_is
+    (till_stands c.self.inside.parts.line.printer.sheet.line_dots c.self.inside.parts c.paper.result.now c.self.invariant c.paper.ensures.stands)
 
 pub returns-clause-kept : goal.returns-clause-kept
 returns-clause-kept c = subst (λ (v : TillParts). EachIsKept (entries_of v)) c.self.view_is (till_keeps c.self.inside.parts c.self.invariant)

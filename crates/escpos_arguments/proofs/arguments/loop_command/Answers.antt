@@ -1,0 +1,10 @@
+use Rattle.std.proofs.Common.{◌≡◌, ◌∙◌, ap, ap₂, codes}
+use Rattle.clap.specs.Words.{App, app_of, new_app, with_rule}
+use Rattle.escpos_arguments.specs.Arguments.{width_rule}
+use Rattle.escpos_arguments.proofs.arguments.loop_command.Goals as goal
+
+pub returns : goal.returns
+returns c =
+    let app_is : app_of c.in_ok-command.command ≡ with_rule (new_app (codes "loop")) width_rule =
+    c.in_ok-command.ensures.shape c.option.ensures.local ∙ ap₂ with_rule c.new.ensures.app c.option.ensures.rule in
+    record { shape = ap (λ (a : App). a.top) app_is }
