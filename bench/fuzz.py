@@ -4,6 +4,8 @@ The tables and the reading of JSON here are written on their own, from what docs
 """
 import json, math, re
 
+from text import Encoding, NoCharacter
+
 MARKS = 36**4
 
 # Commands of one spelling; and those of fixed bytes with one parameter byte, with what that may be.
@@ -295,21 +297,33 @@ def inner(value, names):
     return [value[name] for name in names.split()]
 
 
-def entry_commands(entry):
-    """Returns the commands of an entry of a receipt: what each does to the line, and its bytes."""
+def text_commands(text, encoding):
+    """Returns the commands of a text: a code table does nothing to the line."""
+    try:
+        return [("text" if len(spelling) == 1 else "other", spelling) for spelling in encoding.write(text)]
+    except NoCharacter as refused:
+        character = str(refused)
+        raise Refused("7 ControlByte" if character < " " else f"8 NoCharacter {{}} U+{ord(character):04X}") from None
+
+
+def entry_commands(entry, encoding):
+    """Returns the commands of an entry of a receipt, where this encoding is in force: what each does to the line, and its bytes."""
     if type(entry) is not dict or len(entry) != 1:
         raise Refused("6 BadShape")
     [(name, value)] = entry.items()
     if name in ("text", "line") and type(value) is str:
-        for character in value:
-            if not " " <= character <= "\x7f":
-                raise Refused("7 ControlByte" if character < " " else "8 NotAscii")
-        return [("text", bytes([byte])) for byte in value.encode()] + [("end", b"\n")] * (name == "line")
+        return text_commands(value, encoding) + [("end", b"\n")] * (name == "line")
+    if name == "tables" and type(value) is list and len(value) <= 32:
+        encoding.choice = tuple(number_in(number, 0, 255) for number in value)
+        return []
     if name in FEEDS:
         return [("end", FEEDS[name] + bytes([number_in(value, 0, 255)]))]
     if name in WITH_NUMBER:
         front, least, most = WITH_NUMBER[name]
-        return [("other", front + bytes([number_in(value, least, most)]))]
+        number = number_in(value, least, most)
+        if name in ("table", "charset"):
+            setattr(encoding, name, number)
+        return [("other", front + bytes([number]))]
     if name in WITH_WORD:
         front, words = WITH_WORD[name]
         return [("block" if name == "cut" else "other", front + bytes([word_in(value, words)]))]
@@ -359,12 +373,13 @@ def commands_of(text):
         raise Refused("5 NotJson") from None
     if type(value) is not list:
         raise Refused("6 BadShape 0")
-    commands, in_text = [], False
+    commands, in_text, encoding = [], False, Encoding()
     for place, entry in enumerate(value):
         try:
-            commands += entry_commands(entry)
+            commands += entry_commands(entry, encoding)
         except Refused as refused:
-            raise Refused(f"{refused} {place}") from None
+            line = str(refused)
+            raise Refused(line.replace("{}", str(place)) if "{}" in line else f"{line} {place}") from None
     for place, (what, _) in enumerate(commands):
         if what == "block" and in_text:
             raise Refused(f"4 MidLine {place}")
@@ -374,12 +389,20 @@ def commands_of(text):
     return [spelling for _, spelling in commands]
 
 
+ASCII = "".join(map(chr, range(32, 127)))
+LATIN = ASCII + "äöüßÄÖÜéèçàñ€£å"
+EVERY = ASCII + "äéñ€ŁłśřαΩЖїяİşשﾝ\u00a0\u0301─█"
+
+
 def some_entry(pick, name):
     """Returns the value of an entry with this member."""
     word = lambda words: pick.choice(words.split())
     byte = pick.randrange(256)
     if name in ("text", "line"):
-        return "".join(map(chr, pick.choices(range(32, 128), k=pick.choice((0, 1, 5, 30, 60))))) + pick.choice([""] * 60 + ["\x1f", "\x80"])
+        letters = pick.choice((ASCII,) * 3 + (LATIN, EVERY, EVERY))
+        return "".join(pick.choices(letters, k=pick.choice((0, 1, 5, 30, 60)))) + pick.choice([""] * 90 + ["\x1f", "\x7f", "\x80", "\u6f22", "\U0001f600"])
+    if name == "tables":
+        return pick.choices((0, 1, 2, 13, 14, 16, 17, 18, 19, 20, 53, 255), k=pick.choice((0, 1, 3, 32))) if pick.randrange(9) else pick.choice(([256], [0] * 33, 5))
     if name in WITH_NUMBER:
         return pick.randint(*WITH_NUMBER[name][1:])
     if name in WITH_WORD:
@@ -404,7 +427,7 @@ def some_entry(pick, name):
 
 def some_receipt(pick):
     """Returns a receipt, as a value; some aren't one, because of a character or of text that is left in the line."""
-    names = ("line",) * 5 + ("text", *FEEDS, *WITH_NUMBER, *WITH_WORD, *SWITCHES, "spacing", "size", "pulse", "bars", "raster", "qr", "qr", "feed_cut")
+    names = ("line",) * 5 + ("text", "tables", *FEEDS, *WITH_NUMBER, *WITH_WORD, *SWITCHES, "spacing", "size", "pulse", "bars", "raster", "qr", "qr", "feed_cut")
     entries = []
     for name in pick.choices(names, k=pick.choice((1, 2, 4, 12))):
         if name == "line" and pick.randrange(3) == 0:

@@ -8,8 +8,10 @@
 mod commands;
 mod host;
 mod jobs;
+mod layouts;
 mod line;
 mod links;
+mod pictures;
 mod printer;
 mod receipts;
 mod till;

@@ -6,3 +6,4 @@ mod round;
 mod sending;
 mod status;
 mod waiting;
+mod widths;

@@ -4,7 +4,7 @@ use crate::support::reasons::faults;
 use crate::support::texts::is_shown_as;
 use escpos_command::{Character, Command, Switch};
 use escpos_host::{JsonError, JsonFault, Receipt, ReceiptFault};
-use escpos_receipt::ReceiptText;
+use escpos_receipt::{ReceiptOptions, ReceiptText};
 use std::alloc::Global;
 use std::process::Abort;
 
@@ -60,9 +60,10 @@ const WHOLE: [(&[u8], bool); 12] = [
 #[test]
 fn entries_are_whole(rt: HostRuntime) {
     for (text, whole) in &WHOLE {
+        let usual = ReceiptOptions::usual();
         let json = ReceiptText::new(rt.alloc(), *text).expect(&rt, "JSON");
-        assert!(rt; json.entries(rt.alloc()).is_ok() == *whole);
-        assert!(rt; json.receipt(rt.alloc()).is_ok() == *whole);
+        assert!(rt; json.entries(rt.alloc(), &usual).is_ok() == *whole);
+        assert!(rt; json.receipt(rt.alloc(), &usual).is_ok() == *whole);
     }
 }
 
@@ -107,7 +108,12 @@ fn reasons_are_printed(rt: HostRuntime) {
     is_shown_as(&rt, rt.alloc(), &bad_shape, "BadShape { at: 71 }");
     let not_whole = JsonFault::NotWhole(mid_line);
     is_shown_as(&rt, rt.alloc(), &not_whole, "NotWhole(MidLine { at: 71 })");
-    let refused = JsonError::Refused(JsonFault::NotAscii { at });
-    is_shown_as(&rt, rt.alloc(), &refused, "Refused(NotAscii { at: 71 })");
+    let refused = JsonError::Refused(JsonFault::NoCharacter { at, character: '漢' });
+    is_shown_as(
+        &rt,
+        rt.alloc(),
+        &refused,
+        "Refused(NoCharacter { at: 71, character: '漢' })",
+    );
     is_shown_as(&rt, rt.alloc(), &JsonError::Memory, "Memory");
 }

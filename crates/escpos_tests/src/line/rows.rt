@@ -7,6 +7,7 @@ use crate::support::lines::{
 };
 use crate::support::refusals::prints_items;
 use crate::support::texts::joined;
+use escpos_command::LineWidth;
 use escpos_host::{HostEvent, HostState};
 use escpos_jobs::emulate::ONLINE;
 use escpos_link::{Event, Handed, Note, Refusal, Sim};
@@ -16,7 +17,7 @@ use std::process::Abort;
 
 // A line whose first mark is mark 0, with a printer that is online.
 fn new_line(rt: &impl Abort, alloc: Global) -> Sim {
-    Sim::new(alloc, ONLINE, 0).expect(rt, "a line")
+    Sim::new(alloc, ONLINE, 0, LineWidth::usual()).expect(rt, "a line")
 }
 
 // What both ends of a line have: the same as this, S as often as it is recorded, and this paper.
@@ -236,7 +237,7 @@ fn stops_at_the_third(rt: &impl Abort, alloc: Global, sim: &mut Sim) {
 
 #[test]
 fn run_stops_at_a_refusal(rt: HostRuntime) {
-    let mut sim = Sim::new(rt.alloc(), ONLINE, 5).expect(&rt, "a line");
+    let mut sim = Sim::new(rt.alloc(), ONLINE, 5, LineWidth::usual()).expect(&rt, "a line");
     stops_at_the_third(&rt, rt.alloc(), &mut sim);
     let rows = [
         (Plain::Move(11), Note::Moved(11)),
@@ -307,7 +308,7 @@ fn status_answers(rt: HostRuntime) {
             near_end: *near_end,
             paper_end: *paper_end,
         };
-        let mut sim = Sim::new(rt.alloc(), condition, 0).expect(&rt, "a line");
+        let mut sim = Sim::new(rt.alloc(), condition, 0, LineWidth::usual()).expect(&rt, "a line");
         is_in(&rt, rt.alloc(), &mut sim, condition, *bytes);
     }
 }

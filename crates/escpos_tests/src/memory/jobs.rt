@@ -7,6 +7,7 @@ use crate::support::hosts::{S, are_line};
 use crate::support::jobs::{NoNetwork, printer_address, run_job};
 use crate::support::refusals::{BARCODE, STREAM, bytes_at_last, is_told};
 use escpos_arguments::task_of;
+use escpos_command::LineWidth;
 use escpos_host::{JsonError, Receipt};
 use escpos_io::{ByteIn, MemoryIn, MemoryOut};
 use escpos_jobs::input::{InputFault, hexadecimal_input, raw_input};
@@ -15,6 +16,7 @@ use escpos_jobs::script::{NoEvent, event_of};
 use escpos_jobs::status::Status;
 use escpos_jobs::task::{NoTask, Task};
 use escpos_link::Event;
+use escpos_receipt::ReceiptOptions;
 use std::alloc::Global;
 use std::process::Abort;
 
@@ -91,6 +93,14 @@ const ENCODED_BYTES: (&[u8], Status) = (
     Status::Good,
 );
 
+// A picture, and the entry of a receipt that prints it.
+const PICTURE: &[u8] = b"P1 8 2 11110000 00001111";
+
+const PICTURE_ENTRY: (&[u8], Status) = (
+    b"{\"raster\":{\"scale\":\"normal\",\"x\":1,\"y\":2,\"dots\":\"f00f\"}}\n",
+    Status::Good,
+);
+
 // A script, and what is put of it.
 const SCRIPT: &[u8] =
     b"linkup\nnudge\nmove 99\ndeliver 99\nhandover\nhandover\nanswer 14\nask 1\nsubmit [{\"line\":\"Hi\"}]\n\
@@ -114,6 +124,9 @@ enum Job {
     RenderRaw,
     DrawRaw,
     EncodeRaw,
+    RenderText,
+    RenderTextRaw,
+    Image,
     Play,
     Perform(Task),
 }
@@ -121,13 +134,25 @@ enum Job {
 fn do_job(alloc: Global, job: Job, source: &mut MemoryIn, sink: &mut MemoryOut) -> Status {
     match job {
         Job::Check => escpos_jobs::check::check(alloc, source, sink),
-        Job::Render => escpos_jobs::render::render(alloc, source, sink),
-        Job::Draw => escpos_jobs::draw::draw(alloc, source, sink),
-        Job::Encode => escpos_jobs::encode::encode(alloc, source, sink),
+        Job::Render => escpos_jobs::render::render(alloc, LineWidth::usual(), source, sink),
+        Job::Draw => escpos_jobs::draw::draw(alloc, LineWidth::usual(), source, sink),
+        Job::Encode => escpos_jobs::encode::encode(alloc, &ReceiptOptions::usual(), source, sink),
         Job::CheckRaw => escpos_jobs::check::check_raw(alloc, source, sink),
-        Job::RenderRaw => escpos_jobs::render::render_raw(alloc, source, sink),
-        Job::DrawRaw => escpos_jobs::draw::draw_raw(alloc, source, sink),
-        Job::EncodeRaw => escpos_jobs::encode::encode_raw(alloc, source, sink),
+        Job::RenderRaw => escpos_jobs::render::render_raw(alloc, LineWidth::usual(), source, sink),
+        Job::DrawRaw => escpos_jobs::draw::draw_raw(alloc, LineWidth::usual(), source, sink),
+        Job::EncodeRaw => escpos_jobs::encode::encode_raw(
+            alloc,
+            &ReceiptOptions::usual(),
+            source,
+            sink,
+        ),
+        Job::RenderText => {
+            escpos_jobs::render::render_text(alloc, LineWidth::usual(), source, sink)
+        }
+        Job::RenderTextRaw => {
+            escpos_jobs::render::render_text_raw(alloc, LineWidth::usual(), source, sink)
+        }
+        Job::Image => escpos_jobs::image::image(alloc, LineWidth::usual(), None, source, sink),
         Job::Play => escpos_jobs::play::play(alloc, source, sink),
         Job::Perform(task) => run_job(&NoNetwork, alloc, Ok(task), source, sink),
     }
@@ -144,8 +169,9 @@ fn puts(rt: &impl Abort, alloc: Global, job: Job, text: &[u8], wanted: (&[u8], S
 
 // The same. Where memory is refused, it is done again.
 fn puts_at_last(rt: &impl Abort, alloc: Global, job: Job, text: &[u8], wanted: (&[u8], Status)) {
-    if !puts(rt, alloc, job, text, wanted) {
-        assert!(rt; puts(rt, alloc, job, text, wanted));
+    let each = &job;
+    if !puts(rt, alloc, *each, text, wanted) {
+        assert!(rt; puts(rt, alloc, *each, text, wanted));
     }
 }
 
@@ -191,12 +217,37 @@ fn encode_raw_refused(rt: HostRuntime) {
 }
 
 #[test]
+fn render_text_refused(rt: HostRuntime) {
+    let wanted = RENDERED_STREAM;
+    puts_at_last(&rt, rt.alloc(), Job::RenderText, STREAM_TEXT, wanted);
+}
+
+#[test]
+fn render_text_raw_refused(rt: HostRuntime) {
+    let wanted = RENDERED_STREAM;
+    puts_at_last(&rt, rt.alloc(), Job::RenderTextRaw, STREAM_BYTES, wanted);
+}
+
+#[test]
+fn image_refused(rt: HostRuntime) {
+    puts_at_last(&rt, rt.alloc(), Job::Image, PICTURE, PICTURE_ENTRY);
+}
+
+#[test]
 fn play_refused(rt: HostRuntime) {
     puts_at_last(&rt, rt.alloc(), Job::Play, SCRIPT, PLAYED);
 }
 
 #[test]
 fn perform_refused(rt: HostRuntime) {
+    let plain = Task::RenderText {
+        raw: false,
+        width: LineWidth::usual(),
+    };
+    let image = Task::Image {
+        width: LineWidth::usual(),
+        threshold: None,
+    };
     for (task, text, wanted) in [
         (Task::Check, STREAM_TEXT, LISTED_STREAM),
         (Task::Render, STREAM_TEXT, RENDERED_STREAM),
@@ -205,6 +256,8 @@ fn perform_refused(rt: HostRuntime) {
         (Task::CheckRaw, STREAM_BYTES, LISTED_STREAM),
         (Task::RenderRaw, STREAM_BYTES, RENDERED_STREAM),
         (Task::EncodeRaw, RECEIPT_TEXT, ENCODED_BYTES),
+        (plain, STREAM_TEXT, RENDERED_STREAM),
+        (image, PICTURE, PICTURE_ENTRY),
         (Task::Play, SCRIPT, PLAYED),
     ] {
         puts_at_last(&rt, rt.alloc(), Job::Perform(task), text, wanted);
@@ -280,7 +333,7 @@ fn raw_input_refused(rt: HostRuntime) {
 // The receipt that an input describes. Where memory is refused the source hasn't failed, and a new one is read.
 fn described_at_last(rt: &impl Abort, alloc: Global) -> Receipt {
     let mut source = MemoryIn::new(S.0, 7);
-    match read_receipt(alloc, &mut source) {
+    match read_receipt(alloc, &ReceiptOptions::usual(), &mut source) {
         Ok(receipt) => receipt,
         Err(fault) => {
             assert!(rt;
@@ -291,7 +344,7 @@ fn described_at_last(rt: &impl Abort, alloc: Global) -> Receipt {
             );
             assert!(rt; !source.has_failed());
             let mut source = MemoryIn::new(S.0, 7);
-            read_receipt(alloc, &mut source).expect(rt, "a receipt")
+            read_receipt(alloc, &ReceiptOptions::usual(), &mut source).expect(rt, "a receipt")
         }
     }
 }

@@ -3,7 +3,7 @@
 use crate::support::hosts::{S, have_lines};
 use crate::support::lines::{Plain, event_of, goes_over, happen, note_of_feed, sight_of};
 use crate::support::refusals::{prints_items, receipt_at_last};
-use escpos_command::Command;
+use escpos_command::{Command, LineWidth};
 use escpos_host::{HostState, Receipt};
 use escpos_jobs::emulate::ONLINE;
 use escpos_link::{Event, Refusal, Refused, Sim};
@@ -12,9 +12,9 @@ use std::process::Abort;
 
 // A line whose first mark is 5. Where its memory is refused, it is asked for again.
 fn line_at_last(rt: &impl Abort, alloc: Global) -> Sim {
-    match Sim::new(alloc, ONLINE, 5) {
+    match Sim::new(alloc, ONLINE, 5, LineWidth::usual()) {
         Ok(sim) => sim,
-        Err(AllocError) => Sim::new(alloc, ONLINE, 5).expect(rt, "a line"),
+        Err(AllocError) => Sim::new(alloc, ONLINE, 5, LineWidth::usual()).expect(rt, "a line"),
     }
 }
 

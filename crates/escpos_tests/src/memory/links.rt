@@ -5,15 +5,17 @@
 use crate::support::hosts::{S, receipt_of};
 use crate::support::refusals::{is_told, printer_at_last, receipt_at_last};
 use crate::support::sockets::{Prepared, answered_link, connects_and_says, listens};
+use escpos_command::LineWidth;
 use escpos_host::Receipt;
 use escpos_io::{MemoryIn, MemoryOut};
 use escpos_jobs::emulate::ONLINE;
 use escpos_jobs::ending::MEMORY;
 use escpos_jobs::paper_text::PaperText;
-use escpos_jobs::send::Marks;
+use escpos_jobs::send::{Marks, send_to};
 use escpos_jobs::status::Status;
 use escpos_paper::Item;
 use escpos_printer::{LinkEnd, Printer, Served};
+use escpos_receipt::ReceiptOptions;
 use std::alloc::Global;
 use std::net::{Net, SocketAddrV4, TcpListener, TcpStream};
 use std::process::Abort;
@@ -119,7 +121,13 @@ fn follow_link_refused(rt: HostRuntime) {
 fn follows_on(rt: &impl Abort, alloc: Global, listener: &TcpListener) -> bool {
     let mut room = [0; 256];
     let mut output = MemoryOut::new(&mut room);
-    let status = escpos_jobs::emulate::follow_on(alloc, listener, ONLINE, &mut output);
+    let status = escpos_jobs::emulate::follow_on(
+        alloc,
+        listener,
+        ONLINE,
+        LineWidth::usual(),
+        &mut output,
+    );
     if status == Status::Memory {
         assert!(rt; output.written().ends_with(MEMORY));
         return false;
@@ -266,7 +274,18 @@ fn sends_to_net(rt: &impl Abort, alloc: Global, net: &Prepared, address: SocketA
     let mut room = [0; 32];
     let mut source = MemoryIn::new(S.0, 7);
     let mut output = MemoryOut::new(&mut room);
-    let status = escpos_jobs::send::send_to(net, alloc, address, 0, 1, &mut source, &mut output);
+    let status = send_to(
+        net,
+        alloc,
+        address,
+        Marks {
+            first: 0,
+            openings: 1,
+        },
+        &ReceiptOptions::usual(),
+        &mut source,
+        &mut output,
+    );
     if output.written() == MEMORY {
         assert!(rt; status == Status::Memory);
         return false;
@@ -304,7 +323,13 @@ fn goes_round_once<N: Net<Stream = TcpStream, Listener = TcpListener> + Abort>(
     let mut room = [0; 64];
     let mut source = MemoryIn::new(S.0, 7);
     let mut output = MemoryOut::new(&mut room);
-    let status = escpos_jobs::loop_link::loop_receipt(rt, alloc, &mut source, &mut output);
+    let status = escpos_jobs::loop_link::loop_receipt(
+        rt,
+        alloc,
+        LineWidth::usual(),
+        &mut source,
+        &mut output,
+    );
     is_told(rt, (output.written(), status), ROUND)
 }
 
@@ -322,7 +347,13 @@ fn ends_meet<N: Net<Stream = TcpStream, Listener = TcpListener> + Abort>(
     let receipt = receipt_at_last(rt, alloc);
     let mut room = [0; 64];
     let mut output = MemoryOut::new(&mut room);
-    let status = escpos_jobs::loop_link::both_ends(rt, alloc, receipt, &mut output);
+    let status = escpos_jobs::loop_link::both_ends(
+        rt,
+        alloc,
+        LineWidth::usual(),
+        receipt,
+        &mut output,
+    );
     is_told(rt, (output.written(), status), ROUND)
 }
 

@@ -4,7 +4,7 @@ use crate::support::refusals::{
     BARCODE, BOTH, PICTURE, PRINT, STORE, STREAM, barcode, is_spelled, picture, printer_at_last,
     prints_items, stored,
 };
-use escpos_command::Command;
+use escpos_command::{Command, LineWidth};
 use escpos_decode::{Consumer, DecodeFault, Decoded, Decoder, End, Step, Stop, decode, read_piece};
 use escpos_io::{ByteIn, MemoryIn, MemoryOut, ReadError, read_to_end};
 use escpos_paper::Page;
@@ -158,7 +158,7 @@ fn readies(rt: &impl Abort, page: &mut Page, count: usize) {
 
 #[test]
 fn ready_refused(rt: HostRuntime) {
-    let mut page = Page::new(rt.alloc());
+    let mut page = Page::new(rt.alloc(), LineWidth::usual());
     for count in 0..20 {
         readies(&rt, &mut page, count);
     }
@@ -180,7 +180,7 @@ fn readies_for_a_print(rt: &impl Abort, page: &mut Page, count: usize) {
 
 #[test]
 fn ready_for_a_print_refused(rt: HostRuntime) {
-    let mut page = Page::new(rt.alloc());
+    let mut page = Page::new(rt.alloc(), LineWidth::usual());
     let store = Command::QrStore(stored(&rt, rt.alloc()));
     applies(&rt, &mut page, store, STORE);
     for count in 0..3 {
@@ -209,7 +209,7 @@ const THREE_QR_CODES: &[u8] = b"qr left 2 3 L AB\nqr left 2 3 L AB\nqr left 2 3 
 // A store, three prints of it, and a line feed between them.
 #[test]
 fn apply_to_a_stored_code_refused(rt: HostRuntime) {
-    let mut page = Page::new(rt.alloc());
+    let mut page = Page::new(rt.alloc(), LineWidth::usual());
     let store = Command::QrStore(stored(&rt, rt.alloc()));
     applies(&rt, &mut page, store, STORE);
     for _ in 0..3 {
@@ -224,7 +224,7 @@ fn apply_to_a_stored_code_refused(rt: HostRuntime) {
 
 #[test]
 fn apply_refused(rt: HostRuntime) {
-    let mut page = Page::new(rt.alloc());
+    let mut page = Page::new(rt.alloc(), LineWidth::usual());
     for _ in 0..3 {
         let bars = Command::Bars(barcode(&rt, rt.alloc()));
         applies(&rt, &mut page, bars, BARCODE);
@@ -256,7 +256,7 @@ const TWO_LINES: &[u8] = b"row left xxxxxxxxxxxxxxxxxxxxxxxxxxxxxxxxxxxxxxxxxx\n
 
 #[test]
 fn apply_text_refused(rt: HostRuntime) {
-    let mut page = Page::new(rt.alloc());
+    let mut page = Page::new(rt.alloc(), LineWidth::usual());
     for _ in 0..3 {
         applies_text(&rt, &mut page);
     }

@@ -194,14 +194,14 @@ const DRAWN: [Drawn; 36] = [
         "94",
         "<g class=\"row\" transform=\"translate(32,50)\"><text x=\"0\" textLength=\"60\">&amp;&lt;&gt;&quot;&apos;</text></g>\n<g class=\"feed\"/>\n",
     ),
-    // 80 and D5 in the tables 0, 2, 16 and 19; 81 is open in table 16, and table 3 isn't translated
+    // 80 and D5 in the tables 0, 2, 16 and 19, and 80 in 3; 81 is open in table 16, and table 20 is not one of those that are read
     (
-        "80 D5 1B 74 02 80 D5 1B 74 10 80 D5 81 1B 74 13 80 D5 1B 74 03 80 0A",
+        "80 D5 1B 74 02 80 D5 1B 74 10 80 D5 81 1B 74 13 80 D5 1B 74 03 80 1B 74 14 80 0A",
         "94",
         "94",
         "<g class=\"row\" transform=\"translate(32,50)\"><text x=\"0\" textLength=\"24\">Ç╒</text><text x=\"24\" textLength=\"24\">Çı</text>\
-         <text x=\"48\" textLength=\"36\">€Õ\u{FFFD}</text><text x=\"84\" textLength=\"24\">Ç€</text><text x=\"108\" textLength=\"12\">\u{FFFD}</text></g>\n\
-         <g class=\"feed\"/>\n",
+         <text x=\"48\" textLength=\"36\">€Õ\u{FFFD}</text><text x=\"84\" textLength=\"24\">Ç€</text><text x=\"108\" textLength=\"12\">Ç</text>\
+         <text x=\"120\" textLength=\"12\">\u{FFFD}</text></g>\n<g class=\"feed\"/>\n",
     ),
     // 7F is no character
     (

@@ -12,7 +12,7 @@ use std::alloc::Global;
 use std::process::Abort;
 
 // Texts of receipts, and their line.
-const ENCODED: [Row; 10] = [
+const ENCODED: [Row; 16] = [
     // encode
     (
         b"[{\"line\":\"Hi\"},{\"cut\":\"full\"}]",
@@ -66,10 +66,45 @@ const ENCODED: [Row; 10] = [
         Status::Good,
     ),
     (EVERY_MEMBER, EVERY_LINE, Status::Good),
+    // text in the code table in force: e with an acute accent, composed or not
+    (
+        b"[{\"line\":\"Caf\xc3\xa9\"}]",
+        b"436166820a\n",
+        Status::Good,
+    ),
+    (
+        b"[{\"line\":\"Cafe\xcc\x81\"}]",
+        b"436166820a\n",
+        Status::Good,
+    ),
+    // the euro sign is in table 19, and the letters after it are there, too
+    (
+        b"[{\"line\":\"4,20 \xe2\x82\xac\"},{\"line\":\"\xc3\xa9\"}]",
+        b"342c3230201b7413d50a820a\n",
+        Status::Good,
+    ),
+    // a table that was set, and a choice of another
+    (
+        b"[{\"table\":16},{\"line\":\"\xc3\xa9\"},{\"tables\":[17]},{\"line\":\"\xd0\x9f\"},{\"tables\":[]},{\"line\":\"\xd0\x9f!\"}]",
+        b"1b7410e90a1b74118f0a8f210a\n",
+        Status::Good,
+    ),
+    // the German character set has the letter at 5B, and no bracket there
+    (
+        b"[{\"charset\":2},{\"line\":\"\xc3\x84A\"}]",
+        b"1b52025b410a\n",
+        Status::Good,
+    ),
+    // a space where no table in reach has one that doesn't break
+    (
+        b"[{\"table\":1},{\"tables\":[1]},{\"line\":\"a\xc2\xa0b\"}]",
+        b"1b74016120620a\n",
+        Status::Good,
+    ),
 ];
 
 // Texts that give no receipt, and why.
-const REFUSED_TEXTS: [Row; 45] = [
+const REFUSED_TEXTS: [Row; 48] = [
     // receipt_refusals
     (b"[]", b"refused 1 Empty\n", Status::Refused),
     (
@@ -89,9 +124,26 @@ const REFUSED_TEXTS: [Row; 45] = [
         b"refused 7 ControlByte 0\n",
         Status::Refused,
     ),
+    // a character that no code table has
     (
-        b"[{\"line\":\"\xc3\xa9\"}]",
-        b"refused 8 NotAscii 0\n",
+        b"[{\"line\":\"\xe6\xbc\xa2\"}]",
+        b"refused 8 NoCharacter 0 U+6F22\n",
+        Status::Refused,
+    ),
+    (
+        b"[{\"feed\":1},{\"text\":\"\xf0\x9f\x98\x80\"}]",
+        b"refused 8 NoCharacter 1 U+1F600\n",
+        Status::Refused,
+    ),
+    // the last character of Unicode, and DEL, which no table has
+    (
+        b"[{\"line\":\"\xf4\x8f\xbf\xbf\"}]",
+        b"refused 8 NoCharacter 0 U+10FFFF\n",
+        Status::Refused,
+    ),
+    (
+        b"[{\"line\":\"A\x7f\"}]",
+        b"refused 8 NoCharacter 0 U+007F\n",
         Status::Refused,
     ),
     // bars_in_receipt
@@ -244,7 +296,7 @@ const REFUSED_TEXTS: [Row; 45] = [
     ),
     // the first entry that is bad decides, whatever comes with it
     (
-        b"[{\"text\":\"Hi\"},{\"line\":\"\\u001b\"},{\"line\":\"\xc3\xa9\"},{}]",
+        b"[{\"text\":\"Hi\"},{\"line\":\"\\u001b\"},{\"line\":\"\xe6\xbc\xa2\"},{}]",
         b"refused 7 ControlByte 1\n",
         Status::Refused,
     ),

@@ -269,8 +269,8 @@ const FAR_REFUSED: [Long; 10] = [
     ),
     (
         9_998,
-        ["[", "{\"feed\":0},", "{\"line\":\"Aé\"}]"],
-        ["refused 8 NotAscii 9998\n", "", ""],
+        ["[", "{\"feed\":0},", "{\"line\":\"A漢\"}]"],
+        ["refused 8 NoCharacter 9998 U+6F22\n", "", ""],
     ),
     (
         9_997,

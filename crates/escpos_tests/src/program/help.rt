@@ -5,7 +5,7 @@ use crate::support::jobs::{is_outcome, performs, prints};
 use crate::support::reasons::faults;
 use crate::support::texts::joined;
 use escpos_decode::Decoder;
-use escpos_host::{JsonError, JsonFault, ReceiptFault};
+use escpos_host::JsonFault;
 use escpos_io::{ByteIn, MemoryIn, MemoryOut};
 use escpos_jobs::status::Status;
 use escpos_jobs::task::{NoTask, Task};
@@ -62,7 +62,7 @@ fn usage_and_help(rt: HostRuntime) {
 }
 
 // A job that reads this input, as the help shows it: what the job writes stands below the command, each line indented.
-fn is_shown(rt: &impl Abort, alloc: Global, (name, input, task): (&str, &str, Task), line: &str) {
+fn is_shown(rt: &impl Abort, alloc: Global, (name, input): (&str, &str), task: Task, line: &str) {
     let written = line.as_bytes();
     prints(rt, alloc, task, input.as_bytes(), (written, Status::Good));
     let mut shown = format!(in alloc; "$ echo '{input}' | escpos_cli {name}\n").expect(
@@ -81,12 +81,12 @@ fn is_shown(rt: &impl Abort, alloc: Global, (name, input, task): (&str, &str, Ta
 fn help_shows_what_the_jobs_write(rt: HostRuntime) {
     let stream = "1B 40 48 69 0A 1D 56 00";
     let listing = "0 init\n2 char 48\n3 char 69\n4 lf\n5 cut 00\nend 8 pending 0\n";
-    is_shown(&rt, rt.alloc(), ("check", stream, Task::Check), listing);
+    is_shown(&rt, rt.alloc(), ("check", stream), Task::Check, listing);
     let paper = "row left Hi\nfeed 1\ncut full\n";
-    is_shown(&rt, rt.alloc(), ("render", stream, Task::Render), paper);
+    is_shown(&rt, rt.alloc(), ("render", stream), Task::Render, paper);
     let receipt = "[{\"line\":\"Hi\"},{\"cut\":\"full\"}]";
-    let job = ("encode", receipt, Task::Encode);
-    is_shown(&rt, rt.alloc(), job, "48690a1d5600\n");
+    let shown = ("encode", receipt);
+    is_shown(&rt, rt.alloc(), shown, Task::Encode, "48690a1d5600\n");
 }
 
 #[test]
@@ -178,13 +178,10 @@ fn example_in(line: &str) -> Option<&str> {
     line.get(start..end + 1)
 }
 
-// The text describes a receipt, or would but for a line feed at its end.
+// A receipt may have this entry; a feed after it prints what text is in the line.
 fn describes(rt: &impl Abort, alloc: Global, entry: &str) {
-    let text = joined(rt, alloc, ["[", entry, "]"], 1);
-    let text_left = JsonError::Refused(JsonFault::NotWhole(ReceiptFault::TextLeft));
-    if let Err(error) = read_receipt(alloc, &text) {
-        assert!(rt; error == text_left, "{entry}");
-    }
+    let text = joined(rt, alloc, ["[", entry, ",{\"feed\":1}]"], 1);
+    assert!(rt; read_receipt(alloc, &text).is_ok(), "{entry}");
 }
 
 #[test]
@@ -198,7 +195,7 @@ fn help_has_an_example_of_each_member(rt: HostRuntime) {
             }
         }
     }
-    assert!(rt; count == 28);
+    assert!(rt; count == 34);
 }
 
 #[test]
@@ -225,8 +222,8 @@ fn says_help(rt: &impl Abort, word: &str, wanted: &str) {
 #[test]
 fn help_on_each_word(rt: HostRuntime) {
     let words = [
-        "check", "render", "draw", "encode", "play", "emulate", "send", "status", "loop", "queue",
-        "deliver", "ledger", "help",
+        "check", "render", "draw", "encode", "image", "play", "emulate", "send", "status", "loop",
+        "queue", "deliver", "ledger", "help",
     ];
     let mut rest = HELP
         .find("  escpos_cli check")

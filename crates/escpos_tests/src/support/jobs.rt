@@ -84,12 +84,13 @@ pub fn prints(
 
 /// Each row of a table through a job, with reads of each of these lengths.
 pub fn performs_rows(rt: &impl Abort, alloc: Global, task: Task, rows: &[Row], lengths: &[usize]) {
+    let each = &task;
     let mut room = [0; 512];
     for (input, output, status) in rows {
         for length in lengths {
             let mut source = MemoryIn::new(input, *length);
             let wanted = (*output, *status);
-            performs(rt, alloc, Ok(task), &mut source, &mut room, wanted);
+            performs(rt, alloc, Ok(*each), &mut source, &mut room, wanted);
         }
     }
 }

@@ -3,7 +3,7 @@
 use escpos_host::{JsonFault, ReceiptFault};
 
 // Reasons that differ: in their kind, in the place alone, or in the reason inside.
-const FAULTS: [JsonFault; 13] = [
+const FAULTS: [JsonFault; 14] = [
     JsonFault::NotWhole(ReceiptFault::Empty),
     JsonFault::NotWhole(ReceiptFault::TextLeft),
     JsonFault::NotWhole(ReceiptFault::MidLine { at: 1 }),
@@ -15,8 +15,18 @@ const FAULTS: [JsonFault; 13] = [
     JsonFault::BadShape { at: 2 },
     JsonFault::ControlByte { at: 1 },
     JsonFault::ControlByte { at: 2 },
-    JsonFault::NotAscii { at: 1 },
-    JsonFault::NotAscii { at: 2 },
+    JsonFault::NoCharacter {
+        at: 1,
+        character: '漢',
+    },
+    JsonFault::NoCharacter {
+        at: 2,
+        character: '漢',
+    },
+    JsonFault::NoCharacter {
+        at: 2,
+        character: '字',
+    },
 ];
 
 pub fn faults() -> &'static [JsonFault] {

@@ -1,7 +1,7 @@
 //! Values whose memory may be refused once, and what a job has written where it was.
 
 use crate::support::hosts::{S, read_receipt, receipt_of};
-use escpos_command::{Bars, Command, Form, QrData, Raster, Symbology};
+use escpos_command::{Bars, Command, Form, LineWidth, QrData, Raster, Symbology};
 use escpos_host::Receipt;
 use escpos_io::MemoryOut;
 use escpos_jobs::emulate::ONLINE;
@@ -46,9 +46,9 @@ pub fn prints_items(rt: &impl Abort, items: &[Item], text: &[u8]) {
 
 // A printer that is online. Where its memory is refused, it is asked for again.
 pub fn printer_at_last(rt: &impl Abort, alloc: Global) -> Printer {
-    match Printer::new(alloc, ONLINE) {
+    match Printer::new(alloc, ONLINE, LineWidth::usual()) {
         Ok(printer) => printer,
-        Err(AllocError) => Printer::new(alloc, ONLINE).expect(rt, "a printer"),
+        Err(AllocError) => Printer::new(alloc, ONLINE, LineWidth::usual()).expect(rt, "a printer"),
     }
 }
 

@@ -5,6 +5,7 @@ use crate::support::sockets::{
     NEVER, Prepared, connects_and_says, listens, one_waits, reads_to_end, says,
 };
 use crate::support::texts::joined;
+use escpos_command::LineWidth;
 use escpos_io::{MemoryIn, MemoryOut};
 use escpos_jobs::emulate::{ONLINE, emulate, emulate_on, follow_link, follow_on, serve_and_tell};
 use escpos_jobs::paper_text::PaperText;
@@ -171,7 +172,7 @@ fn serves_and_prints(
 
 #[test]
 fn outcomes_of_a_link(rt: HostRuntime) {
-    let mut printer = Printer::new(rt.alloc(), ONLINE).expect(&rt, "memory");
+    let mut printer = Printer::new(rt.alloc(), ONLINE, LineWidth::usual()).expect(&rt, "memory");
     let mut paper = PaperText::new(rt.alloc());
     let bytes = b"Hi\n\x10\x04\x01\x10\x04\x02\x10\x04\x04".as_slice();
     let rows = [
@@ -244,7 +245,7 @@ fn long_link(rt: HostRuntime) {
         "row left Yo\nfeed 1\n",
     ];
     let text = joined(&rt, rt.alloc(), text, 8_000);
-    let mut printer = Printer::new(rt.alloc(), ONLINE).expect(&rt, "memory");
+    let mut printer = Printer::new(rt.alloc(), ONLINE, LineWidth::usual()).expect(&rt, "memory");
     let mut paper = PaperText::new(rt.alloc());
     serves_long(
         &rt,
@@ -330,7 +331,13 @@ fn followed_links(rt: HostRuntime) {
     listener.set_nonblocking(true).expect(&rt, "can't set");
     let mut room = [0; 512];
     let mut output = MemoryOut::new(&mut room);
-    let ended = follow_on(rt.alloc(), &listener, ONLINE, &mut output);
+    let ended = follow_on(
+        rt.alloc(),
+        &listener,
+        ONLINE,
+        LineWidth::usual(),
+        &mut output,
+    );
     let text = b"link 1 read 8 consumed 8 written 0 Ended\n\
         row left Hi\nfeed 1\nrow left [A,1,1,1,0,0]A\nfeed 1\n\
         link 2 read 3 consumed 3 written 0 Ended\n\
@@ -371,13 +378,13 @@ fn followed_condition(rt: HostRuntime) {
         near_end: true,
         ..ONLINE
     };
-    let task = Task::Follow { address, condition };
+    let task = &Task::Follow { address, condition };
     let text = b"link 1 read 6 consumed 6 written 1 Ended\nrow left Hi\nfeed 1\n\
         link 2 read 3 consumed 2 written 0 Fault\nrow left A\nfeed 1\n\
         link 3 read 3 consumed 3 written 0 Ended\nrow left Yo\nfeed 1\n"
         .as_slice();
-    ends_in(&rt, rt.alloc(), &net, task, (text, Status::Device));
-    ends_in(&rt, rt.alloc(), &rt, task, (b"", Status::Device));
+    ends_in(&rt, rt.alloc(), &net, *task, (text, Status::Device));
+    ends_in(&rt, rt.alloc(), &rt, *task, (b"", Status::Device));
     reads_to_end(&rt, &mut first, b"\x1E");
 }
 
@@ -409,7 +416,7 @@ fn follows(
 // A line that a link leaves is ended by the next one; nothing that was printed comes again: followed_line, followed_nothing.
 #[test]
 fn followed_link_by_link(rt: HostRuntime) {
-    let mut printer = Printer::new(rt.alloc(), ONLINE).expect(&rt, "memory");
+    let mut printer = Printer::new(rt.alloc(), ONLINE, LineWidth::usual()).expect(&rt, "memory");
     let rows = [
         (
             1,

@@ -3,6 +3,7 @@
 use crate::support::hosts::{S, receipt_of};
 use crate::support::sockets::listens;
 use crate::support::texts::joined;
+use escpos_command::LineWidth;
 use escpos_io::{MemoryIn, MemoryOut};
 use escpos_jobs::emulate::ONLINE;
 use escpos_jobs::loop_link::{both_ends_of, loop_receipt};
@@ -23,7 +24,7 @@ fn goes_round<N: Net<Stream = TcpStream, Listener = TcpListener> + Abort>(
     let mut room = [0; 4096];
     let mut input = MemoryIn::new(text, 512);
     let mut output = MemoryOut::new(&mut room);
-    let ended = loop_receipt(rt, alloc, &mut input, &mut output);
+    let ended = loop_receipt(rt, alloc, LineWidth::usual(), &mut input, &mut output);
     assert!(rt; output.written() == printed);
     assert!(rt; ended == status);
 }
@@ -96,7 +97,7 @@ fn loop_breaks(rt: HostRuntime) {
     let (listener, address) = listens(&rt);
     let near = TcpStream::connect(&rt, address).expect(&rt, "no link");
     let (far, _) = listener.accept().expect(&rt, "no link");
-    let mut printer = Printer::new(rt.alloc(), ONLINE).expect(&rt, "memory");
+    let mut printer = Printer::new(rt.alloc(), ONLINE, LineWidth::usual()).expect(&rt, "memory");
     let fed = printer.feed(b"Hi\n");
     assert!(&rt; fed.consumed == 3);
     let open = Condition {

@@ -10,6 +10,7 @@ use escpos_io::{ByteIn, MemoryIn, MemoryOut};
 use escpos_jobs::send::{Marks, send_on, send_over, send_to};
 use escpos_jobs::status::Status;
 use escpos_jobs::task::Task;
+use escpos_receipt::ReceiptOptions;
 use std::alloc::Global;
 use std::io::Write;
 use std::net::{Ipv4Addr, Net, Shutdown, SocketAddr, SocketAddrV4, TcpListener, TcpStream};
@@ -94,7 +95,15 @@ fn sends_to<N: Net<Stream = TcpStream, Listener = TcpListener> + Abort>(
 ) {
     let mut room = [0; 64];
     let mut output = MemoryOut::new(&mut room);
-    let ended = send_to(rt, alloc, address, first, openings, input, &mut output);
+    let ended = send_to(
+        rt,
+        alloc,
+        address,
+        Marks { first, openings },
+        &ReceiptOptions::usual(),
+        input,
+        &mut output,
+    );
     is_outcome(rt, (output.written(), ended), wanted);
 }
 
@@ -200,7 +209,7 @@ fn outcomes_of_a_receipt(rt: HostRuntime) {
 #[test]
 fn no_network(rt: HostRuntime) {
     let address = SocketAddrV4::new(Ipv4Addr::new(127, 0, 0, 1), 9100);
-    let send = Task::Send {
+    let send = &Task::Send {
         address,
         first: 0,
         openings: 3,
@@ -212,9 +221,9 @@ fn no_network(rt: HostRuntime) {
             b"",
             Status::Device,
         ),
-        (send, S.0, b"no link\n", Status::Device),
+        (*send, S.0, b"no link\n", Status::Device),
         (Task::Loop, S.0, b"no link\n", Status::Device),
-        (send, b"[1]", b"refused 6 BadShape 0\n", Status::Refused),
+        (*send, b"[1]", b"refused 6 BadShape 0\n", Status::Refused),
         (
             Task::Loop,
             b"[1]",
@@ -241,7 +250,8 @@ fn performs_over(
     rt: &impl Abort,
     alloc: Global,
     net: &Prepared,
-    (task, input): (Task, &[u8]),
+    task: Task,
+    input: &[u8],
     (text, status): (&str, Status),
 ) {
     let mut room = [0; 256];
@@ -269,12 +279,12 @@ fn tasks_over_links(rt: HostRuntime) {
         openings: 1,
     };
     let wanted = ("recorded 0\nnext 2\n", Status::Good);
-    performs_over(&rt, rt.alloc(), &net, (send, S.0), wanted);
+    performs_over(&rt, rt.alloc(), &net, send, S.0, wanted);
     let _first = connects_and_says(&rt, address, b"Hi\n");
     let _second = connects_and_says(&rt, address, b"Yo\n");
     let emulate = Task::Emulate { address, links: 2 };
     let text = "link 1 read 3 consumed 3 written 0 Ended\n\
         link 2 read 3 consumed 3 written 0 Ended\n\
         row left Hi\nfeed 1\nrow left Yo\nfeed 1\n";
-    performs_over(&rt, rt.alloc(), &net, (emulate, b""), (text, Status::Good));
+    performs_over(&rt, rt.alloc(), &net, emulate, b"", (text, Status::Good));
 }

@@ -8,6 +8,7 @@ use crate::support::sockets::{answered_link, listens};
 use escpos_io::{ByteIn, ByteOut, Failed, Incoming, MemoryIn, MemoryOut, Outgoing};
 use escpos_jobs::status::Status;
 use escpos_jobs::task::Task;
+use escpos_receipt::ReceiptOptions;
 use std::alloc::Global;
 use std::io;
 use std::io::{ErrorKind, Read, Write};
@@ -91,7 +92,8 @@ fn no_byte_taken_is_no_time_out(rt: HostRuntime) {
 fn prints<N: Net<Stream = TcpStream, Listener = TcpListener> + Abort>(
     rt: &N,
     alloc: Global,
-    (task, input): (Task, &[u8]),
+    task: Task,
+    input: &[u8],
     (text, status): (&str, Status),
 ) {
     let mut room = [0; 64];
@@ -122,13 +124,14 @@ fn a_silent_printer(rt: HostRuntime) {
     let (listener, address) = listens(&rt);
     let (send, status) = waiting(address);
     let timed_out = ("not recorded TimedOut\nnext 3\n", Status::Device);
-    prints(&rt, rt.alloc(), (send, S.0), timed_out);
+    prints(&rt, rt.alloc(), send, S.0, timed_out);
     let no_status = ("no status TimedOut\n", Status::Device);
-    prints(&rt, rt.alloc(), (status, b""), no_status);
+    prints(&rt, rt.alloc(), status, b"", no_status);
     drop(listener);
+    let (send, status) = waiting(address);
     let no_link = ("no link\n", Status::Device);
-    prints(&rt, rt.alloc(), (send, S.0), no_link);
-    prints(&rt, rt.alloc(), (status, b""), no_link);
+    prints(&rt, rt.alloc(), send, S.0, no_link);
+    prints(&rt, rt.alloc(), status, b"", no_link);
 }
 
 // A network that connects this stream to this address, if it is to be done within an hour.
@@ -165,7 +168,8 @@ fn ends_in_an_hour(
     rt: &impl Abort,
     alloc: Global,
     net: &InAnHour<'_>,
-    (task, input): (Task, &[u8]),
+    task: Task,
+    input: &[u8],
     (text, status): (&str, Status),
 ) {
     let mut room = [0; 64];
@@ -199,9 +203,32 @@ fn limits_of_send(rt: HostRuntime) {
         wait,
     };
     let no_link = ("no link\n", Status::Device);
-    ends_in_an_hour(&rt, rt.alloc(), &net, (send(60), S.0), no_link);
+    ends_in_an_hour(&rt, rt.alloc(), &net, send(60), S.0, no_link);
     let recorded = ("recorded 0\nnext 2\n", Status::Good);
-    ends_in_an_hour(&rt, rt.alloc(), &net, (send(3_600), S.0), recorded);
+    ends_in_an_hour(&rt, rt.alloc(), &net, send(3_600), S.0, recorded);
+    is_limited(&rt, &client);
+}
+
+// The same of `send` with options.
+#[test]
+fn limits_of_send_with_options(rt: HostRuntime) {
+    let (listener, address) = listens(&rt);
+    let (client, _printer) = answered_link(&rt, (&listener, address));
+    let net = InAnHour {
+        address,
+        client: &client,
+    };
+    let send = |wait| Task::SendWith {
+        address,
+        first: 0,
+        openings: 1,
+        wait: Some(wait),
+        options: ReceiptOptions::usual(),
+    };
+    let no_link = ("no link\n", Status::Device);
+    ends_in_an_hour(&rt, rt.alloc(), &net, send(60), S.0, no_link);
+    let recorded = ("recorded 0\nnext 2\n", Status::Good);
+    ends_in_an_hour(&rt, rt.alloc(), &net, send(3_600), S.0, recorded);
     is_limited(&rt, &client);
 }
 
@@ -219,8 +246,8 @@ fn limits_of_status(rt: HostRuntime) {
         wait: Some(wait),
     };
     let no_link = ("no link\n", Status::Device);
-    ends_in_an_hour(&rt, rt.alloc(), &net, (status(60), b""), no_link);
+    ends_in_an_hour(&rt, rt.alloc(), &net, status(60), b"", no_link);
     let told = ("online\ncover closed\npaper there\n", Status::Good);
-    ends_in_an_hour(&rt, rt.alloc(), &net, (status(3_600), b""), told);
+    ends_in_an_hour(&rt, rt.alloc(), &net, status(3_600), b"", told);
     is_limited(&rt, &client);
 }

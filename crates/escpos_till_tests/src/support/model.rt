@@ -1,6 +1,7 @@
 //! What happens to a simulated till, by its calls or by its events.
 
 use crate::support::tills::S;
+use escpos_command::LineWidth;
 use escpos_host::JsonError;
 use escpos_jobs::emulate::ONLINE;
 use escpos_link::{Event, Refusal};
@@ -118,9 +119,9 @@ pub fn steps(
 
 // A till that is switched off, over a line without links. Where its memory is refused, it is asked for again.
 pub fn till_at_last(rt: &impl Abort, alloc: Global) -> Till {
-    match Till::new(alloc, ONLINE) {
+    match Till::new(alloc, ONLINE, LineWidth::usual()) {
         Ok(till) => till,
-        Err(_) => Till::new(alloc, ONLINE).expect(rt, "a till"),
+        Err(_) => Till::new(alloc, ONLINE, LineWidth::usual()).expect(rt, "a till"),
     }
 }
 

@@ -3,6 +3,7 @@
 use super::document;
 use crate::support::jobs::prints;
 use crate::support::texts::joined;
+use escpos_command::LineWidth;
 use escpos_io::{MemoryIn, Outgoing};
 use escpos_jobs::draw::draw;
 use escpos_jobs::status::Status;
@@ -172,7 +173,7 @@ fn bytes_of_each_version(rt: HostRuntime) {
 fn has_text(rt: &impl Abort, alloc: Global, stream: &[u8], wanted: &str) {
     let mut source = MemoryIn::new(stream, 4096);
     let mut sink = Outgoing::new(Vec::new(alloc));
-    assert!(rt; draw(alloc, &mut source, &mut sink) == Status::Good);
+    assert!(rt; draw(alloc, LineWidth::usual(), &mut source, &mut sink) == Status::Good);
     let out = sink.into_inner();
     let text = str::from_utf8(&out).expect(rt, "text");
     assert!(rt; text.contains(wanted), "{wanted}");
