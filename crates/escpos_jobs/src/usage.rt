@@ -23,7 +23,7 @@ usage: escpos_cli check [--raw] < STREAM
                                [--width D] [--replace C] < RECEIPT
        escpos_cli status ADDRESS [--wait S]
        escpos_cli loop [--width D] < RECEIPT
-       escpos_cli queue LEDGER < RECEIPT
+       escpos_cli queue LEDGER [--width D] [--replace C] < RECEIPT
        escpos_cli deliver LEDGER ADDRESS [--openings N] [--copy TEXT]
                                          [--wait S]
        escpos_cli ledger LEDGER [--first F]
@@ -450,12 +450,13 @@ line `memory` says that the program ran out of memory.
           feed 1
           recorded 0
 
-  escpos_cli queue LEDGER
+  escpos_cli queue LEDGER [--width D] [--replace C]
       Reads a receipt in JSON as `encode` does, takes it into the file LEDGER,
       and prints `queued N`: its number, from 1. From then on it is kept,
-      whatever is switched off. A file that isn't there is made. A printer has
-      one ledger, and a ledger one printer. A ledger that can't be used is told
-      as by `ledger`.
+      whatever is switched off, and --width and --replace, which are those of
+      `encode`, with it. A file that isn't there is made. A printer has one
+      ledger, and a ledger one printer. A ledger that can't be used is told as
+      by `ledger`.
 
           $ echo '[{\"line\":\"Hi\"}]' | escpos_cli queue shop.ledger
           queued 1
