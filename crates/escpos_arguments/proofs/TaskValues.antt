@@ -159,16 +159,25 @@ options_read rows None (Some c) options (w, r) in_width in_range e =
     subst (λ (o : ReceiptOptions). HasOptions rows o × IsOptions o) same
     (((λ none. some_replaced _ c r none.1), number_or USUAL_LINE_DOTS (one_of (codes "width") rows) None w, r), (refl, in_range))
 
+-- a width that is in range where it counts is in range where it is given
+given_range : (width : Option ℕ) (n : ℕ) → n ≡ unwrap_or width USUAL_LINE_DOTS → IsTrue (is_line_width n) → IfSome width (λ n. IsTrue (is_line_width n))
+given_range None n e h = tt
+given_range (Some m) n e h = subst (λ k. IsTrue (is_line_width k)) e h
+
+-- the width that counts comes from what the values say
+pub width_said : (rows : List Row) (n : ℕ) → IsNumberOr USUAL_LINE_DOTS (one_of (codes "width") rows) n → IsTrue (is_line_width n)
+    → (width : Option ℕ) × IsNumberIn (one_of (codes "width") rows) width × IfSome width (λ n. IsTrue (is_line_width n)) × (n ≡ unwrap_or width USUAL_LINE_DOTS)
+width_said rows n is in_range =
+    let (width, h, same) = or_number USUAL_LINE_DOTS (one_of (codes "width") rows) n is in
+    (width, h, given_range width n same in_range, same)
+
 -- options that the values say come from what they say
 pub options_said : (rows : List Row) (options : ReceiptOptions) → HasOptions rows options → IsOptions options
     → (width : Option ℕ) × SaysOptions rows width options.replacement × IfSome width (λ n. IsTrue (is_line_width n)) × (options_of width options.replacement ≡ Some options)
 options_said rows options (some, w, r) (in_width, in_range) =
-    let (width, h, same) = or_number USUAL_LINE_DOTS (one_of (codes "width") rows) options.width w in
-    (width, (h, r), given_range width options.width same in_width, made rows width options.replacement options.width (h, r) same some)
+    let (width, h, fits, same) = width_said rows options.width w in_width in
+    (width, (h, r), fits, made rows width options.replacement options.width (h, r) same some)
   where
-    given_range : (width : Option ℕ) (n : ℕ) → n ≡ unwrap_or width USUAL_LINE_DOTS → IsTrue (is_line_width n) → IfSome width (λ n. IsTrue (is_line_width n))
-    given_range None n e h = tt
-    given_range (Some m) n e h = subst (λ k. IsTrue (is_line_width k)) e h
     made : (rows : List Row) (width replacement : Option ℕ) (n : ℕ) → SaysOptions rows width replacement → n ≡ unwrap_or width USUAL_LINE_DOTS → ¬ HasNoOptions rows
         → options_of width replacement ≡ Some (record { width = n; replacement = replacement })
     made rows None None n (w, r) e some = absurd (some (no_number _ w, nothing_replaced _ r))

@@ -483,8 +483,7 @@ false_off e = let bad : codes "false" ≡ codes "true" = cc in lengths (ap lengt
 bare_of : (rows : List Row) (raw text width replacement : Option Text) → Some (said_in rows) ≡ Some (raw, text, width, replacement)
     → IsOff raw → IsOff text → width ≡ None → replacement ≡ None → IsBare rows
 bare_of rows raw text width replacement e raw_off text_off no_width no_replacement =
-    let said : said_in rows ≡ (raw, text, width, replacement) = cc in
-    (
+    let said : said_in rows ≡ (raw, text, width, replacement) = cc in (
       λ h. raw_off (sym (ap (λ (s : Said). s.0) said) ∙ h),
       λ h. text_off (sym (ap (λ (s : Said). s.1) said) ∙ h),
       ap (λ (s : Said). s.2) said ∙ no_width,

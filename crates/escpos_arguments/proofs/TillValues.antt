@@ -18,7 +18,7 @@ use Rattle.escpos_till_jobs.specs.declared.task.TillTask.TheVariants.{Queue, Del
 -- An address that is asked for is refused only where an allocation failed.
 pub taken_address : (rows : List Row) (task : TillTask) (r : Result SocketAddrV4 NoTask) (why : NoTask) → AsksTillBy (codes "deliver") rows task → r ≡ Err why
     → ((a : SocketAddrV4) → IsSomeAnd (first_of (codes "address") rows) (λ text. IsAddress text a) → (r ≡ Ok a) ⊎ (r ≡ Err Memory)) → why ≡ Memory
-taken_address rows (Queue ledger) r why asks is taken = let bad = asks.0 in absurd cc
+taken_address rows (Queue ledger options) r why asks is taken = let bad = asks.0 in absurd cc
 taken_address rows (Deliver ledger d) r why asks is taken =
     let (name, path, address, openings, copy, none) = asks in
     only_memory r d.address why is (taken d.address address)
@@ -30,7 +30,7 @@ taken_address rows (listing ledger first) r why asks is taken = let bad = asks.0
 -- A wait that is asked for is taken.
 pub taken_wait : (rows : List Row) (task : TillTask) (r : Result (Option ℕ) NoTask) (why : NoTask) → AsksTillBy (codes "deliver") rows task → IsTillInRange task → r ≡ Err why
     → ((wait : Option ℕ) → IsNumberIn (one_of (codes "wait") rows) wait → IfSome wait IsWait → r ≡ Ok wait) → ⊥
-taken_wait rows (Queue ledger) r why asks range is taken = let bad = asks.0 in absurd cc
+taken_wait rows (Queue ledger options) r why asks range is taken = let bad = asks.0 in absurd cc
 taken_wait rows (Deliver ledger d) r why asks range is taken =
     let (name, path, address, openings, copy, none) = asks in
     no_error r None why (taken None (subst (λ o. IsNumberIn o None) (sym none) refl) tt) is
@@ -61,7 +61,7 @@ pub taken_task : (rows : List Row) (task : TillTask) (ledger : List ℕ) (a : So
     → ((text : Option (List ℕ)) → first_of (codes "copy") rows ≡ text → IfSome text IsCopyText → copy ≡ text)
     → ((other : Option ℕ) → IsNumberIn (one_of (codes "wait") rows) other → IfSome other IsWait → wait ≡ other)
     → delivery_task ledger (record { address = a; openings = n; copy = copy }) wait ≡ task
-taken_task rows (Queue path) ledger a n copy wait asks range l b m k w = let bad = asks.0 in absurd cc
+taken_task rows (Queue path options) ledger a n copy wait asks range l b m k w = let bad = asks.0 in absurd cc
 taken_task rows (Deliver path d) ledger a n copy wait asks range l b m k w =
     let (name, is_path, address, openings, is_copy, none) = asks in
     let (low, high, fits) = range in

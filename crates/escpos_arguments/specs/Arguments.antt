@@ -129,11 +129,13 @@ abbrev pub IsReplacedBy : Option Text → Option ℕ → Type 0
 IsReplacedBy None replacement = replacement ≡ None
 IsReplacedBy (Some text) replacement = (c : ℕ) × (text ≡ c ∷ []) × (replacement ≡ Some c)
 
+-- the options are what the values say of them, and the usual ones where they say nothing
+abbrev pub GivesOptions : List Row → ReceiptOptions → Type 0
+GivesOptions rows options = IsNumberOr USUAL_LINE_DOTS (one_of (codes "width") rows) options.width × IsReplacedBy (first_of (codes "replace") rows) options.replacement
+
 -- a width or a replacement is among the values, and the options are what these say
 abbrev pub HasOptions : List Row → ReceiptOptions → Type 0
-HasOptions rows options = (¬ HasNoOptions rows)
-    × IsNumberOr USUAL_LINE_DOTS (one_of (codes "width") rows) options.width
-    × IsReplacedBy (first_of (codes "replace") rows) options.replacement
+HasOptions rows options = (¬ HasNoOptions rows) × GivesOptions rows options
 
 -- what the sensors of a printer say, where this text was given for it, if any
 abbrev pub IsConditionOr : Option Text → Condition → Type 0

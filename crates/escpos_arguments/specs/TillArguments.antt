@@ -5,7 +5,7 @@ use Rattle.clap.specs.Simple.{on_top}
 use Rattle.clap.specs.declared.builder.action.ArgAction.TheVariants.{Set}
 use Rattle.escpos_command.specs.Digits.{mark_count}
 use Rattle.escpos_arguments.specs.declared.arguments.TheConstants.{OPENINGS, MOST_OPENINGS}
-use Rattle.escpos_arguments.specs.Arguments.{IsAddress, IsNumberOr, IsWait, address_rule, option_rule}
+use Rattle.escpos_arguments.specs.Arguments.{IsAddress, IsNumberOr, IsOptions, IsWait, GivesOptions, address_rule, option_rule, replace_rule, width_rule}
 use Rattle.escpos_arguments.specs.ClapAnswers.{IsNumber, IsNumberIn}
 use Rattle.escpos_till.specs.Copy.{IsCopyText}
 use Rattle.escpos_till_jobs.specs.declared.task.TillTask.{TillTask}
@@ -19,7 +19,7 @@ till_names = codes "queue" ∷ codes "deliver" ∷ codes "ledger" ∷ []
 
 -- this name, with the values that were given after it, asks for the task
 abbrev pub AsksTillBy : Text → List Row → TillTask → Type 0
-AsksTillBy name rows (Queue ledger) = (name ≡ codes "queue") × (first_of (codes "ledger") rows ≡ Some ledger)
+AsksTillBy name rows (Queue ledger options) = (name ≡ codes "queue") × (first_of (codes "ledger") rows ≡ Some ledger) × GivesOptions rows options
 AsksTillBy name rows (Deliver ledger delivery) = (name ≡ codes "deliver")
     × (first_of (codes "ledger") rows ≡ Some ledger)
     × IsSomeAnd (first_of (codes "address") rows) (λ text. IsAddress text delivery.address)
@@ -42,7 +42,7 @@ AsksTill found task = IsSomeAnd found (λ p. AsksTillBy p.0 p.1 task)
 
 -- the values of the task are in range
 abbrev pub IsTillInRange : TillTask → Type 0
-IsTillInRange (Queue ledger) = ⊤
+IsTillInRange (Queue ledger options) = IsOptions options
 IsTillInRange (Deliver ledger delivery) = (1 ≤ delivery.openings) × (delivery.openings ≤ MOST_OPENINGS) × IfSome delivery.copy IsCopyText
 IsTillInRange (DeliverWithin ledger delivery wait) = (1 ≤ delivery.openings) × (delivery.openings ≤ MOST_OPENINGS) × IfSome delivery.copy IsCopyText × IsWait wait
 IsTillInRange (listing ledger first) = IfSome first (λ n. n < mark_count)
@@ -55,7 +55,7 @@ ledger_rule = record (new_rule (codes "ledger")) { required = true; action = Som
 
 -- what may follow `queue`
 abbrev pub queue_words : Shape
-queue_words = (with_rule (new_app (codes "queue")) ledger_rule).top
+queue_words = (with_rule (with_rule (with_rule (new_app (codes "queue")) ledger_rule) width_rule) replace_rule).top
 
 -- what may follow `deliver`
 abbrev pub deliver_words : Shape

@@ -6,7 +6,7 @@ ghost use Rattle.clap.specs.Words.{found_of, first_of, rows_of};
 ghost use Rattle.escpos_text.specs.Replacements.{is_replacement};
 ghost use Rattle.escpos_receipt.specs.declared.options.ReceiptOptions.{ReceiptOptions};
 ghost use Rattle.escpos_jobs.specs.declared.task.Task.{Task};
-ghost use Rattle.escpos_arguments.specs.Arguments.{AsksBy, HasNoOptions, HasOptions, HasRaw, InRange, IsOptions, IsPlain, IsReplacedBy};
+ghost use Rattle.escpos_arguments.specs.Arguments.{AsksBy, HasNoOptions, HasOptions, HasRaw, InRange, IsOptions, IsPlain, IsReplacedBy, GivesOptions};
 ghost use Rattle.escpos_arguments.specs.ReceiptTasks.{options_of};
 
 use crate::arguments::has_flag;
@@ -48,11 +48,23 @@ pub(crate) fn options_given(given: &ArgMatches) -> Result<Option<ReceiptOptions>
     Ok(options_of(width, replacement))
 }
 
+// The options of a receipt; where one of them isn't given, the usual one.
+pub(crate) fn options_or_usual(given: &ArgMatches) -> Result<ReceiptOptions, NoTask>
+    ensures read { IfOk result (GivesOptions (rows_of (found_of given.now))) }
+    ensures range { IfOk result IsOptions }
+    ensures taken { (options : ReceiptOptions) → GivesOptions (rows_of (found_of given.now)) options → IsOptions options → result ≡ Ok options }
+    ensures usage { IfErr result (λ why. why ≡ NoTask.Usage) }
+{
+    let width = width_given(given)?;
+    let replacement = replacement_given(given)?;
+    Ok(ReceiptOptions {
+        width: width.unwrap_or(LineWidth::usual()),
+        replacement,
+    })
+}
+
 // The options that have these, if there is one of them.
-fn options_of(
-    width: Option<LineWidth>,
-    replacement: Option<Replacement>,
-) -> Option<ReceiptOptions>
+fn options_of(width: Option<LineWidth>, replacement: Option<Replacement>) -> Option<ReceiptOptions>
     ensures { result ≡ options_of width replacement }
 {
     match (width, replacement) {

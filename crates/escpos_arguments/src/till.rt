@@ -12,6 +12,7 @@ use crate::arguments::{
     MOST_OPENINGS, OPENINGS, address, address_of, count_of, no_task, number_given, option,
     wait_given,
 };
+use crate::options::options_or_usual;
 use clap::error::ErrorKind;
 use clap::{Arg, ArgAction, ArgMatches, Command};
 use escpos_command::MarkId;
@@ -80,7 +81,8 @@ fn queue_asked<'a>(given: &ArgMatches<'a>) -> Result<TillTask<'a>, NoTask>
     ensures usage { IfErr result (λ why. why ≡ NoTask.Usage) }
 {
     let ledger = ledger_path(given)?;
-    Ok(TillTask::Queue { ledger })
+    let options = options_or_usual(given)?;
+    Ok(TillTask::Queue { ledger, options })
 }
 
 // The task of `deliver` with the arguments that follow it.
@@ -203,11 +205,14 @@ fn till_command<'a>(alloc: Global) -> Result<Command<'a>, AllocError>
     Ok(command)
 }
 
-// The subcommand `queue` with its argument.
+// The subcommand `queue` with its arguments.
 fn queue_command<'a>(alloc: Global) -> Result<Command<'a>, AllocError>
     ensures shape { IfOk result (λ command. (app_of command).top ≡ queue_words) }
 {
-    let command = Command::new(alloc, "queue").arg(ledger_argument(alloc))?;
+    let command = Command::new(alloc, "queue")
+        .arg(ledger_argument(alloc))?
+        .arg(option(alloc, "width", false))?
+        .arg(option(alloc, "replace", false))?;
     Ok(command)
 }
 

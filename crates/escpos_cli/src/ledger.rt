@@ -4,6 +4,7 @@ use escpos_io::{ByteIn, ByteOut};
 use escpos_jobs::receipt_input::refuse_input;
 use escpos_jobs::status::Status;
 use escpos_jobs::wait::Within;
+use escpos_receipt::ReceiptOptions;
 use escpos_store::SqliteStore;
 use escpos_till::{Ledger, NoStore};
 use escpos_till_jobs::{
@@ -25,7 +26,7 @@ pub fn perform_till<S: Start, R: ByteIn, W: ByteOut>(
     output: &mut W,
 ) -> Status {
     match task {
-        TillTask::Queue { ledger } => queue(rt, start, &ledger, input, output),
+        TillTask::Queue { ledger, options } => queue(rt, start, &ledger, &options, input, output),
         TillTask::Deliver { ledger, delivery } => deliver(
             rt, rt, start, &ledger, &delivery, output,
         ),
@@ -50,11 +51,12 @@ fn queue<S: Start, R: ByteIn, W: ByteOut>(
     rt: &HostRuntime,
     start: S,
     path: &LedgerPath<'_>,
+    options: &ReceiptOptions,
     input: &mut R,
     output: &mut W,
 ) -> Status {
-    match read_receipt_text(rt.alloc(), input) {
-        Ok(json) => queue_text(rt, start, path, &json, output),
+    match read_receipt_text(rt.alloc(), options, input) {
+        Ok(json) => queue_text(rt, start, path, options, &json, output),
         Err(fault) => refuse_input(fault, output),
     }
 }
@@ -63,12 +65,13 @@ fn queue_text<S: Start, W: ByteOut>(
     rt: &HostRuntime,
     start: S,
     path: &LedgerPath<'_>,
+    options: &ReceiptOptions,
     json: &[u8],
     output: &mut W,
 ) -> Status {
     match open(rt, start, path) {
         Ok(mut ledger) => {
-            let status = queue_receipt(rt.alloc(), &mut ledger, json, output);
+            let status = queue_receipt(rt.alloc(), &mut ledger, options, json, output);
             close(ledger);
             status
         }

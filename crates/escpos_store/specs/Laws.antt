@@ -1,20 +1,43 @@
 -- The laws of the store: a database has one list of entries, and what a store holds outlives a crash.
-use Rattle.std.proofs.Common.{◌≡◌, ℕ, ◌+◌, ◌<◌, ◌==◌, Bool, true, false, not, List, [], ◌∷◌, filter, refl, ap, ap₂, subst₂, arith, IsPermutation}
+use Rattle.std.proofs.Common.{◌≡◌, ℕ, ◌+◌, ◌<◌, ◌==◌, Bool, true, false, not, List, [], ◌∷◌, filter, Option, None, Some, pos, refl, ap, ap₂, subst₂, arith, IsPermutation}
 use Rattle.std.proofs.lemmas.Bool.Decides.{nat_tests}
 use Rattle.std.proofs.lemmas.List.Sorted.{length_permutation, IsPermutation-trans, IsPermutation-sym}
+use Rattle.escpos_till.specs.declared.entry.Content.{Content}
 use Rattle.escpos_till.specs.declared.entry.Entry.{Entry}
 use Rattle.escpos_till.specs.declared.entry.Entry.TheVariants as entry
+use Rattle.sqlite.specs.declared.types.Value.TheVariants.{Int}
 use Rattle.sqlite.specs.Order.{Row, column}
 use Rattle.sqlite.specs.Tree.{Trees}
 use Rattle.sqlite.specs.State.{State}
 use Rattle.sqlite_trees.specs.Objects.{number_in}
 use Rattle.sqlite_keyed.proofs.ListLemmas.{IsPermutation-filter}
 use Rattle.sqlite.proofs.Callers.{one_permutation}
-use Rattle.escpos_store.specs.Table.{row_of, rows_from}
+use Rattle.escpos_store.specs.Table.{replacement_number, row_of, rows_from, width_number}
 use Rattle.escpos_store.specs.Holds.{HasEntries, Holds, Leaves}
 
+same_width : (x y : ℕ) → width_number x ≡ width_number y → x ≡ y
+same_width x y h = grind (arith, nat_tests)
+
+same_replacement : (x y : Option ℕ) → replacement_number x ≡ replacement_number y → x ≡ y
+same_replacement None None h = refl
+same_replacement None (Some d) h = absurd (omega arith)
+same_replacement (Some c) None h = absurd (omega arith)
+same_replacement (Some c) (Some d) h = ap Some (omega arith)
+
+same_number : (m n : ℕ) → Int (pos m) ≡ Int (pos n) → m ≡ n
+same_number m n h = cc
+
+same_content : (id : ℕ) (c d : Content) → row_of id (entry.Queued c) ≡ row_of id (entry.Queued d) → c ≡ d
+same_content id c d h =
+    let text : c.text ≡ d.text = cc in
+    let number : Int (pos (width_number c.options.width)) ≡ Int (pos (width_number d.options.width)) = cc in
+    let next : Int (pos (replacement_number c.options.replacement)) ≡ Int (pos (replacement_number d.options.replacement)) = cc in
+    let width = same_width c.options.width d.options.width (same_number _ _ number) in
+    let replacement = same_replacement c.options.replacement d.options.replacement (same_number _ _ next) in
+    cc
+
 same_entry : (id : ℕ) (x y : Entry) → row_of id x ≡ row_of id y → x ≡ y
-same_entry id (entry.Queued c) (entry.Queued d) h = cc
+same_entry id (entry.Queued c) (entry.Queued d) h = ap entry.Queued (same_content id c d h)
 same_entry id (entry.Queued c) (entry.Tried n m) h = absurd (cc)
 same_entry id (entry.Queued c) (entry.Recorded n) h = absurd (cc)
 same_entry id (entry.Queued c) (entry.Raised m) h = absurd (cc)

@@ -1,5 +1,6 @@
 -- The table that a ledger's entries are kept in, and each entry as a row of it.
-use Rattle.std.specs.Prelude.{ℕ, ◌+◌, true, false, pos, Some, codes, List, [], ◌∷◌}
+use Rattle.std.specs.Prelude.{ℕ, ◌+◌, ◌==◌, if◌then◌else◌, true, false, pos, Option, None, Some, codes, List, [], ◌∷◌}
+use Rattle.escpos_command.specs.declared.line_width.TheConstants.{USUAL_LINE_DOTS}
 use Rattle.escpos_till.specs.declared.entry.Entry.{Entry}
 use Rattle.escpos_till.specs.declared.entry.Entry.TheVariants as entry
 use Rattle.sqlite.specs.declared.types.Value.{Value}
@@ -62,23 +63,33 @@ kind_of (entry.Tried number next) = 2
 kind_of (entry.Recorded number) = 3
 kind_of (entry.Raised next) = 4
 
--- the receipt's number, and 0 in an entry that has none
+-- The dots of a receipt's lines, but 0 for the usual 512, as in ledgers that know no other width. A line has 1 dot at least, so
+-- that 512 for none makes the numbers of all widths differ.
+abbrev pub width_number : ℕ → ℕ
+width_number dots = if dots == USUAL_LINE_DOTS then 0 else if dots == 0 then USUAL_LINE_DOTS else dots
+
+-- The replacement of a receipt's options: its code and 1, and 0 where there is none.
+abbrev pub replacement_number : Option ℕ → ℕ
+replacement_number None = 0
+replacement_number (Some code) = code + 1
+
+-- the receipt's number; in an entry by which a receipt is taken the width of its lines, and 0 in an entry that has neither
 abbrev pub number_of : Entry → ℕ
-number_of (entry.Queued content) = 0
+number_of (entry.Queued content) = width_number content.options.width
 number_of (entry.Tried number next) = number
 number_of (entry.Recorded number) = number
 number_of (entry.Raised next) = 0
 
--- the mark number that is free afterwards, and 0 in an entry that has none
+-- the mark number that is free afterwards; in an entry by which a receipt is taken its replacement, and 0 in an entry that has neither
 abbrev pub next_of : Entry → ℕ
-next_of (entry.Queued content) = 0
+next_of (entry.Queued content) = replacement_number content.options.replacement
 next_of (entry.Tried number next) = next
 next_of (entry.Recorded number) = 0
 next_of (entry.Raised next) = next
 
 -- the receipt's text, and NULL in an entry that has none
 abbrev pub content_of : Entry → Value
-content_of (entry.Queued content) = Bytes content
+content_of (entry.Queued content) = Bytes content.text
 content_of (entry.Tried number next) = Null
 content_of (entry.Recorded number) = Null
 content_of (entry.Raised next) = Null

@@ -1,12 +1,14 @@
 //! An entry as a row of the table, and back.
 
 ghost use Rattle.std.specs.Prelude.{◌≡◌, ◌≢◌, ◌+◌, ◌<◌, ◌^◌, pos, None, Some, IfOk, IfSome};
-ghost use Rattle.sqlite.specs.declared.types.Value.TheVariants.{Null, Int};
+ghost use Rattle.sqlite.specs.declared.types.Value.TheVariants.{Null, Int, Blob as Bytes};
 ghost use Rattle.sqlite.specs.Order.{column};
 ghost use Rattle.sqlite.specs.Value.{owned};
-ghost use Rattle.escpos_till.specs.declared.entry.Entry.TheVariants as entry_kind;
-ghost use Rattle.escpos_store.specs.Table.{kind_of, number_of, next_of, content_of, row_of, rows_from};
+ghost use Rattle.escpos_store.specs.Table.{kind_of, number_of, next_of, content_of, replacement_number, row_of, rows_from, width_number};
 
+use escpos_command::{LineWidth, USUAL_LINE_DOTS};
+use escpos_receipt::ReceiptOptions;
+use escpos_text::Replacement;
 use escpos_till::{Content, Entry, ReceiptNumber};
 use sqlite::Row;
 use sqlite::types::ValueRef;
@@ -32,26 +34,52 @@ pub fn kind(entry: &Entry) -> ValueRef<'static>
     })
 }
 
-/// The receipt's number, and 0 in an entry that has none; `None` past 2^63.
+/// The receipt's number; in an entry by which a receipt is taken the width of its lines, and 0 in an entry that has neither;
+/// `None` past 2^63.
 pub fn number(entry: &Entry) -> Option<ValueRef<'static>>
     ensures number { IfSome result (λ number. owned number ≡ Int (pos (number_of entry.now))) }
     ensures given { number_of entry.now < 2 ^ 63 → result ≢ None }
 {
     let number = match entry {
-        Entry::Queued { .. } | Entry::Raised { .. } => 0,
+        Entry::Queued { content } => width_number(content.options.width),
+        Entry::Raised { .. } => 0,
         Entry::Tried { number, .. } | Entry::Recorded { number } => number.get(),
     };
     Some(ValueRef::Int(i64::try_from(number).ok()?))
 }
 
-/// The mark number that is free afterwards; 0 in an entry that has none.
+// The dots of a line, and 0 for the usual 512.
+fn width_number(width: LineWidth) -> usize
+    ensures { result ≡ width_number width }
+{
+    let dots = width.dots();
+    if dots == USUAL_LINE_DOTS {
+        0
+    } else {
+        usize::from(dots)
+    }
+}
+
+/// The mark number that is free afterwards; in an entry by which a receipt is taken its replacement, and 0 in an entry that has
+/// neither.
 pub fn next(entry: &Entry) -> ValueRef<'static>
     ensures { owned result ≡ Int (pos (next_of entry.now)) }
 {
     ValueRef::Int(match entry {
-        Entry::Queued { .. } | Entry::Recorded { .. } => 0,
+        Entry::Queued { content } => replacement_number(content.options.replacement),
+        Entry::Recorded { .. } => 0,
         Entry::Tried { next, .. } | Entry::Raised { next } => i64::from(*next),
     })
+}
+
+// The code of a replacement and 1, and 0 where there is none.
+fn replacement_number(replacement: Option<Replacement>) -> i64
+    ensures { result ≡ pos (replacement_number replacement) }
+{
+    match replacement {
+        None => 0,
+        Some(replacement) => i64::from(u32::from(replacement.character())) + 1,
+    }
 }
 
 /// The receipt's text; NULL in an entry that has none.
@@ -94,18 +122,45 @@ fn entry_of(alloc: Global, row: &Row, before: usize) -> Result<Option<Entry>, Al
         return Ok(None);
     }
     match row.get_ref(4) {
-        Ok(ValueRef::Blob(bytes)) if kind == 1 && number == 0 && next == 0 => queued(alloc, bytes),
+        Ok(ValueRef::Blob(bytes)) if kind == 1 => queued(alloc, number, next, bytes),
         Ok(ValueRef::Null) => Ok(entry_without_content(kind, number, next)),
         _ => Ok(None),
     }
 }
 
-fn queued(alloc: Global, bytes: &[u8]) -> Result<Option<Entry>, AllocError>
-    ensures { IfOk result (λ found. found ≡ Some (entry_kind.Queued bytes.now)) }
+// The entry by which a receipt with this text is taken, whose options these numbers are.
+fn queued(alloc: Global, number: u64, next: u64, bytes: &[u8]) -> Result<Option<Entry>, AllocError>
+    ensures { IfOk result (λ found. IfSome found (λ entry. (kind_of entry ≡ 1) × (number_of entry ≡ number) × (next_of entry ≡ next)
+        × (content_of entry ≡ Bytes bytes.now))) }
 {
+    let (Some(width), Some(replacement)) = (width_of(number), replacement_of(next)) else {
+        return Ok(None);
+    };
     Ok(Some(Entry::Queued {
-        content: Content::new(bytes.to_vec(alloc)?),
+        content: Content::with_options(bytes.to_vec(alloc)?, ReceiptOptions { width, replacement }),
     }))
+}
+
+// The width that has this number.
+fn width_of(number: u64) -> Option<LineWidth>
+    ensures { IfSome result (λ width. width_number width ≡ number) }
+{
+    match u16::try_from(number) {
+        Ok(0) => Some(LineWidth::usual()),
+        Ok(USUAL_LINE_DOTS) | Err(_) => None,
+        Ok(dots) => LineWidth::new(dots),
+    }
+}
+
+// The replacement that has this number, which may be none.
+fn replacement_of(number: u64) -> Option<Option<Replacement>>
+    ensures { IfSome result (λ replacement. replacement_number replacement ≡ number) }
+{
+    let Some(code) = number.checked_sub(1) else {
+        return Some(None);
+    };
+    let replacement = Replacement::new(u8::try_from(code).ok()?)?;
+    Some(Some(replacement))
 }
 
 fn entry_without_content(kind: u64, number: u64, next: u64) -> Option<Entry>

@@ -8,6 +8,7 @@ use Rattle.std.proofs.lemmas.List.{take-append-drop}
 use Rattle.std.proofs.lemmas.List.Elements.{filter_map-append}
 use Rattle.std.proofs.lemmas.List.Sums.{count_by-le-length, sum_by-append}
 use Rattle.std.proofs.lemmas.Option.{same_Some, slice_get_within}
+use Rattle.escpos_till.specs.declared.entry.Content.{Content}
 use Rattle.escpos_till.specs.declared.entry.Entry.{Entry}
 use Rattle.escpos_till.specs.declared.entry.Entry.TheVariants.{Queued, Tried, Recorded, Raised}
 use Rattle.escpos_till.specs.declared.state.ReceiptState.TheVariants as state
@@ -36,7 +37,7 @@ position-hit t i (y ∷ xs) x h e = by_first (t y) i (position_from t (i + 1) xs
 
 -- ## Receipts with numbers
 
-numbered-same : {X : Type 0} (f g : ℕ → X) (m : ℕ) (cs : List (List ℕ)) → ((k : ℕ) → m ≤ k → g k ≡ f k)
+numbered-same : {X : Type 0} (f g : ℕ → X) (m : ℕ) (cs : List Content) → ((k : ℕ) → m ≤ k → g k ≡ f k)
     → map (λ t. g t.number) (numbered_from m cs) ≡ map (λ t. f t.number) (numbered_from m cs)
 numbered-same f g m [] h = refl
 numbered-same f g m (c ∷ cs) h =
@@ -44,7 +45,7 @@ numbered-same f g m (c ∷ cs) h =
     let later = numbered-same f g (m + 1) cs (λ k le. h k (omega arith)) in
     cc
 
-numbered-set : {X : Type 0} (f g : ℕ → X) (n m d : ℕ) (cs : List (List ℕ)) → ((k : ℕ) → k ≢ n → g k ≡ f k) → n ≡ m + d → d < length cs
+numbered-set : {X : Type 0} (f g : ℕ → X) (n m d : ℕ) (cs : List Content) → ((k : ℕ) → k ≢ n → g k ≡ f k) → n ≡ m + d → d < length cs
     → map (λ t. g t.number) (numbered_from m cs) ≡ set (map (λ t. f t.number) (numbered_from m cs)) d (g n)
 numbered-set f g n m d [] h e l = absurd (omega arith)
 numbered-set f g n m zero (c ∷ cs) h e l =
@@ -56,7 +57,7 @@ numbered-set f g n m (suc d) (c ∷ cs) h e l =
     let later = numbered-set f g n (m + 1) d cs h (omega arith) (omega arith) in
     cc
 
-numbered-snoc : {X : Type 0} (f : ℕ → X) (m : ℕ) (cs : List (List ℕ)) (c : List ℕ)
+numbered-snoc : {X : Type 0} (f : ℕ → X) (m : ℕ) (cs : List Content) (c : Content)
     → map (λ t. f t.number) (numbered_from m (cs ++ c ∷ [])) ≡ map (λ t. f t.number) (numbered_from m cs) ++ f (m + length cs) ∷ []
 numbered-snoc f m [] c = ap (λ k. f k ∷ []) (sym (add-zero m))
 numbered-snoc f m (d ∷ cs) c =
@@ -65,18 +66,18 @@ numbered-snoc f m (d ∷ cs) c =
     let same = ap f k in
     ap (λ rest. f m ∷ rest) (later ∙ ap (λ x. map (λ t. f t.number) (numbered_from (m + 1) cs) ++ x ∷ []) same)
 
-pub numbered-get : {X : Type 0} (f : ℕ → X) (m k : ℕ) (cs : List (List ℕ)) → k < length cs
+pub numbered-get : {X : Type 0} (f : ℕ → X) (m k : ℕ) (cs : List Content) → k < length cs
     → slice_get (map (λ t. f t.number) (numbered_from m cs)) k ≡ Some (f (m + k))
 numbered-get f m k [] l = absurd (omega arith)
 numbered-get f m zero (c ∷ cs) l = ap (λ n. Some (f n)) (sym (add-zero m))
 numbered-get f m (suc k) (c ∷ cs) l =
     numbered-get f (m + 1) k cs (omega arith) ∙ ap (λ n. Some (f n)) (omega arith)
 
-pub length-numbered : {X : Type 0} (f : Taken → X) (m : ℕ) (cs : List (List ℕ)) → length (map f (numbered_from m cs)) ≡ length cs
+pub length-numbered : {X : Type 0} (f : Taken → X) (m : ℕ) (cs : List Content) → length (map f (numbered_from m cs)) ≡ length cs
 length-numbered f m [] = refl
 length-numbered f m (c ∷ cs) = ap suc (length-numbered f (m + 1) cs)
 
-pub length-taken : (m : ℕ) (cs : List (List ℕ)) → length (numbered_from m cs) ≡ length cs
+pub length-taken : (m : ℕ) (cs : List Content) → length (numbered_from m cs) ≡ length cs
 length-taken m [] = refl
 length-taken m (c ∷ cs) = ap suc (length-taken (m + 1) cs)
 
@@ -129,7 +130,7 @@ next_after_tried es n next = ap (last_or 0) (nexts-snoc es (Tried n next)) ∙ l
 pub next_after_raised : (es : List Entry) (next : ℕ) → next_free (es ++ Raised next ∷ []) ≡ next
 next_after_raised es next = ap (last_or 0) (nexts-snoc es (Raised next)) ∙ last-snoc 0 (filter_map next_of es) next
 
-pub next_after_queued : (es : List Entry) (content : List ℕ) → next_free (es ++ Queued content ∷ []) ≡ next_free es
+pub next_after_queued : (es : List Entry) (content : Content) → next_free (es ++ Queued content ∷ []) ≡ next_free es
 next_after_queued es content = ap (last_or 0) (nexts-snoc es (Queued content) ∙ append-nil (filter_map next_of es))
 
 pub next_after_recorded : (es : List Entry) (n : ℕ) → next_free (es ++ Recorded n ∷ []) ≡ next_free es
@@ -214,7 +215,7 @@ unknown es n ledger few = unknown_in [] es n ledger few
 state_at : (es others : List Entry) (m n : ℕ) → place_of es m ≡ place_of others n → times_tried es m ≡ times_tried others n → state_of es m ≡ state_of others n
 state_at es others m n place times = ap (λ p. state_by p (times_tried es m)) place ∙ ap (state_by (place_of others n)) times
 
-pub states_after_queued : (es : List Entry) (content : List ℕ) → IsLedger es → states (es ++ Queued content ∷ []) ≡ states es ++ state.Waiting 0 ∷ []
+pub states_after_queued : (es : List Entry) (content : Content) → IsLedger es → states (es ++ Queued content ∷ []) ≡ states es ++ state.Waiting 0 ∷ []
 states_after_queued es content ledger =
     let e : Entry = Queued content in
     let more : List Entry = es ++ e ∷ [] in
@@ -330,7 +331,7 @@ few_records (Raised next ∷ es) = omega (arith, few_records es)
 pub count_states : (es : List Entry) → length (states es) ≡ length (taken es)
 count_states es = length-states es ∙ sym (length-taken 1 (contents es))
 
-pub some_state : (es old : List Entry) (content : List ℕ) → es ≡ old ++ Queued content ∷ [] → 0 < length (states es)
+pub some_state : (es old : List Entry) (content : Content) → es ≡ old ++ Queued content ∷ [] → 0 < length (states es)
 some_state es old content e =
     let count : length (contents es) ≡ length (contents old) + 1 = ap (λ xs. length (contents xs)) e ∙ ap length (contents-snoc old (Queued content)) ∙ length-append (contents old) (content ∷ []) in
     omega (arith, count, length-states es)
@@ -352,14 +353,14 @@ refused_at es i e inside is refused ledger = refused (ledger (take i es) e (drop
 abbrev waits_in : List Entry → Taken → Bool
 waits_in es receipt = is_none (place_of es receipt.number)
 
-none_waits : (es : List Entry) (m : ℕ) (cs : List (List ℕ)) → ((k : ℕ) → k < length cs → is_none (place_of es (m + k)) ≡ false) → filter (waits_in es) (numbered_from m cs) ≡ []
+none_waits : (es : List Entry) (m : ℕ) (cs : List Content) → ((k : ℕ) → k < length cs → is_none (place_of es (m + k)) ≡ false) → filter (waits_in es) (numbered_from m cs) ≡ []
 none_waits es m [] h = refl
 none_waits es m (c ∷ cs) h =
     let here : is_none (place_of es m) ≡ false = ap (λ k. is_none (place_of es k)) (sym (add-zero m)) ∙ h 0 (omega arith) in
     let later = none_waits es (m + 1) cs (λ k l. let same : m + 1 + k ≡ m + suc k = omega arith in ap (λ n. is_none (place_of es n)) same ∙ h (suc k) (omega arith)) in
     ap (λ b. cond b (record { number = m; content = c } ∷ filter (waits_in es) (numbered_from (m + 1) cs)) (filter (waits_in es) (numbered_from (m + 1) cs))) here ∙ later
 
-first_waits : (es : List Entry) (m : ℕ) (cs : List (List ℕ)) (at : ℕ) (c : List ℕ) → slice_get cs at ≡ Some c
+first_waits : (es : List Entry) (m : ℕ) (cs : List Content) (at : ℕ) (c : Content) → slice_get cs at ≡ Some c
     → ((k : ℕ) → k < at → is_none (place_of es (m + k)) ≡ false) → is_none (place_of es (m + at)) ≡ true
     → slice_get (filter (waits_in es) (numbered_from m cs)) 0 ≡ Some (record { number = m + at; content = c })
 first_waits es m [] at c got h w = absurd (let bad : None ≡ Some c = got in cc)
@@ -388,7 +389,7 @@ pub no_more : (es : List Entry) → ((k : ℕ) (tried : ℕ) → k < length (con
 no_more es h = none_waits es 1 (contents es) (λ k l. recorded_one es k l (λ tried. h k tried l))
 
 -- The first state that waits is that of the first receipt that waits.
-pub first_of_states : (es : List Entry) (at tried : ℕ) (content : List ℕ) → slice_get (contents es) at ≡ Some content → slice_get (states es) at ≡ Some (state.Waiting tried)
+pub first_of_states : (es : List Entry) (at tried : ℕ) (content : Content) → slice_get (contents es) at ≡ Some content → slice_get (states es) at ≡ Some (state.Waiting tried)
     → ((k : ℕ) (tried : ℕ) → k < at → slice_get (states es) k ≢ Some (state.Waiting tried))
     → FirstWaits es (at + 1) content tried
 first_of_states es at tried content got is h =

@@ -2,6 +2,7 @@
 use Rattle.std.proofs.Common.{ℕ, zero, suc, ◌≡◌, ◌+◌, ◌-◌, ◌<◌, ◌≤◌, ◌⊎◌, inl, inr, Some, None, List, [], ◌∷◌, ◌++◌, length, get_or, set, zero-add, refl, sym, ◌∙◌, ap, subst, append-nil, length-append, length-set, add-zero, arith}
 use Rattle.std.specs.Prelude.{MatchOption, slice_get}
 use Rattle.std.proofs.lemmas.Option.{get_or_from_slice_get, slice_get_read}
+use Rattle.escpos_till.specs.declared.entry.Content.{Content}
 use Rattle.escpos_till.specs.declared.entry.Entry.{Entry}
 use Rattle.escpos_till.specs.declared.entry.Entry.TheVariants.{Queued, Tried, Recorded, Raised}
 use Rattle.escpos_till.specs.declared.state.ReceiptState.{ReceiptState}
@@ -102,7 +103,7 @@ state_read s es n r x sums waits same is =
     ap (λ ss. slice_get ss (r - 1)) sums.states ∙ ap (λ k. slice_get (states_of es) (k - 1)) same ∙ waiting_state es n waits in
     is ∙ get_or_from_slice_get s.states.items (r - 1) (state.Waiting (times_tried es n)) x got
 
-pub sums_after_queued : (s t : Summary) (es : List Entry) (e : Entry) (content : List ℕ) (at : ℕ) → SumsUp s es → IsLedger es → e ≡ Queued content → at ≡ length es
+pub sums_after_queued : (s t : Summary) (es : List Entry) (e : Entry) (content : Content) (at : ℕ) → SumsUp s es → IsLedger es → e ≡ Queued content → at ≡ length es
     → t.places.items ≡ s.places.items ++ at ∷ [] → t.states.items ≡ s.states.items ++ state.Waiting 0 ∷ []
     → t.first_waiting ≡ s.first_waiting → t.recorded ≡ s.recorded → t.next ≡ s.next → SumsUp t (es ++ e ∷ [])
 sums_after_queued s t es e content at sums ledger kind here places states first recorded next = subst (λ e. SumsUp t (es ++ e ∷ [])) (sym kind) (record {
@@ -175,7 +176,7 @@ tried_past s es n r sums same past waits =
 -- ## The first that waits
 
 place_in : (i : ℕ) (es : List Entry) (k : ℕ) → k < length (contents es)
-    → (d : ℕ) × (content : List ℕ) × (slice_get (places_from i es) k ≡ Some (i + d)) × (slice_get es d ≡ Some (Queued content)) × (slice_get (contents es) k ≡ Some content)
+    → (d : ℕ) × (content : Content) × (slice_get (places_from i es) k ≡ Some (i + d)) × (slice_get es d ≡ Some (Queued content)) × (slice_get (contents es) k ≡ Some content)
 place_in i [] k l = absurd (omega arith)
 place_in i (Queued content ∷ es) zero l = (0, content, ap Some (sym (add-zero i)), refl, refl)
 place_in i (Queued content ∷ es) (suc k) l =
@@ -198,7 +199,7 @@ place_in i (Raised next ∷ es) k l =
 -- A receipt's place, and what stands there.
 pub record Spot (s : Summary) (es : List Entry) (k : ℕ) : Type 0 where
   pub place : ℕ
-  pub content : List ℕ
+  pub content : Content
   pub at : slice_get s.places.items k ≡ Some place
   pub there : slice_get es place ≡ Some (Queued content)
   pub is : slice_get (contents es) k ≡ Some content
@@ -220,7 +221,7 @@ none_left s es sums past =
     let count : length s.states.items ≡ length (contents es) = ap length sums.states ∙ length-states es in
     no_more es (λ k tried l is. sums.first_waiting.passed k (state.Waiting tried) (omega (arith, count, past)) (ap (λ ss. slice_get ss k) sums.states ∙ is))
 
-pub first_left : (s : Summary) (es : List Entry) (at tried : ℕ) (content : List ℕ) → SumsUp s es → at ≡ s.first_waiting → slice_get (contents es) at ≡ Some content
+pub first_left : (s : Summary) (es : List Entry) (at tried : ℕ) (content : Content) → SumsUp s es → at ≡ s.first_waiting → slice_get (contents es) at ≡ Some content
     → slice_get s.states.items at ≡ Some (state.Waiting tried) → FirstWaits es (at + 1) content tried
 first_left s es at tried content sums same is waits =
     first_of_states es at tried content is (ap (λ ss. slice_get ss at) (sym sums.states) ∙ waits)

@@ -3,23 +3,24 @@ use Rattle.std.proofs.Common.{◌≡◌, List, [], ◌∷◌, refl}
 use Rattle.escpos_till.specs.declared.entry.Entry.{Entry}
 use Rattle.escpos_till.specs.declared.entry.Entry.TheVariants.{Queued, Tried, Recorded, Raised}
 use Rattle.escpos_till.specs.declared.state.ReceiptState.TheVariants as state
+use Rattle.escpos_till.specs.Contents.{plain}
 use Rattle.escpos_till.specs.Entries.{next_free, taken, recorded, waiting, times_tried, states}
 
 -- Three receipts are taken; the first is tried twice and recorded, the third is tried once.
 abbrev worked : List Entry
 worked =
-    Queued (65 ∷ []) ∷ Raised 10 ∷ Queued (66 ∷ []) ∷ Tried 1 14 ∷ Tried 1 18 ∷ Queued (67 ∷ []) ∷ Recorded 1 ∷ Tried 3 22 ∷ []
+    Queued (plain (65 ∷ [])) ∷ Raised 10 ∷ Queued (plain (66 ∷ [])) ∷ Tried 1 14 ∷ Tried 1 18 ∷ Queued (plain (67 ∷ [])) ∷ Recorded 1 ∷ Tried 3 22 ∷ []
 
 worked_next : next_free worked ≡ 22
 worked_next = refl
 
-worked_taken : taken worked ≡ (record { number = 1; content = 65 ∷ [] }) ∷ (record { number = 2; content = 66 ∷ [] }) ∷ (record { number = 3; content = 67 ∷ [] }) ∷ []
+worked_taken : taken worked ≡ (record { number = 1; content = plain (65 ∷ []) }) ∷ (record { number = 2; content = plain (66 ∷ []) }) ∷ (record { number = 3; content = plain (67 ∷ []) }) ∷ []
 worked_taken = refl
 
 worked_recorded : recorded worked ≡ 1 ∷ []
 worked_recorded = refl
 
-worked_waiting : waiting worked ≡ (record { number = 2; content = 66 ∷ [] }) ∷ (record { number = 3; content = 67 ∷ [] }) ∷ []
+worked_waiting : waiting worked ≡ (record { number = 2; content = plain (66 ∷ []) }) ∷ (record { number = 3; content = plain (67 ∷ []) }) ∷ []
 worked_waiting = refl
 
 worked_times : times_tried worked 1 ≡ 2

@@ -8,7 +8,6 @@ use Rattle.escpos_command.specs.CommandTable.{spell}
 use Rattle.escpos_command.specs.Digits.{mark_count, mark_of}
 use Rattle.escpos_receipt.specs.declared.json.JsonError.{JsonError}
 use Rattle.escpos_receipt.specs.declared.json.JsonError.TheVariants as json
-use Rattle.escpos_receipt.specs.Describes.{Describes, IsJsonFault}
 use Rattle.escpos_receipt.specs.Whole.{Whole}
 use Rattle.escpos_host.specs.declared.send.Sent.{Sent}
 use Rattle.escpos_host.specs.declared.send.Sent.TheVariants as became
@@ -16,9 +15,11 @@ use Rattle.escpos_host.specs.Machine.{HostView, Down}
 use Rattle.escpos_host.specs.Sends.{Sends}
 use Rattle.escpos_till.specs.declared.deliver.Delivered.{Delivered}
 use Rattle.escpos_till.specs.declared.deliver.Delivered.TheVariants as delivered
+use Rattle.escpos_till.specs.declared.entry.Content.{Content}
 use Rattle.escpos_till.specs.declared.entry.Entry.{Entry}
 use Rattle.escpos_till.specs.declared.entry.Entry.TheVariants as entry
 use Rattle.escpos_till.specs.declared.error.LedgerError.TheVariants as error
+use Rattle.escpos_till.specs.Contents.{ContentDescribes, IsContentFault}
 use Rattle.escpos_till.specs.Copy.{sent_of}
 use Rattle.escpos_till.specs.Entries.{next_free, waiting}
 use Rattle.escpos_till.specs.Ledger.{Adds, FirstWaits, HasFailed, IsLive, LedgerView, RefusesRecorded, RefusesTried}
@@ -50,11 +51,11 @@ Quiet l = Consumes l.came_before l.came_after [] × Appends l.put_before l.put_a
 
 -- The first receipt that waits has this number; these commands are sent of it.
 pub record Due (entries : List Entry) (copy : Option (List ℕ)) (number : ℕ) (commands : List Command) : Type 0 where
-  pub content : List ℕ
+  pub content : Content
   pub tried : ℕ
   pub first : FirstWaits entries number content tried
   pub receipt : List Command
-  pub describes : Describes content receipt
+  pub describes : ContentDescribes content receipt
   pub whole : Whole receipt
   pub sent : commands ≡ sent_of copy tried receipt
 
@@ -86,14 +87,14 @@ Concludes mid number (became.NotRecorded why receipt) (delivered.NotRecorded n w
 Concludes mid number sent result new = ⊥
 
 -- Why the text of a receipt gives none.
-abbrev pub WhyNone : JsonError → List ℕ → Type 0
-WhyNone (json.Refused fault) content = IsJsonFault fault content
+abbrev pub WhyNone : JsonError → Content → Type 0
+WhyNone (json.Refused fault) content = IsContentFault fault content
 WhyNone json.Memory content = Unit {0}
 
 -- Why no receipt is due, where one waits.
 abbrev pub RefusesDue : {S : Type 0} → Delivered → LedgerView S → Type 0
 RefusesDue (delivered.NoReceipt number why) l =
-    (content : List ℕ) × (tried : ℕ) × IsLive l × FirstWaits l.entries number content tried × WhyNone why content
+    (content : Content) × (tried : ℕ) × IsLive l × FirstWaits l.entries number content tried × WhyNone why content
 RefusesDue (delivered.NotTried why) l = (why ≡ error.Failed) × HasFailed l
 RefusesDue result l = ⊥
 

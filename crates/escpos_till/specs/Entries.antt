@@ -1,6 +1,7 @@
 -- What a list of entries says, and which lists are ledgers. Each definition looks back at the whole list.
 use Rattle.std.specs.Prelude.{ℕ, ◌≡◌, ◌+◌, ◌<◌, ◌≤◌, Bool, false, ◌==◌, is_none, Option, Some, None, List, [], ◌∷◌, ◌++◌, length, map, filter, count_by}
 use Rattle.std.specs.List.{filter_map, position_from}
+use Rattle.escpos_till.specs.declared.entry.Content.{Content}
 use Rattle.escpos_till.specs.declared.entry.Entry.{Entry}
 use Rattle.escpos_till.specs.declared.entry.Entry.TheVariants as entry
 use Rattle.escpos_till.specs.declared.state.ReceiptState.{ReceiptState}
@@ -26,22 +27,22 @@ next_free entries = last_or 0 (filter_map next_of entries)
 
 -- ## Receipts
 
-abbrev pub content_of : Entry → Option (List ℕ)
+abbrev pub content_of : Entry → Option Content
 content_of (entry.Queued content) = Some content
 content_of (entry.Tried number next) = None
 content_of (entry.Recorded number) = None
 content_of (entry.Raised next) = None
 
 -- The contents of the receipts that were taken, in the order of taking.
-abbrev pub contents : List Entry → List (List ℕ)
+abbrev pub contents : List Entry → List Content
 contents = filter_map content_of
 
--- A receipt that was taken: its number and its text in JSON.
+-- A receipt that was taken: its number, and its text in JSON with the options that the text is read with.
 pub record Taken : Type 0 where
   pub number : ℕ
-  pub content : List ℕ
+  pub content : Content
 
-abbrev pub numbered_from : ℕ → List (List ℕ) → List Taken
+abbrev pub numbered_from : ℕ → List Content → List Taken
 numbered_from n [] = []
 numbered_from n (content ∷ more) = record { number = n; content = content } ∷ numbered_from (n + 1) more
 

@@ -1,11 +1,12 @@
 -- The model of a ledger, what its calls do, and why they are refused.
 use Rattle.std.specs.Prelude.{ℕ, ◌≡◌, ◌≢◌, ◌⊎◌, ◌+◌, ◌<◌, ◌≤◌, Option, Some, None, List, [], ◌∷◌, ◌++◌, slice_get}
 use Rattle.escpos_command.specs.Digits.{mark_count}
-use Rattle.escpos_receipt.specs.Describes.{IsJsonFault}
+use Rattle.escpos_till.specs.declared.entry.Content.{Content}
 use Rattle.escpos_till.specs.declared.entry.Entry.{Entry}
 use Rattle.escpos_till.specs.declared.entry.Entry.TheVariants as entry
 use Rattle.escpos_till.specs.declared.error.LedgerError.{LedgerError}
 use Rattle.escpos_till.specs.declared.error.LedgerError.TheVariants as error
+use Rattle.escpos_till.specs.Contents.{IsContentFault}
 use Rattle.escpos_till.specs.Entries.{IsLedger, MayFollow, Waits, next_free, times_tried, waiting}
 
 -- The model of a ledger: its entries; the entry of which its store couldn't tell whether it was added, at which the ledger
@@ -50,7 +51,7 @@ pub record CannotTell {S : Type 0} (old : LedgerView S) (e : Entry) (new : Ledge
   pub unsure : new.unsure ≡ Some e
 
 -- The first receipt that waits has this number and this content, and was tried this many times.
-pub record FirstWaits (entries : List Entry) (number : ℕ) (content : List ℕ) (tried : ℕ) : Type 0 where
+pub record FirstWaits (entries : List Entry) (number : ℕ) (content : Content) (tried : ℕ) : Type 0 where
   pub first : slice_get (waiting entries) 0 ≡ Some (record { number = number; content = content })
   pub times : times_tried entries number ≡ tried
 
@@ -63,9 +64,9 @@ RefusesEntry error.Failed old e new = HasFailed old × (new ≡ old)
 RefusesEntry error.Memory old e new = IsLive old × (new ≡ old)
 RefusesEntry _ old e new = ⊥
 
-abbrev pub RefusesQueue : {S : Type 0} → LedgerError → LedgerView S → List ℕ → LedgerView S → Type 0
-RefusesQueue (error.NotReceipt fault) old json new = IsLive old × IsJsonFault fault json × (new ≡ old)
-RefusesQueue why old json new = RefusesEntry why old (entry.Queued json) new
+abbrev pub RefusesQueue : {S : Type 0} → LedgerError → LedgerView S → Content → LedgerView S → Type 0
+RefusesQueue (error.NotReceipt fault) old content new = IsLive old × IsContentFault fault content × (new ≡ old)
+RefusesQueue why old content new = RefusesEntry why old (entry.Queued content) new
 
 -- A receipt is to be tried with this many marks.
 abbrev pub RefusesTried : {S : Type 0} → LedgerError → LedgerView S → ℕ → ℕ → LedgerView S → Type 0

@@ -1,3 +1,4 @@
+pub mod Contents
 pub mod Entries
 pub mod Ledger
 pub mod Summary

@@ -3,32 +3,35 @@
 //! What a list of entries says is defined in `specs/Entries.antt`, and which lists are ledgers.
 
 ghost use Rattle.std.specs.Prelude.{◌≡◌, ℕ, List, IfOk};
+ghost use Rattle.escpos_till.specs.declared.entry.Content.{Content};
 ghost use Rattle.escpos_till.specs.declared.entry.Entry.{Entry};
+ghost use Rattle.escpos_till.specs.Contents.{content_with, plain};
 
 use crate::number::ReceiptNumber;
+use escpos_receipt::ReceiptOptions;
 use std::alloc::{AllocError, Global};
 use std::marker::Model;
 
-/// The text of a receipt in JSON, as it was given. The model is the list of its bytes.
+/// A text as it was given. The model is the list of its bytes.
 #[derive(Debug, Drop)]
-pub struct Content {
+pub struct Text {
     bytes: Vec<u8>,
 }
 
-impl Model for Content {
+impl Model for Text {
     ghost use Rattle.std.specs.Prelude.{ℕ, List};
 
     ghost Value = { List ℕ };
 
-    ghost view = { λ c. c.bytes.items };
+    ghost view = { λ t. t.bytes.items };
 }
 
-impl Content {
-    /// The content with these bytes. Allocates nothing.
+impl Text {
+    /// The text with these bytes. Allocates nothing.
     pub fn new(bytes: Vec<u8>) -> Self
         ensures { result ≡ bytes.items }
     {
-        Content { bytes }
+        Text { bytes }
     }
 
     /// The bytes. Allocates nothing.
@@ -38,12 +41,57 @@ impl Content {
         self.bytes.as_slice()
     }
 
+    /// The same text once more. The error is out of memory.
+    pub fn copy(&self, alloc: Global) -> Result<Self, AllocError>
+        ensures { IfOk result (λ text. text ≡ self.now) }
+    {
+        Ok(Text {
+            bytes: self.bytes.as_slice().to_vec(alloc)?,
+        })
+    }
+}
+
+/// What a till was given of a receipt.
+#[derive(Debug, Drop)]
+pub struct Content {
+    /// The receipt's text in JSON.
+    pub text: Text,
+    /// The options that the text is read with.
+    pub options: ReceiptOptions,
+}
+
+impl Content {
+    /// The text with these bytes, which is read with the usual options. Allocates nothing.
+    pub fn new(bytes: Vec<u8>) -> Self
+        ensures { result ≡ plain bytes.items }
+    {
+        Content::with_options(bytes, ReceiptOptions::usual())
+    }
+
+    /// The text with these bytes, which is read with these options. Allocates nothing.
+    pub fn with_options(bytes: Vec<u8>, options: ReceiptOptions) -> Self
+        ensures { result ≡ content_with options bytes.items }
+    {
+        Content {
+            text: Text::new(bytes),
+            options,
+        }
+    }
+
+    /// The bytes of the text. Allocates nothing.
+    pub fn bytes(&self) -> &[u8]
+        ensures { result.now ≡ self.now.text }
+    {
+        self.text.bytes()
+    }
+
     /// The same content once more. The error is out of memory.
     pub fn copy(&self, alloc: Global) -> Result<Self, AllocError>
         ensures { IfOk result (λ content. content ≡ self.now) }
     {
         Ok(Content {
-            bytes: self.bytes.as_slice().to_vec(alloc)?,
+            text: self.text.copy(alloc)?,
+            options: self.options,
         })
     }
 }

@@ -6,8 +6,8 @@
 ghost use Rattle.std.specs.Prelude.{◌≡◌, ◌≢◌, ◌⊎◌, ℕ, ◌+◌, ◌<◌, ◌≤◌, List, [], ◌∷◌, ◌++◌, length, MatchOption, IfOk, IfErr, OnOk, IsOk};
 ghost use Rattle.escpos_command.specs.Digits.{mark_count};
 ghost use Rattle.escpos_command.specs.declared.command.Command.{Command};
-ghost use Rattle.escpos_receipt.specs.Describes.{Describes};
 ghost use Rattle.escpos_receipt.specs.Whole.{Whole};
+ghost use Rattle.escpos_till.specs.Contents.{ContentDescribes, content_with, plain};
 ghost use Rattle.escpos_till.specs.declared.entry.Entry.{Entry};
 ghost use Rattle.escpos_till.specs.declared.entry.Entry.TheVariants as entry_kind;
 ghost use Rattle.escpos_till.specs.Entries.{IsLedger, MayFollow, Waits, next_free, recorded, states as states_of, taken, times_tried, waiting};
@@ -20,7 +20,7 @@ use crate::state::ReceiptState;
 use crate::store::{Store, StoreFault};
 use crate::summary::{NoSummary, Summary};
 use crate::waiting::{WaitingReceipt, first_waiting};
-use escpos_receipt::{JsonError, Receipt};
+use escpos_receipt::{JsonError, Receipt, ReceiptOptions};
 use std::alloc::Global;
 use std::marker::Model;
 
@@ -95,19 +95,35 @@ impl<S: Store> Ledger<S> {
         self.store
     }
 
-    /// Takes a receipt, and returns its number. At `Ok` the receipt outlives a crash.
-    ///
-    /// `json` is the receipt's text in JSON. The errors are `NotReceipt` for a text that gives no receipt, `Store`, `Failed`
-    /// and `Memory`.
+    /// Takes a receipt whose text in JSON is read with the usual options; otherwise as `queue_with`.
     pub fn queue(&mut self, alloc: Global, json: &[u8]) -> Result<ReceiptNumber, LedgerError>
-        ensures added { IfOk result (λ _. Adds self.old (entry_kind.Queued json.now) self.new) }
+        ensures added { IfOk result (λ _. Adds self.old (entry_kind.Queued (plain json.now)) self.new) }
         ensures number { IfOk result (λ number. number ≡ length (taken self.new.entries)) }
-        ensures receipt { IfOk result (λ _. (commands : List Command) × Describes json.now commands × Whole commands) }
-        ensures refused { IfErr result (λ why. RefusesQueue why self.old json.now self.new) }
+        ensures receipt { IfOk result (λ _. (commands : List Command) × ContentDescribes (plain json.now) commands × Whole commands) }
+        ensures refused { IfErr result (λ why. RefusesQueue why self.old (plain json.now) self.new) }
+        ensures was_faithful { S.faithful self.new.store → S.faithful self.old.store }
+    {
+        self.queue_with(alloc, &ReceiptOptions::usual(), json)
+    }
+
+    /// Takes a receipt, and returns its number. At `Ok` the receipt outlives a crash, and so do its options.
+    ///
+    /// `json` is the receipt's text in JSON, which is read with these options now and when it is sent. The errors are
+    /// `NotReceipt` for a text that gives no receipt, `Store`, `Failed` and `Memory`.
+    pub fn queue_with(
+        &mut self,
+        alloc: Global,
+        options: &ReceiptOptions,
+        json: &[u8],
+    ) -> Result<ReceiptNumber, LedgerError>
+        ensures added { IfOk result (λ _. Adds self.old (entry_kind.Queued (content_with options.now json.now)) self.new) }
+        ensures number { IfOk result (λ number. number ≡ length (taken self.new.entries)) }
+        ensures receipt { IfOk result (λ _. (commands : List Command) × ContentDescribes (content_with options.now json.now) commands × Whole commands) }
+        ensures refused { IfErr result (λ why. RefusesQueue why self.old (content_with options.now json.now) self.new) }
         ensures was_faithful { S.faithful self.new.store → S.faithful self.old.store }
     {
         self.check_live()?;
-        match Receipt::from_json(alloc, json) {
+        match Receipt::from_json_with(alloc, options, json) {
             Ok(_receipt) => {}
             Err(JsonError::Refused(fault)) => return Err(LedgerError::NotReceipt(fault)),
             Err(JsonError::Memory) => return Err(LedgerError::Memory),
@@ -116,7 +132,7 @@ impl<S: Store> Ledger<S> {
             return Err(LedgerError::Memory);
         };
         self.append(Entry::Queued {
-            content: Content::new(bytes),
+            content: Content::with_options(bytes, *options),
         })?;
         Ok(self.summary.last_number())
     }
@@ -211,7 +227,7 @@ impl<S: Store> Ledger<S> {
     pub fn waiting(&self) -> Result<Option<WaitingReceipt<'_>>, LedgerError>
         ensures live { IfOk result (λ _. IsLive self.now) }
         ensures first { IfOk result (λ first. MatchOption first (waiting self.now.entries ≡ [])
-            (λ receipt. FirstWaits self.now.entries receipt.number receipt.content.now receipt.tried)) }
+            (λ receipt. FirstWaits self.now.entries receipt.number (content_with receipt.options receipt.content.now) receipt.tried)) }
         ensures refused { IfErr result (λ why. (why ≡ LedgerError.Failed) × HasFailed self.now) }
     {
         self.check_live()?;

@@ -15,7 +15,7 @@ mod waiting;
 
 pub use copy::{COPY_CHARACTERS, CopyText};
 pub use deliver::{Delivered, deliver_one, marks_taken};
-pub use entry::{Content, Entry};
+pub use entry::{Content, Entry, Text};
 pub use error::{LedgerError, OpenError};
 pub use ledger::Ledger;
 pub use memory_store::{Failure, MemoryStore};

@@ -10,6 +10,7 @@ use Rattle.escpos_receipt.specs.declared.json.JsonError.TheVariants as json
 use Rattle.escpos_receipt.specs.Refusals.{json_name}
 use Rattle.escpos_till.specs.declared.deliver.Delivered.{Delivered}
 use Rattle.escpos_till.specs.declared.deliver.Delivered.TheVariants as delivered
+use Rattle.escpos_till.specs.declared.entry.Content.{Content}
 use Rattle.escpos_till.specs.declared.entry.Entry.{Entry}
 use Rattle.escpos_till.specs.declared.error.LedgerError.TheVariants as error
 use Rattle.escpos_till.specs.Delivers.{Delivers, Link}
@@ -52,7 +53,7 @@ IsRecorded d = (number : ℕ) × (d ≡ delivered.Recorded number)
 
 -- The first receipt that waits has this number.
 abbrev pub IsFirst : List Entry → ℕ → Type 0
-IsFirst entries number = (content : List ℕ) × (tried : ℕ) × FirstWaits entries number content tried
+IsFirst entries number = (content : Content) × (tried : ℕ) × FirstWaits entries number content tried
 
 -- The link of a delivery, by what its source and its sink say before it and after it.
 abbrev pub link_of : Delivery → Option (List ℕ) → Option (List ℕ) → Option (List ℕ) → Option (List ℕ) → Link

@@ -2,6 +2,7 @@
 use Rattle.std.specs.Prelude.{ℕ, ◌≡◌, ◌⊎◌, Option, Some, None, List, length}
 use Rattle.escpos_jobs.specs.declared.status.Status.TheVariants.{Good}
 use Rattle.escpos_jobs.specs.Ending.{JobEnd, Tells}
+use Rattle.escpos_till.specs.declared.entry.Content.{Content}
 use Rattle.escpos_till.specs.declared.entry.Entry.TheVariants as entry
 use Rattle.escpos_till.specs.declared.error.LedgerError.{LedgerError}
 use Rattle.escpos_till.specs.declared.error.LedgerError.TheVariants as error
@@ -14,10 +15,10 @@ abbrev pub TellsRefusal : JobEnd → LedgerError → Type 0
 TellsRefusal o why = Tells o (ledger_refusal why) (ledger_status why)
 
 -- The receipt is taken, and its number is printed; or the call is refused, and why.
-abbrev pub QueuesAndTells : {S : Type 0} → LedgerView S → List ℕ → LedgerView S → JobEnd → Type 0
-QueuesAndTells old json new o =
-    (Adds old (entry.Queued json) new × Tells o (queued_line (length (taken new.entries))) Good)
-    ⊎ ((why : LedgerError) × RefusesQueue why old json new × TellsRefusal o why)
+abbrev pub QueuesAndTells : {S : Type 0} → LedgerView S → Content → LedgerView S → JobEnd → Type 0
+QueuesAndTells old content new o =
+    (Adds old (entry.Queued content) new × Tells o (queued_line (length (taken new.entries))) Good)
+    ⊎ ((why : LedgerError) × RefusesQueue why old content new × TellsRefusal o why)
 
 -- What the entries say is printed, unless the ledger has failed.
 abbrev pub Lists : {S : Type 0} → LedgerView S → JobEnd → Type 0

@@ -3,6 +3,7 @@
 ghost use Rattle.std.specs.Prelude.{◌≡◌};
 
 use crate::deliver::Delivery;
+use escpos_receipt::ReceiptOptions;
 use std::marker::Model;
 
 /// The path of a ledger's file. The model is the list of its bytes.
@@ -38,9 +39,10 @@ impl<'a> LedgerPath<'a> {
 /// What a till asks for.
 #[derive(Debug, Drop)]
 pub enum TillTask<'a> {
-    /// Take a receipt into this ledger.
+    /// Take a receipt into this ledger. Its text is read with these options.
     Queue {
         ledger: LedgerPath<'a>,
+        options: ReceiptOptions,
     },
     /// Deliver the receipts of this ledger that wait.
     Deliver {

@@ -4,6 +4,7 @@ use Rattle.std.specs.Prelude.{◌==◌, is_none}
 use Rattle.std.specs.List.{cons_option, filter_map, position_from}
 use Rattle.std.proofs.lemmas.Bool.Decides.{nat_tests}
 use Rattle.std.proofs.lemmas.Option.{same_Some}
+use Rattle.escpos_till.specs.declared.entry.Content.{Content}
 use Rattle.escpos_till.specs.declared.entry.Entry.{Entry}
 use Rattle.escpos_till.specs.declared.entry.Entry.TheVariants.{Queued, Tried, Recorded, Raised}
 use Rattle.escpos_till.specs.Entries.{IsLedger, MayFollow, Taken, Waits, contents, numbered_from, place_of, record_of, recorded, taken}
@@ -95,7 +96,7 @@ waited entries pre post e number ledger is says =
 
 -- ## Receipts with their numbers
 
-numbered_has : (m k : ℕ) (cs : List (List ℕ)) → k < length cs → (content : List ℕ) × Among (let t : Taken = record { number = m + k; content = content } in t) (numbered_from m cs)
+numbered_has : (m k : ℕ) (cs : List Content) → k < length cs → (content : Content) × Among (let t : Taken = record { number = m + k; content = content } in t) (numbered_from m cs)
 numbered_has m k [] within = absurd (omega arith)
 numbered_has m zero (c ∷ cs) within =
     let t : Taken = record { number = m + 0; content = c } in
@@ -107,7 +108,7 @@ numbered_has m (suc k) (c ∷ cs) within =
     let first : Taken = record { number = m; content = c } in
     (more.0, subst (λ n. Among (let r : Taken = record { number = n; content = more.0 } in r) (first ∷ numbered_from (m + 1) cs)) same (among_later _ first _ more.1))
 
-waits_taken : (entries : List Entry) (number : ℕ) → Waits entries number → (content : List ℕ) × IsTaken entries number content
+waits_taken : (entries : List Entry) (number : ℕ) → Waits entries number → (content : Content) × IsTaken entries number content
 waits_taken entries number waits =
     let count = length-taken 1 (contents entries) in
     let found = numbered_has 1 (number - 1) (contents entries) (omega (arith, count, waits.from_one, waits.taken)) in

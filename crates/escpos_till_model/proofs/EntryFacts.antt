@@ -5,6 +5,7 @@ use Rattle.std.specs.List.{AllZip, cons_option}
 use Rattle.std.proofs.lemmas.List.Elements.{filter-append, filter_map-append}
 use Rattle.std.proofs.lemmas.Option.{same_Some}
 use Rattle.escpos_command.specs.declared.command.Command.{Command}
+use Rattle.escpos_till.specs.declared.entry.Content.{Content}
 use Rattle.escpos_till.specs.declared.entry.Entry.{Entry}
 use Rattle.escpos_till.specs.declared.entry.Entry.TheVariants.{Queued, Tried, Recorded, Raised}
 use Rattle.escpos_till.specs.Entries.{MayFollow, Taken, content_of, contents, next_free, numbered_from, record_of, recorded, taken}
@@ -59,7 +60,7 @@ first_among x (y ∷ xs) e = among_first x y xs (same_Some y x e)
 
 -- ## Receipts that were taken
 
-numbered_append : (m : ℕ) (cs ds : List (List ℕ)) → numbered_from m (cs ++ ds) ≡ numbered_from m cs ++ numbered_from (m + length cs) ds
+numbered_append : (m : ℕ) (cs ds : List Content) → numbered_from m (cs ++ ds) ≡ numbered_from m cs ++ numbered_from (m + length cs) ds
 numbered_append m [] ds = ap (λ k. numbered_from k ds) (sym (add-zero m))
 numbered_append m (c ∷ cs) ds =
     let same : m + 1 + length cs ≡ m + length (c ∷ cs) = omega arith in
@@ -69,7 +70,7 @@ numbered_append m (c ∷ cs) ds =
 pub taken_append : (es more : List Entry) → taken (es ++ more) ≡ taken es ++ numbered_from (1 + length (contents es)) (contents more)
 taken_append es more = ap (numbered_from 1) (filter_map-append content_of es more) ∙ numbered_append 1 (contents es) (contents more)
 
-pub is_taken_grows : (es more : List Entry) (number : ℕ) (content : List ℕ) → IsTaken es number content → IsTaken (es ++ more) number content
+pub is_taken_grows : (es more : List Entry) (number : ℕ) (content : Content) → IsTaken es number content → IsTaken (es ++ more) number content
 is_taken_grows es more number content is =
     let receipt : Taken = record { number = number; content = content } in
     subst (λ ts. Among receipt ts) (sym (taken_append es more)) (among_more receipt (taken es) _ is)
@@ -79,7 +80,7 @@ receipt_of_grows es more number commands is =
     record { content = is.content; taken = is_taken_grows es more number is.content is.taken; receipt = is.receipt }
 
 -- The first receipt that waits was taken.
-pub first_is_taken : (es : List Entry) (number tried : ℕ) (content : List ℕ) → FirstWaits es number content tried → IsTaken es number content
+pub first_is_taken : (es : List Entry) (number tried : ℕ) (content : Content) → FirstWaits es number content tried → IsTaken es number content
 first_is_taken es number tried content first =
     let receipt : Taken = record { number = number; content = content } in
     (among_filtered _ receipt (taken es) (first_among receipt _ first.first)).0

@@ -2,6 +2,7 @@
 use Rattle.std.proofs.Common.{ℕ, ◌≡◌, ◌+◌, inl, inr, Option, Result, Ok, Err, IfErr, List, [], ◌∷◌, ◌++◌, length, refl, sym, ◌∙◌, ap, subst, append-nil, length-append, arith}
 use Rattle.std.specs.Prelude.{IfOk, OnOk}
 use Rattle.std.specs.List.{AllByRecursion}
+use Rattle.escpos_till.specs.declared.entry.Content.{Content}
 use Rattle.escpos_till.specs.declared.entry.Entry.{Entry}
 use Rattle.escpos_till.specs.declared.entry.Entry.TheVariants as entry
 use Rattle.escpos_till.specs.declared.error.LedgerError.{LedgerError}
@@ -17,7 +18,7 @@ use Rattle.escpos_till_model.specs.declared.event.TillRefusal.TheVariants as ref
 use Rattle.escpos_till_model.specs.declared.parts.TillParts.{TillParts}
 use Rattle.escpos_till_model.specs.Kept.{IsTill}
 use Rattle.escpos_till_model.specs.Parts.{IsDesk, IsInStore, entries_at, entries_of}
-use Rattle.escpos_till_model.specs.Marks.{HasTaken, texts_taken}
+use Rattle.escpos_till_model.specs.Marks.{HasTaken, contents_taken}
 use Rattle.escpos_till_model.specs.Receipts.{Extends, IsTaken}
 use Rattle.escpos_till_model.specs.Steps.{After, Refuses, RefusesDue, RefusesMark, RefusesOnLine, RefusesRecording, RefusesStart, RefusesSubmitting, RefusesTaking, RefusesWrite, Writes}
 use Rattle.escpos_till_model.proofs.EntryFacts.{taken_append}
@@ -50,8 +51,8 @@ desk_is : (after next : TillParts) (d : Desk) → after ≡ next → next.desk �
 desk_is after next d same is = ap (λ (v : TillParts). v.desk) same ∙ is
 
 pub extends : (e : TillEvent) (t after : TillParts) → IsDesk after.desk → After e t after → IsTill t → Grows t after
-extends (event.Queue json) t after desk (w, receipt) till =
-    by_ledger t after w.old w.new (entry.Queued json) till w.desk (desk_is after _ (On w.new) w.after_is refl) desk (λ before later. inr (store_adds w.old w.new _ before later w.adds))
+extends (event.Queue content) t after desk (w, receipt) till =
+    by_ledger t after w.old w.new (entry.Queued content) till w.desk (desk_is after _ (On w.new) w.after_is refl) desk (λ before later. inr (store_adds w.old w.new _ before later w.adds))
 extends (event.Raise first) t after desk w till =
     by_ledger t after w.old w.new (entry.Raised first) till w.desk (desk_is after _ (On w.new) w.after_is refl) desk (λ before later. inr (store_adds w.old w.new _ before later w.adds))
 extends (event.TakeInHand openings copy) t after desk w till =
@@ -127,8 +128,8 @@ on_line_extends e (refusal.Line why) t after (no_call, r) = same_desk t after (d
 on_line_extends e _ t after r = absurd r
 
 pub refused_extends : (e : TillEvent) (why : TillRefusal) (t after : TillParts) → IsDesk after.desk → Refuses e why t after → IsTill t → Grows t after
-refused_extends (event.Queue json) why t after desk r till =
-    write_extends (λ e old new. RefusesQueue e old json new) (entry.Queued json) why t after (λ cause old new. queue_refused cause old new json) desk r till
+refused_extends (event.Queue content) why t after desk r till =
+    write_extends (λ e old new. RefusesQueue e old content new) (entry.Queued content) why t after (λ cause old new. queue_refused cause old new content) desk r till
 refused_extends (event.Raise first) why t after desk r till =
     write_extends (λ e old new. RefusesRaise e old first new) (entry.Raised first) why t after (λ cause old new. raise_refused cause old new first) desk r till
 refused_extends (event.TakeInHand openings copy) why t after desk r till = taking_extends openings copy why t after desk r till
@@ -149,32 +150,32 @@ whatever_extends e t after (Err why) desk happened refused till = refused_extend
 -- ## What is taken
 
 -- The receipt that was queued last is the last that was taken.
-queued_taken : (es : List Entry) (json : List ℕ) → IsTaken (es ++ entry.Queued json ∷ []) (length (taken (es ++ entry.Queued json ∷ []))) json
-queued_taken es json =
-    let last : Taken = record { number = 1 + length (contents es); content = json } in
-    let is : taken (es ++ entry.Queued json ∷ []) ≡ taken es ++ last ∷ [] = taken_append es (entry.Queued json ∷ []) in
-    let count : length (taken (es ++ entry.Queued json ∷ [])) ≡ 1 + length (contents es) =
+queued_taken : (es : List Entry) (content : Content) → IsTaken (es ++ entry.Queued content ∷ []) (length (taken (es ++ entry.Queued content ∷ []))) content
+queued_taken es content =
+    let last : Taken = record { number = 1 + length (contents es); content = content } in
+    let is : taken (es ++ entry.Queued content ∷ []) ≡ taken es ++ last ∷ [] = taken_append es (entry.Queued content ∷ []) in
+    let count : length (taken (es ++ entry.Queued content ∷ [])) ≡ 1 + length (contents es) =
     ap length is ∙ length-append (taken es) (last ∷ []) ∙ (let same = length-taken 1 (contents es) in omega (arith, same)) in
-    subst (λ n. IsTaken (es ++ entry.Queued json ∷ []) n json) (sym count) (taken es, [], is)
+    subst (λ n. IsTaken (es ++ entry.Queued content ∷ []) n content) (sym count) (taken es, [], is)
 
-pub queue_takes : (t after : TillParts) (json : List ℕ) → IsDesk after.desk → Writes t (entry.Queued json) after → IsTill t
-    → IsTaken (entries_of after) (length (taken (entries_of after))) json
-queue_takes t after json desk w till =
+pub queue_takes : (t after : TillParts) (content : Content) → IsDesk after.desk → Writes t (entry.Queued content) after → IsTill t
+    → IsTaken (entries_of after) (length (taken (entries_of after))) content
+queue_takes t after content desk w till =
     let before = (opened t w.old w.desk till).stored in
     let is = desk_is after _ (On w.new) w.after_is refl in
     let (same, follows) = store_adds w.old w.new _ before (subst IsDesk is desk) w.adds in
-    subst (λ es. IsTaken es (length (taken es)) json) (sym (ap entries_at is ∙ same)) (queued_taken w.old.store json)
+    subst (λ es. IsTaken es (length (taken es)) content) (sym (ap entries_at is ∙ same)) (queued_taken w.old.store content)
 
-takes_it : (e : TillEvent) (t after : TillParts) → IsDesk after.desk → After e t after → IsTill t → AllByRecursion (HasTaken (entries_of after)) (texts_taken e)
-takes_it (event.Queue json) t after desk (w, receipt) till = ((length (taken (entries_of after)), queue_takes t after json desk w till), tt)
+takes_it : (e : TillEvent) (t after : TillParts) → IsDesk after.desk → After e t after → IsTill t → AllByRecursion (HasTaken (entries_of after)) (contents_taken e)
+takes_it (event.Queue content) t after desk (w, receipt) till = ((length (taken (entries_of after)), queue_takes t after content desk w till), tt)
 takes_it _ t after desk happened till = tt
 
 pub whatever_takes : {X : Type 0} (e : TillEvent) (t after : TillParts) (r : Result X TillRefusal) → IsDesk after.desk → OnOk r (After e t after) → IsTill t
-    → OnOk r (AllByRecursion (HasTaken (entries_of after)) (texts_taken e))
+    → OnOk r (AllByRecursion (HasTaken (entries_of after)) (contents_taken e))
 whatever_takes e t after (Ok x) desk happened till = takes_it e t after desk happened till
 whatever_takes e t after (Err why) desk happened till = tt
 
-pub queue_numbers : (t after : TillParts) (json : List ℕ) (r : Result ℕ TillRefusal) → IsDesk after.desk → OnOk r (After (event.Queue json) t after)
-    → IfOk r (λ number. number ≡ length (taken (entries_of after))) → IsTill t → IfOk r (λ number. IsTaken (entries_of after) number json)
-queue_numbers t after json (Ok number) desk (w, receipt) is till = subst (λ n. IsTaken (entries_of after) n json) (sym is) (queue_takes t after json desk w till)
-queue_numbers t after json (Err why) desk happened is till = tt
+pub queue_numbers : (t after : TillParts) (content : Content) (r : Result ℕ TillRefusal) → IsDesk after.desk → OnOk r (After (event.Queue content) t after)
+    → IfOk r (λ number. number ≡ length (taken (entries_of after))) → IsTill t → IfOk r (λ number. IsTaken (entries_of after) number content)
+queue_numbers t after content (Ok number) desk (w, receipt) is till = subst (λ n. IsTaken (entries_of after) n content) (sym is) (queue_takes t after content desk w till)
+queue_numbers t after content (Err why) desk happened is till = tt

@@ -63,7 +63,7 @@ taking_rises openings copy t after till w =
     omega (arith, o.keeps.next, first, is)
 
 pub uses_marks : (e : TillEvent) (t after : TillParts) → IsTill t → After e t after → UsesMarks t (marks_put e t) after
-uses_marks (event.Queue json) t after till (w, receipt) = no_marks t after (next_of t after _ w.after_is refl)
+uses_marks (event.Queue content) t after till (w, receipt) = no_marks t after (next_of t after _ w.after_is refl)
 uses_marks (event.Raise first) t after till w = no_marks t after (next_of t after _ w.after_is refl)
 uses_marks (event.TakeInHand openings copy) t after till w = record { own = tt; within = tt; rises = taking_rises openings copy t after till w }
 uses_marks event.LinkUp t after till (hand, u) =
@@ -133,7 +133,7 @@ on_line_same e (refusal.Line why) t after (no_call, r) = next_of t after _ r.aft
 on_line_same e _ t after r = absurd r
 
 pub refused_same : (e : TillEvent) (why : TillRefusal) (t after : TillParts) → Refuses e why t after → Same t after
-refused_same (event.Queue json) why t after r = write_same _ why t after r
+refused_same (event.Queue content) why t after r = write_same _ why t after r
 refused_same (event.Raise first) why t after r = write_same _ why t after r
 refused_same (event.TakeInHand openings copy) why t after r = taking_same openings copy why t after r
 refused_same event.LinkUp why t after r = mark_same line.LinkUp why t after (λ l same. same) r

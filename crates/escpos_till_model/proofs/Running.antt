@@ -2,13 +2,14 @@
 use Rattle.std.proofs.Common.{ℕ, ◌≡◌, ◌<◌, ◌≤◌, ◌⊎◌, inl, inr, Result, Ok, Err, IfErr, List, [], ◌∷◌, ◌++◌, refl, sym, ◌∙◌, ap, subst, append-nil, append_assoc, arith}
 use Rattle.std.specs.Prelude.{OnErr, OnOk}
 use Rattle.std.specs.List.{AllByRecursion}
+use Rattle.escpos_till.specs.declared.entry.Content.{Content}
 use Rattle.escpos_till.specs.declared.entry.Entry.{Entry}
 use Rattle.escpos_till.specs.declared.entry.Entry.TheVariants as entry
 use Rattle.escpos_till_model.specs.declared.event.TillEvent.{TillEvent}
 use Rattle.escpos_till_model.specs.declared.event.TillEvent.TheVariants as event
 use Rattle.escpos_till_model.specs.declared.event.TillRefusal.{TillRefusal}
 use Rattle.escpos_till_model.specs.declared.parts.TillParts.{TillParts}
-use Rattle.escpos_till_model.specs.Marks.{HasTaken, IsReserved, Ran, RanWell, Steps, UsesMarks, marks_put, texts_taken}
+use Rattle.escpos_till_model.specs.Marks.{HasTaken, IsReserved, Ran, RanWell, Steps, UsesMarks, marks_put, contents_taken}
 use Rattle.escpos_till_model.specs.Parts.{entries_of}
 use Rattle.escpos_till_model.specs.Receipts.{Among, Extends, IsTaken, NoneTwice}
 use Rattle.escpos_till_model.specs.Steps.{After, Refuses}
@@ -63,19 +64,19 @@ put_one event.Nudge t = inr refl
 put_one event.Submit t = inr refl
 put_one _ t = inl refl
 
-step_one : (t : TillParts) (e : TillEvent) (texts : List (List ℕ)) (marks : List ℕ) (after : TillParts) → Steps t e texts marks after
+step_one : (t : TillParts) (e : TillEvent) (contents : List Content) (marks : List ℕ) (after : TillParts) → Steps t e contents marks after
     → (marks ≡ []) ⊎ (marks ≡ t.line.host.next ∷ [])
-step_one t e texts marks after (inl (happened, taken, is)) = elim (put_one e t) [ inl none ↦ inl (is ∙ none) | inr one ↦ inr (is ∙ one) ]
-step_one t e texts marks after (inr (why, refused, none, is)) = inl is
+step_one t e contents marks after (inl (happened, taken, is)) = elim (put_one e t) [ inl none ↦ inl (is ∙ none) | inr one ↦ inr (is ∙ one) ]
+step_one t e contents marks after (inr (why, refused, none, is)) = inl is
 
 twice_step : (t : TillParts) (marks some : List ℕ) → (some ≡ []) ⊎ (some ≡ t.line.host.next ∷ []) → NoneTwice marks → AllByRecursion (λ n. n < t.line.host.next) marks
     → NoneTwice (marks ++ some)
 twice_step t marks some (inl none) twice below = subst NoneTwice (sym (ap (λ v. marks ++ v) none ∙ append-nil marks)) twice
 twice_step t marks some (inr one) twice below = subst NoneTwice (sym (ap (λ v. marks ++ v) one)) (twice_add marks t.line.host.next twice below)
 
-ran_snoc : (t : TillParts) (es : List TillEvent) (texts : List (List ℕ)) (marks : List ℕ) (now : TillParts) (e : TillEvent) (taken : List (List ℕ)) (some : List ℕ)
-    (after : TillParts) → Ran t es texts marks now → Steps now e taken some after → Ran t (es ++ e ∷ []) (texts ++ taken) (marks ++ some) after
-ran_snoc t [] texts marks now e taken some after (nothing, none, same) step = (
+ran_snoc : (t : TillParts) (es : List TillEvent) (contents : List Content) (marks : List ℕ) (now : TillParts) (e : TillEvent) (taken : List Content) (some : List ℕ)
+    (after : TillParts) → Ran t es contents marks now → Steps now e taken some after → Ran t (es ++ e ∷ []) (contents ++ taken) (marks ++ some) after
+ran_snoc t [] contents marks now e taken some after (nothing, none, same) step = (
   after,
   taken,
   [],
@@ -86,7 +87,7 @@ ran_snoc t [] texts marks now e taken some after (nothing, none, same) step = (
   subst (λ (v : TillParts). Steps v e taken some after) same step,
   (refl, refl, refl),
 )
-ran_snoc t (d ∷ es) texts marks now e taken some after (next, first, others, used, more, is, also, one, rest) step = (
+ran_snoc t (d ∷ es) contents marks now e taken some after (next, first, others, used, more, is, also, one, rest) step = (
   next,
   first,
   others ++ taken,
@@ -115,10 +116,10 @@ reserved_grows es after (more, is) n r = record {
 pub record SoFar (t : TillParts) (events left : List TillEvent) (now : TillParts) : Type 0 where
   pub done : List TillEvent
   pub split : events ≡ done ++ left
-  pub texts : List (List ℕ)
+  pub contents : List Content
   pub marks : List ℕ
-  pub ran : Ran t done texts marks now
-  pub taken : AllByRecursion (HasTaken (entries_of now)) texts
+  pub ran : Ran t done contents marks now
+  pub taken : AllByRecursion (HasTaken (entries_of now)) contents
   pub twice : NoneTwice marks
   pub below : AllByRecursion (λ n. n < now.line.host.next) marks
   pub own : AllByRecursion (IsReserved (entries_of now)) marks
@@ -128,7 +129,7 @@ pub begin : (t : TillParts) (events : List TillEvent) → SoFar t events events 
 begin t events = record {
   done = [];
   split = refl;
-  texts = [];
+  contents = [];
   marks = [];
   ran = (refl, refl, refl);
   taken = tt;
@@ -138,20 +139,20 @@ begin t events = record {
   grows = ([], sym (append-nil (entries_of t)));
 }
 
-taken_grows : (es after : List Entry) → Extends es after → (json : List ℕ) → HasTaken es json → HasTaken after json
-taken_grows es after (more, is) json (number, taken) = (number, subst (λ v. IsTaken v number json) (sym is) (is_taken_grows es more number json taken))
+taken_grows : (es after : List Entry) → Extends es after → (content : Content) → HasTaken es content → HasTaken after content
+taken_grows es after (more, is) content (number, taken) = (number, subst (λ v. IsTaken v number content) (sym is) (is_taken_grows es more number content taken))
 
-one_step : (t now after : TillParts) (events left rest : List TillEvent) (e : TillEvent) (taken : List (List ℕ)) (some : List ℕ) → left ≡ e ∷ rest
+one_step : (t now after : TillParts) (events left rest : List TillEvent) (e : TillEvent) (taken : List Content) (some : List ℕ) → left ≡ e ∷ rest
     → Steps now e taken some after → AllByRecursion (HasTaken (entries_of after)) taken → UsesMarks now some after → Extends (entries_of now) (entries_of after)
     → SoFar t events left now → SoFar t events rest after
 one_step t now after events left rest e taken some first step there uses (more, is) s = record {
   done = s.done ++ e ∷ [];
   split = s.split ∙ ap (λ v. s.done ++ v) first ∙ sym (append_assoc s.done (e ∷ []) rest);
-  texts = s.texts ++ taken;
+  contents = s.contents ++ taken;
   marks = s.marks ++ some;
-  ran = ran_snoc t s.done s.texts s.marks now e taken some after s.ran step;
-  taken = all_joined (HasTaken (entries_of after)) s.texts taken
-      (all_turn (HasTaken (entries_of now)) (HasTaken (entries_of after)) (taken_grows (entries_of now) (entries_of after) (more, is)) s.texts s.taken) there;
+  ran = ran_snoc t s.done s.contents s.marks now e taken some after s.ran step;
+  taken = all_joined (HasTaken (entries_of after)) s.contents taken
+      (all_turn (HasTaken (entries_of now)) (HasTaken (entries_of after)) (taken_grows (entries_of now) (entries_of after) (more, is)) s.contents s.taken) there;
   twice = twice_step now s.marks some (step_one now e taken some after step) s.twice s.below;
   below = all_joined (λ n. n < after.line.host.next) s.marks some
       (all_turn (λ n. n < now.line.host.next) (λ n. n < after.line.host.next) (λ n less. omega (arith, uses.rises)) s.marks s.below)
@@ -162,19 +163,19 @@ one_step t now after events left rest e taken some first step there uses (more, 
 }
 
 pub goes_so_far : (t now after : TillParts) (events left rest : List TillEvent) (e : TillEvent) (r : Result (Unit {0}) TillRefusal) → left ≡ e ∷ rest
-    → OnOk r (After e now after) → IfErr r (λ why. Refuses e why now after) → OnOk r (AllByRecursion (HasTaken (entries_of after)) (texts_taken e))
+    → OnOk r (After e now after) → IfErr r (λ why. Refuses e why now after) → OnOk r (AllByRecursion (HasTaken (entries_of after)) (contents_taken e))
     → OnOk r (UsesMarks now (marks_put e now) after) → OnErr r (UsesMarks now [] after) → Extends (entries_of now) (entries_of after) → SoFar t events left now
     → SoFar t events rest after
 goes_so_far t now after events left rest e (Ok done) first happened refused taken marks unused grows s =
-    one_step t now after events left rest e (texts_taken e) (marks_put e now) first (inl (happened, refl, refl)) taken marks grows s
+    one_step t now after events left rest e (contents_taken e) (marks_put e now) first (inl (happened, refl, refl)) taken marks grows s
 goes_so_far t now after events left rest e (Err why) first happened refused taken marks unused grows s =
     one_step t now after events left rest e [] [] first (inr (why, refused, refl, refl)) tt unused grows s
 
 pub ran_well : (t now : TillParts) (events : List TillEvent) → SoFar t events [] now → RanWell t events now
 ran_well t now events s = record {
-  texts = s.texts;
+  contents = s.contents;
   marks = s.marks;
-  ran = subst (λ es. Ran t es s.texts s.marks now) (sym (s.split ∙ append-nil s.done)) s.ran;
+  ran = subst (λ es. Ran t es s.contents s.marks now) (sym (s.split ∙ append-nil s.done)) s.ran;
   taken = s.taken;
   once = s.twice;
   own = s.own;

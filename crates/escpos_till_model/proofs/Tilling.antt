@@ -2,10 +2,11 @@
 use Rattle.std.proofs.Common.{ℕ, ◌≡◌, ◌+◌, ◌<◌, ◌⊎◌, inl, inr, Bool, true, false, Option, Some, None, List, [], ◌∷◌, ◌++◌, length, refl, sym, ◌∙◌, ap, subst}
 use Rattle.std.specs.Prelude.{nat_lt, if◌then◌else◌}
 use Rattle.escpos_command.specs.declared.command.Command.{Command}
-use Rattle.escpos_receipt.specs.Describes.{Describes}
+use Rattle.escpos_till.specs.Contents.{ContentDescribes}
 use Rattle.escpos_receipt.specs.Whole.{Whole}
 use Rattle.escpos_till.specs.Copy.{copy_line, sent_of}
 use Rattle.escpos_host.specs.Machine.{HostView, nudged, submitted as given}
+use Rattle.escpos_till.specs.declared.entry.Content.{Content}
 use Rattle.escpos_till.specs.declared.entry.Entry.{Entry}
 use Rattle.escpos_till.specs.declared.entry.Entry.TheVariants as entry
 use Rattle.escpos_till.specs.declared.error.LedgerError.{LedgerError}
@@ -64,13 +65,13 @@ entry_refused error.Failed old new e before after r = store_same old new e r.1
 entry_refused error.Memory old new e before after r = store_same old new e r.1
 entry_refused _ old new e before after r = absurd r
 
-pub queue_refused : (why : LedgerError) (old new : LedgerView (List Entry)) (json : List ℕ) → IsInStore old → IsInStore new → RefusesQueue why old json new
-    → Grown old.store (entry.Queued json) new.store
-queue_refused (error.Store fault) old new json before after r = store_unsure old new _ before after r
-queue_refused error.Failed old new json before after r = store_same old new _ r.1
-queue_refused error.Memory old new json before after r = store_same old new _ r.1
-queue_refused (error.NotReceipt fault) old new json before after r = store_same old new _ r.2
-queue_refused _ old new json before after r = absurd r
+pub queue_refused : (why : LedgerError) (old new : LedgerView (List Entry)) (content : Content) → IsInStore old → IsInStore new → RefusesQueue why old content new
+    → Grown old.store (entry.Queued content) new.store
+queue_refused (error.Store fault) old new content before after r = store_unsure old new _ before after r
+queue_refused error.Failed old new content before after r = store_same old new _ r.1
+queue_refused error.Memory old new content before after r = store_same old new _ r.1
+queue_refused (error.NotReceipt fault) old new content before after r = store_same old new _ r.2
+queue_refused _ old new content before after r = absurd r
 
 pub raise_refused : (why : LedgerError) (old new : LedgerView (List Entry)) (first : ℕ) → IsInStore old → IsInStore new → RefusesRaise why old first new
     → Grown old.store (entry.Raised first) new.store
@@ -161,7 +162,7 @@ with_or_without true commands receipt line e = inr e
 with_or_without false commands receipt line e = inl e
 
 -- What is sent of a receipt is a receipt, or one after the line of a copy.
-sent_is : (content : List ℕ) (receipt commands : List Command) (copy : Option (List ℕ)) (tried : ℕ) → IsCopy copy → Describes content receipt → Whole receipt
+sent_is : (content : Content) (receipt commands : List Command) (copy : Option (List ℕ)) (tried : ℕ) → IsCopy copy → ContentDescribes content receipt → Whole receipt
     → commands ≡ sent_of copy tried receipt → IsReceipt content commands
 sent_is content receipt commands None tried is describes whole sent = record { receipt = receipt; describes = describes; whole = whole; sent = inl sent }
 sent_is content receipt commands (Some text) tried is describes whole sent = record {
@@ -247,7 +248,7 @@ start_keeps t after store off same till =
 -- ## Each event
 
 pub keeps : (e : TillEvent) (t after : TillParts) → IsDesk after.desk → After e t after → IsTill t → IsTill after
-keeps (event.Queue json) t after desk (w, receipt) till = write_keeps t after (entry.Queued json) refl desk w till
+keeps (event.Queue content) t after desk (w, receipt) till = write_keeps t after (entry.Queued content) refl desk w till
 keeps (event.Raise first) t after desk w till = write_keeps t after (entry.Raised first) refl desk w till
 keeps (event.TakeInHand openings copy) t after desk w till = taking_keeps openings copy t after desk w till
 keeps event.LinkUp t after desk (hand, u) till =
@@ -329,8 +330,8 @@ on_line_refused e (refusal.Line why) t after (no_call, r) till =
 on_line_refused e _ t after r till = absurd r
 
 pub keeps_refused : (e : TillEvent) (why : TillRefusal) (t after : TillParts) → IsDesk after.desk → Refuses e why t after → IsTill t → IsTill after
-keeps_refused (event.Queue json) why t after desk r till =
-    write_refused (λ e old new. RefusesQueue e old json new) (entry.Queued json) why t after refl (λ cause old new. queue_refused cause old new json) desk r till
+keeps_refused (event.Queue content) why t after desk r till =
+    write_refused (λ e old new. RefusesQueue e old content new) (entry.Queued content) why t after refl (λ cause old new. queue_refused cause old new content) desk r till
 keeps_refused (event.Raise first) why t after desk r till =
     write_refused (λ e old new. RefusesRaise e old first new) (entry.Raised first) why t after refl (λ cause old new. raise_refused cause old new first) desk r till
 keeps_refused (event.TakeInHand openings copy) why t after desk r till = taking_refused openings copy why t after desk r till

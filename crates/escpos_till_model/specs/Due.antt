@@ -2,6 +2,7 @@
 use Rattle.std.specs.Prelude.{ℕ, ◌≡◌, ◌+◌, ◌<◌, ◌≤◌, List, [], Option, Some, None, Result, Ok, Err, length}
 use Rattle.escpos_command.specs.declared.command.Command.{Command}
 use Rattle.escpos_command.specs.Digits.{mark_count}
+use Rattle.escpos_till.specs.declared.entry.Content.{Content}
 use Rattle.escpos_till.specs.declared.entry.Entry.{Entry}
 use Rattle.escpos_till.specs.declared.entry.Entry.TheVariants as entry
 use Rattle.escpos_till.specs.declared.error.LedgerError.{LedgerError}
@@ -31,7 +32,7 @@ IsFirst ledger copy first = IsLive ledger × Due ledger.entries copy first.numbe
 abbrev pub RefusesFirst : TillRefusal → LedgerView (List Entry) → Type 0
 RefusesFirst refusal.NothingWaits ledger = IsLive ledger × (waiting ledger.entries ≡ [])
 RefusesFirst (refusal.NoReceipt why) ledger =
-    (number : ℕ) × (content : List ℕ) × (tried : ℕ) × IsLive ledger × FirstWaits ledger.entries number content tried × WhyNone why content
+    (number : ℕ) × (content : Content) × (tried : ℕ) × IsLive ledger × FirstWaits ledger.entries number content tried × WhyNone why content
 RefusesFirst (refusal.Ledger why) ledger = (why ≡ error.Failed) × HasFailed ledger
 RefusesFirst _ ledger = ⊥
 
@@ -53,7 +54,7 @@ RefusesDesk openings copy refusal.SwitchedOff before after = IsOff before × (af
 RefusesDesk openings copy refusal.NothingWaits before after =
     (ledger : LedgerView (List Entry)) × (before ≡ On ledger) × IsLive ledger × (waiting ledger.entries ≡ []) × (after ≡ before)
 RefusesDesk openings copy (refusal.NoReceipt why) before after =
-    (ledger : LedgerView (List Entry)) × (number : ℕ) × (content : List ℕ) × (tried : ℕ) × (before ≡ On ledger) × IsLive ledger
+    (ledger : LedgerView (List Entry)) × (number : ℕ) × (content : Content) × (tried : ℕ) × (before ≡ On ledger) × IsLive ledger
     × FirstWaits ledger.entries number content tried × WhyNone why content × (after ≡ before)
 RefusesDesk openings copy (refusal.Ledger why) before after =
     (old : LedgerView (List Entry)) × (new : LedgerView (List Entry)) × (before ≡ On old) × RefusesTry openings copy why old new × (after ≡ On new)

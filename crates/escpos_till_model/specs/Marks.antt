@@ -1,6 +1,7 @@
 -- What a till takes, and the numbers of the marks that it puts on its line, over a list of events.
 use Rattle.std.specs.Prelude.{ℕ, ◌≡◌, ◌⊎◌, ◌<◌, ◌≤◌, List, [], ◌∷◌, ◌++◌}
 use Rattle.std.specs.List.{AllByRecursion}
+use Rattle.escpos_till.specs.declared.entry.Content.{Content}
 use Rattle.escpos_till.specs.declared.entry.Entry.{Entry}
 use Rattle.escpos_till.specs.declared.entry.Entry.TheVariants as entry
 use Rattle.escpos_till.specs.Entries.{next_free}
@@ -15,7 +16,7 @@ use Rattle.escpos_till_model.specs.Steps.{After, Refuses}
 -- The numbers of the marks that an event puts on the line when it happens: an opening mark, or the closing mark of the
 -- receipt in hand, has the host's next number.
 abbrev pub marks_put : TillEvent → TillParts → List ℕ
-marks_put (event.Queue json) t = []
+marks_put (event.Queue content) t = []
 marks_put (event.Raise first) t = []
 marks_put (event.TakeInHand openings copy) t = []
 marks_put event.LinkUp t = t.line.host.next ∷ []
@@ -27,23 +28,23 @@ marks_put event.Crash t = []
 marks_put (event.Start failure) t = []
 marks_put (event.OnLine e) t = []
 
--- The texts of the receipts that the till takes when an event happens.
-abbrev pub texts_taken : TillEvent → List (List ℕ)
-texts_taken (event.Queue json) = json ∷ []
-texts_taken (event.Raise first) = []
-texts_taken (event.TakeInHand openings copy) = []
-texts_taken event.LinkUp = []
-texts_taken event.Nudge = []
-texts_taken event.Submit = []
-texts_taken event.Record = []
-texts_taken event.GiveUp = []
-texts_taken event.Crash = []
-texts_taken (event.Start failure) = []
-texts_taken (event.OnLine e) = []
+-- What the till is given of the receipts that it takes when an event happens.
+abbrev pub contents_taken : TillEvent → List Content
+contents_taken (event.Queue content) = content ∷ []
+contents_taken (event.Raise first) = []
+contents_taken (event.TakeInHand openings copy) = []
+contents_taken event.LinkUp = []
+contents_taken event.Nudge = []
+contents_taken event.Submit = []
+contents_taken event.Record = []
+contents_taken event.GiveUp = []
+contents_taken event.Crash = []
+contents_taken (event.Start failure) = []
+contents_taken (event.OnLine e) = []
 
--- The ledger has a receipt with this text.
-abbrev pub HasTaken : List Entry → List ℕ → Type 0
-HasTaken entries json = (number : ℕ) × IsTaken entries number json
+-- The ledger has a receipt with this content.
+abbrev pub HasTaken : List Entry → Content → Type 0
+HasTaken entries content = (number : ℕ) × IsTaken entries number content
 
 -- An entry has reserved the number for a receipt; it was free before that.
 pub record IsReserved (entries : List Entry) (mark : ℕ) : Type 0 where
@@ -61,23 +62,23 @@ pub record UsesMarks (t : TillParts) (marks : List ℕ) (after : TillParts) : Ty
   pub within : AllByRecursion (λ n. (t.line.host.next ≤ n) × (n < after.line.host.next)) marks
   pub rises : t.line.host.next ≤ after.line.host.next
 
--- An event happened, or was refused; it took receipts with these texts, and put marks with these numbers on the line.
-abbrev pub Steps : TillParts → TillEvent → List (List ℕ) → List ℕ → TillParts → Type 0
-Steps t e texts marks after =
-    (After e t after × (texts ≡ texts_taken e) × (marks ≡ marks_put e t)) ⊎ ((why : TillRefusal) × Refuses e why t after × (texts ≡ []) × (marks ≡ []))
+-- An event happened, or was refused; it took receipts with these contents, and put marks with these numbers on the line.
+abbrev pub Steps : TillParts → TillEvent → List Content → List ℕ → TillParts → Type 0
+Steps t e contents marks after =
+    (After e t after × (contents ≡ contents_taken e) × (marks ≡ marks_put e t)) ⊎ ((why : TillRefusal) × Refuses e why t after × (contents ≡ []) × (marks ≡ []))
 
 -- The events came one after another.
-abbrev pub Ran : TillParts → List TillEvent → List (List ℕ) → List ℕ → TillParts → Type 0
-Ran t [] texts marks after = (texts ≡ []) × (marks ≡ []) × (after ≡ t)
-Ran t (e ∷ es) texts marks after =
-    (next : TillParts) × (first : List (List ℕ)) × (others : List (List ℕ)) × (some : List ℕ) × (more : List ℕ) × (texts ≡ first ++ others) × (marks ≡ some ++ more)
+abbrev pub Ran : TillParts → List TillEvent → List Content → List ℕ → TillParts → Type 0
+Ran t [] contents marks after = (contents ≡ []) × (marks ≡ []) × (after ≡ t)
+Ran t (e ∷ es) contents marks after =
+    (next : TillParts) × (first : List Content) × (others : List Content) × (some : List ℕ) × (more : List ℕ) × (contents ≡ first ++ others) × (marks ≡ some ++ more)
     × Steps t e first some next × Ran next es others more after
 
 -- They did. Each receipt that was taken is in the ledger; no mark number was used twice, and each was reserved for a receipt.
 pub record RanWell (t : TillParts) (events : List TillEvent) (after : TillParts) : Type 0 where
-  pub texts : List (List ℕ)
+  pub contents : List Content
   pub marks : List ℕ
-  pub ran : Ran t events texts marks after
-  pub taken : AllByRecursion (HasTaken (entries_of after)) texts
+  pub ran : Ran t events contents marks after
+  pub taken : AllByRecursion (HasTaken (entries_of after)) contents
   pub once : NoneTwice marks
   pub own : AllByRecursion (IsReserved (entries_of after)) marks

@@ -4,9 +4,10 @@ use Rattle.std.specs.Prelude.{ℕ, ◌≡◌, ◌⊎◌, List, ◌∷◌, ◌++�
 use Rattle.std.specs.List.{AllZip}
 use Rattle.escpos_command.specs.declared.command.Command.{Command}
 use Rattle.escpos_paper.specs.declared.item.Item.{Item}
-use Rattle.escpos_receipt.specs.Describes.{Describes}
 use Rattle.escpos_receipt.specs.Whole.{Whole}
+use Rattle.escpos_till.specs.declared.entry.Content.{Content}
 use Rattle.escpos_till.specs.declared.entry.Entry.{Entry}
+use Rattle.escpos_till.specs.Contents.{ContentDescribes}
 use Rattle.escpos_till.specs.Copy.{IsCopyText, copy_line}
 use Rattle.escpos_till.specs.Entries.{Taken, recorded, taken, waiting}
 use Rattle.escpos_link.specs.Stands.{Stands}
@@ -23,20 +24,20 @@ NoneTwice ns = (n : ℕ) (before following : List ℕ) → ns ≡ before ++ n �
 
 -- ## Receipts of entries
 
--- The receipt with this number was taken, and this is its text in JSON.
-abbrev pub IsTaken : List Entry → ℕ → List ℕ → Type 0
+-- The receipt with this number was taken, and this is its text in JSON, with the options that the text is read with.
+abbrev pub IsTaken : List Entry → ℕ → Content → Type 0
 IsTaken entries number content = Among (record { number = number; content = content }) (taken entries)
 
--- The commands are a receipt that the text describes; or such a one after the line that says that it is printed again.
-pub record IsReceipt (content : List ℕ) (commands : List Command) : Type 0 where
+-- The commands are a receipt that the content describes; or such a one after the line that says that it is printed again.
+pub record IsReceipt (content : Content) (commands : List Command) : Type 0 where
   pub receipt : List Command
-  pub describes : Describes content receipt
+  pub describes : ContentDescribes content receipt
   pub whole : Whole receipt
   pub sent : (commands ≡ receipt) ⊎ ((text : List ℕ) × IsCopyText text × (commands ≡ copy_line text ++ receipt))
 
--- The commands are a receipt that the text describes which was taken under this number.
+-- The commands are a receipt that the content describes which was taken under this number.
 pub record IsReceiptOf (entries : List Entry) (number : ℕ) (commands : List Command) : Type 0 where
-  pub content : List ℕ
+  pub content : Content
   pub taken : IsTaken entries number content
   pub receipt : IsReceipt content commands
 
@@ -61,5 +62,5 @@ pub record RecordedStand (width : ℕ) (entries : List Entry) (paper : List Item
 pub record EachIsKept (entries : List Entry) : Type 0 where
   pub waits_or_recorded : (receipt : Taken) → Among receipt (taken entries) → Among receipt (waiting entries) ⊎ Among receipt.number (recorded entries)
   pub not_both : (receipt : Taken) → Among receipt (waiting entries) → ¬ Among receipt.number (recorded entries)
-  pub were_taken : (number : ℕ) → Among number (recorded entries) → (content : List ℕ) × IsTaken entries number content
+  pub were_taken : (number : ℕ) → Among number (recorded entries) → (content : Content) × IsTaken entries number content
   pub once : NoneTwice (recorded entries)

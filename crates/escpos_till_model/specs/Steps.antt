@@ -16,13 +16,14 @@
 use Rattle.std.specs.Prelude.{ℕ, ◌≡◌, ◌≢◌, ◌⊎◌, ◌+◌, ◌<◌, ◌≤◌, Bool, true, false, List, [], Option, Some, None, length}
 use Rattle.escpos_command.specs.declared.command.Command.{Command}
 use Rattle.escpos_command.specs.Digits.{mark_count}
-use Rattle.escpos_receipt.specs.Describes.{Describes}
 use Rattle.escpos_receipt.specs.Whole.{Whole}
+use Rattle.escpos_till.specs.declared.entry.Content.{Content}
 use Rattle.escpos_till.specs.declared.entry.Entry.{Entry}
 use Rattle.escpos_till.specs.declared.entry.Entry.TheVariants as entry
 use Rattle.escpos_till.specs.declared.error.LedgerError.{LedgerError}
 use Rattle.escpos_till.specs.declared.error.LedgerError.TheVariants as error
 use Rattle.escpos_till.specs.declared.error.OpenError.TheVariants as broken
+use Rattle.escpos_till.specs.Contents.{ContentDescribes}
 use Rattle.escpos_till.specs.Copy.{IsCopyText}
 use Rattle.escpos_till.specs.Delivers.{Due, WhyNone, marks_taken}
 use Rattle.escpos_till.specs.Entries.{IsLedger, next_free, recorded, waiting}
@@ -129,7 +130,7 @@ pub record GoesOnLine (e : Event) (t : TillParts) (note : Note) (after : TillPar
 -- ## The table
 
 abbrev pub After : TillEvent → TillParts → TillParts → Type 0
-After (event.Queue json) t after = Writes t (entry.Queued json) after × ((commands : List Command) × Describes json commands × Whole commands)
+After (event.Queue content) t after = Writes t (entry.Queued content) after × ((commands : List Command) × ContentDescribes content commands × Whole commands)
 After (event.Raise first) t after = Writes t (entry.Raised first) after
 After (event.TakeInHand openings copy) t after = TakesInHand openings copy t after
 After event.LinkUp t after = (hand : Hand) × UsesMark line.LinkUp t hand hand after
@@ -183,7 +184,7 @@ RefusesDue openings copy refusal.SwitchedOff t after = IsOff t.desk × (after �
 RefusesDue openings copy refusal.NothingWaits t after =
     (ledger : LedgerView (List Entry)) × (t.desk ≡ On ledger) × IsLive ledger × (waiting ledger.entries ≡ []) × (after ≡ t)
 RefusesDue openings copy (refusal.NoReceipt why) t after =
-    (ledger : LedgerView (List Entry)) × (number : ℕ) × (content : List ℕ) × (tried : ℕ) × (t.desk ≡ On ledger) × IsLive ledger
+    (ledger : LedgerView (List Entry)) × (number : ℕ) × (content : Content) × (tried : ℕ) × (t.desk ≡ On ledger) × IsLive ledger
     × FirstWaits ledger.entries number content tried × WhyNone why content × (after ≡ t)
 RefusesDue openings copy (refusal.Ledger why) t after = RefusedBy (RefusesTry openings copy why) t after
 RefusesDue openings copy _ t after = ⊥
@@ -244,7 +245,7 @@ RefusesOnLine e (refusal.Line why) t after = (is_host_call e ≡ false) × Refus
 RefusesOnLine e _ t after = ⊥
 
 abbrev pub Refuses : TillEvent → TillRefusal → TillParts → TillParts → Type 0
-Refuses (event.Queue json) why t after = RefusesWrite (λ e old new. RefusesQueue e old json new) why t after
+Refuses (event.Queue content) why t after = RefusesWrite (λ e old new. RefusesQueue e old content new) why t after
 Refuses (event.Raise first) why t after = RefusesWrite (λ e old new. RefusesRaise e old first new) why t after
 Refuses (event.TakeInHand openings copy) why t after = RefusesTaking openings copy why t after
 Refuses event.LinkUp why t after = RefusesMark line.LinkUp why t after

@@ -2,8 +2,8 @@
 
 ghost use Rattle.std.specs.Prelude.{◌≡◌, ◌↔◌, List, option_map, IfOk, IfErr, IsTrue};
 ghost use Rattle.escpos_command.specs.declared.command.Command.{Command};
-ghost use Rattle.escpos_receipt.specs.Describes.{Describes};
 ghost use Rattle.escpos_receipt.specs.Whole.{Whole};
+ghost use Rattle.escpos_till.specs.Contents.{ContentDescribes, content_with};
 ghost use Rattle.escpos_till.specs.Copy.{sent_of};
 ghost use Rattle.escpos_till.specs.Delivers.{WhyNone};
 ghost use Rattle.escpos_till_model.specs.Due.{IsFirst, RefusesDesk, RefusesFirst, Takes};
@@ -106,9 +106,9 @@ fn receipt_to_send(
     copy: Option<&[u8]>,
 ) -> Result<Receipt, JsonError>
     requires { IsCopy (option_map (λ t. t.now) copy) }
-    ensures receipt { IfOk result (λ sent. (receipt : List Command) × Describes waiting.now.content.now receipt × Whole receipt
+    ensures receipt { IfOk result (λ sent. (receipt : List Command) × ContentDescribes (content_with waiting.now.options waiting.now.content.now) receipt × Whole receipt
         × (sent ≡ sent_of (option_map (λ t. t.now) copy.entry) waiting.now.tried receipt)) }
-    ensures refused { IfErr result (λ why. WhyNone why waiting.now.content.now) }
+    ensures refused { IfErr result (λ why. WhyNone why (content_with waiting.now.options waiting.now.content.now)) }
 {
     match copy {
         Some(text) => match CopyText::new(text) {

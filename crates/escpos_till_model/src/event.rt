@@ -2,22 +2,19 @@
 
 use escpos_link::{Event, Refusal};
 use escpos_receipt::JsonError;
-use escpos_till::{Content, Failure, LedgerError, OpenError};
+use escpos_till::{Content, Failure, LedgerError, OpenError, Text};
 
 /// What may happen to a till.
 #[derive(Debug, Drop)]
 pub enum TillEvent {
-    /// The till takes a receipt, whose text in JSON this is.
+    /// The till takes a receipt: its text in JSON, and the options that the text is read with.
     Queue(Content),
     /// The till raises the next mark number to this one.
     Raise(u32),
     /// The till takes the first receipt that waits in hand, and reserves mark numbers for it: one for each of so many opening
     /// marks (0 counts as 1), and one for the closing mark. Its host goes on with the receipts that are recorded. `copy` is the
     /// text of a line that is put before a receipt that was tried before.
-    TakeInHand {
-        openings: u32,
-        copy: Option<Content>,
-    },
+    TakeInHand { openings: u32, copy: Option<Text> },
     /// The host opens a link, with a reserved mark number.
     LinkUp,
     /// The host puts one more opening mark out, with a reserved number.

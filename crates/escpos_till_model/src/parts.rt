@@ -4,6 +4,7 @@
 
 ghost use Rattle.std.specs.Prelude.{ℕ, ◌≡◌, length, Some, option_map, IfOk, IfErr, OnOk, ◌≤◌};
 ghost use Rattle.escpos_link.specs.Resumed.{resumed};
+ghost use Rattle.escpos_till.specs.Contents.{content_with};
 ghost use Rattle.escpos_till.specs.Entries.{taken};
 ghost use Rattle.escpos_till_model.specs.declared.event.TillEvent.TheVariants as event;
 ghost use Rattle.escpos_till_model.specs.declared.hand.Hand.{Hand};
@@ -17,7 +18,8 @@ use crate::due::{DueReceipt, is_copy, take_due};
 use crate::event::{TillEvent, TillRefusal};
 use crate::hand::Hand;
 use escpos_link::{Event, Note, Sim};
-use escpos_till::{Content, Failure, Ledger, LedgerError, ReceiptNumber};
+use escpos_receipt::ReceiptOptions;
+use escpos_till::{Failure, Ledger, LedgerError, ReceiptNumber, Text};
 use std::alloc::Global;
 use std::mem::replace;
 
@@ -34,17 +36,22 @@ pub struct TillParts {
 
 impl TillParts {
     // The till takes a receipt.
-    pub(crate) fn queue(&mut self, alloc: Global, json: &[u8]) -> Result<ReceiptNumber, TillRefusal>
-        ensures happened { OnOk result (After (event.Queue json.now) self.old self.new) }
+    pub(crate) fn queue(
+        &mut self,
+        alloc: Global,
+        options: &ReceiptOptions,
+        json: &[u8],
+    ) -> Result<ReceiptNumber, TillRefusal>
+        ensures happened { OnOk result (After (event.Queue (content_with options.now json.now)) self.old self.new) }
         ensures number { IfOk result (λ number. number ≡ length (taken (entries_of self.new))) }
-        ensures refused { IfErr result (λ why. Refuses (event.Queue json.now) why self.old self.new) }
+        ensures refused { IfErr result (λ why. Refuses (event.Queue (content_with options.now json.now)) why self.old self.new) }
         ensures desk { IsDesk self.new.desk }
         ensures width { self.new.line.printer.sheet.line_dots ≡ self.old.line.printer.sheet.line_dots }
     {
         let Desk::On(ledger) = &mut self.desk else {
             return Err(TillRefusal::SwitchedOff);
         };
-        let queued = ledger.queue(alloc, json);
+        let queued = ledger.queue_with(alloc, options, json);
         // Proof only: what the ledger has is in its store.
         ledger.is_sound();
         match queued {
@@ -116,7 +123,7 @@ impl TillParts {
         &mut self,
         alloc: Global,
         openings: u32,
-        copy: &Option<Content>,
+        copy: &Option<Text>,
     ) -> Result<(), TillRefusal>
         requires { IsTill self.old }
         ensures happened { OnOk result (After (event.TakeInHand openings copy.now) self.old self.new) }
@@ -261,7 +268,11 @@ impl TillParts {
         ensures width { self.new.line.printer.sheet.line_dots ≡ self.old.line.printer.sheet.line_dots }
     {
         match happening {
-            TillEvent::Queue(json) => match self.queue(alloc, json.bytes()) {
+            TillEvent::Queue(content) => match self.queue(
+                alloc,
+                &content.options,
+                content.bytes(),
+            ) {
                 Ok(_) => Ok(()),
                 Err(why) => Err(why),
             },

@@ -4,13 +4,14 @@ ghost use Rattle.std.specs.Prelude.{◌≡◌, [], length, Some, None, option_ma
 ghost use Rattle.std.specs.List.{AllByRecursion};
 ghost use Rattle.escpos_host.specs.Machine.{Down};
 ghost use Rattle.escpos_paper.specs.Page.{SheetIs};
+ghost use Rattle.escpos_till.specs.Contents.{content_with, plain};
 ghost use Rattle.escpos_till.specs.Entries.{taken};
 ghost use Rattle.escpos_till_model.specs.declared.desk.Desk.TheVariants.{Off};
 ghost use Rattle.escpos_till_model.specs.declared.event.TillEvent.TheVariants as event;
 ghost use Rattle.escpos_till_model.specs.declared.hand.Hand.{Hand};
 ghost use Rattle.escpos_till_model.specs.Kept.{IsTill};
 ghost use Rattle.escpos_till_model.specs.Parts.{entries_of};
-ghost use Rattle.escpos_till_model.specs.Marks.{HasTaken, RanWell, UsesMarks, marks_put, texts_taken};
+ghost use Rattle.escpos_till_model.specs.Marks.{HasTaken, RanWell, UsesMarks, marks_put, contents_taken};
 ghost use Rattle.escpos_till_model.specs.Receipts.{EachIsKept, Extends, IsTaken, RecordedStand};
 ghost use Rattle.escpos_till_model.specs.Steps.{After, GoesOnLine, IsPossible, Refuses};
 
@@ -22,6 +23,7 @@ use escpos_command::LineWidth;
 use escpos_link::{Event, Note, Sim};
 use escpos_paper::Item;
 use escpos_printer::Condition;
+use escpos_receipt::ReceiptOptions;
 use escpos_till::{Failure, ReceiptNumber};
 use std::alloc::{AllocError, Global};
 use std::collections::VecDeque;
@@ -82,7 +84,7 @@ impl Till {
         ensures refused { IfErr result (λ why. Refuses happening why self.old self.new) }
         ensures possible { IfErr result IsPossible }
         // A receipt that was taken is in the ledger.
-        ensures taken { OnOk result (AllByRecursion (HasTaken (entries_of self.new)) (texts_taken happening)) }
+        ensures taken { OnOk result (AllByRecursion (HasTaken (entries_of self.new)) (contents_taken happening)) }
         // Each mark that it puts on the line has a number that an entry has reserved, from the host's next one on.
         ensures marks { OnOk result (UsesMarks self.old (marks_put happening self.old) self.new) }
         ensures unused { OnErr result (UsesMarks self.old [] self.new) }
@@ -116,17 +118,32 @@ impl Till {
         self.is_sound();
     }
 
-    /// The till takes a receipt, whose text in JSON this is, and returns its number.
-    ///
-    /// It is refused if the till is switched off (`SwitchedOff`), and as `Ledger::queue` says (`Ledger`).
+    /// The till takes a receipt whose text in JSON is read with the usual options; otherwise as `queue_with`.
     pub fn queue(&mut self, json: &[u8]) -> Result<ReceiptNumber, TillRefusal>
-        ensures happened { OnOk result (After (event.Queue json.now) self.old self.new) }
+        ensures happened { OnOk result (After (event.Queue (plain json.now)) self.old self.new) }
         ensures number { IfOk result (λ number. number ≡ length (taken (entries_of self.new))) }
-        ensures taken { IfOk result (λ number. IsTaken (entries_of self.new) number json.now) }
-        ensures refused { IfErr result (λ why. Refuses (event.Queue json.now) why self.old self.new) }
+        ensures taken { IfOk result (λ number. IsTaken (entries_of self.new) number (plain json.now)) }
+        ensures refused { IfErr result (λ why. Refuses (event.Queue (plain json.now)) why self.old self.new) }
         ensures width { self.new.line.printer.sheet.line_dots ≡ self.old.line.printer.sheet.line_dots }
     {
-        self.parts.queue(self.alloc, json)
+        self.queue_with(&ReceiptOptions::usual(), json)
+    }
+
+    /// The till takes a receipt, whose text in JSON this is, to be read with these options, and returns its number.
+    ///
+    /// It is refused if the till is switched off (`SwitchedOff`), and as `Ledger::queue_with` says (`Ledger`).
+    pub fn queue_with(
+        &mut self,
+        options: &ReceiptOptions,
+        json: &[u8],
+    ) -> Result<ReceiptNumber, TillRefusal>
+        ensures happened { OnOk result (After (event.Queue (content_with options.now json.now)) self.old self.new) }
+        ensures number { IfOk result (λ number. number ≡ length (taken (entries_of self.new))) }
+        ensures taken { IfOk result (λ number. IsTaken (entries_of self.new) number (content_with options.now json.now)) }
+        ensures refused { IfErr result (λ why. Refuses (event.Queue (content_with options.now json.now)) why self.old self.new) }
+        ensures width { self.new.line.printer.sheet.line_dots ≡ self.old.line.printer.sheet.line_dots }
+    {
+        self.parts.queue(self.alloc, options, json)
     }
 
     /// The till raises the next mark number to this one.

@@ -57,9 +57,28 @@ fn deliveries_that_wait(rt: HostRuntime) {
     }
 }
 
-const ASKED: [(&'static [&'static str], Result<Plain<'static>, NoTask>); 9] = [
-    (&["queue", "till"], Ok(Plain::Queue("till"))),
-    (&["queue", "a/till.db"], Ok(Plain::Queue("a/till.db"))),
+const ASKED: [(&'static [&'static str], Result<Plain<'static>, NoTask>); 13] = [
+    (&["queue", "till"], Ok(Plain::Queue("till", 512, None))),
+    (
+        &["queue", "a/till.db"],
+        Ok(Plain::Queue("a/till.db", 512, None)),
+    ),
+    (
+        &["queue", "till", "--width", "576", "--replace", "?"],
+        Ok(Plain::Queue("till", 576, Some('?'))),
+    ),
+    (
+        &["queue", "--width=1", "till"],
+        Ok(Plain::Queue("till", 1, None)),
+    ),
+    (
+        &["queue", "till", "--width", "1024", "--replace=~"],
+        Ok(Plain::Queue("till", 1024, Some('~'))),
+    ),
+    (
+        &["queue", "--replace", " ", "till"],
+        Ok(Plain::Queue("till", 512, Some(' '))),
+    ),
     (&["ledger", "till"], Ok(Plain::List("till", None))),
     (
         &["ledger", "till", "--first", "0"],
@@ -76,13 +95,19 @@ const ASKED: [(&'static [&'static str], Result<Plain<'static>, NoTask>); 9] = [
 ];
 
 // Words that ask for nothing.
-const USAGE: [&'static [&'static str]; 27] = [
+const USAGE: [&'static [&'static str]; 33] = [
     &[],
     &["check"],
     &["queue"],
     &["queue", "till", "till"],
     &["queue", "till", "--first", "1"],
     &["queue", "till", "--nosuch"],
+    &["queue", "till", "--width", "0"],
+    &["queue", "till", "--width", "1025"],
+    &["queue", "till", "--width", "384", "--width", "384"],
+    &["queue", "till", "--replace", ""],
+    &["queue", "till", "--replace", "??"],
+    &["queue", "till", "--replace", "é"],
     &["deliver"],
     &["deliver", "till"],
     &["deliver", ADDRESS],

@@ -2,14 +2,29 @@
 //! crash.
 
 use crate::support::tills::{S, number};
+use escpos_command::LineWidth;
+use escpos_receipt::ReceiptOptions;
 use escpos_store::SqliteStore;
+use escpos_text::Replacement;
 use escpos_till::{Content, Entry, Store};
 use sqlite::{Alter, FileStore, Files, Options};
 use sqlite_disk::{Disk, Memory};
 use std::alloc::Global;
 use std::process::Abort;
 
-// An entry of each kind, and two at the ends of their ranges.
+// A receipt that is read with other options than the usual ones: lines of so many dots, and this replacement, if any.
+fn content_for(rt: &impl Abort, alloc: Global, dots: u16, replacement: Option<u8>) -> Content {
+    let options = ReceiptOptions {
+        width: LineWidth::new(dots).expect(rt, "a width"),
+        replacement: match replacement {
+            Some(byte) => Some(Replacement::new(byte).expect(rt, "a replacement")),
+            None => None,
+        },
+    };
+    Content::with_options(S.to_vec(alloc).expect(rt, "memory"), options)
+}
+
+// An entry of each kind, and some at the ends of their ranges.
 fn entries_of(rt: &impl Abort, alloc: Global) -> Vec<Entry> {
     let number = number(rt, 1);
     let content = Content::new(S.to_vec(alloc).expect(rt, "memory"));
@@ -20,6 +35,15 @@ fn entries_of(rt: &impl Abort, alloc: Global) -> Vec<Entry> {
     let _ = entries.push(Entry::Recorded { number });
     let _ = entries.push(Entry::Raised { next: u32::MAX });
     let _ = entries.push(Entry::Queued { content: empty });
+    for (dots, replacement) in [
+        (576, None),
+        (1, Some(b' ')),
+        (1024, Some(b'~')),
+        (512, Some(b'?')),
+    ] {
+        let content = content_for(rt, alloc, dots, replacement);
+        let _ = entries.push(Entry::Queued { content });
+    }
     entries
 }
 
@@ -27,6 +51,7 @@ fn are_alike(rt: &impl Abort, entry: &Entry, wanted: &Entry) {
     match (entry, wanted) {
         (Entry::Queued { content }, Entry::Queued { content: text }) => {
             assert!(rt; content.bytes() == text.bytes());
+            assert!(rt; content.options == text.options);
         }
         (Entry::Tried { number, next }, Entry::Tried { number: n, next: m }) => {
             assert!(rt; *number == *n);

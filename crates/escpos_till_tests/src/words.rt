@@ -4,8 +4,11 @@
 
 use crate::support::asking::printer_address;
 use crate::support::tills::{A, Prepared, S, answered_link, listens, new_ledger, number};
+use escpos_command::LineWidth;
 use escpos_io::{MemoryIn, MemoryOut};
 use escpos_jobs::status::Status;
+use escpos_receipt::ReceiptOptions;
+use escpos_text::Replacement;
 use escpos_till::{CopyText, Entry, Failure, Ledger, MemoryStore, NoStore};
 use escpos_till_jobs::{
     Delivery, deliver_over, deliver_waiting, list, open_ledger, queue_receipt, refuse_store,
@@ -33,7 +36,7 @@ fn queues(
 ) {
     let mut room = [0; 64];
     let mut output = MemoryOut::new(&mut room);
-    let status = queue_receipt(alloc, ledger, text, &mut output);
+    let status = queue_receipt(alloc, ledger, &ReceiptOptions::usual(), text, &mut output);
     is_told(rt, (output.written(), status), wanted);
 }
 
@@ -235,6 +238,32 @@ fn sent_again_as_a_copy(rt: HostRuntime) {
     is_sent_again(&rt, rt.alloc(), &mut ledger);
 }
 
+// A text for a line of 384 dots, with a character that no code table has: it is refused unless there is a replacement, and sent as
+// it was read when it was taken.
+fn is_sent_with_options(rt: &impl Abort, alloc: Global, ledger: &mut Ledger<MemoryStore>) {
+    let text = "[{\"line\":\"\u{4E2D}!\"},{\"rule\":\"-\"}]".as_bytes();
+    let refused = ("refused 8 NoCharacter 0 U+4E2D\n", Status::Refused);
+    queues(rt, alloc, ledger, text, refused);
+    let options = ReceiptOptions {
+        width: LineWidth::new(384).expect(rt, "a width"),
+        replacement: Replacement::new(b'?'),
+    };
+    let mut room = [0; 64];
+    let mut output = MemoryOut::new(&mut room);
+    let status = queue_receipt(alloc, ledger, &options, text, &mut output);
+    is_told(rt, (output.written(), status), ("queued 1\n", Status::Good));
+    let out =
+        b"\x1D(H\x06\x00000000\x1D(H\x06\x00000001\x1B@?!\n--------------------------------\n\x1D(H\x06\x00000002";
+    let answers = b"\x37\x220000\x00\x37\x220001\x00\x37\x220002\x00";
+    delivers_over_memory(rt, alloc, ledger, (answers, out), ("recorded 1\n", Ok(())));
+}
+
+#[test]
+fn sent_with_options(rt: HostRuntime) {
+    let mut ledger = new_ledger(&rt, rt.alloc(), Failure::Never);
+    is_sent_with_options(&rt, rt.alloc(), &mut ledger);
+}
+
 // However often a receipt was tried, it is sent once more.
 fn is_sent_after_twelve_tries(rt: &impl Abort, alloc: Global, ledger: &mut Ledger<MemoryStore>) {
     queues(rt, alloc, ledger, S, ("queued 1\n", Status::Good));
@@ -259,7 +288,9 @@ fn sent_after_twelve_tries(rt: HostRuntime) {
 fn output_fails(rt: &impl Abort, alloc: Global, ledger: &mut Ledger<MemoryStore>) {
     let mut room = [0; 64];
     let mut output = MemoryOut::failing(&mut room, 1);
-    assert!(rt; queue_receipt(alloc, ledger, S, &mut output) == Status::Device);
+    assert!(rt;
+        queue_receipt(alloc, ledger, &ReceiptOptions::usual(), S, &mut output) == Status::Device
+    );
     assert!(rt; list(ledger, None, &mut output) == Status::Device);
     lists(rt, ledger, None, ("1 waiting\nnext 0\n", Status::Good));
 }

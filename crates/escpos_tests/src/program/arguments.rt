@@ -1,7 +1,7 @@
 //! The arguments of the command line, and what they ask for.
 
-use crate::support::jobs::printer_address;
-use escpos_arguments::{asks_version, task_of};
+use crate::support::jobs::{asks_for, printer_address};
+use escpos_arguments::asks_version;
 use escpos_jobs::emulate::ONLINE;
 use escpos_jobs::task::{NoTask, Task};
 use escpos_printer::Condition;
@@ -72,11 +72,7 @@ const ASKED: [Asked; 57] = [
     (&["Loop"], Err(NoTask::Usage)),
 ];
 
-fn asks_for(rt: &impl Abort, alloc: Global, arguments: &[&str], asked: Result<Task, NoTask>) {
-    assert!(rt; task_of(alloc, arguments) == asked);
-}
-
-// The same of a command and what follows it.
+// What a command and what follows it ask for.
 fn asks_for_command<'a>(
     rt: &impl Abort,
     alloc: Global,

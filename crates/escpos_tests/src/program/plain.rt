@@ -1,9 +1,8 @@
 //! `render --text` and `--replace`: what the arguments ask for, rows as a reader sees them, and receipts in twelve languages that are
 //! read back.
 
-use crate::support::jobs::{Row, performs_rows, printer_address, prints, run_job};
+use crate::support::jobs::{Row, asks_for, performs_rows, printer_address, prints, run_job};
 use crate::support::texts::joined;
-use escpos_arguments::task_of;
 use escpos_command::LineWidth;
 use escpos_io::{MemoryIn, Outgoing};
 use escpos_jobs::status::Status;
@@ -12,10 +11,6 @@ use escpos_receipt::ReceiptOptions;
 use escpos_text::Replacement;
 use std::alloc::Global;
 use std::process::Abort;
-
-fn asks_for(rt: &impl Abort, alloc: Global, words: &[&str], asked: Result<Task, NoTask>) {
-    assert!(rt; task_of(alloc, words) == asked);
-}
 
 fn plain(raw: bool) -> Task {
     Task::RenderText {

@@ -1,7 +1,6 @@
 //! `--width`: what the arguments ask for, and the paper of lines that are so wide.
 
-use crate::support::jobs::{Row, performs_rows, printer_address};
-use escpos_arguments::task_of;
+use crate::support::jobs::{Row, asks_for, performs_rows, printer_address};
 use escpos_command::LineWidth;
 use escpos_jobs::emulate::ONLINE;
 use escpos_jobs::status::Status;
@@ -9,10 +8,6 @@ use escpos_jobs::task::{NoTask, Task};
 use escpos_printer::Condition;
 use std::alloc::Global;
 use std::process::Abort;
-
-fn asks_for(rt: &impl Abort, alloc: Global, words: &[&str], asked: Result<Task, NoTask>) {
-    assert!(rt; task_of(alloc, words) == asked);
-}
 
 fn wide(rt: &impl Abort, dots: u16) -> LineWidth {
     LineWidth::new(dots).expect(rt, "a width")

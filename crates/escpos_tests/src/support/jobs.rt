@@ -1,5 +1,6 @@
 //! A job of the program over memory: what it reads, what it writes, and the status that it ends with.
 
+use escpos_arguments::task_of;
 use escpos_io::{ByteOut, MemoryIn, MemoryOut, Outgoing};
 use escpos_jobs::perform::perform;
 use escpos_jobs::status::Status;
@@ -24,6 +25,11 @@ impl Net for NoNetwork {
     fn connect(&self, _addr: SocketAddr) -> io::Result<TcpStream> {
         Err(io::Error::from(io::ErrorKind::NetworkUnreachable))
     }
+}
+
+/// This is what the arguments ask for.
+pub fn asks_for(rt: &impl Abort, alloc: Global, words: &[&str], asked: Result<Task, NoTask>) {
+    assert!(rt; task_of(alloc, words) == asked);
 }
 
 /// A worked row of a job: the input, what it prints, and the status.

@@ -19,7 +19,10 @@ fn asks_at_last(rt: &impl Abort, alloc: Global, words: &[&str], wanted: Result<P
 fn till_task_of_refused(rt: HostRuntime) {
     let deliver = Plain::Deliver("till", printer_address(), 3, true);
     let rows: [(&[&str], Result<Plain, NoTask>); 5] = [
-        (&["queue", "till"], Ok(Plain::Queue("till"))),
+        (
+            &["queue", "till", "--replace", "?"],
+            Ok(Plain::Queue("till", 512, Some('?'))),
+        ),
         (
             &["deliver", "till", "127.0.0.1:9100", "--copy", "COPY"],
             Ok(deliver),

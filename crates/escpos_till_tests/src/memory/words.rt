@@ -9,7 +9,7 @@ use escpos_jobs::ending::MEMORY;
 use escpos_jobs::input::InputFault;
 use escpos_jobs::receipt_input::NoReceipt;
 use escpos_jobs::status::Status;
-use escpos_receipt::JsonError;
+use escpos_receipt::{JsonError, ReceiptOptions};
 use escpos_till::{Entry, Failure, Ledger, LedgerError, MemoryStore, NoStore, ReceiptState};
 use escpos_till_jobs::{
     Delivery, deliver_waiting, list, open_ledger, queue_receipt, read_receipt_text,
@@ -63,7 +63,7 @@ fn goes_on(rt: &impl Abort, alloc: Global, ledger: Ledger<MemoryStore>) -> Ledge
 fn queues(rt: &impl Abort, alloc: Global, ledger: &mut Ledger<MemoryStore>) -> bool {
     let mut room = [0; 64];
     let mut output = MemoryOut::new(&mut room);
-    let status = queue_receipt(alloc, ledger, S, &mut output);
+    let status = queue_receipt(alloc, ledger, &ReceiptOptions::usual(), S, &mut output);
     is_told(rt, (output.written(), status), b"queued 1\n")
 }
 
@@ -104,7 +104,7 @@ fn list_refused(rt: HostRuntime) {
 // The text of a receipt. Where memory is refused the source hasn't failed, and a new one is read.
 fn text_at_last(rt: &impl Abort, alloc: Global) -> Vec<u8> {
     let mut source = MemoryIn::new(S, 7);
-    match read_receipt_text(alloc, &mut source) {
+    match read_receipt_text(alloc, &ReceiptOptions::usual(), &mut source) {
         Ok(text) => text,
         Err(fault) => {
             assert!(rt;
@@ -115,7 +115,7 @@ fn text_at_last(rt: &impl Abort, alloc: Global) -> Vec<u8> {
             );
             assert!(rt; !source.has_failed());
             let mut source = MemoryIn::new(S, 7);
-            read_receipt_text(alloc, &mut source).expect(rt, "a text")
+            read_receipt_text(alloc, &ReceiptOptions::usual(), &mut source).expect(rt, "a text")
         }
     }
 }

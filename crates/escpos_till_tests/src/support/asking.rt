@@ -2,23 +2,36 @@
 
 use escpos_arguments::till_task_of;
 use escpos_jobs::task::NoTask;
+use escpos_receipt::ReceiptOptions;
 use escpos_till_jobs::TillTask;
 use std::alloc::Global;
 use std::net::{Ipv4Addr, SocketAddrV4};
 
-// A task with its ledger's path: the printer's address, how many opening marks, and whether there is a text for copies, with how
-// many seconds a wait may last, if that is given; or the number that the next mark number is raised to.
+// A task with its ledger's path: the dots of a line, and what is printed in place of a character that no code table has; the
+// printer's address, how many opening marks, and whether there is a text for copies, with how many seconds a wait may last, if
+// that is given; or the number that the next mark number is raised to.
 #[derive(Clone, Copy, PartialEq)]
 pub enum Plain<'a> {
-    Queue(&'a str),
+    Queue(&'a str, u16, Option<char>),
     Deliver(&'a str, SocketAddrV4, u32, bool),
     Within(&'a str, SocketAddrV4, u32, bool, u32),
     List(&'a str, Option<u32>),
 }
 
+fn replacement_of(options: &ReceiptOptions) -> Option<char> {
+    match options.replacement {
+        Some(replacement) => Some(replacement.character()),
+        None => None,
+    }
+}
+
 fn plain_of<'a>(task: TillTask<'a>) -> Plain<'a> {
     match task {
-        TillTask::Queue { ledger } => Plain::Queue(ledger.text()),
+        TillTask::Queue { ledger, options } => Plain::Queue(
+            ledger.text(),
+            options.width.dots(),
+            replacement_of(&options),
+        ),
         TillTask::Deliver { ledger, delivery } => Plain::Deliver(
             ledger.text(),
             delivery.address,
