@@ -1,14 +1,16 @@
 -- The rows of a list of entries.
-use Rattle.std.proofs.Common.{◌≡◌, ℕ, ◌+◌, ◌<◌, false, List, [], ◌∷◌, ◌++◌, length, take, get_or, map, refl, sym, ap, subst, ◌∙◌, arith, IsPermutation, Ordering, Less, Equal, Greater, is_eq}
+use Rattle.std.proofs.Common.{◌≡◌, ℕ, ◌+◌, ◌<◌, false, pos, Option, None, Some, IfSome, List, [], ◌∷◌, ◌++◌, length, take, get_or, map, refl, sym, ap, subst, ◌∙◌, arith, IsPermutation, Ordering, Less, Equal, Greater, is_eq}
 use Rattle.std.specs.List.{list_any}
 use Rattle.std.specs.Ordering.{match_ordering}
 use Rattle.std.proofs.lemmas.List.Sorted.{IsPermutation-refl, IsPermutation-cons, IsPermutation-trans, IsPermutation-middle, IsPermutation-map, IsPermutation-sym, IsPermutation-to_front}
 use Rattle.std.proofs.Math.Seq.{take-suc}
 use native.Mathlib.Numerals.{add-one}
 use Rattle.escpos_till.specs.declared.entry.Entry.{Entry}
-use Rattle.sqlite.specs.Order.{Row, value_cmp}
+use Rattle.sqlite.specs.declared.types.Value.{Value}
+use Rattle.sqlite.specs.declared.types.Value.TheVariants.{Int}
+use Rattle.sqlite.specs.Order.{Row, column, value_cmp}
 use Rattle.sqlite.specs.Tree.{rowid, put_row}
-use Rattle.escpos_store.specs.Table.{row_of, rows_from, visible}
+use Rattle.escpos_store.specs.Table.{content_of, kind_of, next_of, number_of, row_of, rows_from, visible}
 
 pub rows_push : (id : ℕ) (entries : List Entry) (e : Entry) → rows_from id (entries ++ e ∷ []) ≡ rows_from id entries ++ row_of (id + length entries) e ∷ []
 rows_push id [] e = let at : id ≡ id + 0 = omega arith in ap (λ n. row_of n e ∷ []) at
@@ -22,6 +24,28 @@ pub row_after : (all : List Row) (i : ℕ) (row : Row) (entries : List Entry) (e
 row_after all i row entries e inside at same is =
     ap (λ n. take n all) (add-one i) ∙ take-suc all i row inside ∙ ap (λ r. take i all ++ r ∷ []) (sym at ∙ is) ∙ ap (λ rows. rows ++ row_of (1 + length entries) e ∷ []) same
     ∙ sym (rows_push 1 entries e)
+
+-- ## A row that is read
+
+-- a row of five values is these
+five_values : (row : Row) (a b c d e : Value) → length row ≡ 5 → column row 0 ≡ a → column row 1 ≡ b → column row 2 ≡ c → column row 3 ≡ d → column row 4 ≡ e
+    → row ≡ a ∷ b ∷ c ∷ d ∷ e ∷ []
+five_values [] a b c d e l p q r s t = absurd (omega (arith, l))
+five_values (v ∷ []) a b c d e l p q r s t = absurd (omega (arith, l))
+five_values (v ∷ w ∷ []) a b c d e l p q r s t = absurd (omega (arith, l))
+five_values (v ∷ w ∷ x ∷ []) a b c d e l p q r s t = absurd (omega (arith, l))
+five_values (v ∷ w ∷ x ∷ y ∷ []) a b c d e l p q r s t = absurd (omega (arith, l))
+five_values (v ∷ w ∷ x ∷ y ∷ z ∷ []) a b c d e l p q r s t = cc
+five_values (v ∷ w ∷ x ∷ y ∷ z ∷ u ∷ more) a b c d e l p q r s t = absurd (omega (arith, l))
+
+-- a row with the values of an entry is that entry's
+pub row_of_found : (row : Row) (id kind number next at : ℕ) (content : Value) (found : Option Entry) → length row ≡ 5 → column row 0 ≡ Int (pos id) → column row 1 ≡ Int (pos kind)
+    → column row 2 ≡ Int (pos number) → column row 3 ≡ Int (pos next) → column row 4 ≡ content → id ≡ at
+    → IfSome found (λ e. (kind_of e ≡ kind) × (number_of e ≡ number) × (next_of e ≡ next) × (content_of e ≡ content)) → IfSome found (λ e. row ≡ row_of at e)
+row_of_found row id kind number next at content None l p q r s t same h = tt
+row_of_found row id kind number next at content (Some e) l p q r s t same (k, n, x, c) =
+    let values = five_values row (Int (pos id)) (Int (pos kind)) (Int (pos number)) (Int (pos next)) content l p q r s t in
+    cc
 
 -- ## A row that is added
 

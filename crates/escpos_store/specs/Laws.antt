@@ -1,10 +1,12 @@
 -- The laws of the store: a database has one list of entries, and what a store holds outlives a crash.
-use Rattle.std.proofs.Common.{◌≡◌, ℕ, ◌+◌, ◌<◌, ◌==◌, Bool, true, false, not, List, [], ◌∷◌, filter, Option, None, Some, pos, refl, ap, ap₂, subst₂, arith, IsPermutation}
+use Rattle.std.proofs.Common.{◌≡◌, ℕ, ◌+◌, ◌<◌, ◌==◌, Bool, true, false, not, List, [], ◌∷◌, filter, Option, None, Some, pos, refl, ◌∙◌, ap, ap₂, subst₂, arith, IsPermutation}
 use Rattle.std.proofs.lemmas.Bool.Decides.{nat_tests}
 use Rattle.std.proofs.lemmas.List.Sorted.{length_permutation, IsPermutation-trans, IsPermutation-sym}
+use Rattle.escpos_receipt.specs.declared.options.ReceiptOptions.{ReceiptOptions}
 use Rattle.escpos_till.specs.declared.entry.Content.{Content}
 use Rattle.escpos_till.specs.declared.entry.Entry.{Entry}
 use Rattle.escpos_till.specs.declared.entry.Entry.TheVariants as entry
+use Rattle.escpos_till.specs.Contents.{content_with}
 use Rattle.sqlite.specs.declared.types.Value.TheVariants.{Int}
 use Rattle.sqlite.specs.Order.{Row, column}
 use Rattle.sqlite.specs.Tree.{Trees}
@@ -34,7 +36,9 @@ same_content id c d h =
     let next : Int (pos (replacement_number c.options.replacement)) ≡ Int (pos (replacement_number d.options.replacement)) = cc in
     let width = same_width c.options.width d.options.width (same_number _ _ number) in
     let replacement = same_replacement c.options.replacement d.options.replacement (same_number _ _ next) in
-    cc
+    ap (λ (w : ℕ). let o : ReceiptOptions = record { width = w; replacement = c.options.replacement } in content_with o c.text) width
+    ∙ ap (λ (r : Option ℕ). let o : ReceiptOptions = record { width = d.options.width; replacement = r } in content_with o c.text) replacement
+    ∙ ap (content_with d.options) text
 
 same_entry : (id : ℕ) (x y : Entry) → row_of id x ≡ row_of id y → x ≡ y
 same_entry id (entry.Queued c) (entry.Queued d) h = ap entry.Queued (same_content id c d h)
