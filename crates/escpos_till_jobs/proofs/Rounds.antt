@@ -15,6 +15,7 @@ use Rattle.escpos_jobs.specs.Ending.{JobEnd, Tells, job_end}
 use Rattle.escpos_jobs.specs.Send.{Devices, DevicesSay}
 use Rattle.escpos_till.specs.declared.deliver.Delivered.{Delivered}
 use Rattle.escpos_till.specs.declared.deliver.Delivered.TheVariants as delivered
+use Rattle.escpos_till.specs.declared.entry.Content.{Content}
 use Rattle.escpos_till.specs.declared.entry.Entry.{Entry}
 use Rattle.escpos_till.specs.declared.entry.Entry.TheVariants as entry
 use Rattle.escpos_till.specs.Delivers.{Concludes, Delivers, Link}
@@ -73,7 +74,7 @@ is_self n = grind (arith, nat_tests)
 -- ## The entries of a round
 
 -- The receipts that wait where these are recorded and these were taken.
-abbrev waiting_by : List ℕ → List (List ℕ) → List Taken
+abbrev waiting_by : List ℕ → List Content → List Taken
 waiting_by records cs = filter (λ receipt. is_none (position_from (λ n. n == receipt.number) 0 records)) (numbered_from 1 cs)
 
 both : (old new : List Entry) (number next : ℕ) → new ≡ (old ++ entry.Tried number next ∷ []) ++ entry.Recorded number ∷ []
@@ -86,7 +87,7 @@ both old new number next is = (
       ∙ filter_map-append content_of old (entry.Tried number next ∷ []) ∙ append-nil (contents old),
 )
 
-fewer_wait : (old new : List Entry) (number : ℕ) (content : List ℕ) → recorded new ≡ recorded old ++ number ∷ [] → contents new ≡ contents old
+fewer_wait : (old new : List Entry) (number : ℕ) (content : Content) → recorded new ≡ recorded old ++ number ∷ [] → contents new ≡ contents old
     → slice_get (waiting old) 0 ≡ Some (record { number = number; content = content }) → length (waiting new) < length (waiting old)
 fewer_wait old new number content records same first =
     let receipt : Taken = record { number = number; content = content } in
