@@ -153,11 +153,11 @@ options_read rows None None options says in_width in_range e = absurd cc
 options_read rows (Some n) replacement options (w, r) in_width in_range e =
     let same : record { width = n; replacement = replacement } ≡ options = cc in
     subst (λ (o : ReceiptOptions). HasOptions rows o × IsOptions o) same
-    (((λ none. some_number _ n w none.0), number_or USUAL_LINE_DOTS (one_of (codes "width") rows) (Some n) w, r), (in_width, in_range))
+    (((λ none. some_number _ n w none.0), (number_or USUAL_LINE_DOTS (one_of (codes "width") rows) (Some n) w, r)), (in_width, in_range))
 options_read rows None (Some c) options (w, r) in_width in_range e =
     let same : record { width = USUAL_LINE_DOTS; replacement = Some c } ≡ options = cc in
     subst (λ (o : ReceiptOptions). HasOptions rows o × IsOptions o) same
-    (((λ none. some_replaced _ c r none.1), number_or USUAL_LINE_DOTS (one_of (codes "width") rows) None w, r), (refl, in_range))
+    (((λ none. some_replaced _ c r none.1), (number_or USUAL_LINE_DOTS (one_of (codes "width") rows) None w, r)), (refl, in_range))
 
 -- a width that is in range where it counts is in range where it is given
 given_range : (width : Option ℕ) (n : ℕ) → n ≡ unwrap_or width USUAL_LINE_DOTS → IsTrue (is_line_width n) → IfSome width (λ n. IsTrue (is_line_width n))
@@ -174,7 +174,7 @@ width_said rows n is in_range =
 -- options that the values say come from what they say
 pub options_said : (rows : List Row) (options : ReceiptOptions) → HasOptions rows options → IsOptions options
     → (width : Option ℕ) × SaysOptions rows width options.replacement × IfSome width (λ n. IsTrue (is_line_width n)) × (options_of width options.replacement ≡ Some options)
-options_said rows options (some, w, r) (in_width, in_range) =
+options_said rows options (some, (w, r)) (in_width, in_range) =
     let (width, h, fits, same) = width_said rows options.width w in_width in
     (width, (h, r), fits, made rows width options.replacement options.width (h, r) same some)
   where
