@@ -1,5 +1,5 @@
 -- What the values after an argument say: numbers, addresses and waits.
-use Rattle.std.proofs.Common.{◌≡◌, ◌⊎◌, ◌∙◌, ◌∷◌, [], IsTrue, ℕ, List, Option, Some, None, Result, Ok, Err, refl, sym, ap, subst, codes, inl, inr, arith}
+use Rattle.std.proofs.Common.{◌≡◌, ◌⊎◌, ◌∙◌, IsTrue, ℕ, List, Option, Some, None, Result, Ok, Err, refl, sym, ap, subst, codes, inl, inr, arith}
 use Rattle.std.specs.Prelude.{MatchResult, IfSome, IsSomeAnd, get_or, unwrap_or}
 use Rattle.std.specs.Str.Parse.{ParsesUnsigned}
 use Rattle.std.specs.declared.net.socket_addr.SocketAddrV4.{SocketAddrV4}

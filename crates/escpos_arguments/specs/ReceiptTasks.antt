@@ -1,5 +1,5 @@
 -- The options of a receipt, by whether a width and a replacement were given. Only private clauses and proofs use this definition.
-use Rattle.std.specs.Prelude.{ℕ, Option, Some, None, unwrap_or}
+use Rattle.std.specs.Prelude.{ℕ, Option, Some, None}
 use Rattle.escpos_command.specs.declared.line_width.TheConstants.{USUAL_LINE_DOTS}
 use Rattle.escpos_receipt.specs.declared.options.ReceiptOptions.{ReceiptOptions}
 

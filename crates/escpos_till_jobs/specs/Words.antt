@@ -1,5 +1,5 @@
 -- What `queue` and `ledger` do, and what they print of it.
-use Rattle.std.specs.Prelude.{ℕ, ◌≡◌, ◌⊎◌, Option, Some, None, List, length}
+use Rattle.std.specs.Prelude.{ℕ, ◌≡◌, ◌⊎◌, Option, Some, None, length}
 use Rattle.escpos_jobs.specs.declared.status.Status.TheVariants.{Good}
 use Rattle.escpos_jobs.specs.Ending.{JobEnd, Tells}
 use Rattle.escpos_till.specs.declared.entry.Content.{Content}

@@ -1,5 +1,5 @@
 -- A width that the values say is taken, and so is none.
-use Rattle.std.proofs.Common.{None, codes}
+use Rattle.std.proofs.Common.{None}
 use Rattle.clap.specs.Words.{found_of, rows_of}
 use Rattle.escpos_arguments.proofs.TaskValues.{options_said}
 use Rattle.escpos_arguments.proofs.WidthValues.{no_width, width_refused}
