@@ -1,7 +1,8 @@
 -- What the caller is answered, from what the job says of its text.
-use Rattle.std.proofs.Common.{◌≡◌, ℕ, ◌≤◌, ℤ, pos, nat_abs, Bool, List, [], length, Some, refl, sym, ◌∙◌, ap, subst, inl, inr, w32, to_z, of_z}
+use Rattle.std.proofs.Common.{◌≡◌, ℕ, ◌≤◌, ℤ, pos, nat_abs, Bool, List, [], length, Some, refl, sym, ◌∙◌, ap, subst, inl, inr, w32, to_z, of_z, FitsSigned}
 use Rattle.std.specs.Prelude.{Option, IfSome}
 use Rattle.std.proofs.lemmas.Bool.{cases_lt}
+use Rattle.std.proofs.lemmas.Int.{to_z-of_z}
 use Rattle.escpos_jobs.specs.declared.input.TheConstants.{INPUT_LIMIT}
 use Rattle.escpos_jobs.specs.declared.status.Status.{Status}
 use Rattle.escpos_jobs.specs.declared.status.Status.TheVariants as job
@@ -25,7 +26,7 @@ number_kept status z e = ap (λ x. to_z w32 (of_z w32 x)) e ∙ kept status
     kept call.Memory = refl
     kept call.Short = refl
 
-same_number : {m n : ℕ} → pos m ≡ pos n → m ≡ n
+pub same_number : {m n : ℕ} → pos m ≡ pos n → m ≡ n
 same_number e = ap nat_abs e
 
 module _ (is_text is_short : List ℕ → List ℕ → Type 0) (bytes text : List ℕ) (failed : Bool) where
@@ -119,9 +120,10 @@ module _ (is_text is_short : List ℕ → List ℕ → Type 0) (bytes text : Lis
         let into : Ran status = subst (λ o. RunsRawAs (ReportsAs is_text is_short) (job_end o (Some text) failed status) bytes) is_empty over in
         subst (λ n. AnswersText is_text bytes n before after written) (sym (number_kept answer z is_number)) (answers_text status answer into (subst (λ t. AnsweredWith status t answer before after written) is_shown given))
 
--- An answer for a width is the answer for what the width is.
+-- An answer for a width is the answer for what the width is, and its status comes to the caller as it is.
 pub at_width : (is_text : ℕ → List ℕ → List ℕ → Type 0) (width usual : ℕ) → width ≡ usual
-    → (bytes : List ℕ) (status : ℤ) (before after : List ℕ) (written : ℕ)
-    → AnswersText (is_text width) bytes status before after written → AnswersText (is_text usual) bytes status before after written
-at_width is_text width usual is bytes status before after written answers =
-    subst (λ w. AnswersText (is_text w) bytes status before after written) is answers
+    → (bytes : List ℕ) (status : ℤ) (before after : List ℕ) (written : ℕ) → FitsSigned w32 status
+    → AnswersText (is_text width) bytes status before after written → AnswersText (is_text usual) bytes (to_z w32 (of_z w32 status)) before after written
+at_width is_text width usual is bytes status before after written fits answers =
+    subst (λ w. AnswersText (is_text w) bytes (to_z w32 (of_z w32 status)) before after written) is
+    (subst (λ z. AnswersText (is_text width) bytes z before after written) (sym (to_z-of_z w32 status fits)) answers)

@@ -1,5 +1,6 @@
 pub mod Answering
 pub mod Heap
+pub mod ImageAnswering
 pub mod OnHandle
 pub mod Recast
 pub mod Slots

@@ -1,5 +1,5 @@
 -- What becomes of the caller's buffer.
-use Rattle.std.specs.Prelude.{ℕ, ◌≡◌, ◌⊎◌, ◌<◌, ◌≤◌, List, ◌++◌, length, drop}
+use Rattle.std.specs.Prelude.{ℕ, ℤ, pos, ◌≡◌, ◌⊎◌, ◌<◌, ◌≤◌, List, ◌++◌, length, drop}
 use Rattle.escpos_c.specs.declared.call_status.CallStatus.{CallStatus}
 use Rattle.escpos_c.specs.declared.call_status.CallStatus.TheVariants.{Short}
 
@@ -19,3 +19,7 @@ pub record TooShort (before after : List ℕ) (written : ℕ) (text : List ℕ) 
 abbrev pub Given : CallStatus → List ℕ → CallStatus → List ℕ → List ℕ → ℕ → Type 0
 Given wanted text status before after written =
     ((status ≡ wanted) × Fills before after written text) ⊎ ((status ≡ Short) × TooShort before after written text)
+
+-- The call is refused, and nothing is written: the status is 1, the length 0, and the buffer is as it was.
+abbrev pub GivesNone : ℤ → List ℕ → List ℕ → ℕ → Type 0
+GivesNone status before after written = (status ≡ pos 1) × (written ≡ 0) × (after ≡ before)

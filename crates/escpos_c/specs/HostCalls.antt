@@ -7,8 +7,9 @@ use Rattle.escpos_host.specs.declared.host.HostEvent.{HostEvent}
 use Rattle.escpos_host.specs.declared.host.HostEvent.TheVariants as event
 use Rattle.escpos_host.specs.Heard.{IsHeard}
 use Rattle.escpos_host.specs.Machine.{HostView, InFlight, Down, Open, HasMark, IsOpening, RefusesAsk, RefusesSubmit, asked, gone_down, linked, most_in_flight, nudged, submitted, taken_out}
+use Rattle.escpos_receipt.specs.declared.options.ReceiptOptions.{ReceiptOptions}
 use Rattle.escpos_c.specs.declared.host_core.HostCore.{HostCore}
-use Rattle.escpos_c.specs.declared.refusal.TheConstants.{NO_KIND, NO_REASON, NO_PLACE}
+use Rattle.escpos_c.specs.declared.refusal.TheConstants.{BAD_OPTIONS, NO_KIND, NO_REASON, NO_PLACE}
 use Rattle.escpos_c.specs.EncodeCalls.{GivesReceipt, IsRefusal}
 use Rattle.escpos_c.specs.HostNumbers.{event_kind, event_number, refusal_reason, refusal_status}
 use Rattle.escpos_c.specs.Status.{number_of_status}
@@ -53,13 +54,19 @@ abbrev pub Submits : List Command → HostView → HostView → Type 0
 Submits receipt h after =
     (flight : List InFlight) × (h.phase ≡ Open flight) × (length flight < most_in_flight) × HasMark h × (after ≡ submitted h flight receipt)
 
--- What is answered to a text that is to be submitted: the receipt that it describes is submitted, or the host refuses it; or
--- the text gives no receipt, and the host isn't asked; or memory ran out over the text.
-abbrev pub SubmitsText : List ℕ → ℤ → ℕ → ℕ → ℕ → HostCore → HostCore → Type 0
-SubmitsText json status reason fault at old new =
-    ((receipt : List Command) × GivesReceipt json receipt × Called (Submits receipt) RefusesSubmit status reason old new × (fault ≡ NO_REASON) × (at ≡ NO_PLACE))
-    ⊎ ((status ≡ pos 1) × (reason ≡ NO_REASON) × IsRefusal json fault at × (new ≡ old))
+-- What is answered to a text that is to be submitted: the receipt that it describes with these options is submitted, or the host
+-- refuses it; or the text gives no receipt, and the host isn't asked; or memory ran out over the text.
+abbrev pub SubmitsText : ReceiptOptions → List ℕ → ℤ → ℕ → ℕ → ℕ → HostCore → HostCore → Type 0
+SubmitsText options json status reason fault at old new =
+    ((receipt : List Command) × GivesReceipt options json receipt × Called (Submits receipt) RefusesSubmit status reason old new × (fault ≡ NO_REASON) × (at ≡ NO_PLACE))
+    ⊎ ((status ≡ pos 1) × (reason ≡ NO_REASON) × IsRefusal options json fault at × (new ≡ old))
     ⊎ ((status ≡ pos 4) × (reason ≡ NO_REASON) × (fault ≡ NO_REASON) × (at ≡ NO_PLACE) × (new ≡ old))
+
+-- The same, where the options may be out of range: then it is refused, whatever the text is, and the host isn't asked.
+abbrev pub SubmitsTextWith : Option ReceiptOptions → List ℕ → ℤ → ℕ → ℕ → ℕ → HostCore → HostCore → Type 0
+SubmitsTextWith None json status reason fault at old new =
+    (status ≡ pos 1) × (reason ≡ NO_REASON) × (fault ≡ BAD_OPTIONS) × (at ≡ NO_PLACE) × (new ≡ old)
+SubmitsTextWith (Some options) json status reason fault at old new = SubmitsText options json status reason fault at old new
 
 -- The first bytes are at the start of the buffer, as many as there are and fit.
 abbrev pub TakesOut : List ℕ → List ℕ → ℕ → HostCore → HostCore → Type 0

@@ -1,6 +1,8 @@
 pub mod Status
 pub mod Buffer
+pub mod Given
 pub mod TextCalls
+pub mod ImageCalls
 pub mod EncodeCalls
 pub mod Reasons
 pub mod Answered

@@ -1,7 +1,6 @@
 -- What the calls of a printer answer. Each does what the call of escpos_printer does that it stands for.
 use Rattle.std.specs.Prelude.{ℕ, ℤ, pos, ◌≡◌, ◌⊎◌, ◌<◌, ◌≤◌, List, [], ◌∷◌, length, Option, Some, None}
 use Rattle.escpos_command.specs.declared.answer.Answer.{Answer}
-use Rattle.escpos_command.specs.declared.line_width.TheConstants.{USUAL_LINE_DOTS}
 use Rattle.escpos_command.specs.Answers.{answer_bytes}
 use Rattle.escpos_paper.specs.ItemsText.{items_text}
 use Rattle.escpos_paper.specs.Page.{SheetIs}
@@ -18,17 +17,17 @@ use Rattle.escpos_c.specs.PrinterNumbers.{stop_kind, stop_place, stop_reason}
 abbrev pub condition_of : Sensors → Condition
 condition_of sensors = record { cover_open = sensors.cover_open; near_end = sensors.near_end; paper_end = sensors.paper_end }
 
--- The printer has just been switched on in this condition. Its lines have the usual width.
-pub record IsNewPrinter (printer : PrinterView) (condition : Condition) : Type 0 where
-  pub sheet : SheetIs USUAL_LINE_DOTS printer.sheet [] []
+-- The printer has just been switched on in this condition. Its lines have this width.
+pub record IsNewPrinter (width : ℕ) (printer : PrinterView) (condition : Condition) : Type 0 where
+  pub sheet : SheetIs width printer.sheet [] []
   pub half : printer.half ≡ []
   pub waiting : printer.waiting ≡ []
   pub condition_is : printer.condition ≡ condition
 
 -- The handle holds such a printer.
-abbrev pub HoldsNewPrinter : Option PrinterCore → Condition → Type 0
-HoldsNewPrinter None condition = ⊥
-HoldsNewPrinter (Some core) condition = IsNewPrinter core.printer condition
+abbrev pub HoldsNewPrinter : ℕ → Option PrinterCore → Condition → Type 0
+HoldsNewPrinter width None condition = ⊥
+HoldsNewPrinter width (Some core) condition = IsNewPrinter width core.printer condition
 
 -- Bytes were fed up to a stop, of which the caller is told the kind, and of a fault its reason and its place.
 abbrev pub FeedsBytes : List ℕ → ℕ → ℕ → ℕ → ℕ → PrinterCore → PrinterCore → Type 0

@@ -1,10 +1,11 @@
-//! The cores as a C library: encode a receipt, list a stream, print it as text or as a picture; a host and a printer in
-//! handles.
+//! The cores as a C library: encode a receipt, list a stream, print it as text or as a picture, make entries of a picture; a host
+//! and a printer in handles.
 //!
-//! The functions that C calls are those of `encode` and `stateless`, which keep nothing, of `host` and `submit`, which work on a
-//! host that a handle holds, and of `printer`. `call_status`, `refusal`, `host_core` and `printer_core` have the numbers in
-//! which C is told what came of a call, `no_receipt` why a text gives no receipt. `spelling` has the bytes of a receipt, and
-//! `buffer` moves them, or the text of a job, into the caller's buffer. `host_handle` and `printer_handle` are what C owns:
+//! The functions that C calls are those of `encode`, `stateless` and `image`, which keep nothing, of `host` and `submit`, which
+//! work on a host that a handle holds, and of `printer`. `options` has the numbers in which C says the width of a line and a
+//! receipt's options; `call_status`, `refusal`, `host_core` and `printer_core` have those in which C is told what came of a call,
+//! `no_receipt` why a text gives no receipt. `spelling` has the bytes of a receipt, and `buffer` moves them, or the text of a job,
+//! into the caller's buffer. `host_handle` and `printer_handle` are what C owns:
 //! nothing, or a box, whose pointer `slot` takes apart and puts together.
 //! `bindings/escpos.h` declares what C sees. No function here reads, writes or waits, or keeps a pointer that it was given.
 #![tactic(auto)]
@@ -15,7 +16,9 @@ mod encode;
 mod host;
 mod host_core;
 mod host_handle;
+mod image;
 mod no_receipt;
+mod options;
 mod printer;
 mod printer_core;
 mod printer_handle;

@@ -2,7 +2,8 @@
 
 ghost use Rattle.std.specs.Prelude.{◌≡◌, ◌≤◌, ℕ, List, length};
 ghost use Rattle.escpos_receipt.specs.declared.json.JsonFault.{JsonFault};
-ghost use Rattle.escpos_receipt.specs.Describes.{IsJsonFault};
+ghost use Rattle.escpos_receipt.specs.declared.options.ReceiptOptions.{ReceiptOptions};
+ghost use Rattle.escpos_receipt.specs.Describes.{IsFaultWith};
 ghost use Rattle.escpos_jobs.specs.declared.input.TheConstants.{INPUT_LIMIT};
 ghost use Rattle.escpos_c.specs.Reasons.{IsReason};
 
@@ -20,8 +21,8 @@ pub enum NoReceipt {
 
 /// Why a text gives no receipt, from what its reading says. The text is no longer than 16,777,216 bytes.
 pub fn no_receipt(error: JsonError) -> NoReceipt
-    ensures { (json : List ℕ) → length json ≤ INPUT_LIMIT → ((fault : JsonFault) → error ≡ JsonError.Refused fault → IsJsonFault fault json)
-        → IsReason result json }
+    ensures { (options : ReceiptOptions) (json : List ℕ) → length json ≤ INPUT_LIMIT
+        → ((fault : JsonFault) → error ≡ JsonError.Refused fault → IsFaultWith options fault json) → IsReason options result json }
 {
     match error {
         JsonError::Refused(fault) => NoReceipt::Refused(Refusal::from(fault)),

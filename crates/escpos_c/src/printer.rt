@@ -2,13 +2,17 @@
 
 ghost use Rattle.std.specs.Prelude.{◌≡◌, ◌⊎◌, pos, None, MatchOption};
 ghost use Rattle.escpos_c.specs.declared.refusal.TheConstants.{NO_REASON, NO_PLACE};
+ghost use Rattle.escpos_command.specs.declared.line_width.TheConstants.{USUAL_LINE_DOTS};
+ghost use Rattle.escpos_c.specs.Given.{line_dots};
 ghost use Rattle.escpos_c.specs.Handles.{OnHandle};
 ghost use Rattle.escpos_c.specs.PrinterCalls.{FeedsBytes, GivesPaper, HoldsNewPrinter, TakesAnswer, condition_of, torn, with_condition};
 
 use crate::call_status::CallStatus;
+use crate::options::line_width;
 use crate::printer_core::PrinterCore;
 use crate::printer_handle::PrinterHandle;
 use crate::refusal::{NO_PLACE, NO_REASON};
+use escpos_command::LineWidth;
 use escpos_printer::Condition;
 use std::alloc::Global;
 
@@ -44,15 +48,46 @@ pub extern "C" fn escpos_printer_new(
     printer: &mut PrinterHandle,
     sensors: &Sensors,
 ) -> i32
-    ensures { ((result ≡ pos 0) × HoldsNewPrinter printer.new.value (condition_of sensors.now))
+    ensures { ((result ≡ pos 0) × HoldsNewPrinter USUAL_LINE_DOTS printer.new.value (condition_of sensors.now))
         ⊎ ((result ≡ pos 4) × (printer.new.value ≡ printer.old.value)) }
 {
-    match PrinterCore::boxed(alloc, sensors.condition()) {
+    switch_on(alloc, printer, sensors, LineWidth::usual()).number()
+}
+
+/// The same, of a printer whose lines have this many dots; 0 stands for 512. For more than 1,024 the handle stays as it was.
+#[unsafe(no_mangle)]
+pub extern "C" fn escpos_printer_new_at(
+    alloc: Global,
+    printer: &mut PrinterHandle,
+    sensors: &Sensors,
+    width: u16,
+) -> i32
+    ensures { MatchOption (line_dots width) ((result ≡ pos 1) × (printer.new.value ≡ printer.old.value))
+        (λ dots. ((result ≡ pos 0) × HoldsNewPrinter dots printer.new.value (condition_of sensors.now))
+        ⊎ ((result ≡ pos 4) × (printer.new.value ≡ printer.old.value))) }
+{
+    match line_width(width) {
+        Some(line) => switch_on(alloc, printer, sensors, line).number(),
+        None => CallStatus::Refused.number(),
+    }
+}
+
+// Puts a printer into the handle whose lines have this width, and frees what the handle held.
+fn switch_on(
+    alloc: Global,
+    printer: &mut PrinterHandle,
+    sensors: &Sensors,
+    width: LineWidth,
+) -> CallStatus
+    ensures { ((result ≡ CallStatus.Good) × HoldsNewPrinter width printer.new.value (condition_of sensors.now))
+        ⊎ ((result ≡ CallStatus.Memory) × (printer.new.value ≡ printer.old.value)) }
+{
+    match PrinterCore::boxed(alloc, sensors.condition(), width) {
         Some(core) => {
             printer.put(alloc, core);
-            CallStatus::Good.number()
+            CallStatus::Good
         }
-        None => CallStatus::Memory.number(),
+        None => CallStatus::Memory,
     }
 }
 

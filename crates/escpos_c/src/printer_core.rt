@@ -35,11 +35,11 @@ pub struct FedNumbers {
 }
 
 impl PrinterCore {
-    /// A printer on the heap, with nothing on its paper; `None` if an allocation failed.
-    pub fn boxed(alloc: Global, condition: Condition) -> Option<Box<PrinterCore>>
-        ensures { IfSome result (λ core. IsNewPrinter core.value.printer condition) }
+    /// A printer on the heap whose lines have this width, with nothing on its paper; `None` if an allocation failed.
+    pub fn boxed(alloc: Global, condition: Condition, width: LineWidth) -> Option<Box<PrinterCore>>
+        ensures { IfSome result (λ core. IsNewPrinter width core.value.printer condition) }
     {
-        let printer = match Printer::new(alloc, condition, LineWidth::usual()) {
+        let printer = match Printer::new(alloc, condition, width) {
             Ok(printer) => printer,
             Err(_) => return None,
         };

@@ -12,6 +12,9 @@ pub const NO_REASON: u32 = 0;
 /// The reason of a text that is longer than 16,777,216 bytes. Those of other texts are 1 to 8.
 pub const TOO_LONG: u32 = 9;
 
+/// The reason where the options of a receipt are out of range.
+pub const BAD_OPTIONS: u32 = 10;
+
 /// The reason of a status request of a kind that isn't 1 to 4. Those of a host are less.
 pub const NO_KIND: u32 = 9;
 
@@ -21,6 +24,8 @@ pub const NO_PLACE: usize = usize::MAX;
 const _: () = prove!(NO_REASON == 0);
 
 const _: () = prove!(TOO_LONG == 9);
+
+const _: () = prove!(BAD_OPTIONS == 10);
 
 const _: () = prove!(NO_KIND == 9);
 
@@ -52,6 +57,25 @@ impl Refusal {
             reason: TOO_LONG,
             at: NO_PLACE,
         }
+    }
+
+    /// That of options that are out of range.
+    pub fn bad_options() -> Self
+        ensures { result ≡ record { reason = BAD_OPTIONS; at = NO_PLACE } }
+    {
+        Refusal {
+            reason: BAD_OPTIONS,
+            at: NO_PLACE,
+        }
+    }
+
+    /// Tells the caller the reason and the place.
+    pub fn tell(self, reason: &mut u32, at: &mut usize)
+        ensures reason { reason.new ≡ self.reason }
+        ensures at { at.new ≡ self.at }
+    {
+        *reason = self.reason;
+        *at = self.at;
     }
 }
 

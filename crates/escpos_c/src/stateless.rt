@@ -1,21 +1,24 @@
 //! Calls that keep nothing: a stream as a listing, as its paper in two texts, as a picture.
+//!
+//! Those of the paper come twice: in lines of 512 dots, and in lines of as many as the caller says.
 
+ghost use Rattle.std.specs.Prelude.{MatchOption};
 ghost use Rattle.escpos_command.specs.declared.line_width.TheConstants.{USUAL_LINE_DOTS};
 ghost use Rattle.escpos_jobs.specs.Report.{IsText};
 ghost use Rattle.escpos_jobs.specs.Check.{listing_shape};
 ghost use Rattle.escpos_jobs.specs.Render.{paper_shape, plain_shape};
 ghost use Rattle.escpos_jobs.specs.Draw.{IsPicture};
-ghost use Rattle.escpos_c.specs.Answered.{AnsweredWith};
+ghost use Rattle.escpos_c.specs.Buffer.{GivesNone};
+ghost use Rattle.escpos_c.specs.Given.{line_dots};
 ghost use Rattle.escpos_c.specs.TextCalls.{AnswersText};
 
-use crate::buffer::give;
-use crate::call_status::CallStatus;
+use crate::buffer::{answer, give_none};
+use crate::options::line_width;
 use escpos_command::LineWidth;
 use escpos_io::{MemoryIn, Outgoing};
 use escpos_jobs::check::check_raw;
 use escpos_jobs::draw::draw_raw;
 use escpos_jobs::render::{render_raw, render_text_raw};
-use escpos_jobs::status::Status;
 use std::alloc::Global;
 
 /// Lists the commands of a stream, as `check --raw` does.
@@ -44,10 +47,25 @@ pub extern "C" fn escpos_paper(
 ) -> i32
     ensures { AnswersText (IsText (paper_shape USUAL_LINE_DOTS)) bytes.now result out.old out.new written.new }
 {
-    let mut input = MemoryIn::new(bytes, usize::MAX);
-    let mut text = Outgoing::new(Vec::new(alloc));
-    let status = render_raw(alloc, LineWidth::usual(), &mut input, &mut text);
-    answer(status, &text.into_inner(), out, written).number()
+    paper(alloc, LineWidth::usual(), bytes, out, written)
+}
+
+/// The same in lines of this many dots, as `render --raw --width D` does; 0 stands for 512.
+#[unsafe(no_mangle)]
+pub extern "C" fn escpos_paper_at(
+    alloc: Global,
+    width: u16,
+    bytes: &[u8],
+    out: &mut [u8],
+    written: &mut usize,
+) -> i32
+    ensures { MatchOption (line_dots width) (GivesNone result out.old out.new written.new)
+        (λ dots. AnswersText (IsText (paper_shape dots)) bytes.now result out.old out.new written.new) }
+{
+    match line_width(width) {
+        Some(line) => paper(alloc, line, bytes, out, written),
+        None => give_none(written),
+    }
 }
 
 /// Prints what a stream prints as plain text, as `render --raw --text` does.
@@ -60,10 +78,25 @@ pub extern "C" fn escpos_paper_text(
 ) -> i32
     ensures { AnswersText (IsText (plain_shape USUAL_LINE_DOTS)) bytes.now result out.old out.new written.new }
 {
-    let mut input = MemoryIn::new(bytes, usize::MAX);
-    let mut text = Outgoing::new(Vec::new(alloc));
-    let status = render_text_raw(alloc, LineWidth::usual(), &mut input, &mut text);
-    answer(status, &text.into_inner(), out, written).number()
+    paper_text(alloc, LineWidth::usual(), bytes, out, written)
+}
+
+/// The same in lines of this many dots, as `render --raw --text --width D` does; 0 stands for 512.
+#[unsafe(no_mangle)]
+pub extern "C" fn escpos_paper_text_at(
+    alloc: Global,
+    width: u16,
+    bytes: &[u8],
+    out: &mut [u8],
+    written: &mut usize,
+) -> i32
+    ensures { MatchOption (line_dots width) (GivesNone result out.old out.new written.new)
+        (λ dots. AnswersText (IsText (plain_shape dots)) bytes.now result out.old out.new written.new) }
+{
+    match line_width(width) {
+        Some(line) => paper_text(alloc, line, bytes, out, written),
+        None => give_none(written),
+    }
 }
 
 /// Prints what a stream prints as a picture, as `draw --raw` does.
@@ -76,22 +109,65 @@ pub extern "C" fn escpos_picture(
 ) -> i32
     ensures { AnswersText (IsPicture USUAL_LINE_DOTS) bytes.now result out.old out.new written.new }
 {
+    picture(alloc, LineWidth::usual(), bytes, out, written)
+}
+
+/// The same in lines of this many dots, as `draw --raw --width D` does; 0 stands for 512.
+#[unsafe(no_mangle)]
+pub extern "C" fn escpos_picture_at(
+    alloc: Global,
+    width: u16,
+    bytes: &[u8],
+    out: &mut [u8],
+    written: &mut usize,
+) -> i32
+    ensures { MatchOption (line_dots width) (GivesNone result out.old out.new written.new)
+        (λ dots. AnswersText (IsPicture dots) bytes.now result out.old out.new written.new) }
+{
+    match line_width(width) {
+        Some(line) => picture(alloc, line, bytes, out, written),
+        None => give_none(written),
+    }
+}
+
+// Prints what a stream prints as text, in lines of this width.
+fn paper(alloc: Global, width: LineWidth, bytes: &[u8], out: &mut [u8], written: &mut usize) -> i32
+    ensures { AnswersText (IsText (paper_shape width)) bytes.now result out.old out.new written.new }
+{
     let mut input = MemoryIn::new(bytes, usize::MAX);
     let mut text = Outgoing::new(Vec::new(alloc));
-    let status = draw_raw(alloc, LineWidth::usual(), &mut input, &mut text);
+    let status = render_raw(alloc, width, &mut input, &mut text);
     answer(status, &text.into_inner(), out, written).number()
 }
 
-// Moves the text of a job that ended with this status into the caller's buffer.
-fn answer(status: Status, text: &[u8], out: &mut [u8], written: &mut usize) -> CallStatus
-    ensures { AnsweredWith status text.now result out.old out.new written.new }
+// Prints what a stream prints as plain text, in lines of this width.
+fn paper_text(
+    alloc: Global,
+    width: LineWidth,
+    bytes: &[u8],
+    out: &mut [u8],
+    written: &mut usize,
+) -> i32
+    ensures { AnswersText (IsText (plain_shape width)) bytes.now result out.old out.new written.new }
 {
-    match status {
-        Status::Good => give(CallStatus::Good, text, out, written),
-        Status::Refused => give(CallStatus::Refused, text, out, written),
-        Status::Usage | Status::Device | Status::Memory => {
-            *written = 0;
-            CallStatus::Memory
-        }
-    }
+    let mut input = MemoryIn::new(bytes, usize::MAX);
+    let mut text = Outgoing::new(Vec::new(alloc));
+    let status = render_text_raw(alloc, width, &mut input, &mut text);
+    answer(status, &text.into_inner(), out, written).number()
+}
+
+// Prints what a stream prints as a picture, in lines of this width.
+fn picture(
+    alloc: Global,
+    width: LineWidth,
+    bytes: &[u8],
+    out: &mut [u8],
+    written: &mut usize,
+) -> i32
+    ensures { AnswersText (IsPicture width) bytes.now result out.old out.new written.new }
+{
+    let mut input = MemoryIn::new(bytes, usize::MAX);
+    let mut text = Outgoing::new(Vec::new(alloc));
+    let status = draw_raw(alloc, width, &mut input, &mut text);
+    answer(status, &text.into_inner(), out, written).number()
 }

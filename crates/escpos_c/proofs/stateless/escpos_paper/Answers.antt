@@ -1,14 +1,9 @@
--- The job's text is the paper's text, and the caller is given it.
-use Rattle.std.proofs.Common.{◌∙◌, ap, Some}
+-- The usual width is 512 dots.
 use Rattle.escpos_command.specs.declared.line_width.TheConstants.{USUAL_LINE_DOTS}
 use Rattle.escpos_jobs.specs.Render.{paper_shape}
-use Rattle.escpos_jobs.specs.Report.{IsText, IsCutShort}
-use Rattle.escpos_c.proofs.Answering.{at_width, told_text}
+use Rattle.escpos_jobs.specs.Report.{IsText}
+use Rattle.escpos_c.proofs.Answering.{at_width}
 use Rattle.escpos_c.proofs.stateless.escpos_paper.Goals as goal
 
 pub returns : goal.returns
-returns c =
-    at_width (λ width. IsText (paper_shape width)) c.usual.result USUAL_LINE_DOTS c.usual.ensures _ _ _ _ _
-    (told_text (IsText (paper_shape c.usual.result)) (IsCutShort (paper_shape c.usual.result)) c.args.bytes.now _ _ _ _ _ _ _ _ c.new-input.ensures.to_come (c.new-text.ensures.written ∙ ap Some c.new.ensures.items)
-    (c.deref.ensures.value ∙ ap (λ v. v.items) c.into_inner.ensures) c.render_raw-status.result c.answer.result
-    c.number.result c.render_raw-status.ensures.renders c.answer.ensures c.number.ensures)
+returns c = at_width (λ width. IsText (paper_shape width)) c.usual.result USUAL_LINE_DOTS c.usual.ensures _ c.paper.result _ _ _ (record { sfits = c.paper.type_inv }) c.paper.ensures
