@@ -46,12 +46,27 @@ enum {
     ESCPOS_BAD_SHAPE = 6,         /* not an array, or an entry that isn't one of a receipt's */
     ESCPOS_CONTROL_BYTE = 7,      /* a character below 20 (hexadecimal) in a text */
     ESCPOS_NO_CHARACTER = 8,      /* a character that no code table of the choice has */
-    ESCPOS_TOO_LONG = 9           /* more than 16,777,216 bytes */
+    ESCPOS_TOO_LONG = 9,          /* more than 16,777,216 bytes */
+    ESCPOS_BAD_OPTIONS = 10       /* not the text: the options are out of range */
 };
+
+/* A width is the dots of a line on the printer's paper, 1 to 1,024; 0 stands for 512. Printers of paper 80 mm wide mostly have 576 or
+ * 512 dots, those of paper 58 mm wide 384. */
+
+/* How a receipt's text is read. All zero ({0}) is what holds where nothing is said. */
+typedef struct {
+    uint16_t width;      /* layouts are as wide as a line of so many dots, 1 to 1,024; 0 stands for 512 */
+    uint8_t replacement; /* the character, 0x20 to 0x7E, for one that no code table of the choice has; 0 stands for none: such a text is
+                          * refused */
+} escpos_options;
 
 /* The bytes of the receipt that a text in JSON describes. At 1 `reason` and `at` say why it describes none; otherwise they are 0
  * and ESCPOS_NO_PLACE. */
 int escpos_encode(const uint8_t *json, size_t json_len, uint8_t *out, size_t capacity, size_t *written, uint32_t *reason, size_t *at);
+
+/* The same with these options, as `escpos_cli encode --raw --width D --replace C` does. Where they are out of range it answers 1, with
+ * the reason ESCPOS_BAD_OPTIONS and no place. */
+int escpos_encode_with(const escpos_options *options, const uint8_t *json, size_t json_len, uint8_t *out, size_t capacity, size_t *written, uint32_t *reason, size_t *at);
 
 /* The commands of a stream, a line for each, as `escpos_cli check --raw` lists them. At 0 all is read. At 1 the listing is in the
  * buffer, too, and its last line says where the stream stops and why; a stream of more than 16,777,216 bytes is refused with the
@@ -68,6 +83,17 @@ int escpos_paper_text(const uint8_t *bytes, size_t len, uint8_t *out, size_t cap
 /* The paper that a stream prints, as a picture in SVG, as `escpos_cli draw --raw` prints it. 1 is as for escpos_listing, with that last
  * line under the paper. */
 int escpos_picture(const uint8_t *bytes, size_t len, uint8_t *out, size_t capacity, size_t *written);
+
+/* The same in lines of this width in dots, as with `--width D`. Where it is out of range they answer 1, and `written` is 0. */
+int escpos_paper_at(uint16_t width, const uint8_t *bytes, size_t len, uint8_t *out, size_t capacity, size_t *written);
+int escpos_paper_text_at(uint16_t width, const uint8_t *bytes, size_t len, uint8_t *out, size_t capacity, size_t *written);
+int escpos_picture_at(uint16_t width, const uint8_t *bytes, size_t len, uint8_t *out, size_t capacity, size_t *written);
+
+/* The entries of a receipt's text that print a picture, the bytes of a file of PBM, PGM or PPM, as `escpos_cli image --width D --threshold T`
+ * prints them, with a comma between two: `[` before them and `]` after them make a text. The picture is scaled down to the width in dots if
+ * it is wider, and black where its gray value, 0 to 255, is below the threshold, 1 to 255; with threshold 0, by error diffusion. At 1 the
+ * buffer has the one line that says why the bytes are no picture; where the width is out of range `written` is 0. */
+int escpos_image(uint16_t width, uint8_t threshold, const uint8_t *bytes, size_t len, uint8_t *out, size_t capacity, size_t *written);
 
 /* A host: the till's end of a line. It says what to send, and when a receipt is printed. A till opens a link, calls
  * escpos_host_link_up, and then goes on like this: it sends what escpos_host_take_out gives, and hands what it receives to
@@ -132,6 +158,9 @@ int escpos_host_nudge(escpos_host *host, uint32_t *reason);
  * host takes none now: `reason` says why, and `fault` is 0. */
 int escpos_host_submit(escpos_host *host, const uint8_t *json, size_t json_len, uint32_t *reason, uint32_t *fault, size_t *at);
 
+/* The same with these options. Where they are out of range it answers 1, with ESCPOS_BAD_OPTIONS for `fault` and 0 for `reason`. */
+int escpos_host_submit_with(escpos_host *host, const escpos_options *options, const uint8_t *json, size_t json_len, uint32_t *reason, uint32_t *fault, size_t *at);
+
 /* Puts a status request of a kind from 1 to 4 out; possible while the link is open and no receipt is in flight. */
 int escpos_host_ask(escpos_host *host, uint8_t kind, uint32_t *reason);
 
@@ -184,6 +213,9 @@ enum {
 
 /* Puts a printer into the handle, switched on with nothing on its paper, and frees what the handle held. */
 int escpos_printer_new(escpos_printer *printer, const escpos_sensors *sensors);
+
+/* The same, of a printer whose lines have this width in dots. Where it is out of range it answers 1, and the handle holds what it held. */
+int escpos_printer_new_at(escpos_printer *printer, const escpos_sensors *sensors, uint16_t width);
 
 /* Frees the printer; the handle holds nothing then. */
 void escpos_printer_free(escpos_printer *printer);

@@ -1,8 +1,12 @@
 """The cores of a receipt line for tills in Python, by ctypes over libescpos.so.
 
-`encode` makes the bytes of a receipt; `listing`, `paper` and `picture` show what a stream says and prints. `Host` is the till's end of
-a line: it says what to send, and when a receipt is printed. `Printer` is the other end, for emulators. Nothing here does I/O: the
-caller has the socket. The functions may be called from any thread; a `Host` or a `Printer` is for the thread that made it.
+`encode` makes the bytes of a receipt, `image` its entries for a logo; `listing`, `paper` and `picture` show what a stream says and
+prints. `Host` is the till's end of a line: it says what to send, and when a receipt is printed. `Printer` is the other end, for
+emulators. Nothing here does I/O but `image`, which reads its file: the caller has the socket. The functions may be called from any
+thread; a `Host` or a `Printer` is for the thread that made it.
+
+A `width` is the dots of a line on the printer's paper, 1 to 1024. Printers of paper 80 mm wide mostly have 576 or 512, those of paper
+58 mm wide 384. A number that is out of its range is a ValueError that says which it may be.
 
 The library is the file that the environment variable ESCPOS_LIBRARY names, if it is set, otherwise libescpos.so beside this file or in
 its folder `out`; bindings/build makes it.
@@ -13,10 +17,10 @@ b'Hi\\n\\x1dV\\x00'
 row left Hi
 feed 1
 """
-import collections, ctypes, json, os, threading
+import collections, ctypes, io, json, os, threading
 
 __all__ = [
-    "encode", "listing", "paper", "picture", "Host", "Printer", "Refused", "NotNow", "Text", "Paper", "Event", "Fed",
+    "encode", "image", "listing", "paper", "picture", "Host", "Printer", "Refused", "NotNow", "Text", "Paper", "Event", "Fed",
     "RECEIPT_REASONS", "HOST_REASONS", "FAULT_REASONS", "EVENTS", "STATES", "STOPS",
 ]
 
@@ -27,6 +31,7 @@ _LONGEST = 16777216
 #: Why a text gives no receipt, by number.
 RECEIPT_REASONS = {
     1: "Empty", 2: "Forbidden", 3: "TextLeft", 4: "MidLine", 5: "NotJson", 6: "BadShape", 7: "ControlByte", 8: "NoCharacter", 9: "TooLong",
+    10: "BadOptions",
 }
 #: Why a host takes no call, by number.
 HOST_REASONS = {1: "NotReady", 2: "MarksUsedUp", 3: "AlreadyUp", 6: "InFlightFull", 9: "NoKind"}
@@ -47,7 +52,7 @@ class Paper(Text):
     @property
     def plain(self):
         """The same as plain text: rows without styles, in the characters that they show, and U+FFFD for each that isn't known."""
-        return _text(_library.escpos_paper_text, self._stream, 4).text
+        return _text(_library.escpos_paper_text_at, self._stream, 4, self._width).text
 
 
 Event = collections.namedtuple("Event", "kind number")
@@ -57,7 +62,7 @@ Fed.__doc__ = "How far a printer took bytes: one of STOPS, and of a fault its re
 
 
 class Refused(ValueError):
-    """A text gives no receipt: `reason` is its name, `at` the place of the entry or command, from 0, or None."""
+    """A text gives no receipt, or a file no picture: `reason` is its name, `at` the place of the entry, command or byte, from 0, or None."""
 
     def __init__(self, reason, at):
         super().__init__(reason, at)
@@ -83,6 +88,10 @@ class _Sensors(ctypes.Structure):
     _fields_ = [("cover_open", ctypes.c_bool), ("near_end", ctypes.c_bool), ("paper_end", ctypes.c_bool)]
 
 
+class _Options(ctypes.Structure):
+    _fields_ = [("width", ctypes.c_uint16), ("replacement", ctypes.c_uint8)]
+
+
 def _path():
     here = os.path.dirname(os.path.abspath(__file__))
     named = os.environ.get("ESCPOS_LIBRARY")
@@ -93,22 +102,28 @@ def _path():
     raise ImportError(f"there is no {' or '.join(places)}: run bindings/build, or name libescpos.so in ESCPOS_LIBRARY")
 
 
-_HANDLE, _SENSORS = ctypes.POINTER(_Handle), ctypes.POINTER(_Sensors)
+_HANDLE, _SENSORS, _OPTIONS = ctypes.POINTER(_Handle), ctypes.POINTER(_Sensors), ctypes.POINTER(_Options)
 _BYTES, _BUFFER = [ctypes.c_char_p, ctypes.c_size_t], [ctypes.c_void_p, ctypes.c_size_t]
 _SIZE, _U32, _BOOL = ctypes.POINTER(ctypes.c_size_t), ctypes.POINTER(ctypes.c_uint32), ctypes.POINTER(ctypes.c_bool)
 _TEXT = [*_BYTES, *_BUFFER, _SIZE]
 _CALLS = {
     "escpos_encode": [*_BYTES, *_BUFFER, _SIZE, _U32, _SIZE],
+    "escpos_encode_with": [_OPTIONS, *_BYTES, *_BUFFER, _SIZE, _U32, _SIZE],
     "escpos_listing": _TEXT,
     "escpos_paper": _TEXT,
     "escpos_paper_text": _TEXT,
     "escpos_picture": _TEXT,
+    "escpos_paper_at": [ctypes.c_uint16, *_TEXT],
+    "escpos_paper_text_at": [ctypes.c_uint16, *_TEXT],
+    "escpos_picture_at": [ctypes.c_uint16, *_TEXT],
+    "escpos_image": [ctypes.c_uint16, ctypes.c_uint8, *_TEXT],
     "escpos_host_new": [_HANDLE, ctypes.c_uint32],
     "escpos_host_resume": [_HANDLE, ctypes.c_uint32, ctypes.c_size_t],
     "escpos_host_free": [_HANDLE],
     "escpos_host_link_up": [_HANDLE, _U32],
     "escpos_host_nudge": [_HANDLE, _U32],
     "escpos_host_submit": [_HANDLE, *_BYTES, _U32, _U32, _SIZE],
+    "escpos_host_submit_with": [_HANDLE, _OPTIONS, *_BYTES, _U32, _U32, _SIZE],
     "escpos_host_ask": [_HANDLE, ctypes.c_uint8, _U32],
     "escpos_host_link_down": [_HANDLE],
     "escpos_host_take_out": [_HANDLE, *_BUFFER, _SIZE],
@@ -118,6 +133,7 @@ _CALLS = {
     "escpos_host_next_mark": [_HANDLE, _U32],
     "escpos_host_records": [_HANDLE, _SIZE],
     "escpos_printer_new": [_HANDLE, _SENSORS],
+    "escpos_printer_new_at": [_HANDLE, _SENSORS, ctypes.c_uint16],
     "escpos_printer_free": [_HANDLE],
     "escpos_printer_feed": [_HANDLE, *_BYTES, _SIZE, _U32, _U32, _SIZE],
     "escpos_printer_take_answer": [_HANDLE, *_BUFFER, _SIZE],
@@ -155,10 +171,23 @@ def _bytes(given):
     return given if isinstance(given, bytes) else memoryview(given).tobytes()
 
 
-def _in_range(number, most, what):
-    if not 0 <= number <= most:
-        raise ValueError(f"{what} is {number}: it must be 0 to {most}")
+def _in_range(number, most, what, least=0):
+    if not least <= number <= most:
+        raise ValueError(f"{what} is {number}: it must be {least} to {most}")
     return number
+
+
+def _dots(width):
+    return _in_range(width, 1024, "width", 1)
+
+
+def _options(width, replacement):
+    """Returns the options of a receipt's text."""
+    if replacement is None:
+        return _Options(_dots(width), 0)
+    if not (isinstance(replacement, str) and len(replacement) == 1 and " " <= replacement <= "~"):
+        raise ValueError(f"replacement is {replacement!r}: it must be one character of ASCII, ' ' to '~'")
+    return _Options(_dots(width), ord(replacement))
 
 
 def _place(at):
@@ -183,8 +212,10 @@ def _json(receipt):
     return (receipt if isinstance(receipt, str) else json.dumps(receipt)).encode("utf-8", "surrogatepass")
 
 
-def encode(receipt):
-    """Returns the bytes of a receipt's commands. The receipt is JSON, as text or bytes, or the list that such a text stands for.
+def encode(receipt, width=512, replacement=None):
+    """Returns the bytes of a receipt's commands. The receipt is JSON, as text or bytes, or the list that such a text stands for. Layouts
+    (`pair`, `row`, `rule`, `wrap`) are as wide as a line of `width` dots, and `replacement` is printed in place of a character that no
+    code table has; without one a text with such a character is refused.
 
     >>> encode('[{"text": "Hi"}]')
     Traceback (most recent call last):
@@ -193,19 +224,28 @@ def encode(receipt):
     >>> try: encode([{"line": "A"}, {"fed": 1}])
     ... except Refused as why: print(why.reason, why.at)
     BadShape 1
+    >>> encode([{"pair": ["Tea", "2.10"]}], width=144)
+    b'Tea     2.10\\n'
+    >>> encode([{"line": "漢"}], replacement="?")
+    b'?\\n'
+    >>> encode([{"rule": "-"}], width=1025)
+    Traceback (most recent call last):
+    ...
+    ValueError: width is 1025: it must be 1 to 1024
     """
-    text, reason, at = _json(receipt), ctypes.c_uint32(), ctypes.c_size_t()
-    status, written = _filled(lambda *out: _library.escpos_encode(text, len(text), *out), 4096, ctypes.byref(reason), ctypes.byref(at))
+    options, text, reason, at = _options(width, replacement), _json(receipt), ctypes.c_uint32(), ctypes.c_size_t()
+    told = [ctypes.byref(reason), ctypes.byref(at)]
+    status, written = _filled(lambda *out: _library.escpos_encode_with(ctypes.byref(options), text, len(text), *out), 4096, *told)
     if status == _REFUSED:
         raise Refused(RECEIPT_REASONS[reason.value], _place(at.value))
     return written
 
 
-def _text(call, stream, factor):
+def _text(call, stream, factor, *width):
     """Gives the text of a stream; it is asked for once if it has at most `factor` bytes for each of the stream."""
     stream = _bytes(stream)
     guess = 4096 if len(stream) > _LONGEST else factor * len(stream) + 4096
-    status, written = _filled(lambda *out: call(stream, len(stream), *out), guess)
+    status, written = _filled(lambda *out: call(*width, stream, len(stream), *out), guess)
     return Text(written.decode(), status == _GOOD)
 
 
@@ -222,29 +262,82 @@ def listing(stream):
     return _text(_library.escpos_listing, stream, 20)
 
 
-def paper(stream):
-    """Prints a stream on paper, as text. Its `plain` is the same without styles, rows in the characters that they show.
+def paper(stream, width=512):
+    """Prints a stream on paper, in lines of `width` dots, as text. Its `plain` is the same without styles, rows in the characters that
+    they show.
 
     >>> paper(b"A\\n\\x1dV\\x00")
     Paper(text='row left A\\nfeed 1\\ncut full\\n', whole=True)
     >>> paper(encode([{"line": "Café 4,20 €"}])).plain
     'row left Café 4,20 €\\nfeed 1\\n'
+    >>> paper(b"ABC\\n", width=24).text
+    'row left AB\\nfeed 1\\nrow left C\\nfeed 1\\n'
     """
     stream = _bytes(stream)
-    printed = Paper(*_text(_library.escpos_paper, stream, 4))
-    printed._stream = stream
+    printed = Paper(*_text(_library.escpos_paper_at, stream, 4, _dots(width)))
+    printed._stream, printed._width = stream, width
     return printed
 
 
-def picture(stream):
-    """Prints a stream on paper, as a picture: an SVG document.
+def picture(stream, width=512):
+    """Prints a stream on paper, in lines of `width` dots, as a picture: an SVG document.
 
     >>> picture(b"A\\n").text.startswith("<svg "), picture(b"A\\n").whole
     (True, True)
     >>> "é" in picture(b"\\x82\\n").text
     True
     """
-    return _text(_library.escpos_picture, stream, 16)
+    return _text(_library.escpos_picture_at, stream, 16, _dots(width))
+
+
+def _pnm(path):
+    """Returns the bytes of a file as those of a PBM, PGM or PPM picture, which others than such a file become by Pillow."""
+    if hasattr(path, "read"):
+        content = _bytes(path.read())
+    else:
+        with open(path, "rb") as file:
+            content = file.read()
+    if content[:1] == b"P" and content[1:2] in (b"1", b"2", b"3", b"4", b"5", b"6"):
+        return content
+    try:
+        import PIL.Image
+    except ImportError:
+        raise RuntimeError("escpos: Pillow is wanted for pictures other than PBM, PGM and PPM, and isn't installed") from None
+    with PIL.Image.open(io.BytesIO(content)) as found:
+        if found.mode.startswith("I"):
+            # (gray of 16 bits has no transparency)
+            gray = found.convert("I").point(lambda value: value / 256).convert("L")
+        else:
+            drawn = found.convert("RGBA")
+            gray = PIL.Image.alpha_composite(PIL.Image.new("RGBA", drawn.size, "white"), drawn).convert("L")
+    return b"P5 %d %d 255\n" % gray.size + gray.tobytes()
+
+
+def image(path, width=512, threshold=None):
+    """Returns the entries of a receipt that print a picture. `path` is a path or a file that is open for bytes: PBM, PGM or PPM, or
+    with Pillow any other that it opens, on white where it is transparent. A picture that is wider than `width` dots is scaled down to
+    them. It is black where its gray value, 0 to 255, is below `threshold`, 1 to 255, and by error diffusion without one.
+
+    >>> image(io.BytesIO(b"P1 8 2 11110000 00001111"))
+    [{'raster': {'scale': 'normal', 'x': 1, 'y': 2, 'dots': 'f00f'}}]
+    >>> image(io.BytesIO(b"P2 2 1 255 99 100"), threshold=100)
+    [{'raster': {'scale': 'normal', 'x': 1, 'y': 1, 'dots': '80'}}]
+    >>> image(io.BytesIO(b"P1 8 2 1"))
+    Traceback (most recent call last):
+    ...
+    escpos.Refused: CutShort at 8
+    """
+    _dots(width)
+    limit = 0 if threshold is None else _in_range(threshold, 255, "threshold", 1)
+    content = _pnm(path)
+    guess = 4096 if len(content) > _LONGEST else len(content) // 4 + 4096
+    status, written = _filled(lambda *out: _library.escpos_image(width, limit, content, len(content), *out), guess)
+    if status == _REFUSED:
+        if len(content) > _LONGEST:
+            raise Refused("TooLong", None)
+        _, _, reason, *place = written.decode().split()
+        raise Refused(reason, int(place[0]) if place else None)
+    return json.loads(b"[" + written + b"]")
 
 
 class _Held:
@@ -345,12 +438,13 @@ class Host(_Held):
         """Puts a status request of a kind from 1 to 4 out; possible while the link is open and no receipt is in flight."""
         self._does(_library.escpos_host_ask, _in_range(kind, 255, "kind"))
 
-    def submit(self, receipt):
+    def submit(self, receipt, width=512, replacement=None):
         """Puts a receipt out; possible while the link is open and fewer than four are in flight. Raises Refused where it is no
-        receipt, and NotNow where the host takes none."""
-        text, reason, fault, at = _json(receipt), ctypes.c_uint32(), ctypes.c_uint32(), ctypes.c_size_t()
+        receipt, and NotNow where the host takes none. `width` and `replacement` are those of `encode`."""
+        options, text = _options(width, replacement), _json(receipt)
+        reason, fault, at = ctypes.c_uint32(), ctypes.c_uint32(), ctypes.c_size_t()
         told = [ctypes.byref(it) for it in (reason, fault, at)]
-        if _told(_library.escpos_host_submit(self._at, text, len(text), *told)) == _REFUSED:
+        if _told(_library.escpos_host_submit_with(self._at, ctypes.byref(options), text, len(text), *told)) == _REFUSED:
             if fault.value:
                 raise Refused(RECEIPT_REASONS[fault.value], _place(at.value))
             raise NotNow(HOST_REASONS[reason.value])
@@ -412,7 +506,7 @@ class Host(_Held):
 
 
 class Printer(_Held):
-    """A printer, with nothing on its paper.
+    """A printer, with nothing on its paper, whose lines have `width` dots.
 
     >>> with Printer() as printer:
     ...     printer.feed(b"A\\x1b$"), printer.feed(b"\\n")
@@ -425,10 +519,11 @@ class Printer(_Held):
     ValueError: escpos: it is closed
     """
 
-    def __init__(self, cover_open=False, near_end=False, paper_end=False):
+    def __init__(self, cover_open=False, near_end=False, paper_end=False, width=512):
+        _dots(width)
         self._open(_library.escpos_printer_free)
         sensors = _Sensors(cover_open, near_end, paper_end)
-        _told(_library.escpos_printer_new(self._at, ctypes.byref(sensors)))
+        _told(_library.escpos_printer_new_at(self._at, ctypes.byref(sensors), width))
 
     def feed(self, piece):
         """Feeds bytes of a stream, up to the first that can't be taken now."""
