@@ -112,6 +112,58 @@ static void encodes(void) {
     }
 }
 
+/* ---- with options ---- */
+
+struct encoded_with {
+    escpos_options options;
+    const char *json, *bytes;
+    size_t len;
+};
+#define BLANKS_5 "     "
+#define BLANKS_35 BLANKS_5 BLANKS_5 BLANKS_5 BLANKS_5 BLANKS_5 BLANKS_5 BLANKS_5
+static const struct encoded_with ENCODED_WITH[] = {
+    {{0, 0}, "[{\"pair\":[\"Tea\",\"2.10\"]}]", BYTES("Tea" BLANKS_35 "2.10\n")},
+    {{512, 0}, "[{\"pair\":[\"Tea\",\"2.10\"]}]", BYTES("Tea" BLANKS_35 "2.10\n")},
+    {{144, 0}, "[{\"pair\":[\"Tea\",\"2.10\"]}]", BYTES("Tea" BLANKS_5 "2.10\n")},
+    {{144, '?'}, "[{\"pair\":[\"\\u6f22\",\"2.10\"]}]", BYTES("?" BLANKS_5 "  2.10\n")},
+    {{1, 0}, "[{\"line\":\"A\"}]", BYTES("A\n")},
+    {{1024, 0}, "[{\"line\":\"A\"}]", BYTES("A\n")},
+    {{0, 0x20}, "[{\"line\":\"\\u6f22\"}]", BYTES(" \n")},
+    {{0, 0x7E}, "[{\"line\":\"\\u6f22\"}]", BYTES("~\n")},
+};
+
+/* Out of range, one of them or both. */
+static const escpos_options BAD_OPTIONS[] = {{1025, 0}, {65535, 0}, {0, 1}, {0, 0x1F}, {0, 0x7F}, {512, 255}, {1025, 0x1F}};
+#define COUNT(table) (sizeof table / sizeof *table)
+
+static void encodes_with(void) {
+    size_t written = 77, at = 77;
+    uint32_t reason = 77;
+    for (size_t row = 0; row < COUNT(ENCODED_WITH); row++) {
+        const struct encoded_with *it = &ENCODED_WITH[row];
+        blank();
+        IS(CALL(escpos_encode_with(&it->options, bytes(it->json), strlen(it->json), buffer, CAPACITY, &written, &reason, &at)) == ESCPOS_GOOD);
+        IS(written == it->len && holds(it->bytes, it->len) && reason == 0 && at == ESCPOS_NO_PLACE);
+        blank();
+        IS(CALL(escpos_encode_with(&it->options, bytes(it->json), strlen(it->json), buffer, it->len - 1, &written, &reason, &at)) == ESCPOS_SHORT);
+        IS(written == it->len && is_blank(0) && reason == 0 && at == ESCPOS_NO_PLACE);
+    }
+    for (size_t row = 0; row < COUNT(REFUSED); row++) {
+        const struct refused *it = &REFUSED[row];
+        const escpos_options none = {0, 0};
+        written = at = reason = 77;
+        blank();
+        IS(CALL(escpos_encode_with(&none, bytes(it->json), strlen(it->json), buffer, CAPACITY, &written, &reason, &at)) == ESCPOS_REFUSED);
+        IS(written == 0 && is_blank(0) && reason == it->reason && at == it->at);
+    }
+    for (size_t row = 0; row < COUNT(BAD_OPTIONS); row++) {
+        written = at = reason = 77;
+        blank();
+        IS(escpos_encode_with(&BAD_OPTIONS[row], bytes("[{\"line\":\"A\"}]"), 14, buffer, CAPACITY, &written, &reason, &at) == ESCPOS_REFUSED);
+        IS(written == 0 && is_blank(0) && reason == ESCPOS_BAD_OPTIONS && at == ESCPOS_NO_PLACE);
+    }
+}
+
 typedef int text_call(const uint8_t *, size_t, uint8_t *, size_t, size_t *);
 
 static void gives(text_call *call, const char *stream, size_t len, const char *text, int status, int line) {
@@ -140,9 +192,9 @@ static void lists_and_prints(void) {
     GIVES(escpos_paper_text, "\x1Bt\x06\xD5\n\x06", "row left \xEF\xBF\xBD\nfeed 1\nfault 5 1 UnknownByte\n", ESCPOS_REFUSED);
 }
 
-/* The document of an empty paper, and of one with a row and a feed. */
-#define DOCUMENT(height, body) \
-    "<svg xmlns=\"http://www.w3.org/2000/svg\" version=\"1.1\" width=\"576\" height=\"" height "\" viewBox=\"0 0 576 " height "\" xml:space=\"preserve\">\n" \
+/* The document of an empty paper, and of one with a row and a feed, where a line and the paper have so many dots. */
+#define DOCUMENT(line, paper, height, body) \
+    "<svg xmlns=\"http://www.w3.org/2000/svg\" version=\"1.1\" width=\"" paper "\" height=\"" height "\" viewBox=\"0 0 " paper " " height "\" xml:space=\"preserve\">\n" \
     "<style type=\"text/css\">\n" \
     ".paper{fill:#fff}\n" \
     "text{font-family:\"DejaVu Sans Mono\",Menlo,Consolas,monospace;font-size:20px;white-space:pre}\n" \
@@ -156,12 +208,80 @@ static void lists_and_prints(void) {
     ".dashes{stroke-dasharray:8 6}\n" \
     ".last{fill:#a00}\n" \
     "</style>\n" \
-    "<clipPath id=\"line\"><path d=\"M0 0h512v8190H0z\"/></clipPath>\n" \
-    "<rect class=\"paper\" width=\"576\" height=\"" height "\"/>\n" body "</svg>\n"
+    "<clipPath id=\"line\"><path d=\"M0 0h" line "v8190H0z\"/></clipPath>\n" \
+    "<rect class=\"paper\" width=\"" paper "\" height=\"" height "\"/>\n" body "</svg>\n"
+#define HI "<g class=\"row\" transform=\"translate(32,50)\"><text x=\"0\" textLength=\"24\">Hi</text></g>\n<g class=\"feed\"/>\n"
 
 static void draws(void) {
-    GIVES(escpos_picture, "", DOCUMENT("64", ""), ESCPOS_GOOD);
-    GIVES(escpos_picture, "Hi\n", DOCUMENT("94", "<g class=\"row\" transform=\"translate(32,50)\"><text x=\"0\" textLength=\"24\">Hi</text></g>\n<g class=\"feed\"/>\n"), ESCPOS_GOOD);
+    GIVES(escpos_picture, "", DOCUMENT("512", "576", "64", ""), ESCPOS_GOOD);
+    GIVES(escpos_picture, "Hi\n", DOCUMENT("512", "576", "94", HI), ESCPOS_GOOD);
+}
+
+/* ---- in lines of a width ---- */
+
+static uint16_t dots;
+static int paper_at(const uint8_t *stream, size_t len, uint8_t *out, size_t capacity, size_t *written) { return escpos_paper_at(dots, stream, len, out, capacity, written); }
+static int paper_text_at(const uint8_t *stream, size_t len, uint8_t *out, size_t capacity, size_t *written) { return escpos_paper_text_at(dots, stream, len, out, capacity, written); }
+static int picture_at(const uint8_t *stream, size_t len, uint8_t *out, size_t capacity, size_t *written) { return escpos_picture_at(dots, stream, len, out, capacity, written); }
+
+/* Eight characters, each 12 dots wide. */
+#define EIGHT "ABCDEFGH"
+#define FORTY EIGHT EIGHT EIGHT EIGHT EIGHT
+
+static void prints_at(void) {
+    dots = 1;
+    GIVES(paper_at, "AB\n", "row left A\nfeed 1\nrow left B\nfeed 1\n", ESCPOS_GOOD);
+    GIVES(paper_text_at, "AB\n", "row left A\nfeed 1\nrow left B\nfeed 1\n", ESCPOS_GOOD);
+    GIVES(picture_at, "", DOCUMENT("1", "65", "64", ""), ESCPOS_GOOD);
+    dots = 24;
+    GIVES(paper_at, "ABC\n\x06", "row left AB\nfeed 1\nrow left C\nfeed 1\nfault 4 1 UnknownByte\n", ESCPOS_REFUSED);
+    GIVES(paper_text_at, "\x1B" "E\x01" "A\x82" "C\n", "row left A\xC3\xA9\nfeed 1\nrow left C\nfeed 1\n", ESCPOS_GOOD);
+    GIVES(picture_at, "Hi\n", DOCUMENT("24", "88", "94", HI), ESCPOS_GOOD);
+    dots = 1024; /* 85 characters */
+    GIVES(paper_at, FORTY FORTY "ABCDEF\n", "row left " FORTY FORTY "ABCDE\nfeed 1\nrow left F\nfeed 1\n", ESCPOS_GOOD);
+    GIVES(paper_text_at, FORTY FORTY "ABCDEF\n", "row left " FORTY FORTY "ABCDE\nfeed 1\nrow left F\nfeed 1\n", ESCPOS_GOOD);
+    GIVES(picture_at, "", DOCUMENT("1024", "1088", "64", ""), ESCPOS_GOOD);
+    for (dots = 0; dots <= 512; dots += 512) { /* 42 characters */
+        GIVES(paper_at, FORTY "ABC\n", "row left " FORTY "AB\nfeed 1\nrow left C\nfeed 1\n", ESCPOS_GOOD);
+        GIVES(paper_text_at, FORTY "ABC\n", "row left " FORTY "AB\nfeed 1\nrow left C\nfeed 1\n", ESCPOS_GOOD);
+        GIVES(picture_at, "Hi\n", DOCUMENT("512", "576", "94", HI), ESCPOS_GOOD);
+    }
+    for (int turn = 0; turn < 2; turn++) {
+        dots = turn ? 1025 : 65535;
+        GIVES(paper_at, "A\n", "", ESCPOS_REFUSED);
+        GIVES(paper_text_at, "A\n", "", ESCPOS_REFUSED);
+        GIVES(picture_at, "A\n", "", ESCPOS_REFUSED);
+    }
+}
+
+static uint8_t limit;
+static int image_at(const uint8_t *picture, size_t len, uint8_t *out, size_t capacity, size_t *written) { return escpos_image(dots, limit, picture, len, out, capacity, written); }
+
+#define RASTER(x, y, bits) "{\"raster\":{\"scale\":\"normal\",\"x\":" #x ",\"y\":" #y ",\"dots\":\"" bits "\"}}\n"
+
+static void makes_entries(void) {
+    dots = limit = 0;
+    GIVES(image_at, "P1 8 2 11110000 00001111", RASTER(1, 2, "f00f"), ESCPOS_GOOD);
+    GIVES(image_at, "P4 8 2 \xF0\x0F", RASTER(1, 2, "f00f"), ESCPOS_GOOD);
+    /* seven sixteenths of what the first dot lost go to the second, which is white then; a threshold looks at each by itself */
+    GIVES(image_at, "P2 2 1 255 100 100", RASTER(1, 1, "80"), ESCPOS_GOOD);
+    limit = 100;
+    GIVES(image_at, "P2 2 1 255 100 100", RASTER(1, 1, "00"), ESCPOS_GOOD);
+    limit = 101;
+    GIVES(image_at, "P2 2 1 255 100 100", RASTER(1, 1, "c0"), ESCPOS_GOOD);
+    limit = 255;
+    GIVES(image_at, "P6 1 1 255 \xFE\xFE\xFE", RASTER(1, 1, "80"), ESCPOS_GOOD);
+    dots = 8;
+    GIVES(image_at, "P1 16 2 11111111111111111111111111111111", RASTER(1, 1, "ff"), ESCPOS_GOOD);
+    dots = 1024;
+    GIVES(image_at, "P1 16 2 11111111111111111111111111111111", RASTER(2, 2, "ffffffff"), ESCPOS_GOOD);
+    GIVES(image_at, "", "refused 1 NotPicture\n", ESCPOS_REFUSED);
+    GIVES(image_at, "GIF89a", "refused 1 NotPicture\n", ESCPOS_REFUSED);
+    GIVES(image_at, "P1 8 2 1", "refused 6 CutShort 8\n", ESCPOS_REFUSED);
+    dots = 1025;
+    GIVES(image_at, "P1 8 2 11110000 00001111", "", ESCPOS_REFUSED);
+    dots = 65535;
+    GIVES(image_at, "", "", ESCPOS_REFUSED);
 }
 
 static void is_too_long(void) {
@@ -174,6 +294,17 @@ static void is_too_long(void) {
     IS(written == 0 && is_blank(0) && reason == ESCPOS_TOO_LONG && at == ESCPOS_NO_PLACE);
     IS(escpos_encode(text, len - 1, buffer, CAPACITY, &written, &reason, &at) == ESCPOS_REFUSED && reason == ESCPOS_NOT_JSON);
     IS(escpos_listing(text, len, buffer, CAPACITY, &written) == ESCPOS_REFUSED && written == 14 && holds("refused input\n", 14));
+    const escpos_options none = {0, 0};
+    blank();
+    IS(escpos_encode_with(&none, text, len, buffer, CAPACITY, &written, &reason, &at) == ESCPOS_REFUSED);
+    IS(written == 0 && is_blank(0) && reason == ESCPOS_TOO_LONG && at == ESCPOS_NO_PLACE);
+    IS(escpos_paper_at(24, text, len, buffer, CAPACITY, &written) == ESCPOS_REFUSED && written == 14 && holds("refused input\n", 14));
+    blank();
+    IS(escpos_image(0, 0, text, len, buffer, CAPACITY, &written) == ESCPOS_REFUSED && written == 14 && holds("refused input\n", 14));
+    blank();
+    IS(escpos_image(0, 0, text, len - 1, buffer, CAPACITY, &written) == ESCPOS_REFUSED && written == 21 && holds("refused 1 NotPicture\n", 21));
+    blank();
+    IS(escpos_image(1025, 0, text, len, buffer, CAPACITY, &written) == ESCPOS_REFUSED && written == 0 && is_blank(0));
     free(text);
 }
 
@@ -208,6 +339,39 @@ static void hears(escpos_host *host, const char *answer, size_t len, size_t want
 
 static int submits(escpos_host *host, const char *json, uint32_t *reason, uint32_t *fault, size_t *at) {
     return CALL(escpos_host_submit(host, bytes(json), strlen(json), reason, fault, at));
+}
+
+static int submits_with(escpos_host *host, escpos_options options, const char *json, uint32_t *reason, uint32_t *fault, size_t *at) {
+    return CALL(escpos_host_submit_with(host, &options, bytes(json), strlen(json), reason, fault, at));
+}
+
+static void submits_with_options(void) {
+    escpos_host host = {0};
+    uint32_t reason = 77, fault = 77;
+    size_t at = 77;
+    const escpos_options narrow = {144, '?'}, none = {0, 0};
+    const char *receipt = "[{\"pair\":[\"\\u6f22\",\"2.10\"]}]";
+    IS(CALL(escpos_host_new(&host, 0)) == ESCPOS_GOOD);
+    IS(submits_with(&host, narrow, receipt, &reason, &fault, &at) == ESCPOS_REFUSED && reason == ESCPOS_NOT_READY && fault == 0 && at == ESCPOS_NO_PLACE);
+    IS(CALL(escpos_host_link_up(&host, &reason)) == ESCPOS_GOOD);
+    hears(&host, BYTES("\x37\"0000\x00"), 7, ESCPOS_OPENED, 0);
+    puts_out(&host, BYTES("\x1D(H\x06\x00" "000000"));
+    for (size_t row = 0; row < COUNT(BAD_OPTIONS); row++) {
+        reason = fault = at = 77;
+        IS(submits_with(&host, BAD_OPTIONS[row], "[{\"line\":\"A\"}]", &reason, &fault, &at) == ESCPOS_REFUSED);
+        IS(reason == 0 && fault == ESCPOS_BAD_OPTIONS && at == ESCPOS_NO_PLACE);
+    }
+    IS(submits_with(&host, none, receipt, &reason, &fault, &at) == ESCPOS_REFUSED && reason == 0 && fault == ESCPOS_NO_CHARACTER && at == 0);
+    stands(&host, ESCPOS_READY, 1, 0);
+    puts_out(&host, "", 0);
+    IS(submits_with(&host, narrow, receipt, &reason, &fault, &at) == ESCPOS_GOOD && reason == 0 && fault == 0 && at == ESCPOS_NO_PLACE);
+    IS(submits_with(&host, none, "[{\"line\":\"Hi\"}]", &reason, &fault, &at) == ESCPOS_GOOD && reason == 0 && fault == 0 && at == ESCPOS_NO_PLACE);
+    stands(&host, ESCPOS_SENDING, 3, 0);
+    puts_out(&host, BYTES("\x1B@?" BLANKS_5 "  2.10\n\x1D(H\x06\x00" "000001" "\x1B@Hi\n\x1D(H\x06\x00" "000002"));
+    escpos_host_free(&host);
+    reason = fault = at = 77;
+    IS(submits_with(&host, none, receipt, &reason, &fault, &at) == ESCPOS_EMPTY && reason == 0 && fault == 0 && at == ESCPOS_NO_PLACE);
+    IS(submits_with(&host, BAD_OPTIONS[0], receipt, &reason, &fault, &at) == ESCPOS_EMPTY && fault == 0);
 }
 
 static void goes_through_a_link(void) {
@@ -355,6 +519,31 @@ static void prints(void) {
     escpos_printer_free(&printer);
 }
 
+static void prints_on_a_width(void) {
+    escpos_printer printer = {0};
+    escpos_sensors fine = {false, false, false}, open = {true, false, false};
+    IS(escpos_printer_new_at(&printer, &fine, 1025) == ESCPOS_REFUSED);
+    IS(escpos_printer_tear_off(&printer) == ESCPOS_EMPTY);
+    IS(CALL(escpos_printer_new_at(&printer, &fine, 24)) == ESCPOS_GOOD);
+    feeds(&printer, BYTES("ABC\n"), 4, ESCPOS_STOP_ALL, 0, ESCPOS_NO_PLACE);
+    has_paper(&printer, "row left AB\nfeed 1\nrow left C\nfeed 1\n");
+    /* where the width is out of range it stays as it is */
+    IS(escpos_printer_new_at(&printer, &open, 1025) == ESCPOS_REFUSED);
+    IS(escpos_printer_new_at(&printer, &open, 65535) == ESCPOS_REFUSED);
+    feeds(&printer, BYTES("DEF\n"), 4, ESCPOS_STOP_ALL, 0, ESCPOS_NO_PLACE);
+    has_paper(&printer, "row left AB\nfeed 1\nrow left C\nfeed 1\nrow left DE\nfeed 1\nrow left F\nfeed 1\n");
+    IS(CALL(escpos_printer_new_at(&printer, &fine, 0)) == ESCPOS_GOOD);
+    feeds(&printer, BYTES(FORTY "ABC\n"), 44, ESCPOS_STOP_ALL, 0, ESCPOS_NO_PLACE);
+    has_paper(&printer, "row left " FORTY "AB\nfeed 1\nrow left C\nfeed 1\n");
+    IS(CALL(escpos_printer_new_at(&printer, &fine, 1)) == ESCPOS_GOOD);
+    feeds(&printer, BYTES("AB\n"), 3, ESCPOS_STOP_ALL, 0, ESCPOS_NO_PLACE);
+    has_paper(&printer, "row left A\nfeed 1\nrow left B\nfeed 1\n");
+    IS(CALL(escpos_printer_new_at(&printer, &open, 1024)) == ESCPOS_GOOD);
+    feeds(&printer, BYTES("\x10\x04\x02" "A"), 3, ESCPOS_STOP_OFFLINE, 0, ESCPOS_NO_PLACE);
+    answers(&printer, BYTES("\x16"));
+    escpos_printer_free(&printer);
+}
+
 static void holds_no_printer(void) {
     escpos_printer printer = {0};
     escpos_sensors fine = {false, false, false};
@@ -392,6 +581,7 @@ static void results_stay(void) {
     escpos_host host = {0};
     escpos_printer printer = {0};
     escpos_sensors fine = {false, false, false};
+    const escpos_options none = {0, 0}, bad = {1025, 0};
     const size_t s = sizeof(size_t), u = sizeof(uint32_t);
     for (int full = 0; full < 2; full++) {
         if (full) {
@@ -400,14 +590,25 @@ static void results_stay(void) {
         }
         int wanted = full ? ESCPOS_GOOD : ESCPOS_EMPTY, refused = full ? ESCPOS_REFUSED : ESCPOS_EMPTY;
         IS(CALL(escpos_encode(bytes("[]"), 2, buffer, 9, place(0), place(1), place(2))) == ESCPOS_REFUSED && STAY_3(s, u, s));
+        IS(CALL(escpos_encode_with(&none, bytes("[]"), 2, buffer, 9, place(0), place(1), place(2))) == ESCPOS_REFUSED && STAY_3(s, u, s));
+        IS(CALL(escpos_encode_with(&bad, bytes("[]"), 2, buffer, 9, place(0), place(1), place(2))) == ESCPOS_REFUSED && STAY_3(s, u, s));
         IS(CALL(escpos_listing(bytes("A"), 1, buffer, CAPACITY, place(0))) == ESCPOS_GOOD && stays(0, s));
         IS(CALL(escpos_paper(bytes("A"), 1, buffer, CAPACITY, place(0))) == ESCPOS_GOOD && stays(0, s));
         IS(CALL(escpos_paper_text(bytes("A"), 1, buffer, CAPACITY, place(0))) == ESCPOS_GOOD && stays(0, s));
         IS(CALL(escpos_picture(bytes("A"), 1, buffer, CAPACITY, place(0))) == ESCPOS_GOOD && stays(0, s));
+        for (int width = 24; width <= 2048; width += 2024) {
+            int of_width = width == 24 ? ESCPOS_GOOD : ESCPOS_REFUSED;
+            IS(CALL(escpos_paper_at(width, bytes("A"), 1, buffer, CAPACITY, place(0))) == of_width && stays(0, s));
+            IS(CALL(escpos_paper_text_at(width, bytes("A"), 1, buffer, CAPACITY, place(0))) == of_width && stays(0, s));
+            IS(CALL(escpos_picture_at(width, bytes("A"), 1, buffer, CAPACITY, place(0))) == of_width && stays(0, s));
+            IS(CALL(escpos_image(width, 0, bytes("P1 1 1 1"), 8, buffer, CAPACITY, place(0))) == of_width && stays(0, s));
+        }
         IS(CALL(escpos_host_nudge(&host, place(0))) == refused && stays(0, u));
         IS(CALL(escpos_host_ask(&host, 1, place(0))) == refused && stays(0, u));
         IS(CALL(escpos_host_link_up(&host, place(0))) == wanted && stays(0, u));
         IS(CALL(escpos_host_submit(&host, bytes("[]"), 2, place(0), place(1), place(2))) == refused && STAY_3(u, u, s));
+        IS(CALL(escpos_host_submit_with(&host, &none, bytes("[]"), 2, place(0), place(1), place(2))) == refused && STAY_3(u, u, s));
+        IS(CALL(escpos_host_submit_with(&host, &bad, bytes("[]"), 2, place(0), place(1), place(2))) == refused && STAY_3(u, u, s));
         IS(escpos_host_take_out(&host, buffer, 2, place(0)) == wanted && stays(0, s));
         IS(escpos_host_has_out(&host, place(0)) == wanted && stays(0, 1));
         IS(escpos_host_heard(&host, bytes("\x12"), 1, place(0), place(1), place(2)) == wanted && STAY_3(s, u, s));
@@ -491,11 +692,16 @@ static void prints_a_receipt(void) {
 
 static void all(void) {
     encodes();
+    encodes_with();
     lists_and_prints();
     draws();
+    prints_at();
+    makes_entries();
     goes_through_a_link();
+    submits_with_options();
     holds_no_host();
     prints();
+    prints_on_a_width();
     holds_no_printer();
     prints_a_receipt();
     results_stay();
