@@ -2,7 +2,7 @@
 //!
 //! A kind of command is a variant here with its line in `Command::parts`, a line of the command table
 //! (`specs/CommandTable.antt`), a branch of the tree of bytes (`specs/Tree.antt`) and a case of the proofs over that tree;
-//! no proof is about a pair of kinds. docs/ARCHITECTURE.md lists all places.
+//! no proof is about a pair of kinds. docs/ARCHITECTURE.md says how to find all places.
 
 ghost use Rattle.std.specs.Prelude.{◌≡◌, ◌≤◌, ◌+◌, [], ◌∷◌, length};
 ghost use Rattle.escpos_command.specs.CommandTable.{entry_of, barcode_entry, raster_entry, qr_model_entry, qr_store_entry, IsCommand};

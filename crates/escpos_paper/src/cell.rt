@@ -5,8 +5,8 @@ ghost use Rattle.escpos_paper.specs.Cells.{face_dots, cell_dots, cell};
 ghost use Rattle.escpos_paper.specs.Styles.{power_on};
 
 use crate::style::Style;
-use arrayvec::ArrayVec;
 use escpos_command::FontFace;
+use std::fmt;
 use std::marker::Model;
 
 /// The most cells that a line has: those of font B at width 1 in a line of 1,024 dots.
@@ -46,25 +46,31 @@ pub fn face_dots(face: FontFace) -> usize
 impl Default for Cell {
     ghost is_default = { λ x. x ≡ cell power_on 0x20 };
 
-    // A space as a printer just switched on prints it. `ArrayVec` fills its unused places with it.
+    // A space as a printer just switched on prints it. It stands in the places of a row that aren't used.
     fn default() -> Self {
         Style::power_on().cell(b' ')
     }
 }
 
 /// The cells of a row, in order: at most 113. They are part of the value itself, so they allocate nothing.
-#[derive(Debug, Drop)]
+///
+/// An array and its length, where `ArrayVec` would write all of its places anew whenever a line is taken out.
+#[derive(Drop)]
 pub struct Cells {
-    cells: ArrayVec<Cell, LINE_CELLS>,
+    cells: [Cell; LINE_CELLS],
+    len: usize,
 }
 
 impl Model for Cells {
-    ghost use Rattle.std.specs.Prelude.{List};
+    ghost use Rattle.std.specs.Prelude.{List, take, ◌≤◌};
+    ghost use Rattle.escpos_paper.specs.declared.cell.TheConstants.{LINE_CELLS};
     ghost use Rattle.escpos_paper.specs.declared.cell.Cell.{Cell};
 
     ghost Value = { List Cell };
 
-    ghost view = { λ c. c.cells.items };
+    ghost view = { λ c. take c.len c.cells };
+
+    ghost invariant = { λ c. c.len ≤ LINE_CELLS };
 }
 
 impl Cells {
@@ -73,7 +79,8 @@ impl Cells {
         ensures { result ≡ [] }
     {
         Cells {
-            cells: ArrayVec::new(),
+            cells: [Cell::default(); LINE_CELLS],
+            len: 0,
         }
     }
 
@@ -82,7 +89,8 @@ impl Cells {
         requires { length self.old < LINE_CELLS }
         ensures { self.new ≡ self.old ++ cell ∷ [] }
     {
-        self.cells.push(cell);
+        self.cells[self.len] = cell;
+        self.len += 1;
     }
 
     /// Puts characters of one style after the others. There must be room.
@@ -91,7 +99,7 @@ impl Cells {
         ensures { self.new ≡ self.old ++ map (cell style) text.now }
     {
         for byte in text {
-            self.cells.push(style.cell(*byte));
+            self.push(style.cell(*byte));
         }
     }
 
@@ -100,6 +108,25 @@ impl Cells {
         ensures cells { result.now ≡ self.now }
         ensures few { length result.now ≤ LINE_CELLS }
     {
-        self.cells.as_slice()
+        &self.cells[..self.len]
+    }
+
+    /// Takes the cells out, and leaves none.
+    pub fn take(&mut self) -> Self
+        ensures taken { result ≡ self.old }
+        ensures left { self.new ≡ [] }
+    {
+        let taken = Cells {
+            cells: self.cells,
+            len: self.len,
+        };
+        self.len = 0;
+        taken
+    }
+}
+
+impl fmt::Debug for Cells {
+    fn fmt<W: fmt::Write>(&self, f: &mut fmt::Formatter<W>) -> fmt::Result {
+        f.debug_list().entries(self.as_slice()).finish()
     }
 }

@@ -13,7 +13,6 @@ use crate::cell::{Cell, Cells};
 use crate::style::Style;
 use escpos_command::LineWidth;
 use std::marker::Model;
-use std::mem;
 
 /// Cells that together aren't wider than the widest line. The model of a line is the list of its cells.
 #[derive(Drop)]
@@ -102,8 +101,7 @@ impl PrintBuffer {
         ensures taken { result ≡ self.old }
         ensures left { self.new ≡ [] }
     {
-        let mut cells = Cells::new();
-        mem::swap(&mut cells, &mut self.cells);
+        let cells = self.cells.take();
         self.used = 0;
         cells
     }

@@ -230,6 +230,8 @@ fn written<'a>(
     ensures refused { IfErr result (λ fault. fault ≢ EntryFault.Memory → text_in encoding.old (Some text.now) ≡ Err fault) }
 {
     let mut bytes = Vec::new(alloc);
+    // Most texts take no more: a character other than ASCII has two bytes at least in UTF-8, and one here.
+    bytes.reserve(text.len())?;
     match write_text(alloc, encoding, text, &mut bytes) {
         Ok(()) => Ok(SpelledText::made(bytes)),
         Err(fault) => Err(EntryFault::of_text(fault)),
