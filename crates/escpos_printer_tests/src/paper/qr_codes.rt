@@ -1,10 +1,10 @@
 //! QR codes on a page: their worked rows, the data that a page keeps, and the room for a copy of it.
 
 use crate::paper::{apply, expect_text, print, write_items_to};
-use crate::support::decoders::{bytes_of, decode_all};
 use escpos_command::{Command, LineWidth, QrData};
 use escpos_io::{Device, MemoryOut, Outgoing};
 use escpos_paper::*;
+use escpos_test_values::{bytes_of, decode_all};
 use std::alloc::Global;
 use std::process::Abort;
 
@@ -196,7 +196,7 @@ fn room_for_a_copy(rt: HostRuntime) {
 
 // Stores so many bytes.
 fn store_of(rt: &impl Abort, alloc: Global, page: &mut Page, byte: u8, count: usize) {
-    let data = bytes_of(rt, alloc, (b"", byte, count, b""));
+    let data = bytes_of(alloc, (b"", byte, count, b"")).expect(rt, "memory");
     let stored = QrData::new(data).expect(rt, "the data of a QR code");
     apply(rt, page, Command::QrStore(stored));
 }
@@ -232,9 +232,9 @@ fn a_qr_code_cut_short(rt: HostRuntime) {
     let mut page = Page::new(rt.alloc(), LineWidth::usual());
     store_of(&rt, rt.alloc(), &mut page, b'7', 7089);
     apply_bytes(&rt, rt.alloc(), &mut page, PRINT);
-    let line = bytes_of(&rt, rt.alloc(), (b"qr left 2 3 L ", b'7', 7089, b"\n"));
+    let line = bytes_of(rt.alloc(), (b"qr left 2 3 L ", b'7', 7089, b"\n")).expect(&rt, "memory");
     for len in [0, 13, 14, 15, 2048, 7102, 7103] {
-        let mut room = bytes_of(&rt, rt.alloc(), (b"", 0, len, b""));
+        let mut room = bytes_of(rt.alloc(), (b"", 0, len, b"")).expect(&rt, "memory");
         let mut sink = MemoryOut::taking(&mut room, 999);
         let short = Err(Device {
             written: len as u128,

@@ -1,10 +1,10 @@
 //! Lines of widths of their own: what stands in a row, and what keeps the width.
 
 use crate::paper::{apply, print};
-use crate::support::decoders::decode_all;
 use escpos_command::LineWidth;
 use escpos_io::Outgoing;
 use escpos_paper::*;
+use escpos_test_values::decode_all;
 use std::alloc::Global;
 use std::process::Abort;
 

@@ -1,13 +1,12 @@
 //! Links that are served from memory to memory.
 
 use crate::support::printers::{
-    ONLINE, OPEN, RECEIPT, feed_all, mark, marks, new_printer, printer_at_last, push_bytes,
-    push_mark,
+    ONLINE, OPEN, RECEIPT, feed_all, mark, new_printer, printer_at_last, push_bytes, push_mark,
 };
-use crate::support::values::differ;
 use escpos_command::FaultReason;
 use escpos_io::{ByteIn, MemoryIn, MemoryOut};
 use escpos_printer::{Condition, LinkEnd, Printer, Served, serve_link};
+use escpos_test_values::{marks, unlike};
 use std::alloc::Global;
 use std::process::Abort;
 
@@ -225,7 +224,7 @@ fn writer_faults(rt: HostRuntime) {
 // Answers that wait from an earlier link go out first.
 #[test]
 fn answers_that_waited(rt: HostRuntime) {
-    let first = marks(&rt, rt.alloc(), &[0]);
+    let first = marks(rt.alloc(), &[0]).expect(&rt, "marks");
     let mut printer = new_printer(&rt, rt.alloc(), ONLINE);
     feed_all(&rt, &mut printer, &first);
     feed_all(&rt, &mut printer, b"\x10");
@@ -261,18 +260,18 @@ fn differ_in_counts(rt: &impl Abort, [read, consumed, written]: [usize; 3], end:
         how_served(read, 0, written, end),
         how_served(read, consumed, 0, end),
     ];
-    differ(rt, &links);
+    assert!(rt; unlike(&links) == None);
 }
 
 #[test]
 fn unequal_ends(rt: HostRuntime) {
-    differ(&rt, &ENDS);
+    assert!(&rt; unlike(&ENDS) == None);
     let mut links = [how_served(1, 2, 3, LinkEnd::Ended); 8];
     for (link, end) in links.iter_mut().zip(&ENDS) {
         link.end = *end;
         differ_in_counts(&rt, [1, 2, 3], *end);
     }
-    differ(&rt, &links);
+    assert!(&rt; unlike(&links) == None);
 }
 
 // Serves the receipt. Where memory is refused, the bytes that weren't taken are served again.
@@ -360,7 +359,7 @@ fn reads_no_more(rt: &impl Abort, printer: &mut Printer) {
 // Answers go out before the next read: where a write fails, nothing was read after the bytes that it answers.
 #[test]
 fn no_read_before_answers(rt: HostRuntime) {
-    let bytes = marks(&rt, rt.alloc(), &[0, 1, 2, 3, 4, 5]);
+    let bytes = marks(rt.alloc(), &[0, 1, 2, 3, 4, 5]).expect(&rt, "marks");
     let mut room = [0u8; 42];
     for size in 0..room.len() {
         let mut printer = new_printer(&rt, rt.alloc(), ONLINE);
@@ -424,6 +423,6 @@ fn same_clones(rt: HostRuntime) {
             how_served(1_000_000, 999_998, 700_000, *end),
             how_served(1_000_000, 999_999, 700_001, *end),
         ];
-        differ(&rt, &links);
+        assert!(&rt; unlike(&links) == None);
     }
 }

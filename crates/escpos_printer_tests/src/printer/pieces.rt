@@ -1,8 +1,8 @@
 //! An empty piece changes nothing, whatever state a printer is in.
 
-use crate::support::decoders::spellings;
 use crate::support::printers::{ONLINE, OPEN, REQUESTS, feed, feed_all, new_printer};
 use escpos_printer::{FeedStop, Printer};
+use escpos_test_values::spellings;
 use std::process::Abort;
 
 // An empty piece is taken, and leaves the half command, the answers that wait and the paper as they are.

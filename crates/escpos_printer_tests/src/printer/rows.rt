@@ -5,12 +5,12 @@
 
 use crate::support::printers::{
     NEAR_END, ONLINE, OPEN, RECEIPT, REQUESTS, answers, answers_no_more, feed, feed_all, mark,
-    marks, new_printer, printer_at_last, push_bytes, push_mark,
+    new_printer, printer_at_last, push_bytes, push_mark,
 };
-use crate::support::values::differ;
 use escpos_command::{Answer, FaultReason};
 use escpos_paper::{Cell, Item};
 use escpos_printer::{Condition, Fed, FeedStop, Printer};
+use escpos_test_values::{marks, unlike};
 use std::alloc::Global;
 use std::process::Abort;
 
@@ -118,8 +118,8 @@ fn answers_after_a_fault(rt: &impl Abort, printer: &mut Printer, marks: &[u8], f
 
 #[test]
 fn lost_raster_bytes(rt: HostRuntime) {
-    let three = marks(&rt, rt.alloc(), &[0, 1, 2]);
-    let fourth = marks(&rt, rt.alloc(), &[3]);
+    let three = marks(rt.alloc(), &[0, 1, 2]).expect(&rt, "marks");
+    let fourth = marks(rt.alloc(), &[3]).expect(&rt, "marks");
     let rows: [(&[u8], &[u8]); 2] = [(&[0x55; 8], b""), (&[0x55; 10], b"01")];
     for (dots, left) in rows {
         let mut printer = new_printer(&rt, rt.alloc(), ONLINE);
@@ -148,7 +148,7 @@ fn seventeenth_waits(rt: &impl Abort, printer: &mut Printer, bytes: &[u8], last:
 #[test]
 fn sixteen_waiting(rt: HostRuntime) {
     let numbers = [0, 1, 2, 3, 4, 5, 6, 7, 8, 9, 10, 11, 12, 13, 14, 15, 16];
-    let bytes = marks(&rt, rt.alloc(), &numbers);
+    let bytes = marks(rt.alloc(), &numbers).expect(&rt, "marks");
     let last = bytes.get(186..).expect(&rt, "last");
     let mut printer = new_printer(&rt, rt.alloc(), ONLINE);
     seventeenth_waits(&rt, &mut printer, &bytes, last);
@@ -179,7 +179,7 @@ fn drops_at_restart(rt: &impl Abort, printer: &mut Printer, mark: &[u8]) {
 
 #[test]
 fn restart_drops(rt: HostRuntime) {
-    let mark = marks(&rt, rt.alloc(), &[0]);
+    let mark = marks(rt.alloc(), &[0]).expect(&rt, "marks");
     let mut printer = new_printer(&rt, rt.alloc(), ONLINE);
     drops_at_restart(&rt, &mut printer, &mark);
 }
@@ -258,7 +258,7 @@ fn answers_after_a_pulse(rt: &impl Abort, printer: &mut Printer, pulse: &[u8], n
 fn pulse_cut_off(rt: HostRuntime) {
     let mut pulse = b"\x1Bp\x00".to_vec(rt.alloc()).expect(&rt, "memory");
     push_mark(&rt, &mut pulse, 0);
-    let next = marks(&rt, rt.alloc(), &[1]);
+    let next = marks(rt.alloc(), &[1]).expect(&rt, "marks");
     let mut printer = new_printer(&rt, rt.alloc(), ONLINE);
     answers_after_a_pulse(&rt, &mut printer, &pulse, &next);
 }
@@ -364,20 +364,20 @@ const STOPS: [FeedStop; 7] = [
 // Values that differ aren't equal, and a clone is.
 #[test]
 fn unequal_values(rt: HostRuntime) {
-    differ(&rt, &STOPS);
+    assert!(&rt; unlike(&STOPS) == None);
     let mut feds = Vec::new(rt.alloc());
     for consumed in [1, 2] {
         for stop in STOPS {
             feds.push(Fed { consumed, stop }).expect(&rt, "memory");
         }
     }
-    differ(&rt, &feds);
+    assert!(&rt; unlike(&feds) == None);
     let ended = Condition {
         paper_end: true,
         ..ONLINE
     };
     let conditions = [ONLINE, OPEN, NEAR_END, ended];
-    differ(&rt, &conditions);
+    assert!(&rt; unlike(&conditions) == None);
     for condition in conditions {
         assert!(rt; condition.clone().expect(&rt, "memory") == condition);
     }
@@ -387,5 +387,5 @@ fn unequal_values(rt: HostRuntime) {
         mark(&rt, 0),
         mark(&rt, 1),
     ];
-    differ(&rt, &answers);
+    assert!(&rt; unlike(&answers) == None);
 }

@@ -2,6 +2,7 @@
 
 use escpos_command::{Answer, LineWidth, MarkId};
 use escpos_printer::{Condition, Fed, FeedStop, Printer};
+use escpos_test_values::append_mark;
 use std::alloc::{AllocError, Global};
 use std::process::Abort;
 
@@ -33,19 +34,8 @@ pub fn mark(rt: &impl Abort, number: u32) -> Answer {
     Answer::Mark(MarkId::of_number(number).expect(rt, "the number of a mark"))
 }
 
-// The bytes of the marks of these numbers.
-pub fn marks(rt: &impl Abort, alloc: Global, numbers: &[u32]) -> Vec<u8> {
-    let mut bytes = Vec::new(alloc);
-    for number in numbers {
-        push_mark(rt, &mut bytes, *number);
-    }
-    bytes
-}
-
 pub fn push_mark(rt: &impl Abort, bytes: &mut Vec<u8>, number: u32) {
-    let id = MarkId::of_number(number).expect(rt, "the number of a mark");
-    push_bytes(rt, bytes, b"\x1D(H\x06\x0000");
-    push_bytes(rt, bytes, &id.bytes());
+    append_mark(bytes, number).expect(rt, "a mark");
 }
 
 pub fn push_bytes(rt: &impl Abort, bytes: &mut Vec<u8>, more: &[u8]) {

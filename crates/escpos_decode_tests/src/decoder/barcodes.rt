@@ -1,7 +1,8 @@
 //! Barcodes: their worked rows, their shortest and longest contents, and each way in which one is refused.
 
-use crate::support::decoders::{BAD, BARCODE, Stream, bytes_of, reads, refuses_last};
+use crate::support::decoders::{BAD, BARCODE, reads, refuses_last};
 use escpos_command::{BarFault, Bars, Command, Form, Symbology};
+use escpos_test_values::{Stream, bytes_of};
 use std::alloc::Global;
 use std::process::Abort;
 
@@ -113,7 +114,9 @@ fn reads_counted(
     content: &[u8],
 ) {
     let length = u8::try_from(content.len()).expect(rt, "a length");
-    let counted = bytes_of(rt, alloc, (&[0x1D, 0x6B, mode, length], 0, 0, content));
+    let counted = bytes_of(alloc, (&[0x1D, 0x6B, mode, length], 0, 0, content)).expect(
+        rt, "memory",
+    );
     reads_bars(rt, alloc, &counted, (Form::B, symbology), content);
 }
 
@@ -124,7 +127,7 @@ fn reads_closed(
     (symbology, mode): (Symbology, u8),
     content: &[u8],
 ) {
-    let mut closed = bytes_of(rt, alloc, (&[0x1D, 0x6B, mode], 0, 0, content));
+    let mut closed = bytes_of(alloc, (&[0x1D, 0x6B, mode], 0, 0, content)).expect(rt, "memory");
     closed.push(0).expect(rt, "memory");
     reads_bars(rt, alloc, &closed, (Form::A, symbology), content);
 }
@@ -148,7 +151,7 @@ fn reads_in_both_forms(
 fn shortest_and_longest_contents(rt: HostRuntime) {
     for (symbology, mode_a, mode_b, shortest, longest) in contents() {
         for part in [shortest, longest] {
-            let content = bytes_of(&rt, rt.alloc(), *part);
+            let content = bytes_of(rt.alloc(), *part).expect(&rt, "memory");
             let kind = (*symbology, *mode_a, *mode_b);
             reads_in_both_forms(&rt, rt.alloc(), kind, &content);
         }
@@ -215,7 +218,7 @@ fn refused_streams() -> &'static [Stream<'static>] {
 #[test]
 fn refused_contents(rt: HostRuntime) {
     for stream in refused_streams() {
-        let bytes = bytes_of(&rt, rt.alloc(), *stream);
+        let bytes = bytes_of(rt.alloc(), *stream).expect(&rt, "memory");
         refuses_last(&rt, rt.alloc(), &bytes, BARCODE);
     }
     for mode in [1, 7, 8, 64, 66, 72, 74] {

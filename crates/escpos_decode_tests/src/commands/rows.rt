@@ -3,13 +3,13 @@
 use crate::support::commands::{
     FIVE, MARK_35, characters, five_commands_of, spell_from, spell_to, spelled_len, write_to,
 };
-use crate::support::decoders::bytes_of;
 use escpos_command::{
     BarFault, Bars, Character, CharsFault, Command, Correction, FaultReason, FeedLines, Form,
     LONGEST_SPELLING, MOST_QR_DATA, MarkId, QrData, QrLevel, QrModel, QrSize, Raster, RasterFault,
     Scale, Symbology,
 };
 use escpos_io::{Device, MemoryOut, Outgoing};
+use escpos_test_values::bytes_of;
 use std::alloc::Global;
 use std::process::Abort;
 
@@ -116,7 +116,7 @@ fn chars_of_text(rt: HostRuntime) {
 
 #[test]
 fn chars_of_a_long_text(rt: HostRuntime) {
-    let mut text = bytes_of(&rt, rt.alloc(), (b"", b'A', 5000, b""));
+    let mut text = bytes_of(rt.alloc(), (b"", b'A', 5000, b"")).expect(&rt, "memory");
     gives_chars(&rt, rt.alloc(), &text);
     text.push(0x1B).expect(&rt, "memory");
     refuse_chars(&rt, rt.alloc(), &text, 5000);
@@ -270,12 +270,10 @@ fn is_spelled_whole(rt: &impl Abort, alloc: Global, raster: &Command, bytes: &[u
 
 #[test]
 fn largest_raster(rt: HostRuntime) {
-    let bytes = bytes_of(
-        &rt,
-        rt.alloc(),
-        (b"\x1Dv02\x80\x00\xFF\x0F", 0xA5, 524_160, b""),
+    let bytes = bytes_of(rt.alloc(), (b"\x1Dv02\x80\x00\xFF\x0F", 0xA5, 524_160, b"")).expect(
+        &rt, "memory",
     );
-    let dots = bytes_of(&rt, rt.alloc(), (b"", 0xA5, 524_160, b""));
+    let dots = bytes_of(rt.alloc(), (b"", 0xA5, 524_160, b"")).expect(&rt, "memory");
     let raster = Raster::new(50, 128, 4095, dots).expect(&rt, "a raster");
     is_spelled_whole(&rt, rt.alloc(), &Command::Raster(raster), &bytes);
 }
@@ -294,7 +292,7 @@ fn spell_at(rt: HostRuntime) {
     spells_at(&rt, &mark, 6, 3, b"000");
     spells_at(&rt, &mark, 11, 0, &[9; 3]);
     spells_at(&rt, &mark, usize::MAX, 0, &[9; 3]);
-    let content = bytes_of(&rt, rt.alloc(), (b"12", 0, 0, b""));
+    let content = bytes_of(rt.alloc(), (b"12", 0, 0, b"")).expect(&rt, "memory");
     let bars = Bars::new(Form::A, Symbology::Itf, content).expect(&rt, "a barcode");
     let bars = Command::Bars(bars);
     spells_at(&rt, &bars, 2, 4, b"\x0512\x00");
@@ -315,7 +313,7 @@ fn qr_data(rt: HostRuntime) {
     refuse_data(&rt, rt.alloc(), b"");
     refuse_data(&rt, rt.alloc(), &[b'7'; 7090]);
     for count in [1, 7089] {
-        let data = bytes_of(&rt, rt.alloc(), (b"", 0xA5, count, b""));
+        let data = bytes_of(rt.alloc(), (b"", 0xA5, count, b"")).expect(&rt, "memory");
         let stored = QrData::new(data).expect(&rt, "the data of a QR code");
         assert!(rt; stored.as_slice().len() == count);
         assert!(rt; stored.as_slice().last() == Some(&0xA5));
@@ -348,11 +346,11 @@ fn settings_of_qr_codes(rt: HostRuntime) {
 // The length counts three bytes besides the data: 7,092 is B4 1B with its low byte first.
 #[test]
 fn longest_store(rt: HostRuntime) {
-    let data = bytes_of(&rt, rt.alloc(), (b"", 0xA5, 7089, b""));
+    let data = bytes_of(rt.alloc(), (b"", 0xA5, 7089, b"")).expect(&rt, "memory");
     let stored = QrData::new(data).expect(&rt, "the data of a QR code");
     let store = [Command::QrStore(stored)];
     assert!(rt; spelled_len(&store[0]) == 7097);
-    let bytes = bytes_of(&rt, rt.alloc(), (b"\x1D(k\xB4\x1B1P0", 0xA5, 7089, b""));
+    let bytes = bytes_of(rt.alloc(), (b"\x1D(k\xB4\x1B1P0", 0xA5, 7089, b"")).expect(&rt, "memory");
     spell(&rt, rt.alloc(), &store, &bytes);
     write_all(&rt, rt.alloc(), &store, &bytes);
     spells_at(&rt, &store[0], 3, 4, &[0xB4, 0x1B, 0x31, 0x50]);

@@ -2,11 +2,10 @@
 //! it needs.
 
 use crate::support::commands::{append, spell_to};
-use crate::support::decoders::{Stream, bytes_of};
-use crate::support::values::differ;
 use escpos_command::{
     Bars, Command, Form, QrData, QrLevel, QrModel, QrSize, Raster, Symbology, laws,
 };
+use escpos_test_values::{Stream, bytes_of, unlike};
 use std::alloc::Global;
 use std::process::Abort;
 
@@ -50,7 +49,7 @@ const LONGEST: [(Symbology, Stream<'static>); 7] = [
 // Appends a barcode of each form and symbology with its longest content.
 fn append_longest(rt: &impl Abort, alloc: Global, commands: &mut Vec<Command>) {
     for (symbology, stream) in LONGEST {
-        let content = bytes_of(rt, alloc, stream);
+        let content = bytes_of(alloc, stream).expect(rt, "memory");
         append_barcodes(rt, alloc, commands, symbology, &content);
     }
 }
@@ -125,7 +124,7 @@ fn append_stores(rt: &impl Abort, alloc: Global, commands: &mut Vec<Command>) {
         (b"", b'7', 7088, b"8"),
     ];
     for stream in all {
-        let data = bytes_of(rt, alloc, stream);
+        let data = bytes_of(alloc, stream).expect(rt, "memory");
         let stored = QrData::new(data).expect(rt, "the data of a QR code");
         append(rt, commands, Command::QrStore(stored));
     }
@@ -154,7 +153,7 @@ fn qr_codes_as_values(rt: HostRuntime) {
     let mut commands = Vec::new(rt.alloc());
     append_stores(&rt, rt.alloc(), &mut commands);
     append_functions(&rt, &mut commands);
-    differ(&rt, &commands);
+    assert!(&rt; unlike(&commands) == None);
     for command in &commands {
         is_modest(&rt, rt.alloc(), command);
     }
@@ -182,5 +181,5 @@ fn unequal_commands(rt: HostRuntime) {
     ] {
         append_barcodes(&rt, rt.alloc(), &mut commands, symbology, content);
     }
-    differ(&rt, &commands);
+    assert!(&rt; unlike(&commands) == None);
 }

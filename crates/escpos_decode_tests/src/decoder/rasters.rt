@@ -2,12 +2,11 @@
 
 use crate::support::comparison::agrees;
 use crate::support::decoders::{
-    BAD, HALF_AS_HIGH, LARGEST, SIZE, bytes_of, decodes, holds, push_half, reads, refuses_last,
-    steps_to,
+    BAD, HALF_AS_HIGH, LARGEST, SIZE, decodes, holds, push_half, reads, refuses_last, steps_to,
 };
-use crate::support::printers::marks;
 use escpos_command::{Character, Command, FaultReason, MarkId, Raster, RasterFault};
 use escpos_decode::{Decoder, End, Step};
+use escpos_test_values::{bytes_of, marks};
 use std::alloc::Global;
 use std::process::Abort;
 
@@ -68,7 +67,7 @@ fn completes(
 
 // The widest raster with this many rows is one command.
 fn reads_widest(rt: &impl Abort, alloc: Global, head: &[u8], rows: u16, count: usize) {
-    let dots = bytes_of(rt, alloc, (b"", 0x1D, count, b""));
+    let dots = bytes_of(alloc, (b"", 0x1D, count, b"")).expect(rt, "memory");
     let raster = picture(rt, alloc, 0, [128, rows], &dots);
     completes(rt, &mut Decoder::new(alloc), (head, &dots), raster);
 }
@@ -96,9 +95,9 @@ fn decodes_widest(rt: &impl Abort, alloc: Global, head: &[u8], rows: u16, piece:
 
 #[test]
 fn largest_raster_in_pieces(rt: HostRuntime) {
-    let piece = bytes_of(&rt, rt.alloc(), (b"", 0x1B, 262_080, b""));
+    let piece = bytes_of(rt.alloc(), (b"", 0x1B, 262_080, b"")).expect(&rt, "memory");
     decodes_widest(&rt, rt.alloc(), &LARGEST, 4095, &piece);
-    let piece = bytes_of(&rt, rt.alloc(), (b"", 0x1B, 131_008, b""));
+    let piece = bytes_of(rt.alloc(), (b"", 0x1B, 131_008, b"")).expect(&rt, "memory");
     decodes_widest(&rt, rt.alloc(), &HALF_AS_HIGH, 2047, &piece);
 }
 
@@ -114,9 +113,9 @@ fn wider_limits(rt: HostRuntime) {
 type Repeated = (&'static [u8], u8, usize, u8, [u16; 2]);
 
 fn reads_repeated(rt: &impl Abort, alloc: Global, (head, byte, times, mode, size): Repeated) {
-    let dots = bytes_of(rt, alloc, (b"", byte, times, b""));
+    let dots = bytes_of(alloc, (b"", byte, times, b"")).expect(rt, "memory");
     let raster = picture(rt, alloc, mode, size, &dots);
-    let bytes = bytes_of(rt, alloc, (head, byte, times, b""));
+    let bytes = bytes_of(alloc, (head, byte, times, b"")).expect(rt, "memory");
     reads(rt, alloc, &bytes, &raster);
 }
 
@@ -180,7 +179,7 @@ fn narrow(rt: &impl Abort, alloc: Global, count: usize, marks: &[u8]) -> Command
     let taken = marks
         .get(..30usize.saturating_sub(count))
         .expect(rt, "marks");
-    let dots = bytes_of(rt, alloc, (b"", 0x55, count, taken));
+    let dots = bytes_of(alloc, (b"", 0x55, count, taken)).expect(rt, "memory");
     picture(rt, alloc, 0, [1, 30], &dots)
 }
 
@@ -192,14 +191,14 @@ fn reads_marks_as_dots(
     commands: &[Command],
     end: End,
 ) {
-    let stream = bytes_of(rt, alloc, (NARROW, 0x55, count, marks));
+    let stream = bytes_of(alloc, (NARROW, 0x55, count, marks)).expect(rt, "memory");
     decodes(rt, alloc, &[&stream], commands, end);
     agrees(rt, alloc, &stream);
 }
 
 #[test]
 fn lost_raster_bytes(rt: HostRuntime) {
-    let three = marks(&rt, rt.alloc(), &[0, 1, 2]);
+    let three = marks(rt.alloc(), &[0, 1, 2]).expect(&rt, "marks");
     let end = End::Read { half: 0 };
     let mark = Command::Mark(MarkId::of_number(2).expect(&rt, "a mark"));
     // 22 bytes are lacking, two whole marks
@@ -210,7 +209,7 @@ fn lost_raster_bytes(rt: HostRuntime) {
 // 20 bytes are lacking, and the last two bytes of a mark's id are left.
 #[test]
 fn lost_raster_bytes_leave_text(rt: HostRuntime) {
-    let three = marks(&rt, rt.alloc(), &[0, 1, 2]);
+    let three = marks(rt.alloc(), &[0, 1, 2]).expect(&rt, "marks");
     let commands = [
         narrow(&rt, rt.alloc(), 10, &three),
         character(&rt, b'0'),
@@ -224,7 +223,7 @@ fn lost_raster_bytes_leave_text(rt: HostRuntime) {
 // 14 bytes are lacking, and the next byte of a mark is refused.
 #[test]
 fn lost_raster_bytes_leave_a_fault(rt: HostRuntime) {
-    let three = marks(&rt, rt.alloc(), &[0, 1, 2]);
+    let three = marks(rt.alloc(), &[0, 1, 2]).expect(&rt, "marks");
     let commands = [narrow(&rt, rt.alloc(), 16, &three)];
     let why = FaultReason::UnknownByte;
     let end = End::Fault { at: 38, why };

@@ -1,12 +1,10 @@
 //! QR codes: their worked rows, the ends of each range, and each way in which a function of GS ( k is refused.
 
 use crate::support::comparison::agrees;
-use crate::support::decoders::{
-    BAD, bytes_of, decodes, holds, push_half, reads, refuses_last, steps_to,
-};
-use crate::support::printers::marks;
+use crate::support::decoders::{BAD, decodes, holds, push_half, reads, refuses_last, steps_to};
 use escpos_command::{Character, Command, FaultReason, MarkId, QrData, QrLevel, QrModel, QrSize};
 use escpos_decode::{Decoder, End, Step};
+use escpos_test_values::{bytes_of, marks};
 use std::alloc::Global;
 use std::process::Abort;
 
@@ -201,7 +199,7 @@ fn completes(rt: &impl Abort, decoder: &mut Decoder, (head, data): (&[u8], &[u8]
 
 // A store of so many bytes: pushed byte by byte, in two pieces, and one byte short of its end.
 fn reads_long(rt: &impl Abort, alloc: Global, head: &[u8], count: usize) {
-    let data = bytes_of(rt, alloc, (b"", 0x1D, count, b""));
+    let data = bytes_of(alloc, (b"", 0x1D, count, b"")).expect(rt, "memory");
     let stored = store(rt, alloc, &data);
     completes(rt, &mut Decoder::new(alloc), (head, &data), stored);
     let (piece, rest) = data.split_at_checked(100).expect(rt, "data");
@@ -222,7 +220,7 @@ fn long_stores(rt: HostRuntime) {
 // The plain reader agrees at each byte of a store of 256 bytes.
 #[test]
 fn plain_reader_agrees_on_a_long_store(rt: HostRuntime) {
-    let bytes = bytes_of(&rt, rt.alloc(), (&OF_256, 0x1B, 256, b"A"));
+    let bytes = bytes_of(rt.alloc(), (&OF_256, 0x1B, 256, b"A")).expect(&rt, "memory");
     agrees(&rt, rt.alloc(), &bytes);
 }
 
@@ -252,11 +250,11 @@ fn character(rt: &impl Abort, byte: u8) -> Command {
 // of a length, begins no command.
 #[test]
 fn lost_bytes_leave_a_fault(rt: HostRuntime) {
-    let two = marks(&rt, rt.alloc(), &[0, 1]);
+    let two = marks(rt.alloc(), &[0, 1]).expect(&rt, "marks");
     let head = b"\x1D(k\x13\x001P0AB";
     let taken = two.get(..14).expect(&rt, "marks");
-    let data = bytes_of(&rt, rt.alloc(), (b"AB", 0, 0, taken));
-    let stream = bytes_of(&rt, rt.alloc(), (head, 0, 0, &two));
+    let data = bytes_of(rt.alloc(), (b"AB", 0, 0, taken)).expect(&rt, "memory");
+    let stream = bytes_of(rt.alloc(), (head, 0, 0, &two)).expect(&rt, "memory");
     let commands = [store(&rt, rt.alloc(), &data)];
     let why = FaultReason::UnknownByte;
     let end = End::Fault { at: 24, why };
@@ -267,11 +265,11 @@ fn lost_bytes_leave_a_fault(rt: HostRuntime) {
 // Where 20 bytes are lacking, the last two bytes of the second mark's id are left as text, and the next mark is one.
 #[test]
 fn lost_bytes_leave_text(rt: HostRuntime) {
-    let three = marks(&rt, rt.alloc(), &[0, 1, 2]);
+    let three = marks(rt.alloc(), &[0, 1, 2]).expect(&rt, "marks");
     let head = b"\x1D(k\x19\x001P0AB";
     let taken = three.get(..20).expect(&rt, "marks");
-    let data = bytes_of(&rt, rt.alloc(), (b"AB", 0, 0, taken));
-    let stream = bytes_of(&rt, rt.alloc(), (head, 0, 0, &three));
+    let data = bytes_of(rt.alloc(), (b"AB", 0, 0, taken)).expect(&rt, "memory");
+    let stream = bytes_of(rt.alloc(), (head, 0, 0, &three)).expect(&rt, "memory");
     let commands = [
         store(&rt, rt.alloc(), &data),
         character(&rt, b'0'),

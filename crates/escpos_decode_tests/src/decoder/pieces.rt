@@ -1,8 +1,9 @@
 //! An empty piece changes nothing, wherever it comes within a command.
 
-use crate::support::decoders::{decodes, reads_one, spellings, steps_to};
+use crate::support::decoders::{decodes, reads_one, steps_to};
 use escpos_command::Command;
 use escpos_decode::{Decoder, End, Step, read_piece};
+use escpos_test_values::spellings;
 use std::alloc::Global;
 use std::process::Abort;
 
