@@ -1,5 +1,5 @@
-//! Pages (escpos_paper): each call on its happy path, and what no clause says. The worked rows of paper stand in escpos_tests, in
-//! `program/render`, where they are read from bytes.
+//! Pages (escpos_paper): each call on its happy path, and what no clause says. The worked rows of paper stand in escpos_jobs_tests,
+//! in `render`, where they are read from bytes.
 
 use escpos_command::{
     Align, Bars, Character, Command, Cut, FeedLines, Form, LineWidth, Raster, Symbology,

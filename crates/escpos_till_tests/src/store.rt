@@ -1,10 +1,11 @@
 //! The store in SQLite: entries of each kind come back in order, over memory, and from files that were closed, or left as in a
 //! crash.
 
-use crate::support::tills::{S, number};
+use crate::support::tills::number;
 use escpos_command::LineWidth;
 use escpos_receipt::ReceiptOptions;
 use escpos_store::SqliteStore;
+use escpos_test_receipts::S;
 use escpos_text::Replacement;
 use escpos_till::{Content, Entry, Store};
 use sqlite::{Alter, FileStore, Files, Options};
@@ -21,13 +22,13 @@ fn content_for(rt: &impl Abort, alloc: Global, dots: u16, replacement: Option<u8
             None => None,
         },
     };
-    Content::with_options(S.to_vec(alloc).expect(rt, "memory"), options)
+    Content::with_options(S.0.to_vec(alloc).expect(rt, "memory"), options)
 }
 
 // An entry of each kind, and some at the ends of their ranges.
 fn entries_of(rt: &impl Abort, alloc: Global) -> Vec<Entry> {
     let number = number(rt, 1);
-    let content = Content::new(S.to_vec(alloc).expect(rt, "memory"));
+    let content = Content::new(S.0.to_vec(alloc).expect(rt, "memory"));
     let empty = Content::new(Vec::new(alloc));
     let mut entries = Vec::new(alloc);
     let _ = entries.push(Entry::Queued { content });

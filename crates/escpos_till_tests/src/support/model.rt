@@ -1,14 +1,21 @@
 //! What happens to a simulated till, by its calls or by its events.
 
-use crate::support::tills::S;
 use escpos_command::LineWidth;
 use escpos_host::JsonError;
-use escpos_jobs::emulate::ONLINE;
 use escpos_link::{Event, Refusal};
+use escpos_printer::Condition;
+use escpos_test_receipts::S;
 use escpos_till::{Content, Failure, LedgerError, OpenError, ReceiptState, StoreFault};
 use escpos_till_model::{Desk, Till, TillEvent, TillRefusal};
 use std::alloc::Global;
 use std::process::Abort;
+
+// A printer with nothing amiss.
+pub const ONLINE: Condition = Condition {
+    cover_open: false,
+    near_end: false,
+    paper_end: false,
+};
 
 // What happens, with S for a receipt, two opening marks, and 5 as the number that is raised to.
 #[derive(Clone, Copy, PartialEq)]
@@ -66,7 +73,7 @@ fn without_value<T: Drop>(made: Result<T, TillRefusal>) -> Result<(), TillRefusa
 pub fn call(till: &mut Till, plain: Plain) -> Result<(), TillRefusal> {
     match plain {
         Plain::Start => till.start(Failure::Never),
-        Plain::Queue => without_value(till.queue(S)),
+        Plain::Queue => without_value(till.queue(S.0)),
         Plain::Raise => till.raise(5),
         Plain::Take => without_value(till.take_in_hand(2, None)),
         Plain::LinkUp => till.link_up(),
@@ -79,9 +86,9 @@ pub fn call(till: &mut Till, plain: Plain) -> Result<(), TillRefusal> {
 }
 
 fn content_at_last(rt: &impl Abort, alloc: Global) -> Content {
-    match S.to_vec(alloc) {
+    match S.0.to_vec(alloc) {
         Ok(bytes) => Content::new(bytes),
-        Err(_) => Content::new(S.to_vec(alloc).expect(rt, "bytes")),
+        Err(_) => Content::new(S.0.to_vec(alloc).expect(rt, "bytes")),
     }
 }
 

@@ -1,0 +1,441 @@
+//! The arguments of the command line, and what they ask for.
+
+use crate::support::asking::{asks_for, printer_address};
+use escpos_arguments::asks_version;
+use escpos_jobs::emulate::ONLINE;
+use escpos_jobs::task::{NoTask, Task};
+use escpos_printer::Condition;
+use std::alloc::Global;
+use std::net::{Ipv4Addr, SocketAddrV4};
+use std::process::Abort;
+
+// Words, and what they ask for.
+type Asked = (&'static [&'static str], Result<Task, NoTask>);
+
+const ASKED: [Asked; 57] = [
+    (&["check"], Ok(Task::Check)),
+    (&["render"], Ok(Task::Render)),
+    (&["draw"], Ok(Task::Draw)),
+    (&["encode"], Ok(Task::Encode)),
+    (&["check", "--raw"], Ok(Task::CheckRaw)),
+    (&["render", "--raw"], Ok(Task::RenderRaw)),
+    (&["draw", "--raw"], Ok(Task::DrawRaw)),
+    (&["encode", "--raw"], Ok(Task::EncodeRaw)),
+    (&["check", "--raw", "--help"], Err(NoTask::Help)),
+    (&["--raw", "check"], Err(NoTask::Usage)),
+    (&["check", "--raw", "--raw"], Err(NoTask::Usage)),
+    (&["check", "--raw=true"], Err(NoTask::Usage)),
+    (&["check", "--raw", "extra"], Err(NoTask::Usage)),
+    (&["check", "-raw"], Err(NoTask::Usage)),
+    (&["play", "--raw"], Err(NoTask::Usage)),
+    (&["loop"], Ok(Task::Loop)),
+    (&["help"], Err(NoTask::Help)),
+    (&["--help"], Err(NoTask::Help)),
+    (&["-h"], Err(NoTask::Help)),
+    (&["check", "--help"], Err(NoTask::Help)),
+    (&["render", "--help"], Err(NoTask::Help)),
+    (&["draw", "--help"], Err(NoTask::Help)),
+    (&["draw", "extra"], Err(NoTask::Usage)),
+    (&["encode", "--help"], Err(NoTask::Help)),
+    (&["encode", "-h"], Err(NoTask::Help)),
+    (&["emulate", "--help"], Err(NoTask::Help)),
+    (&["emulate", "-h"], Err(NoTask::Help)),
+    (&["emulate", "127.0.0.1:80", "-h"], Err(NoTask::Help)),
+    (&["send", "--help"], Err(NoTask::Help)),
+    (&["send", "-h"], Err(NoTask::Help)),
+    (&["send", "--first", "0", "--help"], Err(NoTask::Help)),
+    (&["status", "--help"], Err(NoTask::Help)),
+    (&["status", "-h"], Err(NoTask::Help)),
+    (&["status", "127.0.0.1:80", "-h"], Err(NoTask::Help)),
+    (&["loop", "--help"], Err(NoTask::Help)),
+    (&["loop", "-h"], Err(NoTask::Help)),
+    (&[], Err(NoTask::Usage)),
+    (&[""], Err(NoTask::Usage)),
+    (&["-"], Err(NoTask::Usage)),
+    (&["--"], Err(NoTask::Usage)),
+    (&["nosuch"], Err(NoTask::Usage)),
+    (&["Check"], Err(NoTask::Usage)),
+    (&["chec"], Err(NoTask::Usage)),
+    (&["--nosuch"], Err(NoTask::Usage)),
+    (&["-V"], Err(NoTask::Usage)),
+    (&["--version"], Err(NoTask::Usage)),
+    (&["check", "--nosuch"], Err(NoTask::Usage)),
+    (&["check", "extra"], Err(NoTask::Usage)),
+    (&["encode", "check"], Err(NoTask::Usage)),
+    (&["check", "check"], Err(NoTask::Usage)),
+    (&["check", "--"], Err(NoTask::Usage)),
+    (&["check", "help"], Err(NoTask::Usage)),
+    (&["loop", "extra"], Err(NoTask::Usage)),
+    (&["loop", "127.0.0.1:80"], Err(NoTask::Usage)),
+    (&["loop", "--links", "3"], Err(NoTask::Usage)),
+    (&["loop", "--"], Err(NoTask::Usage)),
+    (&["Loop"], Err(NoTask::Usage)),
+];
+
+// What a command and what follows it ask for.
+fn asks_for_command<'a>(
+    rt: &impl Abort,
+    alloc: Global,
+    command: &'a str,
+    given: &[&'a str],
+    asked: Result<Task, NoTask>,
+) {
+    let mut arguments = Vec::new(alloc);
+    arguments.push(command).expect(rt, "memory");
+    arguments.extend_from_slice(given).expect(rt, "memory");
+    asks_for(rt, alloc, arguments.as_slice(), asked);
+}
+
+#[test]
+fn arguments_name_tasks(rt: HostRuntime) {
+    for (arguments, asked) in &ASKED {
+        asks_for(&rt, rt.alloc(), arguments, *asked);
+    }
+    for arguments in [["check"; 4].as_slice(), &["check"; 100], &["--"; 100]] {
+        asks_for(&rt, rt.alloc(), arguments, Err(NoTask::Usage));
+    }
+}
+
+// The arguments after `emulate`, and for how many links they ask.
+const EMULATE_ARGUMENTS: [(&'static [&'static str], u32); 10] = [
+    (&["127.0.0.1:9100"], 1),
+    (&["127.0.0.1:9100", "--links", "3"], 3),
+    (&["127.0.0.1:9100", "--links=3"], 3),
+    (&["--links", "3", "127.0.0.1:9100"], 3),
+    (&["--links=3", "127.0.0.1:9100"], 3),
+    (&["--links", "3", "--", "127.0.0.1:9100"], 3),
+    (&["127.0.0.1:9100", "--links", "1"], 1),
+    (&["127.0.0.1:9100", "--links", "1000"], 1_000),
+    (&["127.0.0.1:9100", "--links", "+5"], 5),
+    (&["127.0.0.1:9100", "--links", "007"], 7),
+];
+
+#[test]
+fn arguments_of_emulate(rt: HostRuntime) {
+    for (given, links) in &EMULATE_ARGUMENTS {
+        let asked = Ok(Task::Emulate {
+            address: printer_address(),
+            links: *links,
+        });
+        asks_for_command(&rt, rt.alloc(), "emulate", given, asked);
+    }
+}
+
+// The arguments after `send`, and the number of the first mark and how many opening marks they ask for.
+const SEND_ARGUMENTS: [(&'static [&'static str], u32, u32); 13] = [
+    (&["127.0.0.1:9100", "--first", "8"], 8, 3),
+    (&["127.0.0.1:9100", "--first=8"], 8, 3),
+    (&["--first", "8", "127.0.0.1:9100"], 8, 3),
+    (&["127.0.0.1:9100", "--first", "8", "--openings", "5"], 8, 5),
+    (&["--openings", "5", "--first", "8", "127.0.0.1:9100"], 8, 5),
+    (&["--first=8", "127.0.0.1:9100", "--openings=5"], 8, 5),
+    (&["--openings=5", "127.0.0.1:9100", "--first=8"], 8, 5),
+    (&["127.0.0.1:9100", "--first", "0"], 0, 3),
+    (&["127.0.0.1:9100", "--first", "1679615"], 1_679_615, 3),
+    (&["127.0.0.1:9100", "--first", "8", "--openings", "1"], 8, 1),
+    (
+        &["127.0.0.1:9100", "--first", "8", "--openings", "99"],
+        8,
+        99,
+    ),
+    (&["127.0.0.1:9100", "--first", "+8"], 8, 3),
+    (&["127.0.0.1:9100", "--first", "08"], 8, 3),
+];
+
+#[test]
+fn arguments_of_send(rt: HostRuntime) {
+    for (given, first, openings) in &SEND_ARGUMENTS {
+        let asked = Ok(Task::Send {
+            address: printer_address(),
+            first: *first,
+            openings: *openings,
+        });
+        asks_for_command(&rt, rt.alloc(), "send", given, asked);
+    }
+}
+
+// The arguments after `emulate` that ask for a printer in a condition, for so many links, or to be followed.
+const CONDITIONS: [(&'static [&'static str], Option<u32>, Condition); 8] = [
+    (&["127.0.0.1:9100", "--condition", "000"], Some(1), ONLINE),
+    (
+        &["127.0.0.1:9100", "--condition=100", "--links", "9"],
+        Some(9),
+        Condition {
+            cover_open: true,
+            ..ONLINE
+        },
+    ),
+    (
+        &["--condition", "010", "127.0.0.1:9100"],
+        Some(1),
+        Condition {
+            near_end: true,
+            ..ONLINE
+        },
+    ),
+    (
+        &["127.0.0.1:9100", "--condition", "001"],
+        Some(1),
+        Condition {
+            paper_end: true,
+            ..ONLINE
+        },
+    ),
+    (&["127.0.0.1:9100", "--follow"], None, ONLINE),
+    (&["--follow", "127.0.0.1:9100"], None, ONLINE),
+    (
+        &["127.0.0.1:9100", "--follow", "--condition", "000"],
+        None,
+        ONLINE,
+    ),
+    (
+        &["127.0.0.1:9100", "--condition", "111", "--follow"],
+        None,
+        Condition {
+            cover_open: true,
+            near_end: true,
+            paper_end: true,
+        },
+    ),
+];
+
+#[test]
+fn conditions_of_emulate(rt: HostRuntime) {
+    let address = printer_address();
+    for (given, links, condition) in &CONDITIONS {
+        let condition = *condition;
+        let asked = match *links {
+            Some(links) => Task::EmulateIn {
+                address,
+                links,
+                condition,
+            },
+            None => Task::Follow { address, condition },
+        };
+        asks_for_command(&rt, rt.alloc(), "emulate", given, Ok(asked));
+    }
+}
+
+// The arguments after `send` with `--wait`, and after `status`: the first mark and how many opening marks, for `send`, and how many
+// seconds a wait may last.
+const WAITS: [(&'static [&'static str], Option<(u32, u32)>, u32); 6] = [
+    (
+        &["127.0.0.1:9100", "--first", "8", "--wait", "30"],
+        Some((8, 3)),
+        30,
+    ),
+    (
+        &["--wait=1", "127.0.0.1:9100", "--openings", "5", "--first=8"],
+        Some((8, 5)),
+        1,
+    ),
+    (
+        &["127.0.0.1:9100", "--first", "8", "--wait", "3600"],
+        Some((8, 3)),
+        3_600,
+    ),
+    (&["127.0.0.1:9100", "--wait", "1"], None, 1),
+    (&["--wait", "+5", "127.0.0.1:9100"], None, 5),
+    (&["127.0.0.1:9100", "--wait=03600"], None, 3_600),
+];
+
+#[test]
+fn waits_of_send_and_status(rt: HostRuntime) {
+    let address = printer_address();
+    for (given, marks, seconds) in &WAITS {
+        let wait = *seconds;
+        let (name, asked) = match *marks {
+            Some((first, openings)) => (
+                "send",
+                Task::SendWithin {
+                    address,
+                    first,
+                    openings,
+                    wait,
+                },
+            ),
+            None => (
+                "status",
+                Task::Status {
+                    address,
+                    wait: Some(wait),
+                },
+            ),
+        };
+        asks_for_command(&rt, rt.alloc(), name, given, Ok(asked));
+    }
+    let asked = Task::Status {
+        address,
+        wait: None,
+    };
+    asks_for_command(&rt, rt.alloc(), "status", &["127.0.0.1:9100"], Ok(asked));
+}
+
+// Words after `status` that ask for nothing.
+const NO_STATUS_ARGUMENTS: [&'static [&'static str]; 9] = [
+    &[],
+    &["printer:9100"],
+    &["127.0.0.1:9100", "127.0.0.1:9100"],
+    &["127.0.0.1:9100", "--wait"],
+    &["127.0.0.1:9100", "--wait", "0"],
+    &["127.0.0.1:9100", "--wait", "3601"],
+    &["127.0.0.1:9100", "--wait", "1.5"],
+    &["127.0.0.1:9100", "--wait", "1", "--wait", "1"],
+    &["127.0.0.1:9100", "--first", "0"],
+];
+
+#[test]
+fn version_is_asked_for_alone(rt: HostRuntime) {
+    assert!(&rt; asks_version(&["--version"]));
+    for words in [
+        [].as_slice(),
+        &["version"],
+        &["-V"],
+        &["--version", "x"],
+        &["check", "--version"],
+    ] {
+        assert!(&rt; !asks_version(words));
+    }
+}
+
+// Words after `emulate` that ask for nothing.
+const NO_EMULATE_ARGUMENTS: [&'static [&'static str]; 28] = [
+    &["127.0.0.1:9100", "--follow", "--links", "3"],
+    &["127.0.0.1:9100", "--follow", "--links", "1"],
+    &["127.0.0.1:9100", "--follow", "--follow"],
+    &["127.0.0.1:9100", "--follow=true"],
+    &["127.0.0.1:9100", "--condition"],
+    &["127.0.0.1:9100", "--condition", ""],
+    &["127.0.0.1:9100", "--condition", "00"],
+    &["127.0.0.1:9100", "--condition", "0000"],
+    &["127.0.0.1:9100", "--condition", "002"],
+    &["127.0.0.1:9100", "--condition", "000", "--condition", "000"],
+    &[],
+    &["--links", "3"],
+    &["127.0.0.1:9100", "--links"],
+    &["127.0.0.1:9100", "--links", ""],
+    &["127.0.0.1:9100", "--links="],
+    &["127.0.0.1:9100", "--links", "0"],
+    &["127.0.0.1:9100", "--links", "1001"],
+    &["127.0.0.1:9100", "--links", "4294967296"],
+    &["127.0.0.1:9100", "--links", "4294967297"],
+    &["127.0.0.1:9100", "--links", "-1"],
+    &["127.0.0.1:9100", "--links=-1"],
+    &["127.0.0.1:9100", "--links", "three"],
+    &["127.0.0.1:9100", "--links", "3.0"],
+    &["127.0.0.1:9100", "--links", "3", "--links", "3"],
+    &["127.0.0.1:9100", "127.0.0.1:9100"],
+    &["127.0.0.1:9100", "--first", "0"],
+    &["127.0.0.1:9100", "-l", "3"],
+    &["127.0.0.1:9100", "check"],
+];
+
+// Words after `send` that ask for nothing.
+const NO_SEND_ARGUMENTS: [&'static [&'static str]; 22] = [
+    &["127.0.0.1:9100", "--wait", "5"],
+    &["127.0.0.1:9100", "--first", "8", "--wait", "0"],
+    &["127.0.0.1:9100", "--first", "8", "--wait", "3601"],
+    &["127.0.0.1:9100", "--first", "8", "--wait=5", "--wait=5"],
+    &[],
+    &["127.0.0.1:9100"],
+    &["127.0.0.1:9100", "--openings", "5"],
+    &["--first", "8"],
+    &["127.0.0.1:9100", "--first"],
+    &["127.0.0.1:9100", "--first", ""],
+    &["127.0.0.1:9100", "--first", "1679616"],
+    &["127.0.0.1:9100", "--first", "4294967296"],
+    &["127.0.0.1:9100", "--first", "-1"],
+    &["127.0.0.1:9100", "--first=-1"],
+    &["127.0.0.1:9100", "--first", "000Z"],
+    &["127.0.0.1:9100", "--first", "8", "--openings", "0"],
+    &["127.0.0.1:9100", "--first", "8", "--openings", "100"],
+    &["127.0.0.1:9100", "--first", "8", "--openings", "-1"],
+    &["127.0.0.1:9100", "--first", "8", "--first", "8"],
+    &["127.0.0.1:9100", "127.0.0.1:9100", "--first", "8"],
+    &["127.0.0.1:9100", "--first", "8", "--links", "3"],
+    &["127.0.0.1:9100", "8"],
+];
+
+#[test]
+fn arguments_that_ask_for_nothing(rt: HostRuntime) {
+    for given in &NO_EMULATE_ARGUMENTS {
+        asks_for_command(&rt, rt.alloc(), "emulate", given, Err(NoTask::Usage));
+    }
+    for given in &NO_STATUS_ARGUMENTS {
+        asks_for_command(&rt, rt.alloc(), "status", given, Err(NoTask::Usage));
+    }
+    for given in &NO_SEND_ARGUMENTS {
+        asks_for_command(&rt, rt.alloc(), "send", given, Err(NoTask::Usage));
+    }
+}
+
+// Texts of addresses, with the address and its port where they are one.
+const ADDRESSES: [(&str, [u8; 4], u16); 6] = [
+    ("127.0.0.1:9100", [127, 0, 0, 1], 9100),
+    ("0.0.0.0:0", [0, 0, 0, 0], 0),
+    ("255.255.255.255:65535", [255, 255, 255, 255], 65_535),
+    ("192.168.10.200:80", [192, 168, 10, 200], 80),
+    ("1.2.3.4:5", [1, 2, 3, 4], 5),
+    ("10.0.0.9:10000", [10, 0, 0, 9], 10_000),
+];
+
+const NO_ADDRESSES: [&str; 31] = [
+    "",
+    ":",
+    "localhost:9100",
+    "printer:9100",
+    "256.0.0.1:1",
+    "1.256.0.1:1",
+    "1.0.256.1:1",
+    "1.0.0.256:1",
+    "127.0.0.1:65536",
+    "127.0.0.1:080",
+    "127.0.0.1:00",
+    "127.0.0.1:09100",
+    "127.0.0.1:+80",
+    "127.0.0.1:-80",
+    "01.2.3.4:5",
+    "1.02.3.4:5",
+    "1.2.03.4:5",
+    "1.2.3.04:5",
+    "00.0.0.0:0",
+    "127.0.0.1",
+    "127.0.0.1:",
+    "127.0.0.1:80:80",
+    "127.0.0:80",
+    "127.0.0.1.1:80",
+    "127..0.1:80",
+    " 127.0.0.1:80",
+    "127.0.0.1:80 ",
+    "127.0.0.1: 80",
+    "[::1]:80",
+    "[::ffff:127.0.0.1]:80",
+    "0x7f.0.0.1:80",
+];
+
+// A text is this address, for `emulate` and for `send`, or none.
+fn asks_at(rt: &impl Abort, alloc: Global, text: &str, wanted: Option<SocketAddrV4>) {
+    let (mut emulate, mut send) = (Err(NoTask::Usage), Err(NoTask::Usage));
+    if let Some(address) = wanted {
+        emulate = Ok(Task::Emulate { address, links: 1 });
+        send = Ok(Task::Send {
+            address,
+            first: 0,
+            openings: 3,
+        });
+    }
+    asks_for_command(rt, alloc, "emulate", &[text], emulate);
+    asks_for_command(rt, alloc, "send", &[text, "--first", "0"], send);
+}
+
+#[test]
+fn addresses(rt: HostRuntime) {
+    for (text, octets, port) in &ADDRESSES {
+        let [a, b, c, d] = *octets;
+        let address = SocketAddrV4::new(Ipv4Addr::new(a, b, c, d), *port);
+        asks_at(&rt, rt.alloc(), text, Some(address));
+    }
+    for text in &NO_ADDRESSES {
+        asks_at(&rt, rt.alloc(), text, None);
+    }
+}

@@ -1,0 +1,312 @@
+//! Options: widths of lines, plain text, replacements, and thresholds of pictures.
+
+use crate::support::asking::{asks_for, printer_address};
+use escpos_arguments::task_of;
+use escpos_command::LineWidth;
+use escpos_jobs::emulate::ONLINE;
+use escpos_jobs::task::{NoTask, Task};
+use escpos_printer::Condition;
+use escpos_receipt::ReceiptOptions;
+use escpos_text::Replacement;
+use std::alloc::Global;
+use std::process::Abort;
+
+fn wide(rt: &impl Abort, dots: u16) -> LineWidth {
+    LineWidth::new(dots).expect(rt, "a width")
+}
+
+#[test]
+fn widths_of_streams(rt: HostRuntime) {
+    let width = wide(&rt, 384);
+    let rows: [(&[&str], Task); 9] = [
+        (&["render", "--width", "384"], Task::RenderAt { width }),
+        (&["render", "--width=384"], Task::RenderAt { width }),
+        (&["render", "--width", "0384"], Task::RenderAt { width }),
+        (
+            &["render", "--raw", "--width", "384"],
+            Task::RenderRawAt { width },
+        ),
+        (
+            &["render", "--width", "384", "--raw"],
+            Task::RenderRawAt { width },
+        ),
+        (&["draw", "--width", "384"], Task::DrawAt { width }),
+        (
+            &["draw", "--width", "384", "--raw"],
+            Task::DrawRawAt { width },
+        ),
+        (&["draw", "--raw", "--width=384"], Task::DrawRawAt { width }),
+        (&["loop", "--width", "384"], Task::LoopAt { width }),
+    ];
+    for (words, task) in rows {
+        asks_for(&rt, rt.alloc(), words, Ok(task));
+    }
+    for (words, dots) in [
+        (["render", "--width", "1"], 1),
+        (["render", "--width", "512"], 512),
+        (["render", "--width", "1024"], 1024),
+    ] {
+        let width = wide(&rt, dots);
+        asks_for(&rt, rt.alloc(), &words, Ok(Task::RenderAt { width }));
+    }
+}
+
+#[test]
+fn widths_of_emulate(rt: HostRuntime) {
+    let width = wide(&rt, 576);
+    let address = printer_address();
+    let open = Condition {
+        cover_open: true,
+        ..ONLINE
+    };
+    for (words, links, condition) in [
+        (
+            ["--width", "576", "--links=1", "--condition=000"],
+            1,
+            ONLINE,
+        ),
+        (["--links", "3", "--width", "576"], 3, ONLINE),
+        (["--condition", "100", "--width", "576"], 1, open),
+    ] {
+        let [a, b, c, d] = words;
+        let task = Task::EmulateAt {
+            address,
+            links,
+            condition,
+            width,
+        };
+        asks_for(
+            &rt,
+            rt.alloc(),
+            &["emulate", "127.0.0.1:9100", a, b, c, d],
+            Ok(task),
+        );
+    }
+    for (words, condition) in [
+        (["--follow", "--width=576", "--condition=000"], ONLINE),
+        (["--width=576", "--condition=100", "--follow"], open),
+    ] {
+        let [a, b, c] = words;
+        let task = Task::FollowAt {
+            address,
+            condition,
+            width,
+        };
+        asks_for(
+            &rt,
+            rt.alloc(),
+            &["emulate", "127.0.0.1:9100", a, b, c],
+            Ok(task),
+        );
+    }
+}
+
+// Words with a width that ask for nothing.
+const NO_WIDTHS: [&'static [&'static str]; 19] = [
+    &["render", "--width"],
+    &["render", "--width", ""],
+    &["render", "--width="],
+    &["render", "--width", "0"],
+    &["render", "--width", "1025"],
+    &["render", "--width", "65920"],
+    &["render", "--width", "4294967680"],
+    &["render", "--width", "-1"],
+    &["render", "--width", "384.0"],
+    &["render", "--width", "wide"],
+    &["render", "--width", "384", "--width", "384"],
+    &["draw", "--raw", "--width", "0"],
+    &["loop", "--width", "0"],
+    &["emulate", "127.0.0.1:9100", "--width", "0"],
+    &[
+        "emulate",
+        "127.0.0.1:9100",
+        "--follow",
+        "--links",
+        "1",
+        "--width",
+        "384",
+    ],
+    &["check", "--width", "384"],
+    &["encode", "--width", "0"],
+    &["play", "--width", "384"],
+    &["send", "127.0.0.1:9100", "--first", "0", "--width", "0"],
+];
+
+#[test]
+fn widths_that_ask_for_nothing(rt: HostRuntime) {
+    for words in &NO_WIDTHS {
+        asks_for(&rt, rt.alloc(), words, Err(NoTask::Usage));
+    }
+}
+
+#[test]
+fn words_for_a_width_of_receipts(rt: HostRuntime) {
+    let rows: [(&[&str], bool); 3] = [
+        (&["encode", "--width", "144"], false),
+        (&["encode", "--width=144", "--raw"], true),
+        (&["encode", "--raw", "--width", "144"], true),
+    ];
+    for (words, raw) in rows {
+        let task = Task::EncodeWith {
+            raw,
+            options: ReceiptOptions {
+                width: wide(&rt, 144),
+                replacement: None,
+            },
+        };
+        assert!(&rt; task_of(rt.alloc(), words) == Ok(task));
+    }
+}
+
+fn plain(raw: bool) -> Task {
+    Task::RenderText {
+        raw,
+        width: LineWidth::usual(),
+    }
+}
+
+#[test]
+fn words_for_plain_text(rt: HostRuntime) {
+    let width = LineWidth::new(384).expect(&rt, "a width");
+    let rows: [(&[&str], Task); 6] = [
+        (&["render", "--text"], plain(false)),
+        (&["render", "--text", "--raw"], plain(true)),
+        (&["render", "--raw", "--text"], plain(true)),
+        (
+            &["render", "--text", "--width", "384"],
+            Task::RenderText { raw: false, width },
+        ),
+        (
+            &["render", "--width=384", "--raw", "--text"],
+            Task::RenderText { raw: true, width },
+        ),
+        (&["render", "--width", "512", "--text"], plain(false)),
+    ];
+    for (words, task) in rows {
+        asks_for(&rt, rt.alloc(), words, Ok(task));
+    }
+    for words in [
+        ["check", "--text"],
+        ["draw", "--text"],
+        ["encode", "--text"],
+        ["render", "--text=1"],
+    ] {
+        asks_for(&rt, rt.alloc(), &words, Err(NoTask::Usage));
+    }
+}
+
+fn replacing(rt: &impl Abort, byte: u8) -> ReceiptOptions {
+    ReceiptOptions {
+        width: LineWidth::usual(),
+        replacement: Some(Replacement::new(byte).expect(rt, "a replacement")),
+    }
+}
+
+#[test]
+fn words_for_a_replacement(rt: HostRuntime) {
+    let rows: [(&[&str], bool, u8); 5] = [
+        (&["encode", "--replace", "?"], false, b'?'),
+        (&["encode", "--raw", "--replace", "?"], true, b'?'),
+        (&["encode", "--replace=?", "--raw"], true, b'?'),
+        (&["encode", "--replace=-"], false, b'-'),
+        (&["encode", "--replace", " "], false, b' '),
+    ];
+    for (words, raw, byte) in rows {
+        let options = replacing(&rt, byte);
+        asks_for(
+            &rt,
+            rt.alloc(),
+            words,
+            Ok(Task::EncodeWith { raw, options }),
+        );
+    }
+    let words: [&[&str]; 7] = [
+        &["encode", "--replace"],
+        &["encode", "--replace", ""],
+        &["encode", "--replace", "ab"],
+        &["encode", "--replace", "\u{e9}"],
+        &["encode", "--replace", "\u{7f}"],
+        &["encode", "--replace", "?", "--replace", "?"],
+        &["render", "--replace", "?"],
+    ];
+    for words in words {
+        asks_for(&rt, rt.alloc(), words, Err(NoTask::Usage));
+    }
+}
+
+#[test]
+fn words_for_a_replacement_of_send(rt: HostRuntime) {
+    let address = printer_address();
+    let rows: [(&[&str], u32, Option<u32>); 2] = [
+        (
+            &["send", "127.0.0.1:9100", "--first", "4", "--replace", "?"],
+            3,
+            None,
+        ),
+        (
+            &[
+                "send",
+                "127.0.0.1:9100",
+                "--replace=?",
+                "--openings=9",
+                "--first",
+                "4",
+                "--wait",
+                "30",
+            ],
+            9,
+            Some(30),
+        ),
+    ];
+    for (words, openings, wait) in rows {
+        let task = Task::SendWith {
+            address,
+            first: 4,
+            openings,
+            wait,
+            options: replacing(&rt, b'?'),
+        };
+        asks_for(&rt, rt.alloc(), words, Ok(task));
+    }
+}
+
+fn image_at(rt: &impl Abort, dots: u16, threshold: Option<u8>) -> Task {
+    Task::Image {
+        width: LineWidth::new(dots).expect(rt, "a width"),
+        threshold,
+    }
+}
+
+#[test]
+fn words_for_an_image(rt: HostRuntime) {
+    let rows: [(&[&str], u16, Option<u8>); 6] = [
+        (&["image"], 512, None),
+        (&["image", "--width", "384"], 384, None),
+        (&["image", "--threshold=128"], 512, Some(128)),
+        (&["image", "--threshold", "1", "--width", "1"], 1, Some(1)),
+        (
+            &["image", "--width=1024", "--threshold=255"],
+            1024,
+            Some(255),
+        ),
+        (&["image", "--width=512"], 512, None),
+    ];
+    for (words, dots, threshold) in rows {
+        let task = image_at(&rt, dots, threshold);
+        assert!(&rt; task_of(rt.alloc(), words) == Ok(task));
+    }
+    let refused: [&[&str]; 9] = [
+        &["image", "--threshold", "0"],
+        &["image", "--threshold", "256"],
+        &["image", "--threshold", ""],
+        &["image", "--threshold"],
+        &["image", "--width", "0"],
+        &["image", "--width", "1025"],
+        &["image", "--raw"],
+        &["image", "picture"],
+        &["render", "--threshold", "1"],
+    ];
+    for words in refused {
+        assert!(&rt; task_of(rt.alloc(), words) == Err(NoTask::Usage));
+    }
+}

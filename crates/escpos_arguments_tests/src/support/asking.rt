@@ -1,0 +1,72 @@
+//! What arguments ask for; of a till's words, in a form that can be compared.
+
+use escpos_arguments::{task_of, till_task_of};
+use escpos_jobs::task::{NoTask, Task};
+use escpos_receipt::ReceiptOptions;
+use escpos_till_jobs::TillTask;
+use std::alloc::Global;
+use std::net::{Ipv4Addr, SocketAddrV4};
+use std::process::Abort;
+
+/// This is what the arguments ask for.
+pub fn asks_for(rt: &impl Abort, alloc: Global, words: &[&str], asked: Result<Task, NoTask>) {
+    assert!(rt; task_of(alloc, words) == asked);
+}
+
+// A task with its ledger's path: the dots of a line, and what is printed in place of a character that no code table has; the
+// printer's address, how many opening marks, and whether there is a text for copies, with how many seconds a wait may last, if
+// that is given; or the number that the next mark number is raised to.
+#[derive(Clone, Copy, PartialEq)]
+pub enum Plain<'a> {
+    Queue(&'a str, u16, Option<char>),
+    Deliver(&'a str, SocketAddrV4, u32, bool),
+    Within(&'a str, SocketAddrV4, u32, bool, u32),
+    List(&'a str, Option<u32>),
+}
+
+fn replacement_of(options: &ReceiptOptions) -> Option<char> {
+    match options.replacement {
+        Some(replacement) => Some(replacement.character()),
+        None => None,
+    }
+}
+
+fn plain_of<'a>(task: TillTask<'a>) -> Plain<'a> {
+    match task {
+        TillTask::Queue { ledger, options } => Plain::Queue(
+            ledger.text(),
+            options.width.dots(),
+            replacement_of(&options),
+        ),
+        TillTask::Deliver { ledger, delivery } => Plain::Deliver(
+            ledger.text(),
+            delivery.address,
+            delivery.openings,
+            delivery.copy.is_some(),
+        ),
+        TillTask::DeliverWithin {
+            ledger,
+            delivery,
+            wait,
+        } => Plain::Within(
+            ledger.text(),
+            delivery.address,
+            delivery.openings,
+            delivery.copy.is_some(),
+            wait,
+        ),
+        TillTask::List { ledger, first } => Plain::List(ledger.text(), first),
+    }
+}
+
+// What these words ask for.
+pub fn asked_by<'a>(alloc: Global, words: &'a [&'a str]) -> Result<Plain<'a>, NoTask> {
+    match till_task_of(alloc, words) {
+        Ok(task) => Ok(plain_of(task)),
+        Err(why) => Err(why),
+    }
+}
+
+pub fn printer_address() -> SocketAddrV4 {
+    SocketAddrV4::new(Ipv4Addr::new(127, 0, 0, 1), 9100)
+}

@@ -1,0 +1,346 @@
+//! The rows of `check`, and long listings.
+
+use escpos_jobs::status::Status;
+use escpos_jobs::task::Task;
+use escpos_test_jobs::{Row, performs_rows, prints};
+use escpos_test_receipts::{filled, joined};
+use std::alloc::Global;
+use std::process::Abort;
+
+const CHECKED: [Row; 18] = [
+    // empty_input
+    (b"", b"end 0 pending 0\n", Status::Good),
+    // five_commands
+    (
+        b"1B 40 48 69 0A 1D 56 00",
+        b"0 init\n2 char 48\n3 char 69\n4 lf\n5 cut 00\nend 8 pending 0\n",
+        Status::Good,
+    ),
+    (
+        b"1B 40 48 69 0A 1D 56",
+        b"0 init\n2 char 48\n3 char 69\n4 lf\nend 7 pending 2\n",
+        Status::Refused,
+    ),
+    // align_range
+    (b"1B 61 03", b"fault 2 3 BadParameter\n", Status::Refused),
+    (b"1B 61 32", b"0 align 32\nend 3 pending 0\n", Status::Good),
+    // unknown_bytes
+    (b"1B 24", b"fault 1 2 UnknownCommand\n", Status::Refused),
+    (b"06", b"fault 0 1 UnknownByte\n", Status::Refused),
+    (
+        b"1B 40 1B 24",
+        b"0 init\nfault 3 2 UnknownCommand\n",
+        Status::Refused,
+    ),
+    // odd_hex
+    (b"1B 4", b"refused hex\n", Status::Refused),
+    // mark_35
+    (
+        b"1D 28 48 06 00 30 30 30 30 30 5A",
+        b"0 mark 000Z\nend 11 pending 0\n",
+        Status::Good,
+    ),
+    (
+        b"1D 28 48 06 00 30 30 30 30 30",
+        b"end 10 pending 10\n",
+        Status::Refused,
+    ),
+    // size_bits
+    (b"1D 21 08", b"fault 2 3 BadParameter\n", Status::Refused),
+    (b"1D 21 80", b"fault 2 3 BadParameter\n", Status::Refused),
+    (b"1D 21 77", b"0 size 77\nend 3 pending 0\n", Status::Good),
+    // mark_prefix
+    (b"1D 28 49", b"fault 2 2 UnknownCommand\n", Status::Refused),
+    (b"1D 28 48 07", b"fault 3 3 BadParameter\n", Status::Refused),
+    (
+        b"1D 28 48 06 00 30 30 1F",
+        b"fault 7 3 BadParameter\n",
+        Status::Refused,
+    ),
+    // cut_feed
+    (
+        b"1D 56 41 05",
+        b"0 cut 41 05\nend 4 pending 0\n",
+        Status::Good,
+    ),
+];
+
+#[test]
+fn rows_of_check(rt: HostRuntime) {
+    assert!(&rt; performs_rows(rt.alloc(), Task::Check, &CHECKED, &[1, 5, 4096]));
+}
+
+const CHECKED_CONTENTS: [Row; 27] = [
+    // ean13
+    (
+        b"1D 6B 02 34 30 30 36 33 38 31 33 33 33 39 33 00",
+        b"0 bars 02 343030363338313333333933\nend 16 pending 0\n",
+        Status::Good,
+    ),
+    (
+        b"41 1D 6B 02 34 30 30 36 33 38 31 33 33 33 39 33 32 00",
+        b"0 char 41\n1 bars 02 34303036333831333333393332\nnote 1 check digit 2, right 1\nend 18 pending 0\n",
+        Status::Good,
+    ),
+    (
+        b"1D 6B 02 34 30 30 36 33 38 31 33 33 33 39 33 32 00",
+        b"0 bars 02 34303036333831333333393332\nnote 0 check digit 2, right 1\nend 17 pending 0\n",
+        Status::Good,
+    ),
+    (
+        b"1D 6B 02 34 30 30 36 33 38 31 33 33 33 39 33 31 00",
+        b"0 bars 02 34303036333831333333393331\nend 17 pending 0\n",
+        Status::Good,
+    ),
+    (
+        b"1D 6B 02 34 30 30 36 33 38 31 33 33 33 39 00",
+        b"fault 14 4 BadBarcode\n",
+        Status::Refused,
+    ),
+    // the check digits of UPC-A and EAN-8 in form B, the first right and the second wrong
+    (
+        b"1D 6B 41 0C 30 33 36 30 30 30 32 39 31 34 35 32",
+        b"0 bars 41 303336303030323931343532\nend 16 pending 0\n",
+        Status::Good,
+    ),
+    (
+        b"1D 6B 44 08 35 35 31 32 33 34 35 30",
+        b"0 bars 44 3535313233343530\nnote 0 check digit 0, right 7\nend 12 pending 0\n",
+        Status::Good,
+    ),
+    // ean8_lengths
+    (
+        b"1D 6B 03 35 35 31 32 33 34 00",
+        b"fault 9 4 BadBarcode\n",
+        Status::Refused,
+    ),
+    (
+        b"1D 6B 03 35 35 31 32 33 34 35 37 39",
+        b"fault 11 4 BadBarcode\n",
+        Status::Refused,
+    ),
+    // itf
+    (b"1D 6B 46 03", b"fault 3 4 BadBarcode\n", Status::Refused),
+    (
+        b"1D 6B 46 02 31 32",
+        b"0 bars 46 3132\nend 6 pending 0\n",
+        Status::Good,
+    ),
+    // raster
+    (
+        b"1D 76 30 00 01 00 02 00 F0 0F",
+        b"0 raster 00 1 2\nend 10 pending 0\n",
+        Status::Good,
+    ),
+    (b"1D 76 30 00 00", b"fault 4 5 BadSize\n", Status::Refused),
+    (b"1D 76 30 00 81", b"fault 4 5 BadSize\n", Status::Refused),
+    (
+        b"1D 76 30 00 01 01",
+        b"fault 5 5 BadSize\n",
+        Status::Refused,
+    ),
+    (
+        b"1D 76 30 00 01 00 00 00",
+        b"fault 7 5 BadSize\n",
+        Status::Refused,
+    ),
+    // wider_limits
+    (
+        b"1D 76 30 00 01 00 00 10",
+        b"fault 7 5 BadSize\n",
+        Status::Refused,
+    ),
+    (
+        b"1D 76 30 00 01 00 00 08",
+        b"end 8 pending 8\n",
+        Status::Refused,
+    ),
+    (b"1B 70 02", b"fault 2 3 BadParameter\n", Status::Refused),
+    // unfinished
+    (
+        b"1D 76 30 00 80 00 FF 0F",
+        b"end 8 pending 8\n",
+        Status::Refused,
+    ),
+    (
+        b"1D 76 30 00 80 00 FF 07",
+        b"end 8 pending 8\n",
+        Status::Refused,
+    ),
+    // the letter and the scale of a raster, and the mode of a barcode
+    (b"1D 76 31", b"fault 2 2 UnknownCommand\n", Status::Refused),
+    (b"1D 76 30 04", b"fault 3 3 BadParameter\n", Status::Refused),
+    (b"1D 6B 01", b"fault 2 3 BadParameter\n", Status::Refused),
+    (b"1D 6B 49 01", b"fault 3 4 BadBarcode\n", Status::Refused),
+    // units_and_pulse
+    (
+        b"41 1B 4A 05 1B 70 00 19 FA",
+        b"0 char 41\n1 units 05\n4 pulse 00 19 fa\nend 9 pending 0\n",
+        Status::Good,
+    ),
+    (b"1B 70 00 19", b"end 4 pending 4\n", Status::Refused),
+];
+
+#[test]
+fn contents_in_check(rt: HostRuntime) {
+    assert!(&rt; performs_rows(rt.alloc(), Task::Check, &CHECKED_CONTENTS, &[1, 4096]));
+}
+
+// What is new since the second profile.
+const CHECKED_STYLES: [Row; 23] = [
+    // strike, on, off and with bits that have no effect
+    (
+        b"1B 47 01 1B 47 00 1B 47 FF",
+        b"0 strike 01\n3 strike 00\n6 strike ff\nend 9 pending 0\n",
+        Status::Good,
+    ),
+    // reverse
+    (
+        b"1D 42 01 1D 42 FE",
+        b"0 reverse 01\n3 reverse fe\nend 6 pending 0\n",
+        Status::Good,
+    ),
+    // upside_down
+    (
+        b"1B 7B 01 1B 7B 80",
+        b"0 upside 01\n3 upside 80\nend 6 pending 0\n",
+        Status::Good,
+    ),
+    // smoothing
+    (
+        b"1D 62 01 1D 62 00",
+        b"0 smooth 01\n3 smooth 00\nend 6 pending 0\n",
+        Status::Good,
+    ),
+    // spacing, from nothing to the most, and the default
+    (
+        b"1B 33 00 1B 33 FF 1B 32",
+        b"0 spacing 00\n3 spacing ff\n6 spacing default\nend 8 pending 0\n",
+        Status::Good,
+    ),
+    // character_set, to the last one and past it
+    (
+        b"1B 52 00 1B 52 11",
+        b"0 charset 00\n3 charset 11\nend 6 pending 0\n",
+        Status::Good,
+    ),
+    (b"1B 52 12", b"fault 2 3 BadParameter\n", Status::Refused),
+    (
+        b"41 1B 52 FF",
+        b"0 char 41\nfault 3 3 BadParameter\n",
+        Status::Refused,
+    ),
+    // each without its parameter
+    (b"1B 47", b"end 2 pending 2\n", Status::Refused),
+    (b"1D 42", b"end 2 pending 2\n", Status::Refused),
+    (b"1B 7B", b"end 2 pending 2\n", Status::Refused),
+    (b"1D 62", b"end 2 pending 2\n", Status::Refused),
+    (b"1B 33", b"end 2 pending 2\n", Status::Refused),
+    (b"1B 52", b"end 2 pending 2\n", Status::Refused),
+    // letters beside those that are taken
+    (b"1B 31", b"fault 1 2 UnknownCommand\n", Status::Refused),
+    (b"1B 34", b"fault 1 2 UnknownCommand\n", Status::Refused),
+    (b"1B 56 01", b"fault 1 2 UnknownCommand\n", Status::Refused),
+    (b"1B 20 01", b"fault 1 2 UnknownCommand\n", Status::Refused),
+    (b"1B 72 01", b"fault 1 2 UnknownCommand\n", Status::Refused),
+    (
+        b"1D 4C 00 00",
+        b"fault 1 2 UnknownCommand\n",
+        Status::Refused,
+    ),
+    (
+        b"1D 57 00 02",
+        b"fault 1 2 UnknownCommand\n",
+        Status::Refused,
+    ),
+    (b"1D 7C 00", b"fault 1 2 UnknownCommand\n", Status::Refused),
+    (b"09", b"fault 0 1 UnknownByte\n", Status::Refused),
+];
+
+#[test]
+fn styles_in_check(rt: HostRuntime) {
+    assert!(&rt; performs_rows(rt.alloc(), Task::Check, &CHECKED_STYLES, &[1, 4096]));
+}
+
+// Row ean13's first stream.
+const EAN13: &[u8] = b"1D6B0234303036333831333333393300";
+
+// Each proper prefix of row ean13's first stream is a half command.
+#[test]
+fn unfinished(rt: HostRuntime) {
+    for length in 1..16 {
+        let line = format!(in rt.alloc(); "end {length} pending {length}\n").expect(&rt, "memory");
+        let wanted = (line.as_bytes(), Status::Refused);
+        assert!(&rt; prints(rt.alloc(), Task::Check, &EAN13[..2 * length], wanted));
+    }
+}
+
+// The longest line of a listing: a content of 255 bytes.
+#[test]
+fn a_long_barcode(rt: HostRuntime) {
+    let input = joined(rt.alloc(), ["1D6B45FF", "39", ""], 255).expect(&rt, "memory");
+    let parts = ["0 bars 45 ", "39", "\nend 259 pending 0\n"];
+    let listing = joined(rt.alloc(), parts, 255).expect(&rt, "memory");
+    assert!(&rt; prints(rt.alloc(), Task::Check, &input, (&listing, Status::Good)));
+}
+
+// A raster of 128 bytes a row: the digits of its head, its rows, how many bytes of dots it has, and what is listed of it, whole
+// and before its last byte.
+type Wide = (&'static [u8], usize, &'static [u8], &'static [u8]);
+
+const LARGEST: Wide = (
+    b"1D7630008000FF0F",
+    524_160,
+    b"0 raster 00 128 4095\nend 524168 pending 0\n",
+    b"end 524167 pending 524167\n",
+);
+
+const OF_2047_ROWS: Wide = (
+    b"1D7630008000FF07",
+    262_016,
+    b"0 raster 00 128 2047\nend 262024 pending 0\n",
+    b"end 262023 pending 262023\n",
+);
+
+// A raster through `check`, whole and without its last byte.
+fn lists_wide(rt: &impl Abort, alloc: Global, (head, count, whole, half): Wide) {
+    let length = count.saturating_mul(2).saturating_add(16);
+    let mut input = filled(alloc, head, b'a', length).expect(rt, "memory");
+    assert!(rt; prints(alloc, Task::Check, &input, (whole, Status::Good)));
+    input.truncate(length.saturating_sub(2));
+    assert!(rt; prints(alloc, Task::Check, &input, (half, Status::Refused)));
+}
+
+#[test]
+fn the_largest_raster(rt: HostRuntime) {
+    lists_wide(&rt, rt.alloc(), LARGEST);
+}
+
+#[test]
+fn a_raster_of_2047_rows(rt: HostRuntime) {
+    lists_wide(&rt, rt.alloc(), OF_2047_ROWS);
+}
+
+// The lines of so many characters, and the last line.
+fn many_lines(rt: &impl Abort, alloc: Global, count: u32) -> Vec<u8> {
+    let mut lines = Vec::new(alloc);
+    for place in 0..count {
+        let line = format!(in alloc; "{place} char aa\n").expect(rt, "memory");
+        lines
+            .extend_from_slice(line.as_bytes())
+            .expect(rt, "memory");
+    }
+    let line = format!(in alloc; "end {count} pending 0\n").expect(rt, "memory");
+    lines
+        .extend_from_slice(line.as_bytes())
+        .expect(rt, "memory");
+    lines
+}
+
+// A listing of 100,000 commands, each line of it.
+#[test]
+fn a_listing_of_many_commands(rt: HostRuntime) {
+    let listing = many_lines(&rt, rt.alloc(), 100_000);
+    let text = filled(rt.alloc(), b"", b'A', 200_000).expect(&rt, "memory");
+    assert!(&rt; prints(rt.alloc(), Task::Check, &text, (&listing, Status::Good)));
+}

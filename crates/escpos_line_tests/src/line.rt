@@ -1,0 +1,3 @@
+//! The simulated line by its calls. escpos_jobs_tests has the line by scripts, in `play`.
+
+mod rows;

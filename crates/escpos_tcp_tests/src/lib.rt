@@ -1,0 +1,26 @@
+//! The tests of the jobs over 127.0.0.1, in one thread. Those over memory are in escpos_jobs_tests and escpos_encode_tests.
+//!
+//! A client connects and writes before it is served, ends its writing, and keeps its stream open.
+//!
+//! They stand apart from what they test because tests are proved together with the functions of their crate: here no function
+//! is proved a second time for them. A test that looks into a value stands in the crate of that value.
+//!
+//! A module for each job, and `widths`; `memory` lets each allocation of a call fail in turn. What they share is in `support`.
+#![tactic(auto)]
+
+#[cfg(test)]
+mod emulating;
+#[cfg(test)]
+mod memory;
+#[cfg(test)]
+mod round;
+#[cfg(test)]
+mod sending;
+#[cfg(test)]
+mod status;
+#[cfg(test)]
+mod support;
+#[cfg(test)]
+mod waiting;
+#[cfg(test)]
+mod widths;
