@@ -8,7 +8,6 @@ use escpos_jobs::task::{NoTask, Task};
 use escpos_printer::Condition;
 use escpos_receipt::ReceiptOptions;
 use escpos_text::Replacement;
-use std::alloc::Global;
 use std::process::Abort;
 
 fn wide(rt: &impl Abort, dots: u16) -> LineWidth {

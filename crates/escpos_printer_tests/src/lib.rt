@@ -3,8 +3,9 @@
 //! They stand apart from what they test because tests are proved together with the functions of their crate: here no function
 //! is proved a second time for them. A test that looks into a value stands in the crate of that value.
 //!
-//! `paper` is of escpos_paper, and `printer` of escpos_printer; `memory` lets each allocation of a call fail in turn, of the crates
-//! below these too. What they share is in `support`, and what escpos_decode_tests takes too in escpos_test_values.
+//! `paper` is of escpos_paper, and `printer` of escpos_printer; `memory` lets each allocation of a call fail in turn, of the
+//! decoder too. What they share is in `support`, and what the tests of commands and of the decoder take too in
+//! escpos_test_values.
 #![tactic(auto)]
 
 #[cfg(test)]

@@ -1,6 +1,6 @@
 //! Jobs of the program over memory, as several crates of tests run them: what a job reads, what it writes, and its status.
 //!
-//! Tests alone may abort, so nothing is asserted here: a check answers whether a job did what it should.
+//! Only tests may abort, so nothing is asserted here: a check says whether a job did what it should.
 #![tactic(auto)]
 
 mod jobs;

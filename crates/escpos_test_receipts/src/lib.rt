@@ -1,6 +1,6 @@
 //! Receipts that the tests from the host up share: their texts in JSON, what is read of them, and long texts made of parts.
 //!
-//! Tests alone may abort, so nothing is asserted here. What is made is answered with a way out, and a check answers what it found.
+//! Only tests may abort, so nothing is asserted here: a value comes as an `Option` or a `Result`, and a check says what it found.
 #![tactic(auto)]
 
 mod reasons;

@@ -1,7 +1,6 @@
-//! Bytes of a stream, and what they come to.
+//! Bytes of a stream.
 
 use escpos_command::MarkId;
-use escpos_decode::{Decoded, decode};
 use std::alloc::{AllocError, Global};
 
 /// Bytes in three parts: a first one, a byte so many times, and a last one.
@@ -16,23 +15,18 @@ pub fn bytes_of(alloc: Global, (first, byte, times, last): Stream) -> Result<Vec
     Ok(bytes)
 }
 
-/// Appends the bytes of the mark of this number. It answers nothing where there is no such mark, or no memory.
+/// Appends the bytes of the mark of this number; `None` if there is no such mark, or an allocation fails.
 pub fn append_mark(bytes: &mut Vec<u8>, number: u32) -> Option<()> {
     let id = MarkId::of_number(number)?;
     bytes.extend_from_slice(b"\x1D(H\x06\x0000").ok()?;
     bytes.extend_from_slice(&id.bytes()).ok()
 }
 
-/// The bytes of the marks of these numbers, one after another; nothing where one is no mark's number, or there is no memory.
+/// The bytes of the marks of these numbers; `None` if one is no mark's number, or an allocation fails.
 pub fn marks(alloc: Global, numbers: &[u32]) -> Option<Vec<u8>> {
     let mut bytes = Vec::new(alloc);
     for number in numbers {
         append_mark(&mut bytes, *number)?;
     }
     Some(bytes)
-}
-
-/// What pieces come to, with nothing of what the contract says of it. The error is out of memory.
-pub fn decode_all(alloc: Global, pieces: &[&[u8]]) -> Result<Decoded, AllocError> {
-    decode(alloc, pieces)
 }

@@ -1,12 +1,19 @@
-//! Values that the tests of the printer's side share: bytes of streams, spellings of commands, and how values are compared.
+//! Values that the tests of commands, of the decoder and of the printer share: bytes of streams, commands and their spellings, and
+//! how values are compared.
 //!
-//! Tests alone may abort, so nothing is asserted here. What is made is answered with a way out, and a check answers what it found.
+//! Only tests may abort, so nothing is asserted here: a value comes as an `Option` or a `Result`, and a check says what it found.
 #![tactic(auto)]
 
 mod bytes;
+mod commands;
+mod contents;
 mod table;
 mod values;
 
-pub use bytes::{Stream, append_mark, bytes_of, decode_all, marks};
+pub use bytes::{Stream, append_mark, bytes_of, marks};
+pub use commands::{FIVE, MARK_35, five_commands_of, spell_to};
+pub use contents::{
+    BARCODE, BOTH, PICTURE, PRINT, STORE, STREAM, barcode, is_spelled, picture, stored,
+};
 pub use table::spellings;
 pub use values::unlike;

@@ -3,7 +3,6 @@
 //! A test makes a decoder and lends it to checks, which own little: what a function owns is proved dropped at each way out
 //! of it.
 
-use crate::support::commands::{FIVE, MARK_35, append, five_commands_of};
 use crate::support::comparison::agrees;
 use crate::support::decoders::{BAD, decodes, holds, push_half, reads, refuses_last, steps_to};
 use escpos_command::{
@@ -11,6 +10,7 @@ use escpos_command::{
     Pulse, Size, Switch,
 };
 use escpos_decode::{DecodeFault, Decoder, End, Step};
+use escpos_test_values::{FIVE, MARK_35, five_commands_of};
 use std::alloc::Global;
 use std::process::Abort;
 
@@ -18,7 +18,7 @@ use std::process::Abort;
 fn push_all(rt: &impl Abort, decoder: &mut Decoder, bytes: &[u8], commands: &mut Vec<Command>) {
     for byte in bytes {
         if let Step::Done(command) = decoder.push(*byte).expect(rt, "a step") {
-            append(rt, commands, command);
+            commands.push(command).expect(rt, "memory");
         }
     }
 }
@@ -37,7 +37,7 @@ fn reads_five(rt: &impl Abort, alloc: Global, commands: &[Command]) {
 
 #[test]
 fn five_commands(rt: HostRuntime) {
-    let commands = five_commands_of(&rt, rt.alloc());
+    let commands = five_commands_of(rt.alloc()).expect(&rt, "five commands");
     reads_five(&rt, rt.alloc(), &commands);
     let mut decoder = Decoder::new(rt.alloc());
     let mut one_by_one = Vec::new(rt.alloc());

@@ -1,10 +1,10 @@
 //! The whole command table: each byte at each place, the least and the greatest parameters, and long streams.
 
 use crate::support::comparison::{agrees, agrees_with_neighbours};
-use crate::support::decoders::{BAD, reads_one, refuses_last};
+use crate::support::decoders::{BAD, decode_all, reads_one, refuses_last};
 use escpos_command::{FaultReason, laws};
 use escpos_decode::End;
-use escpos_test_values::{decode_all, spellings};
+use escpos_test_values::spellings;
 use std::alloc::Global;
 use std::process::Abort;
 

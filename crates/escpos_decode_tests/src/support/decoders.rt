@@ -1,11 +1,10 @@
 //! A decoder that is lent to checks, which own little: what a function owns is proved dropped at each way out of it.
 
-use crate::support::commands::spell_to;
 use crate::support::comparison::agrees;
 use escpos_command::{Command, FaultReason};
-use escpos_decode::{DecodeFault, Decoder, End, Step};
-use escpos_test_values::decode_all;
-use std::alloc::Global;
+use escpos_decode::{DecodeFault, Decoded, Decoder, End, Step, decode};
+use escpos_test_values::spell_to;
+use std::alloc::{AllocError, Global};
 use std::process::Abort;
 
 // Why a byte out of the range of a parameter, of a barcode or of a raster's size is refused.
@@ -14,6 +13,11 @@ pub const BAD: FaultReason = FaultReason::BadParameter;
 pub const BARCODE: FaultReason = FaultReason::BadBarcode;
 
 pub const SIZE: FaultReason = FaultReason::BadSize;
+
+// What pieces come to, with nothing of what the contract says of it.
+pub fn decode_all(alloc: Global, pieces: &[&[u8]]) -> Result<Decoded, AllocError> {
+    decode(alloc, pieces)
+}
 
 // These pieces give these commands, and end so.
 pub fn decodes(rt: &impl Abort, alloc: Global, pieces: &[&[u8]], commands: &[Command], end: End) {

@@ -1,15 +1,15 @@
 //! Reading an input, decoding, printing, and serving a link.
 
+use crate::support::items::prints_items;
 use crate::support::printers::printer_at_last;
-use crate::support::refusals::{
-    BARCODE, BOTH, PICTURE, PRINT, STORE, STREAM, barcode, is_spelled, picture, prints_items,
-    stored,
-};
 use escpos_command::{Command, LineWidth};
 use escpos_decode::{Consumer, DecodeFault, Decoded, Decoder, End, Step, Stop, decode, read_piece};
 use escpos_io::{ByteIn, MemoryIn, MemoryOut, ReadError, read_to_end};
 use escpos_paper::Page;
 use escpos_printer::{Fed, FeedStop, LinkEnd, Printer, Served, serve_link};
+use escpos_test_values::{
+    BARCODE, BOTH, PICTURE, PRINT, STORE, STREAM, barcode, is_spelled, picture, stored,
+};
 use std::alloc::{AllocError, Global};
 use std::process::Abort;
 
@@ -59,7 +59,7 @@ fn completes(rt: &impl Abort, decoder: &mut Decoder, spelling: &[u8]) {
         assert!(rt; step_at_last(rt, decoder, *byte, place) == Step::More);
     }
     match step_at_last(rt, decoder, *last, others.len()) {
-        Step::Done(command) => is_spelled(rt, &command, spelling),
+        Step::Done(command) => assert!(rt; is_spelled(&command, spelling)),
         Step::More => panic!(rt; "no command"),
     }
 }
@@ -182,7 +182,7 @@ fn readies_for_a_print(rt: &impl Abort, page: &mut Page, count: usize) {
 #[test]
 fn ready_for_a_print_refused(rt: HostRuntime) {
     let mut page = Page::new(rt.alloc(), LineWidth::usual());
-    let store = Command::QrStore(stored(&rt, rt.alloc()));
+    let store = Command::QrStore(stored(rt.alloc()).expect(&rt, "the data of a QR code"));
     applies(&rt, &mut page, store, STORE);
     for count in 0..3 {
         readies_for_a_print(&rt, &mut page, count);
@@ -195,7 +195,7 @@ fn applies(rt: &impl Abort, page: &mut Page, command: Command, spelling: &[u8]) 
     let count = page.items().len();
     if let Err(back) = page.apply(command) {
         assert!(rt; page.items().len() == count);
-        is_spelled(rt, &back, spelling);
+        assert!(rt; is_spelled(&back, spelling));
         assert!(rt; page.apply(back).is_ok());
     }
 }
@@ -211,7 +211,7 @@ const THREE_QR_CODES: &[u8] = b"qr left 2 3 L AB\nqr left 2 3 L AB\nqr left 2 3 
 #[test]
 fn apply_to_a_stored_code_refused(rt: HostRuntime) {
     let mut page = Page::new(rt.alloc(), LineWidth::usual());
-    let store = Command::QrStore(stored(&rt, rt.alloc()));
+    let store = Command::QrStore(stored(rt.alloc()).expect(&rt, "the data of a QR code"));
     applies(&rt, &mut page, store, STORE);
     for _ in 0..3 {
         applies(&rt, &mut page, Command::QrPrint, PRINT);
@@ -227,9 +227,9 @@ fn apply_to_a_stored_code_refused(rt: HostRuntime) {
 fn apply_refused(rt: HostRuntime) {
     let mut page = Page::new(rt.alloc(), LineWidth::usual());
     for _ in 0..3 {
-        let bars = Command::Bars(barcode(&rt, rt.alloc()));
+        let bars = Command::Bars(barcode(rt.alloc()).expect(&rt, "a barcode"));
         applies(&rt, &mut page, bars, BARCODE);
-        let raster = Command::Raster(picture(&rt, rt.alloc()));
+        let raster = Command::Raster(picture(rt.alloc()).expect(&rt, "a raster"));
         applies(&rt, &mut page, raster, PICTURE);
     }
     prints_items(&rt, page.items(), THREE_OF_BOTH);

@@ -2,9 +2,10 @@
 
 use crate::paper::{apply, expect_text, print, write_items_to};
 use escpos_command::{Command, LineWidth, QrData};
+use escpos_decode::decode;
 use escpos_io::{Device, MemoryOut, Outgoing};
 use escpos_paper::*;
-use escpos_test_values::{bytes_of, decode_all};
+use escpos_test_values::bytes_of;
 use std::alloc::Global;
 use std::process::Abort;
 
@@ -15,7 +16,7 @@ const PRINT: &[u8] = b"\x1D(k\x03\x001Q0";
 
 // Carries out the commands that these bytes spell.
 fn apply_bytes(rt: &impl Abort, alloc: Global, page: &mut Page, bytes: &[u8]) {
-    let decoded = decode_all(alloc, &[bytes]).expect(rt, "memory");
+    let decoded = decode(alloc, &[bytes]).expect(rt, "memory");
     for command in decoded.commands {
         apply(rt, page, command);
     }

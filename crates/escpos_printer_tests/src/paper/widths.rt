@@ -2,9 +2,9 @@
 
 use crate::paper::{apply, print};
 use escpos_command::LineWidth;
+use escpos_decode::decode;
 use escpos_io::Outgoing;
 use escpos_paper::*;
-use escpos_test_values::decode_all;
 use std::alloc::Global;
 use std::process::Abort;
 
@@ -44,7 +44,7 @@ fn has_rows(rt: &impl Abort, text: &[u8], wanted: &[usize]) {
 
 // Prints so many characters after these commands.
 fn prints(rt: &impl Abort, alloc: Global, page: &mut Page, (bytes, count): (&[u8], usize)) {
-    let decoded = decode_all(alloc, &[bytes]).expect(rt, "memory");
+    let decoded = decode(alloc, &[bytes]).expect(rt, "memory");
     for command in decoded.commands {
         apply(rt, page, command);
     }

@@ -1,11 +1,11 @@
 //! Commands as values: they are equal where each part is, their bytes are moved, and a spelling asks for no more room than
 //! it needs.
 
-use crate::support::commands::{append, spell_to};
+use crate::support::commands::append;
 use escpos_command::{
     Bars, Command, Form, QrData, QrLevel, QrModel, QrSize, Raster, Symbology, laws,
 };
-use escpos_test_values::{Stream, bytes_of, unlike};
+use escpos_test_values::{Stream, bytes_of, spell_to, unlike};
 use std::alloc::Global;
 use std::process::Abort;
 

@@ -1,5 +1,5 @@
 use Rattle.std.proofs.Common.{arith, refl, length-append}
-use Rattle.escpos_decode_tests.proofs.pieces.FramedPiece.put.Goals as goal
+use Rattle.escpos_command_tests.proofs.pieces.FramedPiece.put.Goals as goal
 
 pub returns-in_err-room : goal.returns-in_err-room
 returns-in_err-room g c = c.piece_stopped.ensures _ _ _ _ _ _ _ _ c.from_residual.ensures.1 c.in_err-room.ensures.given (omega arith) refl

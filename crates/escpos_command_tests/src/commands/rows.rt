@@ -1,15 +1,13 @@
 //! The worked rows of the grammar, and each call on its happy path.
 
-use crate::support::commands::{
-    FIVE, MARK_35, characters, five_commands_of, spell_from, spell_to, spelled_len, write_to,
-};
+use crate::support::commands::{characters, spell_from, spelled_len, write_to};
 use escpos_command::{
     BarFault, Bars, Character, CharsFault, Command, Correction, FaultReason, FeedLines, Form,
     LONGEST_SPELLING, MOST_QR_DATA, MarkId, QrData, QrLevel, QrModel, QrSize, Raster, RasterFault,
     Scale, Symbology,
 };
 use escpos_io::{Device, MemoryOut, Outgoing};
-use escpos_test_values::bytes_of;
+use escpos_test_values::{FIVE, MARK_35, bytes_of, five_commands_of, spell_to};
 use std::alloc::Global;
 use std::process::Abort;
 
@@ -46,7 +44,7 @@ fn write_all(rt: &impl Abort, alloc: Global, commands: &[Command], bytes: &[u8])
 
 #[test]
 fn five_commands(rt: HostRuntime) {
-    let commands = five_commands_of(&rt, rt.alloc());
+    let commands = five_commands_of(rt.alloc()).expect(&rt, "five commands");
     spell(&rt, rt.alloc(), &commands, FIVE);
 }
 
@@ -124,7 +122,7 @@ fn chars_of_a_long_text(rt: HostRuntime) {
 
 #[test]
 fn short_writer(rt: HostRuntime) {
-    let commands = five_commands_of(&rt, rt.alloc());
+    let commands = five_commands_of(rt.alloc()).expect(&rt, "five commands");
     let short = (Err(Device { written: 5 }), b"\x1B@Hi\x0A".as_slice());
     write(&rt, &commands, &mut [0; 5], short);
     write(&rt, &commands, &mut [0; 9], (Ok(()), FIVE));

@@ -1,9 +1,7 @@
 //! Spelling and copying commands.
 
-use crate::support::refusals::{
-    BARCODE, BOTH, PICTURE, STORE, barcode, is_spelled, picture, stored,
-};
 use escpos_command::{CharsFault, Command, chars_of, laws};
+use escpos_test_values::{BARCODE, BOTH, PICTURE, STORE, barcode, is_spelled, picture, stored};
 use std::alloc::Global;
 use std::process::Abort;
 
@@ -19,12 +17,12 @@ fn spells(rt: &impl Abort, command: &Command, out: &mut Vec<u8>, (before, after)
 #[test]
 fn spell_refused(rt: HostRuntime) {
     let mut out = Vec::new(rt.alloc());
-    let command = Command::Bars(barcode(&rt, rt.alloc()));
+    let command = Command::Bars(barcode(rt.alloc()).expect(&rt, "a barcode"));
     spells(&rt, &command, &mut out, (b"", BARCODE));
-    let command = Command::Raster(picture(&rt, rt.alloc()));
+    let command = Command::Raster(picture(rt.alloc()).expect(&rt, "a raster"));
     spells(&rt, &command, &mut out, (BARCODE, BOTH));
     out.clear();
-    let command = Command::QrStore(stored(&rt, rt.alloc()));
+    let command = Command::QrStore(stored(rt.alloc()).expect(&rt, "the data of a QR code"));
     spells(&rt, &command, &mut out, (b"", STORE));
 }
 
@@ -43,7 +41,7 @@ fn chars_at_last(rt: &impl Abort, alloc: Global, text: &[u8]) -> Vec<Command> {
 fn are_chars(rt: &impl Abort, commands: &[Command], text: &[u8]) {
     assert!(rt; commands.len() == text.len());
     for (command, byte) in commands.iter().zip(text) {
-        is_spelled(rt, command, &[*byte]);
+        assert!(rt; is_spelled(command, &[*byte]));
     }
 }
 
@@ -63,14 +61,14 @@ fn copy_at_last<T: Clone>(rt: &impl Abort, value: &T) -> T {
 
 #[test]
 fn clone_refused(rt: HostRuntime) {
-    let command = Command::Bars(barcode(&rt, rt.alloc()));
-    is_spelled(&rt, &copy_at_last(&rt, &command), BARCODE);
-    let command = Command::Raster(picture(&rt, rt.alloc()));
-    is_spelled(&rt, &copy_at_last(&rt, &command), PICTURE);
-    is_spelled(&rt, &command, PICTURE);
-    let command = Command::QrStore(stored(&rt, rt.alloc()));
-    is_spelled(&rt, &copy_at_last(&rt, &command), STORE);
-    is_spelled(&rt, &command, STORE);
+    let command = Command::Bars(barcode(rt.alloc()).expect(&rt, "a barcode"));
+    assert!(&rt; is_spelled(&copy_at_last(&rt, &command), BARCODE));
+    let command = Command::Raster(picture(rt.alloc()).expect(&rt, "a raster"));
+    assert!(&rt; is_spelled(&copy_at_last(&rt, &command), PICTURE));
+    assert!(&rt; is_spelled(&command, PICTURE));
+    let command = Command::QrStore(stored(rt.alloc()).expect(&rt, "the data of a QR code"));
+    assert!(&rt; is_spelled(&copy_at_last(&rt, &command), STORE));
+    assert!(&rt; is_spelled(&command, STORE));
 }
 
 // The same by the law.
@@ -83,25 +81,25 @@ fn same_at_last(rt: &impl Abort, command: &Command) -> Command {
 
 #[test]
 fn same_clone_refused(rt: HostRuntime) {
-    let command = Command::Bars(barcode(&rt, rt.alloc()));
-    is_spelled(&rt, &same_at_last(&rt, &command), BARCODE);
-    is_spelled(&rt, &command, BARCODE);
-    let command = Command::QrStore(stored(&rt, rt.alloc()));
-    is_spelled(&rt, &same_at_last(&rt, &command), STORE);
+    let command = Command::Bars(barcode(rt.alloc()).expect(&rt, "a barcode"));
+    assert!(&rt; is_spelled(&same_at_last(&rt, &command), BARCODE));
+    assert!(&rt; is_spelled(&command, BARCODE));
+    let command = Command::QrStore(stored(rt.alloc()).expect(&rt, "the data of a QR code"));
+    assert!(&rt; is_spelled(&same_at_last(&rt, &command), STORE));
 }
 
 #[test]
 fn contents_clone_refused(rt: HostRuntime) {
-    let bars = barcode(&rt, rt.alloc());
+    let bars = barcode(rt.alloc()).expect(&rt, "a barcode");
     let copy = copy_at_last(&rt, &bars);
-    is_spelled(&rt, &Command::Bars(copy), BARCODE);
-    let raster = picture(&rt, rt.alloc());
+    assert!(&rt; is_spelled(&Command::Bars(copy), BARCODE));
+    let raster = picture(rt.alloc()).expect(&rt, "a raster");
     let copy = copy_at_last(&rt, &raster);
-    is_spelled(&rt, &Command::Raster(copy), PICTURE);
+    assert!(&rt; is_spelled(&Command::Raster(copy), PICTURE));
     let copy = copy_at_last(&rt, &raster.into_dots());
     assert!(&rt; copy.as_slice() == b"\xF0\x0F".as_slice());
-    let data = stored(&rt, rt.alloc());
+    let data = stored(rt.alloc()).expect(&rt, "the data of a QR code");
     let copy = copy_at_last(&rt, &data);
-    is_spelled(&rt, &Command::QrStore(copy), STORE);
-    is_spelled(&rt, &Command::QrStore(data), STORE);
+    assert!(&rt; is_spelled(&Command::QrStore(copy), STORE));
+    assert!(&rt; is_spelled(&Command::QrStore(data), STORE));
 }
