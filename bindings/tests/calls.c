@@ -1,7 +1,7 @@
-/* Calls each function of escpos.h: worked rows byte by byte, a whole link between a host and a printer, buffers that are too short,
+/* Calls each function of kolatennis.h: worked rows byte by byte, a whole link between a host and a printer, buffers that are too short,
  * handles that hold nothing, and all of it again with each allocation failing in turn (bindings/test links it with malloc and realloc
  * wrapped, and runs it under valgrind). It prints what is wrong and how much was checked; the exit status is 1 if anything is. */
-#include "escpos.h"
+#include "kolatennis.h"
 #include <stdio.h>
 #include <stdlib.h>
 #include <string.h>

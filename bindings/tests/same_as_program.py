@@ -2,11 +2,11 @@
 """Compares what the Python module gives for the streams and receipts of examples/ with the texts that stand there, and its pictures,
 what it gives with a width or a replacement, and the entries that it makes of pictures with what the program prints.
 
-usage: same_as_program.py PROGRAM      with bindings/ in PYTHONPATH
+usage: same_as_program.py PROGRAM      with bindings/python/ in PYTHONPATH
 """
 import io, json, os, subprocess, sys
 
-import escpos
+import kolatennis as escpos
 
 EXAMPLES = os.path.join(os.path.dirname(os.path.abspath(__file__)), "../../examples")
 

@@ -9,7 +9,7 @@
  *
  * The exit status is 0 where the receipt is recorded, 1 where it is no receipt, and 3 where it isn't known to be printed. */
 #define _DEFAULT_SOURCE
-#include "escpos.h"
+#include "kolatennis.h"
 #include <arpa/inet.h>
 #include <fcntl.h>
 #include <stdio.h>

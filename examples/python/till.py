@@ -5,13 +5,13 @@ next mark stands in a file, since no number may be used twice with a printer; th
     bindings/build
     escpos_cli emulate 127.0.0.1:9100 &
     echo 0 > marks.txt
-    PYTHONPATH=bindings examples/python/till.py 127.0.0.1 9100 marks.txt < examples/gate_ticket.json
+    PYTHONPATH=bindings/python examples/python/till.py 127.0.0.1 9100 marks.txt < examples/gate_ticket.json
 
 The exit status is 0 where the receipt is recorded, 1 where it is no receipt, and 3 where it isn't known to be printed.
 """
 import fcntl, os, re, socket, sys, time
 
-import escpos
+import kolatennis as escpos
 
 SECONDS, OPENINGS = 10, 3
 

@@ -95,7 +95,7 @@ class _Options(ctypes.Structure):
 def _path():
     here = os.path.dirname(os.path.abspath(__file__))
     named = os.environ.get("ESCPOS_LIBRARY")
-    places = [os.path.abspath(named)] if named else [f"{here}/libescpos.so", f"{here}/out/libescpos.so"]
+    places = [os.path.abspath(named)] if named else [f"{here}/libescpos.so", f"{here}/../../out/libescpos.so"]
     for path in places:
         if os.path.exists(path):
             return path
@@ -220,7 +220,7 @@ def encode(receipt, width=512, replacement=None):
     >>> encode('[{"text": "Hi"}]')
     Traceback (most recent call last):
     ...
-    escpos.Refused: TextLeft
+    kolatennis.Refused: TextLeft
     >>> try: encode([{"line": "A"}, {"fed": 1}])
     ... except Refused as why: print(why.reason, why.at)
     BadShape 1
@@ -325,7 +325,7 @@ def image(path, width=512, threshold=None):
     >>> image(io.BytesIO(b"P1 8 2 1"))
     Traceback (most recent call last):
     ...
-    escpos.Refused: CutShort at 8
+    kolatennis.Refused: CutShort at 8
     """
     _dots(width)
     limit = 0 if threshold is None else _in_range(threshold, 255, "threshold", 1)

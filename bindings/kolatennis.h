@@ -1,4 +1,4 @@
-/* escpos.h: the cores of a receipt line, for tills in C and in languages that call C. Link libescpos.a or libescpos.so.
+/* kolatennis.h: the cores of a receipt line, for tills in C and in languages that call C. Link libescpos.a or libescpos.so.
  *
  * The library does no I/O: it opens nothing, waits for nothing, has no global state, calls nothing but malloc, realloc, free, memcpy,
  * memmove and memset, and keeps no pointer that it was given. The caller keeps its own loop, sockets and threads. A call takes up to
