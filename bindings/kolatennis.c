@@ -1,0 +1,279 @@
+/* The calls of kolatennis.h, over the exports of crates/escpos_c.
+ *
+ * This file is tested, not proved. The exports are proved, but no export may take a NULL for a reference or a slice, and none may
+ * return a string: the toolchain refuses `extern "C" fn f(p: *mut u8) -> *mut u8` [exported-raw-pointer]. So each call here gives its
+ * export something valid in place of a NULL that is allowed, answers BAD_ARGUMENT to one that isn't, gives each number the range of its
+ * family, and does nothing else. */
+#include "kolatennis.h"
+
+/* ---- the exports ---- */
+
+int escpos_encode_with(const kolatennis_options *options, const uint8_t *json, size_t json_len, uint8_t *out, size_t capacity, size_t *written, uint32_t *reason, size_t *at);
+int escpos_listing(const uint8_t *bytes, size_t len, uint8_t *out, size_t capacity, size_t *written);
+int escpos_paper_at(uint16_t width, const uint8_t *bytes, size_t len, uint8_t *out, size_t capacity, size_t *written);
+int escpos_paper_text_at(uint16_t width, const uint8_t *bytes, size_t len, uint8_t *out, size_t capacity, size_t *written);
+int escpos_picture_at(uint16_t width, const uint8_t *bytes, size_t len, uint8_t *out, size_t capacity, size_t *written);
+int escpos_image(uint16_t width, uint8_t threshold, const uint8_t *bytes, size_t len, uint8_t *out, size_t capacity, size_t *written);
+int escpos_host_resume(kolatennis_host *host, uint32_t first_mark, size_t records);
+void escpos_host_free(kolatennis_host *host);
+int escpos_host_link_up(kolatennis_host *host, uint32_t *reason);
+int escpos_host_nudge(kolatennis_host *host, uint32_t *reason);
+int escpos_host_submit_with(kolatennis_host *host, const kolatennis_options *options, const uint8_t *json, size_t json_len, uint32_t *reason, uint32_t *fault, size_t *at);
+int escpos_host_ask(kolatennis_host *host, uint8_t kind, uint32_t *reason);
+int escpos_host_link_down(kolatennis_host *host);
+int escpos_host_take_out(kolatennis_host *host, uint8_t *out, size_t capacity, size_t *written);
+int escpos_host_has_out(kolatennis_host *host, bool *has);
+int escpos_host_heard(kolatennis_host *host, const uint8_t *bytes, size_t len, size_t *consumed, uint32_t *event, size_t *number);
+int escpos_host_state(kolatennis_host *host, uint32_t *state);
+int escpos_host_next_mark(kolatennis_host *host, uint32_t *mark);
+int escpos_host_records(kolatennis_host *host, size_t *records);
+int escpos_printer_new_at(kolatennis_printer *printer, const kolatennis_sensors *sensors, uint16_t width);
+void escpos_printer_free(kolatennis_printer *printer);
+int escpos_printer_feed(kolatennis_printer *printer, const uint8_t *bytes, size_t len, size_t *consumed, uint32_t *stop, uint32_t *reason, size_t *at);
+int escpos_printer_take_answer(kolatennis_printer *printer, uint8_t *out, size_t capacity, size_t *written);
+int escpos_printer_set_condition(kolatennis_printer *printer, const kolatennis_sensors *sensors);
+int escpos_printer_paper(kolatennis_printer *printer, uint8_t *out, size_t capacity, size_t *written);
+int escpos_printer_tear_off(kolatennis_printer *printer);
+
+/* ---- what stands for a NULL ---- */
+
+static const kolatennis_options USUAL = {0, 0};
+static const kolatennis_sensors FINE = {false, false, false};
+static uint8_t no_bytes[1]; /* a buffer of length 0 */
+
+static const kolatennis_options *or_usual(const kolatennis_options *options) { return options ? options : &USUAL; }
+static const kolatennis_sensors *or_fine(const kolatennis_sensors *sensors) { return sensors ? sensors : &FINE; }
+static const uint8_t *or_none(const uint8_t *bytes) { return bytes ? bytes : no_bytes; }
+static uint8_t *or_no_room(uint8_t *out) { return out ? out : no_bytes; }
+
+/* Whether there is a buffer of this length at this place. */
+static bool is_buffer(const uint8_t *at, size_t len) { return at || !len; }
+
+/* The results of an export go to places of the call's own, and from there to those that the caller gave. */
+#define TELL(result, value) \
+    do { \
+        if (result) *(result) = (value); \
+    } while (0)
+
+/* ---- the families of numbers ---- */
+
+enum { RECEIPT = 100, HOST = 200, FAULT = 300, EVENT = 400, STATE = 500, STOP = 600, BAD_ARGUMENT = KOLATENNIS_STATUS_BAD_ARGUMENT };
+
+/* A reason of a family, or 0 for none. */
+static uint32_t reason_in(uint32_t family, uint32_t number) { return number ? family + number : 0; }
+
+const char *kolatennis_version(void) { return KOLATENNIS_VERSION; }
+
+const char *kolatennis_error_name(uint32_t reason) {
+    switch (reason) {
+        case KOLATENNIS_STATUS_GOOD: return "good";
+        case KOLATENNIS_STATUS_REFUSED: return "refused";
+        case KOLATENNIS_STATUS_EMPTY: return "handle holds nothing";
+        case KOLATENNIS_STATUS_MEMORY: return "out of memory";
+        case KOLATENNIS_STATUS_SHORT: return "buffer too short";
+        case KOLATENNIS_STATUS_TOO_LONG: return "text too long";
+        case KOLATENNIS_STATUS_BAD_ARGUMENT: return "bad argument";
+        case KOLATENNIS_RECEIPT_EMPTY: return "Empty";
+        case KOLATENNIS_RECEIPT_FORBIDDEN: return "Forbidden";
+        case KOLATENNIS_RECEIPT_TEXT_LEFT: return "TextLeft";
+        case KOLATENNIS_RECEIPT_MID_LINE: return "MidLine";
+        case KOLATENNIS_RECEIPT_NOT_JSON: return "NotJson";
+        case KOLATENNIS_RECEIPT_BAD_SHAPE: return "BadShape";
+        case KOLATENNIS_RECEIPT_CONTROL_BYTE: return "ControlByte";
+        case KOLATENNIS_RECEIPT_NO_CHARACTER: return "NoCharacter";
+        case KOLATENNIS_RECEIPT_TOO_LONG: return "TooLong";
+        case KOLATENNIS_RECEIPT_BAD_OPTIONS: return "BadOptions";
+        case KOLATENNIS_HOST_NOT_READY: return "NotReady";
+        case KOLATENNIS_HOST_MARKS_USED_UP: return "MarksUsedUp";
+        case KOLATENNIS_HOST_ALREADY_UP: return "AlreadyUp";
+        case KOLATENNIS_HOST_IN_FLIGHT_FULL: return "InFlightFull";
+        case KOLATENNIS_HOST_NO_KIND: return "NoKind";
+        case KOLATENNIS_FAULT_UNKNOWN_BYTE: return "UnknownByte";
+        case KOLATENNIS_FAULT_UNKNOWN_COMMAND: return "UnknownCommand";
+        case KOLATENNIS_FAULT_BAD_PARAMETER: return "BadParameter";
+        case KOLATENNIS_FAULT_BAD_BARCODE: return "BadBarcode";
+        case KOLATENNIS_FAULT_BAD_SIZE: return "BadSize";
+        default: return "unknown";
+    }
+}
+
+/* ---- calls that keep nothing ---- */
+
+int kolatennis_encode(const kolatennis_options *options, const uint8_t *json, size_t json_len, uint8_t *out, size_t capacity, size_t *written, uint32_t *reason, size_t *at) {
+    size_t len = 0, place = KOLATENNIS_NO_PLACE;
+    uint32_t why = 0;
+    int status = is_buffer(json, json_len) && is_buffer(out, capacity) ? escpos_encode_with(or_usual(options), or_none(json), json_len, or_no_room(out), capacity, &len, &why, &place) : BAD_ARGUMENT;
+    TELL(written, len);
+    TELL(reason, reason_in(RECEIPT, why));
+    TELL(at, place);
+    return status;
+}
+
+int kolatennis_listing(const uint8_t *bytes, size_t len, uint8_t *out, size_t capacity, size_t *written) {
+    size_t text_len = 0;
+    int status = is_buffer(bytes, len) && is_buffer(out, capacity) ? escpos_listing(or_none(bytes), len, or_no_room(out), capacity, &text_len) : BAD_ARGUMENT;
+    TELL(written, text_len);
+    return status;
+}
+
+int kolatennis_paper(uint16_t width, const uint8_t *bytes, size_t len, uint8_t *out, size_t capacity, size_t *written) {
+    size_t text_len = 0;
+    int status = is_buffer(bytes, len) && is_buffer(out, capacity) ? escpos_paper_at(width, or_none(bytes), len, or_no_room(out), capacity, &text_len) : BAD_ARGUMENT;
+    TELL(written, text_len);
+    return status;
+}
+
+int kolatennis_paper_text(uint16_t width, const uint8_t *bytes, size_t len, uint8_t *out, size_t capacity, size_t *written) {
+    size_t text_len = 0;
+    int status = is_buffer(bytes, len) && is_buffer(out, capacity) ? escpos_paper_text_at(width, or_none(bytes), len, or_no_room(out), capacity, &text_len) : BAD_ARGUMENT;
+    TELL(written, text_len);
+    return status;
+}
+
+int kolatennis_picture(uint16_t width, const uint8_t *bytes, size_t len, uint8_t *out, size_t capacity, size_t *written) {
+    size_t text_len = 0;
+    int status = is_buffer(bytes, len) && is_buffer(out, capacity) ? escpos_picture_at(width, or_none(bytes), len, or_no_room(out), capacity, &text_len) : BAD_ARGUMENT;
+    TELL(written, text_len);
+    return status;
+}
+
+int kolatennis_image(uint16_t width, uint8_t threshold, const uint8_t *bytes, size_t len, uint8_t *out, size_t capacity, size_t *written) {
+    size_t text_len = 0;
+    int status = is_buffer(bytes, len) && is_buffer(out, capacity) ? escpos_image(width, threshold, or_none(bytes), len, or_no_room(out), capacity, &text_len) : BAD_ARGUMENT;
+    TELL(written, text_len);
+    return status;
+}
+
+/* ---- a host ---- */
+
+int kolatennis_host_new(kolatennis_host *host, uint32_t first_mark) { return kolatennis_host_resume(host, first_mark, 0); }
+
+int kolatennis_host_resume(kolatennis_host *host, uint32_t first_mark, size_t records) {
+    if (!host) return BAD_ARGUMENT;
+    host->at = NULL;
+    return escpos_host_resume(host, first_mark, records);
+}
+
+void kolatennis_host_free(kolatennis_host *host) {
+    if (host) escpos_host_free(host);
+}
+
+int kolatennis_host_link_up(kolatennis_host *host, uint32_t *reason) {
+    uint32_t why = 0;
+    int status = host ? escpos_host_link_up(host, &why) : BAD_ARGUMENT;
+    TELL(reason, reason_in(HOST, why));
+    return status;
+}
+
+int kolatennis_host_nudge(kolatennis_host *host, uint32_t *reason) {
+    uint32_t why = 0;
+    int status = host ? escpos_host_nudge(host, &why) : BAD_ARGUMENT;
+    TELL(reason, reason_in(HOST, why));
+    return status;
+}
+
+int kolatennis_host_submit(kolatennis_host *host, const kolatennis_options *options, const uint8_t *json, size_t json_len, uint32_t *reason, size_t *at) {
+    uint32_t why = 0, fault = 0;
+    size_t place = KOLATENNIS_NO_PLACE;
+    int status = host && is_buffer(json, json_len) ? escpos_host_submit_with(host, or_usual(options), or_none(json), json_len, &why, &fault, &place) : BAD_ARGUMENT;
+    TELL(reason, fault ? reason_in(RECEIPT, fault) : reason_in(HOST, why));
+    TELL(at, place);
+    return status;
+}
+
+int kolatennis_host_ask(kolatennis_host *host, uint8_t kind, uint32_t *reason) {
+    uint32_t why = 0;
+    int status = host ? escpos_host_ask(host, kind, &why) : BAD_ARGUMENT;
+    TELL(reason, reason_in(HOST, why));
+    return status;
+}
+
+int kolatennis_host_link_down(kolatennis_host *host) { return host ? escpos_host_link_down(host) : BAD_ARGUMENT; }
+
+int kolatennis_host_take_out(kolatennis_host *host, uint8_t *out, size_t capacity, size_t *written) {
+    size_t len = 0;
+    int status = host && is_buffer(out, capacity) ? escpos_host_take_out(host, or_no_room(out), capacity, &len) : BAD_ARGUMENT;
+    TELL(written, len);
+    return status;
+}
+
+int kolatennis_host_has_out(kolatennis_host *host, bool *has) {
+    bool is = false;
+    int status = host ? escpos_host_has_out(host, &is) : BAD_ARGUMENT;
+    TELL(has, is);
+    return status;
+}
+
+int kolatennis_host_heard(kolatennis_host *host, const uint8_t *bytes, size_t len, size_t *consumed, uint32_t *event, size_t *number) {
+    size_t taken = 0, with = 0;
+    uint32_t kind = 0;
+    int status = host && is_buffer(bytes, len) ? escpos_host_heard(host, or_none(bytes), len, &taken, &kind, &with) : BAD_ARGUMENT;
+    TELL(consumed, taken);
+    TELL(event, EVENT + kind);
+    TELL(number, with);
+    return status;
+}
+
+int kolatennis_host_state(kolatennis_host *host, uint32_t *state) {
+    uint32_t stands = 0;
+    int status = host ? escpos_host_state(host, &stands) : BAD_ARGUMENT;
+    TELL(state, STATE + stands);
+    return status;
+}
+
+int kolatennis_host_next_mark(kolatennis_host *host, uint32_t *mark) {
+    uint32_t next = 0;
+    int status = host ? escpos_host_next_mark(host, &next) : BAD_ARGUMENT;
+    TELL(mark, next);
+    return status;
+}
+
+int kolatennis_host_records(kolatennis_host *host, size_t *records) {
+    size_t count = 0;
+    int status = host ? escpos_host_records(host, &count) : BAD_ARGUMENT;
+    TELL(records, count);
+    return status;
+}
+
+/* ---- a printer ---- */
+
+int kolatennis_printer_new(kolatennis_printer *printer, const kolatennis_sensors *sensors, uint16_t width) {
+    if (!printer) return BAD_ARGUMENT;
+    printer->at = NULL;
+    return escpos_printer_new_at(printer, or_fine(sensors), width);
+}
+
+void kolatennis_printer_free(kolatennis_printer *printer) {
+    if (printer) escpos_printer_free(printer);
+}
+
+int kolatennis_printer_feed(kolatennis_printer *printer, const uint8_t *bytes, size_t len, size_t *consumed, uint32_t *stop, uint32_t *reason, size_t *at) {
+    size_t taken = 0, place = KOLATENNIS_NO_PLACE;
+    uint32_t kind = 0, why = 0;
+    int status = printer && is_buffer(bytes, len) ? escpos_printer_feed(printer, or_none(bytes), len, &taken, &kind, &why, &place) : BAD_ARGUMENT;
+    TELL(consumed, taken);
+    TELL(stop, STOP + kind);
+    TELL(reason, reason_in(FAULT, why));
+    TELL(at, place);
+    return status;
+}
+
+int kolatennis_printer_take_answer(kolatennis_printer *printer, uint8_t *out, size_t capacity, size_t *written) {
+    size_t len = 0;
+    int status = printer && is_buffer(out, capacity) ? escpos_printer_take_answer(printer, or_no_room(out), capacity, &len) : BAD_ARGUMENT;
+    TELL(written, len);
+    return status;
+}
+
+int kolatennis_printer_set_condition(kolatennis_printer *printer, const kolatennis_sensors *sensors) {
+    return printer ? escpos_printer_set_condition(printer, or_fine(sensors)) : BAD_ARGUMENT;
+}
+
+int kolatennis_printer_paper(kolatennis_printer *printer, uint8_t *out, size_t capacity, size_t *written) {
+    size_t len = 0;
+    int status = printer && is_buffer(out, capacity) ? escpos_printer_paper(printer, or_no_room(out), capacity, &len) : BAD_ARGUMENT;
+    TELL(written, len);
+    return status;
+}
+
+int kolatennis_printer_tear_off(kolatennis_printer *printer) { return printer ? escpos_printer_tear_off(printer) : BAD_ARGUMENT; }
