@@ -1,0 +1,34 @@
+"""The numbers of kolatennis.h, and the names that they have in Python."""
+from __future__ import annotations
+
+import enum
+from typing import Dict
+
+
+class Status(enum.IntEnum):
+    """What a call of the library answers."""
+
+    GOOD = 0
+    REFUSED = 1
+    EMPTY = 2
+    MEMORY = 4
+    SHORT = 5
+    TOO_LONG = 6
+    BAD_ARGUMENT = 7
+
+
+#: Why a text gives no receipt, by number.
+RECEIPT_REASONS: Dict[int, str] = {
+    101: "Empty", 102: "Forbidden", 103: "TextLeft", 104: "MidLine", 105: "NotJson", 106: "BadShape", 107: "ControlByte",
+    108: "NoCharacter", 109: "TooLong", 110: "BadOptions",
+}
+#: Why a host takes no call, by number.
+HOST_REASONS: Dict[int, str] = {201: "NotReady", 202: "MarksUsedUp", 203: "AlreadyUp", 206: "InFlightFull", 209: "NoKind"}
+#: Why no command goes on with a byte, by number.
+FAULT_REASONS: Dict[int, str] = {301: "UnknownByte", 302: "UnknownCommand", 303: "BadParameter", 304: "BadBarcode", 305: "BadSize"}
+#: What a host hears, by number.
+EVENTS: Dict[int, str] = {400: "none", 401: "opened", 402: "recorded", 403: "status", 404: "bad answer"}
+#: Where a host stands with its link, by number.
+STATES: Dict[int, str] = {500: "down", 501: "opening", 502: "ready", 503: "sending"}
+#: Why a printer took no more bytes, by number.
+STOPS: Dict[int, str] = {600: "all", 601: "answers full", 602: "offline", 603: "fault", 604: "memory"}
