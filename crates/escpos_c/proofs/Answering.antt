@@ -1,5 +1,5 @@
 -- What the caller is answered, from what the job says of its text.
-use Rattle.std.proofs.Common.{◌≡◌, ℕ, ◌≤◌, ℤ, pos, nat_abs, Bool, List, [], length, Some, refl, sym, ◌∙◌, ap, subst, inl, inr, w32, to_z, of_z, FitsSigned}
+use Rattle.std.proofs.Common.{◌≡◌, ℕ, ◌≤◌, ℤ, pos, nat_abs, Bool, true, false, List, [], length, Some, refl, sym, ◌∙◌, ap, subst, inl, inr, w32, to_z, of_z, FitsSigned}
 use Rattle.std.specs.Prelude.{Option, IfSome}
 use Rattle.std.proofs.lemmas.Bool.{cases_lt}
 use Rattle.std.proofs.lemmas.Int.{to_z-of_z}
@@ -8,10 +8,11 @@ use Rattle.escpos_jobs.specs.declared.status.Status.{Status}
 use Rattle.escpos_jobs.specs.declared.status.Status.TheVariants as job
 use Rattle.escpos_jobs.specs.Ending.{job_end}
 use Rattle.escpos_jobs.specs.Report.{IsAllRead, IsOfContent, ReportsAs, RunsRawAs}
+use Rattle.escpos_c.specs.declared.limited_text.TheConstants.{TEXT_LIMIT}
 use Rattle.escpos_c.specs.declared.call_status.CallStatus.{CallStatus}
 use Rattle.escpos_c.specs.declared.call_status.CallStatus.TheVariants as call
 use Rattle.escpos_c.specs.Status.{number_of_status}
-use Rattle.escpos_c.specs.Answered.{AnsweredWith}
+use Rattle.escpos_c.specs.Answered.{AnsweredWithin, cut_short}
 use Rattle.escpos_c.specs.Buffer.{Fills, TooShort}
 use Rattle.escpos_c.specs.TextCalls.{AnswersText, IsTextFor}
 
@@ -25,6 +26,7 @@ number_kept status z e = ap (λ x. to_z w32 (of_z w32 x)) e ∙ kept status
     kept call.Empty = refl
     kept call.Memory = refl
     kept call.Short = refl
+    kept call.TooLong = refl
 
 pub same_number : {m n : ℕ} → pos m ≡ pos n → m ≡ n
 same_number e = ap nat_abs e
@@ -52,7 +54,7 @@ module _ (is_text is_short : List ℕ → List ℕ → Type 0) (bytes text : Lis
     | inr short ↦ (short, (ran.short short).good refl)
   ]
 
-  module _ (before after : List ℕ) (written : ℕ) where
+  module _ (before after : List ℕ) (written : ℕ) (within : written ≤ TEXT_LIMIT) where
     abbrev Answers : CallStatus → Type 0
     Answers status = AnswersText is_text bytes (number_of_status status) before after written
 
@@ -64,6 +66,8 @@ module _ (is_text is_short : List ℕ → List ℕ → Type 0) (bytes text : Lis
       refused = λ e. let n = same_number e in cc;
       memory = λ e. let n = same_number e in cc;
       short = λ e. let n = same_number e in cc;
+      too_long = λ e. let n = same_number e in cc;
+      within = within;
     }
 
     refused_answer : IsTextFor is_text bytes text → (length bytes ≤ INPUT_LIMIT → IsAllRead bytes → ⊥) → Fills before after written text → Answers call.Refused
@@ -74,16 +78,20 @@ module _ (is_text is_short : List ℕ → List ℕ → Type 0) (bytes text : Lis
       refused = λ _. unread;
       memory = λ e. let n = same_number e in cc;
       short = λ e. let n = same_number e in cc;
+      too_long = λ e. let n = same_number e in cc;
+      within = within;
     }
 
     short_answer : IsTextFor is_text bytes text → TooShort before after written text → Answers call.Short
     short_answer is too_short = record {
-      statuses = inr (inr (inr refl));
+      statuses = inr (inr (inr (inl refl)));
       text = λ e. elim e [ inl z ↦ (let n = same_number z in cc) | inr z ↦ (let n = same_number z in cc) ];
       good = λ e. let n = same_number e in cc;
       refused = λ e. let n = same_number e in cc;
       memory = λ e. let n = same_number e in cc;
       short = λ _. (text, is, too_short);
+      too_long = λ e. let n = same_number e in cc;
+      within = within;
     }
 
     memory_answer : (written ≡ 0) × (after ≡ before) → Answers call.Memory
@@ -94,31 +102,50 @@ module _ (is_text is_short : List ℕ → List ℕ → Type 0) (bytes text : Lis
       refused = λ e. let n = same_number e in cc;
       memory = λ _. same;
       short = λ e. let n = same_number e in cc;
+      too_long = λ e. let n = same_number e in cc;
+      within = within;
     }
 
-    pub answers_text : (status : Status) (answer : CallStatus) → Ran status → AnsweredWith status text answer before after written → Answers answer
-    answers_text job.Good answer ran given = elim given [
+    too_long_answer : (written ≡ 0) × (after ≡ before) → Answers call.TooLong
+    too_long_answer same = record {
+      statuses = inr (inr (inr (inr refl)));
+      text = λ e. elim e [ inl z ↦ (let n = same_number z in cc) | inr z ↦ (let n = same_number z in cc) ];
+      good = λ e. let n = same_number e in cc;
+      refused = λ e. let n = same_number e in cc;
+      memory = λ e. let n = same_number e in cc;
+      short = λ e. let n = same_number e in cc;
+      too_long = λ _. same;
+      within = within;
+    }
+
+    cut_short_answer : (too_long : Bool) → (written ≡ 0) × (after ≡ before) → Answers (cut_short too_long)
+    cut_short_answer true = too_long_answer
+    cut_short_answer false = memory_answer
+
+    pub answers_text : (status : Status) (too_long : Bool) (answer : CallStatus) → Ran status
+        → AnsweredWithin status too_long text answer before after written → Answers answer
+    answers_text job.Good too_long answer ran given = elim given [
       | inl whole ↦ subst Answers (sym whole.0) (good_answer (text_for job.Good ran (inl refl)) (all_read ran) whole.1)
       | inr short ↦ subst Answers (sym short.0) (short_answer (text_for job.Good ran (inl refl)) short.1)
     ]
-    answers_text job.Refused answer ran given = elim given [
+    answers_text job.Refused too_long answer ran given = elim given [
       | inl whole ↦ subst Answers (sym whole.0) (refused_answer (text_for job.Refused ran (inr refl)) (λ short read. (ran.short short).refused refl read) whole.1)
       | inr short ↦ subst Answers (sym short.0) (short_answer (text_for job.Refused ran (inr refl)) short.1)
     ]
-    answers_text job.Usage answer ran given = subst Answers (sym given.0) (memory_answer (given.1, given.2))
-    answers_text job.Device answer ran given = subst Answers (sym given.0) (memory_answer (given.1, given.2))
-    answers_text job.Memory answer ran given = subst Answers (sym given.0) (memory_answer (given.1, given.2))
+    answers_text job.Usage too_long answer ran given = subst Answers (sym given.0) (cut_short_answer too_long (given.1, given.2))
+    answers_text job.Device too_long answer ran given = subst Answers (sym given.0) (cut_short_answer too_long (given.1, given.2))
+    answers_text job.Memory too_long answer ran given = subst Answers (sym given.0) (cut_short_answer too_long (given.1, given.2))
 
-    -- The same, where the job read a source of these bytes and printed into an empty sink, from which the text was taken.
-    pub told_text : (source empty : Option (List ℕ)) (shown : List ℕ) → source ≡ Some bytes → empty ≡ Some [] → shown ≡ text → (status : Status) (answer : CallStatus) (z : ℤ)
+    -- The same, where the job read a source of these bytes and printed into an empty text.
+    pub told_text : (source empty : Option (List ℕ)) → source ≡ Some bytes → empty ≡ Some [] → (status : Status) (too_long : Bool) (answer : CallStatus) (z : ℤ)
         → IfSome source (λ read. RunsRawAs (ReportsAs is_text is_short) (job_end empty (Some text) failed status) read)
-        → AnsweredWith status shown answer before after written → z ≡ number_of_status answer
+        → AnsweredWithin status too_long text answer before after written → z ≡ number_of_status answer
         → AnswersText is_text bytes (to_z w32 (of_z w32 z)) before after written
-    told_text source empty shown is_source is_empty is_shown status answer z ran given is_number =
+    told_text source empty is_source is_empty status too_long answer z ran given is_number =
         let over : IfSome (Some bytes) (λ read. RunsRawAs (ReportsAs is_text is_short) (job_end empty (Some text) failed status) read)
         = subst (λ o. IfSome o (λ read. RunsRawAs (ReportsAs is_text is_short) (job_end empty (Some text) failed status) read)) is_source ran in
         let into : Ran status = subst (λ o. RunsRawAs (ReportsAs is_text is_short) (job_end o (Some text) failed status) bytes) is_empty over in
-        subst (λ n. AnswersText is_text bytes n before after written) (sym (number_kept answer z is_number)) (answers_text status answer into (subst (λ t. AnsweredWith status t answer before after written) is_shown given))
+        subst (λ n. AnswersText is_text bytes n before after written) (sym (number_kept answer z is_number)) (answers_text status too_long answer into given)
 
 -- An answer for a width is the answer for what the width is, and its status comes to the caller as it is.
 pub at_width : (is_text : ℕ → List ℕ → List ℕ → Type 0) (width usual : ℕ) → width ≡ usual

@@ -1,4 +1,5 @@
 pub mod Answering
+pub mod Crosses
 pub mod Heap
 pub mod ImageAnswering
 pub mod OnHandle

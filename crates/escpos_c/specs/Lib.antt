@@ -5,6 +5,7 @@ pub mod TextCalls
 pub mod ImageCalls
 pub mod EncodeCalls
 pub mod Reasons
+pub mod LimitedText
 pub mod Answered
 pub mod HostNumbers
 pub mod Handles

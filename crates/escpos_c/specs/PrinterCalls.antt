@@ -9,6 +9,7 @@ use Rattle.escpos_printer.specs.declared.condition.Condition.{Condition}
 use Rattle.escpos_printer.specs.declared.printer.FeedStop.{FeedStop}
 use Rattle.escpos_printer.specs.Feeds.{Feeds, PrinterView}
 use Rattle.escpos_c.specs.declared.printer.Sensors.{Sensors}
+use Rattle.escpos_c.specs.declared.limited_text.TheConstants.{TEXT_LIMIT}
 use Rattle.escpos_c.specs.declared.printer_core.PrinterCore.{PrinterCore}
 use Rattle.escpos_c.specs.Buffer.{Fills, TooShort}
 use Rattle.escpos_c.specs.PrinterNumbers.{stop_kind, stop_place, stop_reason}
@@ -50,12 +51,13 @@ TakesAnswer status before after written old new =
     ((7 ≤ length before) × (status ≡ pos 0) × GivesAnswer old.printer new.printer before after written)
     ⊎ ((length before < 7) × (status ≡ pos 5) × (written ≡ 7) × (after ≡ before) × (new ≡ old))
 
--- The text of the paper is given, or the buffer is too short for it, or memory ran out.
+-- The text of the paper is given, or the buffer is too short for it; or memory ran out, or the text has more bytes than any may.
 abbrev pub GivesPaper : ℤ → List ℕ → List ℕ → ℕ → PrinterCore → Type 0
 GivesPaper status before after written core =
-    ((status ≡ pos 0) × Fills before after written (items_text core.printer.sheet.items))
-    ⊎ ((status ≡ pos 5) × TooShort before after written (items_text core.printer.sheet.items))
+    ((status ≡ pos 0) × (written ≤ TEXT_LIMIT) × Fills before after written (items_text core.printer.sheet.items))
+    ⊎ ((status ≡ pos 5) × (written ≤ TEXT_LIMIT) × TooShort before after written (items_text core.printer.sheet.items))
     ⊎ ((status ≡ pos 4) × (written ≡ 0) × (after ≡ before))
+    ⊎ ((status ≡ pos 6) × (TEXT_LIMIT < length (items_text core.printer.sheet.items)) × (written ≡ 0) × (after ≡ before))
 
 abbrev pub with_condition : PrinterView → Condition → PrinterView
 with_condition printer condition = record { sheet = printer.sheet; half = printer.half; waiting = printer.waiting; condition = condition }

@@ -1,10 +1,13 @@
 //! Moves the result of a call into the caller's buffer.
 
-ghost use Rattle.std.specs.Prelude.{◌≡◌, pos};
-ghost use Rattle.escpos_c.specs.Answered.{AnsweredWith};
+ghost use Rattle.std.specs.Prelude.{◌≡◌, ◌≤◌, pos};
+ghost use Rattle.escpos_c.specs.declared.limited_text.TheConstants.{TEXT_LIMIT};
+ghost use Rattle.escpos_c.specs.Answered.{AnsweredWith, AnsweredWithin};
 ghost use Rattle.escpos_c.specs.Buffer.{Given};
+ghost use Rattle.escpos_c.specs.LimitedText.{is_too_long, text_of};
 
 use crate::call_status::CallStatus;
+use crate::limited_text::LimitedText;
 use escpos_jobs::status::Status;
 
 /// Copies `text` to the start of `out`, and returns `status`. If `out` is too short for all of it, it stays as it is, and the
@@ -30,6 +33,26 @@ pub fn answer(status: Status, text: &[u8], out: &mut [u8], written: &mut usize) 
         Status::Usage | Status::Device | Status::Memory => {
             *written = 0;
             CallStatus::Memory
+        }
+    }
+}
+
+/// The same for a text with a limit.
+pub fn answer_within(
+    status: Status,
+    text: &LimitedText,
+    out: &mut [u8],
+    written: &mut usize,
+) -> CallStatus
+    ensures told { AnsweredWithin status (is_too_long text.now) (text_of text.now) result out.old out.new written.new }
+    ensures within { written.new ≤ TEXT_LIMIT }
+{
+    match status {
+        Status::Good => give(CallStatus::Good, text.bytes(), out, written),
+        Status::Refused => give(CallStatus::Refused, text.bytes(), out, written),
+        _ => {
+            *written = 0;
+            text.cut_short()
         }
     }
 }

@@ -16,6 +16,8 @@ pub enum CallStatus {
     Memory,
     /// 5: the caller's buffer is too short.
     Short,
+    /// 6: the text would have more bytes than any may.
+    TooLong,
 }
 
 impl CallStatus {
@@ -29,6 +31,7 @@ impl CallStatus {
             CallStatus::Empty => 2,
             CallStatus::Memory => 4,
             CallStatus::Short => 5,
+            CallStatus::TooLong => 6,
         }
     }
 }

@@ -5,7 +5,7 @@ ghost use Rattle.escpos_c.specs.contracts.host_core.HostCore.{the_row as core_ro
 ghost use Rattle.escpos_c.specs.Owned.{slot_owns};
 
 use crate::host_core::HostCore;
-use crate::slot::Slot;
+use crate::slot::{Slot, may_go};
 use std::alloc::Global;
 use std::marker::Model;
 use std::mem;
@@ -21,11 +21,17 @@ impl Model for HostHandle {
     ghost also_owns = { λ h. slot_owns core_row h.at h.value };
 }
 
+// It owns nothing but a box of a core, and a core may go to any thread.
+unsafe impl Send for HostHandle {}
+
 impl HostHandle {
     pub fn none() -> HostHandle
         ensures { result.value ≡ None }
     {
-        HostHandle::of(Slot::none())
+        let handle = HostHandle::of(Slot::none());
+        // Proof only: a handle may go to another thread.
+        may_go(&handle);
+        handle
     }
 
     fn of(slot: Slot<HostCore>) -> HostHandle

@@ -4,10 +4,11 @@
 //! The functions that C calls are those of `encode`, `stateless` and `image`, which keep nothing, of `host` and `submit`, which
 //! work on a host that a handle holds, and of `printer`. `options` has the numbers in which C says the width of a line and a
 //! receipt's options; `call_status`, `refusal`, `host_core` and `printer_core` have those in which C is told what came of a call,
-//! `no_receipt` why a text gives no receipt. `spelling` has the bytes of a receipt, and `buffer` moves them, or the text of a job,
-//! into the caller's buffer. `host_handle` and `printer_handle` are what C owns:
+//! `no_receipt` why a text gives no receipt. `spelling` has the bytes of a receipt, `limited_text` the text of a job, and `buffer` moves
+//! them into the caller's buffer. `host_handle` and `printer_handle` are what C owns:
 //! nothing, or a box, whose pointer `slot` takes apart and puts together.
-//! `bindings/escpos.h` declares what C sees. No function here reads, writes or waits, or keeps a pointer that it was given.
+//! `bindings/kolatennis.c` calls these functions for C, and `bindings/kolatennis.h` declares what C sees. No function here reads, writes
+//! or waits, or keeps a pointer that it was given.
 #![tactic(auto)]
 
 mod buffer;
@@ -17,6 +18,7 @@ mod host;
 mod host_core;
 mod host_handle;
 mod image;
+mod limited_text;
 mod no_receipt;
 mod options;
 mod printer;

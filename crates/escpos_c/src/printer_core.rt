@@ -7,9 +7,9 @@ ghost use Rattle.escpos_c.specs.PrinterNumbers.{stop_kind, stop_place, stop_reas
 
 use crate::buffer::give;
 use crate::call_status::CallStatus;
+use crate::limited_text::LimitedText;
 use crate::refusal::{NO_PLACE, NO_REASON};
 use escpos_command::LineWidth;
-use escpos_io::Outgoing;
 use escpos_paper::write_items;
 use escpos_printer::{Condition, FeedStop, Printer};
 use std::alloc::Global;
@@ -83,12 +83,12 @@ impl PrinterCore {
     pub fn give_paper(&self, alloc: Global, out: &mut [u8], written: &mut usize) -> CallStatus
         ensures { GivesPaper (number_of_status result) out.old out.new written.new self.now }
     {
-        let mut text = Outgoing::new(Vec::new(alloc));
+        let mut text = LimitedText::new(alloc);
         if write_items(self.printer.items(), &mut text).is_err() {
             *written = 0;
-            return CallStatus::Memory;
+            return text.cut_short();
         }
-        give(CallStatus::Good, &text.into_inner(), out, written)
+        give(CallStatus::Good, text.bytes(), out, written)
     }
 }
 

@@ -5,7 +5,7 @@ ghost use Rattle.escpos_c.specs.contracts.printer_core.PrinterCore.{the_row as c
 ghost use Rattle.escpos_c.specs.Owned.{slot_owns};
 
 use crate::printer_core::PrinterCore;
-use crate::slot::Slot;
+use crate::slot::{Slot, may_go};
 use std::alloc::Global;
 use std::marker::Model;
 use std::mem;
@@ -21,11 +21,17 @@ impl Model for PrinterHandle {
     ghost also_owns = { λ h. slot_owns core_row h.at h.value };
 }
 
+// It owns nothing but a box of a core, and a core may go to any thread.
+unsafe impl Send for PrinterHandle {}
+
 impl PrinterHandle {
     pub fn none() -> PrinterHandle
         ensures { result.value ≡ None }
     {
-        PrinterHandle::of(Slot::none())
+        let handle = PrinterHandle::of(Slot::none());
+        // Proof only: a handle may go to another thread.
+        may_go(&handle);
+        handle
     }
 
     fn of(slot: Slot<PrinterCore>) -> PrinterHandle

@@ -44,3 +44,6 @@ impl<T> Slot<T> {
         Some(unsafe { Box::from_raw(alloc, at) })
     }
 }
+
+/// Proof only: a value of this type may go to another thread.
+pub fn may_go<T: Send>(_: &T) {}

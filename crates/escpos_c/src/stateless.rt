@@ -12,10 +12,11 @@ ghost use Rattle.escpos_c.specs.Buffer.{GivesNone};
 ghost use Rattle.escpos_c.specs.Given.{line_dots};
 ghost use Rattle.escpos_c.specs.TextCalls.{AnswersText};
 
-use crate::buffer::{answer, give_none};
+use crate::buffer::{answer_within, give_none};
+use crate::limited_text::LimitedText;
 use crate::options::line_width;
 use escpos_command::LineWidth;
-use escpos_io::{MemoryIn, Outgoing};
+use escpos_io::MemoryIn;
 use escpos_jobs::check::check_raw;
 use escpos_jobs::draw::draw_raw;
 use escpos_jobs::render::{render_raw, render_text_raw};
@@ -32,9 +33,9 @@ pub extern "C" fn escpos_listing(
     ensures { AnswersText (IsText listing_shape) bytes.now result out.old out.new written.new }
 {
     let mut input = MemoryIn::new(bytes, usize::MAX);
-    let mut text = Outgoing::new(Vec::new(alloc));
+    let mut text = LimitedText::new(alloc);
     let status = check_raw(alloc, &mut input, &mut text);
-    answer(status, &text.into_inner(), out, written).number()
+    answer_within(status, &text, out, written).number()
 }
 
 /// Prints what a stream prints as text, as `render --raw` does.
@@ -135,9 +136,9 @@ fn paper(alloc: Global, width: LineWidth, bytes: &[u8], out: &mut [u8], written:
     ensures { AnswersText (IsText (paper_shape width)) bytes.now result out.old out.new written.new }
 {
     let mut input = MemoryIn::new(bytes, usize::MAX);
-    let mut text = Outgoing::new(Vec::new(alloc));
+    let mut text = LimitedText::new(alloc);
     let status = render_raw(alloc, width, &mut input, &mut text);
-    answer(status, &text.into_inner(), out, written).number()
+    answer_within(status, &text, out, written).number()
 }
 
 // Prints what a stream prints as plain text, in lines of this width.
@@ -151,9 +152,9 @@ fn paper_text(
     ensures { AnswersText (IsText (plain_shape width)) bytes.now result out.old out.new written.new }
 {
     let mut input = MemoryIn::new(bytes, usize::MAX);
-    let mut text = Outgoing::new(Vec::new(alloc));
+    let mut text = LimitedText::new(alloc);
     let status = render_text_raw(alloc, width, &mut input, &mut text);
-    answer(status, &text.into_inner(), out, written).number()
+    answer_within(status, &text, out, written).number()
 }
 
 // Prints what a stream prints as a picture, in lines of this width.
@@ -167,7 +168,7 @@ fn picture(
     ensures { AnswersText (IsPicture width) bytes.now result out.old out.new written.new }
 {
     let mut input = MemoryIn::new(bytes, usize::MAX);
-    let mut text = Outgoing::new(Vec::new(alloc));
+    let mut text = LimitedText::new(alloc);
     let status = draw_raw(alloc, width, &mut input, &mut text);
-    answer(status, &text.into_inner(), out, written).number()
+    answer_within(status, &text, out, written).number()
 }

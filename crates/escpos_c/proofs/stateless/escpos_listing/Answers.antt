@@ -1,5 +1,4 @@
 -- The job's text is the listing, and the caller is given it.
-use Rattle.std.proofs.Common.{◌∙◌, ap, Some}
 use Rattle.escpos_jobs.specs.Check.{listing_shape}
 use Rattle.escpos_jobs.specs.Report.{IsText, IsCutShort}
 use Rattle.escpos_c.proofs.Answering.{told_text}
@@ -7,6 +6,5 @@ use Rattle.escpos_c.proofs.stateless.escpos_listing.Goals as goal
 
 pub returns : goal.returns
 returns c =
-    told_text (IsText listing_shape) (IsCutShort listing_shape) c.args.bytes.now _ _ _ _ _ _ _ _ c.new-input.ensures.to_come (c.new-text.ensures.written ∙ ap Some c.new.ensures.items)
-    (c.deref.ensures.value ∙ ap (λ v. v.items) c.into_inner.ensures) c.check_raw-status.result c.answer.result
-    c.number.result c.check_raw-status.ensures.checks c.answer.ensures c.number.ensures
+    told_text (IsText listing_shape) (IsCutShort listing_shape) c.args.bytes.now _ _ _ _ _ c.answer_within.ensures.within _ _ c.new-input.ensures.to_come c.new-text.ensures.written
+    c.check_raw-status.result _ c.answer_within.result c.number.result c.check_raw-status.ensures.checks c.answer_within.ensures.told c.number.ensures
