@@ -1,20 +1,16 @@
 -- What the values after an argument say: numbers, addresses and waits.
-use Rattle.std.proofs.Common.{◌≡◌, ◌⊎◌, ◌∙◌, IsTrue, ℕ, List, Option, Some, None, Result, Ok, Err, refl, sym, ap, subst, codes, inl, inr, arith}
+use Rattle.std.proofs.Common.{◌≡◌, ◌∙◌, IsTrue, ℕ, List, Option, Some, None, Result, Ok, Err, refl, sym, ap, subst, codes, arith}
 use Rattle.std.specs.Prelude.{MatchResult, IfSome, IsSomeAnd, get_or, unwrap_or}
 use Rattle.std.specs.Str.Parse.{ParsesUnsigned}
-use Rattle.std.specs.declared.net.socket_addr.SocketAddrV4.{SocketAddrV4}
-use Rattle.std.specs.Net.Grammar.{IsSocketV4Text}
-use Rattle.std.proofs.NetLemmas.Theorems.{IsSocketV4Text_unique}
 use Rattle.clap.specs.Words.{Row, Text, first_of, one_of}
 use Rattle.clap.specs.Matches.{TriesOne}
-use Rattle.escpos_arguments.specs.Arguments.{AsksBy, HasNoOptions, HasOptions, InRange, IsAddress, IsNumberOr, IsOptions, IsReplacedBy, IsWait}
+use Rattle.escpos_arguments.specs.Arguments.{AsksBy, HasNoOptions, HasOptions, InRange, IsNumberOr, IsOptions, IsReplacedBy, IsWait}
 use Rattle.escpos_arguments.specs.ReceiptTasks.{options_of}
 use Rattle.escpos_receipt.specs.declared.options.ReceiptOptions.{ReceiptOptions}
 use Rattle.escpos_command.specs.LineWidths.{is_line_width}
 use Rattle.escpos_command.specs.declared.line_width.TheConstants.{USUAL_LINE_DOTS}
 use Rattle.escpos_text.specs.Replacements.{is_replacement}
 use Rattle.escpos_jobs.specs.declared.task.NoTask.{NoTask}
-use Rattle.escpos_jobs.specs.declared.task.NoTask.TheVariants.{Memory}
 use Rattle.escpos_jobs.specs.declared.task.Task.{Task}
 use Rattle.escpos_jobs.specs.declared.task.Task.TheVariants.{Check, CheckRaw, Render, RenderRaw, RenderAt, RenderRawAt, Draw, DrawRaw, DrawAt, DrawRawAt, RenderText, Encode, EncodeRaw, EncodeWith, Image, Play, Emulate, EmulateIn, EmulateAt, Follow, FollowAt, Send, SendWithin, SendWith, Status, Loop, LoopAt}
 use Rattle.escpos_arguments.specs.ClapAnswers.{IsNumber, IsNumberIn}
@@ -58,23 +54,12 @@ pub number_in : (text : Option Text) (n : ℕ) → IsSomeAnd text (λ t. IsNumbe
 number_in None n h = absurd h
 number_in (Some t) n h = h
 
-pub address_unique : (text : Text) (a b : SocketAddrV4) → IsSocketV4Text text a → IsAddress text b → a ≡ b
-address_unique text a b h k = IsSocketV4Text_unique text a b h k.0
-
 -- Results of one call are one.
 pub one_result : {T E : Type 0} (r : Result T E) (x y : T) → r ≡ Ok x → r ≡ Ok y → x ≡ y
 one_result r x y e f = let same : Ok x ≡ Ok y = sym e ∙ f in cc
 
 pub no_error : {T E : Type 0} (r : Result T E) (x : T) (why : E) → r ≡ Ok x → r ≡ Err why → ⊥
 no_error r x why e f = let bad : Ok x ≡ Err why = sym e ∙ f in cc
-
-pub or_memory : {T : Type 0} (r : Result T NoTask) (x y : T) → r ≡ Ok x → (r ≡ Ok y) ⊎ (r ≡ Err Memory) → x ≡ y
-or_memory r x y e (inl f) = one_result r x y e f
-or_memory r x y e (inr f) = absurd (no_error r x Memory e f)
-
-pub only_memory : {T : Type 0} (r : Result T NoTask) (y : T) (why : NoTask) → r ≡ Err why → (r ≡ Ok y) ⊎ (r ≡ Err Memory) → why ≡ Memory
-only_memory r y why e (inl f) = absurd (no_error r y why f e)
-only_memory r y why e (inr f) = let same : Err why ≡ Err Memory = sym e ∙ f in cc
 
 abbrev head : List ℕ → ℕ
 head bytes = get_or bytes 0 0

@@ -1,30 +1,30 @@
 -- The values of a till's task.
-use Rattle.std.proofs.Common.{◌≡◌, ◌⊎◌, ◌∙◌, ℕ, List, Option, Some, None, Result, Ok, Err, refl, sym, ap, subst, codes}
+use Rattle.std.proofs.Common.{◌≡◌, ◌∙◌, ℕ, List, Option, Some, None, Result, Ok, Err, refl, sym, ap, subst, codes}
 use Rattle.std.specs.Prelude.{◌≤◌, IfSome, IsSomeAnd}
 use Rattle.clap.specs.Words.{Row, first_of, one_of}
 use Rattle.escpos_arguments.specs.declared.arguments.TheConstants.{OPENINGS, MOST_OPENINGS}
-use Rattle.escpos_arguments.specs.Arguments.{IsAddress, IsNumberOr, IsWait}
+use Rattle.escpos_arguments.specs.Arguments.{IsNumberOr, IsWait}
 use Rattle.escpos_arguments.specs.ClapAnswers.{IsNumberIn}
-use Rattle.escpos_arguments.proofs.TaskValues.{no_error, number_in, only_memory}
+use Rattle.escpos_arguments.proofs.TaskValues.{no_error, number_in}
 use Rattle.escpos_arguments.specs.TillArguments.{AsksTillBy, IsTillInRange}
 use Rattle.escpos_till.specs.Copy.{IsCopyText}
-use Rattle.std.specs.declared.net.socket_addr.SocketAddrV4.{SocketAddrV4}
+use Rattle.escpos_jobs.specs.Address.{IsAddress}
+use Rattle.escpos_jobs.specs.declared.address.Address.{Address}
 use Rattle.escpos_jobs.specs.declared.task.NoTask.{NoTask}
-use Rattle.escpos_jobs.specs.declared.task.NoTask.TheVariants.{Memory}
 use Rattle.escpos_till_jobs.specs.declared.deliver.Delivery.{Delivery}
 use Rattle.escpos_till_jobs.specs.declared.task.TillTask.{TillTask}
 use Rattle.escpos_till_jobs.specs.declared.task.TillTask.TheVariants.{Queue, Deliver, DeliverWithin, List as listing}
 
--- An address that is asked for is refused only where an allocation failed.
-pub taken_address : (rows : List Row) (task : TillTask) (r : Result SocketAddrV4 NoTask) (why : NoTask) → AsksTillBy (codes "deliver") rows task → r ≡ Err why
-    → ((a : SocketAddrV4) → IsSomeAnd (first_of (codes "address") rows) (λ text. IsAddress text a) → (r ≡ Ok a) ⊎ (r ≡ Err Memory)) → why ≡ Memory
+-- An address that is asked for is taken.
+pub taken_address : (rows : List Row) (task : TillTask) (r : Result Address NoTask) (why : NoTask) → AsksTillBy (codes "deliver") rows task → r ≡ Err why
+    → ((a : Address) → IsSomeAnd (first_of (codes "address") rows) (λ text. IsAddress text a) → r ≡ Ok a) → ⊥
 taken_address rows (Queue ledger options) r why asks is taken = let bad = asks.0 in absurd cc
 taken_address rows (Deliver ledger d) r why asks is taken =
     let (name, path, address, openings, copy, none) = asks in
-    only_memory r d.address why is (taken d.address address)
+    no_error r d.address why (taken d.address address) is
 taken_address rows (DeliverWithin ledger d wait) r why asks is taken =
     let (name, path, address, openings, copy, is_wait) = asks in
-    only_memory r d.address why is (taken d.address address)
+    no_error r d.address why (taken d.address address) is
 taken_address rows (listing ledger first) r why asks is taken = let bad = asks.0 in absurd cc
 
 -- A wait that is asked for is taken.
@@ -45,7 +45,7 @@ abbrev pub delivery_task : List ℕ → Delivery → Option ℕ → TillTask
 delivery_task ledger d None = Deliver ledger d
 delivery_task ledger d (Some wait) = DeliverWithin ledger d wait
 
-same_delivery : (ledger path : List ℕ) (a : SocketAddrV4) (n : ℕ) (copy : Option (List ℕ)) (wait other : Option ℕ) (d : Delivery) → ledger ≡ path → a ≡ d.address → n ≡ d.openings
+same_delivery : (ledger path : List ℕ) (a : Address) (n : ℕ) (copy : Option (List ℕ)) (wait other : Option ℕ) (d : Delivery) → ledger ≡ path → a ≡ d.address → n ≡ d.openings
     → copy ≡ d.copy → wait ≡ other → delivery_task ledger (record { address = a; openings = n; copy = copy }) wait ≡ delivery_task path d other
 same_delivery ledger path a n copy wait other d e f g h k =
     ap (λ l. delivery_task l (record { address = a; openings = n; copy = copy }) wait) e ∙ ap (λ x. delivery_task path (record { address = x; openings = n; copy = copy }) wait) f
@@ -54,9 +54,9 @@ same_delivery ledger path a n copy wait other d e f g h k =
     ∙ ap (λ x. delivery_task path d x) k
 
 -- The values that were read are those that are asked for.
-pub taken_task : (rows : List Row) (task : TillTask) (ledger : List ℕ) (a : SocketAddrV4) (n : ℕ) (copy : Option (List ℕ)) (wait : Option ℕ) → AsksTillBy (codes "deliver") rows task → IsTillInRange task
+pub taken_task : (rows : List Row) (task : TillTask) (ledger : List ℕ) (a : Address) (n : ℕ) (copy : Option (List ℕ)) (wait : Option ℕ) → AsksTillBy (codes "deliver") rows task → IsTillInRange task
     → ((path : List ℕ) → first_of (codes "ledger") rows ≡ Some path → ledger ≡ path)
-    → ((b : SocketAddrV4) → IsSomeAnd (first_of (codes "address") rows) (λ text. IsAddress text b) → a ≡ b)
+    → ((b : Address) → IsSomeAnd (first_of (codes "address") rows) (λ text. IsAddress text b) → a ≡ b)
     → ((m : ℕ) → IsNumberOr OPENINGS (one_of (codes "openings") rows) m → 1 ≤ m → m ≤ MOST_OPENINGS → n ≡ m)
     → ((text : Option (List ℕ)) → first_of (codes "copy") rows ≡ text → IfSome text IsCopyText → copy ≡ text)
     → ((other : Option ℕ) → IsNumberIn (one_of (codes "wait") rows) other → IfSome other IsWait → wait ≡ other)

@@ -1,21 +1,21 @@
 -- What a width among the values says of the task that they ask for.
-use Rattle.std.proofs.Common.{◌≡◌, ◌≢◌, ◌⊎◌, ◌∙◌, ◌≤◌, ℕ, List, Option, Some, None, Result, Ok, Err, IsTrue, refl, sym, ap, subst, codes, arith}
+use Rattle.std.proofs.Common.{◌≡◌, ◌≢◌, ◌∙◌, ◌≤◌, ℕ, List, Option, Some, None, Result, Ok, Err, IsTrue, refl, sym, ap, subst, codes, arith}
 use Rattle.std.specs.Prelude.{IfSome, IsSomeAnd, get_or, unwrap_or}
-use Rattle.std.specs.declared.net.socket_addr.SocketAddrV4.{SocketAddrV4}
+use Rattle.escpos_jobs.specs.Address.{IsAddress}
+use Rattle.escpos_jobs.specs.declared.address.Address.{Address}
 use Rattle.clap.specs.Words.{Row, Text, first_of, one_of}
 use Rattle.escpos_command.specs.LineWidths.{is_line_width}
 use Rattle.escpos_command.specs.declared.line_width.TheConstants.{USUAL_LINE_DOTS}
 use Rattle.escpos_printer.specs.declared.condition.Condition.{Condition}
 use Rattle.escpos_jobs.specs.Conditions.{condition_text, online}
 use Rattle.escpos_jobs.specs.declared.task.NoTask.{NoTask}
-use Rattle.escpos_jobs.specs.declared.task.NoTask.TheVariants.{Memory}
 use Rattle.escpos_jobs.specs.declared.task.Task.{Task}
 use Rattle.escpos_jobs.specs.declared.task.Task.TheVariants.{Check, CheckRaw, Render, RenderRaw, RenderAt, RenderRawAt, Draw, DrawRaw, DrawAt, DrawRawAt, RenderText, Encode, EncodeRaw, EncodeWith, Image, Play, Emulate, EmulateIn, EmulateAt, Follow, FollowAt, Send, SendWithin, SendWith, Status, Loop, LoopAt}
 use Rattle.escpos_arguments.specs.declared.arguments.TheConstants.{LINKS, MOST_LINKS}
-use Rattle.escpos_arguments.specs.Arguments.{AsksBy, HasFlag, HasNoWidth, HasWidth, InRange, IsAddress, IsConditionOr, IsNumberOr, IsPlain}
+use Rattle.escpos_arguments.specs.Arguments.{AsksBy, HasFlag, HasNoWidth, HasWidth, InRange, IsConditionOr, IsNumberOr, IsPlain}
 use Rattle.escpos_arguments.specs.ClapAnswers.{IsNumber, IsNumberIn}
-use Rattle.escpos_arguments.specs.EmulateTasks.{links_task}
-use Rattle.escpos_arguments.proofs.TaskValues.{no_error, number_in, one_result, or_memory, or_number}
+use Rattle.escpos_arguments.specs.EmulateTasks.{follow_task, links_task}
+use Rattle.escpos_arguments.proofs.TaskValues.{no_error, number_in, one_result, or_number}
 
 -- the width that the values say, if any, is one that a line may have
 abbrev pub IsWidth : List Row → Option ℕ → Type 0
@@ -217,7 +217,7 @@ pub condition_or : (text : Option Text) (condition : Option Condition) → Reads
 condition_or text None h = subst (λ o. IsConditionOr o online) (sym (h.0 refl)) refl
 condition_or text (Some c) h = subst (λ o. IsConditionOr o c) (sym (h.1 c refl)) refl
 
-pub emulate_asks : (rows : List Row) (address : SocketAddrV4) (links : ℕ) (condition : Option Condition) (width : Option ℕ)
+pub emulate_asks : (rows : List Row) (address : Address) (links : ℕ) (condition : Option Condition) (width : Option ℕ)
     → IsSomeAnd (first_of (codes "address") rows) (λ text. IsAddress text address)
     → IsNumberOr LINKS (one_of (codes "links") rows) links → ReadsCondition (first_of (codes "condition") rows) condition
     → ¬ HasFlag (codes "follow") rows → IsNumberIn (one_of (codes "width") rows) width
@@ -230,13 +230,13 @@ emulate_asks rows address links None (Some width) at count sensors ends wide =
 emulate_asks rows address links (Some c) (Some width) at count sensors ends wide =
     (refl, at, count, condition_or _ (Some c) sensors, ends, some_in _ width wide)
 
-pub same_links : (address a : SocketAddrV4) (links l : ℕ) (condition c : Option Condition) (width w : Option ℕ)
+pub same_links : (address a : Address) (links l : ℕ) (condition c : Option Condition) (width w : Option ℕ)
     → address ≡ a → links ≡ l → condition ≡ c → width ≡ w → links_task address links condition width ≡ links_task a l c w
 same_links address a links l condition c width w ea el ec ew =
     ap (λ x. links_task x links condition width) ea ∙ ap (λ x. links_task a x condition width) el
     ∙ ap (λ x. links_task a l x width) ec ∙ ap (λ x. links_task a l c x) ew
 
-pub links_at : (address : SocketAddrV4) (links : ℕ) (condition : Option Condition) (width : ℕ)
+pub links_at : (address : Address) (links : ℕ) (condition : Option Condition) (width : ℕ)
     → links_task address links condition (Some width) ≡ EmulateAt address links (unwrap_or condition online) width
 links_at address links None width = refl
 links_at address links (Some c) width = refl
@@ -251,16 +251,72 @@ condition_some : (text : Option Text) (c : Condition) → IsSomeAnd text (λ t. 
 condition_some None c h = absurd h
 condition_some (Some t) c h = ap Some h
 
-module _ (rows : List Row) (a : Result SocketAddrV4 NoTask) (n : Result ℕ NoTask) (k : Result (Option Condition) NoTask) (w : Result (Option ℕ) NoTask)
-    (address : SocketAddrV4) (links : ℕ) (condition : Option Condition) (width : Option ℕ)
+-- The values of `emulate --follow` are those that are asked for.
+module _ (rows : List Row) (a : Result Address NoTask) (k : Result (Option Condition) NoTask) (w : Result (Option ℕ) NoTask)
+    (address : Address) (condition : Option Condition) (width : Option ℕ)
+    (is_a : a ≡ Ok address) (is_k : k ≡ Ok condition) (is_w : w ≡ Ok width)
+    (takes_a : (x : Address) → IsSomeAnd (first_of (codes "address") rows) (λ text. IsAddress text x) → a ≡ Ok x)
+    (takes_none : first_of (codes "condition") rows ≡ None → k ≡ Ok None)
+    (takes_k : (c : Condition) → first_of (codes "condition") rows ≡ Some (condition_text c) → k ≡ Ok (Some c))
+    (takes_w : TakesWidths rows w) (follows : HasFlag (codes "follow") rows) where
+  followed_width : (x : Option ℕ) → IsWidth rows x → width ≡ x
+  followed_width x h = one_result w width x is_w (takes_w x h.0 h.1)
+
+  same_follow : (x : Address) (c d : Condition) (v : Option ℕ) → address ≡ x → d ≡ c → width ≡ v → follow_task address d width ≡ follow_task x c v
+  same_follow x c d v ea ec ew =
+      ap (λ y. follow_task y d width) ea ∙ ap (λ y. follow_task x y width) ec ∙ ap (λ y. follow_task x c y) ew
+
+  pub follow_taken : (task : Task) → AsksBy (codes "emulate") rows task → InRange task
+      → (one_of (codes "links") rows ≡ None) × (follow_task address (unwrap_or condition online) width ≡ task)
+  follow_taken Check asks range = let h = ap head asks in absurd (omega (arith, h))
+  follow_taken CheckRaw asks range = absurd (emulate_says.0 asks.0)
+  follow_taken Render asks range = let h = ap head asks in absurd (omega (arith, h))
+  follow_taken RenderRaw asks range = let h = ap head asks.0 in absurd (omega (arith, h))
+  follow_taken (RenderAt x) asks range = let h = ap head asks.0 in absurd (omega (arith, h))
+  follow_taken (RenderRawAt x) asks range = let h = ap head asks.0 in absurd (omega (arith, h))
+  follow_taken Draw asks range = let h = ap head asks in absurd (omega (arith, h))
+  follow_taken DrawRaw asks range = let h = ap head asks.0 in absurd (omega (arith, h))
+  follow_taken (DrawAt x) asks range = let h = ap head asks.0 in absurd (omega (arith, h))
+  follow_taken (DrawRawAt x) asks range = let h = ap head asks.0 in absurd (omega (arith, h))
+  follow_taken (RenderText raw x) asks range = let h = ap head asks.0 in absurd (omega (arith, h))
+  follow_taken Encode asks range = absurd (emulate_says.1 asks)
+  follow_taken EncodeRaw asks range = absurd (emulate_says.1 asks.0)
+  follow_taken (EncodeWith raw options) asks range = absurd (emulate_says.1 asks.0)
+  follow_taken (Image x threshold) asks range = let h = ap head asks.0 in absurd (omega (arith, h))
+  follow_taken Play asks range = let h = ap head asks in absurd (omega (arith, h))
+  follow_taken (Emulate x l) asks range = let (is, at, count, none, unled, thin) = asks in absurd (unled follows)
+  follow_taken (EmulateIn x l c) asks range = let (is, at, count, sensors, unled, thin) = asks in absurd (unled follows)
+  follow_taken (EmulateAt x l c d) asks range = let (is, at, count, sensors, unled, has) = asks in absurd (unled follows)
+  follow_taken (Follow x c) asks range =
+      let (is, at, none, sensors, led, thin) = asks in (
+        none,
+        same_follow x c (unwrap_or condition online) None (one_result a address x is_a (takes_a x at))
+            (condition_is _ k condition c is_k takes_none takes_k sensors) (followed_width None (no_width rows thin)),
+      )
+  follow_taken (FollowAt x c d) asks range =
+      let (is, at, none, sensors, led, has) = asks in (
+        none,
+        same_follow x c (unwrap_or condition online) (Some d) (one_result a address x is_a (takes_a x at))
+            (condition_is _ k condition c is_k takes_none takes_k sensors) (followed_width (Some d) (width_in rows d has range)),
+      )
+  follow_taken (Send x first openings) asks range = absurd (emulate_says.2 asks.0)
+  follow_taken (SendWithin x first openings wait) asks range = absurd (emulate_says.2 asks.0)
+  follow_taken (SendWith x first openings wait options) asks range = absurd (emulate_says.2 asks.0)
+  follow_taken (Status x wait) asks range = absurd (emulate_says.3 asks.0)
+  follow_taken Loop asks range = let h = ap head asks in absurd (omega (arith, h))
+  follow_taken (LoopAt x) asks range = let h = ap head asks.0 in absurd (omega (arith, h))
+
+-- The values of `emulate` for a number of links are those that are asked for.
+module _ (rows : List Row) (a : Result Address NoTask) (n : Result ℕ NoTask) (k : Result (Option Condition) NoTask) (w : Result (Option ℕ) NoTask)
+    (address : Address) (links : ℕ) (condition : Option Condition) (width : Option ℕ)
     (is_a : a ≡ Ok address) (is_n : n ≡ Ok links) (is_k : k ≡ Ok condition) (is_w : w ≡ Ok width)
-    (takes_a : (x : SocketAddrV4) → IsSomeAnd (first_of (codes "address") rows) (λ text. IsAddress text x) → (a ≡ Ok x) ⊎ (a ≡ Err Memory))
+    (takes_a : (x : Address) → IsSomeAnd (first_of (codes "address") rows) (λ text. IsAddress text x) → a ≡ Ok x)
     (takes_n : (x : ℕ) → IsNumberOr LINKS (one_of (codes "links") rows) x → 1 ≤ x → x ≤ MOST_LINKS → n ≡ Ok x)
     (takes_none : first_of (codes "condition") rows ≡ None → k ≡ Ok None)
     (takes_k : (c : Condition) → first_of (codes "condition") rows ≡ Some (condition_text c) → k ≡ Ok (Some c))
     (takes_w : TakesWidths rows w) (ends : ¬ HasFlag (codes "follow") rows) where
-  same_address : (x : SocketAddrV4) → IsSomeAnd (first_of (codes "address") rows) (λ text. IsAddress text x) → address ≡ x
-  same_address x at = or_memory a address x is_a (takes_a x at)
+  same_address : (x : Address) → IsSomeAnd (first_of (codes "address") rows) (λ text. IsAddress text x) → address ≡ x
+  same_address x at = one_result a address x is_a (takes_a x at)
 
   same_width : (x : Option ℕ) → IsWidth rows x → width ≡ x
   same_width x h = one_result w width x is_w (takes_w x h.0 h.1)

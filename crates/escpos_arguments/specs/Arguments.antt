@@ -1,8 +1,5 @@
 -- The arguments of the command line, and what they ask for.
 use Rattle.std.specs.Prelude.{◌≡◌, ◌<◌, ◌≤◌, ℕ, ⊤, List, [], ◌∷◌, Option, Some, None, IfSome, IsSomeAnd, IsTrue, codes, Bool, true, false}
-use Rattle.std.specs.declared.net.socket_addr.SocketAddrV4.{SocketAddrV4}
-use Rattle.std.specs.Net.Grammar.{IsSocketV4Text}
-use Rattle.std.specs.Net.Text.{socket_v4_text}
 use Rattle.clap.specs.Words.{App, Row, Rule, Shape, Text, first_of, new_app, new_rule, one_of, with_rule, with_subcommand}
 use Rattle.clap.specs.Simple.{new_shape, on_top}
 use Rattle.clap.specs.declared.builder.action.ArgAction.TheVariants.{Set, SetTrue}
@@ -14,16 +11,13 @@ use Rattle.escpos_receipt.specs.declared.options.ReceiptOptions.{ReceiptOptions}
 use Rattle.escpos_arguments.specs.declared.arguments.TheConstants.{LINKS, MOST_LINKS, OPENINGS, MOST_OPENINGS, MOST_WAIT}
 use Rattle.escpos_arguments.specs.declared.image.TheConstants.{MOST_THRESHOLD}
 use Rattle.escpos_printer.specs.declared.condition.Condition.{Condition}
+use Rattle.escpos_jobs.specs.Address.{IsAddress}
 use Rattle.escpos_jobs.specs.declared.task.Task.{Task}
 use Rattle.escpos_jobs.specs.declared.task.Task.TheVariants.{Check, CheckRaw, Render, RenderRaw, RenderAt, RenderRawAt, Draw, DrawRaw, DrawAt, DrawRawAt, RenderText, Encode, EncodeRaw, EncodeWith, Image, Play, Emulate, EmulateIn, EmulateAt, Follow, FollowAt, Send, SendWithin, SendWith, Status, Loop, LoopAt}
 use Rattle.escpos_jobs.specs.Conditions.{condition_text, online}
 use Rattle.escpos_arguments.specs.ClapAnswers.{IsNumber, IsNumberIn}
 
 -- ---- what a text says
-
--- the text is the one that is printed for the address: `A.B.C.D:P` in decimal, without leading zeros
-abbrev pub IsAddress : Text → SocketAddrV4 → Type 0
-IsAddress text address = IsSocketV4Text text address × (text ≡ socket_v4_text address)
 
 -- the number that a text says, if there is a text, otherwise the fallback
 abbrev pub IsNumberOr : ℕ → Option Text → ℕ → Type 0
@@ -325,9 +319,9 @@ abbrev pub send_words : Shape
 send_words = (with_rule (with_rule (with_rule (with_rule (with_rule (with_rule (new_app (codes "send")) address_rule) (option_rule (codes "first") true))
     (option_rule (codes "openings") false)) (option_rule (codes "wait") false)) width_rule) replace_rule).top
 
--- what may follow `status`
-abbrev pub status_words : Shape
-status_words = (with_rule (with_rule (new_app (codes "status")) address_rule) (option_rule (codes "wait") false)).top
+-- what may follow `status` and `probe`
+abbrev pub asking_words : Text → Shape
+asking_words name = (with_rule (with_rule (new_app name) address_rule) (option_rule (codes "wait") false)).top
 
 -- the names of the tasks that need no network, and nothing more
 abbrev pub stream_words : App
@@ -343,4 +337,4 @@ stream_words =
 -- the name of a task with its values, or `help`, and nothing more
 abbrev pub command_words : App
 command_words = with_subcommand (with_subcommand (with_subcommand (with_subcommand (with_subcommand stream_words
-    emulate_words) send_words) status_words) loop_words) (new_shape (codes "help"))
+    emulate_words) send_words) (asking_words (codes "status"))) loop_words) (new_shape (codes "help"))

@@ -5,8 +5,9 @@ use Rattle.clap.specs.Simple.{on_top}
 use Rattle.clap.specs.declared.builder.action.ArgAction.TheVariants.{Set}
 use Rattle.escpos_command.specs.Digits.{mark_count}
 use Rattle.escpos_arguments.specs.declared.arguments.TheConstants.{OPENINGS, MOST_OPENINGS}
-use Rattle.escpos_arguments.specs.Arguments.{IsAddress, IsNumberOr, IsOptions, IsWait, GivesOptions, address_rule, option_rule, replace_rule, width_rule}
+use Rattle.escpos_arguments.specs.Arguments.{IsNumberOr, IsOptions, IsWait, GivesOptions, address_rule, option_rule, replace_rule, width_rule}
 use Rattle.escpos_arguments.specs.ClapAnswers.{IsNumber, IsNumberIn}
+use Rattle.escpos_jobs.specs.Address.{IsAddress}
 use Rattle.escpos_till.specs.Copy.{IsCopyText}
 use Rattle.escpos_till_jobs.specs.declared.task.TillTask.{TillTask}
 use Rattle.escpos_till_jobs.specs.declared.task.TillTask.TheVariants.{Queue, Deliver, DeliverWithin, List as listing}

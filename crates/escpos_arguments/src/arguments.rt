@@ -1,13 +1,14 @@
 //! The arguments of the command line: which task they name, and which refusal they get where they name none.
 
 ghost use Rattle.std.specs.Prelude.{◌≡◌, ◌≢◌, ◌⊎◌, ◌≤◌, ◌<◌, ◌↔◌, ℕ, Option, Some, None, [], ◌∷◌, false, IfErr, IfOk, IfSome, IsSomeAnd, unwrap_or, IsTrue, Contains, codes, drop, map};
-ghost use Rattle.std.specs.declared.net.socket_addr.SocketAddrV4.{SocketAddrV4};
 ghost use Rattle.clap.specs.Words.{HasKind, IsAmong, app_of, fault_of, first_of, found_of, kind_of, one_of, rows_of, rule_of, subcommand_of, subcommand_rows_of};
 ghost use Rattle.escpos_command.specs.Digits.{mark_count};
 ghost use Rattle.escpos_printer.specs.declared.condition.Condition.{Condition};
+ghost use Rattle.escpos_jobs.specs.Address.{IsAddress};
+ghost use Rattle.escpos_jobs.specs.declared.address.Address.{Address};
 ghost use Rattle.escpos_jobs.specs.declared.task.Task.{Task};
 ghost use Rattle.escpos_jobs.specs.Conditions.{condition_text, online};
-ghost use Rattle.escpos_arguments.specs.Arguments.{Asks, AsksBy, HasFlag, InRange, IsAddress, IsConditionOr, IsNumberOr, IsBare, IsPlain, IsWait, address_rule, command_words, emulate_words, encode_words, flag_rule, help_words, image_words, loop_words, name_of, option_rule, paper_words, raw_words, render_words, send_words, status_words, stream_words, words_of};
+ghost use Rattle.escpos_arguments.specs.Arguments.{Asks, AsksBy, HasFlag, InRange, IsConditionOr, IsNumberOr, IsBare, IsPlain, IsWait, address_rule, asking_words, command_words, emulate_words, encode_words, flag_rule, help_words, image_words, loop_words, name_of, option_rule, paper_words, raw_words, render_words, send_words, stream_words, words_of};
 ghost use Rattle.escpos_arguments.specs.EmulateTasks.{follow_task, links_task};
 ghost use Rattle.escpos_arguments.specs.ClapAnswers.{IsNumber, IsNumberIn, no_task_of};
 
@@ -17,13 +18,13 @@ use crate::width::{draw_asked, loop_asked, render_asked, width_given};
 use clap::error::ErrorKind;
 use clap::{Arg, ArgAction, ArgMatches, Command};
 use escpos_command::{LineWidth, MarkId};
+use escpos_jobs::address::Address;
 use escpos_jobs::emulate::ONLINE;
 use escpos_jobs::script::condition_of;
 use escpos_jobs::task::{NoTask, Task};
 use escpos_printer::Condition;
 use std::alloc::{AllocError, Global};
 use std::convert::AsStr;
-use std::net::SocketAddrV4;
 
 /// How many links `emulate` serves without `--links`.
 pub const LINKS: u32 = 1;
@@ -93,7 +94,7 @@ pub fn task_of<S: AsStr>(alloc: Global, words: &[S]) -> Result<Task, NoTask>
         Err(refusal) => return Err(no_task(&refusal)),
     };
     match matches.subcommand() {
-        Some((name, given)) => task_asked(alloc, name, given, words.len()),
+        Some((name, given)) => task_asked(name, given, words.len()),
         None => Err(NoTask::Usage),
     }
 }
@@ -110,13 +111,13 @@ pub(crate) fn no_task(refusal: &clap::Error) -> NoTask
 }
 
 // The task of this subcommand with the arguments that follow its name; `count` is the number of all arguments.
-fn task_asked(alloc: Global, name: &str, given: &ArgMatches, count: usize) -> Result<Task, NoTask>
+fn task_asked(name: &str, given: &ArgMatches, count: usize) -> Result<Task, NoTask>
     ensures asks { IfOk result (AsksBy name.now (rows_of (found_of given.now))) }
     ensures ranges { IfOk result InRange }
     ensures alone { IfOk result (λ task. IsPlain task → count ≡ 1) }
     ensures named { (task : Task) → IsPlain task → name.now ≡ name_of task → count ≡ 1 → IsBare (rows_of (found_of given.now)) → result ≡ Ok task }
     ensures taken { (task : Task) → ¬ IsPlain task → AsksBy name.now (rows_of (found_of given.now)) task → InRange task
-        → (result ≡ Ok task) ⊎ (result ≡ Err NoTask.Memory) }
+        → result ≡ Ok task }
     ensures help { name.now ≡ codes "help" → count ≡ 1 → result ≡ Err NoTask.Help }
     ensures help_only { result ≡ Err NoTask.Help → (name.now ≡ codes "help") × (count ≡ 1) }
 {
@@ -128,9 +129,9 @@ fn task_asked(alloc: Global, name: &str, given: &ArgMatches, count: usize) -> Re
         "encode" => encode_asked(given, count),
         "image" => image_asked(given),
         "play" if count == 1 => Ok(Task::Play),
-        "emulate" => emulate_asked(alloc, given),
-        "send" => send_asked(alloc, given),
-        "status" => status_asked(alloc, given),
+        "emulate" => emulate_asked(given),
+        "send" => send_asked(given),
+        "status" => status_asked(given),
         "loop" => loop_asked(given, count),
         "help" if count == 1 => Err(NoTask::Help),
         _ => Err(NoTask::Usage),
@@ -148,15 +149,15 @@ pub(crate) fn has_flag(given: &ArgMatches, name: &str) -> bool
 }
 
 // The task of `emulate` with the arguments that follow it.
-fn emulate_asked(alloc: Global, given: &ArgMatches) -> Result<Task, NoTask>
+fn emulate_asked(given: &ArgMatches) -> Result<Task, NoTask>
     ensures asks { IfOk result (AsksBy (codes "emulate") (rows_of (found_of given.now))) }
     ensures ranges { IfOk result InRange }
     ensures values { IfOk result (λ task. ¬ IsPlain task) }
     ensures taken { (task : Task) → AsksBy (codes "emulate") (rows_of (found_of given.now)) task → InRange task
-        → (result ≡ Ok task) ⊎ (result ≡ Err NoTask.Memory) }
-    ensures no_help { result ≢ Err NoTask.Help }
+        → result ≡ Ok task }
+    ensures usage { IfErr result (λ why. why ≡ NoTask.Usage) }
 {
-    let address = address_of(alloc, given)?;
+    let address = address_of(given)?;
     let condition = condition_given(given)?;
     let width = width_given(given)?;
     if has_flag(given, "follow") {
@@ -168,7 +169,7 @@ fn emulate_asked(alloc: Global, given: &ArgMatches) -> Result<Task, NoTask>
 
 // The task of `emulate` for this many links.
 fn links_asked(
-    address: SocketAddrV4,
+    address: Address,
     links: u32,
     condition: Option<Condition>,
     width: Option<LineWidth>,
@@ -194,7 +195,7 @@ fn links_asked(
 // The task of `emulate --follow`, with which no number of links may be given.
 fn follow_asked(
     given: &ArgMatches,
-    address: SocketAddrV4,
+    address: Address,
     condition: Option<Condition>,
     width: Option<LineWidth>,
 ) -> Result<Task, NoTask>
@@ -234,15 +235,15 @@ fn condition_given(given: &ArgMatches) -> Result<Option<Condition>, NoTask>
 }
 
 // The task of `send` with the arguments that follow it.
-fn send_asked(alloc: Global, given: &ArgMatches) -> Result<Task, NoTask>
+fn send_asked(given: &ArgMatches) -> Result<Task, NoTask>
     ensures asks { IfOk result (AsksBy (codes "send") (rows_of (found_of given.now))) }
     ensures ranges { IfOk result InRange }
     ensures values { IfOk result (λ task. ¬ IsPlain task) }
     ensures taken { (task : Task) → AsksBy (codes "send") (rows_of (found_of given.now)) task → InRange task
-        → (result ≡ Ok task) ⊎ (result ≡ Err NoTask.Memory) }
-    ensures no_help { result ≢ Err NoTask.Help }
+        → result ≡ Ok task }
+    ensures usage { IfErr result (λ why. why ≡ NoTask.Usage) }
 {
-    let address = address_of(alloc, given)?;
+    let address = address_of(given)?;
     let first = first_mark_of(given)?;
     let openings = count_of(given, "openings", OPENINGS, MOST_OPENINGS)?;
     let wait = wait_given(given)?;
@@ -269,15 +270,15 @@ fn send_asked(alloc: Global, given: &ArgMatches) -> Result<Task, NoTask>
 }
 
 // The task of `status` with the arguments that follow it.
-fn status_asked(alloc: Global, given: &ArgMatches) -> Result<Task, NoTask>
+fn status_asked(given: &ArgMatches) -> Result<Task, NoTask>
     ensures asks { IfOk result (AsksBy (codes "status") (rows_of (found_of given.now))) }
     ensures ranges { IfOk result InRange }
     ensures values { IfOk result (λ task. ¬ IsPlain task) }
     ensures taken { (task : Task) → AsksBy (codes "status") (rows_of (found_of given.now)) task → InRange task
-        → (result ≡ Ok task) ⊎ (result ≡ Err NoTask.Memory) }
-    ensures no_help { result ≢ Err NoTask.Help }
+        → result ≡ Ok task }
+    ensures usage { IfErr result (λ why. why ≡ NoTask.Usage) }
 {
-    let address = address_of(alloc, given)?;
+    let address = address_of(given)?;
     let wait = wait_given(given)?;
     Ok(Task::Status { address, wait })
 }
@@ -301,32 +302,25 @@ pub(crate) fn wait_given(given: &ArgMatches) -> Result<Option<u32>, NoTask>
 }
 
 // The address that was given.
-pub(crate) fn address_of(alloc: Global, given: &ArgMatches) -> Result<SocketAddrV4, NoTask>
+pub(crate) fn address_of(given: &ArgMatches) -> Result<Address, NoTask>
     ensures read { IfOk result (λ address. IsSomeAnd (first_of (codes "address") (rows_of (found_of given.now))) (λ text. IsAddress text address)) }
-    ensures taken { (address : SocketAddrV4) → IsSomeAnd (first_of (codes "address") (rows_of (found_of given.now))) (λ text. IsAddress text address)
-        → (result ≡ Ok address) ⊎ (result ≡ Err NoTask.Memory) }
-    ensures no_help { result ≢ Err NoTask.Help }
+    ensures taken { (address : Address) → IsSomeAnd (first_of (codes "address") (rows_of (found_of given.now))) (λ text. IsAddress text address)
+        → result ≡ Ok address }
+    ensures usage { IfErr result (λ why. why ≡ NoTask.Usage) }
 {
     match given.get_str("address") {
-        Some(text) => address_in(alloc, text),
+        Some(text) => address_in(text),
         None => Err(NoTask::Usage),
     }
 }
 
-// The address whose printed form is this text.
-fn address_in(alloc: Global, text: &str) -> Result<SocketAddrV4, NoTask>
+// The address that a text says.
+fn address_in(text: &str) -> Result<Address, NoTask>
     ensures read { IfOk result (IsAddress text.now) }
-    ensures taken { (address : SocketAddrV4) → IsAddress text.now address → (result ≡ Ok address) ⊎ (result ≡ Err NoTask.Memory) }
-    ensures no_help { result ≢ Err NoTask.Help }
+    ensures taken { (address : Address) → IsAddress text.now address → result ≡ Ok address }
+    ensures usage { IfErr result (λ why. why ≡ NoTask.Usage) }
 {
-    match text.parse::<SocketAddrV4>() {
-        Ok(address) => match format!(in alloc; "{address}") {
-            Ok(printed) if printed.as_str() == text => Ok(address),
-            Ok(_) => Err(NoTask::Usage),
-            Err(_) => Err(NoTask::Memory),
-        },
-        Err(_) => Err(NoTask::Usage),
-    }
+    Address::of_text(text).ok_or(NoTask::Usage)
 }
 
 // The number of the first mark that was given, if a mark may have this number.
@@ -394,7 +388,7 @@ fn command_of_all<'a>(alloc: Global) -> Result<Command<'a>, AllocError>
     let emulate = emulate_command(alloc)?;
     let links = streams.subcommand(emulate)?;
     let send = send_command(alloc)?;
-    let status = status_command(alloc)?;
+    let status = asking_command(alloc, "status")?;
     let round = loop_command(alloc)?;
     let command = links
         .subcommand(send)?
@@ -511,11 +505,11 @@ fn send_command<'a>(alloc: Global) -> Result<Command<'a>, AllocError>
     Ok(command)
 }
 
-// The subcommand `status` with its arguments.
-fn status_command<'a>(alloc: Global) -> Result<Command<'a>, AllocError>
-    ensures shape { IfOk result (λ command. (app_of command).top ≡ status_words) }
+// A subcommand that asks a printer: its address, and how long a wait may last.
+pub(crate) fn asking_command<'a>(alloc: Global, name: &'a str) -> Result<Command<'a>, AllocError>
+    ensures shape { IfOk result (λ command. (app_of command).top ≡ asking_words name.entry.now) }
 {
-    let command = Command::new(alloc, "status")
+    let command = Command::new(alloc, name)
         .arg(address(alloc))?
         .arg(option(alloc, "wait", false))?;
     Ok(command)

@@ -47,26 +47,22 @@ pub fn till_task_of<'a, S: AsStr>(alloc: Global, words: &'a [S]) -> Result<TillT
         Err(refusal) => return Err(no_task(&refusal)),
     };
     match matches.subcommand() {
-        Some((name, given)) => till_task_asked(alloc, name, given),
+        Some((name, given)) => till_task_asked(name, given),
         None => Err(NoTask::Usage),
     }
 }
 
 // The task of this subcommand with the arguments that follow its name.
-fn till_task_asked<'a>(
-    alloc: Global,
-    name: &str,
-    given: &ArgMatches<'a>,
-) -> Result<TillTask<'a>, NoTask>
+fn till_task_asked<'a>(name: &str, given: &ArgMatches<'a>) -> Result<TillTask<'a>, NoTask>
     ensures asks { IfOk result (AsksTillBy name.now (rows_of (found_of given.now))) }
     ensures ranges { IfOk result IsTillInRange }
     ensures taken { (task : TillTask) → AsksTillBy name.now (rows_of (found_of given.now)) task → IsTillInRange task
-        → (result ≡ Ok task) ⊎ (result ≡ Err NoTask.Memory) }
-    ensures no_help { result ≢ Err NoTask.Help }
+        → result ≡ Ok task }
+    ensures usage { IfErr result (λ why. why ≡ NoTask.Usage) }
 {
     match name {
         "queue" => queue_asked(given),
-        "deliver" => deliver_asked(alloc, given),
+        "deliver" => deliver_asked(given),
         "ledger" => ledger_asked(given),
         _ => Err(NoTask::Usage),
     }
@@ -86,18 +82,15 @@ fn queue_asked<'a>(given: &ArgMatches<'a>) -> Result<TillTask<'a>, NoTask>
 }
 
 // The task of `deliver` with the arguments that follow it.
-fn deliver_asked<'a>(alloc: Global, given: &ArgMatches<'a>) -> Result<TillTask<'a>, NoTask>
+fn deliver_asked<'a>(given: &ArgMatches<'a>) -> Result<TillTask<'a>, NoTask>
     ensures asks { IfOk result (AsksTillBy (codes "deliver") (rows_of (found_of given.now))) }
     ensures ranges { IfOk result IsTillInRange }
     ensures taken { (task : TillTask) → AsksTillBy (codes "deliver") (rows_of (found_of given.now)) task → IsTillInRange task
-        → (result ≡ Ok task) ⊎ (result ≡ Err NoTask.Memory) }
-    ensures no_help { result ≢ Err NoTask.Help }
+        → result ≡ Ok task }
+    ensures usage { IfErr result (λ why. why ≡ NoTask.Usage) }
 {
     let ledger = ledger_path(given)?;
-    let address = match address_of(alloc, given) {
-        Ok(address) => address,
-        Err(why) => return Err(why),
-    };
+    let address = address_of(given)?;
     let openings = count_of(given, "openings", OPENINGS, MOST_OPENINGS)?;
     let copy = copy_given(given)?;
     let delivery = Delivery {

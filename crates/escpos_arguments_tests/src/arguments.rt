@@ -2,11 +2,12 @@
 
 use crate::support::asking::{asks_for, printer_address};
 use escpos_arguments::asks_version;
+use escpos_jobs::address::Address;
 use escpos_jobs::emulate::ONLINE;
 use escpos_jobs::task::{NoTask, Task};
 use escpos_printer::Condition;
 use std::alloc::Global;
-use std::net::{Ipv4Addr, SocketAddrV4};
+use std::net::{IpAddr, Ipv4Addr, Ipv6Addr, SocketAddr, SocketAddrV4};
 use std::process::Abort;
 
 // Words, and what they ask for.
@@ -274,7 +275,7 @@ fn waits_of_send_and_status(rt: HostRuntime) {
 // Words after `status` that ask for nothing.
 const NO_STATUS_ARGUMENTS: [&'static [&'static str]; 9] = [
     &[],
-    &["printer:9100"],
+    &["printer"],
     &["127.0.0.1:9100", "127.0.0.1:9100"],
     &["127.0.0.1:9100", "--wait"],
     &["127.0.0.1:9100", "--wait", "0"],
@@ -379,11 +380,56 @@ const ADDRESSES: [(&str, [u8; 4], u16); 6] = [
     ("10.0.0.9:10000", [10, 0, 0, 9], 10_000),
 ];
 
-const NO_ADDRESSES: [&str; 31] = [
+// Texts that are IPv6 addresses, and the address and port.
+const V6_ADDRESSES: [(&str, [u16; 8], u16); 4] = [
+    ("[::1]:80", [0, 0, 0, 0, 0, 0, 0, 1], 80),
+    ("[::]:0", [0; 8], 0),
+    (
+        "[::ffff:127.0.0.1]:9100",
+        [0, 0, 0, 0, 0, 0xffff, 0x7f00, 1],
+        9100,
+    ),
+    (
+        "[2001:db8:0:1:2:3:4:5]:65535",
+        [0x2001, 0xdb8, 0, 1, 2, 3, 4, 5],
+        65_535,
+    ),
+];
+
+// Texts that are a host's name and a port.
+const NAMED: [&str; 9] = [
+    "localhost:9100",
+    "printer:0",
+    "Printer-2.shop.example:65535",
+    "cafe:9100",
+    "a_b:1",
+    "3com.example:80",
+    "80mm-printer:9100",
+    "xn--caf-dma.example:9100",
+    "printer.:9100",
+];
+
+const NO_ADDRESSES: [&str; 47] = [
     "",
     ":",
-    "localhost:9100",
-    "printer:9100",
+    ":9100",
+    "printer",
+    "printer:",
+    "printer:09100",
+    "printer:65536",
+    "printer:+80",
+    "printer:80:80",
+    "prin ter:80",
+    "prin/ter:80",
+    "-printer:80",
+    ".printer:80",
+    "caf\u{e9}:80",
+    "::1:80",
+    "[::1]",
+    "[::1]:",
+    "[::1:80",
+    "[:::]:80",
+    "[printer]:80",
     "256.0.0.1:1",
     "1.256.0.1:1",
     "1.0.256.1:1",
@@ -401,20 +447,20 @@ const NO_ADDRESSES: [&str; 31] = [
     "00.0.0.0:0",
     "127.0.0.1",
     "127.0.0.1:",
+    "127..0.1:80",
     "127.0.0.1:80:80",
     "127.0.0:80",
     "127.0.0.1.1:80",
-    "127..0.1:80",
     " 127.0.0.1:80",
     "127.0.0.1:80 ",
     "127.0.0.1: 80",
-    "[::1]:80",
-    "[::ffff:127.0.0.1]:80",
     "0x7f.0.0.1:80",
+    "0x7f000001:80",
+    "2130706433:80",
 ];
 
 // A text is this address, for `emulate` and for `send`, or none.
-fn asks_at(rt: &impl Abort, alloc: Global, text: &str, wanted: Option<SocketAddrV4>) {
+fn asks_at(rt: &impl Abort, alloc: Global, text: &str, wanted: Option<Address>) {
     let (mut emulate, mut send) = (Err(NoTask::Usage), Err(NoTask::Usage));
     if let Some(address) = wanted {
         emulate = Ok(Task::Emulate { address, links: 1 });
@@ -433,9 +479,52 @@ fn addresses(rt: HostRuntime) {
     for (text, octets, port) in &ADDRESSES {
         let [a, b, c, d] = *octets;
         let address = SocketAddrV4::new(Ipv4Addr::new(a, b, c, d), *port);
-        asks_at(&rt, rt.alloc(), text, Some(address));
+        asks_at(&rt, rt.alloc(), text, Some(address.into()));
     }
     for text in &NO_ADDRESSES {
         asks_at(&rt, rt.alloc(), text, None);
     }
+}
+
+#[test]
+fn v6_addresses(rt: HostRuntime) {
+    for (text, segments, port) in &V6_ADDRESSES {
+        let [a, b, c, d, e, f, g, h] = *segments;
+        let address = SocketAddr::new(IpAddr::V6(Ipv6Addr::new(a, b, c, d, e, f, g, h)), *port);
+        asks_at(&rt, rt.alloc(), text, Some(Address::Numeric(address)));
+    }
+}
+
+// A text is the name of a host and a port, as it is.
+fn is_name(rt: &impl Abort, text: &str) {
+    match Address::of_text(text) {
+        Some(Address::Named(name)) => assert!(rt; name.text().expect(rt, "no text") == text),
+        _ => panic!(rt; "no name: {text}"),
+    }
+}
+
+#[test]
+fn names(rt: HostRuntime) {
+    for text in &NAMED {
+        is_name(&rt, text);
+        asks_at(&rt, rt.alloc(), text, Address::of_text(text));
+    }
+}
+
+// 250 characters of a name, and what follows them.
+fn long_name(rt: &impl Abort, alloc: Global, tail: &str) -> String {
+    let mut text = String::new(alloc);
+    for _ in 0..25 {
+        text.push_str("abcdefghi.").expect(rt, "memory");
+    }
+    text.push_str(tail).expect(rt, "memory");
+    text
+}
+
+// A name of 253 characters is taken with any port; a text of more than 259 isn't.
+#[test]
+fn long_names(rt: HostRuntime) {
+    is_name(&rt, long_name(&rt, rt.alloc(), "jkl:65535").as_str());
+    let too_long = long_name(&rt, rt.alloc(), "jklm:65535");
+    assert!(&rt; Address::of_text(too_long.as_str()) == None);
 }

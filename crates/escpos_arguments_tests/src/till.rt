@@ -111,7 +111,7 @@ const USAGE: [&'static [&'static str]; 33] = [
     &["deliver"],
     &["deliver", "till"],
     &["deliver", ADDRESS],
-    &["deliver", "till", "printer:9100"],
+    &["deliver", "till", "printer"],
     &["deliver", "till", ADDRESS, "extra"],
     &["deliver", "till", ADDRESS, "--openings", "0"],
     &["deliver", "till", ADDRESS, "--openings", "100"],

@@ -1,4 +1,5 @@
 pub mod DigitPairs
+mod Addresses
 pub mod CheckDigits
 pub mod Mapped
 pub mod Listings

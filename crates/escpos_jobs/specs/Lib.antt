@@ -1,3 +1,4 @@
+pub mod Address
 pub mod Status
 pub mod Ending
 pub mod Hexadecimal

@@ -14,6 +14,7 @@ ghost use Rattle.escpos_printer.specs.LinkInParts.{under};
 ghost use Rattle.escpos_printer.specs.Serves.{Serves, link};
 ghost use Rattle.escpos_jobs.specs.Links.{link_line, torn};
 
+use crate::address::Address;
 use crate::ending::{MEMORY, say};
 use crate::lines::SPACE;
 use crate::paper_text::PaperText;
@@ -25,7 +26,7 @@ use escpos_io::{
 use escpos_printer::{Condition, LinkEnd, Printer, Served, serve_link};
 use std::alloc::Global;
 use std::io::BufReader;
-use std::net::{Net, SocketAddrV4, TcpListener, TcpStream};
+use std::net::{Net, TcpListener, TcpStream};
 
 /// The most bytes of a link that are read.
 pub const LINK_LIMIT: u32 = 16_777_216;
@@ -60,7 +61,7 @@ pub const ONLINE: Condition = Condition {
 pub fn emulate<N: Net<Stream = TcpStream, Listener = TcpListener>, W: ByteOut>(
     net: &N,
     alloc: Global,
-    address: SocketAddrV4,
+    address: Address,
     links: u32,
     output: &mut W,
 ) -> Status
@@ -82,7 +83,7 @@ pub fn emulate<N: Net<Stream = TcpStream, Listener = TcpListener>, W: ByteOut>(
 pub(crate) fn emulate_in<N: Net<Stream = TcpStream, Listener = TcpListener>, W: ByteOut>(
     net: &N,
     alloc: Global,
-    address: SocketAddrV4,
+    address: Address,
     links: u32,
     condition: Condition,
     width: LineWidth,
@@ -91,7 +92,7 @@ pub(crate) fn emulate_in<N: Net<Stream = TcpStream, Listener = TcpListener>, W: 
     ensures never_usage { result ≢ Status.Usage }
     ensures not_hidden { result ≢ Status.Device → ¬ IsTrue (W.failed output.old) → ¬ IsTrue (W.failed output.new) }
 {
-    match TcpListener::bind(net, address) {
+    match address.listen(net) {
         Ok(listener) => emulate_in_on(alloc, &listener, links, condition, width, output),
         Err(_) => Status::Device,
     }
@@ -170,7 +171,7 @@ fn serve_links<W: ByteOut>(
 pub(crate) fn follow<N: Net<Stream = TcpStream, Listener = TcpListener>, W: ByteOut>(
     net: &N,
     alloc: Global,
-    address: SocketAddrV4,
+    address: Address,
     condition: Condition,
     width: LineWidth,
     output: &mut W,
@@ -178,7 +179,7 @@ pub(crate) fn follow<N: Net<Stream = TcpStream, Listener = TcpListener>, W: Byte
     ensures never_usage { result ≢ Status.Usage }
     ensures not_hidden { result ≢ Status.Device → ¬ IsTrue (W.failed output.old) → ¬ IsTrue (W.failed output.new) }
 {
-    match TcpListener::bind(net, address) {
+    match address.listen(net) {
         Ok(listener) => follow_on(alloc, &listener, condition, width, output),
         Err(_) => Status::Device,
     }

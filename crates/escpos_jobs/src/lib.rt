@@ -1,6 +1,6 @@
 //! What the program does, over any source, sink and network: a job for each task. escpos_arguments reads the command line.
 //!
-//! `task` has what may be asked for, and `perform` does it; `usage` has the texts of usage and help. `check`, `render`,
+//! `task` has what may be asked for, `address` where a printer is reached, and `perform` does it; `usage` has the texts of usage and help. `check`, `render`,
 //! `encode`, `image` and `play` are the jobs over any source and sink, and `emulate`, `send`, `printer_status` and `loop_link` those
 //! over TCP; over the network of `wait` no wait lasts longer than a given time. `job` has what `check` and `render` share,
 //! `script` reads the lines of a script and `script_output` has those that `play` prints, `lines` has the lines of a listing,
@@ -10,6 +10,7 @@
 //! `laws` has why the last line can stand in a picture as it is.
 #![tactic(auto)]
 
+pub mod address;
 mod byte_form;
 pub mod check;
 pub mod draw;

@@ -11,6 +11,7 @@ ghost use Rattle.escpos_jobs.specs.Ending.{Tells, job_end};
 ghost use Rattle.escpos_jobs.specs.PrinterStatus.{AreMarks, AsksAndTells, FailsNext, FailsToAsk, TellsNext, TellsStatus, no_status_line, requests, status_text};
 ghost use Rattle.escpos_jobs.specs.Send.{DevicesSay, devices, passed};
 
+use crate::address::Address;
 use crate::ending::say;
 use crate::send::NO_LINK;
 use crate::status::Status;
@@ -19,7 +20,7 @@ use escpos_host::{AnswerReader, NoAnswer, SendFault};
 use escpos_io::{
     ByteIn, ByteOut, Failed, GATHERED_BYTES, Gather, Incoming, Outgoing, laws, put_all,
 };
-use std::net::{Net, SocketAddrV4, TcpStream};
+use std::net::{Net, TcpStream};
 
 /// The most bytes that are read up to a status byte.
 const STATUS_LIMIT: u32 = 16_384;
@@ -46,13 +47,13 @@ pub struct PrinterStatus {
 /// the line is `no link` and the status `Device`.
 pub fn show_status<N: Net<Stream = TcpStream>, W: ByteOut>(
     net: &N,
-    address: SocketAddrV4,
+    address: Address,
     output: &mut W,
 ) -> Status
     ensures never_usage { result ≢ Status.Usage }
     ensures not_hidden { result ≢ Status.Device → ¬ IsTrue (W.failed output.old) → ¬ IsTrue (W.failed output.new) }
 {
-    match TcpStream::connect(net, address) {
+    match address.connect(net) {
         Ok(stream) => status_on(&stream, output),
         Err(_) => say(NO_LINK, output, Status::Device),
     }

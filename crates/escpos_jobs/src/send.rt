@@ -8,6 +8,7 @@ ghost use Rattle.escpos_jobs.specs.declared.input.TheConstants.{INPUT_LIMIT};
 ghost use Rattle.escpos_jobs.specs.Ending.{job_end};
 ghost use Rattle.escpos_jobs.specs.Send.{SendsAndTells, devices, not_recorded_line, is_memory_fault, passed, recorded_line, sent_text, status_of_fault, status_of_sent};
 
+use crate::address::Address;
 use crate::ending::{MEMORY, say};
 use crate::receipt_input::{read_receipt, refuse_input};
 use crate::status::Status;
@@ -16,7 +17,7 @@ use escpos_host::{Host, HostError, Receipt, SendFault, Sent, send_link};
 use escpos_io::{ByteIn, ByteOut, GATHERED_BYTES, Gather, Incoming, Outgoing, append_number, laws};
 use escpos_receipt::ReceiptOptions;
 use std::alloc::Global;
-use std::net::{Net, SocketAddrV4, TcpStream};
+use std::net::{Net, TcpStream};
 
 /// The most bytes of answers that are read.
 pub const ANSWERS_LIMIT: u32 = 65_536;
@@ -36,7 +37,7 @@ const _: () = prove!(TEXT_BYTES == 128);
 pub fn send_to<N: Net<Stream = TcpStream>, R: ByteIn, W: ByteOut>(
     net: &N,
     alloc: Global,
-    address: SocketAddrV4,
+    address: Address,
     marks: Marks,
     options: &ReceiptOptions,
     input: &mut R,
@@ -52,7 +53,7 @@ pub fn send_to<N: Net<Stream = TcpStream>, R: ByteIn, W: ByteOut>(
         Ok(receipt) => receipt,
         Err(fault) => return refuse_input(fault, output),
     };
-    match TcpStream::connect(net, address) {
+    match address.connect(net) {
         Ok(stream) => send_on(alloc, &stream, marks.first, marks.openings, receipt, output),
         Err(_) => say(NO_LINK, output, Status::Device),
     }

@@ -1,9 +1,9 @@
 //! What the program may be asked to do, and why arguments name no task. `perform` does it.
 
+use crate::address::Address;
 use escpos_command::LineWidth;
 use escpos_printer::Condition;
 use escpos_receipt::ReceiptOptions;
-use std::net::SocketAddrV4;
 use thiserror::Error;
 
 /// What the program is asked to do.
@@ -64,49 +64,49 @@ pub enum Task {
     Play,
     /// Be a printer at this address for `links` links, and write its paper.
     Emulate {
-        address: SocketAddrV4,
+        address: Address,
         links: u32,
     },
     /// The same as a printer whose sensors say this.
     EmulateIn {
-        address: SocketAddrV4,
+        address: Address,
         links: u32,
         condition: Condition,
     },
     /// Be such a printer at this address until it is ended, and write what each link printed once it has ended.
     Follow {
-        address: SocketAddrV4,
+        address: Address,
         condition: Condition,
     },
     /// Be such a printer, that prints lines of this width, at this address for `links` links, and write its paper.
     EmulateAt {
-        address: SocketAddrV4,
+        address: Address,
         links: u32,
         condition: Condition,
         width: LineWidth,
     },
     /// Be such a printer at this address until it is ended, and write what each link printed once it has ended.
     FollowAt {
-        address: SocketAddrV4,
+        address: Address,
         condition: Condition,
         width: LineWidth,
     },
     /// Send a receipt to the printer at this address, with `openings` opening marks from the number `first` on.
     Send {
-        address: SocketAddrV4,
+        address: Address,
         first: u32,
         openings: u32,
     },
     /// The same, where no wait lasts longer than `wait` seconds.
     SendWithin {
-        address: SocketAddrV4,
+        address: Address,
         first: u32,
         openings: u32,
         wait: u32,
     },
     /// The same with a receipt that is read with these options, where no wait lasts longer than `wait` seconds, if that is given.
     SendWith {
-        address: SocketAddrV4,
+        address: Address,
         first: u32,
         openings: u32,
         wait: Option<u32>,
@@ -114,7 +114,7 @@ pub enum Task {
     },
     /// Ask the printer at this address for its status, where no wait lasts longer than `wait` seconds, if that is given.
     Status {
-        address: SocketAddrV4,
+        address: Address,
         wait: Option<u32>,
     },
     /// Send a receipt over a link of which the program is both ends.

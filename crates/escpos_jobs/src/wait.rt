@@ -37,4 +37,9 @@ impl<N: Net<Stream = TcpStream>> Net for Within<'_, N> {
         stream.set_write_timeout(Some(self.time))?;
         Ok(stream)
     }
+
+    // How long a look-up may take is the system's own.
+    fn lookup_host(&self, host: &str, port: u16, found: &mut [SocketAddr]) -> io::Result<usize> {
+        self.net.lookup_host(host, port, found)
+    }
 }

@@ -116,7 +116,7 @@ fn is_in_use<N: Net<Stream = TcpStream, Listener = TcpListener> + Abort>(
 ) {
     let mut room = [0; 41];
     let mut output = MemoryOut::new(&mut room);
-    let ended = emulate(rt, alloc, address, 1, &mut output);
+    let ended = emulate(rt, alloc, address.into(), 1, &mut output);
     is_outcome(rt, (output.written(), ended), (b"", Status::Device));
 }
 
@@ -307,7 +307,7 @@ fn emulated_condition(rt: HostRuntime) {
         client: &client,
     };
     let task = Task::EmulateIn {
-        address,
+        address: address.into(),
         links: 2,
         condition,
     };
@@ -379,7 +379,10 @@ fn followed_condition(rt: HostRuntime) {
         near_end: true,
         ..ONLINE
     };
-    let task = &Task::Follow { address, condition };
+    let task = &Task::Follow {
+        address: address.into(),
+        condition,
+    };
     let text = b"link 1 read 6 consumed 6 written 1 Ended\nrow left Hi\nfeed 1\n\
         link 2 read 3 consumed 2 written 0 Fault\nrow left A\nfeed 1\n\
         link 3 read 3 consumed 3 written 0 Ended\nrow left Yo\nfeed 1\n"

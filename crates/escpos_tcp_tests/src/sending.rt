@@ -99,7 +99,7 @@ fn sends_to<N: Net<Stream = TcpStream, Listener = TcpListener> + Abort>(
     let ended = send_to(
         rt,
         alloc,
-        address,
+        address.into(),
         Marks { first, openings },
         &ReceiptOptions::usual(),
         input,
@@ -211,13 +211,16 @@ fn outcomes_of_a_receipt(rt: HostRuntime) {
 fn no_network(rt: HostRuntime) {
     let address = SocketAddrV4::new(Ipv4Addr::new(127, 0, 0, 1), 9100);
     let send = &Task::Send {
-        address,
+        address: address.into(),
         first: 0,
         openings: 3,
     };
     let rows: [(Task, &[u8], &[u8], Status); 5] = [
         (
-            Task::Emulate { address, links: 1 },
+            Task::Emulate {
+                address: address.into(),
+                links: 1,
+            },
             b"",
             b"",
             Status::Device,
@@ -276,7 +279,7 @@ fn tasks_over_links(rt: HostRuntime) {
         client: &client,
     };
     let send = Task::Send {
-        address,
+        address: address.into(),
         first: 0,
         openings: 1,
     };
@@ -284,7 +287,10 @@ fn tasks_over_links(rt: HostRuntime) {
     performs_over(&rt, rt.alloc(), &net, send, S.0, wanted);
     let _first = connects_and_says(&rt, address, b"Hi\n");
     let _second = connects_and_says(&rt, address, b"Yo\n");
-    let emulate = Task::Emulate { address, links: 2 };
+    let emulate = Task::Emulate {
+        address: address.into(),
+        links: 2,
+    };
     let text = "link 1 read 3 consumed 3 written 0 Ended\n\
         link 2 read 3 consumed 3 written 0 Ended\n\
         row left Hi\nfeed 1\nrow left Yo\nfeed 1\n";

@@ -178,7 +178,7 @@ fn asks<N: Net<Stream = TcpStream, Listener = TcpListener> + Abort>(
     let mut source = MemoryIn::new(b"", 1);
     let mut output = MemoryOut::new(&mut room);
     let task = Task::Status {
-        address,
+        address: address.into(),
         wait: None,
     };
     let ended = run_job(rt, alloc, Ok(task), &mut source, &mut output);
@@ -199,7 +199,7 @@ fn status_over_a_link(rt: HostRuntime) {
     };
     let mut room = [0; 64];
     let mut output = MemoryOut::new(&mut room);
-    let ended = show_status(&net, address, &mut output);
+    let ended = show_status(&net, address.into(), &mut output);
     let text = b"offline\ncover open\npaper there\n".as_slice();
     is_outcome(&rt, (output.written(), ended), (text, Status::Good));
     assert!(&rt; client.nodelay().expect(&rt, "no word"));

@@ -107,13 +107,13 @@ fn prints<N: Net<Stream = TcpStream, Listener = TcpListener> + Abort>(
 // The tasks that wait for a printer, a second at most.
 fn waiting(address: SocketAddrV4) -> (Task, Task) {
     let send = Task::SendWithin {
-        address,
+        address: address.into(),
         first: 0,
         openings: 3,
         wait: 1,
     };
     let status = Task::Status {
-        address,
+        address: address.into(),
         wait: Some(1),
     };
     (send, status)
@@ -198,7 +198,7 @@ fn limits_of_send(rt: HostRuntime) {
         client: &client,
     };
     let send = |wait| Task::SendWithin {
-        address,
+        address: address.into(),
         first: 0,
         openings: 1,
         wait,
@@ -220,7 +220,7 @@ fn limits_of_send_with_options(rt: HostRuntime) {
         client: &client,
     };
     let send = |wait| Task::SendWith {
-        address,
+        address: address.into(),
         first: 0,
         openings: 1,
         wait: Some(wait),
@@ -243,7 +243,7 @@ fn limits_of_status(rt: HostRuntime) {
         client: &client,
     };
     let status = |wait| Task::Status {
-        address,
+        address: address.into(),
         wait: Some(wait),
     };
     let no_link = ("no link\n", Status::Device);

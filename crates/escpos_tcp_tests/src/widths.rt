@@ -56,7 +56,7 @@ fn emulate_at_a_width(rt: HostRuntime) {
         client: &client,
     };
     let task = Task::EmulateAt {
-        address,
+        address: address.into(),
         links: 1,
         condition: ONLINE,
         width: narrow(&rt),
@@ -77,7 +77,7 @@ fn follow_at_a_width(rt: HostRuntime) {
         client: &client,
     };
     let task = Task::FollowAt {
-        address,
+        address: address.into(),
         condition: ONLINE,
         width: narrow(&rt),
     };
@@ -102,7 +102,7 @@ fn send_with_options(rt: HostRuntime) {
         replacement: Some(Replacement::new(b'?').expect(&rt, "a replacement")),
     };
     let task = Task::SendWith {
-        address,
+        address: address.into(),
         first: 0,
         openings: 1,
         wait: None,

@@ -17,18 +17,19 @@ use crate::refusal::{refuse_call, tell_text};
 use escpos_command::LF;
 use escpos_host::JsonError;
 use escpos_io::{ByteIn, ByteOut, Gather, Incoming, Outgoing, append_number, laws};
+use escpos_jobs::address::Address;
 use escpos_jobs::ending::MEMORY;
 use escpos_jobs::send::{ANSWERS_LIMIT, is_memory_fault, status_of_fault};
 use escpos_jobs::status::Status;
 use escpos_till::{CopyText, Delivered, Ledger, LedgerError, ReceiptNumber, Store, deliver_one};
 use std::alloc::Global;
-use std::net::{Net, SocketAddrV4, TcpStream};
+use std::net::{Net, TcpStream};
 
 /// Where and how receipts are delivered.
 #[derive(Debug, Drop)]
 pub struct Delivery<'a> {
     /// The printer's address.
-    pub address: SocketAddrV4,
+    pub address: Address,
     /// How many opening marks are sent on each link; 0 counts as 1.
     pub openings: u32,
     /// The text of a line that is put before a receipt which was tried before, and so may be on the paper already.
@@ -99,7 +100,7 @@ fn deliver_next<N: Net<Stream = TcpStream>, S: Store, W: ByteOut>(
     ensures not_hidden { IfErr result (λ status. status ≢ Status.Device → ¬ IsTrue (W.failed output.old) → ¬ IsTrue (W.failed output.new)) }
     ensures never_usage { IfErr result (λ status. status ≢ Status.Usage) }
 {
-    match TcpStream::connect(net, delivery.address) {
+    match delivery.address.connect(net) {
         Ok(stream) => deliver_on(alloc, ledger, number, delivery, &stream, output),
         Err(_) => Err(tell_waiting(number, b"no link", Status::Device, output)),
     }

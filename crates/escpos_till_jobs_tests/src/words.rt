@@ -56,7 +56,7 @@ fn delivers<N: Net<Stream = TcpStream> + Abort>(
     wanted: Told,
 ) {
     let delivery = Delivery {
-        address,
+        address: address.into(),
         openings: 1,
         copy: None,
     };
@@ -147,7 +147,7 @@ fn delivers_one_of_three(
     net: &Prepared,
 ) {
     let delivery = Delivery {
-        address: net.address,
+        address: net.address.into(),
         openings: 1,
         copy: None,
     };
@@ -190,7 +190,7 @@ fn delivers_over_memory(
         _ => panic!(rt; "nothing waits"),
     };
     let delivery = Delivery {
-        address: printer_address(),
+        address: printer_address().into(),
         openings: 2,
         copy: CopyText::new(b"AGAIN"),
     };

@@ -1,6 +1,7 @@
 //! What arguments ask for; of a till's words, in a form that can be compared.
 
 use escpos_arguments::{task_of, till_task_of};
+use escpos_jobs::address::Address;
 use escpos_jobs::task::{NoTask, Task};
 use escpos_receipt::ReceiptOptions;
 use escpos_till_jobs::TillTask;
@@ -19,8 +20,8 @@ pub fn asks_for(rt: &impl Abort, alloc: Global, words: &[&str], asked: Result<Ta
 #[derive(Clone, Copy, PartialEq)]
 pub enum Plain<'a> {
     Queue(&'a str, u16, Option<char>),
-    Deliver(&'a str, SocketAddrV4, u32, bool),
-    Within(&'a str, SocketAddrV4, u32, bool, u32),
+    Deliver(&'a str, Address, u32, bool),
+    Within(&'a str, Address, u32, bool, u32),
     List(&'a str, Option<u32>),
 }
 
@@ -67,6 +68,6 @@ pub fn asked_by<'a>(alloc: Global, words: &'a [&'a str]) -> Result<Plain<'a>, No
     }
 }
 
-pub fn printer_address() -> SocketAddrV4 {
-    SocketAddrV4::new(Ipv4Addr::new(127, 0, 0, 1), 9100)
+pub fn printer_address() -> Address {
+    SocketAddrV4::new(Ipv4Addr::new(127, 0, 0, 1), 9100).into()
 }

@@ -232,7 +232,7 @@ fn emulate_on_refused(rt: HostRuntime) {
 fn emulates_at(rt: &impl Abort, alloc: Global, net: &Prepared, address: SocketAddrV4) -> bool {
     let mut room = [0; 256];
     let mut output = MemoryOut::new(&mut room);
-    let status = escpos_jobs::emulate::emulate(net, alloc, address, 1, &mut output);
+    let status = escpos_jobs::emulate::emulate(net, alloc, address.into(), 1, &mut output);
     is_emulated(rt, output.written(), status)
 }
 
@@ -278,7 +278,7 @@ fn sends_to_net(rt: &impl Abort, alloc: Global, net: &Prepared, address: SocketA
     let status = send_to(
         net,
         alloc,
-        address,
+        address.into(),
         Marks {
             first: 0,
             openings: 1,

@@ -141,7 +141,7 @@ fn delivers(
     net: &Prepared,
 ) -> bool {
     let delivery = Delivery {
-        address: net.address,
+        address: net.address.into(),
         openings: 1,
         copy: None,
     };

@@ -1,6 +1,6 @@
-use Rattle.std.proofs.Common.{◌≡◌, ◌∙◌, ap, ap₂, refl}
+use Rattle.std.proofs.Common.{◌≡◌, ◌∙◌, ap, ap₂, refl, codes}
 use Rattle.clap.specs.Words.{App, Shape, app_of, with_subcommand}
-use Rattle.escpos_arguments.specs.Arguments.{command_words, emulate_words, loop_words, send_words, status_words}
+use Rattle.escpos_arguments.specs.Arguments.{asking_words, command_words, emulate_words, loop_words, send_words}
 use Rattle.escpos_arguments.proofs.TaskWords.{is_local}
 use Rattle.escpos_arguments.proofs.arguments.command_of_all.Goals as goal
 
@@ -13,7 +13,7 @@ returns c =
     let loop_is = c.in_ok-round.ensures.shape in
     let emulate_local = is_local c.in_ok-emulate.emulate emulate_words emulate_is refl in
     let send_local = is_local c.in_ok-send.send send_words send_is refl in
-    let status_local = is_local c.in_ok-status.status status_words status_is refl in
+    let status_local = is_local c.in_ok-status.status (asking_words (codes "status")) status_is refl in
     let loop_local = is_local c.in_ok-round.round loop_words loop_is refl in
     let app_is : app_of c.in_ok-command.command ≡ command_words =
     c.in_ok-command.ensures.shape c.new.ensures.local

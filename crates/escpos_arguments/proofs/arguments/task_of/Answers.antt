@@ -63,7 +63,7 @@ returns-in-Some-clause-taken g c = λ task valued passes asks ranges.
     let name = c.in-Some.name.now in
     let rows = rows_of (found_of c.in-Some.given.now) in
     let found = is_found c.in-Ok.matches texts name rows c.in-Ok.ensures.found c.in-Some.ensures.name c.in-Some.ensures.rows in
-    c.task_asked.ensures.taken task valued (subst (λ o. Asks o task) (sym found) asks) ranges
+    inl (c.task_asked.ensures.taken task valued (subst (λ o. Asks o task) (sym found) asks) ranges)
 
 pub returns-in-Some-clause-help : goal.returns-in-Some-clause-help
 returns-in-Some-clause-help g c = λ asks.

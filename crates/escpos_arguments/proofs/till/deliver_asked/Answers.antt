@@ -1,12 +1,12 @@
-use Rattle.std.proofs.Common.{◌∙◌, Ok, Err, Some, None, ap, inl, inr}
+use Rattle.std.proofs.Common.{◌∙◌, Ok, Some, None, ap}
 use Rattle.clap.specs.Words.{found_of, rows_of}
-use Rattle.escpos_arguments.proofs.TaskValues.{one_result, or_memory}
+use Rattle.escpos_arguments.proofs.TaskValues.{one_result}
 use Rattle.escpos_arguments.proofs.TillValues.{taken_address, taken_task, taken_wait}
 use Rattle.escpos_arguments.proofs.till.deliver_asked.Goals as goal
 
-pub returns-in-Err-clause-taken : goal.returns-in-Err-clause-taken
-returns-in-Err-clause-taken c = λ task asks range.
-    inr (ap Err (taken_address (rows_of (found_of c.args.given.now)) task c.address_of.result c.in-Err.why asks c.in-Err.is c.address_of.ensures.taken))
+pub returns-in_err-address-clause-taken : goal.returns-in_err-address-clause-taken
+returns-in_err-address-clause-taken c = λ task asks range.
+    absurd (taken_address (rows_of (found_of c.args.given.now)) task c.address_of.result c.in_err-address.field-0.0 asks c.in_err-address.was c.address_of.ensures.taken)
 
 pub returns-in_err-wait-clause-taken : goal.returns-in_err-wait-clause-taken
 returns-in_err-wait-clause-taken c = λ task asks range.
@@ -14,18 +14,18 @@ returns-in_err-wait-clause-taken c = λ task asks range.
 
 pub returns-in-Some-clause-taken : goal.returns-in-Some-clause-taken
 returns-in-Some-clause-taken c = λ task asks range.
-    inl (ap Ok (taken_task (rows_of (found_of c.args.given.now)) task c.in_ok-ledger.ledger c.in-Ok.address c.in_ok-openings.openings c.in_ok-copy.copy (Some c.in-Some.wait) asks range
+    ap Ok (taken_task (rows_of (found_of c.args.given.now)) task c.in_ok-ledger.ledger c.in_ok-address.address c.in_ok-openings.openings c.in_ok-copy.copy (Some c.in-Some.wait) asks range
     (λ path h. one_result c.ledger_path.result _ _ c.in_ok-ledger.was (c.ledger_path.ensures.taken path h))
-    (λ a h. or_memory c.address_of.result _ _ c.in-Ok.is (c.address_of.ensures.taken a h))
+    (λ a h. one_result c.address_of.result _ _ c.in_ok-address.was (c.address_of.ensures.taken a h))
     (λ n h low high. one_result c.count_of.result _ _ c.in_ok-openings.was (c.count_of.ensures.taken n h low high))
     (λ copy h fits. one_result c.copy_given.result _ _ c.in_ok-copy.was (c.copy_given.ensures.taken copy h fits))
-    (λ wait h fits. one_result c.wait_given.result _ _ (c.in_ok-wait.was ∙ ap Ok c.in-Some.is) (c.wait_given.ensures.taken wait h fits))))
+    (λ wait h fits. one_result c.wait_given.result _ _ (c.in_ok-wait.was ∙ ap Ok c.in-Some.is) (c.wait_given.ensures.taken wait h fits)))
 
 pub returns-in-None-clause-taken : goal.returns-in-None-clause-taken
 returns-in-None-clause-taken c = λ task asks range.
-    inl (ap Ok (taken_task (rows_of (found_of c.args.given.now)) task c.in_ok-ledger.ledger c.in-Ok.address c.in_ok-openings.openings c.in_ok-copy.copy None asks range
+    ap Ok (taken_task (rows_of (found_of c.args.given.now)) task c.in_ok-ledger.ledger c.in_ok-address.address c.in_ok-openings.openings c.in_ok-copy.copy None asks range
     (λ path h. one_result c.ledger_path.result _ _ c.in_ok-ledger.was (c.ledger_path.ensures.taken path h))
-    (λ a h. or_memory c.address_of.result _ _ c.in-Ok.is (c.address_of.ensures.taken a h))
+    (λ a h. one_result c.address_of.result _ _ c.in_ok-address.was (c.address_of.ensures.taken a h))
     (λ n h low high. one_result c.count_of.result _ _ c.in_ok-openings.was (c.count_of.ensures.taken n h low high))
     (λ copy h fits. one_result c.copy_given.result _ _ c.in_ok-copy.was (c.copy_given.ensures.taken copy h fits))
-    (λ wait h fits. one_result c.wait_given.result _ _ (c.in_ok-wait.was ∙ ap Ok c.in-None.is) (c.wait_given.ensures.taken wait h fits))))
+    (λ wait h fits. one_result c.wait_given.result _ _ (c.in_ok-wait.was ∙ ap Ok c.in-None.is) (c.wait_given.ensures.taken wait h fits)))

@@ -1,0 +1,35 @@
+-- What a text says as an address.
+use Rattle.std.proofs.Common.{◌≡◌, ◌≤◌, ap, sym, length, ℕ, List, Option, Some, None, IsTrue}
+use Rattle.std.specs.Prelude.{IfSome}
+use Rattle.std.specs.declared.net.socket_addr.SocketAddr.{SocketAddr}
+use Rattle.std.specs.declared.net.socket_addr.SocketAddr.TheVariants.{V4, V6}
+use Rattle.std.specs.declared.net.socket_addr.SocketAddrV4.{SocketAddrV4}
+use Rattle.std.specs.Net.Grammar.{IsSocketText, IsSocketV4Text}
+use Rattle.std.proofs.NetLemmas.Theorems.{IsSocketText_unique}
+use Rattle.escpos_jobs.specs.declared.address.Address.{Address}
+use Rattle.escpos_jobs.specs.declared.address.Address.TheVariants.{Numeric, Named}
+use Rattle.escpos_jobs.specs.declared.address.TheConstants.{MOST_TEXT}
+use Rattle.escpos_jobs.specs.Address.{IsAddress, IsPort, after_colon, before_colon, is_host_name}
+
+-- A text that is an IP address says no other address.
+pub only_numeric : (text : List ℕ) (a : SocketAddr) (address : Address) → IsSocketText text a → IsAddress text address → Numeric a ≡ address
+only_numeric text a (Numeric (V4 b)) at h = ap Numeric (IsSocketText_unique text a (V4 b) at h.0)
+only_numeric text a (Numeric (V6 b)) at h = ap Numeric (IsSocketText_unique text a (V6 b) at h)
+only_numeric text a (Named name) at h = absurd (h.0 a at)
+
+-- A text that is an IPv4 address and says an address has a port.
+pub has_port : (text : List ℕ) (a : SocketAddrV4) (address : Address) → IsSocketV4Text text a → IsAddress text address → IsPort (after_colon text)
+has_port text a (Numeric (V4 b)) at h = h.1
+has_port text a (Numeric (V6 b)) at h = let bad : V4 a ≡ V6 b = IsSocketText_unique text (V4 a) (V6 b) at h in absurd cc
+has_port text a (Named name) at h = absurd (h.0 (V4 a) at)
+
+-- A text that is none is a name and a port.
+pub only_named : (text : List ℕ) (address : Address) → ((a : SocketAddr) → IsSocketText text a → ⊥) → IsAddress text address
+    → IsTrue (is_host_name (before_colon text)) × IsPort (after_colon text) × (length text ≤ MOST_TEXT) × (Named text ≡ address)
+only_named text (Numeric (V4 b)) not h = absurd (not (V4 b) h.0)
+only_named text (Numeric (V6 b)) not h = absurd (not (V6 b) h)
+only_named text (Named name) not h = (h.1, h.2, h.3, ap Named (sym h.4))
+
+pub if_some : {T : Type 0} (r : Option T) (P Q : T → Type 0) → ((x : T) → P x → Q x) → IfSome r P → IfSome r Q
+if_some None P Q f h = h
+if_some (Some x) P Q f h = f x h
