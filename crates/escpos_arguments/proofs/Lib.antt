@@ -2,4 +2,5 @@ pub mod TaskValues
 pub mod WidthValues
 pub mod TaskWords
 pub mod TillWords
+pub mod ProbeWords
 pub mod TillValues

@@ -14,6 +14,7 @@ mod arguments;
 mod memory;
 #[cfg(test)]
 mod options;
+mod probe;
 #[cfg(test)]
 mod support;
 #[cfg(test)]

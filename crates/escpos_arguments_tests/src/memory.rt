@@ -5,4 +5,5 @@
 //! allocation succeeds; `bench/starve` lets the first, the second and so on of a test's allocations fail.
 
 mod asked;
+mod asking;
 mod tasks;

@@ -1,6 +1,6 @@
 //! Options: widths of lines, plain text, replacements, and thresholds of pictures.
 
-use crate::support::asking::{asks_for, printer_address};
+use crate::support::asking::{asks_for, printer};
 use escpos_arguments::task_of;
 use escpos_command::LineWidth;
 use escpos_jobs::emulate::ONLINE;
@@ -53,7 +53,6 @@ fn widths_of_streams(rt: HostRuntime) {
 #[test]
 fn widths_of_emulate(rt: HostRuntime) {
     let width = wide(&rt, 576);
-    let address = printer_address();
     let open = Condition {
         cover_open: true,
         ..ONLINE
@@ -69,7 +68,7 @@ fn widths_of_emulate(rt: HostRuntime) {
     ] {
         let [a, b, c, d] = words;
         let task = Task::EmulateAt {
-            address,
+            address: printer(),
             links,
             condition,
             width,
@@ -87,7 +86,7 @@ fn widths_of_emulate(rt: HostRuntime) {
     ] {
         let [a, b, c] = words;
         let task = Task::FollowAt {
-            address,
+            address: printer(),
             condition,
             width,
         };
@@ -235,7 +234,6 @@ fn words_for_a_replacement(rt: HostRuntime) {
 
 #[test]
 fn words_for_a_replacement_of_send(rt: HostRuntime) {
-    let address = printer_address();
     let rows: [(&[&str], u32, Option<u32>); 2] = [
         (
             &["send", "127.0.0.1:9100", "--first", "4", "--replace", "?"],
@@ -259,7 +257,7 @@ fn words_for_a_replacement_of_send(rt: HostRuntime) {
     ];
     for (words, openings, wait) in rows {
         let task = Task::SendWith {
-            address,
+            address: printer(),
             first: 4,
             openings,
             wait,

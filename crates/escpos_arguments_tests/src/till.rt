@@ -37,7 +37,7 @@ fn asks_for_delivery(rt: &impl Abort, alloc: Global, given: &[&'static str], wan
 #[test]
 fn deliveries(rt: HostRuntime) {
     for (given, openings, has_copy) in &DELIVERIES {
-        let wanted = Plain::Deliver("till", printer_address(), *openings, *has_copy);
+        let wanted = Plain::Deliver("till", Some(printer_address()), *openings, *has_copy);
         asks_for_delivery(&rt, rt.alloc(), given, wanted);
     }
 }
@@ -52,7 +52,13 @@ const WAITING: [(&'static [&'static str], u32, bool, u32); 3] = [
 #[test]
 fn deliveries_that_wait(rt: HostRuntime) {
     for (given, openings, has_copy, seconds) in &WAITING {
-        let wanted = Plain::Within("till", printer_address(), *openings, *has_copy, *seconds);
+        let wanted = Plain::Within(
+            "till",
+            Some(printer_address()),
+            *openings,
+            *has_copy,
+            *seconds,
+        );
         asks_for_delivery(&rt, rt.alloc(), given, wanted);
     }
 }

@@ -1,14 +1,17 @@
 //! The program of ESC/POS receipts, with a subcommand for each job.
 //!
 //! `main` joins the arguments of the command line, the standard streams, a till's ledger and the exit status. escpos_arguments
-//! says what the arguments ask for; escpos_jobs does it, and escpos_till_jobs what a till asks of its ledger, which `ledger`
-//! opens. Names of these crates are also names of the program.
+//! says what the arguments ask for; escpos_jobs does it, escpos_probe asks a printer, and escpos_till_jobs does what a till asks of its
+//! ledger, which `ledger` opens. Names of these crates are also names of the program.
 #![tactic(auto)]
 
 mod ledger;
 
 use crate::ledger::perform_till;
-pub use escpos_arguments::{asks_version, is_till_word, task_of, till_task_of, without_name};
+pub use escpos_arguments::{
+    asks_version, completions_of, is_completions_word, is_probe_word, is_till_word, probe_task_of,
+    task_of, till_task_of, without_name,
+};
 use escpos_io::{ByteIn, ByteOut, Incoming, Outgoing};
 use escpos_jobs::ending::say;
 use escpos_jobs::perform::perform;
@@ -18,6 +21,7 @@ use escpos_jobs::usage::{VERSION, say_help};
 pub use escpos_jobs::{
     check, draw, emulate, encode, loop_link, perform, play, render, send, status, task,
 };
+use escpos_probe::probe;
 use sqlite::Unknown;
 use std::process::ExitCode;
 use std::{env, io};
@@ -45,16 +49,34 @@ fn perform_words<R: ByteIn, W: ByteOut>(
     if asks_version(words) {
         return say(VERSION.as_bytes(), output, Status::Good);
     }
-    if is_till_word(word.as_str()) {
-        return match till_task_of(rt.alloc(), words) {
-            Ok(task) => perform_till(rt, Unknown, task, input, output),
-            Err(why) => refuse_words(rt, words, why, input, output),
-        };
-    }
-    match task_of(rt.alloc(), words) {
-        Ok(task) => perform(rt, rt.alloc(), Ok(task), input, output),
+    match perform_word(rt, word.as_str(), words, input, output) {
+        Ok(status) => status,
         Err(why) => refuse_words(rt, words, why, input, output),
     }
+}
+
+// The same for arguments that begin with this word. The error is why they name no task.
+fn perform_word<R: ByteIn, W: ByteOut>(
+    rt: &HostRuntime,
+    word: &str,
+    words: &[String],
+    input: &mut R,
+    output: &mut W,
+) -> Result<Status, NoTask> {
+    if is_till_word(word) {
+        let task = till_task_of(rt.alloc(), words)?;
+        return Ok(perform_till(rt, Unknown, task, input, output));
+    }
+    if is_probe_word(word) {
+        let task = probe_task_of(rt.alloc(), words)?;
+        return Ok(probe(rt, task, output));
+    }
+    if is_completions_word(word) {
+        let shell = completions_of(words)?;
+        return Ok(say(shell.script().as_bytes(), output, Status::Good));
+    }
+    let task = task_of(rt.alloc(), words)?;
+    Ok(perform(rt, rt.alloc(), Ok(task), input, output))
 }
 
 // Says why these arguments name no task. Help after a word is its part of the help.

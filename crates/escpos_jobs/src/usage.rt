@@ -7,7 +7,7 @@ use crate::status::Status;
 use escpos_io::{ByteOut, Device, put_all};
 
 /// The text for arguments that ask for the version: that of the program, and the profile of commands that it knows.
-pub const VERSION: &str = "escpos_cli 1.0.0, profile 3\n";
+pub const VERSION: &str = "escpos_cli 1.4.0, profile 3\n";
 
 /// The text for arguments that name no task.
 pub const USAGE: &str = "\
@@ -22,11 +22,13 @@ usage: escpos_cli check [--raw] < STREAM
        escpos_cli send ADDRESS --first F [--openings N] [--wait S]
                                [--width D] [--replace C] < RECEIPT
        escpos_cli status ADDRESS [--wait S]
+       escpos_cli probe ADDRESS [--wait S]
        escpos_cli loop [--width D] < RECEIPT
        escpos_cli queue LEDGER [--width D] [--replace C] < RECEIPT
        escpos_cli deliver LEDGER ADDRESS [--openings N] [--copy TEXT]
                                          [--wait S]
        escpos_cli ledger LEDGER [--first F]
+       escpos_cli completions bash|zsh|fish
        escpos_cli help
        escpos_cli --version
 ";
@@ -381,15 +383,16 @@ line `memory` says that the program ran out of memory.
 
   escpos_cli emulate ADDRESS [--links N | --follow] [--condition CNP]
                              [--width D]
-      Is a printer that listens at ADDRESS, an IPv4 address and a port as in
-      127.0.0.1:9100. It serves N links one after another, 1 to 1000; one
-      without --links. When a link has ended it prints `link I read R consumed C
-      written W END`: the number of the link, from 1, the bytes that came from
-      it, how many of them the printer took, the bytes of its answers, and why
-      the link ended: Ended, TooLong (after 16777216 bytes), Fault (a refused
-      byte), Offline, ReadFault, WriteFault or Memory. At the end it writes the
-      paper as `render` does. If it can't listen or accept a link, only exit
-      status 3 says so.
+      Is a printer that listens at ADDRESS: an IP address or a host's name, and
+      a port, as in 127.0.0.1:9100, [::1]:9100 or printer.shop:9100. It serves N
+      links one after another, 1 to 1000; one without --links. When a link has
+      ended it prints `link I read R consumed C written W END`: the number of
+      the link, from 1, the bytes that came from it, how many of them the
+      printer took, the bytes of its answers, and why the link ended: Ended,
+      TooLong (after 16777216 bytes), Fault (a refused byte), Offline,
+      ReadFault, WriteFault or Memory. At the end it writes the paper as
+      `render` does. If it can't listen or accept a link, only exit status 3
+      says so.
 
       With --follow it serves links until it is ended, and writes what each link
       printed after the line of that link. --condition says what its sensors
@@ -439,6 +442,25 @@ line `memory` says that the program ran out of memory.
           online
           cover closed
           paper there
+
+  escpos_cli probe ADDRESS [--wait S]
+      Asks the printer at ADDRESS, one thing after another and each on a link
+      of its own, which requests it answers, and prints nothing on its paper. A
+      line for each has the answer's bytes, or `no answer`; the first says what
+      came unasked. The last three say whether the printer sends nothing
+      unasked, answers marks, and tells its status: `deliver` needs the first
+      two. The exit status is 0 if it does both, otherwise 1. A byte is waited
+      for S seconds, 1 to 3600; two without --wait. Automatic status back is
+      off afterwards, and no mark's number is used. Without a connection the one
+      line is `no link`.
+
+          $ escpos_cli probe printer.shop:9100
+          unasked: no answer
+          DLE EOT 1: 16
+          ..
+          sends nothing unasked: yes
+          answers marks: yes
+          tells its status: yes
 
   escpos_cli loop [--width D]
       Reads a receipt, is both ends of a link over 127.0.0.1, and prints the
@@ -491,6 +513,11 @@ line `memory` says that the program ran out of memory.
       If another process has the ledger open, the one line is `ledger in use`;
       if LEDGER is another kind of file, or damaged, `no ledger`; and if a read
       or a write failed, `ledger failed`. So it is for `queue` and `deliver`.
+
+  escpos_cli completions bash|zsh|fish
+      Prints a script that completes the words of escpos_cli in that shell.
+
+          $ escpos_cli completions bash > /etc/bash_completion.d/escpos_cli
 
   escpos_cli help
       Prints this text; so do --help and -h. After a word they print its part of

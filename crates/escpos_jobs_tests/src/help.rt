@@ -198,7 +198,7 @@ fn help_has_an_example_of_each_member(rt: HostRuntime) {
 
 #[test]
 fn version(rt: HostRuntime) {
-    assert!(&rt; VERSION == "escpos_cli 1.0.0, profile 3\n");
+    assert!(&rt; VERSION == "escpos_cli 1.4.0, profile 3\n");
 }
 
 // Help on a word prints this, and where there is no room for it the status says so.
@@ -217,8 +217,22 @@ fn says_help(rt: &impl Abort, word: &str, wanted: &str) {
 #[test]
 fn help_on_each_word(rt: HostRuntime) {
     let words = [
-        "check", "render", "draw", "encode", "image", "play", "emulate", "send", "status", "loop",
-        "queue", "deliver", "ledger", "help",
+        "check",
+        "render",
+        "draw",
+        "encode",
+        "image",
+        "play",
+        "emulate",
+        "send",
+        "status",
+        "probe",
+        "loop",
+        "queue",
+        "deliver",
+        "ledger",
+        "completions",
+        "help",
     ];
     let mut rest = HELP
         .find("  escpos_cli check")

@@ -13,6 +13,10 @@ mod emulating;
 #[cfg(test)]
 mod memory;
 #[cfg(test)]
+mod naming;
+#[cfg(test)]
+mod probing;
+#[cfg(test)]
 mod round;
 #[cfg(test)]
 mod sending;

@@ -1,6 +1,6 @@
 //! The task of a job without a till.
 
-use crate::support::asking::printer_address;
+use crate::support::asking::printer;
 use escpos_arguments::task_of;
 use escpos_jobs::task::{NoTask, Task};
 use std::alloc::Global;
@@ -22,13 +22,13 @@ fn task_of_refused(rt: HostRuntime) {
     asks_at_last(&rt, rt.alloc(), &["encode", "--help"], Err(NoTask::Help));
     asks_at_last(&rt, rt.alloc(), &["chec"], Err(NoTask::Usage));
     let wanted = Task::Emulate {
-        address: printer_address(),
+        address: printer(),
         links: 3,
     };
     let arguments = ["emulate", "127.0.0.1:9100", "--links", "3"];
     asks_at_last(&rt, rt.alloc(), &arguments, Ok(wanted));
     let wanted = Task::Send {
-        address: printer_address(),
+        address: printer(),
         first: 7,
         openings: 3,
     };

@@ -6,7 +6,7 @@ use escpos_jobs::task::{NoTask, Task};
 use escpos_receipt::ReceiptOptions;
 use escpos_till_jobs::TillTask;
 use std::alloc::Global;
-use std::net::{Ipv4Addr, SocketAddrV4};
+use std::net::{Ipv4Addr, SocketAddr, SocketAddrV4};
 use std::process::Abort;
 
 /// This is what the arguments ask for.
@@ -20,8 +20,8 @@ pub fn asks_for(rt: &impl Abort, alloc: Global, words: &[&str], asked: Result<Ta
 #[derive(Clone, Copy, PartialEq)]
 pub enum Plain<'a> {
     Queue(&'a str, u16, Option<char>),
-    Deliver(&'a str, Address, u32, bool),
-    Within(&'a str, Address, u32, bool, u32),
+    Deliver(&'a str, Option<SocketAddrV4>, u32, bool),
+    Within(&'a str, Option<SocketAddrV4>, u32, bool, u32),
     List(&'a str, Option<u32>),
 }
 
@@ -29,6 +29,14 @@ fn replacement_of(options: &ReceiptOptions) -> Option<char> {
     match options.replacement {
         Some(replacement) => Some(replacement.character()),
         None => None,
+    }
+}
+
+// The IPv4 address and port, if it is one.
+fn v4_of(address: &Address) -> Option<SocketAddrV4> {
+    match address {
+        Address::Numeric(SocketAddr::V4(address)) => Some(*address),
+        _ => None,
     }
 }
 
@@ -41,7 +49,7 @@ fn plain_of<'a>(task: TillTask<'a>) -> Plain<'a> {
         ),
         TillTask::Deliver { ledger, delivery } => Plain::Deliver(
             ledger.text(),
-            delivery.address,
+            v4_of(&delivery.address),
             delivery.openings,
             delivery.copy.is_some(),
         ),
@@ -51,7 +59,7 @@ fn plain_of<'a>(task: TillTask<'a>) -> Plain<'a> {
             wait,
         } => Plain::Within(
             ledger.text(),
-            delivery.address,
+            v4_of(&delivery.address),
             delivery.openings,
             delivery.copy.is_some(),
             wait,
@@ -68,6 +76,11 @@ pub fn asked_by<'a>(alloc: Global, words: &'a [&'a str]) -> Result<Plain<'a>, No
     }
 }
 
-pub fn printer_address() -> Address {
-    SocketAddrV4::new(Ipv4Addr::new(127, 0, 0, 1), 9100).into()
+pub fn printer_address() -> SocketAddrV4 {
+    SocketAddrV4::new(Ipv4Addr::new(127, 0, 0, 1), 9100)
+}
+
+/// The printer at this address.
+pub fn printer() -> Address {
+    printer_address().into()
 }
