@@ -217,14 +217,14 @@ typedef struct {
 typedef struct {
     bool cover_open;
     bool near_end;  /* the paper is near its end */
-    bool paper_end; /* the paper has ended */
+    bool paper_end; /* it is out of paper */
 } kolatennis_sensors;
 
 /* Why a printer took no more bytes. */
 enum kolatennis_stop {
     KOLATENNIS_STOP_ALL = 600,          /* it took all of them */
     KOLATENNIS_STOP_ANSWERS_FULL = 601, /* sixteen answers wait: take some */
-    KOLATENNIS_STOP_OFFLINE = 602,      /* its cover is open, or its paper has ended */
+    KOLATENNIS_STOP_OFFLINE = 602,      /* its cover is open, or it is out of paper */
     KOLATENNIS_STOP_FAULT = 603,        /* no command goes on with the byte at `at`: skip it, or feed it again as the first of a command */
     KOLATENNIS_STOP_MEMORY = 604        /* out of memory for the next byte */
 };
