@@ -527,6 +527,35 @@ fn names(rt: HostRuntime) {
     }
 }
 
+// A text is that of a device file. That it is opened, `bench/devices` sees.
+fn is_device(text: &str) -> bool {
+    matches!(Address::of_text(text), Some(Address::Device(_)))
+}
+
+// The whole path of a file follows `file:`; without its first `/` the text is a host's name and a port, or nothing.
+#[test]
+fn device_files(rt: HostRuntime) {
+    for text in [
+        "file:/dev/usb/lp0",
+        "file:/dev/ttyS0",
+        "file:/",
+        "file:///a b",
+    ] {
+        assert!(&rt; is_device(text));
+        sends_at(&rt, rt.alloc(), text, Address::of_text(text));
+    }
+    assert!(&rt; is_name("file:9100"));
+    for text in [
+        "file:",
+        "file:lp0",
+        "File:/dev/lp0",
+        " file:/dev/lp0",
+        "/dev/lp0",
+    ] {
+        sends_at(&rt, rt.alloc(), text, None);
+    }
+}
+
 // 250 characters of a name, and what follows them.
 fn long_name(rt: &impl Abort, alloc: Global, tail: &str) -> String {
     let mut text = String::new(alloc);
@@ -544,4 +573,19 @@ fn long_names(rt: HostRuntime) {
     assert!(&rt; is_name(long.as_str()));
     let too_long = long_name(&rt, rt.alloc(), "jklm:65535");
     assert!(&rt; Address::of_text(too_long.as_str()) == None);
+}
+
+// The same of a device file's text: 259 bytes, and one more.
+#[test]
+fn long_device_files(rt: HostRuntime) {
+    let mut text = String::new(rt.alloc());
+    text.push_str("file:/").expect(&rt, "memory");
+    for _ in 0..25 {
+        text.push_str("abcdefghi/").expect(&rt, "memory");
+    }
+    text.push_str("klm").expect(&rt, "memory");
+    assert!(&rt; text.len() == 259);
+    assert!(&rt; is_device(text.as_str()));
+    text.push_str("n").expect(&rt, "memory");
+    assert!(&rt; Address::of_text(text.as_str()) == None);
 }

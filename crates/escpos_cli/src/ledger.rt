@@ -1,6 +1,7 @@
 //! A till's ledger in its file: opened for one task, and closed after it.
 
 use escpos_io::{ByteIn, ByteOut};
+use escpos_jobs::printer_link::Printers;
 use escpos_jobs::receipt_input::refuse_input;
 use escpos_jobs::status::Status;
 use escpos_jobs::wait::Within;
@@ -12,10 +13,12 @@ use escpos_till_jobs::{
     read_receipt_text, refuse_store,
 };
 use sqlite::{FileFrom, FileStore, Start};
-use std::net::{Net, TcpStream};
+
+// A store in a file.
+type FileLedgerStore<S> = SqliteStore<FileStore<FileFrom<S>>>;
 
 // A ledger in a file.
-type FileLedger<S> = Ledger<SqliteStore<FileStore<FileFrom<S>>>>;
+type FileLedger<S> = Ledger<FileLedgerStore<S>>;
 
 /// Does what a till asks of its ledger, and returns how it went. `start` stands for what the ledger's file holds before.
 pub fn perform_till<S: Start, R: ByteIn, W: ByteOut>(
@@ -80,7 +83,7 @@ fn queue_text<S: Start, W: ByteOut>(
 }
 
 // Delivers the receipts that wait, over this network.
-fn deliver<N: Net<Stream = TcpStream>, S: Start, W: ByteOut>(
+fn deliver<N: Printers, S: Start, W: ByteOut>(
     rt: &HostRuntime,
     net: &N,
     start: S,
@@ -122,11 +125,14 @@ fn open<S: Start>(
     start: S,
     path: &LedgerPath<'_>,
 ) -> Result<FileLedger<S>, NoStore> {
-    let store = SqliteStore::<FileStore<FileFrom<S>>>::open(rt, path.text(), start)?;
+    let store = match FileLedgerStore::<S>::open(rt, path.text(), start) {
+        Ok(store) => store,
+        Err((why, _)) => return Err(why),
+    };
     match open_ledger(rt.alloc(), store) {
         Ok(ledger) => Ok(ledger),
         Err((why, store)) => {
-            let _ = store.close();
+            close_store(store);
             Err(why)
         }
     }
@@ -134,5 +140,10 @@ fn open<S: Start>(
 
 // Closes the ledger. What it has recorded outlives a crash already, so nothing is lost where this fails.
 fn close<S: Start>(ledger: FileLedger<S>) {
-    let _ = ledger.into_store().close();
+    close_store(ledger.into_store());
+}
+
+// Copies the log into the database file, and closes both.
+fn close_store<S: Start>(store: FileLedgerStore<S>) {
+    let _ = store.into_files();
 }

@@ -9,3 +9,4 @@ pub mod Dialling
 pub mod Sending
 pub mod EventsInTurn
 pub mod WholeAnswer
+pub mod Earlier

@@ -4,6 +4,7 @@ pub mod AnswerReader
 pub mod Machine
 pub mod Kept
 pub mod Heard
+pub mod Earlier
 pub mod Says
 pub mod Sends
 pub mod Awaits

@@ -2,15 +2,16 @@
 //! proved with this crate, and another crate cites it by calling the function. The calls in the bodies cite laws of
 //! answers.
 
-ghost use Rattle.std.specs.Prelude.{◌≡◌, ◌≢◌, ◌⊎◌, ◌<◌, ◌≤◌, ℕ, List, [], ◌∷◌, ◌++◌, length, take, IsTrue};
+ghost use Rattle.std.specs.Prelude.{◌≡◌, ◌≢◌, ◌⊎◌, ◌<◌, ◌≤◌, ◌↔◌, ℕ, List, [], ◌∷◌, ◌++◌, length, map, take, IsTrue};
 ghost use Rattle.escpos_command.specs.declared.command.Command.{Command};
 ghost use Rattle.escpos_command.specs.declared.command.Command.TheVariants as kind;
 ghost use Rattle.escpos_command.specs.declared.answer.Answer.{Answer};
 ghost use Rattle.escpos_command.specs.Answers.{AreWholeAnswers, answer_bytes, is_answer};
 ghost use Rattle.escpos_command.specs.Parameters.{is_status_kind};
 ghost use Rattle.escpos_host.specs.declared.host.HostEvent.{HostEvent};
+ghost use Rattle.escpos_host.specs.Earlier.{shifted, with_earlier};
 ghost use Rattle.escpos_host.specs.Heard.{EndsLink, GoesOn, HearsAll, IsHeard, IsOff, Turns, last_of};
-ghost use Rattle.escpos_host.specs.Machine.{HasMark, HostView, InFlight, IsOpening, Down, Open, asked, handed_out, linked, next_mark, nudged, submitted, taken_out};
+ghost use Rattle.escpos_host.specs.Machine.{HasMark, HostView, InFlight, IsOpening, IsSound, Down, Open, asked, gone_down, handed_out, linked, next_mark, nudged, submitted, taken_out};
 ghost use Rattle.escpos_host.specs.Says.{Talks};
 ghost use Rattle.escpos_receipt.specs.Whole.{Whole};
 
@@ -54,4 +55,22 @@ pub fn one_answer()
 pub fn one_event()
     ensures { (h after : HostView) (bytes : List ℕ) (count : ℕ) (event : HostEvent) → h.phase ≢ Down → (EndsLink event → ⊥) → IsHeard h bytes count event after
         → (count ≤ length bytes) × (after.phase ≢ Down) × (event ≢ HostEvent.None → 0 < count) }
+{}
+
+/// Earlier records: a host with other records before its own hears the same and does the same, and the numbers of the records
+/// that it makes are counted on from those. What holds for every host holds for it as well.
+pub fn earlier_records()
+    ensures heard { (earlier : List (List Command)) (h after : HostView) (bytes : List ℕ) (events : List HostEvent) (consumed : ℕ) → HearsAll h bytes events consumed after
+        → HearsAll (with_earlier earlier h) bytes (map (shifted (length earlier)) events) consumed (with_earlier earlier after) }
+    ensures last { (count : ℕ) (events : List HostEvent) → last_of (map (shifted count) events) ≡ shifted count (last_of events) }
+    ensures ends { (count : ℕ) (e : HostEvent) → EndsLink e ↔ EndsLink (shifted count e) }
+    ensures linked { (earlier : List (List Command)) (h : HostView) → linked (with_earlier earlier h) ≡ with_earlier earlier (linked h) }
+    ensures nudged { (earlier : List (List Command)) (h : HostView) → nudged (with_earlier earlier h) ≡ with_earlier earlier (nudged h) }
+    ensures asked { (earlier : List (List Command)) (h : HostView) (n : ℕ) → asked (with_earlier earlier h) n ≡ with_earlier earlier (asked h n) }
+    ensures submitted { (earlier : List (List Command)) (h : HostView) (flight : List InFlight) (receipt : List Command)
+        → submitted (with_earlier earlier h) flight receipt ≡ with_earlier earlier (submitted h flight receipt) }
+    ensures taken { (earlier : List (List Command)) (h : HostView) (count : ℕ) → taken_out (with_earlier earlier h) count ≡ with_earlier earlier (taken_out h count) }
+    ensures down { (earlier : List (List Command)) (h : HostView) → gone_down (with_earlier earlier h) ≡ with_earlier earlier (gone_down h) }
+    ensures handed_out { (earlier : List (List Command)) (h : HostView) → handed_out (with_earlier earlier h) ≡ with_earlier earlier (handed_out h) }
+    ensures sound { (earlier : List (List Command)) (h : HostView) → IsSound h → IsSound (with_earlier earlier h) }
 {}

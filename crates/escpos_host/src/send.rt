@@ -139,7 +139,7 @@ pub fn send_link<R: ByteIn, W: ByteOut>(
         → ¬ IsTrue (W.failed writer.new) }
     ensures pulls { R.pull_count reader.new ≤ R.pull_count reader.old + max_bytes + 1 }
 {
-    if let Err(why) = open(host, openings) {
+    if let Err(why) = open_link(host, openings) {
         return Sent::NotRecorded {
             why: SendFault::Refused(why),
             receipt,
@@ -172,8 +172,8 @@ pub fn send_link<R: ByteIn, W: ByteOut>(
     }
 }
 
-// Brings the link up and puts out this many opening marks, at least one. If one of them is refused, the link is given up.
-fn open(host: &mut Host, openings: u32) -> Result<(), HostError>
+/// Brings a host's link up and puts out this many opening marks; 0 counts as 1. If one of them is refused, the link is given up.
+pub fn open_link(host: &mut Host, openings: u32) -> Result<(), HostError>
     ensures opened { OnOk result ((host.old.phase ≡ Down) × (host.new ≡ dialled host.old (max openings 1))) }
     ensures marks { OnOk result (host.old.next + max openings 1 ≤ mark_count) }
     ensures refused { IfErr result (λ why. RefusesOpening why host.old (max openings 1) host.new) }

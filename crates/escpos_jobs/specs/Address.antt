@@ -1,12 +1,13 @@
 -- The texts of addresses.
-use Rattle.std.specs.Prelude.{◌≡◌, ◌<◌, ◌≤◌, ◌&&◌, ◌||◌, ◌==◌, ℕ, Bool, true, false, not, List, [], ◌∷◌, length, decimal, IsTrue}
+use Rattle.std.specs.Prelude.{◌≡◌, ◌<◌, ◌≤◌, ◌&&◌, ◌||◌, ◌==◌, ℕ, Bool, true, false, not, List, [], ◌∷◌, length, decimal, codes, IsTrue}
 use Rattle.std.specs.Char.{is_ascii_alphabetic, is_ascii_alphanumeric, is_ascii_hexdigit}
+use Rattle.std.specs.List.{starts_with}
 use Rattle.std.specs.List.{before_first, after_first}
 use Rattle.std.specs.declared.net.socket_addr.SocketAddr.{SocketAddr}
 use Rattle.std.specs.declared.net.socket_addr.SocketAddr.TheVariants.{V4, V6}
 use Rattle.std.specs.Net.Grammar.{IsSocketText, IsSocketV4Text, IsSocketV6Text}
 use Rattle.escpos_jobs.specs.declared.address.Address.{Address}
-use Rattle.escpos_jobs.specs.declared.address.Address.TheVariants.{Numeric, Named}
+use Rattle.escpos_jobs.specs.declared.address.Address.TheVariants.{Numeric, Named, Device}
 use Rattle.escpos_jobs.specs.declared.address.TheConstants.{MOST_TEXT}
 
 -- a port in decimal, without leading zeros
@@ -38,9 +39,15 @@ before_colon text = before_first (λ c. c == 0x3A) text
 abbrev pub after_colon : List ℕ → List ℕ
 after_colon text = after_first (λ c. c == 0x3A) text
 
--- the text says this address: `A.B.C.D:P`, `[A:B::C]:P` or `NAME:P`
+-- the text begins as that of a device file: `file:/`
+abbrev pub is_device_text : List ℕ → Bool
+is_device_text text = starts_with (λ a b. a == b) text (codes "file:/")
+
+-- the text says this address: `A.B.C.D:P`, `[A:B::C]:P`, `NAME:P` or `file:/PATH`
 abbrev pub IsAddress : List ℕ → Address → Type 0
 IsAddress text (Numeric (V4 address)) = IsSocketV4Text text address × IsPort (after_colon text)
 IsAddress text (Numeric (V6 address)) = IsSocketV6Text text address
-IsAddress text (Named name) = ((address : SocketAddr) → ¬ IsSocketText text address) × IsTrue (is_host_name (before_colon text))
-    × IsPort (after_colon text) × (length text ≤ MOST_TEXT) × (name ≡ text)
+IsAddress text (Named name) = ((address : SocketAddr) → ¬ IsSocketText text address) × (is_device_text text ≡ false)
+    × IsTrue (is_host_name (before_colon text)) × IsPort (after_colon text) × (length text ≤ MOST_TEXT) × (name ≡ text)
+IsAddress text (Device name) = ((address : SocketAddr) → ¬ IsSocketText text address) × IsTrue (is_device_text text) × (length text ≤ MOST_TEXT)
+    × (name ≡ text)

@@ -1,15 +1,17 @@
-//! Where a printer is reached: an IP address or a host's name, and a port.
+//! Where a printer is reached: an IP address or a host's name, and a port; or its device file.
 
 ghost use Rattle.std.specs.Prelude.{◌≡◌, ◌↔◌, ◌≤◌, ◌++◌, drop, length, IfOk, IfSome, IsTrue, Some};
-ghost use Rattle.escpos_jobs.specs.Address.{IsAddress, IsPort, after_colon, are_all, before_colon, is_host_name};
+ghost use Rattle.std.specs.Net.Grammar.{IsSocketText};
+ghost use Rattle.escpos_jobs.specs.Address.{IsAddress, IsPort, after_colon, are_all, before_colon, is_device_text, is_host_name};
 ghost use Rattle.escpos_jobs.specs.Address.{is_host_character, is_number_character};
 
+use crate::printer_link::{PrinterLink, Printers};
 use itoa::Buffer;
 use std::marker::Model;
 use std::net::{Net, SocketAddr, SocketAddrV4, TcpListener, TcpStream};
 use std::{io, str};
 
-/// The longest text of a name and a port: a name has at most 253 characters (RFC 1035), a port five.
+/// The longest text of a name and a port, or of a device file: a name has at most 253 characters (RFC 1035), a port five.
 pub const MOST_TEXT: usize = 259;
 
 const _: () = prove!(MOST_TEXT == 259);
@@ -20,17 +22,20 @@ pub enum Address {
     /// An IPv4 or IPv6 address, and a port.
     Numeric(SocketAddr),
     /// A host's name and a port.
-    Named(NamedAddress),
+    Named(AddressText),
+    /// A device file that is read and written.
+    Device(AddressText),
 }
 
-/// A host's name and a port, as `printer.shop:9100`. The name is looked up at each connection. The model is the list of its bytes.
+/// The text of an address: a host's name and a port, as `printer.shop:9100`, or a device file, as `file:/dev/usb/lp0`. A name is looked up at each
+/// connection. The model is the list of its bytes.
 #[derive(Clone, Copy, Debug, Drop, PartialEq, Eq)]
-pub struct NamedAddress {
+pub struct AddressText {
     bytes: [u8; MOST_TEXT],
     len: usize,
 }
 
-impl Model for NamedAddress {
+impl Model for AddressText {
     ghost use Rattle.std.specs.Prelude.{◌≡◌, ◌≤◌, ◌-◌, ◌++◌, ℕ, List, take, drop, length, replicate};
     ghost use Rattle.std.proofs.Common.{ap, sym, ◌∙◌, arith};
     ghost use Rattle.std.proofs.lemmas.List.{length-take-le, take-append-drop};
@@ -49,7 +54,7 @@ impl Model for NamedAddress {
         λ t. record { bytes = whole t; len = same t } };
 }
 
-impl NamedAddress {
+impl AddressText {
     // The address with this text, which fits.
     fn new(text: &str) -> Self
         requires { length text.now ≤ MOST_TEXT }
@@ -57,7 +62,7 @@ impl NamedAddress {
     {
         let mut bytes = [0; MOST_TEXT];
         put(&mut bytes, text.as_bytes());
-        NamedAddress {
+        AddressText {
             bytes,
             len: text.len(),
         }
@@ -81,7 +86,7 @@ impl From<SocketAddrV4> for Address {
 }
 
 impl Address {
-    /// The address that this text says: `A.B.C.D:P`, `[A:B::C]:P` or `NAME:P`. `None` for any other text.
+    /// The address that this text says: `A.B.C.D:P`, `[A:B::C]:P`, `NAME:P` or `file:/PATH`. `None` for any other text.
     pub fn of_text(text: &str) -> Option<Address>
         ensures read { IfSome result (IsAddress text.now) }
         ensures taken { (address : Address) → IsAddress text.now address → result ≡ Some address }
@@ -93,19 +98,26 @@ impl Address {
                 None
             },
             Ok(SocketAddr::V6(address)) => Some(Address::Numeric(SocketAddr::V6(address))),
-            Err(_) => named(text),
+            Err(_) => other(text),
         }
     }
 
-    /// Connects to it. Each address of a name is tried in turn; the error is that of the last, or of the look-up.
-    pub fn connect<N: Net<Stream = TcpStream>>(&self, net: &N) -> io::Result<TcpStream> {
+    /// Connects to it, or opens its file. Each address of a name is tried in turn; the error is that of the last, or of the look-up.
+    pub fn connect<N: Printers>(&self, net: &N) -> io::Result<PrinterLink> {
         match self {
-            Address::Numeric(address) => TcpStream::connect(net, *address),
-            Address::Named(name) => TcpStream::connect(net, name.text()?),
+            Address::Numeric(address) => {
+                PrinterLink::over_tcp(TcpStream::connect(net, *address)?)
+            }
+            Address::Named(name) => {
+                PrinterLink::over_tcp(TcpStream::connect(net, name.text()?)?)
+            }
+            Address::Device(file) => {
+                Ok(PrinterLink::by_device(net.open_device(path_of(file.text()?), None)?))
+            }
         }
     }
 
-    /// Listens at it.
+    /// Listens at it. Nothing can be listened for at a device file: `Unsupported`.
     pub fn listen<N: Net<Stream = TcpStream, Listener = TcpListener>>(
         &self,
         net: &N,
@@ -113,8 +125,48 @@ impl Address {
         match self {
             Address::Numeric(address) => TcpListener::bind(net, *address),
             Address::Named(name) => TcpListener::bind(net, name.text()?),
+            Address::Device(_) => Err(io::Error::from(io::ErrorKind::Unsupported)),
         }
     }
+}
+
+// The address that a text says which isn't an IP address and a port.
+fn other(text: &str) -> Option<Address>
+    ensures read { IfSome result (λ address. ((number : SocketAddr) → ¬ IsSocketText text.now number) → IsAddress text.now address) }
+    ensures taken { (address : Address) → ((number : SocketAddr) → ¬ IsSocketText text.now number) → IsAddress text.now address → result ≡ Some address }
+{
+    if is_device_text(text.as_bytes()) {
+        device(text)
+    } else {
+        named(text)
+    }
+}
+
+// The address of a device file with this text, if it isn't too long.
+fn device(text: &str) -> Option<Address>
+    ensures read { IfSome result (λ address. (length text.now ≤ MOST_TEXT) × (Address.Device text.now ≡ address)) }
+    ensures taken { length text.now ≤ MOST_TEXT → result ≡ Some (Address.Device text.now) }
+{
+    if text.len() <= MOST_TEXT {
+        Some(Address::Device(AddressText::new(text)))
+    } else {
+        None
+    }
+}
+
+// What follows the first colon of a device file's text.
+fn path_of(text: &str) -> &str {
+    match text.split_once(':') {
+        Some((_, path)) => path,
+        None => text,
+    }
+}
+
+// Whether a text is that of a device file.
+fn is_device_text(text: &[u8]) -> bool
+    ensures { result ≡ is_device_text text.now }
+{
+    text.starts_with(b"file:/")
 }
 
 // The address of a host's name and a port, if this is one.
@@ -125,7 +177,7 @@ fn named(text: &str) -> Option<Address>
         → result ≡ Some (Address.Named text.now) }
 {
     if text.len() <= MOST_TEXT && has_name(text) && has_port(text) {
-        Some(Address::Named(NamedAddress::new(text)))
+        Some(Address::Named(AddressText::new(text)))
     } else {
         None
     }

@@ -1,8 +1,8 @@
 //! What the program does, over any source, sink and network: a job for each task. escpos_arguments reads the command line.
 //!
-//! `task` has what may be asked for, `address` where a printer is reached, and `perform` does it; `usage` has the texts of usage and help. `check`, `render`,
+//! `task` has what may be asked for, `address` where a printer is reached, `printer_link` and `device_file` the links to it, and `perform` does what is asked; `usage` has the texts of usage and help. `check`, `render`,
 //! `encode`, `image` and `play` are the jobs over any source and sink, and `emulate`, `send`, `printer_status` and `loop_link` those
-//! over TCP; over the network of `wait` no wait lasts longer than a given time. `job` has what `check` and `render` share,
+//! over a link; over the network of `wait` no wait lasts longer than a given time. `job` has what `check` and `render` share,
 //! `script` reads the lines of a script and `script_output` has those that `play` prints, `lines` has the lines of a listing,
 //! `notes` the note on a wrong check digit, `item_form` the two texts of an item on paper, and `paper_text` keeps the paper of `emulate`. `input`, `hexadecimal` and
 //! `receipt_input` read the input, `byte_form` has the two forms in which `encode` writes, `refusal` has the line that refuses
@@ -13,6 +13,7 @@
 pub mod address;
 mod byte_form;
 pub mod check;
+pub mod device_file;
 pub mod draw;
 pub mod emulate;
 pub mod encode;
@@ -29,6 +30,7 @@ mod notes;
 pub mod paper_text;
 pub mod perform;
 pub mod play;
+pub mod printer_link;
 pub mod printer_status;
 pub mod receipt_input;
 mod refusal;

@@ -24,6 +24,7 @@ use crate::ending::{MEMORY, say};
 use crate::image::image;
 use crate::loop_link::loop_receipt;
 use crate::play::play;
+use crate::printer_link::Printers;
 use crate::printer_status::show_status;
 use crate::render::{render, render_raw, render_text, render_text_raw};
 use crate::send::{Marks, send_to};
@@ -35,14 +36,14 @@ use escpos_command::LineWidth;
 use escpos_io::{ByteIn, ByteOut};
 use escpos_receipt::ReceiptOptions;
 use std::alloc::Global;
-use std::net::{Net, TcpListener, TcpStream};
+use std::net::{Net, TcpListener};
 
 /// Does what was asked for, and returns how it went.
 ///
 /// A task is its job, or its link over `net`. If there is no task, `output` gets the help and the status is `Good`, or the
 /// usage and the status is `Usage`, or the line `memory` and the status is `Memory`; `input` isn't read. `Device` comes
 /// only where `input`, `output` or a link has failed.
-pub fn perform<N: Net<Stream = TcpStream, Listener = TcpListener>, R: ByteIn, W: ByteOut>(
+pub fn perform<N: Printers + Net<Listener = TcpListener>, R: ByteIn, W: ByteOut>(
     net: &N,
     alloc: Global,
     asked: Result<Task, NoTask>,

@@ -13,6 +13,7 @@ ghost use Rattle.escpos_jobs.specs.Send.{DevicesSay, devices, passed};
 
 use crate::address::Address;
 use crate::ending::say;
+use crate::printer_link::{PrinterLink, Printers};
 use crate::send::NO_LINK;
 use crate::status::Status;
 use escpos_command::{Answer, LF};
@@ -20,7 +21,6 @@ use escpos_host::{AnswerReader, NoAnswer, SendFault};
 use escpos_io::{
     ByteIn, ByteOut, Failed, GATHERED_BYTES, Gather, Incoming, Outgoing, laws, put_all,
 };
-use std::net::{Net, TcpStream};
 
 /// The most bytes that are read up to a status byte.
 const STATUS_LIMIT: u32 = 16_384;
@@ -45,30 +45,25 @@ pub struct PrinterStatus {
 
 /// Connects to the printer at `address`, and prints what it says of itself as `status_over` does. If there is no connection,
 /// the line is `no link` and the status `Device`.
-pub fn show_status<N: Net<Stream = TcpStream>, W: ByteOut>(
-    net: &N,
-    address: Address,
-    output: &mut W,
-) -> Status
+pub fn show_status<N: Printers, W: ByteOut>(net: &N, address: Address, output: &mut W) -> Status
     ensures never_usage { result ≢ Status.Usage }
     ensures not_hidden { result ≢ Status.Device → ¬ IsTrue (W.failed output.old) → ¬ IsTrue (W.failed output.new) }
 {
     match address.connect(net) {
-        Ok(stream) => status_on(&stream, output),
+        Ok(link) => status_on(link, output),
         Err(_) => say(NO_LINK, output, Status::Device),
     }
 }
 
-// The same over a stream.
-fn status_on<W: ByteOut>(stream: &TcpStream, output: &mut W) -> Status
+// The same over a link.
+fn status_on<W: ByteOut>(link: PrinterLink, output: &mut W) -> Status
     ensures never_usage { result ≢ Status.Usage }
     ensures not_hidden { result ≢ Status.Device → ¬ IsTrue (W.failed output.old) → ¬ IsTrue (W.failed output.new) }
 {
-    // the requests go out at once; a stream that can't do so is used as it is
-    let _ = stream.set_nodelay(true);
+    let PrinterLink { reader, writer } = link;
     status_over(
-        &mut Incoming::new(stream),
-        &mut Outgoing::new(stream),
+        &mut Incoming::new(reader),
+        &mut Outgoing::new(writer),
         output,
     )
 }

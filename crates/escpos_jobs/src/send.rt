@@ -1,6 +1,6 @@
-//! The job `send`: a receipt goes to a printer over TCP, and the result is printed.
+//! The job `send`: a receipt goes to a printer, and the result is printed.
 //!
-//! Sending is left to `send_link`, over any source and sink; here it is given a socket, and its result is printed.
+//! Sending is left to `send_link`, over any source and sink; here it is given a link, and its result is printed.
 
 ghost use Rattle.std.specs.Prelude.{◌≡◌, ◌≢◌, ◌+◌, ◌≤◌, ◌++◌, [], length, max, IsTrue};
 ghost use Rattle.escpos_host.specs.Machine.{Down};
@@ -10,6 +10,7 @@ ghost use Rattle.escpos_jobs.specs.Send.{SendsAndTells, devices, not_recorded_li
 
 use crate::address::Address;
 use crate::ending::{MEMORY, say};
+use crate::printer_link::{PrinterLink, Printers};
 use crate::receipt_input::{read_receipt, refuse_input};
 use crate::status::Status;
 use escpos_command::LF;
@@ -17,7 +18,6 @@ use escpos_host::{Host, HostError, Receipt, SendFault, Sent, send_link};
 use escpos_io::{ByteIn, ByteOut, GATHERED_BYTES, Gather, Incoming, Outgoing, append_number, laws};
 use escpos_receipt::ReceiptOptions;
 use std::alloc::Global;
-use std::net::{Net, TcpStream};
 
 /// The most bytes of answers that are read.
 pub const ANSWERS_LIMIT: u32 = 65_536;
@@ -34,7 +34,7 @@ const _: () = prove!(TEXT_BYTES == 128);
 ///
 /// If there is no receipt, nothing is connected, and the line that says why is printed, as for `encode`. If there is no
 /// connection, the line is `no link` and the status `Device`.
-pub fn send_to<N: Net<Stream = TcpStream>, R: ByteIn, W: ByteOut>(
+pub fn send_to<N: Printers, R: ByteIn, W: ByteOut>(
     net: &N,
     alloc: Global,
     address: Address,
@@ -54,7 +54,7 @@ pub fn send_to<N: Net<Stream = TcpStream>, R: ByteIn, W: ByteOut>(
         Err(fault) => return refuse_input(fault, output),
     };
     match address.connect(net) {
-        Ok(stream) => send_on(alloc, &stream, marks.first, marks.openings, receipt, output),
+        Ok(link) => send_on(alloc, link, marks, receipt, output),
         Err(_) => say(NO_LINK, output, Status::Device),
     }
 }
@@ -62,25 +62,27 @@ pub fn send_to<N: Net<Stream = TcpStream>, R: ByteIn, W: ByteOut>(
 /// What is printed if there is no connection.
 pub const NO_LINK: &[u8] = b"no link\n";
 
-/// Sends a receipt over a stream, with `openings` opening marks from the number `first` on, and prints the result and the
-/// next mark's number, as `send_over` does. A wait for the printer lasts as long as the stream.
+/// Sends a receipt over a link, and prints the result and the next mark's number, as `send_over` does. A wait for the printer lasts as
+/// long as the link allows.
 pub fn send_on<W: ByteOut>(
     alloc: Global,
-    stream: &TcpStream,
-    first: u32,
-    openings: u32,
+    link: PrinterLink,
+    marks: Marks,
     receipt: Receipt,
     output: &mut W,
 ) -> Status
     ensures never_usage { result ≢ Status.Usage }
     ensures not_hidden { result ≢ Status.Device → ¬ IsTrue (W.failed output.old) → ¬ IsTrue (W.failed output.new) }
 {
-    // the marks and the receipt go out at once; a stream that can't do so is used as it is
-    let _ = stream.set_nodelay(true);
-    let mut reader = Incoming::new(stream);
-    let mut writer = Outgoing::new(stream);
-    let marks = Marks { first, openings };
-    send_over(alloc, marks, receipt, &mut reader, &mut writer, output)
+    let PrinterLink { reader, writer } = link;
+    send_over(
+        alloc,
+        marks,
+        receipt,
+        &mut Incoming::new(reader),
+        &mut Outgoing::new(writer),
+        output,
+    )
 }
 
 /// The numbers of the marks of a receipt.

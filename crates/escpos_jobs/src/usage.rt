@@ -417,6 +417,9 @@ line `memory` says that the program ran out of memory.
       isn't a receipt is refused as by `encode`, and nothing is connected.
       --width and --replace are those of `encode`.
 
+      ADDRESS is as for `emulate`, or a device file that is read and written:
+      `file:` and its whole path, as in file:/dev/usb/lp0.
+
       With --wait the connection is made within S seconds, 1 to 3600, or there
       is none, and a wait of S seconds for a byte, or to put one, gives
       TimedOut. Otherwise a wait lasts as long as the link.
@@ -435,8 +438,8 @@ line `memory` says that the program ran out of memory.
       Asks the printer at ADDRESS what its sensors see. It prints `online` or
       `offline`; `cover closed` or `cover open`; and `paper there`, `paper near
       its end` or `paper ended`. No mark is used. If the printer doesn't say,
-      the one line is `no link`, or `no status WHY`, as for `send`; --wait is
-      that of `send`.
+      the one line is `no link`, or `no status WHY`, as for `send`; ADDRESS and
+      --wait are those of `send`.
 
           $ escpos_cli status 127.0.0.1:9100 --wait 5
           online
@@ -477,8 +480,8 @@ line `memory` says that the program ran out of memory.
       and prints `queued N`: its number, from 1. From then on it is kept,
       whatever is switched off, and --width and --replace, which are those of
       `encode`, with it. A file that isn't there is made. A printer has one
-      ledger, and a ledger one printer. A ledger that can't be used is told as
-      by `ledger`.
+      ledger, and a ledger one printer. If it can't be used, the line is that
+      of `ledger`.
 
           $ echo '[{\"line\":\"Hi\"}]' | escpos_cli queue shop.ledger
           queued 1
@@ -489,8 +492,8 @@ line `memory` says that the program ran out of memory.
       keeps the mark numbers. `recorded N` says that receipt N is on paper, and
       that the ledger has it so. The first that isn't recorded gives `waiting N
       WHY`, where WHY is `no link` or that of `send`, and ends it. If none
-      waits, nothing is printed. --wait is that of `send`. A ledger that can't
-      be used is told as by `ledger`.
+      waits, nothing is printed. ADDRESS and --wait are those of `send`. If the
+      ledger can't be used, the line is that of `ledger`.
 
       A receipt that was sent before may be on paper already. It is printed
       again as it is; or, with --copy, after a line with TEXT, 1 to 42

@@ -1,11 +1,13 @@
-//! Waits that end: a network over which no wait for a printer lasts longer than a time that was given.
+//! Waits that end: no wait for a printer lasts longer than a time that was given.
 
+use crate::device_file::DeviceFile;
+use crate::printer_link::Printers;
 use std::io;
 use std::net::{Net, SocketAddr, TcpStream};
 use std::time::Duration;
 
-/// A network whose connections are made within a time, and over whose streams no read waits longer than that for a byte, and no
-/// write to put one. A stream that can't be told so isn't connected, and a time of 0 makes no connection.
+/// A network whose connections are made within a time, and over whose links no read waits longer than that for a byte, and no
+/// write to put one. A stream that can't be told so isn't connected, and a time of 0 makes no link.
 #[derive(Drop)]
 pub struct Within<'n, N: Net> {
     net: &'n N,
@@ -41,5 +43,14 @@ impl<N: Net<Stream = TcpStream>> Net for Within<'_, N> {
     // How long a look-up may take is the system's own.
     fn lookup_host(&self, host: &str, port: u16, found: &mut [SocketAddr]) -> io::Result<usize> {
         self.net.lookup_host(host, port, found)
+    }
+}
+
+impl<N: Printers> Printers for Within<'_, N> {
+    fn open_device(&self, path: &str, _limit: Option<Duration>) -> io::Result<DeviceFile> {
+        if self.time.is_zero() {
+            return Err(io::Error::from(io::ErrorKind::InvalidInput));
+        }
+        self.net.open_device(path, Some(self.time))
     }
 }

@@ -81,11 +81,21 @@ left_kept below event.HostDrops l after sound i same = subst IsLine (sym same) i
 left_kept below (event.HostRestart f) l after sound i same = subst IsLine (sym same) i
 left_kept below (event.SetCondition condition) l after sound i same = subst IsLine (sym same) i
 
+-- It holds if the host goes on with fewer records.
+pub resumed_kept : (l : LineView) (f count : ℕ) → IsLine l → IsLine (resumed l f count)
+resumed_kept l f count i = off_link_kept l (resumed_host l.host f count) i refl refl
+
+-- The law of every line.
+pub record EveryLine : Type 0 where
+  pub kept : (e : Event) (l after : LineView) (n : Note) → IsSound l.host → IsLine l → After e l n after → IsLine after
+  pub leaves : (e : Event) (l after : LineView) → IsSound l.host → IsLine l → Leaves e l after → IsLine after
+  pub resumes : (l : LineView) (f count : ℕ) → IsLine l → IsLine (resumed l f count)
+
 -- So it holds whatever became of the event.
-pub whatever_kept : Below → (e : Event) (l after : LineView) (r : Result Note Refused) → IsSound l.host → IsLine l → IfOk r (λ n. After e l n after)
+pub whatever_kept : EveryLine → (e : Event) (l after : LineView) (r : Result Note Refused) → IsSound l.host → IsLine l → IfOk r (λ n. After e l n after)
     → IfErr r (λ refused. IsRefused e l refused after) → IsLine after
-whatever_kept below e l after (Ok n) sound i happened refused = kept below e l after n sound i happened
-whatever_kept below e l after (Err why) sound i happened refused = left_kept below e l after sound i refused.line
+whatever_kept law e l after (Ok n) sound i happened refused = law.kept e l after n sound i happened
+whatever_kept law e l after (Err why) sound i happened refused = law.leaves e l after sound i refused.line
 
 pub whatever_trusted : Trusting → (e : Event) (l after : LineView) (r : Result Note Refused) → IsFitting e → IsSound l.host → IsLine l
     → IfOk r (λ n. After e l n after) → IfErr r (λ refused. IsRefused e l refused after) → IsTrusted l → StillTrusted l after
@@ -100,10 +110,10 @@ happens law e l after (Err why) i t happened = tt
 
 -- ## The host goes on with fewer records
 
-pub resume_kept : (l after : LineView) (f count : ℕ) (r : Result (Unit {0}) Refused) → IsLine l → OnOk r ((l.host.next ≤ f) × (after ≡ resumed l f count))
+pub resume_kept : EveryLine → (l after : LineView) (f count : ℕ) (r : Result (Unit {0}) Refused) → IsLine l → OnOk r ((l.host.next ≤ f) × (after ≡ resumed l f count))
     → IfErr r (λ refused. RefusesResume l f refused after) → IsLine after
-resume_kept l after f count (Ok done) i on_ok refused = subst IsLine (sym on_ok.1) (off_link_kept l (resumed_host l.host f count) i refl refl)
-resume_kept l after f count (Err why) i on_ok refused = subst IsLine (sym refused.same) i
+resume_kept law l after f count (Ok done) i on_ok refused = subst IsLine (sym on_ok.1) (law.resumes l f count i)
+resume_kept law l after f count (Err why) i on_ok refused = subst IsLine (sym refused.same) i
 
 pub resume_trusted : Trusting → (l after : LineView) (f count : ℕ) (r : Result (Unit {0}) Refused) → OnOk r ((l.host.next ≤ f) × (after ≡ resumed l f count))
     → IfErr r (λ refused. RefusesResume l f refused after) → IsTrusted l → StillTrusted l after

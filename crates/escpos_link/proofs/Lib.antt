@@ -17,3 +17,4 @@ pub mod AfterPutting
 pub mod Feeding
 pub mod AfterAnswers
 pub mod Trusting
+pub mod AtTheEnd

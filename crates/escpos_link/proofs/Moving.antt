@@ -1,5 +1,5 @@
 -- Bytes that move, some and then more; and bytes of the first link that are fed.
-use Rattle.std.proofs.Common.{◌≡◌, ◌≢◌, ◌⊎◌, ◌<◌, ◌≤◌, ◌+◌, ◌-◌, inl, inr, ℕ, zero, suc, List, [], ◌∷◌, ◌++◌, length, take, drop, min, Option, Some, None, refl, sym, ◌∙◌, ap, subst, append_assoc, length-append, length-take, length-drop, arith, IsTrue, ◌==◌, Bool, true, false, not}
+use Rattle.std.proofs.Common.{◌≡◌, ◌≢◌, ◌⊎◌, ◌<◌, ◌≤◌, ◌+◌, ◌-◌, inl, inr, ℕ, zero, suc, List, [], ◌∷◌, ◌++◌, length, take, drop, min, Option, Some, None, refl, sym, ◌∙◌, ap, subst, append_assoc, length-append, length-take, length-drop, arith, IsTrue, ◌==◌}
 use Rattle.std.specs.Prelude.{slice_index_or, slice_set, IfSome}
 use Rattle.std.proofs.lemmas.List.{drop-drop, drop_all}
 use Rattle.std.proofs.lemmas.Bool.Decides.{nat_tests}
@@ -12,16 +12,16 @@ use Rattle.escpos_printer.specs.Feeds.{Feeds, IsLeft, PrinterView, Took}
 use Rattle.escpos_host.specs.declared.host.HostEvent.{HostEvent}
 use Rattle.escpos_host.specs.declared.host.HostEvent.TheVariants as event
 use Rattle.escpos_host.specs.Heard.{EndsLink, HearsAll, last_of}
-use Rattle.escpos_host.specs.Machine.{HostView, Down, Open, taken_out}
+use Rattle.escpos_host.specs.Machine.{HostView, taken_out}
 use Rattle.escpos_link.specs.declared.event.Event.TheVariants as happening
 use Rattle.escpos_link.specs.declared.event.Handed.TheVariants as handed
 use Rattle.escpos_link.specs.declared.event.Note.TheVariants as note
 use Rattle.escpos_link.specs.declared.event.Refusal.TheVariants as refusal
 use Rattle.escpos_link.specs.declared.event.Refused.{Refused}
-use Rattle.escpos_link.specs.EventTable.{After, HandsOver, IsRefused, Leaves, answers_left, delivered, ended_fed, first_of, live_fed, moved, off_link, put_on, told_at, with_host, with_printer}
+use Rattle.escpos_link.specs.EventTable.{After, HandsOver, IsRefused, Leaves, answers_left, ended_fed, first_of, live_fed, moved, off_link, put_on, told_at, with_host, with_printer}
 use Rattle.escpos_link.specs.MoveSteps.{HasMoved}
 use Rattle.escpos_link.specs.Line.{LineView}
-use Rattle.escpos_link.specs.Straight.{IsAtRest}
+use Rattle.escpos_link.specs.Wire.{AfterOnWire, WireView, fed_to, line_of, with_bytes}
 use Rattle.escpos_link.proofs.AfterHearing.{heard_line, heard_line_is, off_line_is}
 use Rattle.escpos_link.proofs.HeardInTurn.{told_ends}
 
@@ -63,44 +63,44 @@ live_ended : (ended : List (List ℕ)) (live : Option (List ℕ)) (k : ℕ) → 
 live_ended [] live k some = absurd (omega (arith, some))
 live_ended (b ∷ others) live k some = refl
 
--- What feeding bytes of the first link leaves of a line.
-abbrev pub FedFirst : LineView → ℕ → ℕ → FeedStop → LineView → Type 0
-FedFirst l most k why after = (printer : PrinterView) × Feeds l.printer (take most (first_of l.ended l.live)) k why printer × (after ≡ delivered l k printer)
+-- What feeding bytes of the first link leaves of a wire.
+abbrev pub FedFirst : WireView → ℕ → ℕ → FeedStop → WireView → Type 0
+FedFirst w most k why after = (printer : PrinterView) × Feeds w.printer (take most (first_of w.ended w.live)) k why printer × (after ≡ fed_to w k printer)
 
-pub fed_ended : (l : LineView) (printer : PrinterView) (bytes rest : List ℕ) (most k : ℕ) (why : FeedStop) → 0 < length l.ended → bytes ≡ slice_index_or l.ended 0 bytes
-    → rest ≡ drop k bytes → Feeds l.printer (take most bytes) k why printer
-    → FedFirst l most k why (record { host = l.host; printer = printer; ended = slice_set l.ended 0 rest; live = l.live; coming = l.coming })
-fed_ended l printer bytes rest most k why some is left feeds = (
+pub fed_ended : (w : WireView) (printer : PrinterView) (bytes rest : List ℕ) (most k : ℕ) (why : FeedStop) → 0 < length w.ended → bytes ≡ slice_index_or w.ended 0 bytes
+    → rest ≡ drop k bytes → Feeds w.printer (take most bytes) k why printer
+    → FedFirst w most k why (record { printer = printer; ended = slice_set w.ended 0 rest; live = w.live; coming = w.coming })
+fed_ended w printer bytes rest most k why some is left feeds = (
   printer,
-  subst (λ bs. Feeds l.printer (take most bs) k why printer) (sym (first_ended l.ended l.live bytes some is)) feeds,
-  ap (λ bs. record { host = l.host; printer = printer; ended = slice_set l.ended 0 bs; live = l.live; coming = l.coming }) left
-      ∙ ap (λ links. record { host = l.host; printer = printer; ended = links; live = l.live; coming = l.coming }) (rest_ended l.ended bytes k some is)
-      ∙ ap (λ on. record { host = l.host; printer = printer; ended = ended_fed l.ended k; live = on; coming = l.coming }) (sym (live_ended l.ended l.live k some)),
+  subst (λ bs. Feeds w.printer (take most bs) k why printer) (sym (first_ended w.ended w.live bytes some is)) feeds,
+  ap (λ bs. record { printer = printer; ended = slice_set w.ended 0 bs; live = w.live; coming = w.coming }) left
+      ∙ ap (λ links. record { printer = printer; ended = links; live = w.live; coming = w.coming }) (rest_ended w.ended bytes k some is)
+      ∙ ap (λ on. record { printer = printer; ended = ended_fed w.ended k; live = on; coming = w.coming }) (sym (live_ended w.ended w.live k some)),
 )
 
-pub fed_live : (l : LineView) (printer : PrinterView) (bytes rest : List ℕ) (most k : ℕ) (why : FeedStop) → l.ended ≡ [] → l.live ≡ Some bytes
-    → rest ≡ drop k bytes → Feeds l.printer (take most bytes) k why printer
-    → FedFirst l most k why (record { host = l.host; printer = printer; ended = l.ended; live = Some rest; coming = l.coming })
-fed_live l printer bytes rest most k why none is left feeds = (
+pub fed_live : (w : WireView) (printer : PrinterView) (bytes rest : List ℕ) (most k : ℕ) (why : FeedStop) → w.ended ≡ [] → w.live ≡ Some bytes
+    → rest ≡ drop k bytes → Feeds w.printer (take most bytes) k why printer
+    → FedFirst w most k why (record { printer = printer; ended = w.ended; live = Some rest; coming = w.coming })
+fed_live w printer bytes rest most k why none is left feeds = (
   printer,
-  subst (λ bs. Feeds l.printer (take most bs) k why printer) (sym (ap (λ links. first_of links l.live) none ∙ ap (first_of []) is)) feeds,
-  ap (λ links. record { host = l.host; printer = printer; ended = links; live = Some rest; coming = l.coming }) (none ∙ sym (ap (λ links. ended_fed links k) none))
-      ∙ ap (λ on. record { host = l.host; printer = printer; ended = ended_fed l.ended k; live = on; coming = l.coming })
-      (ap Some left ∙ sym (ap (λ links. live_fed links l.live k) none ∙ ap (λ on. live_fed [] on k) is)),
+  subst (λ bs. Feeds w.printer (take most bs) k why printer) (sym (ap (λ links. first_of links w.live) none ∙ ap (first_of []) is)) feeds,
+  ap (λ links. record { printer = printer; ended = links; live = Some rest; coming = w.coming }) (none ∙ sym (ap (λ links. ended_fed links k) none))
+      ∙ ap (λ on. record { printer = printer; ended = ended_fed w.ended k; live = on; coming = w.coming })
+      (ap Some left ∙ sym (ap (λ links. live_fed links w.live k) none ∙ ap (λ on. live_fed [] on k) is)),
 )
 
 take-nil : (n : ℕ) → take {A = ℕ} n [] ≡ []
 take-nil zero = refl
 take-nil (suc n) = refl
 
-pub fed_none : (l : LineView) (printer : PrinterView) (most k : ℕ) (why : FeedStop) → l.ended ≡ [] → l.live ≡ None → Feeds l.printer [] k why printer
-    → FedFirst l most k why (record { host = l.host; printer = printer; ended = l.ended; live = l.live; coming = l.coming })
-fed_none l printer most k why none no_live feeds = (
+pub fed_none : (w : WireView) (printer : PrinterView) (most k : ℕ) (why : FeedStop) → w.ended ≡ [] → w.live ≡ None → Feeds w.printer [] k why printer
+    → FedFirst w most k why (record { printer = printer; ended = w.ended; live = w.live; coming = w.coming })
+fed_none w printer most k why none no_live feeds = (
   printer,
-  subst (λ bs. Feeds l.printer bs k why printer) (sym (ap (λ links. take most (first_of links l.live)) none ∙ ap (λ on. take most (first_of [] on)) no_live ∙ take-nil most)) feeds,
-  ap (λ links. record { host = l.host; printer = printer; ended = links; live = l.live; coming = l.coming }) (none ∙ sym (ap (λ links. ended_fed links k) none))
-      ∙ ap (λ on. record { host = l.host; printer = printer; ended = ended_fed l.ended k; live = on; coming = l.coming })
-      (no_live ∙ sym (ap (λ links. live_fed links l.live k) none ∙ ap (λ on. live_fed [] on k) no_live)),
+  subst (λ bs. Feeds w.printer bs k why printer) (sym (ap (λ links. take most (first_of links w.live)) none ∙ ap (λ on. take most (first_of [] on)) no_live ∙ take-nil most)) feeds,
+  ap (λ links. record { printer = printer; ended = links; live = w.live; coming = w.coming }) (none ∙ sym (ap (λ links. ended_fed links k) none))
+      ∙ ap (λ on. record { printer = printer; ended = ended_fed w.ended k; live = on; coming = w.coming })
+      (no_live ∙ sym (ap (λ links. live_fed links w.live k) none ∙ ap (λ on. live_fed [] on k) no_live)),
 )
 
 pub empty_of : {X : Type 0} (xs : List X) → ((xs ≡ [] → ⊥) → ⊥) → xs ≡ []
@@ -139,16 +139,16 @@ cut_short p q bytes most k why memory f =
     within_piece (inl (all, count)) = let bad : stop.All ≡ stop.Memory = sym all ∙ memory in cc
     within_piece (inr (less, cause)) = less
 
-pub fewer_fed : (l after : LineView) (printer : PrinterView) (most k : ℕ) (why : FeedStop) → why ≡ stop.Memory → Feeds l.printer (take most (first_of l.ended l.live)) k why printer
-    → after ≡ delivered l k printer → Leaves (happening.Deliver most) l after
-fewer_fed l after printer most k why memory feeds same =
-    let short = cut_short l.printer printer (first_of l.ended l.live) most k why memory feeds in
+pub fewer_fed : (w after : WireView) (printer : PrinterView) (most k : ℕ) (why : FeedStop) → why ≡ stop.Memory → Feeds w.printer (take most (first_of w.ended w.live)) k why printer
+    → after ≡ fed_to w k printer → (host : HostView) → Leaves (happening.Deliver most) (line_of host w) (line_of host after)
+fewer_fed w after printer most k why memory feeds same host =
+    let short = cut_short w.printer printer (first_of w.ended w.live) most k why memory feeds in
     let fed : Fed = record { consumed = k; stop = stop.All } in (
       k,
       note.Fed fed,
       short.0,
-      (fed, printer, refl, short.1, (λ e. cc e), same),
-      (printer, subst (λ w. Feeds l.printer (take most (first_of l.ended l.live)) k w printer) memory feeds, same),
+      (fed, printer, refl, short.1, (λ e. cc e), ap (line_of host) same),
+      (printer, subst (λ v. Feeds w.printer (take most (first_of w.ended w.live)) k v printer) memory feeds, ap (line_of host) same),
     )
 
 -- Where memory ran out, there was a byte to be fed.
@@ -165,7 +165,7 @@ pub first_waiting : (xs : List Answer) → (length xs ≡ 0 → ⊥) → (a : An
 first_waiting [] some = absurd (some refl)
 first_waiting (a ∷ xs) some = (a, refl)
 
-pub lost : (l : LineView) (printer : PrinterView) → (length l.printer.waiting ≡ 0 → ⊥) → l.ended ≢ [] → printer ≡ answers_left l.printer (drop 1 l.printer.waiting)
+lost : (l : LineView) (printer : PrinterView) → (length l.printer.waiting ≡ 0 → ⊥) → l.ended ≢ [] → printer ≡ answers_left l.printer (drop 1 l.printer.waiting)
     → HandsOver l handed.Lost (with_printer l printer)
 lost l printer some links same = let first = first_waiting l.printer.waiting some in (first.0, drop 1 l.printer.waiting, first.1, links, ap (with_printer l) same)
 
@@ -187,31 +187,36 @@ pub after_bad_answer : (l after : LineView) (k consumed at : ℕ) (told : HostEv
 after_bad_answer l after k consumed at told host events hears is_told bad same =
     (events, consumed, host, ap (note.Heard consumed) is_told, hears, same ∙ sym (off_line_is (last_of events) l consumed host (told_ends (last_of events) consumed at (sym bad ∙ is_told))))
 
--- ## The same for a line whose model another line gives
+-- ## The same for a wire whose model another wire gives
 
 -- Its own view, and what is left of it, are given by what it keeps.
-pub fed_ended_seen : (m l after : LineView) (printer : PrinterView) (bytes rest : List ℕ) (most k : ℕ) (why : FeedStop) → m ≡ l
-    → after ≡ record { host = m.host; printer = printer; ended = slice_set m.ended 0 rest; live = m.live; coming = m.coming } → 0 < length m.ended
-    → bytes ≡ slice_index_or m.ended 0 bytes → rest ≡ drop k bytes → Feeds m.printer (take most bytes) k why printer → FedFirst l most k why after
-fed_ended_seen m l after printer bytes rest most k why seen same some is left feeds =
+pub fed_ended_seen : (m w after : WireView) (printer : PrinterView) (bytes rest : List ℕ) (most k : ℕ) (why : FeedStop) → m ≡ w
+    → after ≡ record { printer = printer; ended = slice_set m.ended 0 rest; live = m.live; coming = m.coming } → 0 < length m.ended
+    → bytes ≡ slice_index_or m.ended 0 bytes → rest ≡ drop k bytes → Feeds m.printer (take most bytes) k why printer → FedFirst w most k why after
+fed_ended_seen m w after printer bytes rest most k why seen same some is left feeds =
     subst (λ v. FedFirst v most k why after) seen (subst (FedFirst m most k why) (sym same) (fed_ended m printer bytes rest most k why some is left feeds))
 
-pub fed_live_seen : (m l after : LineView) (printer : PrinterView) (bytes rest : List ℕ) (most k : ℕ) (why : FeedStop) → m ≡ l
-    → after ≡ record { host = m.host; printer = printer; ended = m.ended; live = Some rest; coming = m.coming } → m.ended ≡ [] → m.live ≡ Some bytes
-    → rest ≡ drop k bytes → Feeds m.printer (take most bytes) k why printer → FedFirst l most k why after
-fed_live_seen m l after printer bytes rest most k why seen same none is left feeds =
+pub fed_live_seen : (m w after : WireView) (printer : PrinterView) (bytes rest : List ℕ) (most k : ℕ) (why : FeedStop) → m ≡ w
+    → after ≡ record { printer = printer; ended = m.ended; live = Some rest; coming = m.coming } → m.ended ≡ [] → m.live ≡ Some bytes
+    → rest ≡ drop k bytes → Feeds m.printer (take most bytes) k why printer → FedFirst w most k why after
+fed_live_seen m w after printer bytes rest most k why seen same none is left feeds =
     subst (λ v. FedFirst v most k why after) seen (subst (FedFirst m most k why) (sym same) (fed_live m printer bytes rest most k why none is left feeds))
 
-pub fed_none_seen : (m l after : LineView) (printer : PrinterView) (most k : ℕ) (why : FeedStop) → m ≡ l
-    → after ≡ record { host = m.host; printer = printer; ended = m.ended; live = m.live; coming = m.coming } → m.ended ≡ [] → m.live ≡ None
-    → Feeds m.printer [] k why printer → FedFirst l most k why after
-fed_none_seen m l after printer most k why seen same none no_live feeds =
+pub fed_none_seen : (m w after : WireView) (printer : PrinterView) (most k : ℕ) (why : FeedStop) → m ≡ w
+    → after ≡ record { printer = printer; ended = m.ended; live = m.live; coming = m.coming } → m.ended ≡ [] → m.live ≡ None
+    → Feeds m.printer [] k why printer → FedFirst w most k why after
+fed_none_seen m w after printer most k why seen same none no_live feeds =
     subst (λ v. FedFirst v most k why after) seen (subst (FedFirst m most k why) (sym same) (fed_none m printer most k why none no_live feeds))
 
-pub lost_seen : (m l after : LineView) (printer : PrinterView) → m ≡ l → after ≡ with_printer m printer → (length m.printer.waiting ≡ 0 → ⊥) → m.ended ≢ []
-    → printer ≡ answers_left m.printer (drop 1 m.printer.waiting) → HandsOver l handed.Lost after
-lost_seen m l after printer seen same some links left =
-    subst (λ v. HandsOver v handed.Lost after) seen (subst (HandsOver m handed.Lost) (sym same) (lost m printer some links left))
+pub lost_seen : (m w after : WireView) (printer : PrinterView) → m ≡ w → after ≡ record { printer = printer; ended = m.ended; live = m.live; coming = m.coming }
+    → (length m.printer.waiting ≡ 0 → ⊥) → m.ended ≢ [] → printer ≡ answers_left m.printer (drop 1 m.printer.waiting)
+    → AfterOnWire happening.HandOver w (note.Handed handed.Lost) after
+lost_seen m w after printer seen same some links left host = (
+  handed.Lost,
+  refl,
+  subst (λ v. HandsOver (line_of host v) handed.Lost (line_of host after)) seen
+      (subst (HandsOver (line_of host m) handed.Lost) (sym (ap (line_of host) same)) (lost (line_of host m) printer some links left)),
+)
 
 pub heard_seen : (m l after : LineView) (k consumed : ℕ) (told : HostEvent) (host : HostView) (events : List HostEvent) → m ≡ l → HearsAll m.host (take k m.coming) events consumed host
     → told ≡ told_at (last_of events) consumed → ((at : ℕ) → told ≡ event.BadAnswer at → ⊥) → after ≡ heard_line m host (drop consumed m.coming)
@@ -219,15 +224,14 @@ pub heard_seen : (m l after : LineView) (k consumed : ℕ) (told : HostEvent) (h
 heard_seen m l after k consumed told host events seen hears is_told other same =
     subst (λ v. After (happening.Answer k) v (note.Heard consumed told) after) seen (after_hearing m after k consumed told host events hears is_told other same)
 
-pub refused_seen : (m l after : LineView) (most fewer : ℕ) (refused : Refused) (host : HostView) (live : Option (List ℕ)) → m ≡ l
-    → refused ≡ record { why = refusal.Memory; receipt = None } → after ≡ record { host = host; printer = m.printer; ended = m.ended; live = live; coming = m.coming }
-    → fewer < most → fewer < length m.host.out → m.live ≢ None → HasMoved m.host m.live fewer host live → IsRefused (happening.Move most) l refused after
-refused_seen m l after most fewer refused host live seen why same less within some has_moved =
+pub refused_seen : (h host : HostView) (w later : WireView) (l after : LineView) (most fewer : ℕ) (refused : Refused) → line_of h w ≡ l
+    → refused ≡ record { why = refusal.Memory; receipt = None } → after ≡ line_of host later → fewer < most → fewer < length h.out → w.live ≢ None
+    → host ≡ taken_out h fewer → later ≡ with_bytes w (take fewer h.out) → IsRefused (happening.Move most) l refused after
+refused_seen h host w later l after most fewer refused seen why same less within some host_is later_is =
     subst (λ r. IsRefused (happening.Move most) l r after) (sym why)
     (subst (λ v. IsRefused (happening.Move most) v (record { why = refusal.Memory; receipt = None }) after) seen (record {
       reason = (refl, some);
-      line = fewer_moved m after most fewer less within (same ∙ ap (λ h. record { host = h; printer = m.printer; ended = m.ended; live = live; coming = m.coming }) has_moved.0
-          ∙ ap (λ on. record { host = taken_out m.host fewer; printer = m.printer; ended = m.ended; live = on; coming = m.coming }) has_moved.1);
+      line = fewer_moved (line_of h w) after most fewer less within (same ∙ ap (λ v. line_of v later) host_is ∙ ap (line_of (taken_out h fewer)) later_is);
       receipt = refl;
     }))
 
@@ -252,24 +256,3 @@ pub short_out : (live : Option (List ℕ)) (out : List ℕ) (count most : ℕ) �
     → IfSome (put_on live (take count out)) (λ bytes. length bytes < most) → length out ≤ most
 short_out None out count most is_count some short = absurd (some refl)
 short_out (Some bytes) out count most is_count some short = omega (arith, is_count, short, length-append bytes (take count out), length-take count out)
-
--- Whether a line whose host is ready on an empty link is at rest.
-pub rest_if : (l : LineView) (bytes : List ℕ) (has_out : Bool) → l.ended ≡ [] → l.live ≡ Some bytes → bytes ≡ [] → l.host.phase ≡ Open [] → (IsTrue has_out → l.host.out ≢ [])
-    → (l.host.out ≢ [] → IsTrue has_out) → (IsTrue (not has_out) → IsAtRest l) × (IsAtRest l → IsTrue (not has_out))
-rest_if l bytes true none live empty phase some out = (λ bad. absurd cc, λ rest. absurd (some refl (nothing_out rest.1)))
-  where
-    nothing_out : ((l.host.phase ≡ Down) × (l.live ≡ None)) ⊎ ((l.host.phase ≡ Open []) × (l.live ≡ Some []) × (l.host.out ≡ [])) → l.host.out ≡ []
-    nothing_out (inl (is_down, no_live)) = let bad : Open [] ≡ Down = sym phase ∙ is_down in cc
-    nothing_out (inr (ready, on, nothing)) = nothing
-rest_if l bytes false none live empty phase some out =
-    (λ is. (none, inr (phase, live ∙ ap Some empty, empty_of l.host.out (λ h. let bad : false ≡ true = out h in cc))), λ rest. refl)
-
-pub rest_seen : (m l : LineView) (bytes : List ℕ) (has_out : Bool) → m ≡ l → m.ended ≡ [] → m.live ≡ Some bytes → bytes ≡ [] → m.host.phase ≡ Open []
-    → (IsTrue has_out → m.host.out ≢ []) → (m.host.out ≢ [] → IsTrue has_out) → (IsTrue (not has_out) → IsAtRest l) × (IsAtRest l → IsTrue (not has_out))
-rest_seen m l bytes has_out seen none live empty phase some out =
-    let r = rest_if m bytes has_out none live empty phase some out in
-    (λ is. subst IsAtRest seen (r.0 is), λ rest. r.1 (subst IsAtRest (sym seen) rest))
-
-pub empty_queue : (links : List (List ℕ)) (count : ℕ) → count ≡ length links → (count == 0) ≡ true → links ≡ []
-empty_queue [] count same none = refl
-empty_queue (x ∷ links) count same none = let bad : count ≡ 0 = grind (arith, nat_tests) in absurd (omega (arith, same, bad))

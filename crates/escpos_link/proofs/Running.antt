@@ -160,12 +160,6 @@ is_down (Opening first) e = cc e
 is_down (Open []) e = cc e
 is_down (Open (q ∷ qs)) e = cc e
 
-pub is_ready : (p : Phase) → state_of p ≡ state.Ready → p ≡ Open []
-is_ready Down e = cc e
-is_ready (Opening first) e = cc e
-is_ready (Open []) e = refl
-is_ready (Open (q ∷ qs)) e = cc e
-
 -- ## Stops on the straight way
 
 pub stopped_opening : (l after : LineView) (receipt : List Command) → StopsIn (opening l.host.phase) l after → StoppedStraight l receipt (Some receipt) after

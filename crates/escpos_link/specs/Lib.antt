@@ -1,6 +1,7 @@
 pub mod Refusals
 pub mod Line
 pub mod EventTable
+pub mod Wire
 pub mod Steps
 pub mod Straight
 pub mod Resumed

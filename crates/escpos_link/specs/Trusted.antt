@@ -14,8 +14,10 @@
 --   Serving  | the only    | its own marks, in the order in which it put them
 --
 -- No event of the host takes it from Unopened to Serving: the line is Serving once the printer has run one of the host's
--- opening marks. Only then is there an answer to one, and only that lets the host put a receipt. Only private clauses,
--- invariants and proofs use these definitions.
+-- opening marks. Only then is there an answer to one, and only that lets the host put a receipt.
+--
+-- `Trusting`, at the end, is the law of the line: the contract of the function `trust`. It is for whoever takes a line from
+-- event to event; what a line's owner wants to know is `Stands`, which the law gives him.
 use Rattle.std.specs.Prelude.{ℕ, ◌≡◌, ◌≢◌, ◌<◌, ◌≤◌, ◌+◌, ◌⊎◌, List, [], ◌∷◌, ◌++◌, map, Option, Some, None}
 use Rattle.std.specs.List.{flat_map, AllByRecursion}
 use Rattle.escpos_command.specs.declared.answer.Answer.{Answer}

@@ -8,15 +8,18 @@ ghost use Rattle.escpos_paper.specs.Page.{SheetIs};
 ghost use Rattle.escpos_link.specs.declared.event.Event.TheVariants as event;
 ghost use Rattle.escpos_link.specs.declared.event.Note.{Note};
 ghost use Rattle.escpos_link.specs.EventTable.{After, IsRefused};
-ghost use Rattle.escpos_link.specs.Line.{LineView};
+ghost use Rattle.escpos_link.specs.Line.{IsLine, LineView};
 ghost use Rattle.escpos_link.specs.Resumed.{RefusesResume, resumed};
 ghost use Rattle.escpos_link.specs.Stands.{Stands};
 ghost use Rattle.escpos_link.specs.Steps.{Happened, Happens, IsInTurn, IsStopped, StopsIn};
 ghost use Rattle.escpos_link.specs.Straight.{StoppedStraight, Undisturbed, WentStraight, all_bytes, exchange, opening};
+ghost use Rattle.escpos_link.specs.Trusted.{IsTrusted};
+ghost use Rattle.escpos_link.specs.Wire.{line_of, wire_of};
 
 use crate::event::{Event, Note, Refused};
 use crate::laws;
 use crate::line::Line;
+use crate::wire::Wire;
 use escpos_command::LineWidth;
 use escpos_host::{Host, HostState, Receipt};
 use escpos_paper::Item;
@@ -96,9 +99,7 @@ impl Sim {
         ensures width { self.new.printer.sheet.line_dots ≡ self.old.printer.sheet.line_dots }
     {
         // Proof only: what holds for a line holds after any event and any refusal.
-        escpos_command::laws::answers();
-        escpos_printer::laws::replies();
-        escpos_host::laws::whole_answers();
+        laws::every_line();
         laws::trust();
         event.fits();
         self.line.is_sound();
@@ -116,6 +117,7 @@ impl Sim {
         ensures width { self.new.printer.sheet.line_dots ≡ self.old.printer.sheet.line_dots }
     {
         // Proof only: what holds for a line holds if its host goes on with fewer records.
+        laws::every_line();
         laws::trust();
         self.line.resume(first_mark, count)
     }
@@ -245,7 +247,7 @@ impl Sim {
     {
         // Proof only: on a line that can be trusted the recorded receipts stand on the paper.
         laws::trust();
-        self.line.printer.items()
+        self.line.wire.paper()
     }
 
     /// The receipts that the host has recorded as printed, in order. Allocates nothing.
@@ -270,6 +272,18 @@ impl Sim {
     pub fn printer(&self) -> &Printer
         ensures { result.now ≡ self.now.printer }
     {
-        &self.line.printer
+        self.line.wire.printer()
+    }
+
+    /// Ends the line, and returns its wire, for a caller with a host of its own: the printer, the links, and the answers on
+    /// their way to a host. Allocates nothing.
+    pub fn into_wire(self) -> Wire
+        ensures wire { result ≡ wire_of self }
+        // With the host that the line had, it is a line whose records can be trusted.
+        ensures line { IsLine (line_of self.host result) }
+        ensures trusted { IsTrusted (line_of self.host result) }
+    {
+        let Line { wire, .. } = self.line;
+        wire
     }
 }

@@ -88,6 +88,17 @@ impl Undelivered {
         self.delivered = 0;
     }
 
+    /// Puts these bytes at the end.
+    ///
+    /// `Err` is a failed allocation: then nothing has changed.
+    pub fn put(&mut self, bytes: &[u8]) -> Result<(), AllocError>
+        ensures put { OnOk result (self.new ≡ self.old ++ bytes.now) }
+        ensures refused { OnErr result (self.new ≡ self.old) }
+    {
+        make_room(&mut self.bytes, &mut self.delivered, bytes.len())?;
+        self.bytes.extend_from_slice(bytes)
+    }
+
     /// Takes the next bytes out of a host, at most `most` and at most 512, puts them at the end, and returns how many.
     ///
     /// `Err` is a failed allocation: then nothing has changed.

@@ -1,4 +1,4 @@
-//! The job `probe`: a printer is asked over TCP, on a link for each question, since a printer may end a link at a command that it
+//! The job `probe`: a printer is asked, on a link for each question, since a printer may end a link at a command that it
 //! doesn't know.
 
 ghost use Rattle.std.specs.Prelude.{◌≡◌, ◌≢◌, [], IsTrue, OnOk};
@@ -12,10 +12,10 @@ use crate::told::{append_answer, append_premises};
 use escpos_io::{ByteIn, ByteOut, Device, Gather, Incoming, Outgoing, put_all};
 use escpos_jobs::address::Address;
 use escpos_jobs::ending::say;
+use escpos_jobs::printer_link::Printers;
 use escpos_jobs::send::NO_LINK;
 use escpos_jobs::status::Status;
 use escpos_jobs::wait::Within;
-use std::net::{Net, TcpStream};
 
 /// How many seconds a byte is waited for where nothing else is said.
 pub const USUAL_WAIT: u32 = 2;
@@ -27,11 +27,7 @@ const _: () = prove!(USUAL_WAIT == 2);
 ///
 /// The status is `Good` if the headline's premises about the printer's answers are met, otherwise `Refused`; it is `Device` if there is no
 /// connection, which the line `no link` says, or if `output` has failed.
-pub fn probe<N: Net<Stream = TcpStream>, W: ByteOut>(
-    net: &N,
-    task: ProbeTask,
-    output: &mut W,
-) -> Status
+pub fn probe<N: Printers, W: ByteOut>(net: &N, task: ProbeTask, output: &mut W) -> Status
     ensures never_usage { result ≢ Status.Usage }
     ensures not_hidden { result ≢ Status.Device → ¬ IsTrue (W.failed output.old) → ¬ IsTrue (W.failed output.new) }
 {
@@ -46,9 +42,9 @@ pub fn probe<N: Net<Stream = TcpStream>, W: ByteOut>(
 }
 
 // What comes on a link on which nothing is asked, if there is one. That link is closed before the next: many printers serve one at a time.
-fn hear_unasked<N: Net<Stream = TcpStream>>(net: &N, address: &Address) -> Option<Answer> {
+fn hear_unasked<N: Printers>(net: &N, address: &Address) -> Option<Answer> {
     match address.connect(net) {
-        Ok(stream) => Some(hear(Form::Anything, &mut Incoming::new(&stream))),
+        Ok(link) => { Some(hear(Form::Anything, &mut Incoming::new(link.reader))) }
         Err(_) => None,
     }
 }
@@ -65,7 +61,7 @@ fn status_of(premises: Premises) -> Status
 }
 
 // Prints what came unasked, asks each question, and prints what the answers show.
-fn tell_answers<N: Net<Stream = TcpStream>, W: ByteOut>(
+fn tell_answers<N: Printers, W: ByteOut>(
     net: &N,
     address: &Address,
     unasked: &Answer,
@@ -89,15 +85,13 @@ fn tell_answers<N: Net<Stream = TcpStream>, W: ByteOut>(
 }
 
 // Asks a question on a link of its own. With no link there is no answer.
-fn ask<N: Net<Stream = TcpStream>>(net: &N, address: &Address, question: Question) -> Answer {
+fn ask<N: Printers>(net: &N, address: &Address, question: Question) -> Answer {
     match address.connect(net) {
-        Ok(stream) => {
-            // the question goes out at once; a stream that can't do so is used as it is
-            let _ = stream.set_nodelay(true);
+        Ok(link) => {
             ask_over(
                 question,
-                &mut Incoming::new(&stream),
-                &mut Outgoing::new(&stream),
+                &mut Incoming::new(link.reader),
+                &mut Outgoing::new(link.writer),
             )
         }
         Err(_) => Answer::none(),

@@ -2,3 +2,6 @@ mod HoldsLemmas
 mod OpenLemmas
 mod RowLemmas
 mod StatementLemmas
+mod OrderLemmas
+mod LeftLemmas
+mod MeasureLemmas

@@ -1,5 +1,5 @@
 -- The rows of a list of entries.
-use Rattle.std.proofs.Common.{◌≡◌, ℕ, ◌+◌, ◌<◌, false, pos, Option, None, Some, IfSome, List, [], ◌∷◌, ◌++◌, length, take, get_or, map, refl, sym, ap, subst, ◌∙◌, arith, IsPermutation, Ordering, Less, Equal, Greater, is_eq}
+use Rattle.std.proofs.Common.{◌≡◌, ◌≢◌, ℕ, zero, suc, ◌+◌, ◌<◌, false, pos, Option, None, Some, IfSome, List, [], ◌∷◌, ◌++◌, All, length, length-take-le, take, get_or, map, refl, sym, ap, subst, ◌∙◌, arith, IsPermutation, Ordering, Less, Equal, Greater, is_eq}
 use Rattle.std.specs.List.{list_any}
 use Rattle.std.specs.Ordering.{match_ordering}
 use Rattle.std.proofs.lemmas.List.Sorted.{IsPermutation-refl, IsPermutation-cons, IsPermutation-trans, IsPermutation-middle, IsPermutation-map, IsPermutation-sym, IsPermutation-to_front}
@@ -10,7 +10,7 @@ use Rattle.sqlite.specs.declared.types.Value.{Value}
 use Rattle.sqlite.specs.declared.types.Value.TheVariants.{Int}
 use Rattle.sqlite.specs.Order.{Row, column, value_cmp}
 use Rattle.sqlite.specs.Tree.{rowid, put_row}
-use Rattle.escpos_store.specs.Table.{content_of, kind_of, next_of, number_of, row_of, rows_from, visible}
+use Rattle.escpos_store.specs.Table.{content_of, kind_of, next_of, number_of, row_of, rows_from, visible, IsReal}
 
 pub rows_push : (id : ℕ) (entries : List Entry) (e : Entry) → rows_from id (entries ++ e ∷ []) ≡ rows_from id entries ++ row_of (id + length entries) e ∷ []
 rows_push id [] e = let at : id ≡ id + 0 = omega arith in ap (λ n. row_of n e ∷ []) at
@@ -46,6 +46,27 @@ row_of_found row id kind number next at content None l p q r s t same h = tt
 row_of_found row id kind number next at content (Some e) l p q r s t same (k, n, x, c) =
     let values = five_values row (Int (pos id)) (Int (pos kind)) (Int (pos number)) (Int (pos next)) content l p q r s t in
     cc
+
+pub length-rows : (id : ℕ) (entries : List Entry) → length (rows_from id entries) ≡ length entries
+length-rows id [] = refl
+length-rows id (e ∷ entries) = ap suc (length-rows (id + 1) entries)
+
+nth_row : (id : ℕ) (all : List Entry) (i : ℕ) (row : Row) → i < length all → All IsReal all → (e : Entry) × IsReal e × (get_or (rows_from id all) i row ≡ row_of (id + i) e)
+nth_row id [] i row inside real = absurd (omega arith)
+nth_row id (e ∷ all) zero row inside real = let at : id ≡ id + 0 = omega arith in (e, real 0 e (omega arith), ap (λ n. row_of n e) at)
+nth_row id (e ∷ all) (suc i) row inside real =
+    let r = nth_row (id + 1) all i row (omega arith) (λ k d low. real (suc k) d (omega arith)) in
+    let at : id + 1 + i ≡ id + suc i = omega arith in
+    (r.0, r.1, r.2 ∙ ap (λ n. row_of n r.0) at)
+
+-- where the next row is of no entry, the rows are of no entries
+pub none_there : (rows : List Row) (i n : ℕ) (row : Row) (entries : List Entry) → i < length rows → row ≡ get_or rows i row → take i rows ≡ rows_from 1 entries → n ≡ length entries
+    → ((e : Entry) → IsReal e → row ≢ row_of (1 + n) e) → (all : List Entry) → All IsReal all → rows ≢ rows_from 1 all
+none_there rows i n row entries inside at same len none all real is =
+    let so_far : i ≡ n = omega (arith, length-take-le i rows (omega arith), ap length same, length-rows 1 entries) in
+    let long : i < length all = omega (arith, ap length is, length-rows 1 all) in
+    let r = nth_row 1 all i row long real in
+    none r.0 r.1 (at ∙ ap (λ (l : List Row). get_or l i row) is ∙ r.2 ∙ ap (λ k. row_of (1 + k) r.0) so_far)
 
 -- ## A row that is added
 

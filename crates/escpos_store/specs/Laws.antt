@@ -58,7 +58,7 @@ same_entry id (entry.Raised n) (entry.Tried k l) h = absurd (cc)
 same_entry id (entry.Raised n) (entry.Recorded k) h = absurd (cc)
 same_entry id (entry.Raised n) (entry.Raised k) h = cc
 
-abbrev has_id : ℕ → Row → Bool
+abbrev pub has_id : ℕ → Row → Bool
 has_id id row = number_in (column row 0) == id
 
 not_yet : (id at : ℕ) → id < at → (at == id) ≡ false
@@ -75,10 +75,10 @@ all_later id at (e ∷ entries) below = rw (not_yet id at below) (ap (λ rest. r
 itself : (id : ℕ) → (id == id) ≡ true
 itself id = grind (arith, nat_tests)
 
-here : (id : ℕ) (e : Entry) (entries : List Entry) → filter (has_id id) (rows_from id (e ∷ entries)) ≡ row_of id e ∷ []
+pub here : (id : ℕ) (e : Entry) (entries : List Entry) → filter (has_id id) (rows_from id (e ∷ entries)) ≡ row_of id e ∷ []
 here id e entries = rw (itself id) (ap (λ rest. row_of id e ∷ rest) (none_later id (id + 1) entries (omega arith)))
 
-others : (id : ℕ) (e : Entry) (entries : List Entry) → filter (λ r. not (has_id id r)) (rows_from id (e ∷ entries)) ≡ rows_from (id + 1) entries
+pub others : (id : ℕ) (e : Entry) (entries : List Entry) → filter (λ r. not (has_id id r)) (rows_from id (e ∷ entries)) ≡ rows_from (id + 1) entries
 others id e entries = rw (itself id) (all_later id (id + 1) entries (omega arith))
 
 same_entries : (id : ℕ) (xs ys : List Entry) → IsPermutation (rows_from id xs) (rows_from id ys) → xs ≡ ys

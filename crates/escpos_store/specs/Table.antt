@@ -1,6 +1,8 @@
 -- The table that a ledger's entries are kept in, and each entry as a row of it.
-use Rattle.std.specs.Prelude.{ℕ, ◌+◌, ◌==◌, if◌then◌else◌, true, false, pos, Option, None, Some, codes, List, [], ◌∷◌}
+use Rattle.std.specs.Prelude.{ℕ, ◌+◌, ◌<◌, ◌==◌, ◌^◌, if◌then◌else◌, true, false, pos, Option, None, Some, codes, List, [], ◌∷◌, IfSome, IsTrue}
 use Rattle.escpos_command.specs.declared.line_width.TheConstants.{USUAL_LINE_DOTS}
+use Rattle.escpos_command.specs.LineWidths.{is_line_width}
+use Rattle.escpos_text.specs.Replacements.{is_replacement}
 use Rattle.escpos_till.specs.declared.entry.Entry.{Entry}
 use Rattle.escpos_till.specs.declared.entry.Entry.TheVariants as entry
 use Rattle.sqlite.specs.declared.types.Value.{Value}
@@ -97,6 +99,14 @@ content_of (entry.Raised next) = Null
 -- the row of an entry: id, kind, number, next, content
 abbrev pub row_of : ℕ → Entry → Row
 row_of id e = Int (pos id) ∷ Int (pos (kind_of e)) ∷ Int (pos (number_of e)) ∷ Int (pos (next_of e)) ∷ content_of e ∷ []
+
+-- The entry is one that the types have: receipt numbers begin at 1, a mark number has 32 bits, and the width and the replacement of a
+-- receipt's options are ones that there are.
+abbrev pub IsReal : Entry → Type 0
+IsReal (entry.Queued content) = IsTrue (is_line_width content.options.width) × IfSome content.options.replacement (λ code. IsTrue (is_replacement code))
+IsReal (entry.Tried number next) = (0 < number) × (next < 2 ^ 32)
+IsReal (entry.Recorded number) = 0 < number
+IsReal (entry.Raised next) = next < 2 ^ 32
 
 abbrev pub rows_from : ℕ → List Entry → List Row
 rows_from id [] = []

@@ -1,10 +1,13 @@
 //! An entry as a row of the table, and back.
 
-ghost use Rattle.std.specs.Prelude.{◌≡◌, ◌≢◌, ◌+◌, ◌<◌, ◌^◌, pos, None, Some, IfOk, IfSome};
+ghost use Rattle.std.specs.Prelude.{◌≡◌, ◌≢◌, ◌+◌, ◌<◌, ◌^◌, ℕ, Option, List, length, All, pos, None, Some, IfOk, IfSome, IsTrue};
 ghost use Rattle.sqlite.specs.declared.types.Value.TheVariants.{Null, Int, Blob as Bytes};
 ghost use Rattle.sqlite.specs.Order.{column};
 ghost use Rattle.sqlite.specs.Value.{owned};
-ghost use Rattle.escpos_store.specs.Table.{kind_of, number_of, next_of, content_of, replacement_number, row_of, rows_from, width_number};
+ghost use Rattle.escpos_command.specs.LineWidths.{is_line_width};
+ghost use Rattle.escpos_text.specs.Replacements.{is_replacement};
+ghost use Rattle.escpos_till.specs.declared.entry.Entry.{Entry as EntryValue};
+ghost use Rattle.escpos_store.specs.Table.{kind_of, number_of, next_of, content_of, replacement_number, row_of, rows_from, width_number, IsReal};
 
 use escpos_command::{LineWidth, USUAL_LINE_DOTS};
 use escpos_receipt::ReceiptOptions;
@@ -94,7 +97,8 @@ pub fn content(entry: &Entry) -> ValueRef<'_>
 
 /// The entries that these rows are, with the ids 1, 2, 3 and so on; `None` if they are no such rows.
 pub fn entries_of(alloc: Global, rows: &[Row]) -> Result<Option<Vec<Entry>>, AllocError>
-    ensures { IfOk result (λ found. IfSome found (λ entries. rows.now ≡ rows_from 1 entries.items)) }
+    ensures entries { IfOk result (λ found. IfSome found (λ entries. rows.now ≡ rows_from 1 entries.items)) }
+    ensures none { IfOk result (λ found. found ≡ None → (entries : List EntryValue) → All IsReal entries → rows.now ≢ rows_from 1 entries) }
 {
     let mut entries = Vec::new(alloc);
     for row in rows {
@@ -108,7 +112,8 @@ pub fn entries_of(alloc: Global, rows: &[Row]) -> Result<Option<Vec<Entry>>, All
 
 // The entry that comes after so many others, if the row is one.
 fn entry_of(alloc: Global, row: &Row, before: usize) -> Result<Option<Entry>, AllocError>
-    ensures { IfOk result (λ found. IfSome found (λ entry. row.now ≡ row_of (1 + before) entry)) }
+    ensures entry { IfOk result (λ found. IfSome found (λ entry. row.now ≡ row_of (1 + before) entry)) }
+    ensures none { IfOk result (λ found. found ≡ None → (entry : EntryValue) → IsReal entry → row.now ≢ row_of (1 + before) entry) }
 {
     let (Some(id), Some(kind), Some(number), Some(next)) = (
         unsigned(row, 0),
@@ -130,8 +135,10 @@ fn entry_of(alloc: Global, row: &Row, before: usize) -> Result<Option<Entry>, Al
 
 // The entry by which a receipt with this text is taken, whose options these numbers are.
 fn queued(alloc: Global, number: u64, next: u64, bytes: &[u8]) -> Result<Option<Entry>, AllocError>
-    ensures { IfOk result (λ found. IfSome found (λ entry. (kind_of entry ≡ 1) × (number_of entry ≡ number) × (next_of entry ≡ next)
+    ensures entry { IfOk result (λ found. IfSome found (λ entry. (kind_of entry ≡ 1) × (number_of entry ≡ number) × (next_of entry ≡ next)
         × (content_of entry ≡ Bytes bytes.now))) }
+    ensures none { IfOk result (λ found. found ≡ None → (entry : EntryValue) → IsReal entry → kind_of entry ≡ 1 → number_of entry ≡ number
+        → next_of entry ≢ next) }
 {
     let (Some(width), Some(replacement)) = (width_of(number), replacement_of(next)) else {
         return Ok(None);
@@ -143,7 +150,8 @@ fn queued(alloc: Global, number: u64, next: u64, bytes: &[u8]) -> Result<Option<
 
 // The width that has this number.
 fn width_of(number: u64) -> Option<LineWidth>
-    ensures { IfSome result (λ width. width_number width ≡ number) }
+    ensures width { IfSome result (λ width. width_number width ≡ number) }
+    ensures none { result ≡ None → (dots : ℕ) → IsTrue (is_line_width dots) → width_number dots ≢ number }
 {
     match u16::try_from(number) {
         Ok(0) => Some(LineWidth::usual()),
@@ -154,7 +162,9 @@ fn width_of(number: u64) -> Option<LineWidth>
 
 // The replacement that has this number, which may be none.
 fn replacement_of(number: u64) -> Option<Option<Replacement>>
-    ensures { IfSome result (λ replacement. replacement_number replacement ≡ number) }
+    ensures replacement { IfSome result (λ replacement. replacement_number replacement ≡ number) }
+    ensures none { result ≡ None → (replacement : Option ℕ) → IfSome replacement (λ code. IsTrue (is_replacement code))
+        → replacement_number replacement ≢ number }
 {
     let Some(code) = number.checked_sub(1) else {
         return Some(None);
@@ -164,7 +174,8 @@ fn replacement_of(number: u64) -> Option<Option<Replacement>>
 }
 
 fn entry_without_content(kind: u64, number: u64, next: u64) -> Option<Entry>
-    ensures { IfSome result (λ entry. (kind_of entry ≡ kind) × (number_of entry ≡ number) × (next_of entry ≡ next) × (content_of entry ≡ Null)) }
+    ensures entry { IfSome result (λ entry. (kind_of entry ≡ kind) × (number_of entry ≡ number) × (next_of entry ≡ next) × (content_of entry ≡ Null)) }
+    ensures none { result ≡ None → (entry : EntryValue) → IsReal entry → kind_of entry ≡ kind → number_of entry ≡ number → next_of entry ≡ next → content_of entry ≢ Null }
 {
     match kind {
         2 => Some(Entry::Tried {
@@ -190,7 +201,11 @@ fn receipt_number(number: u64) -> Option<ReceiptNumber>
 
 // The number in a column, if it has one that isn't negative.
 fn unsigned(row: &Row, at: usize) -> Option<u64>
-    ensures { IfSome result (λ n. column row.now at ≡ Int (pos n)) }
+    ensures number { IfSome result (λ n. column row.now at ≡ Int (pos n)) }
+    ensures none { result ≡ None → at < length row.now → (n : ℕ) → column row.now at ≢ Int (pos n) }
 {
-    row.get(at).ok()
+    match row.get_ref(at) {
+        Ok(ValueRef::Int(n)) => u64::try_from(n).ok(),
+        _ => None,
+    }
 }

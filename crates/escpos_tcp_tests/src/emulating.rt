@@ -8,6 +8,7 @@ use escpos_command::LineWidth;
 use escpos_io::{MemoryIn, MemoryOut};
 use escpos_jobs::emulate::{ONLINE, emulate, emulate_on, follow_link, follow_on, serve_and_tell};
 use escpos_jobs::paper_text::PaperText;
+use escpos_jobs::printer_link::Printers;
 use escpos_jobs::status::Status;
 use escpos_jobs::task::Task;
 use escpos_printer::{Condition, Printer};
@@ -347,7 +348,7 @@ fn followed_links(rt: HostRuntime) {
 }
 
 // What was asked for is done over this network, and prints this.
-fn ends_in<N: Net<Stream = TcpStream, Listener = TcpListener>>(
+fn ends_in<N: Printers + Net<Listener = TcpListener>>(
     rt: &impl Abort,
     alloc: Global,
     net: &N,

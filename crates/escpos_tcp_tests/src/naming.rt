@@ -1,6 +1,7 @@
 //! What is looked up for a host's name and a port.
 
 use escpos_jobs::address::Address;
+use escpos_jobs::printer_link::Printers;
 use escpos_jobs::wait::Within;
 use std::io;
 use std::io::ErrorKind;
@@ -45,6 +46,8 @@ impl Net for OneName<'_> {
         }
     }
 }
+
+impl Printers for OneName<'_> {}
 
 // Texts of addresses, and the name and the port that are looked up.
 const NAMED: [(&str, &str, u16); 5] = [

@@ -6,6 +6,8 @@ use crate::support::sockets::{
     reads_to_end,
 };
 use escpos_io::{ByteIn, MemoryIn, MemoryOut};
+use escpos_jobs::address::Address;
+use escpos_jobs::printer_link::{PrinterLink, Printers};
 use escpos_jobs::send::{Marks, send_on, send_over, send_to};
 use escpos_jobs::status::Status;
 use escpos_jobs::task::Task;
@@ -28,7 +30,11 @@ fn sends_on_stream(
     let receipt = read_receipt(alloc, S.0).expect(rt, "a receipt");
     let mut room = [0; 128];
     let mut output = MemoryOut::new(&mut room);
-    let ended = send_on(alloc, stream, first, openings, receipt, &mut output);
+    let marks = Marks { first, openings };
+    let link = PrinterLink::over_tcp(stream.try_clone().expect(rt, "no second")).expect(
+        rt, "no link",
+    );
+    let ended = send_on(alloc, link, marks, receipt, &mut output);
     let wanted = (text.as_bytes(), status);
     is_outcome(rt, (output.written(), ended), wanted);
 }
@@ -86,8 +92,38 @@ fn not_recorded(rt: HostRuntime) {
     }
 }
 
+// A receipt is sent to a printer at this text, and there is no link.
+fn finds_no_device<N: Printers + Net<Listener = TcpListener> + Abort>(
+    rt: &N,
+    alloc: Global,
+    text: &str,
+) {
+    let task = Task::Send {
+        address: Address::of_text(text).expect(rt, "an address"),
+        first: 0,
+        openings: 1,
+    };
+    let mut room = [0; 64];
+    let mut input = MemoryIn::new(S.0, 100);
+    let mut output = MemoryOut::new(&mut room);
+    let ended = run_job(rt, alloc, Ok(task), &mut input, &mut output);
+    is_outcome(
+        rt,
+        (output.written(), ended),
+        (b"no link\n", Status::Device),
+    );
+}
+
+// A device that isn't there, one that can't be waited for, and a folder.
+#[test]
+fn no_device(rt: HostRuntime) {
+    for text in ["file:/dev/no_such_printer", "file:/dev/null", "file:/"] {
+        finds_no_device(&rt, rt.alloc(), text);
+    }
+}
+
 // A receipt that is read from an input is sent to an address, and this is printed.
-fn sends_to<N: Net<Stream = TcpStream, Listener = TcpListener> + Abort>(
+fn sends_to<N: Printers + Abort>(
     rt: &N,
     alloc: Global,
     (address, first, openings): (SocketAddrV4, u32, u32),

@@ -3,6 +3,7 @@
 use crate::support::jobs::is_outcome;
 use crate::support::sockets::{NEVER, Prepared, listens, reads_to_end, says};
 use escpos_io::{MemoryIn, MemoryOut};
+use escpos_jobs::printer_link::Printers;
 use escpos_jobs::printer_status::{show_status, status_over};
 use escpos_jobs::status::Status;
 use escpos_jobs::task::Task;
@@ -168,7 +169,7 @@ fn status_to_an_output_that_fails(rt: HostRuntime) {
 }
 
 // The printer at this address is asked, with no limit to a wait, and this is printed.
-fn asks<N: Net<Stream = TcpStream, Listener = TcpListener> + Abort>(
+fn asks<N: Printers + Net<Listener = TcpListener> + Abort>(
     rt: &N,
     alloc: Global,
     address: SocketAddrV4,

@@ -5,6 +5,7 @@
 use crate::support::jobs::is_outcome;
 use crate::support::sockets::{answered_link, listens};
 use escpos_io::{ByteIn, ByteOut, Failed, Incoming, MemoryIn, MemoryOut, Outgoing};
+use escpos_jobs::printer_link::Printers;
 use escpos_jobs::status::Status;
 use escpos_jobs::task::Task;
 use escpos_receipt::ReceiptOptions;
@@ -90,7 +91,7 @@ fn no_byte_taken_is_no_time_out(rt: HostRuntime) {
 }
 
 // This is done over TCP, and this is printed.
-fn prints<N: Net<Stream = TcpStream, Listener = TcpListener> + Abort>(
+fn prints<N: Printers + Net<Listener = TcpListener> + Abort>(
     rt: &N,
     alloc: Global,
     task: Task,
@@ -163,6 +164,8 @@ impl Net for InAnHour<'_> {
         }
     }
 }
+
+impl Printers for InAnHour<'_> {}
 
 // A task over that network prints this.
 fn ends_in_an_hour(

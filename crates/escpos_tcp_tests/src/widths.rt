@@ -5,6 +5,7 @@ use crate::support::sockets::{Prepared, answered_link, connects_and_says, listen
 use escpos_command::LineWidth;
 use escpos_io::{MemoryIn, MemoryOut};
 use escpos_jobs::emulate::ONLINE;
+use escpos_jobs::printer_link::Printers;
 use escpos_jobs::status::Status;
 use escpos_jobs::task::Task;
 use escpos_receipt::ReceiptOptions;
@@ -21,7 +22,7 @@ fn narrow(rt: &impl Abort) -> LineWidth {
 }
 
 // What was asked for is done over this network, and prints this.
-fn ends_in<N: Net<Stream = TcpStream, Listener = TcpListener>>(
+fn ends_in<N: Printers + Net<Listener = TcpListener>>(
     rt: &impl Abort,
     alloc: Global,
     net: &N,

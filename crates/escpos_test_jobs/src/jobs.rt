@@ -3,6 +3,7 @@
 use escpos_io::{ByteOut, MemoryIn, MemoryOut, Outgoing};
 use escpos_jobs::ending::MEMORY;
 use escpos_jobs::perform::perform;
+use escpos_jobs::printer_link::Printers;
 use escpos_jobs::status::Status;
 use escpos_jobs::task::{NoTask, Task};
 use std::alloc::Global;
@@ -26,11 +27,13 @@ impl Net for NoNetwork {
     }
 }
 
+impl Printers for NoNetwork {}
+
 /// A worked row of a job: the input, what it prints, and the status.
 pub type Row = (&'static [u8], &'static [u8], Status);
 
 /// What is asked for is done, with nothing of what the contract says of that.
-pub fn run_job<N: Net<Stream = TcpStream, Listener = TcpListener>, W: ByteOut>(
+pub fn run_job<N: Printers + Net<Listener = TcpListener>, W: ByteOut>(
     net: &N,
     alloc: Global,
     asked: Result<Task, NoTask>,

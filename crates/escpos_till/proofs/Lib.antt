@@ -3,3 +3,5 @@ pub mod EntryLemmas
 pub mod SummaryLemmas
 pub mod CopyLemmas
 pub mod MarkLemmas
+pub mod BookLemmas
+pub mod MachineLemmas

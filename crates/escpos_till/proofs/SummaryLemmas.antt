@@ -36,7 +36,7 @@ same_places es e h = places-snoc 0 es e ∙ ap (λ more. places_from 0 es ++ mor
 
 -- ## The first that waits
 
-get-set : {X : Type 0} (xs : List X) (i k : ℕ) (y s : X) → slice_get (set xs i y) k ≡ Some s → ((k ≡ i) × (s ≡ y) × (k < length xs)) ⊎ (slice_get xs k ≡ Some s)
+pub get-set : {X : Type 0} (xs : List X) (i k : ℕ) (y s : X) → slice_get (set xs i y) k ≡ Some s → ((k ≡ i) × (s ≡ y) × (k < length xs)) ⊎ (slice_get xs k ≡ Some s)
 get-set [] i k y s h = inr h
 get-set (x ∷ xs) zero zero y s h = inl (refl, cc, omega arith)
 get-set (x ∷ xs) zero (suc k) y s h = inr h
@@ -46,7 +46,7 @@ get-set (x ∷ xs) (suc i) (suc k) y s h = elim (get-set xs i k y s h) [
   | inr other ↦ inr other
 ]
 
-get-snoc : {X : Type 0} (xs : List X) (x : X) (k : ℕ) (s : X) → slice_get (xs ++ x ∷ []) k ≡ Some s → (slice_get xs k ≡ Some s) ⊎ ((k ≡ length xs) × (s ≡ x))
+pub get-snoc : {X : Type 0} (xs : List X) (x : X) (k : ℕ) (s : X) → slice_get (xs ++ x ∷ []) k ≡ Some s → (slice_get xs k ≡ Some s) ⊎ ((k ≡ length xs) × (s ≡ x))
 get-snoc [] x zero s h = inr (refl, cc)
 get-snoc [] x (suc k) s h = absurd (let bad : None ≡ Some s = h in cc)
 get-snoc (y ∷ xs) x zero s h = inl h
@@ -61,7 +61,7 @@ waiting_is_not s tried e h = subst IsRecorded e h
 recorded_is : (s : ReceiptState) (place : ℕ) → s ≡ state.Recorded place → IsRecorded s
 recorded_is s place e = subst IsRecorded (sym e) tt
 
-first_after_queued : (ss : List ReceiptState) (at : ℕ) → IsFirstWaiting ss at → IsFirstWaiting (ss ++ state.Waiting 0 ∷ []) at
+pub first_after_queued : (ss : List ReceiptState) (at : ℕ) → IsFirstWaiting ss at → IsFirstWaiting (ss ++ state.Waiting 0 ∷ []) at
 first_after_queued ss at f = record {
   within = omega (arith, f.within, length-append ss (state.Waiting 0 ∷ []));
   passed = λ k s before h. elim (get-snoc ss (state.Waiting 0) k s h) [
@@ -74,7 +74,7 @@ first_after_queued ss at f = record {
   ];
 }
 
-first_after_tried : (ss : List ReceiptState) (at d old new : ℕ) → slice_get ss d ≡ Some (state.Waiting old) → IsFirstWaiting ss at → IsFirstWaiting (set ss d (state.Waiting new)) at
+pub first_after_tried : (ss : List ReceiptState) (at d old new : ℕ) → slice_get ss d ≡ Some (state.Waiting old) → IsFirstWaiting ss at → IsFirstWaiting (set ss d (state.Waiting new)) at
 first_after_tried ss at d old new was f = record {
   within = subst (λ n. at ≤ n) (sym (length-set ss d (state.Waiting new))) f.within;
   passed = λ k s before h. elim (get-set ss d k (state.Waiting new) s h) [

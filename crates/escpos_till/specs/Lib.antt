@@ -5,3 +5,5 @@ pub mod Summary
 pub mod Kept
 pub mod Copy
 pub mod Delivers
+pub mod Book
+pub mod Machine

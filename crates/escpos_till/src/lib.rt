@@ -1,11 +1,13 @@
 //! The till's ledger.
 #![tactic(auto)]
 
+mod book;
 mod copy;
 mod deliver;
 mod entry;
 mod error;
 mod ledger;
+mod machine;
 mod memory_store;
 mod number;
 mod state;
@@ -18,6 +20,7 @@ pub use deliver::{Delivered, deliver_one, marks_taken};
 pub use entry::{Content, Entry, Text};
 pub use error::{LedgerError, OpenError};
 pub use ledger::Ledger;
+pub use machine::{Action, Due, NoMachine, Stage, Talk, Then, TillMachine, TillNote, TillRefusal};
 pub use memory_store::{Failure, MemoryStore};
 pub use number::ReceiptNumber;
 pub use state::ReceiptState;

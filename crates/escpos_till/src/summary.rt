@@ -116,7 +116,7 @@ impl Summary {
 }
 
 // The first of these states that waits, of which those before this place are recorded; past the end if none does.
-fn first_waiting_from(states: &[ReceiptState], from: usize) -> usize
+pub(crate) fn first_waiting_from(states: &[ReceiptState], from: usize) -> usize
     requires within { from ≤ length states.now }
     requires passed { (k : ℕ) (s : _) → k < from → slice_get states.now k ≡ Some s → IsRecorded s }
     ensures { IsFirstWaiting states.now result }
@@ -162,7 +162,7 @@ impl Summary {
 }
 
 // The state of a receipt that waits, when it is tried once more.
-fn one_try_more(state: ReceiptState) -> ReceiptState
+pub(crate) fn one_try_more(state: ReceiptState) -> ReceiptState
     requires { (tried : ℕ) × (state ≡ state_kind.Waiting tried) × (tried < 2 ^ 63) }
     ensures { (tried : ℕ) → state ≡ state_kind.Waiting tried → result ≡ state_kind.Waiting (tried + 1) }
 {
@@ -173,7 +173,7 @@ fn one_try_more(state: ReceiptState) -> ReceiptState
 }
 
 // How often a receipt in this state was tried, if it waits.
-fn tries_in(state: ReceiptState) -> Option<usize>
+pub(crate) fn tries_in(state: ReceiptState) -> Option<usize>
     ensures { result ≡ tries_in state }
 {
     match state {

@@ -1,6 +1,6 @@
 //! `deliver`: the receipts of a ledger that wait are sent to the printer, one after another.
 //!
-//! Each goes over a link of its own, by `deliver_one` of escpos_till. Here it is given a socket, and what became of the
+//! Each goes over a link of its own, by `deliver_one` of escpos_till. Here it is given a link, and what became of the
 //! receipt is printed.
 
 ghost use Rattle.std.specs.Prelude.{◌≡◌, ◌≢◌, ◌+◌, ◌<◌, ◌≤◌, ◌++◌, MatchOption, IfErr, IfOk, OnOk, [], ◌∷◌, codes, length, IsTrue};
@@ -19,11 +19,11 @@ use escpos_host::JsonError;
 use escpos_io::{ByteIn, ByteOut, Gather, Incoming, Outgoing, append_number, laws};
 use escpos_jobs::address::Address;
 use escpos_jobs::ending::MEMORY;
+use escpos_jobs::printer_link::{PrinterLink, Printers};
 use escpos_jobs::send::{ANSWERS_LIMIT, is_memory_fault, status_of_fault};
 use escpos_jobs::status::Status;
 use escpos_till::{CopyText, Delivered, Ledger, LedgerError, ReceiptNumber, Store, deliver_one};
 use std::alloc::Global;
-use std::net::{Net, TcpStream};
 
 /// Where and how receipts are delivered.
 #[derive(Debug, Drop)]
@@ -42,7 +42,7 @@ pub struct Delivery<'a> {
 /// `ledger failed`, or `memory`. The status is `Good` if none waits any more. It is `Refused` if too few mark numbers are
 /// left, or the ledger's text gives no receipt; `Memory` if an allocation failed; and `Device` for every other reason, and
 /// if `output` has failed.
-pub fn deliver_waiting<N: Net<Stream = TcpStream>, S: Store, W: ByteOut>(
+pub fn deliver_waiting<N: Printers, S: Store, W: ByteOut>(
     net: &N,
     alloc: Global,
     ledger: &mut Ledger<S>,
@@ -82,7 +82,7 @@ fn next_waiting<S: Store>(ledger: &Ledger<S>) -> Result<Option<ReceiptNumber>, L
 
 // Sends the first receipt that waits, which has this number, and prints what became of it. The error is the status where no
 // further one is sent.
-fn deliver_next<N: Net<Stream = TcpStream>, S: Store, W: ByteOut>(
+fn deliver_next<N: Printers, S: Store, W: ByteOut>(
     net: &N,
     alloc: Global,
     ledger: &mut Ledger<S>,
@@ -101,19 +101,19 @@ fn deliver_next<N: Net<Stream = TcpStream>, S: Store, W: ByteOut>(
     ensures never_usage { IfErr result (λ status. status ≢ Status.Usage) }
 {
     match delivery.address.connect(net) {
-        Ok(stream) => deliver_on(alloc, ledger, number, delivery, &stream, output),
+        Ok(link) => deliver_on(alloc, ledger, number, delivery, link, output),
         Err(_) => Err(tell_waiting(number, b"no link", Status::Device, output)),
     }
 }
 
-// Sends the first receipt that waits over a stream, and prints what became of it. A wait for the printer lasts as long as the
-// stream.
+// Sends the first receipt that waits over a link, and prints what became of it. A wait for the printer lasts as long as the
+// link allows.
 fn deliver_on<S: Store, W: ByteOut>(
     alloc: Global,
     ledger: &mut Ledger<S>,
     number: ReceiptNumber,
     delivery: &Delivery<'_>,
-    stream: &TcpStream,
+    link: PrinterLink,
     output: &mut W,
 ) -> Result<(), Status>
     requires first { IsFirst ledger.old.entries number }
@@ -126,17 +126,14 @@ fn deliver_on<S: Store, W: ByteOut>(
     ensures not_hidden { IfErr result (λ status. status ≢ Status.Device → ¬ IsTrue (W.failed output.old) → ¬ IsTrue (W.failed output.new)) }
     ensures never_usage { IfErr result (λ status. status ≢ Status.Usage) }
 {
-    // the marks and the receipt go out at once; a stream that can't do so is used as it is
-    let _ = stream.set_nodelay(true);
-    let mut reader = Incoming::new(stream);
-    let mut writer = Outgoing::new(stream);
+    let PrinterLink { reader, writer } = link;
     deliver_over(
         alloc,
         ledger,
         number,
         delivery,
-        &mut reader,
-        &mut writer,
+        &mut Incoming::new(reader),
+        &mut Outgoing::new(writer),
         output,
     )
 }

@@ -7,6 +7,7 @@ use crate::support::tills::{
 };
 use escpos_command::LineWidth;
 use escpos_io::{MemoryIn, MemoryOut};
+use escpos_jobs::printer_link::Printers;
 use escpos_jobs::status::Status;
 use escpos_receipt::ReceiptOptions;
 use escpos_text::Replacement;
@@ -15,7 +16,7 @@ use escpos_till_jobs::{
     Delivery, deliver_over, deliver_waiting, list, open_ledger, queue_receipt, refuse_store,
 };
 use std::alloc::Global;
-use std::net::{Net, SocketAddrV4, TcpStream};
+use std::net::SocketAddrV4;
 use std::process::Abort;
 
 // What is printed, and the status.
@@ -48,7 +49,7 @@ fn lists(rt: &impl Abort, ledger: &mut Ledger<MemoryStore>, first: Option<u32>, 
     is_told(rt, (output.written(), status), wanted);
 }
 
-fn delivers<N: Net<Stream = TcpStream> + Abort>(
+fn delivers<N: Printers + Abort>(
     rt: &N,
     alloc: Global,
     ledger: &mut Ledger<MemoryStore>,
@@ -101,7 +102,7 @@ fn queued_and_listed(rt: HostRuntime) {
 }
 
 // The store fails at the second receipt: so do the words after it.
-fn fails<N: Net<Stream = TcpStream> + Abort>(
+fn fails<N: Printers + Abort>(
     rt: &N,
     alloc: Global,
     ledger: &mut Ledger<MemoryStore>,
@@ -116,7 +117,7 @@ fn fails<N: Net<Stream = TcpStream> + Abort>(
 }
 
 // Nobody listens at the address: the receipt waits, and hasn't been tried.
-fn finds_nobody<N: Net<Stream = TcpStream> + Abort>(
+fn finds_nobody<N: Printers + Abort>(
     rt: &N,
     alloc: Global,
     ledger: &mut Ledger<MemoryStore>,

@@ -54,7 +54,7 @@ filter_keeps p x xs passes (before, following, is) = (
       ∙ ap (λ b. filter p before ++ cond b (x ∷ filter p following) (filter p following)) passes,
 )
 
-first_among : {X : Type 0} (x : X) (xs : List X) → slice_get xs 0 ≡ Some x → Among x xs
+pub first_among : {X : Type 0} (x : X) (xs : List X) → slice_get xs 0 ≡ Some x → Among x xs
 first_among x [] e = absurd (let bad : None ≡ Some x = e in cc)
 first_among x (y ∷ xs) e = among_first x y xs (same_Some y x e)
 

@@ -30,7 +30,7 @@ one_before (y ∷ a) b x e =
     let same : y ≡ x = cc e in
     inr (cc (none, same))
 
-front_of : {X : Type 0} (n : ℕ) (a b : List X) → n ≡ length a → take n (a ++ b) ≡ a
+pub front_of : {X : Type 0} (n : ℕ) (a b : List X) → n ≡ length a → take n (a ++ b) ≡ a
 front_of n a b e = subst (λ k. take k (a ++ b) ≡ a) (sym e) (let within : length a ≤ length a = omega arith in rw take-append-le (take_all (length a) a within))
 
 -- ## One more entry
@@ -99,7 +99,7 @@ on_keeps es hand h after g k = record {
 
 -- ## The host is gone
 
-hung_records : (phase : Phase) (h : HostView) → (hung_up phase h).records ≡ h.records
+pub hung_records : (phase : Phase) (h : HostView) → (hung_up phase h).records ≡ h.records
 hung_records Down h = refl
 hung_records (Opening first) h = refl
 hung_records (Open flight) h = refl
@@ -109,7 +109,7 @@ hung_next Down h = refl
 hung_next (Opening first) h = refl
 hung_next (Open flight) h = refl
 
-hung_phase : (phase : Phase) (h : HostView) → h.phase ≡ phase → (hung_up phase h).phase ≡ Down
+pub hung_phase : (phase : Phase) (h : HostView) → h.phase ≡ phase → (hung_up phase h).phase ≡ Down
 hung_phase Down h is = is
 hung_phase (Opening first) h is = refl
 hung_phase (Open flight) h is = refl

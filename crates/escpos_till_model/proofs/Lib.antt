@@ -8,3 +8,8 @@ pub mod Marking
 pub mod Extending
 pub mod Possible
 pub mod Running
+pub mod LinesKept
+pub mod WorldCalls
+pub mod WorldStore
+pub mod WorldHears
+pub mod Worlds

@@ -162,7 +162,7 @@ with_or_without true commands receipt line e = inr e
 with_or_without false commands receipt line e = inl e
 
 -- What is sent of a receipt is a receipt, or one after the line of a copy.
-sent_is : (content : Content) (receipt commands : List Command) (copy : Option (List ℕ)) (tried : ℕ) → IsCopy copy → ContentDescribes content receipt → Whole receipt
+pub sent_is : (content : Content) (receipt commands : List Command) (copy : Option (List ℕ)) (tried : ℕ) → IsCopy copy → ContentDescribes content receipt → Whole receipt
     → commands ≡ sent_of copy tried receipt → IsReceipt content commands
 sent_is content receipt commands None tried is describes whole sent = record { receipt = receipt; describes = describes; whole = whole; sent = inl sent }
 sent_is content receipt commands (Some text) tried is describes whole sent = record {

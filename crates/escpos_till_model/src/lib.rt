@@ -10,7 +10,7 @@
 //! `desk` has the till's ledger, which may be switched off; `hand` the receipt that is being delivered; `due` how one
 //! comes to be; `parts` has what a till is made of, and what each event does to it; `event` the events, and why one is
 //! refused. A caller uses `till`: tills for which the statement holds at all times, step by step or with a list of events
-//! at once; `laws` has the law of a ledger's receipts. The steps are those of `deliver_one` of escpos_till, one by one, so
+//! at once; `laws` has the law of a ledger's receipts, and that of the till's machine in the world (`specs/World.antt`). The steps are those of `deliver_one` of escpos_till, one by one, so
 //! that a crash may come between any two of them; one in the middle of a write is a store that fails, and then a crash.
 #![tactic(auto)]
 

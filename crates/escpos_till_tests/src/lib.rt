@@ -5,10 +5,15 @@
 //! A test makes a value and lends it to checks that own nothing: each way out of a function drops what it owns, and a connection
 //! costs most.
 //!
-//! `till` is of the ledger, over a store in memory; `model` of the simulated till; `store` of the store in SQLite; `memory` lets
-//! each allocation of a call fail in turn. What they share is in `support`.
+//! `till` is of the ledger, over a store in memory; `model` of the simulated till; `store` of the store in SQLite, `long`
+//! of long ledgers in it, and `cut` of such whose files are cut off; `memory` lets each allocation of a call fail in turn. What they
+//! share is in `support`.
 #![tactic(auto)]
 
+#[cfg(test)]
+mod cut;
+#[cfg(test)]
+mod long;
 #[cfg(test)]
 mod memory;
 #[cfg(test)]

@@ -1,6 +1,7 @@
 //! The store in SQLite: entries of each kind come back in order, over memory, and from files that were closed, or left as in a
 //! crash.
 
+use crate::support::stores::{closed, new_files, opened};
 use crate::support::tills::number;
 use escpos_command::LineWidth;
 use escpos_receipt::ReceiptOptions;
@@ -8,8 +9,7 @@ use escpos_store::SqliteStore;
 use escpos_test_receipts::S;
 use escpos_text::Replacement;
 use escpos_till::{Content, Entry, Store};
-use sqlite::{Alter, FileStore, Files, Options};
-use sqlite_disk::{Disk, Memory};
+use sqlite::Alter;
 use std::alloc::Global;
 use std::process::Abort;
 
@@ -94,31 +94,14 @@ fn in_memory(rt: HostRuntime) {
     keeps(&rt, rt.alloc(), &mut store, &wanted);
 }
 
-fn opened(rt: &impl Abort, alloc: Global, files: Files<Memory>) -> SqliteStore<FileStore<Memory>> {
-    assert!(rt; files.log.may_be_used());
-    assert!(rt; files.db.may_be_used());
-    SqliteStore::open_files(alloc, files, Options::new(1)).expect(rt, "a store")
-}
-
-fn closed(rt: &impl Abort, store: SqliteStore<FileStore<Memory>>) -> Files<Memory> {
-    match store.into_files() {
-        Ok(files) => files,
-        Err(_) => panic!(rt; "not closed"),
-    }
-}
-
 #[test]
 fn in_files(rt: HostRuntime) {
     let wanted = entries_of(&rt, rt.alloc());
-    let files = Files {
-        log: Memory::new(rt.alloc()),
-        db: Memory::new(rt.alloc()),
-    };
-    let mut store = opened(&rt, rt.alloc(), files);
+    let mut store = opened(&rt, rt.alloc(), new_files(rt.alloc()));
     keeps(&rt, rt.alloc(), &mut store, &wanted);
     let mut again = opened(&rt, rt.alloc(), closed(&rt, store));
     has(&rt, rt.alloc(), &mut again, &wanted);
     let mut later = opened(&rt, rt.alloc(), again.crash());
     has(&rt, rt.alloc(), &mut later, &wanted);
-    assert!(&rt; later.close() == Ok(()));
+    let _ = closed(&rt, later);
 }

@@ -5,7 +5,7 @@ use crate::support::lines::{
 };
 use escpos_command::{Command, LineWidth};
 use escpos_host::{HostState, Receipt};
-use escpos_link::{Event, Refusal, Refused, Sim};
+use escpos_link::{Event, Refusal, Refused, Sim, Wire};
 use escpos_test_receipts::{S, have_lines, receipt_at_last};
 use std::alloc::{AllocError, Global};
 use std::process::Abort;
@@ -315,4 +315,48 @@ fn line_allocations_fail(rt: HostRuntime) {
     let receipt = receipt_at_last(rt.alloc()).expect(&rt, "a receipt");
     let mut sim = line_at_last(&rt, rt.alloc());
     steps(&rt, rt.alloc(), &mut sim, receipt);
+}
+
+// A wire with these bytes on its live link. Where its memory is refused, it is asked for again.
+fn wire_at_last(rt: &impl Abort, alloc: Global, bytes: &[u8]) -> Wire {
+    let mut wire = match Wire::new(alloc, ONLINE, LineWidth::usual()) {
+        Ok(wire) => wire,
+        Err(AllocError) => Wire::new(alloc, ONLINE, LineWidth::usual()).expect(rt, "a wire"),
+    };
+    if wire.link_up().is_err() {
+        assert!(rt; wire.link_up().is_ok());
+    }
+    if wire.put(bytes).is_err() {
+        assert!(rt; wire.put(bytes).is_ok());
+    }
+    wire
+}
+
+// All that is on the wire reaches the printer.
+fn delivers_at_last(rt: &impl Abort, wire: &mut Wire) {
+    if let Err(refused) = wire.deliver(100) {
+        assert!(rt; refused.why == Refusal::Memory);
+        assert!(rt; wire.deliver(100).is_ok());
+    }
+}
+
+// An answer is on its way.
+fn hands_over_at_last(rt: &impl Abort, wire: &mut Wire) {
+    if let Err(refused) = wire.hand_over() {
+        assert!(rt; refused.why == Refusal::Memory);
+        assert!(rt; wire.hand_over().is_ok());
+    }
+}
+
+// A line and a request for the printer's status: it is printed, and answered.
+#[test]
+fn wire_refused(rt: HostRuntime) {
+    let mut wire = wire_at_last(&rt, rt.alloc(), b"Hi\n\x10\x04\x01");
+    delivers_at_last(&rt, &mut wire);
+    prints_items(&rt, wire.paper(), PAPER_OF_S);
+    hands_over_at_last(&rt, &mut wire);
+    assert!(&rt; wire.front(100) == b"\x12".as_slice());
+    wire.heard(1);
+    assert!(&rt; wire.front(100).is_empty());
+    wire.hang_up();
 }

@@ -10,7 +10,8 @@ use escpos_io::{MemoryIn, MemoryOut};
 use escpos_jobs::emulate::ONLINE;
 use escpos_jobs::ending::MEMORY;
 use escpos_jobs::paper_text::PaperText;
-use escpos_jobs::send::{Marks, send_to};
+use escpos_jobs::printer_link::PrinterLink;
+use escpos_jobs::send::{Marks, send_on, send_to};
 use escpos_jobs::status::Status;
 use escpos_paper::Item;
 use escpos_printer::{LinkEnd, Printer, Served};
@@ -251,12 +252,21 @@ fn emulate_refused(rt: HostRuntime) {
     }
 }
 
+// The first mark has the number 0, and is the only opening mark.
+const FIRST: Marks = Marks {
+    first: 0,
+    openings: 1,
+};
+
 // A receipt is sent over a link whose other end has answered. Answers no where memory is refused.
 fn sends_on_link(rt: &impl Abort, alloc: Global, stream: &TcpStream) -> bool {
     let receipt = receipt_at_last(alloc).expect(rt, "a receipt");
     let mut room = [0; 32];
     let mut output = MemoryOut::new(&mut room);
-    let status = escpos_jobs::send::send_on(alloc, stream, 0, 1, receipt, &mut output);
+    let link = PrinterLink::over_tcp(stream.try_clone().expect(rt, "no second")).expect(
+        rt, "no link",
+    );
+    let status = send_on(alloc, link, FIRST, receipt, &mut output);
     is_sent(rt, output.written(), status)
 }
 
@@ -279,10 +289,7 @@ fn sends_to_net(rt: &impl Abort, alloc: Global, net: &Prepared, address: SocketA
         net,
         alloc,
         address.into(),
-        Marks {
-            first: 0,
-            openings: 1,
-        },
+        FIRST,
         &ReceiptOptions::usual(),
         &mut source,
         &mut output,

@@ -1,5 +1,6 @@
 //! Ledgers over stores in memory, and links of 127.0.0.1.
 
+use escpos_jobs::printer_link::Printers;
 use escpos_till::{Failure, Ledger, MemoryStore, ReceiptNumber};
 use std::alloc::Global;
 use std::io;
@@ -86,3 +87,5 @@ impl Net for Prepared<'_> {
         }
     }
 }
+
+impl Printers for Prepared<'_> {}

@@ -3,14 +3,13 @@
 //! A store that is refused memory in `append` is opened again: a crash leaves the entries with the new one or without. Where the
 //! files are used up, the test begins anew. A file in memory that has none left fails as a disk does, so `Failed` comes too.
 
+use crate::support::stores::{Filed, new_files};
 use escpos_store::SqliteStore;
 use escpos_till::{Entry, NoStore, Store, StoreFault};
-use sqlite::{Alter, FileStore, Files, MemStore, Options};
+use sqlite::{Alter, Files, MemStore, Options};
 use sqlite_disk::{Disk, Memory};
 use std::alloc::Global;
 use std::process::Abort;
-
-type Filed = SqliteStore<FileStore<Memory>>;
 
 // An entry is added. Answers no where memory is refused.
 fn adds<S: Alter>(rt: &impl Abort, store: &mut SqliteStore<S>, next: u32) -> bool {
@@ -85,17 +84,10 @@ fn opened(rt: &impl Abort, alloc: Global, files: Files<Memory>) -> Option<Filed>
     }
     match SqliteStore::open_files(alloc, files, Options::new(1)) {
         Ok(store) => Some(store),
-        Err(why) => {
+        Err((why, _)) => {
             assert!(rt; why == NoStore::Memory || why == NoStore::Failed);
             None
         }
-    }
-}
-
-fn new_files(alloc: Global) -> Files<Memory> {
-    Files {
-        log: Memory::new(alloc),
-        db: Memory::new(alloc),
     }
 }
 

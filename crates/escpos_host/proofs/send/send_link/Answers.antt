@@ -11,13 +11,13 @@ use Rattle.escpos_host.proofs.send.send_link.Goals as goal
 pub returns-in-Err-clause-sends : goal.returns-in-Err-clause-sends
 returns-in-Err-clause-sends g c =
     let call : Call = record { before = c.args.host.now; receipt = c.args.receipt; openings = max c.args.openings 1; most = c.args.max_bytes } in
-    ([], [], Consumes-nil (g.R.ByteIn.to_come c.args.reader.now), Appends-nil (g.W.ByteOut.written c.args.writer.now), omega arith, (refl, refused_opening call c.in-Err.why c.open.new.host c.in-Err.ensures.refused))
+    ([], [], Consumes-nil (g.R.ByteIn.to_come c.args.reader.now), Appends-nil (g.W.ByteOut.written c.args.writer.now), omega arith, (refl, refused_opening call c.in-Err.why c.open_link.new.host c.in-Err.ensures.refused))
 
 pub returns-in-Err-await_opened-clause-sends : goal.returns-in-Err-await_opened-clause-sends
 returns-in-Err-await_opened-clause-sends g c =
     let call : Call = record { before = c.args.host.now; receipt = c.args.receipt; openings = max c.args.openings 1; most = c.args.max_bytes } in
     let s = c.in-Err-await_opened.ensures.stops call c.in_default.ensures.opened.1 c.in_default.ensures.marks refl in
-    let gone = closed_from c.open.new.host c.await_opened.new.host c.link_down.new.self _ c.in_default.ensures.opened.1 (c.in-Err-await_opened.ensures.lost call c.in_default.ensures.opened.1) c.link_down.ensures.up c.link_down.ensures.down in
+    let gone = closed_from c.open_link.new.host c.await_opened.new.host c.link_down.new.self _ c.in_default.ensures.opened.1 (c.in-Err-await_opened.ensures.lost call c.in_default.ensures.opened.1) c.link_down.ensures.up c.link_down.ensures.down in
     (s.bytes, s.out, s.came, s.put, s.few, (refl, subst (Fails call c.in-Err-await_opened.why s.bytes s.out) (sym gone) s.fails))
 
 pub returns-in-Err-submit-clause-sends : goal.returns-in-Err-submit-clause-sends

@@ -6,12 +6,12 @@ use Rattle.sqlite.specs.Order.{column}
 use Rattle.escpos_store.proofs.RowLemmas.{row_of_found}
 use Rattle.escpos_store.proofs.row.entry_of.Goals as goal
 
-pub returns-in-Ok-Blob : goal.returns-in-Ok-Blob
-returns-in-Ok-Blob c =
+pub returns-in-Ok-Blob-clause-entry : goal.returns-in-Ok-Blob-clause-entry
+returns-in-Ok-Blob-clause-entry c =
     let read = c.in-Some-Some-Some-Some in
     let count : length c.args.row.now ≡ 5 = search rules in
     let id : read.id ≡ 1 + c.args.before = search rules in
     let content : column c.args.row.now 4 ≡ Bytes c.in-Ok-Blob.bytes.now = search rules in
     let kind : column c.args.row.now 1 ≡ Int (pos 1) = search rules in
     IfOk-weaker c.queued.result _ _ (λ found h. row_of_found c.args.row.now read.id 1 read.number read.next (1 + c.args.before) (Bytes c.in-Ok-Blob.bytes.now) found count
-    read.ensures kind read.ensures'' read.ensures''' content id h) c.queued.ensures
+    read.ensures.number kind read.ensures''.number read.ensures'''.number content id h) c.queued.ensures.entry

@@ -1,7 +1,7 @@
 use Rattle.std.proofs.Common.{◌≡◌, ◌∙◌, Some, true, false, ap, sym, subst}
 use Rattle.std.specs.declared.net.socket_addr.SocketAddr.TheVariants.{V4, V6}
 use Rattle.std.specs.Net.Grammar.{IsSocketText}
-use Rattle.escpos_jobs.proofs.Addresses.{has_port, only_named, only_numeric}
+use Rattle.escpos_jobs.proofs.Addresses.{has_port, only_numeric}
 use Rattle.escpos_jobs.proofs.address.Address.of_text.Goals as goal
 
 pub returns-then-has_port-clause-taken : goal.returns-then-has_port-clause-taken
@@ -17,6 +17,4 @@ pub returns-in-Ok-V6-clause-taken : goal.returns-in-Ok-V6-clause-taken
 returns-in-Ok-V6-clause-taken c = λ address h. ap Some (only_numeric c.args.text.now (V6 c.in-Ok-V6.address) address (subst (IsSocketText c.args.text.now) c.in-Ok-V6.field-0-is c.in-Ok-V6.ensures.value) h)
 
 pub returns-in-Err-clause-taken : goal.returns-in-Err-clause-taken
-returns-in-Err-clause-taken c = λ address h.
-    let only = only_named c.args.text.now address c.in-Err.ensures.value h in
-    c.named.ensures.taken only.0 only.1 only.2 ∙ ap Some only.3
+returns-in-Err-clause-taken c = λ address h. c.other.ensures.taken address c.in-Err.ensures.value h

@@ -3,6 +3,7 @@ use Rattle.escpos_host.specs.Heard.{HearsAll}
 use Rattle.escpos_link.specs.declared.event.Event.TheVariants as event
 use Rattle.escpos_link.specs.declared.event.Note.TheVariants as note
 use Rattle.escpos_link.specs.EventTable.{After}
+use Rattle.escpos_link.specs.Wire.{line_of}
 use Rattle.escpos_link.proofs.Moving.{after_bad_answer, heard_seen}
 use Rattle.escpos_link.proofs.line.Line.answer.Goals as goal
 
@@ -10,12 +11,12 @@ pub returns-in-BadAnswer : goal.returns-in-BadAnswer
 returns-in-BadAnswer c =
     let e = c.hear_all-consumed.ensures.heard in
     let hears = subst (λ bs. HearsAll c.self.inside.host bs e.0 c.hear_all-consumed.result.0 c.hear_all-consumed.new.host) c.front.ensures e.1 in
-    subst (λ l. After (event.Answer c.args.most) l (note.Heard c.hear_all-consumed.result.0 c.hear_all-consumed.result.1) c.leave_link.new.self) c.self.view_is
-    (after_bad_answer _ c.leave_link.new.self c.args.most c.hear_all-consumed.result.0 c.in-BadAnswer.at c.hear_all-consumed.result.1 c.hear_all-consumed.new.host e.0 hears e.2 c.in-BadAnswer.is c.leave_link.ensures)
+    subst (λ l. After (event.Answer c.args.most) l (note.Heard c.hear_all-consumed.result.0 c.hear_all-consumed.result.1) (line_of c.hear_all-consumed.new.host c.hang_up.new.self)) c.self.view_is
+    (after_bad_answer _ (line_of c.hear_all-consumed.new.host c.hang_up.new.self) c.args.most c.hear_all-consumed.result.0 c.in-BadAnswer.at c.hear_all-consumed.result.1 c.hear_all-consumed.new.host e.0 hears e.2 c.in-BadAnswer.is (ap (line_of c.hear_all-consumed.new.host) c.hang_up.ensures))
 
 pub returns-in_default : goal.returns-in_default
 returns-in_default c =
     let e = c.hear_all-consumed.ensures.heard in
     let hears = subst (λ bs. HearsAll c.self.inside.host bs e.0 c.hear_all-consumed.result.0 c.hear_all-consumed.new.host) c.front.ensures e.1 in
     heard_seen _ _ _ c.args.most c.hear_all-consumed.result.0 c.hear_all-consumed.result.1 c.hear_all-consumed.new.host e.0 c.self.view_is hears e.2
-    (λ at bad. c.in_default.not-BadAnswer at bad) (ap (λ bytes. record { host = c.hear_all-consumed.new.host; printer = c.self.inside.printer; ended = c.self.inside.ended.items; live = c.self.inside.live; coming = bytes }) c.deliver.ensures)
+    (λ at bad. c.in_default.not-BadAnswer at bad) (ap (line_of c.hear_all-consumed.new.host) c.heard.ensures)

@@ -8,7 +8,7 @@ use Rattle.escpos_link.proofs.sim.Sim.step.Goals as goal
 pub invariant_of-self : goal.invariant_of-self
 invariant_of-self c =
     let line = c.self.inside.line in (
-      whatever_kept (record { joined = c.answers.ensures.joined; leaves = c.whole_answers.ensures; fitting = c.replies.ensures })
+      whatever_kept (record { kept = c.every_line.ensures.kept; leaves = c.every_line.ensures.leaves; resumes = c.every_line.ensures.resumes })
           c.args.event line c.happen.new.self c.happen.result c.is_sound.ensures c.self.invariant.0 c.happen.ensures.happened c.happen.ensures.refused,
       (whatever_trusted c.trust.ensures c.args.event line c.happen.new.self c.happen.result c.fits.ensures c.is_sound.ensures c.self.invariant.0 c.happen.ensures.happened
           c.happen.ensures.refused c.self.invariant.1).0,

@@ -1,0 +1,15 @@
+use Rattle.std.proofs.Common.{◌≡◌, ◌≤◌, ◌+◌, max}
+use Rattle.escpos_command.specs.Digits.{mark_count}
+use Rattle.escpos_host.specs.Awaits.{dialled}
+use Rattle.escpos_host.specs.Machine.{Down}
+use Rattle.escpos_host.proofs.send.open_link.Given as goal
+
+-- this many opening marks are put out
+abbrev pub invariant-loop : goal.invariant-loop
+invariant-loop l = record {
+  down : l.fn.host.phase ≡ Down;
+  some : 1 ≤ l.counter;
+  few : l.counter ≤ max l.fn.openings 1;
+  marks : l.fn.host.next + l.counter ≤ mark_count;
+  dialled : l.host ≡ dialled l.fn.host l.counter;
+}

@@ -1,0 +1,248 @@
+-- What one more entry does to the book of a list of entries.
+use Rattle.std.proofs.Common.{ℕ, zero, suc, ◌≡◌, ◌≢◌, ◌+◌, ◌-◌, ◌<◌, ◌≤◌, inl, inr, Some, None, List, [], ◌∷◌, ◌++◌, length, get_or, set, refl, sym, ◌∙◌, ap, subst, length-append, length-set, arith}
+use Rattle.std.specs.Prelude.{MatchOption, Option, slice_get}
+use Rattle.std.specs.Option.{SomeIff}
+use Rattle.std.proofs.lemmas.Option.{get_or_from_slice_get, slice_get_read}
+use Rattle.escpos_till.specs.declared.book.Book.{Book}
+use Rattle.escpos_till.specs.declared.entry.Content.{Content}
+use Rattle.escpos_till.specs.declared.entry.Entry.{Entry}
+use Rattle.escpos_till.specs.declared.entry.Entry.TheVariants.{Queued, Tried, Recorded, Raised}
+use Rattle.escpos_till.specs.declared.state.ReceiptState.{ReceiptState}
+use Rattle.escpos_till.specs.declared.state.ReceiptState.TheVariants as state
+use Rattle.escpos_till.specs.Book.{HasContents, IsBookOf}
+use Rattle.escpos_till.specs.Entries.{IsLedger, MayFollow, Waits, contents, recorded, states, times_tried, waiting}
+use Rattle.escpos_till.specs.Entries.{states as states_of}
+use Rattle.escpos_till.specs.Ledger.{FirstWaits}
+use Rattle.escpos_till.specs.Summary.{IsFirstWaiting, tries_in}
+use Rattle.escpos_till.proofs.SummaryLemmas.{first_after_queued, first_after_tried, get-set, get-snoc}
+use Rattle.escpos_till.proofs.EntryLemmas.{first_of_states, length-states, no_more, next_after_queued, next_after_raised, next_after_recorded, next_after_tried, recorded-count, recorded-same, recorded_states, states_after_queued, states_after_raised, tried_states, waiting_state, waits_by_state, within_states}
+
+-- ## Contents
+
+contents-snoc : (es : List Entry) (content : Content) → contents (es ++ Queued content ∷ []) ≡ contents es ++ content ∷ []
+contents-snoc [] content = refl
+contents-snoc (Queued c ∷ es) content = ap (λ rest. c ∷ rest) (contents-snoc es content)
+contents-snoc (Tried n next ∷ es) content = contents-snoc es content
+contents-snoc (Recorded n ∷ es) content = contents-snoc es content
+contents-snoc (Raised next ∷ es) content = contents-snoc es content
+
+contents-tried : (es : List Entry) (n next : ℕ) → contents (es ++ Tried n next ∷ []) ≡ contents es
+contents-tried [] n next = refl
+contents-tried (Queued c ∷ es) n next = ap (λ rest. c ∷ rest) (contents-tried es n next)
+contents-tried (Tried m other ∷ es) n next = contents-tried es n next
+contents-tried (Recorded m ∷ es) n next = contents-tried es n next
+contents-tried (Raised other ∷ es) n next = contents-tried es n next
+
+contents-recorded : (es : List Entry) (n : ℕ) → contents (es ++ Recorded n ∷ []) ≡ contents es
+contents-recorded [] n = refl
+contents-recorded (Queued c ∷ es) n = ap (λ rest. c ∷ rest) (contents-recorded es n)
+contents-recorded (Tried m other ∷ es) n = contents-recorded es n
+contents-recorded (Recorded m ∷ es) n = contents-recorded es n
+contents-recorded (Raised other ∷ es) n = contents-recorded es n
+
+contents-raised : (es : List Entry) (next : ℕ) → contents (es ++ Raised next ∷ []) ≡ contents es
+contents-raised [] next = refl
+contents-raised (Queued c ∷ es) next = ap (λ rest. c ∷ rest) (contents-raised es next)
+contents-raised (Tried m other ∷ es) next = contents-raised es next
+contents-raised (Recorded m ∷ es) next = contents-raised es next
+contents-raised (Raised other ∷ es) next = contents-raised es next
+
+-- The same item after the list grew by one, or after another one was set.
+get-front : {X : Type 0} (xs : List X) (y x : X) (k : ℕ) → slice_get xs k ≡ Some x → slice_get (xs ++ y ∷ []) k ≡ Some x
+get-front [] y x k h = absurd (let bad : None ≡ Some x = h in cc)
+get-front (z ∷ xs) y x zero h = h
+get-front (z ∷ xs) y x (suc k) h = get-front xs y x k h
+
+get-last : {X : Type 0} (xs : List X) (x : X) → slice_get (xs ++ x ∷ []) (length xs) ≡ Some x
+get-last [] x = refl
+get-last (z ∷ xs) x = get-last xs x
+
+get-other : {X : Type 0} (xs : List X) (i k : ℕ) (y x : X) → k ≢ i → slice_get xs k ≡ Some x → slice_get (set xs i y) k ≡ Some x
+get-other [] i k y x differ h = h
+get-other (z ∷ xs) zero zero y x differ h = absurd (differ refl)
+get-other (z ∷ xs) zero (suc k) y x differ h = h
+get-other (z ∷ xs) (suc i) zero y x differ h = h
+get-other (z ∷ xs) (suc i) (suc k) y x differ h = get-other xs i k y x (λ same. differ (ap suc same)) h
+
+pub get-here : {X : Type 0} (xs : List X) (i : ℕ) (y : X) → i < length xs → slice_get (set xs i y) i ≡ Some y
+get-here [] i y l = absurd (omega (arith, l))
+get-here (z ∷ xs) zero y l = refl
+get-here (z ∷ xs) (suc i) y l = get-here xs i y (omega (arith, l))
+
+get-within : {X : Type 0} (xs : List X) (k : ℕ) (x : X) → slice_get xs k ≡ Some x → k < length xs
+get-within [] k x h = absurd (let bad : None ≡ Some x = h in cc)
+get-within (z ∷ xs) zero x h = omega arith
+get-within (z ∷ xs) (suc k) x h = omega (arith, get-within xs k x h)
+
+contents_after_queued : (kept : List Content) (es : List Entry) (content : Content) → IsLedger es → HasContents kept es → HasContents (kept ++ content ∷ []) (es ++ Queued content ∷ [])
+contents_after_queued kept es content ledger has = record {
+  count = omega (arith, length-append kept (content ∷ []), has.count, ap length (contents-snoc es content), length-append (contents es) (content ∷ []));
+  waiting = λ k tried c waits is.
+      let same : slice_get (contents es ++ content ∷ []) k ≡ Some c = ap (λ cs. slice_get cs k) (sym (contents-snoc es content)) ∙ is in
+      elim (get-snoc (contents es) content k c same) [
+        | inl within ↦
+            elim (get-snoc (states_of es) (state.Waiting 0) k (state.Waiting tried) (ap (λ ss. slice_get ss k) (sym (states_after_queued es content ledger)) ∙ waits)) [
+              | inl before ↦ get-front kept content c k (has.waiting k tried c before within)
+              | inr last ↦ absurd (omega (arith, last.0, length-states es, get-within (contents es) k c within))
+            ]
+        | inr last ↦ ap (slice_get (kept ++ content ∷ [])) (last.0 ∙ sym has.count) ∙ get-last kept content ∙ ap Some (sym last.1)
+      ];
+}
+
+contents_after_tried : (kept : List Content) (es : List Entry) (n next : ℕ) → Waits es n → HasContents kept es → HasContents kept (es ++ Tried n next ∷ [])
+contents_after_tried kept es n next waits has = record {
+  count = has.count ∙ ap length (sym (contents-tried es n next));
+  waiting = λ k tried c stands is.
+      let there : slice_get (contents es) k ≡ Some c = ap (λ cs. slice_get cs k) (sym (contents-tried es n next)) ∙ is in
+      elim (get-set (states_of es) (n - 1) k (state.Waiting (times_tried es n + 1)) (state.Waiting tried) (ap (λ ss. slice_get ss k) (sym (tried_states es n next waits)) ∙ stands)) [
+        | inl here ↦ has.waiting k (times_tried es n) c (ap (slice_get (states_of es)) here.0 ∙ waiting_state es n waits) there
+        | inr other ↦ has.waiting k tried c other there
+      ];
+}
+
+contents_after_recorded : (kept : List Content) (es : List Entry) (n : ℕ) (x : Content) → Waits es n → HasContents kept es → HasContents (set kept (n - 1) x) (es ++ Recorded n ∷ [])
+contents_after_recorded kept es n x waits has = record {
+  count = length-set kept (n - 1) x ∙ has.count ∙ ap length (sym (contents-recorded es n));
+  waiting = λ k tried c stands is.
+      let there : slice_get (contents es) k ≡ Some c = ap (λ cs. slice_get cs k) (sym (contents-recorded es n)) ∙ is in
+      let set_so : slice_get (set (states_of es) (n - 1) (state.Recorded (length (recorded es)))) k ≡ Some (state.Waiting tried) = ap (λ ss. slice_get ss k) (sym (recorded_states es n waits)) ∙ stands in
+      elim (get-set (states_of es) (n - 1) k (state.Recorded (length (recorded es))) (state.Waiting tried) set_so) [
+        | inl here ↦ absurd (let bad : state.Waiting tried ≡ state.Recorded (length (recorded es)) = here.1 in cc)
+        | inr other ↦ get-other kept (n - 1) k x c
+            (λ same. let gone : Some (state.Waiting tried) ≡ Some (state.Recorded (length (recorded es))) =
+            sym set_so ∙ ap (slice_get (set (states_of es) (n - 1) (state.Recorded (length (recorded es))))) same
+            ∙ get-here (states_of es) (n - 1) (state.Recorded (length (recorded es))) (within_states es n waits) in
+            cc)
+            (has.waiting k tried c other there)
+      ];
+}
+
+contents_after_raised : (kept : List Content) (es : List Entry) (next : ℕ) → HasContents kept es → HasContents kept (es ++ Raised next ∷ [])
+contents_after_raised kept es next has = record {
+  count = has.count ∙ ap length (sym (contents-raised es next));
+  waiting = λ k tried c stands is.
+      has.waiting k tried c (ap (λ ss. slice_get ss k) (sym (states_after_raised es next)) ∙ stands) (ap (λ cs. slice_get cs k) (sym (contents-raised es next)) ∙ is);
+}
+
+-- ## Books
+
+one_more_entry : (old new : ℕ) (es : List Entry) (e : Entry) → new ≡ old + 1 → old ≡ length es → new ≡ length (es ++ e ∷ [])
+one_more_entry old new es e more is = omega (arith, more, is, length-append es (e ∷ []))
+
+-- The state that is read of a receipt that waits.
+pub state_read : (s : Book) (es : List Entry) (n r : ℕ) (x : ReceiptState) → IsBookOf s es → Waits es n → r ≡ n → x ≡ get_or s.states.items (r - 1) x
+    → x ≡ state.Waiting (times_tried es n)
+state_read s es n r x sums waits same is =
+    let got : slice_get s.states.items (r - 1) ≡ Some (state.Waiting (times_tried es n)) =
+    ap (λ ss. slice_get ss (r - 1)) sums.states ∙ ap (λ k. slice_get (states_of es) (k - 1)) same ∙ waiting_state es n waits in
+    is ∙ get_or_from_slice_get s.states.items (r - 1) (state.Waiting (times_tried es n)) x got
+
+pub book_after_queued : (s t : Book) (es : List Entry) (e : Entry) (content : Content) → IsBookOf s es → IsLedger es → e ≡ Queued content
+    → t.contents.items ≡ s.contents.items ++ content ∷ [] → t.states.items ≡ s.states.items ++ state.Waiting 0 ∷ []
+    → t.first_waiting ≡ s.first_waiting → t.recorded ≡ s.recorded → t.next ≡ s.next → t.count ≡ s.count + 1 → IsBookOf t (es ++ e ∷ [])
+book_after_queued s t es e content sums ledger kind kept states first recorded next count = subst (λ e. IsBookOf t (es ++ e ∷ [])) (sym kind) (record {
+  contents = subst (λ cs. HasContents cs (es ++ Queued content ∷ [])) (sym kept) (contents_after_queued s.contents.items es content ledger sums.contents);
+  states = states ∙ ap (λ ss. ss ++ state.Waiting 0 ∷ []) sums.states ∙ sym (states_after_queued es content ledger);
+  first_waiting = subst (λ ss. IsFirstWaiting ss t.first_waiting) (sym states) (subst (IsFirstWaiting (s.states.items ++ state.Waiting 0 ∷ [])) (sym first) (first_after_queued s.states.items s.first_waiting sums.first_waiting));
+  recorded = recorded ∙ sums.recorded ∙ sym (recorded-same es (Queued content) refl);
+  next = next ∙ sums.next ∙ sym (next_after_queued es content);
+  count = one_more_entry s.count t.count es (Queued content) count sums.count;
+})
+
+pub book_after_tried : (s t : Book) (es : List Entry) (e : Entry) (n next r : ℕ) (x y : ReceiptState) → IsBookOf s es → MayFollow es e → e ≡ Tried n next → r ≡ n
+    → x ≡ get_or s.states.items (r - 1) x → ((tried : ℕ) → x ≡ state.Waiting tried → y ≡ state.Waiting (tried + 1))
+    → t.contents.items ≡ s.contents.items → t.states.items ≡ set s.states.items (r - 1) y
+    → t.first_waiting ≡ s.first_waiting → t.recorded ≡ s.recorded → t.next ≡ next → t.count ≡ s.count + 1 → IsBookOf t (es ++ e ∷ [])
+book_after_tried s t es e n next r x y sums follows kind same is more kept states first recorded is_next count =
+    let waits : Waits es n = (subst (MayFollow es) kind follows).0 in
+    let one_more = more (times_tried es n) (state_read s es n r x sums waits same is) in
+    let set_so : t.states.items ≡ set s.states.items (n - 1) (state.Waiting (times_tried es n + 1)) =
+    states ∙ ap (set s.states.items (r - 1)) one_more ∙ ap (λ k. set s.states.items (k - 1) (state.Waiting (times_tried es n + 1))) same in
+    subst (λ e. IsBookOf t (es ++ e ∷ [])) (sym kind) (record {
+      contents = subst (λ cs. HasContents cs (es ++ Tried n next ∷ [])) (sym kept) (contents_after_tried s.contents.items es n next waits sums.contents);
+      states = set_so ∙ ap (λ ss. set ss (n - 1) (state.Waiting (times_tried es n + 1))) sums.states ∙ sym (tried_states es n next waits);
+      first_waiting = subst (λ ss. IsFirstWaiting ss t.first_waiting) (sym set_so) (subst (IsFirstWaiting (set s.states.items (n - 1) (state.Waiting (times_tried es n + 1)))) (sym first)
+          (first_after_tried s.states.items s.first_waiting (n - 1) (times_tried es n) (times_tried es n + 1) (ap (λ ss. slice_get ss (n - 1)) sums.states ∙ waiting_state es n waits) sums.first_waiting));
+      recorded = recorded ∙ sums.recorded ∙ sym (recorded-same es (Tried n next) refl);
+      next = is_next ∙ sym (next_after_tried es n next);
+      count = one_more_entry s.count t.count es (Tried n next) count sums.count;
+    })
+
+pub book_after_recorded : (s t : Book) (es : List Entry) (e : Entry) (n r : ℕ) → IsBookOf s es → MayFollow es e → e ≡ Recorded n → r ≡ n
+    → (x : Content) → t.contents.items ≡ set s.contents.items (r - 1) x → t.states.items ≡ set s.states.items (r - 1) (state.Recorded s.recorded)
+    → IsFirstWaiting t.states.items t.first_waiting → t.recorded ≡ s.recorded + 1 → t.next ≡ s.next → t.count ≡ s.count + 1 → IsBookOf t (es ++ e ∷ [])
+book_after_recorded s t es e n r sums follows kind same x kept states first recorded next count =
+    let waits : Waits es n = (subst (MayFollow es) kind follows).0 in
+    subst (λ e. IsBookOf t (es ++ e ∷ [])) (sym kind) (record {
+      contents = subst (λ cs. HasContents cs (es ++ Recorded n ∷ [])) (sym (kept ∙ ap (λ k. set s.contents.items (k - 1) x) same)) (contents_after_recorded s.contents.items es n x waits sums.contents);
+      states = states ∙ ap (λ k. set s.states.items (k - 1) (state.Recorded s.recorded)) same ∙ ap (λ ss. set ss (n - 1) (state.Recorded s.recorded)) sums.states
+          ∙ ap (λ c. set (states_of es) (n - 1) (state.Recorded c)) sums.recorded ∙ sym (recorded_states es n waits);
+      first_waiting = first;
+      recorded = recorded ∙ ap (λ c. c + 1) sums.recorded ∙ sym (recorded-count es n);
+      next = next ∙ sums.next ∙ sym (next_after_recorded es n);
+      count = one_more_entry s.count t.count es (Recorded n) count sums.count;
+    })
+
+pub book_after_raised : (s t : Book) (es : List Entry) (e : Entry) (next : ℕ) → IsBookOf s es → e ≡ Raised next
+    → t.contents.items ≡ s.contents.items → t.states.items ≡ s.states.items
+    → t.first_waiting ≡ s.first_waiting → t.recorded ≡ s.recorded → t.next ≡ next → t.count ≡ s.count + 1 → IsBookOf t (es ++ e ∷ [])
+book_after_raised s t es e next sums kind kept states first recorded is_next count = subst (λ e. IsBookOf t (es ++ e ∷ [])) (sym kind) (record {
+  contents = subst (λ cs. HasContents cs (es ++ Raised next ∷ [])) (sym kept) (contents_after_raised s.contents.items es next sums.contents);
+  states = states ∙ sums.states ∙ sym (states_after_raised es next);
+  first_waiting = subst (λ ss. IsFirstWaiting ss t.first_waiting) (sym states) (subst (IsFirstWaiting s.states.items) (sym first) sums.first_waiting);
+  recorded = recorded ∙ sums.recorded ∙ sym (recorded-same es (Raised next) refl);
+  next = is_next ∙ sym (next_after_raised es next);
+  count = one_more_entry s.count t.count es (Raised next) count sums.count;
+})
+
+-- How often a receipt was tried is what its state says.
+pub tried_so : (s : Book) (es : List Entry) (n r : ℕ) (x : ReceiptState) → IsBookOf s es → 0 < n → r ≡ n → r - 1 < length s.states.items → x ≡ get_or s.states.items (r - 1) x
+    → MatchOption (tries_in x) (Waits es n → ⊥) (λ tried. Waits es n × (times_tried es n ≡ tried))
+tried_so s es n r (state.Waiting tried) sums from_one same within is =
+    waits_by_state es n tried from_one
+    (ap (λ ss. slice_get ss (n - 1)) (sym sums.states) ∙ ap (λ k. slice_get s.states.items (k - 1)) (sym same) ∙ slice_get_read s.states.items (length s.states.items) (r - 1) (state.Waiting tried) refl within is)
+tried_so s es n r (state.Recorded place) sums from_one same within is =
+    λ waits. let bad : state.Recorded place ≡ state.Waiting (times_tried es n) = state_read s es n r (state.Recorded place) sums waits same is in cc
+
+pub tried_past : (s : Book) (es : List Entry) (n r : ℕ) → IsBookOf s es → r ≡ n → length s.states.items ≤ r - 1 → Waits es n → ⊥
+tried_past s es n r sums same past waits =
+    let within = within_states es n waits in
+    let count : length s.states.items ≡ length (states_of es) = ap length sums.states in
+    omega (arith, within, count, past, same)
+
+-- ## The first that waits
+
+pub none_left : (s : Book) (es : List Entry) → IsBookOf s es → length s.states.items ≤ s.first_waiting → waiting es ≡ []
+none_left s es sums past =
+    let count : length s.states.items ≡ length (contents es) = ap length sums.states ∙ length-states es in
+    no_more es (λ k tried l is. sums.first_waiting.passed k (state.Waiting tried) (omega (arith, count, past)) (ap (λ ss. slice_get ss k) sums.states ∙ is))
+
+content_at : {X : Type 0} (xs : List X) (k : ℕ) → k < length xs → (x : X) × (slice_get xs k ≡ Some x)
+content_at [] k l = absurd (omega (arith, l))
+content_at (x ∷ xs) zero l = (x, refl)
+content_at (x ∷ xs) (suc k) l = content_at xs k (omega (arith, l))
+
+pub first_left : (s : Book) (es : List Entry) (tried : ℕ) (content : Content) → IsBookOf s es → slice_get s.states.items s.first_waiting ≡ Some (state.Waiting tried)
+    → slice_get s.contents.items s.first_waiting ≡ Some content → FirstWaits es (s.first_waiting + 1) content tried
+first_left s es tried content sums waits is =
+    let at : slice_get (states_of es) s.first_waiting ≡ Some (state.Waiting tried) = ap (λ ss. slice_get ss s.first_waiting) (sym sums.states) ∙ waits in
+    let inside : s.first_waiting < length (contents es) = omega (arith, get-within (states_of es) s.first_waiting (state.Waiting tried) at, length-states es) in
+    let found = content_at (contents es) s.first_waiting inside in
+    let same : Some found.0 ≡ Some content = sym (sums.contents.waiting s.first_waiting tried found.0 at found.1) ∙ is in
+    first_of_states es s.first_waiting tried content (found.1 ∙ same) at
+    (λ k t l h. sums.first_waiting.passed k (state.Waiting t) l (ap (λ ss. slice_get ss k) sums.states ∙ h))
+
+pub within_contents : (s : Book) (es : List Entry) (n : ℕ) → IsBookOf s es → Waits es n → n - 1 < length s.contents.items
+within_contents s es n book waits = omega (arith, book.contents.count, within_states es n waits, length-states es)
+
+pub contents_so : (s : Book) (es : List Entry) → IsBookOf s es → length s.contents.items ≡ length s.states.items
+contents_so s es book = omega (arith, book.contents.count, ap length book.states, length-states es)
+
+pub number_is : (made : Option ℕ) (n place : ℕ) → SomeIff made (0 < place + 1) (place + 1) → made ≡ Some n → n ≡ place + 1
+number_is None n place h is = absurd (let bad : None ≡ Some n = is in cc)
+number_is (Some m) n place h is = (let same : Some n ≡ Some m = sym is in cc) ∙ h.1
+
+pub first_waits : (s : Book) (es : List Entry) (tried : ℕ) → IsBookOf s es → slice_get s.states.items s.first_waiting ≡ Some (state.Waiting tried) → Waits es (s.first_waiting + 1)
+first_waits s es tried book waits =
+    let back : s.first_waiting + 1 - 1 ≡ s.first_waiting = omega arith in
+    (waits_by_state es (s.first_waiting + 1) tried (omega arith) (ap (slice_get (states es)) back ∙ ap (λ ss. slice_get ss s.first_waiting) (sym book.states) ∙ waits)).0

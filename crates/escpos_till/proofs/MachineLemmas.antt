@@ -1,0 +1,91 @@
+-- What the calls of a machine do to the entries that it is of.
+use Rattle.std.proofs.Common.{ℕ, zero, suc, ◌≡◌, ◌+◌, ◌-◌, ◌<◌, inl, inr, Some, None, List, [], ◌∷◌, ◌++◌, length, refl, sym, ◌∙◌, ap, subst, length-append, arith}
+use Rattle.std.specs.Prelude.{slice_get}
+use Rattle.escpos_host.specs.declared.host.HostEvent.{HostEvent}
+use Rattle.escpos_host.specs.declared.host.HostEvent.TheVariants as event
+use Rattle.escpos_host.specs.Machine.{HostView}
+use Rattle.escpos_command.specs.declared.command.Command.{Command}
+use Rattle.std.specs.Prelude.{Option}
+use Rattle.escpos_till.specs.declared.book.Book.{Book}
+use Rattle.escpos_till.specs.declared.entry.Entry.{Entry}
+use Rattle.escpos_till.specs.declared.entry.Entry.TheVariants as entry
+use Rattle.escpos_till.specs.declared.machine.Due.{Due}
+use Rattle.escpos_till.specs.declared.machine.Stage.{Stage}
+use Rattle.escpos_till.specs.declared.machine.Stage.TheVariants as stage
+use Rattle.escpos_till.specs.declared.machine.Talk.{Talk}
+use Rattle.escpos_till.specs.declared.machine.Then.{Then}
+use Rattle.escpos_till.specs.declared.machine.Then.TheVariants as then
+use Rattle.escpos_till.specs.declared.state.ReceiptState.TheVariants as state
+use Rattle.escpos_till.specs.Entries.{MayFollow, Waits, states, times_tried}
+use Rattle.escpos_till.specs.Machine.{Came, Fits, Follows, GoesOn, HearsOne, Opens, Submits, Suits, Turns, most_entries}
+use Rattle.escpos_till.proofs.BookLemmas.{get-here}
+use Rattle.escpos_till.proofs.EntryLemmas.{some_state, tried_states, waits_by_state, within_states}
+
+-- A receipt that waits and is tried waits still, and was tried.
+pub waits_tried : (es : List Entry) (n next : ℕ) → Waits es n → Waits (es ++ entry.Tried n next ∷ []) n × (0 < times_tried (es ++ entry.Tried n next ∷ []) n)
+waits_tried es n next waits =
+    let more : List Entry = es ++ entry.Tried n next ∷ [] in
+    let stands : slice_get (states more) (n - 1) ≡ Some (state.Waiting (times_tried es n + 1)) =
+    ap (λ ss. slice_get ss (n - 1)) (tried_states es n next waits) ∙ get-here (states es) (n - 1) (state.Waiting (times_tried es n + 1)) (within_states es n waits) in
+    let so = waits_by_state more n (times_tried es n + 1) waits.from_one stands in
+    (so.0, omega (arith, so.1))
+
+-- A talk that goes on fits, and so does what ends it.
+fits_going_on : (b : Book) (es : List Entry) (talk : Talk) (left : ℕ) (before h : HostView) (s : Stage) → Waits es talk.number → 0 < times_tried es talk.number → length es < most_entries
+    → GoesOn talk left before h s → Fits b es s
+fits_going_on b es talk zero before h s waits tried few so = subst (Fits b es) (sym so.1) tt
+fits_going_on b es talk (suc left) before h s waits tried few so = subst (Fits b es) (sym so.1) (waits, tried, few)
+
+fits_submits : (b : Book) (es : List Entry) (talk : Talk) (receipt : Option (List Command)) (left : ℕ) (before h : HostView) (s : Stage) → Waits es talk.number → 0 < times_tried es talk.number
+    → length es < most_entries → Submits talk receipt left before h s → Fits b es s
+fits_submits b es talk (Some receipt) (suc left) before h s waits tried few (inl given) = subst (Fits b es) (sym given.5) (waits, tried, few)
+fits_submits b es talk (Some receipt) (suc left) before h s waits tried few (inr refused) = subst (Fits b es) (sym refused.3) tt
+fits_submits b es talk (Some receipt) zero before h s waits tried few so = fits_going_on b es talk zero before h s waits tried few so
+fits_submits b es talk None left before h s waits tried few so = fits_going_on b es talk left before h s waits tried few so
+
+pub fits_turns : (b : Book) (es : List Entry) (e : HostEvent) (talk : Talk) (left : ℕ) (before h : HostView) (s : Stage) → Fits b es (stage.Talking talk) → Turns e talk left before h s → Fits b es s
+fits_turns b es event.None talk left before h s fits so = fits_going_on b es talk left before h s fits.0 fits.1 fits.2 so
+fits_turns b es (event.Status byte) talk left before h s fits so = fits_going_on b es talk left before h s fits.0 fits.1 fits.2 so
+fits_turns b es event.Opened talk left before h s fits so = fits_submits b es talk talk.receipt left before h s fits.0 fits.1 fits.2 so
+fits_turns b es (event.Recorded place) talk left before h s fits so =
+    subst (Fits b es) (sym so.1) ((fits.0, fits.1), refl, omega (arith, fits.2), λ content is. absurd (let bad : entry.Recorded talk.number ≡ entry.Queued content = is in cc))
+fits_turns b es (event.BadAnswer place) talk left before h s fits so = subst (Fits b es) (sym so.1) tt
+
+-- Once an entry is kept, what follows fits the entries with it.
+fits_opens : (b : Book) (es : List Entry) (due : Due) (first : ℕ) (h : HostView) (s : Stage) → Waits es due.number → 0 < times_tried es due.number → length es < most_entries
+    → Opens due first h s → Fits b es s
+fits_opens b es due first h s waits tried few (inl opened) = subst (Fits b es) (sym opened.1) (waits, tried, few)
+fits_opens b es due first h s waits tried few (inr refused) = subst (Fits b es) (sym refused.2) tt
+
+fits_sent : (b : Book) (es : List Entry) (e : Entry) (due : Due) (first : ℕ) (h : HostView) (s : Stage) → MayFollow es e → Suits (then.Send due) e → length es + 1 < most_entries
+    → Opens due first h s → Fits b (es ++ e ∷ []) s
+fits_sent b es (entry.Tried n next) due first h s follows suits few opens =
+    let so = waits_tried es n next follows.0 in
+    let long : length (es ++ entry.Tried n next ∷ []) ≡ length es + 1 = length-append es (entry.Tried n next ∷ []) in
+    fits_opens b (es ++ entry.Tried n next ∷ []) due first h s (subst (Waits (es ++ entry.Tried n next ∷ [])) suits so.0)
+    (subst (λ k. 0 < times_tried (es ++ entry.Tried n next ∷ []) k) suits so.1) (omega (arith, long, few)) opens
+fits_sent b es (entry.Queued content) due first h s follows suits few opens = absurd suits
+fits_sent b es (entry.Recorded n) due first h s follows suits few opens = absurd suits
+fits_sent b es (entry.Raised next) due first h s follows suits few opens = absurd suits
+
+pub fits_follows : (b b' : Book) (es : List Entry) (e : Entry) (next : Then) (before : HostView) (first : ℕ) (h : HostView) (s : Stage) → Fits b es (stage.Keeping e next)
+    → Follows next before first b' h s → Fits b' (es ++ e ∷ []) s
+fits_follows b b' es e then.Queued before first h s fits so = subst (Fits b' (es ++ e ∷ [])) (sym so.3) tt
+fits_follows b b' es e then.Raised before first h s fits so = subst (Fits b' (es ++ e ∷ [])) (sym so.1) tt
+fits_follows b b' es e (then.Send due) before first h s fits so = fits_sent b' es e due first h s fits.0 fits.1 fits.2 so
+fits_follows b b' es e (then.Recorded number) before first h s fits so = subst (Fits b' (es ++ e ∷ [])) (sym so.1) tt
+
+-- A receipt that was taken has a state.
+pub state_of_taken : (es : List Entry) (e : Entry) → Suits then.Queued e → 0 < length (states (es ++ e ∷ []))
+state_of_taken es (entry.Queued content) suits = some_state (es ++ entry.Queued content ∷ []) es content refl
+state_of_taken es (entry.Tried n next) suits = absurd suits
+state_of_taken es (entry.Recorded n) suits = absurd suits
+state_of_taken es (entry.Raised next) suits = absurd suits
+
+-- What came over a link, as it is told of the machine's parts.
+pub came_so : (talk : Talk) (now : Stage) (b inside : Book) (h host : HostView) (bytes : List ℕ) (consumed : ℕ) (e : HostEvent) (heard : HostView) (left : ℕ) (after : HostView) (s : Stage)
+    → now ≡ stage.Talking talk → host ≡ h → inside ≡ b → HearsOne host bytes consumed e heard → left ≡ talk.left - consumed → Turns e talk left heard after s
+    → Came now bytes consumed (record { book = b; host = h; stage = now }) (record { book = inside; host = after; stage = s })
+came_so talk now b inside h host bytes consumed e heard left after s is same books hears less turns =
+    subst (λ stage. Came stage bytes consumed (record { book = b; host = h; stage = now }) (record { book = inside; host = after; stage = s })) (sym is)
+    (e, heard, subst (λ x. HearsOne x bytes consumed e heard) same hears, subst (λ n. Turns e talk n heard after s) less turns, books)

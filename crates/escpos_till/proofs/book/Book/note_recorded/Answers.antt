@@ -1,0 +1,29 @@
+-- One more receipt is recorded.
+use Rattle.std.proofs.Common.{◌-◌, ◌∙◌, List, ap, slice_get, sym, subst, refl, arith}
+use Rattle.escpos_till.specs.Summary.{IsFirstWaiting}
+use Rattle.escpos_till.specs.declared.state.ReceiptState.{ReceiptState}
+use Rattle.escpos_till.proofs.EntryLemmas.{few_records}
+use Rattle.escpos_till.proofs.BookLemmas.{book_after_recorded, within_contents}
+use Rattle.escpos_till.proofs.SummaryLemmas.{passed_after_recorded}
+use Rattle.escpos_till.proofs.book.Book.note_recorded.Goals as goal
+
+pub index_mut-requires-2 : goal.index_mut-requires-2
+index_mut-requires-2 c =
+    let (entries, book, ledger, waits, few) = c.requires.follows in
+    omega (arith, within_contents c.args.self.now entries c.args.number book waits.0, c.get-place.ensures.value)
+
+pub overflow_add-self : goal.overflow_add-self
+overflow_add-self c =
+    let (entries, book, ledger, waits, few) = c.requires.follows in
+    omega (arith, book.recorded, few, few_records entries)
+
+pub first_waiting_from-self-requires-clause-passed :
+    goal.first_waiting_from-self-requires-clause-passed
+first_waiting_from-self-requires-clause-passed c k s before is =
+    passed_after_recorded c.args.self.now.states.items c.args.self.now.first_waiting (c.get-place.result - 1) c.args.self.now.recorded c.requires.follows.1.first_waiting k s before
+    (ap (λ (ss : List ReceiptState). slice_get ss k) (sym c.deref.ensures.value) ∙ is)
+
+pub returns : goal.returns
+returns c entries book ledger follows =
+    book_after_recorded c.args.self.now _ entries _ c.args.number c.get-place.result book follows refl c.get-place.ensures.value c.new-2.result refl refl
+    (subst (λ (ss : List ReceiptState). IsFirstWaiting ss c.first_waiting_from-self.result) c.deref.ensures.value c.first_waiting_from-self.ensures) refl refl refl

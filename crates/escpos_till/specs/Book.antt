@@ -1,0 +1,32 @@
+-- What a till knows of its ledger: what the entries say, as far as taking and delivering receipts needs it.
+use Rattle.std.specs.Prelude.{ℕ, ◌≡◌, ◌<◌, Some, List, [], ◌∷◌, ◌++◌, length, slice_get}
+use Rattle.escpos_till.specs.declared.book.Book.{Book}
+use Rattle.escpos_till.specs.declared.entry.Content.{Content}
+use Rattle.escpos_till.specs.declared.entry.Entry.{Entry}
+use Rattle.escpos_till.specs.declared.state.ReceiptState.TheVariants as state
+use Rattle.escpos_till.specs.Entries.{IsLedger, MayFollow, contents, next_free, recorded, states}
+use Rattle.escpos_till.specs.Summary.{IsFirstWaiting}
+
+-- These are the contents of the receipts that wait, each at the place of its receipt.
+pub record HasContents (kept : List Content) (entries : List Entry) : Type 0 where
+  pub count : length kept ≡ length (contents entries)
+  pub waiting : (k tried : ℕ) (content : Content) → slice_get (states entries) k ≡ Some (state.Waiting tried)
+      → slice_get (contents entries) k ≡ Some content → slice_get kept k ≡ Some content
+
+-- It is the book of these entries.
+pub record IsBookOf (b : Book) (entries : List Entry) : Type 0 where
+  pub states : b.states.items ≡ states entries
+  pub contents : HasContents b.contents.items entries
+  pub first_waiting : IsFirstWaiting b.states.items b.first_waiting
+  pub recorded : b.recorded ≡ length (recorded entries)
+  pub next : b.next ≡ next_free entries
+  pub count : b.count ≡ length entries
+
+-- One more entry, which may follow, is taken into account.
+abbrev pub Notes : Book → Entry → Book → Type 0
+Notes old e new = (entries : List Entry) → IsBookOf old entries → IsLedger entries → MayFollow entries e → IsBookOf new (entries ++ e ∷ [])
+
+-- There is room for one more receipt.
+pub record HasRoom (b : Book) : Type 0 where
+  pub states : length b.states.items < b.states.cap
+  pub contents : length b.contents.items < b.contents.cap

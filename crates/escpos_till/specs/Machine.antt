@@ -1,0 +1,250 @@
+-- The machine of a till with one printer: what it asks for, and what each call does.
+use Rattle.std.specs.Prelude.{ℕ, zero, suc, ◌≡◌, ◌≢◌, ◌⊎◌, ◌+◌, ◌-◌, ◌<◌, ◌≤◌, ◌^◌, max, Option, Some, None, List, [], length}
+use Rattle.escpos_command.specs.declared.command.Command.{Command}
+use Rattle.escpos_command.specs.Digits.{mark_count}
+use Rattle.escpos_host.specs.declared.host.HostError.{HostError}
+use Rattle.escpos_host.specs.declared.host.HostEvent.{HostEvent}
+use Rattle.escpos_host.specs.declared.host.HostEvent.TheVariants as event
+use Rattle.escpos_host.specs.declared.send.SendFault.{SendFault}
+use Rattle.escpos_host.specs.declared.send.SendFault.TheVariants as fault
+use Rattle.escpos_host.specs.Awaits.{RefusesOpening, dialled}
+use Rattle.escpos_host.specs.Heard.{IsHeard}
+use Rattle.escpos_host.specs.Machine.{HostView, InFlight, Down, Open, HasMark, RefusesSubmit, gone_down, most_in_flight, submitted, taken_out}
+use Rattle.escpos_till.specs.declared.book.Book.{Book}
+use Rattle.escpos_till.specs.declared.entry.Content.{Content}
+use Rattle.escpos_till.specs.declared.entry.Entry.{Entry}
+use Rattle.escpos_till.specs.declared.entry.Entry.TheVariants as entry
+use Rattle.escpos_till.specs.declared.machine.Action.{Action}
+use Rattle.escpos_till.specs.declared.machine.Action.TheVariants as action
+use Rattle.escpos_till.specs.declared.machine.Due.{Due}
+use Rattle.escpos_till.specs.declared.machine.Stage.{Stage}
+use Rattle.escpos_till.specs.declared.machine.Stage.TheVariants as stage
+use Rattle.escpos_till.specs.declared.machine.Talk.{Talk}
+use Rattle.escpos_till.specs.declared.machine.Then.{Then}
+use Rattle.escpos_till.specs.declared.machine.Then.TheVariants as then
+use Rattle.escpos_till.specs.declared.machine.TillNote.{TillNote}
+use Rattle.escpos_till.specs.declared.machine.TillNote.TheVariants as note
+use Rattle.escpos_till.specs.declared.machine.TillRefusal.{TillRefusal}
+use Rattle.escpos_till.specs.declared.machine.TillRefusal.TheVariants as refusal
+use Rattle.escpos_till.specs.declared.store.StoreFault.{StoreFault}
+use Rattle.escpos_till.specs.Book.{HasRoom, IsBookOf, Notes}
+use Rattle.escpos_till.specs.Delivers.{Due as IsDue, WhyNone, fresh, marks_taken}
+use Rattle.escpos_till.specs.Entries.{IsLedger, MayFollow, Waits, next_free, times_tried, waiting}
+use Rattle.escpos_till.specs.Ledger.{FirstWaits}
+
+-- ## The model of a machine
+
+-- What it knows of its ledger, its host, and where it stands.
+pub record MachineView : Type 0 where
+  pub book : Book
+  pub host : HostView
+  pub stage : Stage
+
+abbrev pub at : MachineView → Stage → MachineView
+at m s = record { book = m.book; host = m.host; stage = s }
+
+abbrev pub with_host : MachineView → HostView → Stage → MachineView
+with_host m h s = record { book = m.book; host = h; stage = s }
+
+-- No more entries than these are ever taken.
+abbrev pub most_entries : ℕ
+most_entries = 2 ^ 62
+
+-- What follows suits the entry.
+abbrev pub Suits : Then → Entry → Type 0
+Suits then.Queued (entry.Queued content) = Unit {0}
+Suits then.Raised (entry.Raised next) = Unit {0}
+Suits (then.Send due) (entry.Tried number next) = number ≡ due.number
+Suits (then.Recorded number) (entry.Recorded n) = n ≡ number
+Suits next e = ⊥
+
+-- How many entries may follow that one at once.
+abbrev pub others : Then → ℕ
+others (then.Send due) = 1
+others next = 0
+
+-- A stage fits these entries: what is to be kept may follow them.
+abbrev pub Fits : Book → List Entry → Stage → Type 0
+Fits b es (stage.Connecting due) = Waits es due.number × (next_free es + marks_taken due.openings ≤ mark_count) × (length es + 1 < most_entries)
+Fits b es (stage.Keeping e next) = MayFollow es e × Suits next e × (length es + others next < most_entries) × ((content : Content) → e ≡ entry.Queued content → HasRoom b)
+Fits b es (stage.Talking talk) = Waits es talk.number × (0 < times_tried es talk.number) × (length es < most_entries)
+Fits b es s = Unit {0}
+
+-- What holds for every machine: it is that of some entries.
+pub record IsMachine (m : MachineView) : Type 0 where
+  pub entries : List Entry
+  pub book : IsBookOf m.book entries
+  pub ledger : IsLedger entries
+  pub fits : Fits m.book entries m.stage
+
+-- A new machine: it is at rest, with a host that has sent nothing, and whose first mark will have the next number.
+pub record IsStarted (m : MachineView) : Type 0 where
+  pub host : m.host ≡ fresh m.book.next
+  pub stage : m.stage ≡ stage.AtRest
+
+-- ## What it asks for
+
+abbrev pub PutsFirst : HostView → Action → ℕ → Type 0
+PutsFirst h (action.Put) left = h.out ≢ []
+PutsFirst h (action.Wait most) left = (h.out ≡ []) × (most ≡ left)
+PutsFirst h _ left = ⊥
+
+-- A machine at this stage asks for this.
+abbrev pub Asks : MachineView → Stage → Action → Type 0
+Asks m (stage.Connecting due) a = a ≡ action.Connect
+Asks m (stage.Keeping e next) (action.Append asked) = asked.now ≡ e
+Asks m (stage.Keeping e next) _ = ⊥
+Asks m (stage.Talking talk) a = PutsFirst m.host a talk.left
+Asks m (stage.HangingUp n) a = a ≡ action.HangUp
+Asks m (stage.Telling n) a = a ≡ action.Tell n
+Asks m _ a = a ≡ action.Nothing
+
+-- ## Calls of a machine at rest
+
+-- It is to keep that a receipt with this content is taken.
+pub record Queues (m : MachineView) (content : Content) (after : MachineView) : Type 0 where
+  pub rest : m.stage ≡ stage.AtRest
+  pub host : after.host ≡ m.host
+  pub book : (entries : List Entry) → IsBookOf m.book entries → IsBookOf after.book entries
+  pub keeps : after.stage ≡ stage.Keeping (entry.Queued content) then.Queued
+
+-- It is to keep that the next mark number is this.
+pub record Raises (m : MachineView) (first : ℕ) (after : MachineView) : Type 0 where
+  pub rest : m.stage ≡ stage.AtRest
+  pub least : m.book.next ≤ first
+  pub after_is : after ≡ at m (stage.Keeping (entry.Raised first) then.Raised)
+
+-- It is the first receipt that waits, and there are enough mark numbers for it.
+pub record IsNext (b : Book) (openings most : ℕ) (copy : Option (List ℕ)) (due : Due) : Type 0 where
+  pub marks : due.openings ≡ openings
+  pub answers : due.most ≡ most
+  pub first : (entries : List Entry) → IsBookOf b entries → IsDue entries copy due.number due.receipt
+  pub within : b.next + marks_taken openings ≤ mark_count
+
+-- It is to connect for the first receipt that waits.
+pub record Delivers (m : MachineView) (openings most : ℕ) (copy : Option (List ℕ)) (after : MachineView) : Type 0 where
+  pub rest : m.stage ≡ stage.AtRest
+  pub due : Due
+  pub next : IsNext m.book openings most copy due
+  pub after_is : after ≡ at m (stage.Connecting due)
+
+-- Why a call is refused: what holds of the machine then. The first reason that applies counts; out of memory may come in place of any.
+abbrev pub Refuses : MachineView → TillRefusal → Type 0
+Refuses m refusal.Busy = (m.stage ≢ stage.AtRest) × (m.stage ≢ stage.Failed)
+Refuses m refusal.Failed = m.stage ≡ stage.Failed
+Refuses m refusal.Memory = m.stage ≡ stage.AtRest
+Refuses m refusal.NothingWaits = (m.stage ≡ stage.AtRest) × ((entries : List Entry) → IsBookOf m.book entries → waiting entries ≡ [])
+Refuses m (refusal.NoReceipt number why) = (m.stage ≡ stage.AtRest)
+    × ((entries : List Entry) → IsBookOf m.book entries → (content : Content) × (tried : ℕ) × FirstWaits entries number content tried × WhyNone why content)
+Refuses m (refusal.MarksUsedUp number) = (m.stage ≡ stage.AtRest)
+    × ((entries : List Entry) → IsBookOf m.book entries → (content : Content) × (tried : ℕ) × FirstWaits entries number content tried)
+Refuses m (refusal.MarkReused next) = (m.stage ≡ stage.AtRest) × (next ≡ m.book.next)
+
+-- The same book, whatever room it has.
+pub record SameBut (m after : MachineView) : Type 0 where
+  pub host : after.host ≡ m.host
+  pub stage : after.stage ≡ m.stage
+  pub book : (entries : List Entry) → IsBookOf m.book entries → IsBookOf after.book entries
+
+-- ## What it is told
+
+-- A host gives its link up, if it has one.
+abbrev pub Drops : HostView → HostView → Type 0
+Drops h after = (h.phase ≡ Down → after ≡ h) × (h.phase ≢ Down → after ≡ gone_down h)
+
+-- A fresh host, whose first mark has this number, puts the opening marks out; or it refuses to.
+abbrev pub Opens : Due → ℕ → HostView → Stage → Type 0
+Opens due first h s =
+    ((h ≡ dialled (fresh first) (max due.openings 1)) × (s ≡ stage.Talking (record { number = due.number; receipt = Some due.receipt; left = due.most })))
+    ⊎ ((why : HostError) × RefusesOpening why (fresh first) (max due.openings 1) h × (s ≡ stage.HangingUp (note.Waiting due.number (fault.Refused why))))
+
+-- What follows once the entry is kept, where this host was there, and this mark number was the next; the book is the new one.
+abbrev pub Follows : Then → HostView → ℕ → Book → HostView → Stage → Type 0
+Follows then.Queued before first b h s = (number : ℕ) × (number ≡ length b.states.items) × (h ≡ before) × (s ≡ stage.Telling (note.Queued number))
+Follows then.Raised before first b h s = (h ≡ before) × (s ≡ stage.Telling note.Raised)
+Follows (then.Send due) before first b h s = Opens due first h s
+Follows (then.Recorded number) before first b h s = Drops before h × (s ≡ stage.HangingUp (note.Recorded number))
+
+-- The entry is kept.
+abbrev pub Kept : Stage → MachineView → MachineView → Type 0
+Kept (stage.Keeping e next) m after = Notes m.book e after.book × Follows next m.host m.book.next after.book after.host after.stage
+Kept s m after = after ≡ m
+
+-- The store couldn't tell whether it is. The link, if there is one, is given up first.
+abbrev pub lost : Then → StoreFault → Stage
+lost then.Queued why = stage.Telling (note.NotKept why)
+lost then.Raised why = stage.Telling (note.NotKept why)
+lost (then.Send due) why = stage.HangingUp (note.NotKept why)
+lost (then.Recorded number) why = stage.HangingUp (note.NotKept why)
+
+abbrev pub Unsure : Stage → StoreFault → MachineView → MachineView → Type 0
+Unsure (stage.Keeping e next) why m after = Drops m.host after.host × (after.book ≡ m.book) × (after.stage ≡ lost next why)
+Unsure s why m after = after ≡ m
+
+-- There is a link: the try is kept, before a byte goes out.
+abbrev pub connected : Stage → MachineView → MachineView
+connected (stage.Connecting due) m =
+    at m (stage.Keeping (entry.Tried due.number (m.book.next + marks_taken due.openings)) (then.Send due))
+connected s m = m
+
+-- There is none.
+abbrev pub not_connected : Stage → MachineView → MachineView
+not_connected (stage.Connecting due) m = at m (stage.Telling (note.NoLink due.number))
+not_connected s m = m
+
+-- The first bytes that are to be put were taken out.
+abbrev pub put : Stage → ℕ → MachineView → MachineView
+put (stage.Talking talk) n m = with_host m (taken_out m.host n) (stage.Talking talk)
+put s n m = m
+
+-- The talk goes on, where so many bytes of answers may still be read.
+abbrev pub GoesOn : Talk → ℕ → HostView → HostView → Stage → Type 0
+GoesOn talk zero before h s = Drops before h × (s ≡ stage.HangingUp (note.Waiting talk.number fault.TooLong))
+GoesOn talk (suc left) before h s = (h ≡ before) × (s ≡ stage.Talking (record { number = talk.number; receipt = talk.receipt; left = suc left }))
+
+-- The link is open: the host is given the receipt, or refuses it.
+abbrev pub Submits : Talk → Option (List Command) → ℕ → HostView → HostView → Stage → Type 0
+Submits talk (Some receipt) (suc left) before h s =
+    ((flight : List InFlight) × (before.phase ≡ Open flight) × (length flight < most_in_flight) × HasMark before × (h ≡ submitted before flight receipt)
+    × (s ≡ stage.Talking (record { number = talk.number; receipt = None; left = suc left })))
+    ⊎ ((why : HostError) × RefusesSubmit why before × Drops before h × (s ≡ stage.HangingUp (note.Waiting talk.number (fault.Refused why))))
+Submits talk receipt left before h s = GoesOn talk left before h s
+
+-- What an event does, where so many bytes of answers may still be read.
+abbrev pub Turns : HostEvent → Talk → ℕ → HostView → HostView → Stage → Type 0
+Turns event.None talk left before h s = GoesOn talk left before h s
+Turns (event.Status byte) talk left before h s = GoesOn talk left before h s
+Turns event.Opened talk left before h s = Submits talk talk.receipt left before h s
+Turns (event.Recorded place) talk left before h s = (h ≡ before) × (s ≡ stage.Keeping (entry.Recorded talk.number) (then.Recorded talk.number))
+Turns (event.BadAnswer place) talk left before h s = Drops before h × (s ≡ stage.HangingUp (note.Waiting talk.number fault.BadAnswer))
+
+-- A host hears bytes up to the first event, and with no link none of them.
+abbrev pub HearsOne : HostView → List ℕ → ℕ → HostEvent → HostView → Type 0
+HearsOne h bytes consumed e after =
+    (h.phase ≡ Down → (consumed ≡ length bytes) × (e ≡ event.None) × (after ≡ h)) × (h.phase ≢ Down → IsHeard h bytes consumed e after)
+
+-- Bytes of answers came, and so many of them were heard.
+abbrev pub Came : Stage → List ℕ → ℕ → MachineView → MachineView → Type 0
+Came (stage.Talking talk) bytes consumed m after =
+    (e : HostEvent) × (h : HostView) × HearsOne m.host bytes consumed e h × Turns e talk (talk.left - consumed) h after.host after.stage × (after.book ≡ m.book)
+Came s bytes consumed m after = (consumed ≡ length bytes) × (after ≡ m)
+
+-- The link has ended, or was waited for as long as may be.
+abbrev pub Ended : Stage → SendFault → MachineView → MachineView → Type 0
+Ended (stage.Talking talk) why m after =
+    Drops m.host after.host × (after.book ≡ m.book) × (after.stage ≡ stage.HangingUp (note.Waiting talk.number why))
+Ended s why m after = after ≡ m
+
+-- The link is given up. The host has done so before.
+abbrev pub hung_up : Stage → MachineView → MachineView
+hung_up (stage.HangingUp n) m = at m (stage.Telling n)
+hung_up s m = m
+
+-- Its owner knows.
+abbrev pub after_note : TillNote → Stage
+after_note (note.NotKept why) = stage.Failed
+after_note n = stage.AtRest
+
+abbrev pub told : Stage → MachineView → MachineView
+told (stage.Telling n) m = at m (after_note n)
+told s m = m

@@ -1,0 +1,194 @@
+//! What a till knows of its ledger: where the receipts stand, the contents of those that wait, and the next mark number.
+//!
+//! `specs/Book.antt` says what it is of the entries.
+
+ghost use Rattle.std.specs.Prelude.{◌≡◌, ℕ, ◌+◌, ◌^◌, ◌<◌, ◌≤◌, ◌↔◌, List, [], ◌++◌, length, slice_get, Some, IsTrue, OnOk, IfOk, IfSome, IsErrOf, MatchOption};
+ghost use Rattle.escpos_till.specs.declared.entry.Content.{Content};
+ghost use Rattle.escpos_till.specs.declared.entry.Entry.{Entry};
+ghost use Rattle.escpos_till.specs.declared.entry.Entry.TheVariants as entry_kind;
+ghost use Rattle.escpos_till.specs.declared.state.ReceiptState.{ReceiptState};
+ghost use Rattle.escpos_till.specs.Contents.{content_with};
+ghost use Rattle.escpos_till.specs.Book.{HasRoom, IsBookOf, Notes};
+ghost use Rattle.escpos_till.specs.Entries.{IsLedger, MayFollow, Waits, times_tried, waiting};
+ghost use Rattle.escpos_till.specs.Ledger.{FirstWaits};
+ghost use Rattle.escpos_till.specs.Summary.{IsRecorded};
+
+use crate::entry::{Content, Entry};
+use crate::number::ReceiptNumber;
+use crate::state::ReceiptState;
+use crate::summary::{first_waiting_from, one_try_more, tries_in};
+use crate::waiting::WaitingReceipt;
+use std::alloc::{AllocError, Global};
+
+/// Why there is no book of some entries.
+#[derive(Clone, Copy)]
+pub(crate) enum NoBook {
+    /// They aren't a ledger.
+    Damaged,
+    /// Out of memory.
+    Memory,
+}
+
+/// What a till knows of its ledger.
+#[derive(Drop)]
+pub struct Book {
+    /// Where the receipts stand.
+    pub(crate) states: Vec<ReceiptState>,
+    /// The contents of those that wait; an empty one for each that is recorded.
+    pub(crate) contents: Vec<Content>,
+    /// The place of the first that waits; past the end if none does.
+    pub(crate) first_waiting: usize,
+    /// How many are recorded.
+    pub(crate) recorded: usize,
+    /// The next mark number.
+    pub(crate) next: u32,
+    /// How many entries there are.
+    pub(crate) count: usize,
+}
+
+impl Book {
+    /// The book of no entries. Allocates nothing.
+    pub(crate) fn new(alloc: Global) -> Self
+        ensures { IsBookOf result [] }
+    {
+        Book {
+            states: Vec::new(alloc),
+            contents: Vec::new(alloc),
+            first_waiting: 0,
+            recorded: 0,
+            next: 0,
+            count: 0,
+        }
+    }
+
+    /// The book of these entries.
+    pub(crate) fn of(alloc: Global, entries: &[Entry]) -> Result<Self, NoBook>
+        ensures book { IfOk result (λ book. IsBookOf book entries.now) }
+        ensures ledger { IfOk result (λ _. IsLedger entries.now) }
+        ensures damaged { IsErrOf result NoBook.Damaged → ¬ IsLedger entries.now }
+    {
+        let mut book = Book::new(alloc);
+        for entry in entries {
+            if !book.may_follow(entry) {
+                return Err(NoBook::Damaged);
+            }
+            let Ok(entry) = entry.copy(alloc) else {
+                return Err(NoBook::Memory);
+            };
+            if book.reserve().is_err() {
+                return Err(NoBook::Memory);
+            }
+            book.note(entry);
+        }
+        Ok(book)
+    }
+
+    /// The number of the receipt that was taken last.
+    pub(crate) fn last_number(&self) -> ReceiptNumber
+        requires { 0 < length self.now.states.items }
+        ensures { result ≡ length self.now.states.items }
+    {
+        ReceiptNumber::new(self.states.len()).unwrap()
+    }
+
+    /// How often a receipt was tried, if it waits; `None` if it was never taken, or is recorded.
+    pub(crate) fn tried(&self, number: ReceiptNumber) -> Option<usize>
+        ensures { (entries : List Entry) → IsBookOf self.now entries → MatchOption result
+            (¬ Waits entries number) (λ tried. Waits entries number × (times_tried entries number ≡ tried)) }
+    {
+        let place = number.get() - 1;
+        if place < self.states.len() {
+            tries_in(self.states[place])
+        } else {
+            None
+        }
+    }
+
+    /// Whether an entry may come after those that this is the book of.
+    pub(crate) fn may_follow(&self, entry: &Entry) -> bool
+        ensures { (entries : List Entry) → IsBookOf self.now entries → IsTrue result ↔ MayFollow entries entry.now }
+    {
+        match entry {
+            Entry::Queued { .. } => true,
+            Entry::Tried { number, next } => self.tried(*number).is_some() && self.next < *next,
+            Entry::Recorded { number } => matches!(self.tried(*number), Some(tried) if 0 < tried),
+            Entry::Raised { next } => self.next <= *next,
+        }
+    }
+
+    /// The first receipt that waits; `None` if none does.
+    pub(crate) fn first_waiting(&self) -> Option<WaitingReceipt<'_>>
+        requires { (entries : List Entry) × IsBookOf self.now entries }
+        ensures waits { (entries : List Entry) → IsBookOf self.now entries → IfSome result (λ first. Waits entries first.number) }
+        ensures first { (entries : List Entry) → IsBookOf self.now entries → MatchOption result
+            (waiting entries ≡ []) (λ first. FirstWaits entries first.number (content_with first.options first.content.now) first.tried) }
+    {
+        let place = self.first_waiting;
+        if place >= self.states.len() {
+            return None;
+        }
+        let ReceiptState::Waiting { tried } = self.states[place] else {
+            unreachable!()
+        };
+        let content = &self.contents[place];
+        Some(WaitingReceipt {
+            number: ReceiptNumber::new(place + 1).unwrap(),
+            content: content.bytes(),
+            options: content.options,
+            tried,
+        })
+    }
+
+    /// Makes room for one more receipt.
+    pub(crate) fn reserve(&mut self) -> Result<(), AllocError>
+        ensures room { OnOk result (HasRoom self.new) }
+        ensures same { (entries : List Entry) → IsBookOf self.old entries → IsBookOf self.new entries }
+    {
+        self.states.reserve(1)?;
+        self.contents.reserve(1)
+    }
+}
+
+impl Book {
+    /// Takes one more entry into account.
+    pub(crate) fn note(&mut self, entry: Entry)
+        requires follows { (entries : List Entry) × IsBookOf self.old entries × IsLedger entries × MayFollow entries entry × (length entries < 2 ^ 63) }
+        requires room { (content : Content) → entry ≡ entry_kind.Queued content → HasRoom self.old }
+        ensures { Notes self.old entry self.new }
+    {
+        match entry {
+            Entry::Queued { content } => {
+                self.states
+                    .push_reserved(ReceiptState::Waiting { tried: 0 });
+                self.contents.push_reserved(content);
+                self.count += 1;
+            }
+            Entry::Tried { number, next } => {
+                let place = number.get() - 1;
+                self.states[place] = one_try_more(self.states[place]);
+                self.next = next;
+                self.count += 1;
+            }
+            Entry::Recorded { number } => self.note_recorded(number),
+            Entry::Raised { next } => {
+                self.next = next;
+                self.count += 1;
+            }
+        }
+    }
+
+    // Takes into account that a receipt is recorded.
+    fn note_recorded(&mut self, number: ReceiptNumber)
+        requires follows { (entries : List Entry) × IsBookOf self.old entries × IsLedger entries × MayFollow entries (entry_kind.Recorded number) × (length entries < 2 ^ 63) }
+        ensures { Notes self.old (entry_kind.Recorded number) self.new }
+    {
+        let place = number.get() - 1;
+        self.states[place] = ReceiptState::Recorded {
+            place: self.recorded,
+        };
+        self.contents[place] = Content::new(Vec::new(*self.contents.allocator()));
+        self.recorded += 1;
+        self.first_waiting = first_waiting_from(&self.states, self.first_waiting);
+        self.count += 1;
+    }
+}

@@ -1,0 +1,590 @@
+//! The machine of a till with one printer: everything that a till does, over values alone.
+//!
+//! A machine reads no file and no socket. It asks for one thing at a time, and is told what came of it; what it asks for is
+//! done by its owner, which is a small loop (`driver`). It knows what its ledger's entries say, without having them, and it
+//! has the host of the link that it talks over. Whatever crashes, a new machine is made from the entries that are left.
+//!
+//!   Stage      | It asks for                | It is told           | Next
+//!   AtRest     | nothing                    | queue, raise         | Keeping an entry
+//!              |                            | deliver              | Connecting
+//!   Connecting | a link to the printer      | connected, or not    | Keeping that it is tried; Telling
+//!   Keeping    | an entry to be kept        | appended             | Telling; Talking; HangingUp
+//!   Talking    | bytes to be put, while     | take_out             | Talking
+//!              | there are some; then for   | came                 | Talking; Keeping that it is recorded; HangingUp
+//!              | answers                    | link_ended           | HangingUp
+//!   HangingUp  | the link to be given up    | hung_up              | Telling
+//!   Telling    | its owner to be told       | told                 | AtRest; Failed where the store couldn't keep an entry
+//!   Failed     | nothing                    | nothing              | Failed: a new machine is made from the entries
+//!
+//! Before a byte of a receipt goes out, an entry is kept that says that it is tried, with the mark numbers that its link may
+//! use; and a receipt is recorded only where the host has recorded it. `specs/Machine.antt` says what each call does.
+
+ghost use Rattle.std.specs.Prelude.{◌≡◌, ◌≢◌, ◌-◌, ◌++◌, ◌<◌, ◌≤◌, ℕ, List, length, take, drop, min, option_map, Ok, IfOk, IfErr, OnOk, IsErrOf, IsTrue};
+ghost use Rattle.escpos_till.specs.declared.entry.Entry.{Entry};
+ghost use Rattle.escpos_till.specs.Entries.{IsLedger, states as states_of};
+ghost use Rattle.escpos_till.specs.Book.{IsBookOf, Notes};
+ghost use Rattle.escpos_till.specs.Delivers.{fresh};
+ghost use Rattle.escpos_till.specs.declared.machine.Talk.{Talk};
+ghost use Rattle.escpos_till.specs.Machine.{Asks, Came, Delivers, Drops, Ended, Fits, Follows, GoesOn, IsNext, IsStarted, Kept, Opens, Queues, Raises, Refuses, SameBut, Submits, Turns, Unsure, connected, hung_up, lost, not_connected, put, told};
+
+use crate::book::{Book, NoBook};
+use crate::copy::CopyText;
+use crate::deliver::marks_taken;
+use crate::entry::{Content, Entry};
+use crate::number::ReceiptNumber;
+use crate::state::ReceiptState;
+use crate::store::StoreFault;
+use escpos_host::{Host, HostEvent, SendFault, open_link};
+use escpos_receipt::{JsonError, Receipt};
+use std::alloc::Global;
+use std::marker::Model;
+use std::mem::replace;
+
+// How many mark numbers there are.
+const MARK_COUNT: u32 = 36 * 36 * 36 * 36;
+
+const _: () = prove!(MARK_COUNT == 1_679_616);
+
+// No more entries than these are taken.
+const MOST_ENTRIES: usize = 4_611_686_018_427_387_904;
+
+const _: () = prove!(MOST_ENTRIES == 4_611_686_018_427_387_904);
+
+/// What a machine tells its owner.
+#[derive(Clone, Copy, Debug, PartialEq, Eq)]
+pub enum TillNote {
+    /// The receipt is taken, and has this number.
+    Queued(ReceiptNumber),
+    /// The next mark number is raised.
+    Raised,
+    /// The receipt is printed, and recorded.
+    Recorded(ReceiptNumber),
+    /// There was no link. The receipt waits, and wasn't tried.
+    NoLink(ReceiptNumber),
+    /// The receipt isn't known to be printed. It waits, tried once more.
+    Waiting {
+        number: ReceiptNumber,
+        why: SendFault,
+    },
+    /// The store couldn't tell whether it kept the entry. The machine has failed.
+    NotKept(StoreFault),
+}
+
+/// Why a call of a machine at rest is refused. The machine is as it was.
+#[derive(Clone, Copy, Debug, PartialEq, Eq)]
+pub enum TillRefusal {
+    /// It asks for something, and that isn't done yet.
+    Busy,
+    /// Its store couldn't tell whether it kept an entry.
+    Failed,
+    /// Out of memory.
+    Memory,
+    /// No receipt waits.
+    NothingWaits,
+    /// The text of the first receipt that waits gives none.
+    NoReceipt {
+        number: ReceiptNumber,
+        why: JsonError,
+    },
+    /// Too few mark numbers are left for the first receipt that waits.
+    MarksUsedUp {
+        number: ReceiptNumber,
+    },
+    /// The mark number is lower than the next one, which is this.
+    MarkReused {
+        next: u32,
+    },
+}
+
+/// Why there is no machine.
+#[derive(Clone, Copy, Debug, PartialEq, Eq)]
+pub enum NoMachine {
+    /// The entries are no ledger.
+    Damaged,
+    /// Out of memory.
+    Memory,
+}
+
+/// What a machine asks for.
+#[derive(Debug)]
+pub enum Action<'a> {
+    /// Nothing: it is at rest, or has failed.
+    Nothing,
+    /// This entry is to be kept, so that it outlives a crash. Then it is told `appended`.
+    Append(&'a Entry),
+    /// A link to the printer is to be opened. Then it is told `connected`.
+    Connect,
+    /// The bytes that `take_out` gives are to be put. If they can't be, it is told `link_ended`.
+    Put,
+    /// Answers are to be read, at most so many bytes. Then it is told `came`, or `link_ended`.
+    Wait(u32),
+    /// The link is to be given up. Then it is told `hung_up`.
+    HangUp,
+    /// Its owner is to be told this. Then it is told `told`.
+    Tell(TillNote),
+}
+
+/// A receipt that is to be sent.
+#[derive(Drop)]
+pub struct Due {
+    /// Its number.
+    pub number: ReceiptNumber,
+    /// What is sent of it.
+    pub receipt: Receipt,
+    /// How many opening marks are put; 0 counts as 1.
+    pub openings: u32,
+    /// How many bytes of answers are read at most.
+    pub most: u32,
+}
+
+/// A receipt that is being sent.
+#[derive(Drop)]
+pub struct Talk {
+    /// Its number.
+    pub number: ReceiptNumber,
+    /// What is sent of it; `None` once the host has it.
+    pub receipt: Option<Receipt>,
+    /// How many bytes of answers may still be read.
+    pub left: u32,
+}
+
+/// What follows once an entry is kept.
+#[derive(Drop)]
+pub enum Then {
+    /// A receipt is taken.
+    Queued,
+    /// The next mark number is raised.
+    Raised,
+    /// A receipt is sent.
+    Send(Due),
+    /// A receipt is recorded.
+    Recorded(ReceiptNumber),
+}
+
+/// Where a machine stands.
+#[derive(Drop)]
+pub enum Stage {
+    AtRest,
+    Connecting(Due),
+    Keeping { entry: Entry, then: Then },
+    Talking(Talk),
+    HangingUp(TillNote),
+    Telling(TillNote),
+    Failed,
+}
+
+/// The machine of a till with one printer.
+#[derive(Drop)]
+pub struct TillMachine {
+    alloc: Global,
+    book: Book,
+    host: Host,
+    stage: Stage,
+}
+
+impl Model for TillMachine {
+    ghost use Rattle.escpos_till.specs.Machine.{IsMachine, MachineView};
+
+    ghost Value = { MachineView };
+
+    ghost view = { λ m. record { book = m.book; host = m.host; stage = m.stage } };
+
+    ghost invariant = { λ m. IsMachine (record { book = m.book; host = m.host; stage = m.stage }) };
+}
+
+impl TillMachine {
+    /// A machine at rest, of these entries. The errors are `Damaged` if they are no ledger, and `Memory`.
+    pub fn open(alloc: Global, entries: &[Entry]) -> Result<Self, NoMachine>
+        ensures book { IfOk result (λ machine. IsBookOf machine.book entries.now) }
+        ensures started { IfOk result (λ machine. IsStarted machine) }
+        ensures ledger { IfOk result (λ _. IsLedger entries.now) }
+        ensures damaged { IsErrOf result NoMachine.Damaged → ¬ IsLedger entries.now }
+    {
+        match Book::of(alloc, entries) {
+            Ok(book) => Ok(TillMachine {
+                alloc,
+                host: Host::new(alloc, book.next),
+                book,
+                stage: Stage::AtRest,
+            }),
+            Err(NoBook::Damaged) => Err(NoMachine::Damaged),
+            Err(NoBook::Memory) => Err(NoMachine::Memory),
+        }
+    }
+
+    /// What it asks for.
+    pub fn asks(&self) -> Action<'_>
+        ensures { Asks self.now self.now.stage result }
+    {
+        match &self.stage {
+            Stage::AtRest | Stage::Failed => Action::Nothing,
+            Stage::Connecting(_) => Action::Connect,
+            Stage::Keeping { entry, .. } => Action::Append(entry),
+            Stage::Talking(_) if self.host.has_out() => Action::Put,
+            Stage::Talking(talk) => Action::Wait(talk.left),
+            Stage::HangingUp(_) => Action::HangUp,
+            Stage::Telling(note) => Action::Tell(*note),
+        }
+    }
+
+    /// Takes a receipt: it is to be kept. The errors are `Busy`, `Failed` and `Memory`.
+    pub fn queue(&mut self, content: Content) -> Result<(), TillRefusal>
+        ensures queues { OnOk result (Queues self.old content self.new) }
+        ensures refused { IfErr result (λ why. Refuses self.old why × SameBut self.old self.new) }
+    {
+        self.check_rest()?;
+        if self.book.count >= MOST_ENTRIES || self.book.reserve().is_err() {
+            return Err(TillRefusal::Memory);
+        }
+        self.stage = Stage::Keeping {
+            entry: Entry::Queued { content },
+            then: Then::Queued,
+        };
+        Ok(())
+    }
+
+    /// Raises the next mark number to this one, since those below it were used elsewhere: that is to be kept.
+    ///
+    /// The errors are `Busy`, `Failed`, `Memory`, and `MarkReused` if the next number is higher.
+    pub fn raise(&mut self, first: u32) -> Result<(), TillRefusal>
+        ensures raises { OnOk result (Raises self.old first self.new) }
+        ensures refused { IfErr result (λ why. Refuses self.old why × (self.new ≡ self.old)) }
+    {
+        self.check_rest()?;
+        let next = self.book.next;
+        if first < next {
+            return Err(TillRefusal::MarkReused { next });
+        }
+        if self.book.count >= MOST_ENTRIES {
+            return Err(TillRefusal::Memory);
+        }
+        self.stage = Stage::Keeping {
+            entry: Entry::Raised { next: first },
+            then: Then::Raised,
+        };
+        Ok(())
+    }
+
+    /// Delivers the first receipt that waits, over a link with so many opening marks (0 counts as 1), on which at most `most` bytes of
+    /// answers are read. `copy` is the text of a line that is put before a receipt that was tried before.
+    ///
+    /// The errors are `Busy`, `Failed`, `Memory`, `NothingWaits`, `NoReceipt` and `MarksUsedUp`.
+    pub fn deliver(
+        &mut self,
+        openings: u32,
+        copy: Option<&CopyText<'_>>,
+        most: u32,
+    ) -> Result<(), TillRefusal>
+        ensures delivers { OnOk result (Delivers self.old openings most (option_map (λ t. t.now) copy.entry) self.new) }
+        ensures refused { IfErr result (λ why. Refuses self.old why × (self.new ≡ self.old)) }
+    {
+        let due = self.next_due(openings, copy, most)?;
+        self.stage = Stage::Connecting(due);
+        Ok(())
+    }
+
+    // The first receipt that waits, as it is to be sent.
+    fn next_due(
+        &self,
+        openings: u32,
+        copy: Option<&CopyText<'_>>,
+        most: u32,
+    ) -> Result<Due, TillRefusal>
+        ensures rest { IfOk result (λ _. self.now.stage ≡ Stage.AtRest) }
+        ensures next { IfOk result (λ due. IsNext self.now.book openings most (option_map (λ t. t.now) copy.entry) due) }
+        ensures fits { IfOk result (λ due. (entries : List Entry) → IsBookOf self.now.book entries → Fits self.now.book entries (Stage.Connecting due)) }
+        ensures refused { IfErr result (λ why. Refuses self.now why) }
+    {
+        self.check_rest()?;
+        let Some(first) = self.book.first_waiting() else {
+            return Err(TillRefusal::NothingWaits);
+        };
+        let number = first.number;
+        let receipt = match first.to_send(self.alloc, copy) {
+            Ok(receipt) => receipt,
+            Err(why) => return Err(TillRefusal::NoReceipt { number, why }),
+        };
+        let marks = marks_taken(openings);
+        if marks > MARK_COUNT || self.book.next > MARK_COUNT - marks {
+            return Err(TillRefusal::MarksUsedUp { number });
+        }
+        if self.book.count >= MOST_ENTRIES - 1 {
+            return Err(TillRefusal::Memory);
+        }
+        Ok(Due {
+            number,
+            receipt,
+            openings,
+            most,
+        })
+    }
+
+    // Refuses a call of a machine that isn't at rest.
+    fn check_rest(&self) -> Result<(), TillRefusal>
+        ensures rest { OnOk result (self.now.stage ≡ Stage.AtRest) }
+        ensures refused { IfErr result (λ why. Refuses self.now why) }
+    {
+        match self.stage {
+            Stage::AtRest => Ok(()),
+            Stage::Failed => Err(TillRefusal::Failed),
+            _ => Err(TillRefusal::Busy),
+        }
+    }
+
+    /// Whether the entry that it asked for is kept. It isn't known if the store failed: then the machine fails.
+    pub fn appended(&mut self, kept: Result<(), StoreFault>)
+        ensures kept { kept ≡ Ok tt → Kept self.old.stage self.old self.new }
+        ensures unsure { IfErr kept (λ why. Unsure self.old.stage why self.old self.new) }
+    {
+        match replace(&mut self.stage, Stage::AtRest) {
+            Stage::Keeping { entry, then } => match kept {
+                Ok(()) => self.follow(entry, then),
+                Err(why) => {
+                    self.host.link_down();
+                    self.stage = lost(then, why);
+                }
+            },
+            other => self.stage = other,
+        }
+    }
+
+    // The entry is kept, and this follows.
+    fn follow(&mut self, entry: Entry, then: Then)
+        requires fits { (entries : List Entry) × IsBookOf self.old.book entries × IsLedger entries × Fits self.old.book entries (Stage.Keeping entry then) }
+        ensures book { Notes self.old.book entry self.new.book }
+        ensures follows { Follows then self.old.host self.old.book.next self.new.book self.new.host self.new.stage }
+    {
+        let first = self.book.next;
+        self.book.note(entry);
+        self.stage = following(self.alloc, &self.book, &mut self.host, first, then);
+    }
+
+    /// Whether there is a link.
+    pub fn connected(&mut self, is: bool)
+        ensures connected { IsTrue is → self.new ≡ connected self.old.stage self.old }
+        ensures not_connected { ¬ IsTrue is → self.new ≡ not_connected self.old.stage self.old }
+    {
+        self.stage = match replace(&mut self.stage, Stage::AtRest) {
+            Stage::Connecting(due) if is => Stage::Keeping {
+                entry: Entry::Tried {
+                    number: due.number,
+                    next: self.book.next + marks_taken(due.openings),
+                },
+                then: Then::Send(due),
+            },
+            Stage::Connecting(due) => Stage::Telling(TillNote::NoLink(due.number)),
+            other => other,
+        };
+    }
+
+    /// Moves the next bytes that are to be put to the start of `room`, as many as there are and fit, and returns their number. The
+    /// rest of `room` is unchanged.
+    pub fn take_out(&mut self, room: &mut [u8]) -> usize
+        ensures taken { self.new ≡ put self.old.stage result self.old }
+        ensures copied { room.new ≡ take result self.old.host.out ++ drop result room.old }
+        ensures count { (talk : Talk) → self.old.stage ≡ Stage.Talking talk → result ≡ min (length room.old) (length self.old.host.out) }
+        ensures none { ((talk : Talk) → self.old.stage ≢ Stage.Talking talk) → result ≡ 0 }
+    {
+        match self.stage {
+            Stage::Talking(_) => self.host.take_out(room),
+            _ => 0,
+        }
+    }
+
+    /// Hears bytes of answers up to the first event, and returns how many it took. If it still waits for answers then, it is to be
+    /// given the others.
+    pub fn came(&mut self, bytes: &[u8]) -> usize
+        ensures came { Came self.old.stage bytes.now result self.old self.new }
+        ensures within { result ≤ length bytes.now }
+    {
+        match replace(&mut self.stage, Stage::AtRest) {
+            Stage::Talking(talk) => {
+                let heard = self.host.heard(bytes);
+                let left = less(talk.left, heard.consumed);
+                self.stage = turned(&mut self.host, heard.event, talk, left);
+                heard.consumed
+            }
+            other => {
+                self.stage = other;
+                bytes.len()
+            }
+        }
+    }
+
+    /// The link has ended, failed, or was waited for as long as may be.
+    pub fn link_ended(&mut self, why: SendFault)
+        ensures { Ended self.old.stage why self.old self.new }
+    {
+        match replace(&mut self.stage, Stage::AtRest) {
+            Stage::Talking(talk) => {
+                self.host.link_down();
+                self.stage = Stage::HangingUp(TillNote::Waiting {
+                    number: talk.number,
+                    why,
+                });
+            }
+            other => self.stage = other,
+        }
+    }
+
+    /// The link is given up.
+    pub fn hung_up(&mut self)
+        ensures { self.new ≡ hung_up self.old.stage self.old }
+    {
+        if let Stage::HangingUp(note) = self.stage {
+            self.stage = Stage::Telling(note);
+        }
+    }
+
+    /// Its owner knows what it was to be told.
+    pub fn told(&mut self)
+        ensures { self.new ≡ told self.old.stage self.old }
+    {
+        if let Stage::Telling(note) = self.stage {
+            self.stage = match note {
+                TillNote::NotKept(_) => Stage::Failed,
+                _ => Stage::AtRest,
+            };
+        }
+    }
+
+    /// Where the receipts stand, in the order of their numbers.
+    pub fn states(&self) -> &[ReceiptState]
+        ensures { (entries : List Entry) → IsBookOf self.now.book entries → result.now ≡ states_of entries }
+    {
+        self.book.states.as_slice()
+    }
+
+    /// The next mark number.
+    pub fn next_mark(&self) -> u32
+        ensures { result ≡ self.now.book.next }
+    {
+        self.book.next
+    }
+}
+
+// What follows where the store couldn't tell whether it kept an entry. A link is given up first.
+fn lost(then: Then, why: StoreFault) -> Stage
+    ensures { result ≡ lost then why }
+{
+    match then {
+        Then::Queued | Then::Raised => Stage::Telling(TillNote::NotKept(why)),
+        Then::Send(_) | Then::Recorded(_) => Stage::HangingUp(TillNote::NotKept(why)),
+    }
+}
+
+// What follows once an entry is kept, where this mark number was the next before.
+fn following(alloc: Global, book: &Book, host: &mut Host, first: u32, then: Then) -> Stage
+    requires { then ≡ Then.Queued → 0 < length book.now.states.items }
+    ensures { Follows then host.old first book.now host.new result }
+{
+    match then {
+        Then::Queued => Stage::Telling(TillNote::Queued(book.last_number())),
+        Then::Raised => Stage::Telling(TillNote::Raised),
+        Then::Send(due) => {
+            *host = Host::new(alloc, first);
+            opened(host, due)
+        }
+        Then::Recorded(number) => {
+            host.link_down();
+            Stage::HangingUp(TillNote::Recorded(number))
+        }
+    }
+}
+
+// A host that has sent nothing puts its opening marks out.
+fn opened(host: &mut Host, due: Due) -> Stage
+    ensures { (first : ℕ) → host.old ≡ fresh first → Opens due first host.new result }
+{
+    match open_link(host, due.openings) {
+        Ok(()) => Stage::Talking(Talk {
+            number: due.number,
+            receipt: Some(due.receipt),
+            left: due.most,
+        }),
+        Err(why) => Stage::HangingUp(TillNote::Waiting {
+            number: due.number,
+            why: SendFault::Refused(why),
+        }),
+    }
+}
+
+// What an event does, where so many bytes of answers may still be read.
+fn turned(host: &mut Host, event: HostEvent, talk: Talk, left: u32) -> Stage
+    ensures { Turns event talk left host.old host.new result }
+{
+    match event {
+        HostEvent::None | HostEvent::Status(_) => going_on(host, talk, left),
+        HostEvent::Opened => submitted(host, talk, left),
+        HostEvent::Recorded(_) => Stage::Keeping {
+            entry: Entry::Recorded {
+                number: talk.number,
+            },
+            then: Then::Recorded(talk.number),
+        },
+        HostEvent::BadAnswer { .. } => given_up(host, talk.number, SendFault::BadAnswer),
+    }
+}
+
+// The host gives the link up, since the receipt isn't known to be printed for this reason.
+fn given_up(host: &mut Host, number: ReceiptNumber, why: SendFault) -> Stage
+    ensures host { Drops host.old host.new }
+    ensures stage { result ≡ Stage.HangingUp (TillNote.Waiting number why) }
+{
+    host.link_down();
+    Stage::HangingUp(TillNote::Waiting { number, why })
+}
+
+// The talk goes on, if more bytes of answers may be read.
+fn going_on(host: &mut Host, talk: Talk, left: u32) -> Stage
+    ensures { GoesOn talk left host.old host.new result }
+{
+    if left == 0 {
+        return given_up(host, talk.number, SendFault::TooLong);
+    }
+    Stage::Talking(Talk {
+        number: talk.number,
+        receipt: talk.receipt,
+        left,
+    })
+}
+
+// The host is given the receipt, if more bytes of answers may be read.
+fn submitted(host: &mut Host, talk: Talk, left: u32) -> Stage
+    ensures { Submits talk talk.receipt left host.old host.new result }
+{
+    let Talk {
+        number,
+        receipt,
+        left: _,
+    } = talk;
+    match receipt {
+        Some(receipt) if left > 0 => match host.submit(receipt) {
+            Ok(()) => Stage::Talking(Talk {
+                number,
+                receipt: None,
+                left,
+            }),
+            Err((why, _)) => given_up(host, number, SendFault::Refused(why)),
+        },
+        receipt => going_on(
+            host,
+            Talk {
+                number,
+                receipt,
+                left,
+            },
+            left,
+        ),
+    }
+}
+
+// How many bytes may still be read, where so many more were.
+fn less(left: u32, count: usize) -> u32
+    ensures { result ≡ left - count }
+{
+    match u32::try_from(count) {
+        Ok(count) => left.saturating_sub(count),
+        Err(_) => 0,
+    }
+}

@@ -1,0 +1,320 @@
+-- What holds of every world holds after the calls of a machine, and after what it is told of its link.
+use Rattle.std.proofs.Common.{ℕ, ◌≡◌, ◌+◌, ◌<◌, ◌≤◌, inl, inr, Option, Some, None, List, [], ◌∷◌, length, refl, sym, ap, subst, arith}
+use Rattle.std.specs.Prelude.{is_none, true}
+use Rattle.std.proofs.Math.Nat.{le-max_right}
+use Rattle.escpos_host.specs.declared.send.SendFault.{SendFault}
+use Rattle.escpos_command.specs.declared.command.Command.{Command}
+use Rattle.escpos_host.specs.Earlier.{with_earlier}
+use Rattle.escpos_host.specs.Machine.{HostView, IsSound}
+use Rattle.escpos_link.specs.declared.event.Event.TheVariants as event
+use Rattle.escpos_link.specs.Trusted.{IsFitting}
+use Rattle.escpos_link.specs.Wire.{WireView, line_of}
+use Rattle.escpos_till.specs.declared.entry.Content.{Content}
+use Rattle.escpos_till.specs.declared.entry.Entry.{Entry}
+use Rattle.escpos_till.specs.declared.machine.Stage.{Stage}
+use Rattle.escpos_till.specs.declared.machine.Stage.TheVariants as stage
+use Rattle.escpos_till.specs.Book.{IsBookOf}
+use Rattle.escpos_till.specs.Entries.{Taken, Waits, contents, next_free, numbered_from, place_of, taken, waiting}
+use Rattle.escpos_till.specs.declared.book.Book.{Book}
+use Rattle.escpos_till.specs.declared.entry.Entry.TheVariants as entry
+use Rattle.escpos_till.specs.declared.machine.Due.{Due}
+use Rattle.escpos_till.specs.declared.machine.Then.TheVariants as then
+use Rattle.escpos_till.specs.declared.machine.TillNote.{TillNote}
+use Rattle.escpos_till.specs.declared.machine.TillNote.TheVariants as note_kind
+use Rattle.escpos_till.specs.Delivers.{marks_taken}
+use Rattle.escpos_till.specs.Ledger.{FirstWaits}
+use Rattle.escpos_till.specs.Machine.{Delivers, Drops, Ended, IsNext, MachineView, Queues, Raises, SameBut, after_note, at, connected, hung_up as machine_hung_up, lost, not_connected, told}
+use Rattle.escpos_till.proofs.EntryLemmas.{length-taken}
+use Rattle.escpos_till_model.proofs.EntryFacts.{among_cons, among_filtered, among_nothing, first_among, first_is_taken}
+use Rattle.escpos_till_model.proofs.Keeping.{gone_keeps}
+use Rattle.escpos_till_model.proofs.Tilling.{sent_is}
+use Rattle.escpos_till_model.specs.Receipts.{Among}
+use Rattle.escpos_till_model.specs.Steps.{IsCopy}
+use Rattle.escpos_till_model.specs.declared.hand.Hand.{Hand}
+use Rattle.escpos_till_model.specs.Kept.{Keeps}
+use Rattle.escpos_till_model.specs.Known.{HasLost, Holds, IsHostOf, IsMachineIn, IsToSend, IsWorld}
+use Rattle.escpos_till_model.specs.World.{FitsLine, Moves, Wired, World, running}
+use Rattle.escpos_till_model.proofs.LinesKept.{LineLaws, Right, goes, same_wire, drops_right, drops_hung}
+
+-- ## Worlds, part by part
+
+-- What holds of a world, where its machine is there.
+pub record Parts (m : MachineView) (kept : List Entry) (wire : WireView) : Type 0 where
+  pub earlier : List (List Command)
+  pub sound : IsSound m.host
+  pub right : Right (line_of (with_earlier earlier m.host) wire)
+  pub hand : Option Hand
+  pub keeps : Keeps kept hand (with_earlier earlier m.host)
+  pub book : (HasLost m.stage → ⊥) → IsBookOf m.book kept
+  pub holds : Holds kept hand (with_earlier earlier m.host) m.stage
+
+pub whole : (m : MachineView) (kept : List Entry) (wire : WireView) → Parts m kept wire → IsWorld (running m kept wire)
+whole m kept wire p = record {
+  earlier = p.earlier;
+  host = m.host;
+  host_is = refl;
+  sound = p.sound;
+  line = p.right.line;
+  trusted = p.right.trusted;
+  hand = p.hand;
+  keeps = p.keeps;
+  machine = (p.book, p.holds);
+}
+
+pub parts_of : (m : MachineView) (kept : List Entry) (wire : WireView) (machine : Option MachineView) → machine ≡ Some m → (w : IsWorld (record { machine = machine; kept = kept; wire = wire }))
+    → Parts m kept wire
+parts_of m kept wire machine is w =
+    let host : w.host ≡ m.host = subst (λ x. IsHostOf x w.host) is w.host_is in
+    let known = subst (λ x. IsMachineIn x kept w.hand (with_earlier w.earlier w.host)) is w.machine in
+    record {
+      earlier = w.earlier;
+      sound = subst IsSound host w.sound;
+      right = subst (λ h. Right (line_of (with_earlier w.earlier h) wire)) host (record { line = w.line; trusted = w.trusted });
+      hand = w.hand;
+      keeps = subst (λ h. Keeps kept w.hand (with_earlier w.earlier h)) host w.keeps;
+      book = known.0;
+      holds = subst (λ h. Holds kept w.hand (with_earlier w.earlier h) m.stage) host known.1;
+    }
+
+pub parts : (w : World) (m : MachineView) → w.machine ≡ Some m → IsWorld w → Parts m w.kept w.wire
+parts w m is known = parts_of m w.kept w.wire w.machine is known
+
+-- ## The host stays as it is
+
+-- The stage alone changes, and what is in hand stays.
+pub same_host : (m after : MachineView) (kept : List Entry) (w new : WireView) (p : Parts m kept w) → after.host ≡ m.host → IsSound after.host → Wired m.host after.host w new
+    → ((HasLost after.stage → ⊥) → IsBookOf after.book kept) → Holds kept p.hand (with_earlier p.earlier m.host) after.stage → Parts after kept new
+same_host m after kept w new p same sound wired book holds =
+    let wire : new ≡ w = same_wire m.host after.host w new same wired in
+    record {
+      earlier = p.earlier;
+      sound = sound;
+      right = subst (λ v. Right (line_of (with_earlier p.earlier after.host) v)) (sym wire) (subst (λ h. Right (line_of (with_earlier p.earlier h) w)) (sym same) p.right);
+      hand = p.hand;
+      keeps = subst (λ h. Keeps kept p.hand (with_earlier p.earlier h)) (sym same) p.keeps;
+      book = book;
+      holds = subst (λ h. Holds kept p.hand (with_earlier p.earlier h) after.stage) (sym same) holds;
+    }
+
+-- ## Calls of a machine at rest
+
+pub at_rest : (m : MachineView) (kept : List Entry) (w : WireView) → m.stage ≡ stage.AtRest → (p : Parts m kept w) → IsBookOf m.book kept × (p.hand ≡ None)
+at_rest m kept w rest p = (
+  p.book (λ lost. subst HasLost rest lost),
+  subst (λ s. Holds kept p.hand (with_earlier p.earlier m.host) s) rest p.holds,
+)
+
+pub live_at : (s t : Stage) → s ≡ t → (HasLost t → ⊥) → HasLost s → ⊥
+live_at s t same live lost = live (subst HasLost same lost)
+
+pub queued : (w new : World) (content : Content) → IsWorld w → Moves (λ m after. Queues m content after) w w.kept new → IsWorld new
+queued w new content known moves =
+    let p = parts w moves.m moves.was known in
+    let (book, none) = at_rest moves.m w.kept w.wire moves.goes.rest p in
+    subst IsWorld (sym moves.is) (whole moves.after w.kept moves.wire
+    (same_host moves.m moves.after w.kept w.wire moves.wire p moves.goes.host moves.sound moves.wired
+    (λ live. moves.goes.book w.kept book)
+    (subst (λ s. Holds w.kept p.hand (with_earlier p.earlier moves.m.host) s) (sym moves.goes.keeps) (tt, (none, refl)))))
+
+pub raised : (w new : World) (first : ℕ) → IsWorld w → Moves (λ m after. Raises m first after) w w.kept new → IsWorld new
+raised w new first known moves =
+    let p = parts w moves.m moves.was known in
+    let (book, none) = at_rest moves.m w.kept w.wire moves.goes.rest p in
+    let is = moves.goes.after_is in
+    let least : next_free w.kept ≤ first = omega (arith, moves.goes.least, book.next) in
+    subst IsWorld (sym moves.is) (whole moves.after w.kept moves.wire
+    (same_host moves.m moves.after w.kept w.wire moves.wire p (ap (λ m. m.host) is) moves.sound moves.wired
+    (λ live. subst (λ b. IsBookOf b w.kept) (sym (ap (λ m. m.book) is)) book)
+    (subst (λ s. Holds w.kept p.hand (with_earlier p.earlier moves.m.host) s) (sym (ap (λ m. m.stage) is)) (least, (none, refl)))))
+
+pub refused : (w new : World) → IsWorld w → Moves SameBut w w.kept new → IsWorld new
+refused w new known moves =
+    let p = parts w moves.m moves.was known in
+    subst IsWorld (sym moves.is) (whole moves.after w.kept moves.wire
+    (same_host moves.m moves.after w.kept w.wire moves.wire p moves.goes.host moves.sound moves.wired
+    (λ live. moves.goes.book w.kept (p.book (λ lost. live (subst HasLost (sym moves.goes.stage) lost))))
+    (subst (λ s. Holds w.kept p.hand (with_earlier p.earlier moves.m.host) s) (sym moves.goes.stage) p.holds)))
+
+-- ## A receipt is due
+
+pub numbered_bounds : (m : ℕ) (cs : List Content) (t : Taken) → Among t (numbered_from m cs) → (m ≤ t.number) × (t.number < m + length cs)
+numbered_bounds m [] t among = absurd (among_nothing t among)
+numbered_bounds m (c ∷ cs) t among = elim (among_cons t (record { number = m; content = c }) (numbered_from (m + 1) cs) among) [
+  | inl same ↦ let is : m ≡ t.number = ap (λ x. x.number) same in (omega (arith, is), omega (arith, is))
+  | inr later ↦ let more = numbered_bounds (m + 1) cs t later in (omega (arith, more.0), omega (arith, more.1))
+]
+
+pub none_if : (place : Option ℕ) → is_none place ≡ true → place ≡ None
+none_if None is = refl
+none_if (Some k) is = cc is
+
+pub first_waits : (es : List Entry) (number tried : ℕ) (content : Content) → FirstWaits es number content tried → Waits es number
+first_waits es number tried content first =
+    let receipt : Taken = record { number = number; content = content } in
+    let (among, not_yet) = among_filtered (λ (r : Taken). is_none (place_of es r.number)) receipt (taken es) (first_among receipt (waiting es) first.first) in
+    let bounds = numbered_bounds 1 (contents es) receipt among in
+    record { from_one = omega (arith, bounds.0); taken = omega (arith, bounds.1, length-taken 1 (contents es)); open_still = none_if (place_of es number) not_yet }
+
+pub to_send : (b : Book) (kept : List Entry) (openings most : ℕ) (copy : Option (List ℕ)) (due : Due) → IsBookOf b kept → IsCopy copy → IsNext b openings most copy due
+    → IsFitting (event.Submit due.receipt) → IsToSend kept due
+to_send b kept openings most copy due book is next fits =
+    let first = next.first kept book in
+    record {
+      receipt = record {
+        content = first.content;
+        taken = first_is_taken kept due.number first.tried first.content first.first;
+        receipt = sent_is first.content first.receipt due.receipt copy first.tried is first.describes first.whole first.sent;
+      };
+      within = omega (arith, next.within, book.next, ap marks_taken next.marks);
+      fits = fits;
+      follows = (first_waits kept due.number first.tried first.content first.first, omega (arith, le-max_right due.openings 1));
+    }
+
+pub delivers : (w new : World) (openings most : ℕ) (copy : Option (List ℕ)) → IsWorld w → IsCopy copy
+    → Moves (λ m after. Delivers m openings most copy after × FitsLine after.stage) w w.kept new → IsWorld new
+delivers w new openings most copy known copy_is moves =
+    let p = parts w moves.m moves.was known in
+    let (goes, fitting) = moves.goes in
+    let (book, none) = at_rest moves.m w.kept w.wire goes.rest p in
+    let is = goes.after_is in
+    let fits : FitsLine (stage.Connecting goes.due) = subst FitsLine (ap (λ m. m.stage) is) fitting in
+    subst IsWorld (sym moves.is) (whole moves.after w.kept moves.wire
+    (same_host moves.m moves.after w.kept w.wire moves.wire p (ap (λ m. m.host) is) moves.sound moves.wired
+    (λ live. subst (λ b. IsBookOf b w.kept) (sym (ap (λ m. m.book) is)) book)
+    (subst (λ s. Holds w.kept p.hand (with_earlier p.earlier moves.m.host) s) (sym (ap (λ m. m.stage) is))
+    (none, to_send moves.m.book w.kept openings most copy goes.due book copy_is goes.next fits))))
+
+-- ## What the machine is told
+
+-- It wasn't asked for: nothing changes.
+pub unchanged : (m after : MachineView) (kept : List Entry) (w new : WireView) → Parts m kept w → after ≡ m → IsSound after.host → Wired m.host after.host w new → Parts after kept new
+unchanged m after kept w new p same sound wired =
+    same_host m after kept w new p (ap (λ x. x.host) same) sound wired
+    (λ live. subst (λ x. IsBookOf x.book kept) (sym same) (p.book (λ lost. live (subst (λ x. HasLost x.stage) (sym same) lost))))
+    (subst (λ x. Holds kept p.hand (with_earlier p.earlier m.host) x.stage) (sym same) p.holds)
+
+-- The stage becomes another, for which this is known.
+pub restaged : (m after : MachineView) (kept : List Entry) (w new : WireView) (s t : Stage) → m.stage ≡ s → (p : Parts m kept w) → after ≡ at m t → IsSound after.host → Wired m.host after.host w new
+    → ((HasLost t → ⊥) → HasLost s → ⊥) → (((HasLost s → ⊥) → IsBookOf m.book kept) → Holds kept p.hand (with_earlier p.earlier m.host) s → Holds kept p.hand (with_earlier p.earlier m.host) t)
+    → Parts after kept new
+restaged m after kept w new s t is p same sound wired live holds =
+    let book : (HasLost s → ⊥) → IsBookOf m.book kept = λ no_loss. p.book (λ lost. no_loss (subst HasLost is lost)) in
+    same_host m after kept w new p (ap (λ x. x.host) same) sound wired
+    (λ still. subst (λ x. IsBookOf x.book kept) (sym same) (book (live (λ lost. still (subst (λ x. HasLost x.stage) (sym same) lost)))))
+    (subst (λ x. Holds kept p.hand (with_earlier p.earlier m.host) x.stage) (sym same) (holds book (subst (λ x. Holds kept p.hand (with_earlier p.earlier m.host) x) is p.holds)))
+
+pub told_lost : (n : TillNote) → (HasLost (after_note n) → ⊥) → HasLost (stage.Telling n) → ⊥
+told_lost (note_kind.Queued number) live lost = lost
+told_lost note_kind.Raised live lost = lost
+told_lost (note_kind.Recorded number) live lost = lost
+told_lost (note_kind.NoLink number) live lost = lost
+told_lost (note_kind.Waiting number why) live lost = lost
+told_lost (note_kind.NotKept why) live lost = live tt
+
+pub told_holds : (n : TillNote) (kept : List Entry) (hand : Option Hand) (h : HostView) → hand ≡ None → Holds kept hand h (after_note n)
+told_holds (note_kind.Queued number) kept hand h none = none
+told_holds note_kind.Raised kept hand h none = none
+told_holds (note_kind.Recorded number) kept hand h none = none
+told_holds (note_kind.NoLink number) kept hand h none = none
+told_holds (note_kind.Waiting number why) kept hand h none = none
+told_holds (note_kind.NotKept why) kept hand h none = none
+
+pub told_parts : (m after : MachineView) (kept : List Entry) (w new : WireView) (s : Stage) → m.stage ≡ s → Parts m kept w → after ≡ told s m → IsSound after.host → Wired m.host after.host w new
+    → Parts after kept new
+told_parts m after kept w new (stage.Telling n) is p same sound wired =
+    restaged m after kept w new (stage.Telling n) (after_note n) is p same sound wired (told_lost n) (λ book none. told_holds n kept p.hand (with_earlier p.earlier m.host) none)
+told_parts m after kept w new stage.AtRest is p same sound wired = unchanged m after kept w new p same sound wired
+told_parts m after kept w new (stage.Connecting due) is p same sound wired = unchanged m after kept w new p same sound wired
+told_parts m after kept w new (stage.Keeping e next) is p same sound wired = unchanged m after kept w new p same sound wired
+told_parts m after kept w new (stage.Talking talk) is p same sound wired = unchanged m after kept w new p same sound wired
+told_parts m after kept w new (stage.HangingUp n) is p same sound wired = unchanged m after kept w new p same sound wired
+told_parts m after kept w new stage.Failed is p same sound wired = unchanged m after kept w new p same sound wired
+
+pub hung_lost : (n : TillNote) → (HasLost (stage.Telling n) → ⊥) → HasLost (stage.HangingUp n) → ⊥
+hung_lost (note_kind.Queued number) live lost = lost
+hung_lost note_kind.Raised live lost = lost
+hung_lost (note_kind.Recorded number) live lost = lost
+hung_lost (note_kind.NoLink number) live lost = lost
+hung_lost (note_kind.Waiting number why) live lost = lost
+hung_lost (note_kind.NotKept why) live lost = live lost
+
+pub hung_parts : (m after : MachineView) (kept : List Entry) (w new : WireView) (s : Stage) → m.stage ≡ s → Parts m kept w → after ≡ machine_hung_up s m → IsSound after.host
+    → Wired m.host after.host w new → Parts after kept new
+hung_parts m after kept w new (stage.HangingUp n) is p same sound wired =
+    restaged m after kept w new (stage.HangingUp n) (stage.Telling n) is p same sound wired (hung_lost n) (λ book none. none)
+hung_parts m after kept w new stage.AtRest is p same sound wired = unchanged m after kept w new p same sound wired
+hung_parts m after kept w new (stage.Connecting due) is p same sound wired = unchanged m after kept w new p same sound wired
+hung_parts m after kept w new (stage.Keeping e next) is p same sound wired = unchanged m after kept w new p same sound wired
+hung_parts m after kept w new (stage.Talking talk) is p same sound wired = unchanged m after kept w new p same sound wired
+hung_parts m after kept w new (stage.Telling n) is p same sound wired = unchanged m after kept w new p same sound wired
+hung_parts m after kept w new stage.Failed is p same sound wired = unchanged m after kept w new p same sound wired
+
+pub connected_parts : (m after : MachineView) (kept : List Entry) (w new : WireView) (s : Stage) → m.stage ≡ s → Parts m kept w → after ≡ connected s m → IsSound after.host
+    → Wired m.host after.host w new → Parts after kept new
+connected_parts m after kept w new (stage.Connecting due) is p same sound wired =
+    restaged m after kept w new (stage.Connecting due) (stage.Keeping (entry.Tried due.number (m.book.next + marks_taken due.openings)) (then.Send due)) is p same sound wired (λ live lost. lost)
+    (λ book holds.
+    let next : m.book.next ≡ next_free kept = (book (λ lost. lost)).next in
+    subst (λ n. Holds kept p.hand (with_earlier p.earlier m.host) (stage.Keeping (entry.Tried due.number (n + marks_taken due.openings)) (then.Send due))) (sym next)
+    (holds.1.follows, (holds.0, holds.1, refl)))
+connected_parts m after kept w new stage.AtRest is p same sound wired = unchanged m after kept w new p same sound wired
+connected_parts m after kept w new (stage.HangingUp n) is p same sound wired = unchanged m after kept w new p same sound wired
+connected_parts m after kept w new (stage.Keeping e next) is p same sound wired = unchanged m after kept w new p same sound wired
+connected_parts m after kept w new (stage.Talking talk) is p same sound wired = unchanged m after kept w new p same sound wired
+connected_parts m after kept w new (stage.Telling n) is p same sound wired = unchanged m after kept w new p same sound wired
+connected_parts m after kept w new stage.Failed is p same sound wired = unchanged m after kept w new p same sound wired
+
+pub missed_parts : (m after : MachineView) (kept : List Entry) (w new : WireView) (s : Stage) → m.stage ≡ s → Parts m kept w → after ≡ not_connected s m → IsSound after.host
+    → Wired m.host after.host w new → Parts after kept new
+missed_parts m after kept w new (stage.Connecting due) is p same sound wired =
+    restaged m after kept w new (stage.Connecting due) (stage.Telling (note_kind.NoLink due.number)) is p same sound wired (λ live lost. lost) (λ book holds. holds.0)
+missed_parts m after kept w new stage.AtRest is p same sound wired = unchanged m after kept w new p same sound wired
+missed_parts m after kept w new (stage.HangingUp n) is p same sound wired = unchanged m after kept w new p same sound wired
+missed_parts m after kept w new (stage.Keeping e next) is p same sound wired = unchanged m after kept w new p same sound wired
+missed_parts m after kept w new (stage.Talking talk) is p same sound wired = unchanged m after kept w new p same sound wired
+missed_parts m after kept w new (stage.Telling n) is p same sound wired = unchanged m after kept w new p same sound wired
+missed_parts m after kept w new stage.Failed is p same sound wired = unchanged m after kept w new p same sound wired
+
+-- The host gives its link up, and nothing is in hand any more.
+pub let_go : LineLaws → (m after : MachineView) (kept : List Entry) (w new : WireView) (p : Parts m kept w) → Drops m.host after.host → IsSound after.host → Wired m.host after.host w new
+    → ((HasLost after.stage → ⊥) → IsBookOf after.book kept) → Holds kept None (with_earlier p.earlier after.host) after.stage → Parts after kept new
+let_go laws m after kept w new p drops sound wired book holds = record {
+  earlier = p.earlier;
+  sound = sound;
+  right = drops_right laws p.earlier m.host after.host w new p.sound drops wired p.right;
+  hand = None;
+  keeps = subst (λ h. Keeps kept None h) (sym (drops_hung p.earlier m.host after.host drops)) (gone_keeps kept p.hand (with_earlier p.earlier m.host) p.keeps);
+  book = book;
+  holds = holds;
+}
+
+pub ended_parts : LineLaws → (why : SendFault) (m after : MachineView) (kept : List Entry) (w new : WireView) (s : Stage) → m.stage ≡ s → Parts m kept w → Ended s why m after → IsSound after.host
+    → Wired m.host after.host w new → Parts after kept new
+ended_parts laws why m after kept w new (stage.Talking talk) is p (drops, book, now) sound wired =
+    let_go laws m after kept w new p drops sound wired (λ live. subst (λ b. IsBookOf b kept) (sym book) (p.book (λ lost. subst HasLost is lost)))
+    (subst (λ s. Holds kept None (with_earlier p.earlier after.host) s) (sym now) refl)
+ended_parts laws why m after kept w new stage.AtRest is p same sound wired = unchanged m after kept w new p same sound wired
+ended_parts laws why m after kept w new (stage.Connecting due) is p same sound wired = unchanged m after kept w new p same sound wired
+ended_parts laws why m after kept w new (stage.HangingUp n) is p same sound wired = unchanged m after kept w new p same sound wired
+ended_parts laws why m after kept w new (stage.Keeping e next) is p same sound wired = unchanged m after kept w new p same sound wired
+ended_parts laws why m after kept w new (stage.Telling n) is p same sound wired = unchanged m after kept w new p same sound wired
+ended_parts laws why m after kept w new stage.Failed is p same sound wired = unchanged m after kept w new p same sound wired
+
+pub moved : (Goes : MachineView → MachineView → Type 0) (w new : World) → IsWorld w → (moves : Moves Goes w w.kept new)
+    → (Parts moves.m w.kept w.wire → Parts moves.after w.kept moves.wire) → IsWorld new
+moved Goes w new known moves go = subst IsWorld (sym moves.is) (whole moves.after w.kept moves.wire (go (parts w moves.m moves.was known)))
+
+pub told_world : (w new : World) → IsWorld w → Moves (λ m after. after ≡ told m.stage m) w w.kept new → IsWorld new
+told_world w new known v = moved _ w new known v (λ p. told_parts v.m v.after w.kept w.wire v.wire v.m.stage refl p v.goes v.sound v.wired)
+
+pub hung_world : (w new : World) → IsWorld w → Moves (λ m after. after ≡ machine_hung_up m.stage m) w w.kept new → IsWorld new
+hung_world w new known v = moved _ w new known v (λ p. hung_parts v.m v.after w.kept w.wire v.wire v.m.stage refl p v.goes v.sound v.wired)
+
+pub connected_world : (w new : World) → IsWorld w → Moves (λ m after. after ≡ connected m.stage m) w w.kept new → IsWorld new
+connected_world w new known v = moved _ w new known v (λ p. connected_parts v.m v.after w.kept w.wire v.wire v.m.stage refl p v.goes v.sound v.wired)
+
+pub missed_world : (w new : World) → IsWorld w → Moves (λ m after. after ≡ not_connected m.stage m) w w.kept new → IsWorld new
+missed_world w new known v = moved _ w new known v (λ p. missed_parts v.m v.after w.kept w.wire v.wire v.m.stage refl p v.goes v.sound v.wired)
+
+pub ended_world : LineLaws → (w new : World) (why : SendFault) → IsWorld w → Moves (λ m after. Ended m.stage why m after) w w.kept new → IsWorld new
+ended_world laws w new why known v = moved _ w new known v (λ p. ended_parts laws why v.m v.after w.kept w.wire v.wire v.m.stage refl p v.goes v.sound v.wired)

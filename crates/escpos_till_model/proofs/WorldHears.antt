@@ -1,0 +1,363 @@
+-- What holds of every world holds after its machine has heard answers.
+use Rattle.std.proofs.Common.{ℕ, zero, suc, ◌≡◌, ◌≢◌, ◌+◌, ◌-◌, ◌<◌, ◌≤◌, ◌⊎◌, inl, inr, Option, Some, None, List, [], ◌∷◌, ◌++◌, length, take, drop, refl, sym, ◌∙◌, ap, subst, append-nil, length-append, arith}
+use Rattle.std.specs.Prelude.{map, slice_index}
+use Rattle.escpos_command.specs.declared.command.Command.{Command}
+use Rattle.escpos_command.specs.Digits.{mark_of}
+use Rattle.escpos_host.specs.Earlier.{with_earlier}
+use Rattle.escpos_host.specs.Machine.{HostView, Phase, Down, Open, IsSound, in_flight, most_in_flight, submitted, HasMark, InFlight}
+use Rattle.escpos_command.specs.declared.answer.Answer.{Answer}
+use Rattle.escpos_command.specs.Answers.{HalfAnswer}
+use Rattle.escpos_host.specs.declared.host.HostEvent.{HostEvent}
+use Rattle.escpos_host.specs.declared.host.HostEvent.TheVariants as heard
+use Rattle.escpos_host.specs.Earlier.{shifted}
+use Rattle.escpos_host.specs.Heard.{EndsLink, Grows, HearsAll, HearsByte, IsHeard, Misfits, Passed, Turns, last_of, taken_at, with_half}
+use Rattle.std.proofs.lemmas.List.{get_or-take, length-take-le}
+use Rattle.escpos_link.specs.declared.event.Event.TheVariants as event
+use Rattle.escpos_link.specs.declared.event.Note.TheVariants as note
+use Rattle.escpos_link.specs.EventTable.{After}
+use Rattle.escpos_link.specs.Trusted.{IsFitting}
+use Rattle.escpos_link.specs.Wire.{WireView, heard_from, line_of}
+use Rattle.escpos_link.proofs.AtTheEnd.{heard_on}
+use Rattle.escpos_host.proofs.Earlier.{earlier_hears, earlier_sound, ends_shifted, last_shifted}
+use Rattle.escpos_till.specs.declared.entry.Entry.{Entry}
+use Rattle.escpos_till.specs.declared.machine.Stage.TheVariants as stage
+use Rattle.escpos_till.specs.Book.{IsBookOf}
+use Rattle.escpos_till.specs.Entries.{MayFollow, recorded}
+use Rattle.escpos_till.specs.declared.entry.Entry.TheVariants as entry
+use Rattle.escpos_till.specs.declared.machine.Talk.{Talk}
+use Rattle.escpos_till.specs.declared.machine.Then.TheVariants as then
+use Rattle.escpos_till.specs.declared.machine.TillNote.{TillNote}
+use Rattle.escpos_till.specs.Machine.{Came, Drops, GoesOn as MachineGoesOn, MachineView, Submits, Turns as MachineTurns, at}
+use Rattle.escpos_till_model.proofs.GoesOn.{goes_on}
+use Rattle.escpos_till_model.proofs.Keeping.{gone_keeps, on_keeps, submitted_keeps}
+use Rattle.escpos_till_model.specs.declared.hand.Hand.{Hand}
+use Rattle.escpos_till_model.specs.Kept.{Keeps}
+use Rattle.escpos_till_model.specs.Known.{Holds, IsWorld}
+use Rattle.escpos_till_model.specs.World.{Hears, Wired, World}
+use Rattle.escpos_till_model.proofs.LinesKept.{LineLaws, Right, goes, same_wire, drops_right, drops_hung}
+use Rattle.escpos_till_model.proofs.WorldCalls.{Parts, whole, parts}
+use Rattle.escpos_till_model.proofs.WorldStore.{talking_book, talking_holds}
+
+-- ## Answers are heard
+
+pub take_front : {X : Type 0} (k n : ℕ) (xs : List X) → k ≤ n → take k (take n xs) ≡ take k xs
+take_front zero n xs l = refl
+take_front (suc k) zero xs l = absurd (omega (arith, l))
+take_front (suc k) (suc n) [] l = refl
+take_front (suc k) (suc n) (x ∷ xs) l = ap (λ v. x ∷ v) (take_front k n xs (omega (arith, l)))
+
+pub drop_front : {X : Type 0} (n : ℕ) (xs : List X) → drop n (take n xs) ≡ []
+drop_front zero xs = refl
+drop_front (suc n) [] = refl
+drop_front (suc n) (x ∷ xs) = drop_front n xs
+
+pub length_front : {X : Type 0} (n : ℕ) (xs : List X) → length (take n xs) ≤ n
+length_front zero xs = omega arith
+length_front (suc n) [] = omega arith
+length_front (suc n) (x ∷ xs) = omega (arith, length_front n xs)
+
+pub take_whole : {X : Type 0} (n : ℕ) (xs : List X) → take (length (take n xs)) xs ≡ take n xs
+take_whole zero xs = refl
+take_whole (suc n) [] = refl
+take_whole (suc n) (x ∷ xs) = ap (λ v. x ∷ v) (take_whole n xs)
+
+-- After an event no half answer is left, and the host is as sound as before.
+pub sound_turned : (h after : HostView) (a : Answer) (at : ℕ) (e : HostEvent) → h.half ≡ [] → h.phase ≢ Down → IsSound h → Turns h a at e after → (EndsLink e → ⊥) → e ≢ heard.None
+    → (after.half ≡ []) × IsSound after × (after.phase ≢ Down)
+sound_turned h after a at heard.None half up sound t on some = absurd (some refl)
+sound_turned h after a at heard.Opened half up sound (first, id, phase, is, mark, same) on some = (
+  ap (λ v. v.half) same ∙ half,
+  subst IsSound (sym same) (record { quiet = λ down. absurd (let bad : Open [] ≡ Down = down in cc); none_left = λ u. sound.none_left up; few = omega arith; half = inl half }),
+  λ down. let bad : Open [] ≡ Down = ap (λ v. v.phase) (sym same) ∙ down in cc,
+)
+sound_turned h after a at (heard.Recorded number) half up sound (p, ps, phase, is, count, same) on some = (
+  ap (λ v. v.half) same ∙ half,
+  subst IsSound (sym same) (record {
+    quiet = λ down. absurd (let bad : Open ps ≡ Down = down in cc);
+    none_left = λ u. sound.none_left up;
+    few = let all : length (in_flight (Open (p ∷ ps))) ≤ most_in_flight = subst (λ (v : Phase). length (in_flight v) ≤ most_in_flight) phase sound.few in omega (arith, all);
+    half = inl half;
+  }),
+  λ down. let bad : Open ps ≡ Down = ap (λ v. v.phase) (sym same) ∙ down in cc,
+)
+sound_turned h after a at (heard.Status byte) half up sound (is, same) on some =
+    (ap (λ v. v.half) same ∙ half, subst IsSound (sym same) sound, λ down. up (ap (λ v. v.phase) (sym same) ∙ down))
+sound_turned h after a at (heard.BadAnswer place) half up sound t on some = absurd (on tt)
+
+pub sound_half : (h : HostView) (half : List ℕ) → h.phase ≢ Down → IsSound h → (half ≡ []) ⊎ HalfAnswer half → IsSound (with_half h half)
+sound_half h half up sound rest = record { quiet = λ down. absurd (up down); none_left = sound.none_left; few = sound.few; half = rest }
+
+pub no_growth : (h : HostView) (byte : ℕ) (e : HostEvent) (after : HostView) → e ≢ heard.None → Grows h byte e after → ⊥
+no_growth h byte heard.None after some g = some refl
+no_growth h byte heard.Opened after some g = g
+no_growth h byte (heard.Recorded number) after some g = g
+no_growth h byte (heard.Status b) after some g = g
+no_growth h byte (heard.BadAnswer place) after some g = g
+
+pub no_misfit : (h : HostView) (byte at : ℕ) (e : HostEvent) (after : HostView) → (EndsLink e → ⊥) → Misfits h byte at e after → ⊥
+no_misfit h byte at heard.None after on m = m
+no_misfit h byte at heard.Opened after on m = m
+no_misfit h byte at (heard.Recorded number) after on m = m
+no_misfit h byte at (heard.Status b) after on m = m
+no_misfit h byte at (heard.BadAnswer place) after on m = on tt
+
+pub sound_byte : (h after : HostView) (byte at : ℕ) (e : HostEvent) → h.phase ≢ Down → IsSound h → HearsByte h byte at e after → (EndsLink e → ⊥) → e ≢ heard.None
+    → (after.half ≡ []) × IsSound after × (after.phase ≢ Down)
+sound_byte h after byte at e up sound (inl g) on some = absurd (no_growth h byte e after some g)
+sound_byte h after byte at e up sound (inr (inl m)) on some = absurd (no_misfit h byte at e after on m)
+sound_byte h after byte at e up sound (inr (inr (a, spells, turns))) on some =
+    sound_turned (with_half h []) after a at e refl up (sound_half h [] up sound (inl refl)) turns on some
+
+pub taken_one : (e : HostEvent) (at : ℕ) → (EndsLink e → ⊥) → taken_at e at ≡ at + 1
+taken_one heard.None at on = refl
+taken_one heard.Opened at on = refl
+taken_one (heard.Recorded number) at on = refl
+taken_one (heard.Status byte) at on = refl
+taken_one (heard.BadAnswer place) at on = absurd (on tt)
+
+-- What was heard up to the first event: it is an event of the line, and leaves a sound host with a link.
+pub record HeardOne (h : HostView) (coming : List ℕ) (consumed : ℕ) (e : HostEvent) (after : HostView) : Type 0 where
+  pub events : List HostEvent
+  pub hears : HearsAll h (take consumed coming) events consumed after
+  pub last : last_of events ≡ e
+  pub sound : IsSound after
+  pub up : after.phase ≢ Down
+
+pub passed_nothing : (h : HostView) → h.half ≡ [] → Passed h [] h.half
+passed_nothing h none = record { ignored = []; hears = record { in_range = tt; whole = append-nil h.half; rest_is = inl none }; each = tt }
+
+pub none_or_some : (e : HostEvent) → (e ≡ heard.None) ⊎ (e ≢ heard.None)
+none_or_some heard.None = inl refl
+none_or_some heard.Opened = inr (λ same. cc same)
+none_or_some (heard.Recorded number) = inr (λ same. cc same)
+none_or_some (heard.Status byte) = inr (λ same. cc same)
+none_or_some (heard.BadAnswer place) = inr (λ same. cc same)
+
+pub heard_one : (h after : HostView) (coming : List ℕ) (most consumed : ℕ) (e : HostEvent) → h.phase ≢ Down → IsSound h → IsHeard h (take most coming) consumed e after → (EndsLink e → ⊥)
+    → HeardOne h coming consumed e after
+heard_one h after coming most consumed e up sound (inl (none, all, passed, same)) on =
+    let whole : take consumed coming ≡ take most coming = ap (λ n. take n coming) all ∙ take_whole most coming in
+    record {
+      events = [];
+      hears = inr (up, subst (λ bs. IsHeard h bs consumed heard.None after) (sym whole) (inl (refl, all, passed, same)));
+      last = sym none;
+      sound = subst IsSound (sym same) (sound_half h after.half up sound passed.hears.rest_is);
+      up = λ down. up (ap (λ v. v.phase) (sym same) ∙ down);
+    }
+heard_one h after coming most consumed e up sound (inr (at, half, within, some, count, passed, byte)) on =
+    let one : consumed ≡ at + 1 = count ∙ taken_one e at on in
+    let few : length (take most coming) ≤ most = length_front most coming in
+    let bytes : List ℕ = take most coming in
+    let piece : List ℕ = take consumed coming in
+    let front : take at piece ≡ take at bytes =
+    take_front at consumed coming (omega (arith, one)) ∙ sym (take_front at most coming (omega (arith, within, few))) in
+    let same_byte : slice_index piece at ≡ slice_index bytes at =
+    get_or-take consumed coming at 0 (omega (arith, one)) ∙ sym (get_or-take most coming at 0 (omega (arith, within, few))) in
+    let long : consumed ≤ length bytes = omega (arith, one, within) in
+    let same_piece : take consumed bytes ≡ piece = take_front consumed most coming (omega (arith, long, few)) in
+    let inside : at < length piece = omega (arith, one, ap length same_piece, length-take-le consumed bytes long) in
+    let turned = sound_byte (with_half h half) after (slice_index bytes at) at e up (sound_half h half up sound passed.hears.rest_is) byte on some in
+    let heard_so : IsHeard h piece consumed e after =
+    inr (at, half, inside, some, count, subst (λ bs. Passed h bs half) (sym front) passed, subst (λ b. HearsByte (with_half h half) b at e after) (sym same_byte) byte) in
+    let rest : IsHeard after (drop consumed piece) 0 heard.None after =
+    subst (λ bs. IsHeard after bs 0 heard.None after) (sym (drop_front consumed coming)) (inl (refl, refl, passed_nothing after turned.0, refl)) in
+    record {
+      events = e ∷ [];
+      hears = inr (up, (consumed, after, some, heard_so, inr (on, (0, omega arith, rest))));
+      last = refl;
+      sound = turned.1;
+      up = turned.2;
+    }
+
+-- No byte ends the link of a till.
+pub in_turn : LineLaws → (earlier : List (List Command)) (h after : HostView) (w : WireView) (most consumed : ℕ) (e : HostEvent) → h.phase ≢ Down
+    → Right (line_of (with_earlier earlier h) w) → IsHeard h (take most w.coming) consumed e after → EndsLink e → ⊥
+in_turn laws earlier h after w most consumed e up right hears ends =
+    let bad : e ≢ heard.None = λ none. subst EndsLink none ends in
+    let all : HearsAll h (take most w.coming) (e ∷ []) consumed after = inr (up, (consumed, after, bad, hears, inl (ends, refl, refl, refl))) in
+    laws.turn (with_earlier earlier h) (with_earlier earlier after) w most consumed (map (shifted (length earlier)) (e ∷ [])) right.line right.trusted
+    (earlier_hears earlier h after (take most w.coming) (e ∷ []) consumed all) ((ends_shifted (length earlier) e).0 ends)
+
+-- The line's event.
+pub heard_after : (earlier : List (List Command)) (h after : HostView) (w : WireView) (consumed : ℕ) (e : HostEvent) → (one : HeardOne h w.coming consumed e after) → (EndsLink e → ⊥)
+    → After (event.Answer consumed) (line_of (with_earlier earlier h) w)
+    (note.Heard consumed (last_of (map (shifted (length earlier)) one.events))) (line_of (with_earlier earlier after) (heard_from w consumed))
+heard_after earlier h after w consumed e one on =
+    let last : last_of (map (shifted (length earlier)) one.events) ≡ shifted (length earlier) e = last_shifted (length earlier) one.events ∙ ap (shifted (length earlier)) one.last in
+    heard_on (with_earlier earlier h) (with_earlier earlier after) w consumed consumed (map (shifted (length earlier)) one.events)
+    (earlier_hears earlier h after (take consumed w.coming) one.events consumed one.hears)
+    (λ ends. on ((ends_shifted (length earlier) e).1 (subst EndsLink last ends)))
+
+-- What hearing does to the records.
+abbrev pub Grew : HostEvent → List (List Command) → List (List Command) → Type 0
+Grew (heard.Recorded number) old new = length new ≡ length old + 1
+Grew e old new = new ≡ old
+
+pub grew_turned : (h after : HostView) (a : Answer) (at : ℕ) (e : HostEvent) → Turns h a at e after → (EndsLink e → ⊥) → Grew e h.records after.records
+grew_turned h after a at heard.None (ignores, same) on = ap (λ v. v.records) same
+grew_turned h after a at heard.Opened (first, id, phase, is, mark, same) on = ap (λ v. v.records) same
+grew_turned h after a at (heard.Recorded number) (p, ps, phase, is, count, same) on =
+    omega (arith, ap (λ v. length v.records) same, length-append h.records (p.receipt ∷ []))
+grew_turned h after a at (heard.Status byte) (is, same) on = ap (λ v. v.records) same
+grew_turned h after a at (heard.BadAnswer place) t on = absurd (on tt)
+
+pub grew_byte : (h after : HostView) (byte at : ℕ) (e : HostEvent) → HearsByte h byte at e after → (EndsLink e → ⊥) → e ≢ heard.None → Grew e h.records after.records
+grew_byte h after byte at e (inl g) on some = absurd (no_growth h byte e after some g)
+grew_byte h after byte at e (inr (inl m)) on some = absurd (no_misfit h byte at e after on m)
+grew_byte h after byte at e (inr (inr (a, spells, turns))) on some = grew_turned (with_half h []) after a at e turns on
+
+pub grew : (h after : HostView) (bytes : List ℕ) (consumed : ℕ) (e : HostEvent) → IsHeard h bytes consumed e after → (EndsLink e → ⊥) → Grew e h.records after.records
+grew h after bytes consumed e (inl (none, all, passed, same)) on =
+    subst (λ x. Grew x h.records after.records) (sym none) (ap (λ v. v.records) same)
+grew h after bytes consumed e (inr (at, half, within, some, count, passed, byte)) on = grew_byte (with_half h half) after (slice_index bytes at) at e byte on some
+
+-- A machine that hears an answer: what it is of, and what its host has become.
+pub record Heard (m after : MachineView) (kept : List Entry) (w wire : WireView) (talk : Talk) (consumed : ℕ) (host : HostView) : Type 0 where
+  pub earlier : List (List Command)
+  pub held : Hand
+  pub number : held.number ≡ talk.number
+  pub receipt : held.receipt ≡ talk.receipt
+  pub follows : MayFollow kept (entry.Recorded talk.number)
+  pub reserved : (receipt : List Command) → talk.receipt ≡ Some receipt → (host.next < held.limit) × IsFitting (event.Submit receipt)
+  pub sound : IsSound host
+  pub up : host.phase ≢ Down
+  pub right : Right (line_of (with_earlier earlier host) w)
+  pub keeps : Keeps kept (Some held) (with_earlier earlier host)
+  pub book : IsBookOf after.book kept
+  pub after_sound : IsSound after.host
+  pub wired : Wired host after.host w wire
+
+-- Nothing was recorded so far.
+abbrev pub Unrecorded : List Entry → List (List Command) → HostView → Type 0
+Unrecorded kept earlier host = length (earlier ++ host.records) ≡ length (recorded kept)
+
+-- The talk is over.
+pub over : LineLaws → (m after : MachineView) (kept : List Entry) (w wire : WireView) (talk : Talk) (consumed : ℕ) (host : HostView) (n : TillNote) → (x : Heard m after kept w wire talk consumed host)
+    → Drops host after.host → after.stage ≡ stage.HangingUp n → Parts after kept wire
+over laws m after kept w wire talk consumed host n x drops now = record {
+  earlier = x.earlier;
+  sound = x.after_sound;
+  right = drops_right laws x.earlier host after.host w wire x.sound drops x.wired x.right;
+  hand = None;
+  keeps = subst (λ v. Keeps kept None v) (sym (drops_hung x.earlier host after.host drops)) (gone_keeps kept (Some x.held) (with_earlier x.earlier host) x.keeps);
+  book = λ live. x.book;
+  holds = subst (λ s. Holds kept None (with_earlier x.earlier after.host) s) (sym now) refl;
+}
+
+-- The talk goes on, with the host as it is.
+pub onward : (m after : MachineView) (kept : List Entry) (w wire : WireView) (talk : Talk) (consumed left : ℕ) (host : HostView) → (x : Heard m after kept w wire talk consumed host)
+    → Unrecorded kept x.earlier host → after.host ≡ host → after.stage ≡ stage.Talking (record { number = talk.number; receipt = talk.receipt; left = left }) → Parts after kept wire
+onward m after kept w wire talk consumed left host x none same now =
+    let stays : wire ≡ w = same_wire host after.host w wire same x.wired in
+    record {
+      earlier = x.earlier;
+      sound = x.after_sound;
+      right = subst (λ v. Right (line_of (with_earlier x.earlier after.host) v)) (sym stays) (subst (λ h. Right (line_of (with_earlier x.earlier h) w)) (sym same) x.right);
+      hand = Some x.held;
+      keeps = subst (λ h. Keeps kept (Some x.held) (with_earlier x.earlier h)) (sym same) x.keeps;
+      book = λ live. x.book;
+      holds = subst (λ s. Holds kept (Some x.held) (with_earlier x.earlier after.host) s) (sym now)
+          (subst (λ h. Holds kept (Some x.held) (with_earlier x.earlier h) (stage.Talking (record { number = talk.number; receipt = talk.receipt; left = left }))) (sym same)
+          (x.held, refl, x.number, x.receipt, x.follows, none, x.up, x.reserved));
+    }
+
+pub goes_on_parts : LineLaws → (m after : MachineView) (kept : List Entry) (w wire : WireView) (talk : Talk) (consumed left : ℕ) (host : HostView) → (x : Heard m after kept w wire talk consumed host)
+    → Unrecorded kept x.earlier host → MachineGoesOn talk left host after.host after.stage → Parts after kept wire
+goes_on_parts laws m after kept w wire talk consumed zero host x none so = over laws m after kept w wire talk consumed host _ x so.0 so.1
+goes_on_parts laws m after kept w wire talk consumed (suc left) host x none so = onward m after kept w wire talk consumed (suc left) host x none so.0 so.1
+
+-- The receipt goes to the host.
+pub given : LineLaws → (m after : MachineView) (kept : List Entry) (w wire : WireView) (talk : Talk) (consumed left : ℕ) (host : HostView) (receipt : List Command) (flight : List InFlight)
+    → (x : Heard m after kept w wire talk consumed host) → Unrecorded kept x.earlier host → talk.receipt ≡ Some receipt → host.phase ≡ Open flight → length flight < most_in_flight
+    → HasMark host → after.host ≡ submitted host flight receipt → after.stage ≡ stage.Talking (record { number = talk.number; receipt = None; left = left }) → Parts after kept wire
+given laws m after kept w wire talk consumed left host receipt flight x none has phase few mark same now =
+    let before : HostView = with_earlier x.earlier host in
+    let hand : Hand = record { number = x.held.number; receipt = None; limit = x.held.limit } in
+    let (within, fits) = x.reserved receipt has in
+    let up : after.host.phase ≢ Down = λ down. let bad : Open (flight ++ record { receipt = receipt; mark = mark_of host.next } ∷ []) ≡ Down = ap (λ v. v.phase) (sym same) ∙ down in cc in
+    let stays : wire ≡ w = x.wired.stays_up x.up up in
+    let right = goes laws (event.Submit receipt) (line_of before w) (line_of (submitted before flight receipt) w) note.Done fits (earlier_sound x.earlier host x.sound) x.right
+    (flight, refl, phase, few, mark, refl) in
+    let keeps = submitted_keeps kept x.held before flight receipt (x.receipt ∙ has) phase within x.keeps in
+    record {
+      earlier = x.earlier;
+      sound = x.after_sound;
+      right = subst (λ v. Right (line_of (with_earlier x.earlier after.host) v)) (sym stays) (subst (λ h. Right (line_of (with_earlier x.earlier h) w)) (sym same) right);
+      hand = Some hand;
+      keeps = subst (λ h. Keeps kept (Some hand) (with_earlier x.earlier h)) (sym same) keeps;
+      book = λ live. x.book;
+      holds = subst (λ s. Holds kept (Some hand) (with_earlier x.earlier after.host) s) (sym now)
+          (hand, refl, x.number, refl, x.follows, ap (λ h. length (x.earlier ++ h.records)) same ∙ none, up, λ r is. absurd (let bad : None ≡ Some r = is in cc));
+    }
+
+pub submits_parts : LineLaws → (m after : MachineView) (kept : List Entry) (w wire : WireView) (talk : Talk) (consumed left : ℕ) (host : HostView) (receipt : Option (List Command))
+    → (x : Heard m after kept w wire talk consumed host) → Unrecorded kept x.earlier host → talk.receipt ≡ receipt → Submits talk receipt left host after.host after.stage → Parts after kept wire
+submits_parts laws m after kept w wire talk consumed (suc left) host (Some receipt) x none has (inl (flight, phase, few, mark, same, now)) =
+    given laws m after kept w wire talk consumed (suc left) host receipt flight x none has phase few mark same now
+submits_parts laws m after kept w wire talk consumed (suc left) host (Some receipt) x none has (inr (why, refuses, drops, now)) = over laws m after kept w wire talk consumed host _ x drops now
+submits_parts laws m after kept w wire talk consumed zero host (Some receipt) x none has so = goes_on_parts laws m after kept w wire talk consumed zero host x none so
+submits_parts laws m after kept w wire talk consumed left host None x none has so = goes_on_parts laws m after kept w wire talk consumed left host x none so
+
+pub turned_parts : LineLaws → (m after : MachineView) (kept : List Entry) (w wire : WireView) (talk : Talk) (consumed left : ℕ) (host : HostView) (e : HostEvent) (old : List (List Command))
+    → (x : Heard m after kept w wire talk consumed host) → length (x.earlier ++ old) ≡ length (recorded kept) → Grew e old host.records → (EndsLink e → ⊥)
+    → MachineTurns e talk left host after.host after.stage → Parts after kept wire
+turned_parts laws m after kept w wire talk consumed left host heard.None old x count more on so =
+    goes_on_parts laws m after kept w wire talk consumed left host x (ap (λ rs. length (x.earlier ++ rs)) more ∙ count) so
+turned_parts laws m after kept w wire talk consumed left host (heard.Status byte) old x count more on so =
+    goes_on_parts laws m after kept w wire talk consumed left host x (ap (λ rs. length (x.earlier ++ rs)) more ∙ count) so
+turned_parts laws m after kept w wire talk consumed left host heard.Opened old x count more on so =
+    submits_parts laws m after kept w wire talk consumed left host talk.receipt x (ap (λ rs. length (x.earlier ++ rs)) more ∙ count) refl so
+turned_parts laws m after kept w wire talk consumed left host (heard.Recorded place) old x count more on (same, now) =
+    let stays : wire ≡ w = same_wire host after.host w wire same x.wired in
+    let one_more : length (recorded kept) < length (x.earlier ++ host.records) = omega (arith, count, more, length-append x.earlier old, length-append x.earlier host.records) in
+    record {
+      earlier = x.earlier;
+      sound = x.after_sound;
+      right = subst (λ v. Right (line_of (with_earlier x.earlier after.host) v)) (sym stays) (subst (λ h. Right (line_of (with_earlier x.earlier h) w)) (sym same) x.right);
+      hand = Some x.held;
+      keeps = subst (λ h. Keeps kept (Some x.held) (with_earlier x.earlier h)) (sym same) x.keeps;
+      book = λ live. x.book;
+      holds = subst (λ s. Holds kept (Some x.held) (with_earlier x.earlier after.host) s) (sym now)
+          (subst (λ h. Holds kept (Some x.held) (with_earlier x.earlier h) (stage.Keeping (entry.Recorded talk.number) (then.Recorded talk.number))) (sym same)
+          (x.follows, (x.held, refl, x.number, refl, one_more)));
+    }
+turned_parts laws m after kept w wire talk consumed left host (heard.BadAnswer place) old x count more on so = absurd (on tt)
+
+pub hears : LineLaws → (w new : World) (most : ℕ) → IsWorld w → Hears w most new → IsWorld new
+hears laws w new most known v =
+    let p = parts w v.m v.was known in
+    let (held, hand_is, number, receipt, follows, records, up, reserved) = talking_holds v.m w.kept w.wire v.talk v.talks p in
+    let (e, host, hears_one, turns, book) = subst (λ s. Came s (take most w.wire.coming) v.consumed v.m v.after) v.talks v.came in
+    let is_heard = hears_one.1 up in
+    let on = in_turn laws p.earlier v.m.host host w.wire most v.consumed e up p.right is_heard in
+    let one = heard_one v.m.host host w.wire.coming most v.consumed e up p.sound is_heard on in
+    let middle : WireView = heard_from w.wire v.consumed in
+    let happened = heard_after p.earlier v.m.host host w.wire v.consumed e one on in
+    let right = goes laws (event.Answer v.consumed) (line_of (with_earlier p.earlier v.m.host) w.wire) (line_of (with_earlier p.earlier host) middle) _ tt
+    (earlier_sound p.earlier v.m.host p.sound) p.right happened in
+    let went = goes_on (event.Answer v.consumed) (line_of (with_earlier p.earlier v.m.host) w.wire) (line_of (with_earlier p.earlier host) middle) _ refl happened in
+    let keeps = subst (λ x. Keeps w.kept x (with_earlier p.earlier host)) hand_is
+    (on_keeps w.kept p.hand (with_earlier p.earlier v.m.host) (with_earlier p.earlier host) went p.keeps) in
+    let x : Heard v.m v.after w.kept middle v.wire v.talk v.consumed host = record {
+      earlier = p.earlier;
+      held = held;
+      number = number;
+      receipt = receipt;
+      follows = follows;
+      reserved = λ r is. let had = reserved r is in (omega (arith, went.next, had.0), had.1);
+      sound = one.sound;
+      up = one.up;
+      right = right;
+      keeps = keeps;
+      book = subst (λ b. IsBookOf b w.kept) (sym book) (talking_book v.m w.kept w.wire v.talk v.talks p);
+      after_sound = v.sound;
+      wired = record {
+        stays_down = λ down b. absurd (one.up down);
+        goes_up = λ down b. absurd (one.up down);
+        stays_up = λ a b. v.wired.stays_up up b;
+        goes_down = λ a b. v.wired.goes_down up b;
+      };
+    } in
+    subst IsWorld (sym v.is) (whole v.after w.kept v.wire
+    (turned_parts laws v.m v.after w.kept middle v.wire v.talk v.consumed (v.talk.left - v.consumed) host e v.m.host.records x records
+    (grew v.m.host host (take most w.wire.coming) v.consumed e is_heard on) on turns))

@@ -1,0 +1,488 @@
+-- What holds of every world holds after what a store does, after bytes are put, and after what happens without the machine.
+use Rattle.std.proofs.Common.{ℕ, zero, suc, ◌≡◌, ◌≢◌, ◌+◌, ◌-◌, ◌<◌, ◌≤◌, inl, inr, max, Option, Some, None, List, [], ◌∷◌, ◌++◌, length, take, refl, sym, ◌∙◌, ap, subst, append-nil, arith}
+use Rattle.std.specs.Prelude.{false}
+use Rattle.std.proofs.Math.Nat.{le-max_right}
+use Rattle.escpos_host.specs.declared.send.SendFault.{SendFault}
+use Rattle.escpos_command.specs.declared.command.Command.{Command}
+use Rattle.escpos_command.specs.Digits.{mark_count}
+use Rattle.escpos_host.specs.Earlier.{with_earlier}
+use Rattle.escpos_host.specs.Machine.{HostView, Phase, Down, Opening, IsSound, gone_down, in_flight, linked, most_in_flight, nudged, taken_out}
+use Rattle.escpos_host.specs.declared.host.HostError.{HostError}
+use Rattle.escpos_host.specs.declared.host.HostError.TheVariants as error
+use Rattle.escpos_host.specs.Awaits.{RefusesOpening, dialled}
+use Rattle.escpos_host.proofs.Dialling.{dialled_first, dialled_more}
+use Rattle.escpos_link.specs.declared.event.Event.{Event}
+use Rattle.escpos_link.specs.declared.event.Event.TheVariants as event
+use Rattle.escpos_link.specs.declared.event.Note.TheVariants as note
+use Rattle.escpos_link.specs.EventTable.{hung_up}
+use Rattle.escpos_link.specs.Resumed.{resumed_host}
+use Rattle.escpos_link.specs.Trusted.{IsFitting}
+use Rattle.escpos_link.specs.Wire.{WireView, given_up, line_of, with_bytes, with_link}
+use Rattle.escpos_link.proofs.AtTheEnd.{hung_up_by, idle_kept, idle_trusted}
+use Rattle.escpos_link.proofs.Happening.{resumed_kept}
+use Rattle.escpos_host.proofs.Earlier.{earlier_sound}
+use Rattle.escpos_till.specs.declared.entry.Entry.{Entry}
+use Rattle.escpos_till.specs.declared.machine.Stage.TheVariants as stage
+use Rattle.escpos_till.specs.Book.{IsBookOf}
+use Rattle.escpos_till.specs.Entries.{MayFollow, next_free, record_of, recorded, taken}
+use Rattle.escpos_till.specs.declared.entry.Entry.TheVariants as entry
+use Rattle.escpos_till.specs.declared.machine.Due.{Due}
+use Rattle.escpos_till.specs.declared.machine.Talk.{Talk}
+use Rattle.escpos_till.specs.declared.machine.Then.{Then}
+use Rattle.escpos_till.specs.declared.store.StoreFault.{StoreFault}
+use Rattle.escpos_till.specs.declared.machine.Then.TheVariants as then
+use Rattle.escpos_till.specs.Delivers.{fresh, marks_taken}
+use Rattle.escpos_till.specs.Machine.{Drops, Ended, Follows, Kept, MachineView, Opens, Unsure, lost, put, told}
+use Rattle.escpos_till.proofs.EntryLemmas.{next_after_tried}
+use Rattle.escpos_till.proofs.MachineLemmas.{waits_tried}
+use Rattle.escpos_till_model.proofs.EntryFacts.{recorded_same, zip_length}
+use Rattle.escpos_till_model.proofs.GoesOn.{GoesOn, goes_on, no_call}
+use Rattle.escpos_till_model.proofs.Keeping.{entry_keeps, front_of, gone_keeps, linked_keeps, nudged_keeps, on_keeps, record_keeps, take_keeps}
+use Rattle.escpos_till_model.specs.Receipts.{IsReceiptOf}
+use Rattle.escpos_till_model.specs.Steps.{is_host_call}
+use Rattle.escpos_till_model.specs.declared.hand.Hand.{Hand}
+use Rattle.escpos_till_model.specs.Kept.{Keeps}
+use Rattle.escpos_till_model.specs.Known.{HasLost, Holds, IsHostOf, IsToKeep, IsWorld}
+use Rattle.escpos_till_model.specs.World.{Breaks, Crashes, Happens, Idles, OnWire, Puts, Starts, Stores, Wired, World, off, running, with_entry, without_entry}
+use Rattle.escpos_till_model.proofs.LinesKept.{LineLaws, Right, goes, down_or_up, same_wire, none_given_up, drops_right, drops_hung}
+use Rattle.escpos_till_model.proofs.WorldCalls.{Parts, whole, parts, let_go}
+
+-- ## A host that has sent nothing
+
+pub resumed_is : (earlier : List (List Command)) (h : HostView) (kept : List Entry) (hand : Option Hand) (f : ℕ) → (k : Keeps kept hand (with_earlier earlier h))
+    → resumed_host (with_earlier earlier h) f (length (recorded kept)) ≡ with_earlier k.receipts (fresh f)
+resumed_is earlier h kept hand f k =
+    let count : ℕ = length (recorded kept) in
+    ap (λ rs. record { phase = Down; out = []; half = []; next = f; records = rs; left = [] })
+    (ap (take count) k.records ∙ front_of count k.receipts k.answered (zip_length (IsReceiptOf kept) (recorded kept) k.receipts k.are) ∙ sym (append-nil k.receipts))
+
+-- Whatever it was before, it goes on with the receipts that are recorded.
+pub fresh_right : LineLaws → (earlier : List (List Command)) (h : HostView) (w : WireView) (kept : List Entry) (hand : Option Hand) (f : ℕ) → h.phase ≡ Down
+    → Right (line_of (with_earlier earlier h) w) → (k : Keeps kept hand (with_earlier earlier h)) → h.next ≤ f → Right (line_of (with_earlier k.receipts (fresh f)) w)
+fresh_right laws earlier h w kept hand f down right k within =
+    let count : ℕ = length (recorded kept) in
+    let before : HostView = with_earlier earlier h in
+    let host = resumed_is earlier h kept hand f k in
+    let wire : given_up w ≡ w = none_given_up before w down right.line in
+    let resumed_right : Right (line_of (resumed_host before f count) (given_up w)) = record {
+      line = resumed_kept (line_of before w) f count right.line;
+      trusted = (laws.trust.resumes (line_of before w) f count within right.trusted).0;
+    } in
+    subst (λ v. Right (line_of (with_earlier k.receipts (fresh f)) v)) wire (subst (λ v. Right (line_of v (given_up w))) host resumed_right)
+
+pub fresh_keeps : (earlier : List (List Command)) (h : HostView) (kept : List Entry) (hand : Option Hand) (f : ℕ) → (k : Keeps kept hand (with_earlier earlier h)) → f ≤ next_free kept
+    → Keeps kept None (with_earlier k.receipts (fresh f))
+fresh_keeps earlier h kept hand f k within =
+    record { ledger = k.ledger; receipts = k.receipts; are = k.are; answered = []; records = refl; next = within; in_hand = refl }
+
+pub started : LineLaws → (w new : World) → IsWorld w → Starts w new → IsWorld new
+started laws w new known starts =
+    let down : known.host.phase ≡ Down = subst (λ x. IsHostOf x known.host) starts.off known.host_is in
+    let next : starts.m.book.next ≡ next_free w.kept = starts.book.next in
+    let right = fresh_right laws known.earlier known.host w.wire w.kept known.hand starts.m.book.next down (record { line = known.line; trusted = known.trusted }) known.keeps
+    (omega (arith, known.keeps.next, next)) in
+    let keeps = fresh_keeps known.earlier known.host w.kept known.hand starts.m.book.next known.keeps (omega (arith, next)) in
+    subst IsWorld (sym starts.is) (whole starts.m w.kept w.wire (record {
+      earlier = known.keeps.receipts;
+      sound = starts.sound;
+      right = subst (λ h. Right (line_of (with_earlier known.keeps.receipts h) w.wire)) (sym starts.started.host) right;
+      hand = None;
+      keeps = subst (λ h. Keeps w.kept None (with_earlier known.keeps.receipts h)) (sym starts.started.host) keeps;
+      book = λ live. starts.book;
+      holds = subst (λ s. Holds w.kept None (with_earlier known.keeps.receipts starts.m.host) s) (sym starts.started.stage) refl;
+    }))
+
+-- ## On the wire, and off
+
+pub fits_wire : (e : Event) → is_host_call e ≡ false → IsFitting e
+fits_wire event.LinkUp call = tt
+fits_wire event.Nudge call = tt
+fits_wire (event.Submit receipt) call = no_call call
+fits_wire (event.Ask kind) call = no_call call
+fits_wire (event.HostRestart first) call = tt
+fits_wire (event.Move k) call = tt
+fits_wire (event.Deliver k) call = tt
+fits_wire event.HandOver call = tt
+fits_wire (event.Answer k) call = tt
+fits_wire event.PrinterLeaves call = tt
+fits_wire event.PrinterRestart call = tt
+fits_wire event.HostDrops call = tt
+fits_wire (event.SetCondition condition) call = tt
+
+-- Another wire, where all else stays.
+pub rewired : (w : World) (wire : WireView) → (known : IsWorld w) → Right (line_of (with_earlier known.earlier known.host) wire)
+    → IsWorld (record { machine = w.machine; kept = w.kept; wire = wire })
+rewired w wire known right = record {
+  earlier = known.earlier;
+  host = known.host;
+  host_is = known.host_is;
+  sound = known.sound;
+  line = right.line;
+  trusted = right.trusted;
+  hand = known.hand;
+  keeps = known.keeps;
+  machine = known.machine;
+}
+
+pub on_wire : LineLaws → (w new : World) (e : Event) → IsWorld w → Happens w (OnWire e) new → IsWorld new
+on_wire laws w new e known (call, wire, (told, happened), is) =
+    let before : HostView = with_earlier known.earlier known.host in
+    subst IsWorld (sym is) (rewired w wire known
+    (goes laws e (line_of before w.wire) (line_of before wire) told (fits_wire e call) (earlier_sound known.earlier known.host known.sound)
+    (record { line = known.line; trusted = known.trusted }) (happened before)))
+
+pub down_of : (machine : Option MachineView) (h : HostView) → IsHostOf machine h → ((m : MachineView) → machine ≡ Some m → m.host.phase ≡ Down) → h.phase ≡ Down
+down_of None h is none = is
+down_of (Some m) h is none = ap (λ v. v.phase) is ∙ none m refl
+
+pub idled : (w new : World) → IsWorld w → Idles w new → IsWorld new
+idled w new known idles =
+    let down = down_of w.machine known.host known.host_is idles.none in
+    let before : HostView = with_earlier known.earlier known.host in
+    subst IsWorld (sym idles.is) (rewired w (given_up (with_link w.wire)) known (record {
+      line = idle_kept before w.wire down known.line;
+      trusted = (idle_trusted before w.wire down known.line known.trusted).0;
+    }))
+
+pub sound_gone : (h : HostView) → IsSound (gone_down h)
+sound_gone h = record { quiet = λ down. (refl, refl); none_left = λ up. absurd (up refl); few = omega arith; half = inl refl }
+
+pub off_world : LineLaws → (w : World) (wire : WireView) (h : HostView) → (known : IsWorld w) → Drops known.host h → IsSound h → Wired known.host h w.wire wire → h.phase ≡ Down
+    → IsWorld (off w wire)
+off_world laws w wire h known drops sound wired down =
+    let right = drops_right laws known.earlier known.host h w.wire wire known.sound drops wired (record { line = known.line; trusted = known.trusted }) in
+    record {
+      earlier = known.earlier;
+      host = h;
+      host_is = down;
+      sound = sound;
+      line = right.line;
+      trusted = right.trusted;
+      hand = None;
+      keeps = subst (λ v. Keeps w.kept None v) (sym (drops_hung known.earlier known.host h drops)) (gone_keeps w.kept known.hand (with_earlier known.earlier known.host) known.keeps);
+      machine = refl;
+    }
+
+pub still_down : (machine : Option MachineView) (h : HostView) → IsHostOf machine h → h.phase ≡ Down → (m : MachineView) → machine ≡ Some m → m.host.phase ≡ Down
+still_down machine h is down m same = let here : h ≡ m.host = subst (λ x. IsHostOf x h) same is in ap (λ v. v.phase) (sym here) ∙ down
+
+pub linked_machine : (machine : Option MachineView) (h : HostView) → IsHostOf machine h → h.phase ≢ Down → (m : MachineView) × (machine ≡ Some m) × (m.host.phase ≢ Down)
+linked_machine None h is up = absurd (up is)
+linked_machine (Some m) h is up = (m, refl, λ down. up (ap (λ v. v.phase) is ∙ down))
+
+pub crashed : LineLaws → (w new : World) → IsWorld w → Crashes w new → IsWorld new
+crashed laws w new known crashes = subst IsWorld (sym crashes.is) (elim (down_or_up known.host.phase) [
+  | inl down ↦
+      off_world laws w crashes.wire known.host known (λ d. refl, λ up. absurd (up down)) known.sound
+      (record {
+        stays_down = λ a b. crashes.no_link (still_down w.machine known.host known.host_is down);
+        goes_up = λ a up. absurd (up down);
+        stays_up = λ up b. absurd (up down);
+        goes_down = λ up b. absurd (up down);
+      }) down
+  | inr up ↦
+      let (m, is, linked) = linked_machine w.machine known.host known.host_is up in
+      off_world laws w crashes.wire (gone_down known.host) known (λ down. absurd (up down), λ u. refl) (sound_gone known.host)
+      (record {
+        stays_down = λ down b. absurd (up down);
+        goes_up = λ down b. absurd (up down);
+        stays_up = λ a b. absurd (b refl);
+        goes_down = λ a b. crashes.link m is linked;
+      }) refl
+])
+
+-- ## Bytes are put
+
+pub sound_taken : (h : HostView) (n : ℕ) → h.phase ≢ Down → IsSound h → IsSound (taken_out h n)
+sound_taken h n up sound = record { quiet = λ down. absurd (up down); none_left = sound.none_left; few = sound.few; half = sound.half }
+
+-- The first bytes that were to be put are on the wire.
+pub moved_right : LineLaws → (earlier : List (List Command)) (h : HostView) (w : WireView) (count : ℕ) → count ≤ length h.out → IsSound h → Right (line_of (with_earlier earlier h) w)
+    → Right (line_of (with_earlier earlier (taken_out h count)) (with_bytes w (take count h.out)))
+moved_right laws earlier h w count within sound right =
+    goes laws (event.Move count) (line_of (with_earlier earlier h) w) (line_of (with_earlier earlier (taken_out h count)) (with_bytes w (take count h.out))) (note.Moved count) tt
+    (earlier_sound earlier h sound) right (count, refl, omega (arith, within), refl)
+
+pub moved_on : (earlier : List (List Command)) (h : HostView) (w : WireView) (count : ℕ) → count ≤ length h.out → GoesOn (with_earlier earlier h) (with_earlier earlier (taken_out h count))
+moved_on earlier h w count within =
+    goes_on (event.Move count) (line_of (with_earlier earlier h) w) (line_of (with_earlier earlier (taken_out h count)) (with_bytes w (take count h.out))) (note.Moved count) refl
+    (count, refl, omega (arith, within), refl)
+
+pub talking_book : (m : MachineView) (kept : List Entry) (w : WireView) (talk : Talk) → m.stage ≡ stage.Talking talk → Parts m kept w → IsBookOf m.book kept
+talking_book m kept w talk is p = p.book (λ lost. subst HasLost is lost)
+
+pub talking_holds : (m : MachineView) (kept : List Entry) (w : WireView) (talk : Talk) → m.stage ≡ stage.Talking talk → (p : Parts m kept w)
+    → Holds kept p.hand (with_earlier p.earlier m.host) (stage.Talking talk)
+talking_holds m kept w talk is p = subst (λ s. Holds kept p.hand (with_earlier p.earlier m.host) s) is p.holds
+
+pub puts : LineLaws → (w new : World) (count : ℕ) → IsWorld w → Puts w count new → IsWorld new
+puts laws w new count known v =
+    let p = parts w v.m v.was known in
+    let h : HostView = v.m.host in
+    let holds = talking_holds v.m w.kept w.wire v.talk v.talks p in
+    let after : MachineView = put (stage.Talking v.talk) count v.m in
+    let is : put v.m.stage count v.m ≡ after = ap (λ s. put s count v.m) v.talks in
+    let world : World = running after w.kept (with_bytes w.wire (take count h.out)) in
+    let same : new ≡ world = v.is ∙ ap (λ m. running m w.kept (with_bytes w.wire (take count h.out))) is in
+    subst IsWorld (sym same) (whole after w.kept (with_bytes w.wire (take count h.out)) (record {
+      earlier = p.earlier;
+      sound = subst (λ m. IsSound m.host) is v.sound;
+      right = moved_right laws p.earlier h w.wire count v.within p.sound p.right;
+      hand = p.hand;
+      keeps = on_keeps w.kept p.hand (with_earlier p.earlier h) (with_earlier p.earlier (taken_out h count)) (moved_on p.earlier h w.wire count v.within) p.keeps;
+      book = λ live. talking_book v.m w.kept w.wire v.talk v.talks p;
+      holds = holds;
+    }))
+
+-- Not all of them were: the link has ended.
+pub breaks : LineLaws → (w new : World) (taken count : ℕ) (why : SendFault) → IsWorld w → Breaks w taken count why new → IsWorld new
+breaks laws w new taken count why known v =
+    let p = parts w v.m v.was known in
+    let h : HostView = v.m.host in
+    let (held, hand_is, number, receipt, follows, records, up, reserved) = talking_holds v.m w.kept w.wire v.talk v.talks p in
+    let ended : Ended (stage.Talking v.talk) why (put (stage.Talking v.talk) taken v.m) v.after = subst (λ s. Ended s why (put s taken v.m) v.after) v.talks v.ended in
+    let (drops, book, now) = ended in
+    let gone : v.after.host ≡ gone_down h = drops.1 up in
+    let wire : WireView = with_bytes w.wire (take count h.out) in
+    let put_right = moved_right laws p.earlier h w.wire count (omega (arith, v.some, v.within)) p.sound p.right in
+    let off_right = goes laws event.HostDrops (line_of (with_earlier p.earlier (taken_out h count)) wire) (line_of (with_earlier p.earlier (gone_down h)) (given_up wire)) note.Done tt
+    (earlier_sound p.earlier (taken_out h count) (sound_taken h count up p.sound)) put_right
+    (hung_up_by (with_earlier p.earlier (taken_out h count)) (with_earlier p.earlier (gone_down h)) wire (λ u. refl) (λ down. absurd (up down))) in
+    subst IsWorld (sym v.is) (whole v.after w.kept (given_up wire) (record {
+      earlier = p.earlier;
+      sound = v.sound;
+      right = subst (λ x. Right (line_of (with_earlier p.earlier x) (given_up wire))) (sym gone) off_right;
+      hand = None;
+      keeps = subst (λ x. Keeps w.kept None x)
+          (sym (drops_hung p.earlier h v.after.host (λ down. absurd (up down), λ u. gone)))
+          (gone_keeps w.kept p.hand (with_earlier p.earlier h) p.keeps);
+      book = λ live. subst (λ b. IsBookOf b w.kept) (sym book) (talking_book v.m w.kept w.wire v.talk v.talks p);
+      holds = subst (λ s. Holds w.kept None (with_earlier p.earlier v.after.host) s) (sym now) refl;
+    }))
+
+-- ## An entry is to be kept
+
+-- What the store's failure leaves: nothing is in hand, and what the machine knows may not be all.
+pub lost_is_lost : (next : Then) (why : StoreFault) → HasLost (lost next why)
+lost_is_lost then.Queued why = tt
+lost_is_lost then.Raised why = tt
+lost_is_lost (then.Send due) why = tt
+lost_is_lost (then.Recorded number) why = tt
+
+pub lost_holds : (next : Then) (why : StoreFault) (kept : List Entry) (h : HostView) → Holds kept None h (lost next why)
+lost_holds then.Queued why kept h = refl
+lost_holds then.Raised why kept h = refl
+lost_holds (then.Send due) why kept h = refl
+lost_holds (then.Recorded number) why kept h = refl
+
+-- The entries with that one are kept by a host that has given its link up.
+pub stored_keeps : (kept : List Entry) (e : Entry) (next : Then) (hand : Option Hand) (earlier : List (List Command)) (h h' : HostView) → Keeps kept hand (with_earlier earlier h)
+    → MayFollow kept e → IsToKeep kept hand (with_earlier earlier h) e next → Drops h h' → Keeps (kept ++ e ∷ []) None (with_earlier earlier h')
+stored_keeps kept e then.Queued hand earlier h h' k follows is drops =
+    subst (λ v. Keeps (kept ++ e ∷ []) None v) (sym (drops_hung earlier h h' drops))
+    (gone_keeps (kept ++ e ∷ []) hand (with_earlier earlier h) (entry_keeps kept e hand (with_earlier earlier h) is.1 follows k))
+stored_keeps kept e then.Raised hand earlier h h' k follows is drops =
+    subst (λ v. Keeps (kept ++ e ∷ []) None v) (sym (drops_hung earlier h h' drops))
+    (gone_keeps (kept ++ e ∷ []) hand (with_earlier earlier h) (entry_keeps kept e hand (with_earlier earlier h) is.1 follows k))
+stored_keeps kept e (then.Send due) hand earlier h h' k follows (none, send, tried) drops =
+    subst (λ v. Keeps (kept ++ e ∷ []) None v) (sym (drops_hung earlier h h' drops))
+    (gone_keeps (kept ++ e ∷ []) hand (with_earlier earlier h) (entry_keeps kept e hand (with_earlier earlier h) (ap record_of tried) follows k))
+stored_keeps kept e (then.Recorded number) hand earlier h h' k follows (held, hand_is, same, recorded_is, more) drops =
+    let is : e ≡ entry.Recorded held.number = recorded_is ∙ ap entry.Recorded (sym same) in
+    subst (λ v. Keeps (kept ++ e ∷ []) None v) (sym (drops_hung earlier h h' drops))
+    (subst (λ x. Keeps (kept ++ x ∷ []) None (hung_up h.phase (with_earlier earlier h))) (sym is)
+    (record_keeps kept held (with_earlier earlier h) (subst (MayFollow kept) is follows) more (subst (λ v. Keeps kept v (with_earlier earlier h)) hand_is k)))
+
+pub failed_with : LineLaws → (w new : World) (why : StoreFault) → IsWorld w → Stores (λ m after. Unsure m.stage why m after) with_entry w new → IsWorld new
+failed_with laws w new why known v =
+    let moves = v.moves in
+    let p = parts w moves.m moves.was known in
+    let (is, unsure) = moves.goes in
+    let (drops, book, now) = subst (λ s. Unsure s why moves.m moves.after) is unsure in
+    let (follows, to_keep) = subst (λ s. Holds w.kept p.hand (with_earlier p.earlier moves.m.host) s) is p.holds in
+    subst IsWorld (sym moves.is) (whole moves.after (w.kept ++ v.entry ∷ []) moves.wire (record {
+      earlier = p.earlier;
+      sound = moves.sound;
+      right = drops_right laws p.earlier moves.m.host moves.after.host w.wire moves.wire p.sound drops moves.wired p.right;
+      hand = None;
+      keeps = stored_keeps w.kept v.entry v.next p.hand p.earlier moves.m.host moves.after.host p.keeps follows to_keep drops;
+      book = λ live. absurd (live (subst HasLost (sym now) (lost_is_lost v.next why)));
+      holds = subst (λ s. Holds (w.kept ++ v.entry ∷ []) None (with_earlier p.earlier moves.after.host) s) (sym now)
+          (lost_holds v.next why (w.kept ++ v.entry ∷ []) (with_earlier p.earlier moves.after.host));
+    }))
+
+pub failed_without : LineLaws → (w new : World) (why : StoreFault) → IsWorld w → Stores (λ m after. Unsure m.stage why m after) without_entry w new → IsWorld new
+failed_without laws w new why known v =
+    let moves = v.moves in
+    let p = parts w moves.m moves.was known in
+    let (is, unsure) = moves.goes in
+    let (drops, book, now) = subst (λ s. Unsure s why moves.m moves.after) is unsure in
+    subst IsWorld (sym moves.is) (whole moves.after w.kept moves.wire
+    (let_go laws moves.m moves.after w.kept w.wire moves.wire p drops moves.sound moves.wired
+    (λ live. absurd (live (subst HasLost (sym now) (lost_is_lost v.next why))))
+    (subst (λ s. Holds w.kept None (with_earlier p.earlier moves.after.host) s) (sym now) (lost_holds v.next why w.kept (with_earlier p.earlier moves.after.host)))))
+
+-- ## An entry is kept
+
+-- A host that has sent nothing puts its opening marks out.
+pub record Dialled (kept : List Entry) (hand : Hand) (receipts : List (List Command)) (h : HostView) (w : WireView) : Type 0 where
+  pub right : Right (line_of (with_earlier receipts h) w)
+  pub keeps : Keeps kept (Some hand) (with_earlier receipts h)
+  pub sound : IsSound h
+
+pub dialled_sound : (h : HostView) (first : ℕ) → h.phase ≡ Opening first → h.left ≡ [] → h.half ≡ [] → IsSound h
+dialled_sound h first is left half = record {
+  quiet = λ down. absurd (let bad : Opening first ≡ Down = sym is ∙ down in cc);
+  none_left = λ up. left;
+  few = subst (λ (p : Phase). length (in_flight p) ≤ most_in_flight) (sym is) (omega arith);
+  half = inl half;
+}
+
+pub dials : LineLaws → (kept : List Entry) (hand : Hand) (receipts : List (List Command)) (w : WireView) (f c : ℕ) → f + (c + 1) < hand.limit → hand.limit ≤ mark_count
+    → Right (line_of (with_earlier receipts (fresh f)) w) → Keeps kept (Some hand) (with_earlier receipts (fresh f)) → IsSound (fresh f)
+    → Dialled kept hand receipts (dialled (fresh f) (c + 1)) (with_link w)
+dials laws kept hand receipts w f zero below within right keeps sound =
+    subst (λ h. Dialled kept hand receipts h (with_link w)) (dialled_first (fresh f)) (record {
+      right = goes laws event.LinkUp (line_of (with_earlier receipts (fresh f)) w) (line_of (with_earlier receipts (linked (fresh f))) (with_link w)) note.Done tt
+          (earlier_sound receipts (fresh f) sound) right (refl, refl, omega (arith, below, within), refl);
+      keeps = linked_keeps kept hand (with_earlier receipts (fresh f)) refl (omega (arith, below)) keeps;
+      sound = dialled_sound (linked (fresh f)) f refl refl refl;
+    })
+dials laws kept hand receipts w f (suc c) below within right keeps sound =
+    let d = dials laws kept hand receipts w f c (omega (arith, below)) within right keeps sound in
+    let h : HostView = dialled (fresh f) (c + 1) in
+    let more : nudged h ≡ dialled (fresh f) (suc c + 1) = dialled_more (fresh f) (c + 1) ∙ ap (dialled (fresh f)) (omega arith) in
+    subst (λ h. Dialled kept hand receipts h (with_link w)) more (record {
+      right = goes laws event.Nudge (line_of (with_earlier receipts h) (with_link w)) (line_of (with_earlier receipts (nudged h)) (with_link w)) note.Done tt
+          (earlier_sound receipts h d.sound) d.right (refl, tt, omega (arith, below, within), refl);
+      keeps = nudged_keeps kept hand (with_earlier receipts h) (omega (arith, below)) d.keeps;
+      sound = dialled_sound (nudged h) f refl refl refl;
+    })
+
+pub fresh_sound : (f : ℕ) → IsSound (fresh f)
+fresh_sound f = record { quiet = λ down. (refl, refl); none_left = λ up. absurd (up refl); few = omega arith; half = inl refl }
+
+-- A host that couldn't put them out has no link, and has used some numbers.
+pub refused_host : (why : HostError) (f k : ℕ) (h : HostView) → RefusesOpening why (fresh f) k h → (g : ℕ) × (h ≡ fresh g) × (f ≤ g) × (g ≤ f + k)
+refused_host error.AlreadyUp f k h (up, same) = absurd (up refl)
+refused_host error.MarksUsedUp f k h (down, inl none) = (f, none.1, omega arith, omega arith)
+refused_host error.MarksUsedUp f k h (down, inr (used, some, few, last, same)) = (f + used, same, omega arith, omega (arith, few))
+refused_host error.Memory f k h (down, left, inl same) = (f, same, omega arith, omega arith)
+refused_host error.Memory f k h (down, left, inr (used, some, few, last, same)) = (f + used, same, omega arith, omega (arith, few))
+refused_host error.NotReady f k h none = absurd none
+refused_host error.InFlightFull f k h none = absurd none
+
+pub max_is : (n : ℕ) → (c : ℕ) × (max n 1 ≡ c + 1)
+max_is n = (max n 1 - 1, omega (arith, le-max_right n 1))
+
+pub same_receipt : (a b : List Command) → Some a ≡ Some b → a ≡ b
+same_receipt a b same = cc
+
+-- The receipt is sent: the entry that says that it is tried is kept.
+pub sent_parts : LineLaws → (m after : MachineView) (kept : List Entry) (w new : WireView) (e : Entry) (due : Due) → (p : Parts m kept w) → IsBookOf m.book kept
+    → MayFollow kept e → IsToKeep kept p.hand (with_earlier p.earlier m.host) e (then.Send due) → Opens due m.book.next after.host after.stage → IsBookOf after.book (kept ++ e ∷ [])
+    → IsSound after.host → Wired m.host after.host w new → Parts after (kept ++ e ∷ []) new
+sent_parts laws m after kept w new e due p book follows (none, send, is) (inl (host, now)) known sound wired =
+    let f : ℕ = next_free kept in
+    let limit : ℕ = f + marks_taken due.openings in
+    let hand : Hand = record { number = due.number; receipt = Some due.receipt; limit = limit } in
+    let more : List Entry = kept ++ entry.Tried due.number limit ∷ [] in
+    let keeps : Keeps kept None (with_earlier p.earlier m.host) = subst (λ v. Keeps kept v (with_earlier p.earlier m.host)) none p.keeps in
+    let down : m.host.phase ≡ Down = keeps.in_hand in
+    let right = fresh_right laws p.earlier m.host w kept None f down p.right keeps keeps.next in
+    let taken = subst (λ v. Keeps more (Some hand) v) (resumed_is p.earlier m.host kept None f keeps)
+    (take_keeps kept (with_earlier p.earlier m.host) due.number limit due.receipt send.follows send.receipt keeps) in
+    let (c, count) = max_is due.openings in
+    let d = dials laws more hand keeps.receipts w f c (omega (arith, count)) send.within right taken (fresh_sound f) in
+    let at_wire : after.host ≡ dialled (fresh f) (c + 1) = host ∙ ap (λ n. dialled (fresh n) (max due.openings 1)) book.next ∙ ap (dialled (fresh f)) count in
+    let up : after.host.phase ≢ Down = λ gone. let bad : Opening f ≡ Down = ap (λ v. v.phase) (sym at_wire) ∙ gone in cc in
+    let linked_up : new ≡ with_link w = wired.goes_up down up in
+    let tried = waits_tried kept due.number limit send.follows.0 in
+    let same_records : recorded more ≡ recorded kept = recorded_same kept (entry.Tried due.number limit) refl in
+    let counts : length (keeps.receipts ++ []) ≡ length (recorded more) =
+    ap length (append-nil keeps.receipts) ∙ sym (zip_length (IsReceiptOf kept) (recorded kept) keeps.receipts keeps.are) ∙ ap length (sym same_records) in
+    let holds : Holds more (Some hand) (with_earlier keeps.receipts (dialled (fresh f) (c + 1))) (stage.Talking (record { number = due.number; receipt = Some due.receipt; left = due.most })) = (
+      hand,
+      refl,
+      refl,
+      refl,
+      tried,
+      counts,
+      (λ gone. let bad : Opening f ≡ Down = gone in cc),
+      λ receipt is. (omega (arith, count), subst (λ r. IsFitting (event.Submit r)) (same_receipt due.receipt receipt is) send.fits),
+    ) in
+    subst (λ x. Parts after (kept ++ x ∷ []) new) (sym is) (record {
+      earlier = keeps.receipts;
+      sound = sound;
+      right = subst (λ v. Right (line_of (with_earlier keeps.receipts after.host) v)) (sym linked_up)
+          (subst (λ h. Right (line_of (with_earlier keeps.receipts h) (with_link w))) (sym at_wire) d.right);
+      hand = Some hand;
+      keeps = subst (λ h. Keeps more (Some hand) (with_earlier keeps.receipts h)) (sym at_wire) d.keeps;
+      book = λ live. subst (λ x. IsBookOf after.book (kept ++ x ∷ [])) is known;
+      holds = subst (λ s. Holds more (Some hand) (with_earlier keeps.receipts after.host) s) (sym now)
+          (subst (λ h. Holds more (Some hand) (with_earlier keeps.receipts h) (stage.Talking (record { number = due.number; receipt = Some due.receipt; left = due.most }))) (sym at_wire) holds);
+    })
+sent_parts laws m after kept w new e due p book follows (none, send, is) (inr (why, refuses, now)) known sound wired =
+    let f : ℕ = next_free kept in
+    let limit : ℕ = f + marks_taken due.openings in
+    let keeps : Keeps kept None (with_earlier p.earlier m.host) = subst (λ v. Keeps kept v (with_earlier p.earlier m.host)) none p.keeps in
+    let down : m.host.phase ≡ Down = keeps.in_hand in
+    let (g, host, from, to) = refused_host why f (max due.openings 1) after.host (subst (λ n. RefusesOpening why (fresh n) (max due.openings 1) after.host) book.next refuses) in
+    let grown = entry_keeps kept e None (with_earlier p.earlier m.host) (ap record_of is) follows keeps in
+    let right = fresh_right laws p.earlier m.host w (kept ++ e ∷ []) None g down p.right grown (omega (arith, keeps.next, from)) in
+    let last : next_free (kept ++ e ∷ []) ≡ limit = ap (λ x. next_free (kept ++ x ∷ [])) is ∙ next_after_tried kept due.number limit in
+    let kept_so = fresh_keeps p.earlier m.host (kept ++ e ∷ []) None g grown (omega (arith, last, to)) in
+    let stays : new ≡ w = wired.stays_down down (ap (λ v. v.phase) host) in
+    record {
+      earlier = grown.receipts;
+      sound = sound;
+      right = subst (λ v. Right (line_of (with_earlier grown.receipts after.host) v)) (sym stays) (subst (λ h. Right (line_of (with_earlier grown.receipts h) w)) (sym host) right);
+      hand = None;
+      keeps = subst (λ h. Keeps (kept ++ e ∷ []) None (with_earlier grown.receipts h)) (sym host) kept_so;
+      book = λ live. known;
+      holds = subst (λ s. Holds (kept ++ e ∷ []) None (with_earlier grown.receipts after.host) s) (sym now) refl;
+    }
+
+pub quietly_kept : (m after : MachineView) (kept : List Entry) (w new : WireView) (e : Entry) → (p : Parts m kept w) → MayFollow kept e → p.hand ≡ None → record_of e ≡ None → after.host ≡ m.host
+    → IsSound after.host → Wired m.host after.host w new → IsBookOf after.book (kept ++ e ∷ []) → Holds (kept ++ e ∷ []) p.hand (with_earlier p.earlier m.host) after.stage
+    → Parts after (kept ++ e ∷ []) new
+quietly_kept m after kept w new e p follows none other same sound wired known holds =
+    let wire : new ≡ w = same_wire m.host after.host w new same wired in
+    record {
+      earlier = p.earlier;
+      sound = sound;
+      right = subst (λ v. Right (line_of (with_earlier p.earlier after.host) v)) (sym wire) (subst (λ h. Right (line_of (with_earlier p.earlier h) w)) (sym same) p.right);
+      hand = p.hand;
+      keeps = subst (λ h. Keeps (kept ++ e ∷ []) p.hand (with_earlier p.earlier h)) (sym same) (entry_keeps kept e p.hand (with_earlier p.earlier m.host) other follows p.keeps);
+      book = λ live. known;
+      holds = subst (λ h. Holds (kept ++ e ∷ []) p.hand (with_earlier p.earlier h) after.stage) (sym same) holds;
+    }
+
+pub kept_parts : LineLaws → (m after : MachineView) (kept : List Entry) (w new : WireView) (e : Entry) (next : Then) → (p : Parts m kept w) → IsBookOf m.book kept
+    → MayFollow kept e → IsToKeep kept p.hand (with_earlier p.earlier m.host) e next → Follows next m.host m.book.next after.book after.host after.stage → IsBookOf after.book (kept ++ e ∷ [])
+    → IsSound after.host → Wired m.host after.host w new → Parts after (kept ++ e ∷ []) new
+kept_parts laws m after kept w new e then.Queued p book follows (none, other) (number, is, host, now) known sound wired =
+    quietly_kept m after kept w new e p follows none other host sound wired known (subst (λ s. Holds (kept ++ e ∷ []) p.hand (with_earlier p.earlier m.host) s) (sym now) none)
+kept_parts laws m after kept w new e then.Raised p book follows (none, other) (host, now) known sound wired =
+    quietly_kept m after kept w new e p follows none other host sound wired known (subst (λ s. Holds (kept ++ e ∷ []) p.hand (with_earlier p.earlier m.host) s) (sym now) none)
+kept_parts laws m after kept w new e (then.Send due) p book follows to_keep opens known sound wired = sent_parts laws m after kept w new e due p book follows to_keep opens known sound wired
+kept_parts laws m after kept w new e (then.Recorded number) p book follows to_keep (drops, now) known sound wired = record {
+  earlier = p.earlier;
+  sound = sound;
+  right = drops_right laws p.earlier m.host after.host w new p.sound drops wired p.right;
+  hand = None;
+  keeps = stored_keeps kept e (then.Recorded number) p.hand p.earlier m.host after.host p.keeps follows to_keep drops;
+  book = λ live. known;
+  holds = subst (λ s. Holds (kept ++ e ∷ []) None (with_earlier p.earlier after.host) s) (sym now) refl;
+}
+
+pub kept_world : LineLaws → (w new : World) → IsWorld w → Stores (λ m after. Kept m.stage m after) with_entry w new → IsWorld new
+kept_world laws w new known v =
+    let moves = v.moves in
+    let p = parts w moves.m moves.was known in
+    let (is, kept_so) = moves.goes in
+    let (notes, so) = subst (λ s. Kept s moves.m moves.after) is kept_so in
+    let (follows, to_keep) = subst (λ s. Holds w.kept p.hand (with_earlier p.earlier moves.m.host) s) is p.holds in
+    let book : IsBookOf moves.m.book w.kept = p.book (λ lost. subst HasLost is lost) in
+    subst IsWorld (sym moves.is) (whole moves.after (w.kept ++ v.entry ∷ []) moves.wire
+    (kept_parts laws moves.m moves.after w.kept w.wire moves.wire v.entry v.next p book follows to_keep so (notes w.kept book p.keeps.ledger follows) moves.sound moves.wired))

@@ -1,0 +1,112 @@
+-- What holds of every world holds after whatever happens in it.
+use Rattle.std.proofs.Common.{ℕ, ◌≡◌, ◌≤◌, None, List, [], ◌∷◌, ◌++◌, refl, sym, ◌∙◌, ap, subst, append-nil, append_assoc, arith}
+use Rattle.escpos_host.specs.Earlier.{with_earlier}
+use Rattle.escpos_link.specs.Line.{IsLine, LineView}
+use Rattle.escpos_link.specs.Trusted.{IsTrusted}
+use Rattle.escpos_link.specs.Wire.{given_up, line_of, wire_of}
+use Rattle.escpos_link.specs.Stands.{Stands}
+use Rattle.escpos_link.proofs.Standing.{stands_front}
+use Rattle.escpos_link.proofs.Happening.{resumed_kept}
+use Rattle.escpos_till.specs.declared.entry.Entry.{Entry}
+use Rattle.escpos_till.specs.Entries.{IsLedger, taken}
+use Rattle.escpos_till.specs.declared.entry.Entry.TheVariants as entry
+use Rattle.escpos_till.specs.Delivers.{fresh}
+use Rattle.escpos_till.proofs.EntryLemmas.{empty_ledger, ledger-snoc}
+use Rattle.escpos_till_model.specs.Receipts.{Extends, RecordedStand}
+use Rattle.escpos_till_model.specs.Known.{IsWorld}
+use Rattle.escpos_till_model.specs.World.{Break, Connect, Crash, Deliver, End, FailWith, FailWithout, HangUp, Happening, Happens, Hear, Idle, Keep, Miss, OnWire, Put, Queue, Raise, Refuse, Runs, Start, Tell, World}
+use Rattle.escpos_till_model.proofs.LinesKept.{LineLaws}
+use Rattle.escpos_till_model.proofs.WorldCalls.{queued, raised, refused, delivers, told_world, hung_world, connected_world, missed_world, ended_world}
+use Rattle.escpos_till_model.proofs.WorldStore.{started, on_wire, idled, crashed, puts, breaks, failed_with, failed_without, fresh_sound, kept_world}
+use Rattle.escpos_till_model.proofs.WorldHears.{hears}
+
+-- ## Whatever happens
+
+pub whatever : LineLaws → (w new : World) (e : Happening) → IsWorld w → Happens w e new → IsWorld new
+whatever laws w new Start known happened = started laws w new known happened
+whatever laws w new (Queue content) known happened = queued w new content known happened
+whatever laws w new (Raise first) known happened = raised w new first known happened
+whatever laws w new (Deliver openings most copy) known happened = delivers w new openings most copy known happened.0 happened.1
+whatever laws w new Refuse known happened = refused w new known happened
+whatever laws w new Keep known happened = kept_world laws w new known happened
+whatever laws w new (FailWith why) known happened = failed_with laws w new why known happened
+whatever laws w new (FailWithout why) known happened = failed_without laws w new why known happened
+whatever laws w new Connect known happened = connected_world w new known happened
+whatever laws w new Miss known happened = missed_world w new known happened
+whatever laws w new (Put count) known happened = puts laws w new count known happened
+whatever laws w new (Break taken count why) known happened = breaks laws w new taken count why known happened
+whatever laws w new (Hear most) known happened = hears laws w new most known happened
+whatever laws w new (End why) known happened = ended_world laws w new why known happened
+whatever laws w new HangUp known happened = hung_world w new known happened
+whatever laws w new Tell known happened = told_world w new known happened
+whatever laws w new (OnWire e) known happened = on_wire laws w new e known happened
+whatever laws w new Idle known happened = idled w new known happened
+whatever laws w new Crash known happened = crashed laws w new known happened
+
+pub over_time : LineLaws → (w new : World) (happenings : List Happening) → IsWorld w → Runs w happenings new → IsWorld new
+over_time laws w new [] known same = subst IsWorld (sym same) known
+over_time laws w new (e ∷ es) known (mid, happened, others) = over_time laws mid new es (whatever laws w mid e known happened) others
+
+-- What is recorded stands on the paper.
+pub recorded_stand : LineLaws → (w : World) → IsWorld w → RecordedStand w.wire.printer.sheet.line_dots w.kept w.wire.printer.sheet.items
+recorded_stand laws w known = record {
+  receipts = known.keeps.receipts;
+  are = known.keeps.are;
+  stand = stands_front w.wire.printer.sheet.line_dots known.keeps.receipts known.keeps.answered w.wire.printer.sheet.items
+      (subst (λ rs. Stands w.wire.printer.sheet.line_dots rs w.wire.printer.sheet.items) known.keeps.records
+      (laws.trust.stands (line_of (with_earlier known.earlier known.host) w.wire) known.trusted));
+}
+
+-- ## Entries stay
+
+pub same_entries : (old new : List Entry) → new ≡ old → Extends old new
+same_entries old new same = ([], same ∙ sym (append-nil old))
+
+pub entries_stay : (w new : World) (e : Happening) → Happens w e new → Extends w.kept new.kept
+entries_stay w new Start happened = same_entries w.kept new.kept (ap (λ v. v.kept) happened.is)
+entries_stay w new (Queue content) happened = same_entries w.kept new.kept (ap (λ v. v.kept) happened.is)
+entries_stay w new (Raise first) happened = same_entries w.kept new.kept (ap (λ v. v.kept) happened.is)
+entries_stay w new (Deliver openings most copy) happened = same_entries w.kept new.kept (ap (λ v. v.kept) happened.1.is)
+entries_stay w new Refuse happened = same_entries w.kept new.kept (ap (λ v. v.kept) happened.is)
+entries_stay w new Keep happened = (happened.entry ∷ [], ap (λ v. v.kept) happened.moves.is)
+entries_stay w new (FailWith why) happened = (happened.entry ∷ [], ap (λ v. v.kept) happened.moves.is)
+entries_stay w new (FailWithout why) happened = same_entries w.kept new.kept (ap (λ v. v.kept) happened.moves.is)
+entries_stay w new Connect happened = same_entries w.kept new.kept (ap (λ v. v.kept) happened.is)
+entries_stay w new Miss happened = same_entries w.kept new.kept (ap (λ v. v.kept) happened.is)
+entries_stay w new (Put count) happened = same_entries w.kept new.kept (ap (λ v. v.kept) happened.is)
+entries_stay w new (Break taken count why) happened = same_entries w.kept new.kept (ap (λ v. v.kept) happened.is)
+entries_stay w new (Hear most) happened = same_entries w.kept new.kept (ap (λ v. v.kept) happened.is)
+entries_stay w new (End why) happened = same_entries w.kept new.kept (ap (λ v. v.kept) happened.is)
+entries_stay w new HangUp happened = same_entries w.kept new.kept (ap (λ v. v.kept) happened.is)
+entries_stay w new Tell happened = same_entries w.kept new.kept (ap (λ v. v.kept) happened.is)
+entries_stay w new (OnWire e) happened = same_entries w.kept new.kept (ap (λ v. v.kept) happened.3)
+entries_stay w new Idle happened = same_entries w.kept new.kept (ap (λ v. v.kept) happened.is)
+entries_stay w new Crash happened = same_entries w.kept new.kept (ap (λ v. v.kept) happened.is)
+
+pub more_entries : (a b c : List Entry) → Extends a b → Extends b c → Extends a c
+more_entries a b c (some, is) (others, later) = (some ++ others, later ∙ ap (λ v. v ++ others) is ∙ append_assoc a some others)
+
+pub entries_last : (w new : World) (happenings : List Happening) → Runs w happenings new → Extends w.kept new.kept
+entries_last w new [] same = same_entries w.kept new.kept (ap (λ v. v.kept) same)
+entries_last w new (e ∷ es) (mid, happened, others) = more_entries w.kept mid.kept new.kept (entries_stay w mid e happened) (entries_last mid new es others)
+
+-- ## The first world
+
+pub raised_ledger : (n : ℕ) → IsLedger (entry.Raised n ∷ [])
+raised_ledger n = ledger-snoc [] (entry.Raised n) empty_ledger (omega arith)
+
+-- A till begins with whatever printer a line has left, and with links that were given up; its ledger has raised the next number to one
+-- that this line hasn't used.
+pub first_world : LineLaws → (l : LineView) (n : ℕ) → IsLine l → IsTrusted l → l.host.next ≤ n
+    → IsWorld (record { machine = None; kept = entry.Raised n ∷ []; wire = given_up (wire_of l) })
+first_world laws l n line trusted within = record {
+  earlier = [];
+  host = fresh n;
+  host_is = refl;
+  sound = fresh_sound n;
+  line = resumed_kept l n 0 line;
+  trusted = (laws.trust.resumes l n 0 within trusted).0;
+  hand = None;
+  keeps = record { ledger = raised_ledger n; receipts = []; are = tt; answered = []; records = refl; next = omega arith; in_hand = refl };
+  machine = refl;
+}

@@ -1,0 +1,187 @@
+-- A till in the world, with everything that can go wrong: its machine, which may be gone at any moment; a store, which may fail with
+-- an entry or without it; and the wire to its printer.
+--
+-- The machine is the one that a program runs. What happens to it is what its calls do (`escpos_till`'s `Machine`); what comes of
+-- that outside is said here. A link is there for as long as the machine's host has one: a connection on which nothing was put is
+-- none, and one that the machine doesn't use any more is given up, though its owner may close it a little later.
+use Rattle.std.specs.Prelude.{ℕ, false, ◌≡◌, ◌≢◌, ◌≤◌, Option, Some, None, List, [], ◌∷◌, ◌++◌, length, take}
+use Rattle.escpos_host.specs.declared.send.SendFault.{SendFault}
+use Rattle.escpos_host.specs.Machine.{HostView, Down, IsSound}
+use Rattle.escpos_link.specs.declared.event.Event.{Event}
+use Rattle.escpos_link.specs.declared.event.Note.{Note}
+use Rattle.escpos_link.specs.declared.event.Event.TheVariants as line
+use Rattle.escpos_link.specs.Trusted.{IsFitting}
+use Rattle.escpos_link.specs.Wire.{AfterOnWire, WireView, given_up, heard_from, with_bytes, with_link}
+use Rattle.escpos_till.specs.declared.entry.Content.{Content}
+use Rattle.escpos_till.specs.declared.entry.Entry.{Entry}
+use Rattle.escpos_till.specs.declared.machine.Stage.{Stage}
+use Rattle.escpos_till.specs.declared.machine.Stage.TheVariants as stage
+use Rattle.escpos_till.specs.declared.machine.Talk.{Talk}
+use Rattle.escpos_till.specs.declared.machine.Then.{Then}
+use Rattle.escpos_till.specs.declared.store.StoreFault.{StoreFault}
+use Rattle.escpos_till.specs.Book.{IsBookOf}
+use Rattle.escpos_till.specs.Machine.{Came, Delivers, Ended, IsStarted, Kept, MachineView, Queues, Raises, SameBut, Unsure, connected, hung_up, not_connected, put, told}
+use Rattle.escpos_till_model.specs.Steps.{IsCopy, is_host_call}
+
+-- The till's machine, unless it is switched off; the entries that its store has; and the wire.
+pub record World : Type 0 where
+  pub machine : Option MachineView
+  pub kept : List Entry
+  pub wire : WireView
+
+abbrev pub running : MachineView → List Entry → WireView → World
+running m kept wire = record { machine = Some m; kept = kept; wire = wire }
+
+-- What may happen.
+pub data Happening : Type 0 where
+  -- the till is switched on: a machine is made of the entries that are there
+  Start : Happening
+  -- its machine is called
+  Queue : Content → Happening
+  Raise : ℕ → Happening
+  Deliver : ℕ → ℕ → Option (List ℕ) → Happening
+  Refuse : Happening
+  -- the store keeps an entry; or it fails, with the entry or without it
+  Keep : Happening
+  FailWith : StoreFault → Happening
+  FailWithout : StoreFault → Happening
+  -- there is a link, or none
+  Connect : Happening
+  Miss : Happening
+  -- so many bytes are taken out and put; so many are taken out, only so many of them are put, and the link has ended
+  Put : ℕ → Happening
+  Break : ℕ → ℕ → SendFault → Happening
+  -- the machine is given so many of the bytes on their way; the link has ended
+  Hear : ℕ → Happening
+  End : SendFault → Happening
+  HangUp : Happening
+  Tell : Happening
+  -- something happens on the wire; a link is opened and given up with nothing on it
+  OnWire : Event → Happening
+  Idle : Happening
+  -- the till is switched off, whatever it was doing
+  Crash : Happening
+
+-- The wire after the machine's host has gone from here to there.
+pub record Wired (before after : HostView) (w new : WireView) : Type 0 where
+  pub stays_down : before.phase ≡ Down → after.phase ≡ Down → new ≡ w
+  pub goes_up : before.phase ≡ Down → after.phase ≢ Down → new ≡ with_link w
+  pub stays_up : before.phase ≢ Down → after.phase ≢ Down → new ≡ w
+  pub goes_down : before.phase ≢ Down → after.phase ≡ Down → new ≡ given_up w
+
+-- The machine, which is there, goes from this to that, and the wire with it.
+pub record Moves (Goes : MachineView → MachineView → Type 0) (w : World) (kept : List Entry) (new : World) : Type 0 where
+  pub m : MachineView
+  pub after : MachineView
+  pub wire : WireView
+  pub was : w.machine ≡ Some m
+  pub goes : Goes m after
+  pub sound : IsSound after.host
+  pub wired : Wired m.host after.host w.wire wire
+  pub is : new ≡ running after kept wire
+
+-- It is to keep an entry, which the store has then, or not.
+pub record Stores (Goes : MachineView → MachineView → Type 0) (has : List Entry → Entry → List Entry) (w : World) (new : World) : Type 0 where
+  pub entry : Entry
+  pub next : Then
+  pub moves : Moves (λ m after. (m.stage ≡ stage.Keeping entry next) × Goes m after) w (has w.kept entry) new
+
+abbrev pub with_entry : List Entry → Entry → List Entry
+with_entry kept e = kept ++ e ∷ []
+
+abbrev pub without_entry : List Entry → Entry → List Entry
+without_entry kept e = kept
+
+abbrev pub off : World → WireView → World
+off w wire = record { machine = None; kept = w.kept; wire = wire }
+
+-- What is to be sent fits the line, as every receipt does: it is whole, and its commands are in range.
+abbrev pub FitsLine : Stage → Type 0
+FitsLine (stage.Connecting due) = IsFitting (line.Submit due.receipt)
+FitsLine s = Unit {0}
+
+-- The machine hears bytes that are on their way.
+pub record Hears (w : World) (most : ℕ) (new : World) : Type 0 where
+  pub m : MachineView
+  pub after : MachineView
+  pub consumed : ℕ
+  pub wire : WireView
+  pub talk : Talk
+  pub was : w.machine ≡ Some m
+  pub talks : m.stage ≡ stage.Talking talk
+  pub came : Came m.stage (take most w.wire.coming) consumed m after
+  pub sound : IsSound after.host
+  pub wired : Wired m.host after.host (heard_from w.wire consumed) wire
+  pub is : new ≡ running after w.kept wire
+
+-- Bytes are taken out and put.
+pub record Puts (w : World) (count : ℕ) (new : World) : Type 0 where
+  pub m : MachineView
+  pub talk : Talk
+  pub was : w.machine ≡ Some m
+  pub talks : m.stage ≡ stage.Talking talk
+  pub within : count ≤ length m.host.out
+  pub sound : IsSound (put m.stage count m).host
+  pub is : new ≡ running (put m.stage count m) w.kept (with_bytes w.wire (take count m.host.out))
+
+-- Bytes are taken out, and only so many of them are put.
+pub record Breaks (w : World) (taken count : ℕ) (why : SendFault) (new : World) : Type 0 where
+  pub m : MachineView
+  pub after : MachineView
+  pub talk : Talk
+  pub was : w.machine ≡ Some m
+  pub talks : m.stage ≡ stage.Talking talk
+  pub some : count ≤ taken
+  pub within : taken ≤ length m.host.out
+  pub ended : Ended m.stage why (put m.stage taken m) after
+  pub sound : IsSound after.host
+  pub is : new ≡ running after w.kept (given_up (with_bytes w.wire (take count m.host.out)))
+
+pub record Starts (w : World) (new : World) : Type 0 where
+  pub m : MachineView
+  pub off : w.machine ≡ None
+  pub started : IsStarted m
+  pub book : IsBookOf m.book w.kept
+  pub sound : IsSound m.host
+  pub is : new ≡ running m w.kept w.wire
+
+-- It happened, or was refused: then the wire is as the event's refusal leaves it.
+abbrev pub WireGoes : Event → WireView → WireView → Type 0
+WireGoes e w after = (told : Note) × AfterOnWire e w told after
+
+-- There is no link at that moment.
+pub record Idles (w : World) (new : World) : Type 0 where
+  pub none : (m : MachineView) → w.machine ≡ Some m → m.host.phase ≡ Down
+  pub is : new ≡ record { machine = w.machine; kept = w.kept; wire = given_up (with_link w.wire) }
+
+-- The host, if there is one, is gone.
+pub record Crashes (w : World) (new : World) : Type 0 where
+  pub wire : WireView
+  pub no_link : ((m : MachineView) → w.machine ≡ Some m → m.host.phase ≡ Down) → wire ≡ w.wire
+  pub link : (m : MachineView) → w.machine ≡ Some m → m.host.phase ≢ Down → wire ≡ given_up w.wire
+  pub is : new ≡ off w wire
+
+abbrev pub Happens : World → Happening → World → Type 0
+Happens w Start new = Starts w new
+Happens w (Queue content) new = Moves (λ m after. Queues m content after) w w.kept new
+Happens w (Raise first) new = Moves (λ m after. Raises m first after) w w.kept new
+Happens w (Deliver openings most copy) new = IsCopy copy × Moves (λ m after. Delivers m openings most copy after × FitsLine after.stage) w w.kept new
+Happens w Refuse new = Moves SameBut w w.kept new
+Happens w Keep new = Stores (λ m after. Kept m.stage m after) with_entry w new
+Happens w (FailWith why) new = Stores (λ m after. Unsure m.stage why m after) with_entry w new
+Happens w (FailWithout why) new = Stores (λ m after. Unsure m.stage why m after) without_entry w new
+Happens w Connect new = Moves (λ m after. after ≡ connected m.stage m) w w.kept new
+Happens w Miss new = Moves (λ m after. after ≡ not_connected m.stage m) w w.kept new
+Happens w (Put count) new = Puts w count new
+Happens w (Break taken count why) new = Breaks w taken count why new
+Happens w (Hear most) new = Hears w most new
+Happens w (End why) new = Moves (λ m after. Ended m.stage why m after) w w.kept new
+Happens w HangUp new = Moves (λ m after. after ≡ hung_up m.stage m) w w.kept new
+Happens w Tell new = Moves (λ m after. after ≡ told m.stage m) w w.kept new
+Happens w (OnWire e) new = (is_host_call e ≡ false) × (wire : WireView) × WireGoes e w.wire wire × (new ≡ record { machine = w.machine; kept = w.kept; wire = wire })
+Happens w Idle new = Idles w new
+Happens w Crash new = Crashes w new
+
+abbrev pub Runs : World → List Happening → World → Type 0
+Runs w [] new = new ≡ w
+Runs w (e ∷ es) new = (mid : World) × Happens w e mid × Runs mid es new

@@ -1,0 +1,114 @@
+//! Long ledgers in SQLite: as many entries as a byte counts and more are added, and read from files that were closed.
+
+use crate::support::stores::{closed, new_files, opened};
+use crate::support::tills::number;
+use escpos_store::SqliteStore;
+use escpos_till::{Content, Entry, Store};
+use sqlite::Alter;
+use std::alloc::Global;
+use std::process::Abort;
+
+// What a test adds as its entry of this number, from 1 on: the kinds take turns, and each entry says its number.
+fn entry_at(rt: &impl Abort, alloc: Global, at: u32) -> Entry {
+    match at % 4 {
+        0 => Entry::Raised { next: at },
+        1 => Entry::Queued {
+            content: Content::new(at.to_be_bytes().to_vec(alloc).expect(rt, "memory")),
+        },
+        2 => Entry::Tried {
+            number: number(rt, at as usize),
+            next: at,
+        },
+        _ => Entry::Recorded {
+            number: number(rt, at as usize),
+        },
+    }
+}
+
+// Whether it is that entry.
+fn is_entry_at(entry: &Entry, at: u32) -> bool {
+    match entry {
+        Entry::Queued { content } => at % 4 == 1 && content.bytes() == at.to_be_bytes().as_slice(),
+        Entry::Tried { number, next } => at % 4 == 2 && number.get() == at as usize && *next == at,
+        Entry::Recorded { number } => at % 4 == 3 && number.get() == at as usize,
+        Entry::Raised { next } => at % 4 == 0 && *next == at,
+    }
+}
+
+// How many entries, from the first one on, are those that a test adds.
+fn count_right(entries: &[Entry]) -> usize {
+    let mut count: usize = 0;
+    for (entry, at) in entries.iter().zip(1u32..) {
+        if !is_entry_at(entry, at) {
+            return count;
+        }
+        count = count.saturating_add(1);
+    }
+    count
+}
+
+// Adds so many entries. That of the number `wrong`, if there is one, is another than it should be.
+fn adds<S: Alter>(
+    rt: &impl Abort,
+    alloc: Global,
+    store: &mut SqliteStore<S>,
+    count: u32,
+    wrong: u32,
+) {
+    for at in 1..=count {
+        let entry = if at == wrong {
+            Entry::Raised { next: 0 }
+        } else {
+            entry_at(rt, alloc, at)
+        };
+        assert!(rt; store.append(&entry) == Ok(()));
+    }
+}
+
+// The store has so many entries, and so many from the first one on are right.
+fn has<S: Alter>(
+    rt: &impl Abort,
+    alloc: Global,
+    store: &mut SqliteStore<S>,
+    count: usize,
+    right: usize,
+) {
+    let entries = store.entries(alloc).expect(rt, "entries");
+    assert!(rt; entries.len() == count);
+    assert!(rt; count_right(&entries) == right);
+}
+
+// So many entries are there in files that were closed, and so many of them are right.
+fn keeps(rt: &impl Abort, alloc: Global, count: u32, wrong: u32, right: usize) {
+    let mut store = opened(rt, alloc, new_files(alloc));
+    adds(rt, alloc, &mut store, count, wrong);
+    let mut again = opened(rt, alloc, closed(rt, store));
+    has(rt, alloc, &mut again, count as usize, right);
+}
+
+#[test]
+fn entries_1(rt: HostRuntime) {
+    keeps(&rt, rt.alloc(), 1, 0, 1);
+}
+
+#[test]
+fn entries_255(rt: HostRuntime) {
+    keeps(&rt, rt.alloc(), 255, 0, 255);
+}
+
+#[test]
+fn entries_256(rt: HostRuntime) {
+    keeps(&rt, rt.alloc(), 256, 0, 256);
+}
+
+#[test]
+fn entries_1000(rt: HostRuntime) {
+    keeps(&rt, rt.alloc(), 1000, 0, 1000);
+}
+
+#[test]
+fn a_wrong_entry_is_seen(rt: HostRuntime) {
+    for wrong in [1u32, 255, 256, 257] {
+        keeps(&rt, rt.alloc(), 257, wrong, wrong as usize - 1);
+    }
+}

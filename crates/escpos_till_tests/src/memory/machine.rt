@@ -1,0 +1,78 @@
+//! The calls of a till's machine, where memory is refused.
+
+use crate::support::tills::number;
+use escpos_host::JsonError;
+use escpos_test_receipts::S;
+use escpos_till::{Action, Content, Entry, NoMachine, ReceiptState, TillMachine, TillRefusal};
+use std::alloc::Global;
+use std::process::Abort;
+
+// A machine of these entries. Where memory is refused, it is opened again.
+fn opened_at_last(rt: &impl Abort, alloc: Global, entries: &[Entry]) -> TillMachine {
+    match TillMachine::open(alloc, entries) {
+        Ok(machine) => machine,
+        Err(why) => {
+            assert!(rt; why == NoMachine::Memory);
+            match TillMachine::open(alloc, entries) {
+                Ok(machine) => machine,
+                Err(_) => panic!(rt; "no machine"),
+            }
+        }
+    }
+}
+
+fn bytes_at_last(rt: &impl Abort, alloc: Global) -> Vec<u8> {
+    match S.0.to_vec(alloc) {
+        Ok(bytes) => bytes,
+        Err(_) => S.0.to_vec(alloc).expect(rt, "memory"),
+    }
+}
+
+// S is taken.
+fn takes_at_last(rt: &impl Abort, alloc: Global, machine: &mut TillMachine) {
+    if let Err(why) = machine.queue(Content::new(bytes_at_last(rt, alloc))) {
+        assert!(rt; why == TillRefusal::Memory);
+        assert!(rt; machine.queue(Content::new(bytes_at_last(rt, alloc))) == Ok(()));
+    }
+    machine.appended(Ok(()));
+    machine.told();
+    assert!(rt; machine.states() == [ReceiptState::Waiting { tried: 0 }].as_slice());
+}
+
+// It is to be delivered.
+fn delivers_at_last(rt: &impl Abort, machine: &mut TillMachine) {
+    if let Err(why) = machine.deliver(1, None, 100) {
+        let memory = TillRefusal::NoReceipt {
+            number: number(rt, 1),
+            why: JsonError::Memory,
+        };
+        assert!(rt; why == memory);
+        assert!(rt; machine.deliver(1, None, 100) == Ok(()));
+    }
+    machine.connected(true);
+    machine.appended(Ok(()));
+}
+
+#[test]
+fn machine_refused(rt: HostRuntime) {
+    let mut machine = opened_at_last(&rt, rt.alloc(), &[]);
+    assert!(&rt; machine.raise(3) == Ok(()));
+    machine.appended(Ok(()));
+    machine.told();
+    takes_at_last(&rt, rt.alloc(), &mut machine);
+    delivers_at_last(&rt, &mut machine);
+    match machine.asks() {
+        Action::Put => {}
+        Action::HangUp => machine.hung_up(),
+        _ => panic!(&rt; "no link"),
+    }
+}
+
+// The same entries, copied into a machine.
+#[test]
+fn machine_of_entries_refused(rt: HostRuntime) {
+    let content = Content::new(bytes_at_last(&rt, rt.alloc()));
+    let entries = [Entry::Queued { content }];
+    let machine = opened_at_last(&rt, rt.alloc(), &entries);
+    assert!(&rt; machine.states() == [ReceiptState::Waiting { tried: 0 }].as_slice());
+}

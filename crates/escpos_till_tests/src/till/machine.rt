@@ -1,0 +1,217 @@
+//! The machine of a till, told by hand what came of what it asks for.
+
+use crate::support::tills::number;
+use escpos_host::SendFault;
+use escpos_test_receipts::{S, SENT};
+use escpos_till::{
+    Action, Content, CopyText, Entry, NoMachine, ReceiptNumber, ReceiptState, StoreFault,
+    TillMachine, TillNote, TillRefusal,
+};
+use std::alloc::Global;
+use std::process::Abort;
+
+// A machine of these entries.
+fn machine_of(rt: &impl Abort, alloc: Global, entries: &[Entry]) -> TillMachine {
+    match TillMachine::open(alloc, entries) {
+        Ok(machine) => machine,
+        Err(_) => panic!(rt; "no machine"),
+    }
+}
+
+fn content(rt: &impl Abort, alloc: Global, text: &[u8]) -> Content {
+    Content::new(text.to_vec(alloc).expect(rt, "memory"))
+}
+
+fn is_queued(entry: &Entry, text: &[u8]) -> bool {
+    match entry {
+        Entry::Queued { content } => content.bytes() == text,
+        _ => false,
+    }
+}
+
+fn is_tried(entry: &Entry, first: ReceiptNumber, mark: u32) -> bool {
+    match entry {
+        Entry::Tried { number, next } => *number == first && *next == mark,
+        _ => false,
+    }
+}
+
+fn is_recorded(entry: &Entry, first: ReceiptNumber) -> bool {
+    match entry {
+        Entry::Recorded { number } => *number == first,
+        _ => false,
+    }
+}
+
+// It tells this, and is at rest.
+fn tells(rt: &impl Abort, machine: &mut TillMachine, wanted: TillNote) {
+    match machine.asks() {
+        Action::Tell(note) => assert!(rt; note == wanted),
+        _ => panic!(rt; "nothing to tell"),
+    }
+    machine.told();
+    rests(rt, machine);
+}
+
+fn rests(rt: &impl Abort, machine: &TillMachine) {
+    match machine.asks() {
+        Action::Nothing => {}
+        _ => panic!(rt; "something is asked for"),
+    }
+}
+
+// It asks for the link to be given up, and it is.
+fn hangs_up(rt: &impl Abort, machine: &mut TillMachine) {
+    match machine.asks() {
+        Action::HangUp => machine.hung_up(),
+        _ => panic!(rt; "no link to give up"),
+    }
+}
+
+// It asks for these bytes to be put, and then waits.
+fn puts(rt: &impl Abort, machine: &mut TillMachine, wanted: &[u8]) {
+    let mut room = [0; 64];
+    match machine.asks() {
+        Action::Put => {}
+        _ => panic!(rt; "nothing to put"),
+    }
+    let count = machine.take_out(&mut room);
+    assert!(rt; &room[..count.min(64)] == wanted);
+}
+
+// It waits for so many bytes of answers, and hears these.
+fn hears(rt: &impl Abort, machine: &mut TillMachine, most: u32, bytes: &[u8]) {
+    match machine.asks() {
+        Action::Wait(left) => assert!(rt; left == most),
+        _ => panic!(rt; "no wait"),
+    }
+    assert!(rt; machine.came(bytes) == bytes.len());
+}
+
+// A receipt is taken, and has this number.
+fn takes(rt: &impl Abort, alloc: Global, machine: &mut TillMachine, at: usize) {
+    assert!(rt; machine.queue(content(rt, alloc, S.0)) == Ok(()));
+    assert!(rt; machine.raise(9) == Err(TillRefusal::Busy));
+    match machine.asks() {
+        Action::Append(entry) => assert!(rt; is_queued(entry, S.0)),
+        _ => panic!(rt; "nothing to keep"),
+    }
+    machine.appended(Ok(()));
+    tells(rt, machine, TillNote::Queued(number(rt, at)));
+}
+
+// The first receipt is to be delivered: there is a link, and it is noted as tried up to this number.
+fn tries(rt: &impl Abort, machine: &mut TillMachine, copy: Option<&[u8]>, next: u32) {
+    let text = match copy {
+        Some(text) => Some(CopyText::new(text).expect(rt, "a text")),
+        None => None,
+    };
+    assert!(rt; machine.deliver(1, text.as_ref(), 100) == Ok(()));
+    match machine.asks() {
+        Action::Connect => machine.connected(true),
+        _ => panic!(rt; "no link wanted"),
+    }
+    let first = number(rt, 1);
+    match machine.asks() {
+        Action::Append(entry) => assert!(rt; is_tried(entry, first, next)),
+        _ => panic!(rt; "nothing to keep"),
+    }
+    machine.appended(Ok(()));
+}
+
+// The receipt is put, its closing mark answered, and it is recorded.
+fn records(rt: &impl Abort, machine: &mut TillMachine) {
+    puts(rt, machine, &SENT[..11]);
+    hears(rt, machine, 100, b"\x37\x220000\x00");
+    puts(rt, machine, &SENT[11..]);
+    hears(rt, machine, 93, b"\x37\x220001\x00");
+    let first = number(rt, 1);
+    match machine.asks() {
+        Action::Append(entry) => assert!(rt; is_recorded(entry, first)),
+        _ => panic!(rt; "nothing to keep"),
+    }
+    machine.appended(Ok(()));
+    hangs_up(rt, machine);
+    tells(rt, machine, TillNote::Recorded(first));
+}
+
+#[test]
+fn machine_records(rt: HostRuntime) {
+    let mut machine = machine_of(&rt, rt.alloc(), &[]);
+    assert!(&rt; machine.deliver(1, None, 100) == Err(TillRefusal::NothingWaits));
+    takes(&rt, rt.alloc(), &mut machine, 1);
+    tries(&rt, &mut machine, None, 2);
+    records(&rt, &mut machine);
+    assert!(&rt; machine.states() == [ReceiptState::Recorded { place: 0 }].as_slice());
+    assert!(&rt; machine.next_mark() == 2);
+    assert!(&rt; machine.deliver(1, None, 100) == Err(TillRefusal::NothingWaits));
+}
+
+// There is no link; the link ends; too much is said: the receipt waits, and is tried again as a copy.
+#[test]
+fn machine_gives_up(rt: HostRuntime) {
+    let mut machine = machine_of(&rt, rt.alloc(), &[]);
+    takes(&rt, rt.alloc(), &mut machine, 1);
+    let first = number(&rt, 1);
+    assert!(&rt; machine.deliver(1, None, 100) == Ok(()));
+    machine.connected(false);
+    tells(&rt, &mut machine, TillNote::NoLink(first));
+    tries(&rt, &mut machine, None, 2);
+    puts(&rt, &mut machine, &SENT[..11]);
+    machine.link_ended(SendFault::Ended);
+    waits(&rt, &mut machine, SendFault::Ended);
+    tries(&rt, &mut machine, Some(b"COPY"), 4);
+    puts(&rt, &mut machine, b"\x1D(H\x06\x00000002");
+    hears(&rt, &mut machine, 100, &[0x12; 100]);
+    waits(&rt, &mut machine, SendFault::TooLong);
+    assert!(&rt; machine.states() == [ReceiptState::Waiting { tried: 2 }].as_slice());
+}
+
+// It gives the link up, and tells why the first receipt waits.
+fn waits(rt: &impl Abort, machine: &mut TillMachine, why: SendFault) {
+    hangs_up(rt, machine);
+    let number = number(rt, 1);
+    tells(rt, machine, TillNote::Waiting { number, why });
+}
+
+// The store fails: nothing more is done.
+#[test]
+fn machine_fails(rt: HostRuntime) {
+    let mut machine = machine_of(&rt, rt.alloc(), &[]);
+    assert!(&rt; machine.raise(7) == Ok(()));
+    machine.appended(Err(StoreFault::Failed));
+    tells(&rt, &mut machine, TillNote::NotKept(StoreFault::Failed));
+    assert!(&rt; machine.raise(9) == Err(TillRefusal::Failed));
+    assert!(&rt; machine.deliver(1, None, 100) == Err(TillRefusal::Failed));
+    assert!(&rt; machine.next_mark() == 0);
+}
+
+// A machine goes on from the entries that are left.
+#[test]
+fn machine_goes_on(rt: HostRuntime) {
+    let first = number(&rt, 1);
+    let entries = [
+        Entry::Raised { next: 0 },
+        Entry::Queued {
+            content: content(&rt, rt.alloc(), S.0),
+        },
+        Entry::Tried {
+            number: first,
+            next: 1_679_615,
+        },
+    ];
+    let mut machine = machine_of(&rt, rt.alloc(), &entries);
+    assert!(&rt; machine.states() == [ReceiptState::Waiting { tried: 1 }].as_slice());
+    let used_up = TillRefusal::MarksUsedUp { number: first };
+    assert!(&rt; machine.deliver(1, None, 100) == Err(used_up));
+    let reused = TillRefusal::MarkReused { next: 1_679_615 };
+    assert!(&rt; machine.raise(5) == Err(reused));
+    let lone = [Entry::Tried {
+        number: first,
+        next: 9,
+    }];
+    match TillMachine::open(rt.alloc(), &lone) {
+        Ok(_) => panic!(&rt; "no ledger"),
+        Err(why) => assert!(&rt; why == NoMachine::Damaged),
+    }
+}
