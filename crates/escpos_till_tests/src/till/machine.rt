@@ -162,7 +162,9 @@ fn machine_gives_up(rt: HostRuntime) {
     waits(&rt, &mut machine, SendFault::Ended);
     tries(&rt, &mut machine, Some(b"COPY"), 4);
     puts(&rt, &mut machine, b"\x1D(H\x06\x00000002");
-    hears(&rt, &mut machine, 100, &[0x12; 100]);
+    for index in 0..100u32 {
+        hears(&rt, &mut machine, 100u32.saturating_sub(index), b"\x12");
+    }
     waits(&rt, &mut machine, SendFault::TooLong);
     assert!(&rt; machine.states() == [ReceiptState::Waiting { tried: 2 }].as_slice());
 }
