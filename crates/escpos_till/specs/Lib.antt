@@ -5,5 +5,6 @@ pub mod Summary
 pub mod Kept
 pub mod Copy
 pub mod Delivers
+pub mod Driver
 pub mod Book
 pub mod Machine

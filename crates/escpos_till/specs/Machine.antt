@@ -1,6 +1,7 @@
 -- The machine of a till with one printer: what it asks for, and what each call does.
 use Rattle.std.specs.Prelude.{ℕ, zero, suc, ◌≡◌, ◌≢◌, ◌⊎◌, ◌+◌, ◌-◌, ◌<◌, ◌≤◌, ◌^◌, max, Option, Some, None, List, [], length}
 use Rattle.escpos_command.specs.declared.command.Command.{Command}
+use Rattle.escpos_command.specs.CommandTable.{AreCommands}
 use Rattle.escpos_command.specs.Digits.{mark_count}
 use Rattle.escpos_host.specs.declared.host.HostError.{HostError}
 use Rattle.escpos_host.specs.declared.host.HostEvent.{HostEvent}
@@ -10,6 +11,7 @@ use Rattle.escpos_host.specs.declared.send.SendFault.TheVariants as fault
 use Rattle.escpos_host.specs.Awaits.{RefusesOpening, dialled}
 use Rattle.escpos_host.specs.Heard.{IsHeard}
 use Rattle.escpos_host.specs.Machine.{HostView, InFlight, Down, Open, HasMark, RefusesSubmit, gone_down, most_in_flight, submitted, taken_out}
+use Rattle.escpos_receipt.specs.Whole.{Whole}
 use Rattle.escpos_till.specs.declared.book.Book.{Book}
 use Rattle.escpos_till.specs.declared.entry.Content.{Content}
 use Rattle.escpos_till.specs.declared.entry.Entry.{Entry}
@@ -28,7 +30,8 @@ use Rattle.escpos_till.specs.declared.machine.TillRefusal.{TillRefusal}
 use Rattle.escpos_till.specs.declared.machine.TillRefusal.TheVariants as refusal
 use Rattle.escpos_till.specs.declared.store.StoreFault.{StoreFault}
 use Rattle.escpos_till.specs.Book.{HasRoom, IsBookOf, Notes}
-use Rattle.escpos_till.specs.Delivers.{Due as IsDue, WhyNone, fresh, marks_taken}
+use Rattle.escpos_till.specs.Contents.{GivesReceipt, IsContentFault}
+use Rattle.escpos_till.specs.Delivers.{Due as IsDue, fresh, marks_taken}
 use Rattle.escpos_till.specs.Entries.{IsLedger, MayFollow, Waits, next_free, times_tried, waiting}
 use Rattle.escpos_till.specs.Ledger.{FirstWaits}
 
@@ -58,15 +61,15 @@ Suits (then.Send due) (entry.Tried number next) = number ≡ due.number
 Suits (then.Recorded number) (entry.Recorded n) = n ≡ number
 Suits next e = ⊥
 
--- How many entries may follow that one at once.
-abbrev pub others : Then → ℕ
-others (then.Send due) = 1
-others next = 0
+-- How many entries may follow that one before the machine is at rest.
+abbrev pub entries_to_come : Then → ℕ
+entries_to_come (then.Send due) = 1
+entries_to_come next = 0
 
 -- A stage fits these entries: what is to be kept may follow them.
 abbrev pub Fits : Book → List Entry → Stage → Type 0
 Fits b es (stage.Connecting due) = Waits es due.number × (next_free es + marks_taken due.openings ≤ mark_count) × (length es + 1 < most_entries)
-Fits b es (stage.Keeping e next) = MayFollow es e × Suits next e × (length es + others next < most_entries) × ((content : Content) → e ≡ entry.Queued content → HasRoom b)
+Fits b es (stage.Keeping e next) = MayFollow es e × Suits next e × (length es + entries_to_come next < most_entries) × ((content : Content) → e ≡ entry.Queued content → HasRoom b)
 Fits b es (stage.Talking talk) = Waits es talk.number × (0 < times_tried es talk.number) × (length es < most_entries)
 Fits b es s = Unit {0}
 
@@ -76,6 +79,11 @@ pub record IsMachine (m : MachineView) : Type 0 where
   pub book : IsBookOf m.book entries
   pub ledger : IsLedger entries
   pub fits : Fits m.book entries m.stage
+
+-- What is to be sent is a receipt: its commands are in range, and it is whole.
+abbrev pub SendsReceipt : Stage → Type 0
+SendsReceipt (stage.Connecting due) = AreCommands due.receipt × Whole due.receipt
+SendsReceipt s = Unit {0}
 
 -- A new machine: it is at rest, with a host that has sent nothing, and whose first mark will have the next number.
 pub record IsStarted (m : MachineView) : Type 0 where
@@ -99,11 +107,18 @@ Asks m (stage.HangingUp n) a = a ≡ action.HangUp
 Asks m (stage.Telling n) a = a ≡ action.Tell n
 Asks m _ a = a ≡ action.Nothing
 
+-- It asks for nothing.
+abbrev pub Rests : Stage → Type 0
+Rests stage.AtRest = Unit {0}
+Rests stage.Failed = Unit {0}
+Rests s = ⊥
+
 -- ## Calls of a machine at rest
 
 -- It is to keep that a receipt with this content is taken.
 pub record Queues (m : MachineView) (content : Content) (after : MachineView) : Type 0 where
   pub rest : m.stage ≡ stage.AtRest
+  pub gives : GivesReceipt content
   pub host : after.host ≡ m.host
   pub book : (entries : List Entry) → IsBookOf m.book entries → IsBookOf after.book entries
   pub keeps : after.stage ≡ stage.Keeping (entry.Queued content) then.Queued
@@ -128,20 +143,40 @@ pub record Delivers (m : MachineView) (openings most : ℕ) (copy : Option (List
   pub next : IsNext m.book openings most copy due
   pub after_is : after ≡ at m (stage.Connecting due)
 
--- Why a call is refused: what holds of the machine then. The first reason that applies counts; out of memory may come in place of any.
-abbrev pub Refuses : MachineView → TillRefusal → Type 0
-Refuses m refusal.Busy = (m.stage ≢ stage.AtRest) × (m.stage ≢ stage.Failed)
-Refuses m refusal.Failed = m.stage ≡ stage.Failed
-Refuses m refusal.Memory = m.stage ≡ stage.AtRest
-Refuses m refusal.NothingWaits = (m.stage ≡ stage.AtRest) × ((entries : List Entry) → IsBookOf m.book entries → waiting entries ≡ [])
-Refuses m (refusal.NoReceipt number why) = (m.stage ≡ stage.AtRest)
-    × ((entries : List Entry) → IsBookOf m.book entries → (content : Content) × (tried : ℕ) × FirstWaits entries number content tried × WhyNone why content)
-Refuses m (refusal.MarksUsedUp number) = (m.stage ≡ stage.AtRest)
-    × ((entries : List Entry) → IsBookOf m.book entries → (content : Content) × (tried : ℕ) × FirstWaits entries number content tried)
-Refuses m (refusal.MarkReused next) = (m.stage ≡ stage.AtRest) × (next ≡ m.book.next)
+-- ## Why a call is refused: what holds of the machine then. The first reason that applies counts; out of memory may come in place of
+-- any but the first two.
 
--- The same book, whatever room it has.
-pub record SameBut (m after : MachineView) : Type 0 where
+-- Why any of them is.
+abbrev pub RefusesAny : MachineView → TillRefusal → Type 0
+RefusesAny m refusal.Busy = (m.stage ≢ stage.AtRest) × (m.stage ≢ stage.Failed)
+RefusesAny m refusal.Failed = m.stage ≡ stage.Failed
+RefusesAny m refusal.Memory = m.stage ≡ stage.AtRest
+RefusesAny m why = ⊥
+
+-- No receipt with a higher mark number than this would have enough of them for a try.
+abbrev pub last_first : ℕ
+last_first = mark_count - marks_taken 1
+
+-- Why the next mark number isn't raised to this one.
+abbrev pub RefusesRaise : MachineView → ℕ → TillRefusal → Type 0
+RefusesRaise m first (refusal.MarkReused next) = (m.stage ≡ stage.AtRest) × (next ≡ m.book.next) × (first < next)
+RefusesRaise m first (refusal.MarkTooHigh last) = (m.stage ≡ stage.AtRest) × (m.book.next ≤ first) × (last ≡ last_first) × (last < first)
+RefusesRaise m first why = RefusesAny m why
+
+-- Of the first receipt that waits, which has this number, this holds.
+abbrev pub OfFirst : Book → ℕ → (Content → Type 0) → Type 0
+OfFirst b number Holds = (entries : List Entry) → IsBookOf b entries → (content : Content) × (tried : ℕ) × FirstWaits entries number content tried × Holds content
+
+-- Why no receipt is delivered over a link with so many opening marks.
+abbrev pub RefusesDeliver : MachineView → ℕ → TillRefusal → Type 0
+RefusesDeliver m openings refusal.NothingWaits = (m.stage ≡ stage.AtRest) × ((entries : List Entry) → IsBookOf m.book entries → waiting entries ≡ [])
+RefusesDeliver m openings (refusal.NoReceipt number why) = (m.stage ≡ stage.AtRest) × OfFirst m.book number (λ content. IsContentFault why content)
+RefusesDeliver m openings (refusal.MarksUsedUp number) =
+    (m.stage ≡ stage.AtRest) × OfFirst m.book number (λ content. Unit {0}) × (mark_count < m.book.next + marks_taken openings)
+RefusesDeliver m openings why = RefusesAny m why
+
+-- It has the same entries, whatever room it has for more.
+pub record SameEntries (m after : MachineView) : Type 0 where
   pub host : after.host ≡ m.host
   pub stage : after.stage ≡ m.stage
   pub book : (entries : List Entry) → IsBookOf m.book entries → IsBookOf after.book entries

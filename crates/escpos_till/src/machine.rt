@@ -19,23 +19,25 @@
 //! Before a byte of a receipt goes out, an entry is kept that says that it is tried, with the mark numbers that its link may
 //! use; and a receipt is recorded only where the host has recorded it. `specs/Machine.antt` says what each call does.
 
-ghost use Rattle.std.specs.Prelude.{◌≡◌, ◌≢◌, ◌-◌, ◌++◌, ◌<◌, ◌≤◌, ℕ, List, length, take, drop, min, option_map, Ok, IfOk, IfErr, OnOk, IsErrOf, IsTrue};
+ghost use Rattle.std.specs.Prelude.{◌≡◌, ◌≢◌, ◌↔◌, ◌-◌, ◌++◌, ◌<◌, ◌≤◌, ℕ, List, length, take, drop, min, option_map, Ok, IfOk, IfErr, OnOk, IsErrOf, IsTrue};
 ghost use Rattle.escpos_till.specs.declared.entry.Entry.{Entry};
 ghost use Rattle.escpos_till.specs.Entries.{IsLedger, states as states_of};
 ghost use Rattle.escpos_till.specs.Book.{IsBookOf, Notes};
+ghost use Rattle.escpos_host.specs.Machine.{IsSound};
 ghost use Rattle.escpos_till.specs.Delivers.{fresh};
 ghost use Rattle.escpos_till.specs.declared.machine.Talk.{Talk};
-ghost use Rattle.escpos_till.specs.Machine.{Asks, Came, Delivers, Drops, Ended, Fits, Follows, GoesOn, IsNext, IsStarted, Kept, Opens, Queues, Raises, Refuses, SameBut, Submits, Turns, Unsure, connected, hung_up, lost, not_connected, put, told};
+ghost use Rattle.escpos_till.specs.Machine.{Asks, Came, Delivers, Drops, Ended, Fits, Follows, GoesOn, IsNext, IsStarted, Kept, Opens, Queues, Raises, RefusesAny, RefusesDeliver, RefusesRaise, Rests, SameEntries, SendsReceipt, Submits, Turns, Unsure, connected, hung_up, lost, not_connected, put, told};
 
 use crate::book::{Book, NoBook};
 use crate::copy::CopyText;
 use crate::deliver::marks_taken;
-use crate::entry::{Content, Entry};
+use crate::entry::Entry;
 use crate::number::ReceiptNumber;
+use crate::receipt_content::ReceiptContent;
 use crate::state::ReceiptState;
 use crate::store::StoreFault;
 use escpos_host::{Host, HostEvent, SendFault, open_link};
-use escpos_receipt::{JsonError, Receipt};
+use escpos_receipt::{JsonError, JsonFault, Receipt};
 use std::alloc::Global;
 use std::marker::Model;
 use std::mem::replace;
@@ -44,6 +46,11 @@ use std::mem::replace;
 const MARK_COUNT: u32 = 36 * 36 * 36 * 36;
 
 const _: () = prove!(MARK_COUNT == 1_679_616);
+
+// The last mark number that leaves enough for a try.
+const LAST_FIRST: u32 = MARK_COUNT - 2;
+
+const _: () = prove!(LAST_FIRST == 1_679_614);
 
 // No more entries than these are taken.
 const MOST_ENTRIES: usize = 4_611_686_018_427_387_904;
@@ -84,7 +91,7 @@ pub enum TillRefusal {
     /// The text of the first receipt that waits gives none.
     NoReceipt {
         number: ReceiptNumber,
-        why: JsonError,
+        why: JsonFault,
     },
     /// Too few mark numbers are left for the first receipt that waits.
     MarksUsedUp {
@@ -93,6 +100,10 @@ pub enum TillRefusal {
     /// The mark number is lower than the next one, which is this.
     MarkReused {
         next: u32,
+    },
+    /// The mark number leaves fewer than a try takes. This is the last that leaves enough.
+    MarkTooHigh {
+        last: u32,
     },
 }
 
@@ -106,7 +117,7 @@ pub enum NoMachine {
 }
 
 /// What a machine asks for.
-#[derive(Debug)]
+#[derive(Debug, Drop)]
 pub enum Action<'a> {
     /// Nothing: it is at rest, or has failed.
     Nothing,
@@ -227,17 +238,36 @@ impl TillMachine {
         }
     }
 
-    /// Takes a receipt: it is to be kept. The errors are `Busy`, `Failed` and `Memory`.
-    pub fn queue(&mut self, content: Content) -> Result<(), TillRefusal>
-        ensures queues { OnOk result (Queues self.old content self.new) }
-        ensures refused { IfErr result (λ why. Refuses self.old why × SameBut self.old self.new) }
+    /// Whether it asks for nothing.
+    pub fn rests(&self) -> bool
+        ensures { IsTrue result ↔ Rests self.now.stage }
     {
-        self.check_rest()?;
+        matches!(self.stage, Stage::AtRest | Stage::Failed)
+    }
+
+    /// Whether it talks: it asks for bytes to be put, or for answers.
+    pub fn talks(&self) -> bool
+        ensures { IsTrue result ↔ ((talk : Talk) × (self.now.stage ≡ Stage.Talking talk)) }
+    {
+        matches!(self.stage, Stage::Talking(_))
+    }
+
+    /// Takes a receipt: it is to be kept. The errors are `Busy`, `Failed` and `Memory`, and return the receipt.
+    pub fn queue(&mut self, receipt: ReceiptContent) -> Result<(), (TillRefusal, ReceiptContent)>
+        ensures queues { OnOk result (Queues self.old receipt self.new) }
+        ensures refused { IfErr result (λ refusal. RefusesAny self.old refusal.0 × SameEntries self.old self.new) }
+        ensures returned { IfErr result (λ refusal. refusal.1 ≡ receipt) }
+    {
+        if let Err(why) = self.check_rest() {
+            return Err((why, receipt));
+        }
         if self.book.count >= MOST_ENTRIES || self.book.reserve().is_err() {
-            return Err(TillRefusal::Memory);
+            return Err((TillRefusal::Memory, receipt));
         }
         self.stage = Stage::Keeping {
-            entry: Entry::Queued { content },
+            entry: Entry::Queued {
+                content: receipt.into_content(),
+            },
             then: Then::Queued,
         };
         Ok(())
@@ -245,15 +275,19 @@ impl TillMachine {
 
     /// Raises the next mark number to this one, since those below it were used elsewhere: that is to be kept.
     ///
-    /// The errors are `Busy`, `Failed`, `Memory`, and `MarkReused` if the next number is higher.
+    /// The errors are `Busy`, `Failed`, `Memory`, `MarkReused` if the next number is higher, and `MarkTooHigh` if fewer numbers than
+    /// a try takes would be left.
     pub fn raise(&mut self, first: u32) -> Result<(), TillRefusal>
         ensures raises { OnOk result (Raises self.old first self.new) }
-        ensures refused { IfErr result (λ why. Refuses self.old why × (self.new ≡ self.old)) }
+        ensures refused { IfErr result (λ why. RefusesRaise self.old first why × (self.new ≡ self.old)) }
     {
         self.check_rest()?;
         let next = self.book.next;
         if first < next {
             return Err(TillRefusal::MarkReused { next });
+        }
+        if first > LAST_FIRST {
+            return Err(TillRefusal::MarkTooHigh { last: LAST_FIRST });
         }
         if self.book.count >= MOST_ENTRIES {
             return Err(TillRefusal::Memory);
@@ -276,7 +310,7 @@ impl TillMachine {
         most: u32,
     ) -> Result<(), TillRefusal>
         ensures delivers { OnOk result (Delivers self.old openings most (option_map (λ t. t.now) copy.entry) self.new) }
-        ensures refused { IfErr result (λ why. Refuses self.old why × (self.new ≡ self.old)) }
+        ensures refused { IfErr result (λ why. RefusesDeliver self.old openings why × (self.new ≡ self.old)) }
     {
         let due = self.next_due(openings, copy, most)?;
         self.stage = Stage::Connecting(due);
@@ -293,7 +327,7 @@ impl TillMachine {
         ensures rest { IfOk result (λ _. self.now.stage ≡ Stage.AtRest) }
         ensures next { IfOk result (λ due. IsNext self.now.book openings most (option_map (λ t. t.now) copy.entry) due) }
         ensures fits { IfOk result (λ due. (entries : List Entry) → IsBookOf self.now.book entries → Fits self.now.book entries (Stage.Connecting due)) }
-        ensures refused { IfErr result (λ why. Refuses self.now why) }
+        ensures refused { IfErr result (λ why. RefusesDeliver self.now openings why) }
     {
         self.check_rest()?;
         let Some(first) = self.book.first_waiting() else {
@@ -302,7 +336,8 @@ impl TillMachine {
         let number = first.number;
         let receipt = match first.to_send(self.alloc, copy) {
             Ok(receipt) => receipt,
-            Err(why) => return Err(TillRefusal::NoReceipt { number, why }),
+            Err(JsonError::Refused(why)) => return Err(TillRefusal::NoReceipt { number, why }),
+            Err(JsonError::Memory) => return Err(TillRefusal::Memory),
         };
         let marks = marks_taken(openings);
         if marks > MARK_COUNT || self.book.next > MARK_COUNT - marks {
@@ -322,7 +357,7 @@ impl TillMachine {
     // Refuses a call of a machine that isn't at rest.
     fn check_rest(&self) -> Result<(), TillRefusal>
         ensures rest { OnOk result (self.now.stage ≡ Stage.AtRest) }
-        ensures refused { IfErr result (λ why. Refuses self.now why) }
+        ensures refused { IfErr result (λ why. RefusesAny self.now why) }
     {
         match self.stage {
             Stage::AtRest => Ok(()),
@@ -391,8 +426,8 @@ impl TillMachine {
         }
     }
 
-    /// Hears bytes of answers up to the first event, and returns how many it took. If it still waits for answers then, it is to be
-    /// given the others.
+    /// Hears bytes of answers up to the first event, and returns how many it took. The others are kept: for as long as it asks for `Put`
+    /// or `Wait` then, it is given them again before any that came later, and else they are dropped.
     pub fn came(&mut self, bytes: &[u8]) -> usize
         ensures came { Came self.old.stage bytes.now result self.old self.new }
         ensures within { result ≤ length bytes.now }
@@ -445,6 +480,17 @@ impl TillMachine {
                 TillNote::NotKept(_) => Stage::Failed,
                 _ => Stage::AtRest,
             };
+        }
+    }
+
+    /// Proof only: gives the caller these facts: what holds of every host holds of the machine's, and what is to be sent is a receipt.
+    pub fn is_sound(&self)
+        ensures host { IsSound self.now.host }
+        ensures receipt { SendsReceipt self.now.stage }
+    {
+        self.host.is_sound();
+        if let Stage::Connecting(due) = &self.stage {
+            let _ = due.receipt.commands();
         }
     }
 

@@ -1,9 +1,10 @@
 //! The calls of a till's machine, where memory is refused.
 
-use crate::support::tills::number;
-use escpos_host::JsonError;
+use escpos_receipt::{JsonError, ReceiptOptions};
 use escpos_test_receipts::S;
-use escpos_till::{Action, Content, Entry, NoMachine, ReceiptState, TillMachine, TillRefusal};
+use escpos_till::{
+    Action, Content, Entry, NoMachine, ReceiptContent, ReceiptState, TillMachine, TillRefusal,
+};
 use std::alloc::Global;
 use std::process::Abort;
 
@@ -28,11 +29,28 @@ fn bytes_at_last(rt: &impl Abort, alloc: Global) -> Vec<u8> {
     }
 }
 
+// S is read.
+fn receipt_at_last(rt: &impl Abort, alloc: Global) -> ReceiptContent {
+    let usual = ReceiptOptions::usual();
+    match ReceiptContent::read(alloc, &usual, bytes_at_last(rt, alloc)) {
+        Ok(receipt) => receipt,
+        Err(why) => {
+            assert!(rt; why == JsonError::Memory);
+            match ReceiptContent::read(alloc, &usual, bytes_at_last(rt, alloc)) {
+                Ok(receipt) => receipt,
+                Err(_) => panic!(rt; "no receipt"),
+            }
+        }
+    }
+}
+
 // S is taken.
 fn takes_at_last(rt: &impl Abort, alloc: Global, machine: &mut TillMachine) {
-    if let Err(why) = machine.queue(Content::new(bytes_at_last(rt, alloc))) {
+    if let Err((why, receipt)) = machine.queue(receipt_at_last(rt, alloc)) {
         assert!(rt; why == TillRefusal::Memory);
-        assert!(rt; machine.queue(Content::new(bytes_at_last(rt, alloc))) == Ok(()));
+        if let Err((_, _receipt)) = machine.queue(receipt) {
+            panic!(rt; "not taken");
+        }
     }
     machine.appended(Ok(()));
     machine.told();
@@ -42,11 +60,7 @@ fn takes_at_last(rt: &impl Abort, alloc: Global, machine: &mut TillMachine) {
 // It is to be delivered.
 fn delivers_at_last(rt: &impl Abort, machine: &mut TillMachine) {
     if let Err(why) = machine.deliver(1, None, 100) {
-        let memory = TillRefusal::NoReceipt {
-            number: number(rt, 1),
-            why: JsonError::Memory,
-        };
-        assert!(rt; why == memory);
+        assert!(rt; why == TillRefusal::Memory);
         assert!(rt; machine.deliver(1, None, 100) == Ok(()));
     }
     machine.connected(true);

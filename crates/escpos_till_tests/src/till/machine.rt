@@ -2,10 +2,11 @@
 
 use crate::support::tills::number;
 use escpos_host::SendFault;
+use escpos_receipt::ReceiptOptions;
 use escpos_test_receipts::{S, SENT};
 use escpos_till::{
-    Action, Content, CopyText, Entry, NoMachine, ReceiptNumber, ReceiptState, StoreFault,
-    TillMachine, TillNote, TillRefusal,
+    Action, Content, CopyText, Entry, NoMachine, ReceiptContent, ReceiptNumber, ReceiptState,
+    StoreFault, TillMachine, TillNote, TillRefusal,
 };
 use std::alloc::Global;
 use std::process::Abort;
@@ -20,6 +21,22 @@ fn machine_of(rt: &impl Abort, alloc: Global, entries: &[Entry]) -> TillMachine 
 
 fn content(rt: &impl Abort, alloc: Global, text: &[u8]) -> Content {
     Content::new(text.to_vec(alloc).expect(rt, "memory"))
+}
+
+// The receipt of this text, once it was read.
+fn receipt(rt: &impl Abort, alloc: Global, text: &[u8]) -> ReceiptContent {
+    let text = text.to_vec(alloc).expect(rt, "memory");
+    match ReceiptContent::read(alloc, &ReceiptOptions::usual(), text) {
+        Ok(receipt) => receipt,
+        Err(_) => panic!(rt; "no receipt"),
+    }
+}
+
+// It is to keep that a receipt is taken.
+fn queues(rt: &impl Abort, machine: &mut TillMachine, receipt: ReceiptContent) {
+    if let Err((_, _receipt)) = machine.queue(receipt) {
+        panic!(rt; "not taken");
+    }
 }
 
 fn is_queued(entry: &Entry, text: &[u8]) -> bool {
@@ -90,7 +107,7 @@ fn hears(rt: &impl Abort, machine: &mut TillMachine, most: u32, bytes: &[u8]) {
 
 // A receipt is taken, and has this number.
 fn takes(rt: &impl Abort, alloc: Global, machine: &mut TillMachine, at: usize) {
-    assert!(rt; machine.queue(content(rt, alloc, S.0)) == Ok(()));
+    queues(rt, machine, receipt(rt, alloc, S.0));
     assert!(rt; machine.raise(9) == Err(TillRefusal::Busy));
     match machine.asks() {
         Action::Append(entry) => assert!(rt; is_queued(entry, S.0)),
@@ -215,5 +232,74 @@ fn machine_goes_on(rt: HostRuntime) {
     match TillMachine::open(rt.alloc(), &lone) {
         Ok(_) => panic!(&rt; "no ledger"),
         Err(why) => assert!(&rt; why == NoMachine::Damaged),
+    }
+}
+
+// A mark number that leaves fewer than a try takes isn't raised to; the last that leaves enough is.
+#[test]
+fn machine_raises_no_higher(rt: HostRuntime) {
+    let mut machine = machine_of(&rt, rt.alloc(), &[]);
+    let too_high = Err(TillRefusal::MarkTooHigh { last: 1_679_614 });
+    assert!(&rt; machine.raise(1_679_615) == too_high);
+    assert!(&rt; machine.raise(u32::MAX) == too_high);
+    assert!(&rt; machine.raise(1_679_614) == Ok(()));
+    machine.appended(Ok(()));
+    tells(&rt, &mut machine, TillNote::Raised);
+    takes(&rt, rt.alloc(), &mut machine, 1);
+    let used_up = TillRefusal::MarksUsedUp {
+        number: number(&rt, 1),
+    };
+    assert!(&rt; machine.deliver(2, None, 100) == Err(used_up));
+    tries(&rt, &mut machine, None, 1_679_616);
+}
+
+// Numbers below the last are all taken: each number is raised to, and a receipt is tried with it.
+#[test]
+fn machine_takes_each_number(rt: HostRuntime) {
+    for first in [1u32, 255, 256, 1_000, 1_001, 65_535, 65_536, 1_000_000] {
+        let mut machine = machine_of(&rt, rt.alloc(), &[Entry::Raised { next: first }]);
+        assert!(&rt; machine.raise(first) == Ok(()));
+        machine.appended(Ok(()));
+        tells(&rt, &mut machine, TillNote::Raised);
+        takes(&rt, rt.alloc(), &mut machine, 1);
+        tries(&rt, &mut machine, None, first.saturating_add(2));
+    }
+}
+
+// Receipts are taken while others wait, and are delivered in the order of their numbers.
+#[test]
+fn machine_takes_many(rt: HostRuntime) {
+    let mut machine = machine_of(&rt, rt.alloc(), &[]);
+    for at in 1..=300usize {
+        takes(&rt, rt.alloc(), &mut machine, at);
+    }
+    assert!(&rt; machine.states().len() == 300);
+    tries(&rt, &mut machine, None, 2);
+    records(&rt, &mut machine);
+    assert!(&rt; machine.states()[0] == ReceiptState::Recorded { place: 0 });
+    assert!(&rt; machine.states()[1] == ReceiptState::Waiting { tried: 0 });
+}
+
+// Three opening marks: an answer to any of them opens the link, and the receipt has the number after them.
+#[test]
+fn machine_puts_three_openings(rt: HostRuntime) {
+    let mut machine = machine_of(&rt, rt.alloc(), &[Entry::Raised { next: 7 }]);
+    takes(&rt, rt.alloc(), &mut machine, 1);
+    assert!(&rt; machine.deliver(3, None, 100) == Ok(()));
+    machine.connected(true);
+    match machine.asks() {
+        Action::Append(entry) => assert!(&rt; is_tried(entry, number(&rt, 1), 11)),
+        _ => panic!(&rt; "nothing to keep"),
+    }
+    machine.appended(Ok(()));
+    puts(
+        &rt,
+        &mut machine,
+        b"\x1D(H\x06\x00000007\x1D(H\x06\x00000008\x1D(H\x06\x00000009",
+    );
+    hears(&rt, &mut machine, 100, b"\x37\x220008\x00");
+    match machine.asks() {
+        Action::Put => {}
+        _ => panic!(&rt; "nothing to put"),
     }
 }

@@ -1,0 +1,90 @@
+-- What a driver does with a machine: all that the machine asks for, in order, with nothing between.
+use Rattle.std.specs.Prelude.{ℕ, ◌≡◌, ◌≢◌, ◌≤◌, List, [], ◌∷◌, length, take, drop}
+use Rattle.escpos_host.specs.declared.send.SendFault.{SendFault}
+use Rattle.escpos_till.specs.declared.entry.Entry.{Entry}
+use Rattle.escpos_till.specs.declared.machine.Due.{Due}
+use Rattle.escpos_till.specs.declared.machine.Stage.TheVariants as stage
+use Rattle.escpos_till.specs.declared.machine.Talk.{Talk}
+use Rattle.escpos_till.specs.declared.machine.Then.{Then}
+use Rattle.escpos_till.specs.declared.machine.TillNote.{TillNote}
+use Rattle.escpos_till.specs.declared.store.StoreFault.{StoreFault}
+use Rattle.escpos_till.specs.Machine.{Came, Ended, Kept, MachineView, Unsure, connected, hung_up, not_connected, put, told}
+
+-- ## One turn
+
+-- What is done of what a machine asks for.
+pub data Deed : Type 0 where
+  -- the entry is kept; or the store couldn't tell whether it is
+  Keeps : Entry → Deed
+  Loses : Entry → StoreFault → Deed
+  -- a link is opened; or there is none
+  Links : Deed
+  Misses : Deed
+  -- these bytes are put; or not all of them are, and the link is of no more use
+  Puts : List ℕ → Deed
+  Breaks : List ℕ → SendFault → Deed
+  -- these bytes of answers came; or no more come
+  Gives : List ℕ → Deed
+  Ends : SendFault → Deed
+  -- the link is given up
+  HangsUp : Deed
+  -- the owner is told this
+  Tells : TillNote → Deed
+
+-- It hears these bytes, each time up to an event, for as long as it talks; what comes after that is dropped. The counts are how many it took
+-- each time.
+abbrev pub HearsAll : MachineView → List ℕ → List ℕ → MachineView → Type 0
+HearsAll m bytes [] after = (after ≡ m) × ((talk : Talk) → m.stage ≡ stage.Talking talk → bytes ≡ [])
+HearsAll m bytes (count ∷ counts) after =
+    (talk : Talk) × (mid : MachineView) × (m.stage ≡ stage.Talking talk) × (bytes ≢ []) × Came m.stage bytes count m mid × HearsAll mid (drop count bytes) counts after
+
+-- It is given what it waited for; where nothing came, it is told that.
+abbrev pub IsGiven : MachineView → List ℕ → MachineView → Type 0
+IsGiven m [] after = Came m.stage [] 0 m after
+IsGiven m bytes after = (counts : List ℕ) × HearsAll m bytes counts after
+
+-- The first bytes that are to be put.
+pub record IsNextOut (m : MachineView) (bytes : List ℕ) (count : ℕ) : Type 0 where
+  pub talk : Talk
+  pub talks : m.stage ≡ stage.Talking talk
+  pub some : m.host.out ≢ []
+  pub within : count ≤ length m.host.out
+  pub bytes_are : bytes ≡ take count m.host.out
+
+-- It waits, and may be given so many bytes.
+pub record IsWaiting (m : MachineView) (count : ℕ) : Type 0 where
+  pub talk : Talk
+  pub talks : m.stage ≡ stage.Talking talk
+  pub nothing_out : m.host.out ≡ []
+  pub within : count ≤ talk.left
+
+-- The machine asks for this deed, and is told what came of it.
+abbrev pub Turns : MachineView → Deed → MachineView → Type 0
+Turns m (Keeps e) after = (next : Then) × (m.stage ≡ stage.Keeping e next) × Kept m.stage m after
+Turns m (Loses e why) after = (next : Then) × (m.stage ≡ stage.Keeping e next) × Unsure m.stage why m after
+Turns m Links after = (due : Due) × (m.stage ≡ stage.Connecting due) × (after ≡ connected m.stage m)
+Turns m Misses after = (due : Due) × (m.stage ≡ stage.Connecting due) × (after ≡ not_connected m.stage m)
+Turns m (Puts bytes) after = (count : ℕ) × IsNextOut m bytes count × (after ≡ put m.stage count m)
+Turns m (Breaks bytes why) after = (count : ℕ) × IsNextOut m bytes count × Ended m.stage why (put m.stage count m) after
+Turns m (Gives bytes) after = IsWaiting m (length bytes) × IsGiven m bytes after
+Turns m (Ends why) after = IsWaiting m 0 × Ended m.stage why m after
+Turns m HangsUp after = (note : TillNote) × (m.stage ≡ stage.HangingUp note) × (after ≡ hung_up m.stage m)
+Turns m (Tells note) after = (m.stage ≡ stage.Telling note) × (after ≡ told m.stage m)
+
+-- ## A run
+
+-- One deed after another: each is what the machine asks for, and the outside did it.
+abbrev pub DidAll : {D : Type 0} → (D → Deed → D → Type 0) → MachineView → D → List Deed → MachineView → D → Type 0
+DidAll did m old [] after new = (after ≡ m) × (new ≡ old)
+DidAll {D} did m old (d ∷ ds) after new =
+    (mid : MachineView) × (between : D) × Turns m d mid × did old d between × DidAll did mid between ds after new
+
+-- A run, from this machine and this outside to those.
+pub record Ran {D : Type 0} (did : D → Deed → D → Type 0) (m : MachineView) (old : D) (after : MachineView) (new : D) : Type 0 where
+  pub deeds : List Deed
+  pub did_all : DidAll did m old deeds after new
+
+-- The same, with so many deeds.
+pub record RanFor {D : Type 0} (did : D → Deed → D → Type 0) (m : MachineView) (old : D) (after : MachineView) (new : D) (count : ℕ) : Type 0 where
+  pub run : Ran did m old after new
+  pub turns : length run.deeds ≡ count
