@@ -10,8 +10,9 @@ use Rattle.escpos_host.specs.Machine.{HostView, Down, IsSound}
 use Rattle.escpos_link.specs.declared.event.Event.{Event}
 use Rattle.escpos_link.specs.declared.event.Note.{Note}
 use Rattle.escpos_link.specs.declared.event.Event.TheVariants as line
-use Rattle.escpos_link.specs.Trusted.{IsFitting}
-use Rattle.escpos_link.specs.Wire.{AfterOnWire, WireView, given_up, heard_from, with_bytes, with_link}
+use Rattle.escpos_link.specs.Line.{IsLine, LineView}
+use Rattle.escpos_link.specs.Trusted.{IsFitting, IsTrusted}
+use Rattle.escpos_link.specs.Wire.{AfterOnWire, WireView, given_up, heard_from, wire_of, with_bytes, with_link}
 use Rattle.escpos_till.specs.declared.entry.Content.{Content}
 use Rattle.escpos_till.specs.declared.entry.Entry.{Entry}
 use Rattle.escpos_till.specs.declared.machine.Stage.{Stage}
@@ -20,7 +21,9 @@ use Rattle.escpos_till.specs.declared.machine.Talk.{Talk}
 use Rattle.escpos_till.specs.declared.machine.Then.{Then}
 use Rattle.escpos_till.specs.declared.store.StoreFault.{StoreFault}
 use Rattle.escpos_till.specs.Book.{IsBookOf}
+use Rattle.escpos_till.specs.Entries.{IsLedger, next_free}
 use Rattle.escpos_till.specs.Machine.{Came, Delivers, Ended, IsStarted, Kept, MachineView, Queues, Raises, SameBut, Unsure, connected, hung_up, not_connected, put, told}
+use Rattle.escpos_till_model.specs.Receipts.{AreReceipts}
 use Rattle.escpos_till_model.specs.Steps.{IsCopy, is_host_call}
 
 -- The till's machine, unless it is switched off; the entries that its store has; and the wire.
@@ -31,6 +34,19 @@ pub record World : Type 0 where
 
 abbrev pub running : MachineView → List Entry → WireView → World
 running m kept wire = record { machine = Some m; kept = kept; wire = wire }
+
+-- A world may begin so: the till is off, and its store has a ledger, an old one or a new one. The wire is what is left of a line once its
+-- host has given its link up: whatever printer that is, with links that it still reads. That host's records are the receipts that the
+-- ledger has as recorded, and it has used no mark number from the ledger's next one on.
+pub record Begins (w : World) : Type 0 where
+  pub off : w.machine ≡ None
+  pub ledger : IsLedger w.kept
+  pub line : LineView
+  pub is_line : IsLine line
+  pub trusted : IsTrusted line
+  pub receipts : AreReceipts w.kept line.host.records
+  pub next : line.host.next ≤ next_free w.kept
+  pub wire_is : w.wire ≡ given_up (wire_of line)
 
 -- What may happen.
 pub data Happening : Type 0 where
