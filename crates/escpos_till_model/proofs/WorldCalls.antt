@@ -32,7 +32,7 @@ use Rattle.escpos_till_model.specs.Receipts.{Among}
 use Rattle.escpos_till_model.specs.Steps.{IsCopy}
 use Rattle.escpos_till_model.specs.declared.hand.Hand.{Hand}
 use Rattle.escpos_till_model.specs.Kept.{Keeps}
-use Rattle.escpos_till_model.specs.Known.{HasLost, Holds, IsHostOf, IsMachineIn, IsToSend, IsWorld}
+use Rattle.escpos_till_model.specs.Known.{BookMayLag, Holds, IsHostOf, IsMachineIn, IsToSend, IsWorld}
 use Rattle.escpos_till_model.specs.World.{FitsLine, Moves, Wired, World, running}
 use Rattle.escpos_till_model.proofs.LinesKept.{LineLaws, Right, goes, same_wire, drops_right, drops_hung}
 
@@ -45,7 +45,7 @@ pub record Parts (m : MachineView) (kept : List Entry) (wire : WireView) : Type 
   pub right : Right (line_of (with_earlier earlier m.host) wire)
   pub hand : Option Hand
   pub keeps : Keeps kept hand (with_earlier earlier m.host)
-  pub book : (HasLost m.stage → ⊥) → IsBookOf m.book kept
+  pub book : (BookMayLag m.stage → ⊥) → IsBookOf m.book kept
   pub holds : Holds kept hand (with_earlier earlier m.host) m.stage
 
 pub whole : (m : MachineView) (kept : List Entry) (wire : WireView) → Parts m kept wire → IsWorld (running m kept wire)
@@ -83,7 +83,7 @@ parts w m is known = parts_of m w.kept w.wire w.machine is known
 
 -- The stage alone changes, and what is in hand stays.
 pub same_host : (m after : MachineView) (kept : List Entry) (w new : WireView) (p : Parts m kept w) → after.host ≡ m.host → IsSound after.host → Wired m.host after.host w new
-    → ((HasLost after.stage → ⊥) → IsBookOf after.book kept) → Holds kept p.hand (with_earlier p.earlier m.host) after.stage → Parts after kept new
+    → ((BookMayLag after.stage → ⊥) → IsBookOf after.book kept) → Holds kept p.hand (with_earlier p.earlier m.host) after.stage → Parts after kept new
 same_host m after kept w new p same sound wired book holds =
     let wire : new ≡ w = same_wire m.host after.host w new same wired in
     record {
@@ -100,12 +100,12 @@ same_host m after kept w new p same sound wired book holds =
 
 pub at_rest : (m : MachineView) (kept : List Entry) (w : WireView) → m.stage ≡ stage.AtRest → (p : Parts m kept w) → IsBookOf m.book kept × (p.hand ≡ None)
 at_rest m kept w rest p = (
-  p.book (λ lost. subst HasLost rest lost),
+  p.book (λ lost. subst BookMayLag rest lost),
   subst (λ s. Holds kept p.hand (with_earlier p.earlier m.host) s) rest p.holds,
 )
 
-pub live_at : (s t : Stage) → s ≡ t → (HasLost t → ⊥) → HasLost s → ⊥
-live_at s t same live lost = live (subst HasLost same lost)
+pub live_at : (s t : Stage) → s ≡ t → (BookMayLag t → ⊥) → BookMayLag s → ⊥
+live_at s t same live lost = live (subst BookMayLag same lost)
 
 pub queued : (w new : World) (content : Content) → IsWorld w → Moves (λ m after. Queues m content after) w w.kept new → IsWorld new
 queued w new content known moves =
@@ -132,7 +132,7 @@ refused w new known moves =
     let p = parts w moves.m moves.was known in
     subst IsWorld (sym moves.is) (whole moves.after w.kept moves.wire
     (same_host moves.m moves.after w.kept w.wire moves.wire p moves.goes.host moves.sound moves.wired
-    (λ live. moves.goes.book w.kept (p.book (λ lost. live (subst HasLost (sym moves.goes.stage) lost))))
+    (λ live. moves.goes.book w.kept (p.book (λ lost. live (subst BookMayLag (sym moves.goes.stage) lost))))
     (subst (λ s. Holds w.kept p.hand (with_earlier p.earlier moves.m.host) s) (sym moves.goes.stage) p.holds)))
 
 -- ## A receipt is due
@@ -190,26 +190,26 @@ delivers w new openings most copy known copy_is moves =
 pub unchanged : (m after : MachineView) (kept : List Entry) (w new : WireView) → Parts m kept w → after ≡ m → IsSound after.host → Wired m.host after.host w new → Parts after kept new
 unchanged m after kept w new p same sound wired =
     same_host m after kept w new p (ap (λ x. x.host) same) sound wired
-    (λ live. subst (λ x. IsBookOf x.book kept) (sym same) (p.book (λ lost. live (subst (λ x. HasLost x.stage) (sym same) lost))))
+    (λ live. subst (λ x. IsBookOf x.book kept) (sym same) (p.book (λ lost. live (subst (λ x. BookMayLag x.stage) (sym same) lost))))
     (subst (λ x. Holds kept p.hand (with_earlier p.earlier m.host) x.stage) (sym same) p.holds)
 
 -- The stage becomes another, for which this is known.
 pub restaged : (m after : MachineView) (kept : List Entry) (w new : WireView) (s t : Stage) → m.stage ≡ s → (p : Parts m kept w) → after ≡ at m t → IsSound after.host → Wired m.host after.host w new
-    → ((HasLost t → ⊥) → HasLost s → ⊥) → (((HasLost s → ⊥) → IsBookOf m.book kept) → Holds kept p.hand (with_earlier p.earlier m.host) s → Holds kept p.hand (with_earlier p.earlier m.host) t)
+    → ((BookMayLag t → ⊥) → BookMayLag s → ⊥) → (((BookMayLag s → ⊥) → IsBookOf m.book kept) → Holds kept p.hand (with_earlier p.earlier m.host) s → Holds kept p.hand (with_earlier p.earlier m.host) t)
     → Parts after kept new
 restaged m after kept w new s t is p same sound wired live holds =
-    let book : (HasLost s → ⊥) → IsBookOf m.book kept = λ no_loss. p.book (λ lost. no_loss (subst HasLost is lost)) in
+    let book : (BookMayLag s → ⊥) → IsBookOf m.book kept = λ no_loss. p.book (λ lost. no_loss (subst BookMayLag is lost)) in
     same_host m after kept w new p (ap (λ x. x.host) same) sound wired
-    (λ still. subst (λ x. IsBookOf x.book kept) (sym same) (book (live (λ lost. still (subst (λ x. HasLost x.stage) (sym same) lost)))))
+    (λ still. subst (λ x. IsBookOf x.book kept) (sym same) (book (live (λ lost. still (subst (λ x. BookMayLag x.stage) (sym same) lost)))))
     (subst (λ x. Holds kept p.hand (with_earlier p.earlier m.host) x.stage) (sym same) (holds book (subst (λ x. Holds kept p.hand (with_earlier p.earlier m.host) x) is p.holds)))
 
-pub told_lost : (n : TillNote) → (HasLost (after_note n) → ⊥) → HasLost (stage.Telling n) → ⊥
-told_lost (note_kind.Queued number) live lost = lost
-told_lost note_kind.Raised live lost = lost
-told_lost (note_kind.Recorded number) live lost = lost
-told_lost (note_kind.NoLink number) live lost = lost
-told_lost (note_kind.Waiting number why) live lost = lost
-told_lost (note_kind.NotKept why) live lost = live tt
+pub told_lag : (n : TillNote) → (BookMayLag (after_note n) → ⊥) → BookMayLag (stage.Telling n) → ⊥
+told_lag (note_kind.Queued number) live lost = lost
+told_lag note_kind.Raised live lost = lost
+told_lag (note_kind.Recorded number) live lost = lost
+told_lag (note_kind.NoLink number) live lost = lost
+told_lag (note_kind.Waiting number why) live lost = lost
+told_lag (note_kind.NotKept why) live lost = live tt
 
 pub told_holds : (n : TillNote) (kept : List Entry) (hand : Option Hand) (h : HostView) → hand ≡ None → Holds kept hand h (after_note n)
 told_holds (note_kind.Queued number) kept hand h none = none
@@ -222,7 +222,7 @@ told_holds (note_kind.NotKept why) kept hand h none = none
 pub told_parts : (m after : MachineView) (kept : List Entry) (w new : WireView) (s : Stage) → m.stage ≡ s → Parts m kept w → after ≡ told s m → IsSound after.host → Wired m.host after.host w new
     → Parts after kept new
 told_parts m after kept w new (stage.Telling n) is p same sound wired =
-    restaged m after kept w new (stage.Telling n) (after_note n) is p same sound wired (told_lost n) (λ book none. told_holds n kept p.hand (with_earlier p.earlier m.host) none)
+    restaged m after kept w new (stage.Telling n) (after_note n) is p same sound wired (told_lag n) (λ book none. told_holds n kept p.hand (with_earlier p.earlier m.host) none)
 told_parts m after kept w new stage.AtRest is p same sound wired = unchanged m after kept w new p same sound wired
 told_parts m after kept w new (stage.Connecting due) is p same sound wired = unchanged m after kept w new p same sound wired
 told_parts m after kept w new (stage.Keeping e next) is p same sound wired = unchanged m after kept w new p same sound wired
@@ -230,18 +230,18 @@ told_parts m after kept w new (stage.Talking talk) is p same sound wired = uncha
 told_parts m after kept w new (stage.HangingUp n) is p same sound wired = unchanged m after kept w new p same sound wired
 told_parts m after kept w new stage.Failed is p same sound wired = unchanged m after kept w new p same sound wired
 
-pub hung_lost : (n : TillNote) → (HasLost (stage.Telling n) → ⊥) → HasLost (stage.HangingUp n) → ⊥
-hung_lost (note_kind.Queued number) live lost = lost
-hung_lost note_kind.Raised live lost = lost
-hung_lost (note_kind.Recorded number) live lost = lost
-hung_lost (note_kind.NoLink number) live lost = lost
-hung_lost (note_kind.Waiting number why) live lost = lost
-hung_lost (note_kind.NotKept why) live lost = live lost
+pub hung_lag : (n : TillNote) → (BookMayLag (stage.Telling n) → ⊥) → BookMayLag (stage.HangingUp n) → ⊥
+hung_lag (note_kind.Queued number) live lost = lost
+hung_lag note_kind.Raised live lost = lost
+hung_lag (note_kind.Recorded number) live lost = lost
+hung_lag (note_kind.NoLink number) live lost = lost
+hung_lag (note_kind.Waiting number why) live lost = lost
+hung_lag (note_kind.NotKept why) live lost = live lost
 
 pub hung_parts : (m after : MachineView) (kept : List Entry) (w new : WireView) (s : Stage) → m.stage ≡ s → Parts m kept w → after ≡ machine_hung_up s m → IsSound after.host
     → Wired m.host after.host w new → Parts after kept new
 hung_parts m after kept w new (stage.HangingUp n) is p same sound wired =
-    restaged m after kept w new (stage.HangingUp n) (stage.Telling n) is p same sound wired (hung_lost n) (λ book none. none)
+    restaged m after kept w new (stage.HangingUp n) (stage.Telling n) is p same sound wired (hung_lag n) (λ book none. none)
 hung_parts m after kept w new stage.AtRest is p same sound wired = unchanged m after kept w new p same sound wired
 hung_parts m after kept w new (stage.Connecting due) is p same sound wired = unchanged m after kept w new p same sound wired
 hung_parts m after kept w new (stage.Keeping e next) is p same sound wired = unchanged m after kept w new p same sound wired
@@ -277,7 +277,7 @@ missed_parts m after kept w new stage.Failed is p same sound wired = unchanged m
 
 -- The host gives its link up, and nothing is in hand any more.
 pub let_go : LineLaws → (m after : MachineView) (kept : List Entry) (w new : WireView) (p : Parts m kept w) → Drops m.host after.host → IsSound after.host → Wired m.host after.host w new
-    → ((HasLost after.stage → ⊥) → IsBookOf after.book kept) → Holds kept None (with_earlier p.earlier after.host) after.stage → Parts after kept new
+    → ((BookMayLag after.stage → ⊥) → IsBookOf after.book kept) → Holds kept None (with_earlier p.earlier after.host) after.stage → Parts after kept new
 let_go laws m after kept w new p drops sound wired book holds = record {
   earlier = p.earlier;
   sound = sound;
@@ -291,7 +291,7 @@ let_go laws m after kept w new p drops sound wired book holds = record {
 pub ended_parts : LineLaws → (why : SendFault) (m after : MachineView) (kept : List Entry) (w new : WireView) (s : Stage) → m.stage ≡ s → Parts m kept w → Ended s why m after → IsSound after.host
     → Wired m.host after.host w new → Parts after kept new
 ended_parts laws why m after kept w new (stage.Talking talk) is p (drops, book, now) sound wired =
-    let_go laws m after kept w new p drops sound wired (λ live. subst (λ b. IsBookOf b kept) (sym book) (p.book (λ lost. subst HasLost is lost)))
+    let_go laws m after kept w new p drops sound wired (λ live. subst (λ b. IsBookOf b kept) (sym book) (p.book (λ lost. subst BookMayLag is lost)))
     (subst (λ s. Holds kept None (with_earlier p.earlier after.host) s) (sym now) refl)
 ended_parts laws why m after kept w new stage.AtRest is p same sound wired = unchanged m after kept w new p same sound wired
 ended_parts laws why m after kept w new (stage.Connecting due) is p same sound wired = unchanged m after kept w new p same sound wired

@@ -1,6 +1,6 @@
 -- What holds of every world holds after what a store does, after bytes are put, and after what happens without the machine.
 use Rattle.std.proofs.Common.{ℕ, zero, suc, ◌≡◌, ◌≢◌, ◌+◌, ◌-◌, ◌<◌, ◌≤◌, inl, inr, max, Option, Some, None, List, [], ◌∷◌, ◌++◌, length, take, refl, sym, ◌∙◌, ap, subst, append-nil, arith}
-use Rattle.std.specs.Prelude.{false}
+use Rattle.std.specs.Prelude.{true, false}
 use Rattle.std.proofs.Math.Nat.{le-max_right}
 use Rattle.escpos_host.specs.declared.send.SendFault.{SendFault}
 use Rattle.escpos_command.specs.declared.command.Command.{Command}
@@ -36,14 +36,13 @@ use Rattle.escpos_till.specs.Machine.{Drops, Ended, Follows, Kept, MachineView, 
 use Rattle.escpos_till.proofs.EntryLemmas.{next_after_tried}
 use Rattle.escpos_till.proofs.MachineLemmas.{waits_tried}
 use Rattle.escpos_till_model.proofs.EntryFacts.{recorded_same, zip_length}
-use Rattle.escpos_till_model.proofs.GoesOn.{GoesOn, goes_on, no_call}
+use Rattle.escpos_till_model.proofs.GoesOn.{GoesOn, goes_on}
 use Rattle.escpos_till_model.proofs.Keeping.{entry_keeps, front_of, gone_keeps, linked_keeps, nudged_keeps, on_keeps, record_keeps, take_keeps}
 use Rattle.escpos_till_model.specs.Receipts.{IsReceiptOf}
-use Rattle.escpos_till_model.specs.Steps.{is_host_call}
 use Rattle.escpos_till_model.specs.declared.hand.Hand.{Hand}
 use Rattle.escpos_till_model.specs.Kept.{Keeps}
-use Rattle.escpos_till_model.specs.Known.{HasLost, Holds, IsHostOf, IsToKeep, IsWorld}
-use Rattle.escpos_till_model.specs.World.{Breaks, Crashes, Happens, Idles, OnWire, Puts, Starts, Stores, Wired, World, off, running, with_entry, without_entry}
+use Rattle.escpos_till_model.specs.Known.{BookMayLag, Holds, IsHostOf, IsToKeep, IsWorld}
+use Rattle.escpos_till_model.specs.World.{Breaks, Crashes, GoesOnWire, Idles, Puts, Starts, Stores, Wired, World, is_printer_event, off, running, with_entry, with_wire, without_entry}
 use Rattle.escpos_till_model.proofs.LinesKept.{LineLaws, Right, goes, down_or_up, same_wire, none_given_up, drops_right, drops_hung}
 use Rattle.escpos_till_model.proofs.WorldCalls.{Parts, whole, parts, let_go}
 
@@ -94,24 +93,24 @@ started laws w new known starts =
 
 -- ## On the wire, and off
 
-pub fits_wire : (e : Event) → is_host_call e ≡ false → IsFitting e
-fits_wire event.LinkUp call = tt
-fits_wire event.Nudge call = tt
-fits_wire (event.Submit receipt) call = no_call call
-fits_wire (event.Ask kind) call = no_call call
-fits_wire (event.HostRestart first) call = tt
-fits_wire (event.Move k) call = tt
-fits_wire (event.Deliver k) call = tt
-fits_wire event.HandOver call = tt
-fits_wire (event.Answer k) call = tt
-fits_wire event.PrinterLeaves call = tt
-fits_wire event.PrinterRestart call = tt
-fits_wire event.HostDrops call = tt
-fits_wire (event.SetCondition condition) call = tt
+pub fits_wire : (e : Event) → is_printer_event e ≡ true → IsFitting e
+fits_wire event.LinkUp at_printer = tt
+fits_wire event.Nudge at_printer = tt
+fits_wire (event.Submit receipt) at_printer = absurd (let bad : false ≡ true = at_printer in cc)
+fits_wire (event.Ask kind) at_printer = absurd (let bad : false ≡ true = at_printer in cc)
+fits_wire (event.HostRestart first) at_printer = tt
+fits_wire (event.Move k) at_printer = tt
+fits_wire (event.Deliver k) at_printer = tt
+fits_wire event.HandOver at_printer = tt
+fits_wire (event.Answer k) at_printer = tt
+fits_wire event.PrinterLeaves at_printer = tt
+fits_wire event.PrinterRestart at_printer = tt
+fits_wire event.HostDrops at_printer = tt
+fits_wire (event.SetCondition condition) at_printer = tt
 
 -- Another wire, where all else stays.
 pub rewired : (w : World) (wire : WireView) → (known : IsWorld w) → Right (line_of (with_earlier known.earlier known.host) wire)
-    → IsWorld (record { machine = w.machine; kept = w.kept; wire = wire })
+    → IsWorld (with_wire w wire)
 rewired w wire known right = record {
   earlier = known.earlier;
   host = known.host;
@@ -124,12 +123,12 @@ rewired w wire known right = record {
   machine = known.machine;
 }
 
-pub on_wire : LineLaws → (w new : World) (e : Event) → IsWorld w → Happens w (OnWire e) new → IsWorld new
-on_wire laws w new e known (call, wire, (told, happened), is) =
+pub on_wire : LineLaws → (w new : World) (e : Event) → IsWorld w → GoesOnWire e w new → IsWorld new
+on_wire laws w new e known v =
     let before : HostView = with_earlier known.earlier known.host in
-    subst IsWorld (sym is) (rewired w wire known
-    (goes laws e (line_of before w.wire) (line_of before wire) told (fits_wire e call) (earlier_sound known.earlier known.host known.sound)
-    (record { line = known.line; trusted = known.trusted }) (happened before)))
+    subst IsWorld (sym v.is) (rewired w v.wire known
+    (goes laws e (line_of before w.wire) (line_of before v.wire) v.effect (fits_wire e v.at_printer) (earlier_sound known.earlier known.host known.sound)
+    (record { line = known.line; trusted = known.trusted }) (v.happened before)))
 
 pub down_of : (machine : Option MachineView) (h : HostView) → IsHostOf machine h → ((m : MachineView) → machine ≡ Some m → m.host.phase ≡ Down) → h.phase ≡ Down
 down_of None h is none = is
@@ -209,7 +208,7 @@ moved_on earlier h w count within =
     (count, refl, omega (arith, within), refl)
 
 pub talking_book : (m : MachineView) (kept : List Entry) (w : WireView) (talk : Talk) → m.stage ≡ stage.Talking talk → Parts m kept w → IsBookOf m.book kept
-talking_book m kept w talk is p = p.book (λ lost. subst HasLost is lost)
+talking_book m kept w talk is p = p.book (λ lost. subst BookMayLag is lost)
 
 pub talking_holds : (m : MachineView) (kept : List Entry) (w : WireView) (talk : Talk) → m.stage ≡ stage.Talking talk → (p : Parts m kept w)
     → Holds kept p.hand (with_earlier p.earlier m.host) (stage.Talking talk)
@@ -263,11 +262,11 @@ breaks laws w new taken count why known v =
 -- ## An entry is to be kept
 
 -- What the store's failure leaves: nothing is in hand, and what the machine knows may not be all.
-pub lost_is_lost : (next : Then) (why : StoreFault) → HasLost (lost next why)
-lost_is_lost then.Queued why = tt
-lost_is_lost then.Raised why = tt
-lost_is_lost (then.Send due) why = tt
-lost_is_lost (then.Recorded number) why = tt
+pub lost_lags : (next : Then) (why : StoreFault) → BookMayLag (lost next why)
+lost_lags then.Queued why = tt
+lost_lags then.Raised why = tt
+lost_lags (then.Send due) why = tt
+lost_lags (then.Recorded number) why = tt
 
 pub lost_holds : (next : Then) (why : StoreFault) (kept : List Entry) (h : HostView) → Holds kept None h (lost next why)
 lost_holds then.Queued why kept h = refl
@@ -306,7 +305,7 @@ failed_with laws w new why known v =
       right = drops_right laws p.earlier moves.m.host moves.after.host w.wire moves.wire p.sound drops moves.wired p.right;
       hand = None;
       keeps = stored_keeps w.kept v.entry v.next p.hand p.earlier moves.m.host moves.after.host p.keeps follows to_keep drops;
-      book = λ live. absurd (live (subst HasLost (sym now) (lost_is_lost v.next why)));
+      book = λ live. absurd (live (subst BookMayLag (sym now) (lost_lags v.next why)));
       holds = subst (λ s. Holds (w.kept ++ v.entry ∷ []) None (with_earlier p.earlier moves.after.host) s) (sym now)
           (lost_holds v.next why (w.kept ++ v.entry ∷ []) (with_earlier p.earlier moves.after.host));
     }))
@@ -319,7 +318,7 @@ failed_without laws w new why known v =
     let (drops, book, now) = subst (λ s. Unsure s why moves.m moves.after) is unsure in
     subst IsWorld (sym moves.is) (whole moves.after w.kept moves.wire
     (let_go laws moves.m moves.after w.kept w.wire moves.wire p drops moves.sound moves.wired
-    (λ live. absurd (live (subst HasLost (sym now) (lost_is_lost v.next why))))
+    (λ live. absurd (live (subst BookMayLag (sym now) (lost_lags v.next why))))
     (subst (λ s. Holds w.kept None (with_earlier p.earlier moves.after.host) s) (sym now) (lost_holds v.next why w.kept (with_earlier p.earlier moves.after.host)))))
 
 -- ## An entry is kept
@@ -483,6 +482,6 @@ kept_world laws w new known v =
     let (is, kept_so) = moves.goes in
     let (notes, so) = subst (λ s. Kept s moves.m moves.after) is kept_so in
     let (follows, to_keep) = subst (λ s. Holds w.kept p.hand (with_earlier p.earlier moves.m.host) s) is p.holds in
-    let book : IsBookOf moves.m.book w.kept = p.book (λ lost. subst HasLost is lost) in
+    let book : IsBookOf moves.m.book w.kept = p.book (λ lost. subst BookMayLag is lost) in
     subst IsWorld (sym moves.is) (whole moves.after (w.kept ++ v.entry ∷ []) moves.wire
     (kept_parts laws moves.m moves.after w.kept w.wire moves.wire v.entry v.next p book follows to_keep so (notes w.kept book p.keeps.ledger follows) moves.sound moves.wired))

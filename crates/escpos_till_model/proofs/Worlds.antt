@@ -84,7 +84,7 @@ entries_stay w new (Hear most) happened = same_entries w.kept new.kept (ap (λ v
 entries_stay w new (End why) happened = same_entries w.kept new.kept (ap (λ v. v.kept) happened.is)
 entries_stay w new HangUp happened = same_entries w.kept new.kept (ap (λ v. v.kept) happened.is)
 entries_stay w new Tell happened = same_entries w.kept new.kept (ap (λ v. v.kept) happened.is)
-entries_stay w new (OnWire e) happened = same_entries w.kept new.kept (ap (λ v. v.kept) happened.3)
+entries_stay w new (OnWire e) happened = same_entries w.kept new.kept (ap (λ v. v.kept) happened.is)
 entries_stay w new Idle happened = same_entries w.kept new.kept (ap (λ v. v.kept) happened.is)
 entries_stay w new Crash happened = same_entries w.kept new.kept (ap (λ v. v.kept) happened.is)
 

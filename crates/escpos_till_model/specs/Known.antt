@@ -31,12 +31,13 @@ abbrev pub IsHostOf : Option MachineView → HostView → Type 0
 IsHostOf None h = h.phase ≡ Down
 IsHostOf (Some m) h = h ≡ m.host
 
--- The machine's store couldn't tell whether it kept an entry: what the machine knows may not be all.
-abbrev pub HasLost : Stage → Type 0
-HasLost (stage.HangingUp (note.NotKept why)) = Unit {0}
-HasLost (stage.Telling (note.NotKept why)) = Unit {0}
-HasLost stage.Failed = Unit {0}
-HasLost s = ⊥
+-- The store couldn't tell whether it kept an entry. If it did, the machine's book lags behind it by that entry, until a new machine is
+-- made.
+abbrev pub BookMayLag : Stage → Type 0
+BookMayLag (stage.HangingUp (note.NotKept why)) = Unit {0}
+BookMayLag (stage.Telling (note.NotKept why)) = Unit {0}
+BookMayLag stage.Failed = Unit {0}
+BookMayLag s = ⊥
 
 -- The receipt may be sent with numbers from the next one on.
 pub record IsToSend (kept : List Entry) (due : Due) : Type 0 where
@@ -65,7 +66,7 @@ Holds kept hand h s = hand ≡ None
 
 abbrev pub IsMachineIn : Option MachineView → List Entry → Option Hand → HostView → Type 0
 IsMachineIn None kept hand h = hand ≡ None
-IsMachineIn (Some m) kept hand h = ((HasLost m.stage → ⊥) → IsBookOf m.book kept) × Holds kept hand h m.stage
+IsMachineIn (Some m) kept hand h = ((BookMayLag m.stage → ⊥) → IsBookOf m.book kept) × Holds kept hand h m.stage
 
 -- What holds of every world: with the records of the hosts before, the machine's host and the wire are a line that can be trusted, and
 -- the entries are those of a till whose host this is.

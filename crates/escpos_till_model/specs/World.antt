@@ -1,10 +1,15 @@
--- A till in the world, with everything that can go wrong: its machine, which may be gone at any moment; a store, which may fail with
--- an entry or without it; and the wire to its printer.
+-- A till in the world, with what can go wrong there: its machine, which may be gone at any moment; a store, which may fail with an
+-- entry or without it; and the wire to its printer.
 --
--- The machine is the one that a program runs. What happens to it is what its calls do (`escpos_till`'s `Machine`); what comes of
--- that outside is said here. A link is there for as long as the machine's host has one: a connection on which nothing was put is
--- none, and one that the machine doesn't use any more is given up, though its owner may close it a little later.
-use Rattle.std.specs.Prelude.{ℕ, false, ◌≡◌, ◌≢◌, ◌≤◌, Option, Some, None, List, [], ◌∷◌, ◌++◌, length, take}
+-- The machine is the one that a program runs, and its calls do what `escpos_till`'s `Machine` says. What follows from that for the store,
+-- and for the wire is said here. The wire has a live link as long as the machine's host is on one: a connection
+-- that is opened and closed again with no byte on it is `Idle`, and a link that the host gives up has ended at that moment, though a
+-- program may close its socket a little later. A crash within an append is `FailWith` or `FailWithout`, and then `Crash`.
+--
+-- Not in this world: other writers to the printer, and bytes from it that nobody asked for; a store that loses an entry that it kept, or
+-- that is put back from a backup; two machines over one ledger at the same time; and an answer to a mark of an old link that comes late
+-- on a new one, as it may on a serial line.
+use Rattle.std.specs.Prelude.{ℕ, Bool, true, false, ◌≡◌, ◌≢◌, ◌≤◌, Option, Some, None, List, [], ◌∷◌, ◌++◌, length, take}
 use Rattle.escpos_host.specs.declared.send.SendFault.{SendFault}
 use Rattle.escpos_host.specs.Machine.{HostView, Down, IsSound}
 use Rattle.escpos_link.specs.declared.event.Event.{Event}
@@ -24,7 +29,7 @@ use Rattle.escpos_till.specs.Book.{IsBookOf}
 use Rattle.escpos_till.specs.Entries.{IsLedger, next_free}
 use Rattle.escpos_till.specs.Machine.{Came, Delivers, Ended, IsStarted, Kept, MachineView, Queues, Raises, SameBut, Unsure, connected, hung_up, not_connected, put, told}
 use Rattle.escpos_till_model.specs.Receipts.{AreReceipts}
-use Rattle.escpos_till_model.specs.Steps.{IsCopy, is_host_call}
+use Rattle.escpos_till_model.specs.Steps.{IsCopy}
 
 -- The till's machine, unless it is switched off; the entries that its store has; and the wire.
 pub record World : Type 0 where
@@ -72,11 +77,15 @@ pub data Happening : Type 0 where
   End : SendFault → Happening
   HangUp : Happening
   Tell : Happening
-  -- something happens on the wire; a link is opened and given up with nothing on it
+  -- something happens at the printer's end of the wire; a link is opened and given up with nothing on it
   OnWire : Event → Happening
   Idle : Happening
   -- the till is switched off, whatever it was doing
   Crash : Happening
+
+-- The world with another wire.
+abbrev pub with_wire : World → WireView → World
+with_wire w wire = record { machine = w.machine; kept = w.kept; wire = wire }
 
 -- The wire after the machine's host has gone from here to there.
 pub record Wired (before after : HostView) (w new : WireView) : Type 0 where
@@ -161,14 +170,26 @@ pub record Starts (w : World) (new : World) : Type 0 where
   pub sound : IsSound m.host
   pub is : new ≡ running m w.kept w.wire
 
--- It happened, or was refused: then the wire is as the event's refusal leaves it.
-abbrev pub WireGoes : Event → WireView → WireView → Type 0
-WireGoes e w after = (told : Note) × AfterOnWire e w told after
+-- What may happen at the printer's end of a wire.
+abbrev pub is_printer_event : Event → Bool
+is_printer_event (line.Deliver most) = true
+is_printer_event line.HandOver = true
+is_printer_event line.PrinterLeaves = true
+is_printer_event line.PrinterRestart = true
+is_printer_event (line.SetCondition condition) = true
+is_printer_event e = false
+
+pub record GoesOnWire (e : Event) (w : World) (new : World) : Type 0 where
+  pub at_printer : is_printer_event e ≡ true
+  pub wire : WireView
+  pub effect : Note
+  pub happened : AfterOnWire e w.wire effect wire
+  pub is : new ≡ with_wire w wire
 
 -- There is no link at that moment.
 pub record Idles (w : World) (new : World) : Type 0 where
   pub none : (m : MachineView) → w.machine ≡ Some m → m.host.phase ≡ Down
-  pub is : new ≡ record { machine = w.machine; kept = w.kept; wire = given_up (with_link w.wire) }
+  pub is : new ≡ with_wire w (given_up (with_link w.wire))
 
 -- The host, if there is one, is gone.
 pub record Crashes (w : World) (new : World) : Type 0 where
@@ -194,7 +215,7 @@ Happens w (Hear most) new = Hears w most new
 Happens w (End why) new = Moves (λ m after. Ended m.stage why m after) w w.kept new
 Happens w HangUp new = Moves (λ m after. after ≡ hung_up m.stage m) w w.kept new
 Happens w Tell new = Moves (λ m after. after ≡ told m.stage m) w w.kept new
-Happens w (OnWire e) new = (is_host_call e ≡ false) × (wire : WireView) × WireGoes e w.wire wire × (new ≡ record { machine = w.machine; kept = w.kept; wire = wire })
+Happens w (OnWire e) new = GoesOnWire e w new
 Happens w Idle new = Idles w new
 Happens w Crash new = Crashes w new
 
