@@ -1,5 +1,5 @@
 -- What holds of every world holds after what a store does, after bytes are put, and after what happens without the machine.
-use Rattle.std.proofs.Common.{ℕ, zero, suc, ◌≡◌, ◌≢◌, ◌+◌, ◌-◌, ◌<◌, ◌≤◌, inl, inr, max, Option, Some, None, List, [], ◌∷◌, ◌++◌, length, take, refl, sym, ◌∙◌, ap, subst, append-nil, arith}
+use Rattle.std.proofs.Common.{ℕ, zero, suc, ◌≡◌, ◌≢◌, ◌+◌, ◌-◌, ◌<◌, ◌≤◌, inl, inr, max, Option, Some, None, List, [], ◌∷◌, ◌++◌, length, take, refl, sym, ◌∙◌, ap, subst, append-nil, length-append, arith}
 use Rattle.std.specs.Prelude.{true, false}
 use Rattle.std.proofs.Math.Nat.{le-max_right}
 use Rattle.escpos_host.specs.declared.send.SendFault.{SendFault}
@@ -21,30 +21,34 @@ use Rattle.escpos_link.specs.Wire.{WireView, given_up, line_of, with_bytes, with
 use Rattle.escpos_link.proofs.AtTheEnd.{hung_up_by, idle_kept, idle_trusted}
 use Rattle.escpos_link.proofs.Happening.{resumed_kept}
 use Rattle.escpos_host.proofs.Earlier.{earlier_sound}
+use Rattle.escpos_till.specs.declared.book.Book.{Book}
+use Rattle.escpos_till.specs.declared.entry.Content.{Content}
 use Rattle.escpos_till.specs.declared.entry.Entry.{Entry}
 use Rattle.escpos_till.specs.declared.machine.Stage.TheVariants as stage
 use Rattle.escpos_till.specs.Book.{IsBookOf}
-use Rattle.escpos_till.specs.Entries.{MayFollow, next_free, record_of, recorded, taken}
+use Rattle.escpos_till.specs.Entries.{MayFollow, contents, next_free, numbered_from, record_of, recorded, states, taken}
 use Rattle.escpos_till.specs.declared.entry.Entry.TheVariants as entry
 use Rattle.escpos_till.specs.declared.machine.Due.{Due}
 use Rattle.escpos_till.specs.declared.machine.Talk.{Talk}
 use Rattle.escpos_till.specs.declared.machine.Then.{Then}
+use Rattle.escpos_till.specs.declared.machine.TillNote.{TillNote}
+use Rattle.escpos_till.specs.declared.machine.TillNote.TheVariants as note_kind
 use Rattle.escpos_till.specs.declared.store.StoreFault.{StoreFault}
 use Rattle.escpos_till.specs.declared.machine.Then.TheVariants as then
 use Rattle.escpos_till.specs.Delivers.{fresh, marks_taken}
-use Rattle.escpos_till.specs.Machine.{Drops, Ended, Follows, Kept, MachineView, Opens, Unsure, lost, put, told}
-use Rattle.escpos_till.proofs.EntryLemmas.{next_after_tried}
+use Rattle.escpos_till.specs.Machine.{Drops, Ended, Follows, Kept, MachineView, Opens, Unsure, lost, put}
+use Rattle.escpos_till.proofs.EntryLemmas.{count_states, next_after_tried, some_state}
 use Rattle.escpos_till.proofs.MachineLemmas.{waits_tried}
-use Rattle.escpos_till_model.proofs.EntryFacts.{recorded_same, zip_length}
+use Rattle.escpos_till_model.proofs.EntryFacts.{among_more, recorded_append, recorded_same, taken_append, zip_length}
 use Rattle.escpos_till_model.proofs.GoesOn.{GoesOn, goes_on}
 use Rattle.escpos_till_model.proofs.Keeping.{entry_keeps, front_of, gone_keeps, linked_keeps, nudged_keeps, on_keeps, record_keeps, take_keeps}
-use Rattle.escpos_till_model.specs.Receipts.{IsReceiptOf}
+use Rattle.escpos_till_model.specs.Receipts.{Among, IsReceiptOf}
 use Rattle.escpos_till_model.specs.declared.hand.Hand.{Hand}
 use Rattle.escpos_till_model.specs.Kept.{Keeps}
 use Rattle.escpos_till_model.specs.Known.{BookMayLag, Holds, IsHostOf, IsToKeep, IsWorld}
-use Rattle.escpos_till_model.specs.World.{Breaks, Crashes, GoesOnWire, Idles, Puts, Starts, Stores, Wired, World, is_printer_event, off, running, with_entry, with_wire, without_entry}
+use Rattle.escpos_till_model.specs.World.{Breaks, Crashes, GoesOnWire, Idles, IsSo, Puts, Starts, Stores, Wired, World, is_printer_event, off, running, with_entry, with_wire, without_entry}
 use Rattle.escpos_till_model.proofs.LinesKept.{LineLaws, Right, goes, down_or_up, same_wire, none_given_up, drops_right, drops_hung}
-use Rattle.escpos_till_model.proofs.WorldCalls.{Parts, whole, parts, let_go}
+use Rattle.escpos_till_model.proofs.WorldCalls.{AreSo, Parts, whole, parts, let_go}
 
 -- ## A host that has sent nothing
 
@@ -81,7 +85,7 @@ started laws w new known starts =
     let right = fresh_right laws known.earlier known.host w.wire w.kept known.hand starts.m.book.next down (record { line = known.line; trusted = known.trusted }) known.keeps
     (omega (arith, known.keeps.next, next)) in
     let keeps = fresh_keeps known.earlier known.host w.kept known.hand starts.m.book.next known.keeps (omega (arith, next)) in
-    subst IsWorld (sym starts.is) (whole starts.m w.kept w.wire (record {
+    subst IsWorld (sym starts.is) (whole starts.m w.kept w.wire w.told known.told (record {
       earlier = known.keeps.receipts;
       sound = starts.sound;
       right = subst (λ h. Right (line_of (with_earlier known.keeps.receipts h) w.wire)) (sym starts.started.host) right;
@@ -90,6 +94,20 @@ started laws w new known starts =
       book = λ live. starts.book;
       holds = subst (λ s. Holds w.kept None (with_earlier known.keeps.receipts starts.m.host) s) (sym starts.started.stage) refl;
     }))
+
+-- What was told is so with more entries.
+pub so_grows : (kept more : List Entry) (n : TillNote) → IsSo kept n → IsSo (kept ++ more) n
+so_grows kept more (note_kind.Queued number) (some, within) =
+    (some, omega (arith, within, ap length (taken_append kept more), length-append (taken kept) (numbered_from (1 + length (contents kept)) (contents more))))
+so_grows kept more note_kind.Raised so = so
+so_grows kept more (note_kind.Recorded number) so =
+    subst (λ ns. Among number ns) (sym (recorded_append kept more)) (among_more number (recorded kept) (recorded more) so)
+so_grows kept more (note_kind.NoLink number) so = so
+so_grows kept more (note_kind.Waiting number why) so = so
+so_grows kept more (note_kind.NotKept why) so = so
+
+pub so_later : (kept more : List Entry) (notes : List TillNote) → AreSo kept notes → AreSo (kept ++ more) notes
+so_later kept more notes so n among = so_grows kept more n (so n among)
 
 -- ## On the wire, and off
 
@@ -121,6 +139,7 @@ rewired w wire known right = record {
   hand = known.hand;
   keeps = known.keeps;
   machine = known.machine;
+  told = known.told;
 }
 
 pub on_wire : LineLaws → (w new : World) (e : Event) → IsWorld w → GoesOnWire e w new → IsWorld new
@@ -160,6 +179,7 @@ off_world laws w wire h known drops sound wired down =
       hand = None;
       keeps = subst (λ v. Keeps w.kept None v) (sym (drops_hung known.earlier known.host h drops)) (gone_keeps w.kept known.hand (with_earlier known.earlier known.host) known.keeps);
       machine = refl;
+      told = known.told;
     }
 
 pub still_down : (machine : Option MachineView) (h : HostView) → IsHostOf machine h → h.phase ≡ Down → (m : MachineView) → machine ≡ Some m → m.host.phase ≡ Down
@@ -221,9 +241,9 @@ puts laws w new count known v =
     let holds = talking_holds v.m w.kept w.wire v.talk v.talks p in
     let after : MachineView = put (stage.Talking v.talk) count v.m in
     let is : put v.m.stage count v.m ≡ after = ap (λ s. put s count v.m) v.talks in
-    let world : World = running after w.kept (with_bytes w.wire (take count h.out)) in
-    let same : new ≡ world = v.is ∙ ap (λ m. running m w.kept (with_bytes w.wire (take count h.out))) is in
-    subst IsWorld (sym same) (whole after w.kept (with_bytes w.wire (take count h.out)) (record {
+    let world : World = running after w.kept (with_bytes w.wire (take count h.out)) w.told in
+    let same : new ≡ world = v.is ∙ ap (λ m. running m w.kept (with_bytes w.wire (take count h.out)) w.told) is in
+    subst IsWorld (sym same) (whole after w.kept (with_bytes w.wire (take count h.out)) w.told known.told (record {
       earlier = p.earlier;
       sound = subst (λ m. IsSound m.host) is v.sound;
       right = moved_right laws p.earlier h w.wire count v.within p.sound p.right;
@@ -247,7 +267,7 @@ breaks laws w new taken count why known v =
     let off_right = goes laws event.HostDrops (line_of (with_earlier p.earlier (taken_out h count)) wire) (line_of (with_earlier p.earlier (gone_down h)) (given_up wire)) note.Done tt
     (earlier_sound p.earlier (taken_out h count) (sound_taken h count up p.sound)) put_right
     (hung_up_by (with_earlier p.earlier (taken_out h count)) (with_earlier p.earlier (gone_down h)) wire (λ u. refl) (λ down. absurd (up down))) in
-    subst IsWorld (sym v.is) (whole v.after w.kept (given_up wire) (record {
+    subst IsWorld (sym v.is) (whole v.after w.kept (given_up wire) w.told known.told (record {
       earlier = p.earlier;
       sound = v.sound;
       right = subst (λ x. Right (line_of (with_earlier p.earlier x) (given_up wire))) (sym gone) off_right;
@@ -256,7 +276,7 @@ breaks laws w new taken count why known v =
           (sym (drops_hung p.earlier h v.after.host (λ down. absurd (up down), λ u. gone)))
           (gone_keeps w.kept p.hand (with_earlier p.earlier h) p.keeps);
       book = λ live. subst (λ b. IsBookOf b w.kept) (sym book) (talking_book v.m w.kept w.wire v.talk v.talks p);
-      holds = subst (λ s. Holds w.kept None (with_earlier p.earlier v.after.host) s) (sym now) refl;
+      holds = subst (λ s. Holds w.kept None (with_earlier p.earlier v.after.host) s) (sym now) (refl, tt);
     }))
 
 -- ## An entry is to be kept
@@ -269,17 +289,17 @@ lost_lags (then.Send due) why = tt
 lost_lags (then.Recorded number) why = tt
 
 pub lost_holds : (next : Then) (why : StoreFault) (kept : List Entry) (h : HostView) → Holds kept None h (lost next why)
-lost_holds then.Queued why kept h = refl
-lost_holds then.Raised why kept h = refl
-lost_holds (then.Send due) why kept h = refl
-lost_holds (then.Recorded number) why kept h = refl
+lost_holds then.Queued why kept h = (refl, tt)
+lost_holds then.Raised why kept h = (refl, tt)
+lost_holds (then.Send due) why kept h = (refl, tt)
+lost_holds (then.Recorded number) why kept h = (refl, tt)
 
 -- The entries with that one are kept by a host that has given its link up.
 pub stored_keeps : (kept : List Entry) (e : Entry) (next : Then) (hand : Option Hand) (earlier : List (List Command)) (h h' : HostView) → Keeps kept hand (with_earlier earlier h)
     → MayFollow kept e → IsToKeep kept hand (with_earlier earlier h) e next → Drops h h' → Keeps (kept ++ e ∷ []) None (with_earlier earlier h')
-stored_keeps kept e then.Queued hand earlier h h' k follows is drops =
+stored_keeps kept e then.Queued hand earlier h h' k follows (none, content, is) drops =
     subst (λ v. Keeps (kept ++ e ∷ []) None v) (sym (drops_hung earlier h h' drops))
-    (gone_keeps (kept ++ e ∷ []) hand (with_earlier earlier h) (entry_keeps kept e hand (with_earlier earlier h) is.1 follows k))
+    (gone_keeps (kept ++ e ∷ []) hand (with_earlier earlier h) (entry_keeps kept e hand (with_earlier earlier h) (ap record_of is) follows k))
 stored_keeps kept e then.Raised hand earlier h h' k follows is drops =
     subst (λ v. Keeps (kept ++ e ∷ []) None v) (sym (drops_hung earlier h h' drops))
     (gone_keeps (kept ++ e ∷ []) hand (with_earlier earlier h) (entry_keeps kept e hand (with_earlier earlier h) is.1 follows k))
@@ -299,7 +319,7 @@ failed_with laws w new why known v =
     let (is, unsure) = moves.goes in
     let (drops, book, now) = subst (λ s. Unsure s why moves.m moves.after) is unsure in
     let (follows, to_keep) = subst (λ s. Holds w.kept p.hand (with_earlier p.earlier moves.m.host) s) is p.holds in
-    subst IsWorld (sym moves.is) (whole moves.after (w.kept ++ v.entry ∷ []) moves.wire (record {
+    subst IsWorld (sym moves.is) (whole moves.after (w.kept ++ v.entry ∷ []) moves.wire w.told (so_later w.kept (v.entry ∷ []) w.told known.told) (record {
       earlier = p.earlier;
       sound = moves.sound;
       right = drops_right laws p.earlier moves.m.host moves.after.host w.wire moves.wire p.sound drops moves.wired p.right;
@@ -316,7 +336,7 @@ failed_without laws w new why known v =
     let p = parts w moves.m moves.was known in
     let (is, unsure) = moves.goes in
     let (drops, book, now) = subst (λ s. Unsure s why moves.m moves.after) is unsure in
-    subst IsWorld (sym moves.is) (whole moves.after w.kept moves.wire
+    subst IsWorld (sym moves.is) (whole moves.after w.kept moves.wire w.told known.told
     (let_go laws moves.m moves.after w.kept w.wire moves.wire p drops moves.sound moves.wired
     (λ live. absurd (live (subst BookMayLag (sym now) (lost_lags v.next why))))
     (subst (λ s. Holds w.kept None (with_earlier p.earlier moves.after.host) s) (sym now) (lost_holds v.next why w.kept (with_earlier p.earlier moves.after.host)))))
@@ -439,7 +459,7 @@ sent_parts laws m after kept w new e due p book follows (none, send, is) (inr (w
       hand = None;
       keeps = subst (λ h. Keeps (kept ++ e ∷ []) None (with_earlier grown.receipts h)) (sym host) kept_so;
       book = λ live. known;
-      holds = subst (λ s. Holds (kept ++ e ∷ []) None (with_earlier grown.receipts after.host) s) (sym now) refl;
+      holds = subst (λ s. Holds (kept ++ e ∷ []) None (with_earlier grown.receipts after.host) s) (sym now) (refl, tt);
     }
 
 pub quietly_kept : (m after : MachineView) (kept : List Entry) (w new : WireView) (e : Entry) → (p : Parts m kept w) → MayFollow kept e → p.hand ≡ None → record_of e ≡ None → after.host ≡ m.host
@@ -457,13 +477,28 @@ quietly_kept m after kept w new e p follows none other same sound wired known ho
       holds = subst (λ h. Holds (kept ++ e ∷ []) p.hand (with_earlier p.earlier h) after.stage) (sym same) holds;
     }
 
+-- The receipt that was taken last has the number of all that were taken.
+pub queued_so : (b : Book) (es before : List Entry) (content : Content) (number : ℕ) → IsBookOf b es → es ≡ before ++ entry.Queued content ∷ [] → number ≡ length b.states.items
+    → IsSo es (note_kind.Queued number)
+queued_so b es before content number book is same =
+    let all : length b.states.items ≡ length (states es) = ap length book.states in
+    let counts : length (states es) ≡ length (taken es) = count_states es in
+    let some : 0 < length (states es) = some_state es before content is in
+    (omega (arith, same, all, some), omega (arith, same, all, counts))
+
+pub recorded_so : (kept : List Entry) (number : ℕ) → Among number (recorded (kept ++ entry.Recorded number ∷ []))
+recorded_so kept number = (recorded kept, [], recorded_append kept (entry.Recorded number ∷ []))
+
 pub kept_parts : LineLaws → (m after : MachineView) (kept : List Entry) (w new : WireView) (e : Entry) (next : Then) → (p : Parts m kept w) → IsBookOf m.book kept
     → MayFollow kept e → IsToKeep kept p.hand (with_earlier p.earlier m.host) e next → Follows next m.host m.book.next after.book after.host after.stage → IsBookOf after.book (kept ++ e ∷ [])
     → IsSound after.host → Wired m.host after.host w new → Parts after (kept ++ e ∷ []) new
-kept_parts laws m after kept w new e then.Queued p book follows (none, other) (number, is, host, now) known sound wired =
-    quietly_kept m after kept w new e p follows none other host sound wired known (subst (λ s. Holds (kept ++ e ∷ []) p.hand (with_earlier p.earlier m.host) s) (sym now) none)
+kept_parts laws m after kept w new e then.Queued p book follows (none, content, entry_is) (number, is, host, now) known sound wired =
+    quietly_kept m after kept w new e p follows none (ap record_of entry_is) host sound wired known
+    (subst (λ s. Holds (kept ++ e ∷ []) p.hand (with_earlier p.earlier m.host) s) (sym now)
+    (none, queued_so after.book (kept ++ e ∷ []) kept content number known (ap (λ x. kept ++ x ∷ []) entry_is) is))
 kept_parts laws m after kept w new e then.Raised p book follows (none, other) (host, now) known sound wired =
-    quietly_kept m after kept w new e p follows none other host sound wired known (subst (λ s. Holds (kept ++ e ∷ []) p.hand (with_earlier p.earlier m.host) s) (sym now) none)
+    quietly_kept m after kept w new e p follows none other host sound wired known
+    (subst (λ s. Holds (kept ++ e ∷ []) p.hand (with_earlier p.earlier m.host) s) (sym now) (none, tt))
 kept_parts laws m after kept w new e (then.Send due) p book follows to_keep opens known sound wired = sent_parts laws m after kept w new e due p book follows to_keep opens known sound wired
 kept_parts laws m after kept w new e (then.Recorded number) p book follows to_keep (drops, now) known sound wired = record {
   earlier = p.earlier;
@@ -472,7 +507,8 @@ kept_parts laws m after kept w new e (then.Recorded number) p book follows to_ke
   hand = None;
   keeps = stored_keeps kept e (then.Recorded number) p.hand p.earlier m.host after.host p.keeps follows to_keep drops;
   book = λ live. known;
-  holds = subst (λ s. Holds (kept ++ e ∷ []) None (with_earlier p.earlier after.host) s) (sym now) refl;
+  holds = subst (λ s. Holds (kept ++ e ∷ []) None (with_earlier p.earlier after.host) s) (sym now)
+      (refl, subst (λ x. Among number (recorded (kept ++ x ∷ []))) (sym to_keep.3) (recorded_so kept number));
 }
 
 pub kept_world : LineLaws → (w new : World) → IsWorld w → Stores (λ m after. Kept m.stage m after) with_entry w new → IsWorld new
@@ -483,5 +519,5 @@ kept_world laws w new known v =
     let (notes, so) = subst (λ s. Kept s moves.m moves.after) is kept_so in
     let (follows, to_keep) = subst (λ s. Holds w.kept p.hand (with_earlier p.earlier moves.m.host) s) is p.holds in
     let book : IsBookOf moves.m.book w.kept = p.book (λ lost. subst BookMayLag is lost) in
-    subst IsWorld (sym moves.is) (whole moves.after (w.kept ++ v.entry ∷ []) moves.wire
+    subst IsWorld (sym moves.is) (whole moves.after (w.kept ++ v.entry ∷ []) moves.wire w.told (so_later w.kept (v.entry ∷ []) w.told known.told)
     (kept_parts laws moves.m moves.after w.kept w.wire moves.wire v.entry v.next p book follows to_keep so (notes w.kept book p.keeps.ledger follows) moves.sound moves.wired))

@@ -20,7 +20,7 @@ use Rattle.escpos_till_model.specs.Receipts.{AreReceipts, Extends, IsReceiptOf, 
 use Rattle.escpos_till_model.specs.Known.{IsHostOf, IsMachineIn, IsWorld}
 use Rattle.escpos_till_model.specs.World.{Begins, Break, Connect, Crash, Deliver, End, FailWith, FailWithout, HangUp, Happening, Happens, Hear, Idle, Keep, Miss, OnWire, Put, Queue, Raise, Refuse, Runs, Start, Tell, World}
 use Rattle.escpos_till_model.proofs.LinesKept.{LineLaws, Right, none_given_up}
-use Rattle.escpos_till_model.proofs.EntryFacts.{zip_length}
+use Rattle.escpos_till_model.proofs.EntryFacts.{among_nothing, zip_length}
 use Rattle.escpos_till_model.proofs.WorldCalls.{queued, raised, refused, delivers, told_world, hung_world, connected_world, missed_world, ended_world}
 use Rattle.escpos_till_model.proofs.WorldStore.{started, on_wire, idled, crashed, puts, breaks, failed_with, failed_without, fresh_right, fresh_sound, kept_world}
 use Rattle.escpos_till_model.proofs.WorldHears.{hears}
@@ -83,7 +83,7 @@ entries_stay w new (Break taken count why) happened = same_entries w.kept new.ke
 entries_stay w new (Hear most) happened = same_entries w.kept new.kept (ap (λ v. v.kept) happened.is)
 entries_stay w new (End why) happened = same_entries w.kept new.kept (ap (λ v. v.kept) happened.is)
 entries_stay w new HangUp happened = same_entries w.kept new.kept (ap (λ v. v.kept) happened.is)
-entries_stay w new Tell happened = same_entries w.kept new.kept (ap (λ v. v.kept) happened.is)
+entries_stay w new Tell happened = same_entries w.kept new.kept (ap (λ v. v.kept) happened.moves.is)
 entries_stay w new (OnWire e) happened = same_entries w.kept new.kept (ap (λ v. v.kept) happened.is)
 entries_stay w new Idle happened = same_entries w.kept new.kept (ap (λ v. v.kept) happened.is)
 entries_stay w new Crash happened = same_entries w.kept new.kept (ap (λ v. v.kept) happened.is)
@@ -124,6 +124,7 @@ begun laws w b =
       hand = None;
       keeps = record { ledger = b.ledger; receipts = records; are = b.receipts; answered = []; records = refl; next = omega arith; in_hand = refl };
       machine = subst (λ x. IsMachineIn x w.kept None (with_earlier records (fresh f))) (sym b.off) refl;
+      told = b.told;
     }
 
 -- A world whose till is off may begin again: its line goes on with what is recorded.
@@ -142,6 +143,7 @@ begins_again laws w off known =
       receipts = subst (λ rs. AreReceipts w.kept rs) (sym (append-nil known.keeps.receipts)) known.keeps.are;
       next = omega arith;
       wire_is = sym (none_given_up host w.wire refl right.line);
+      told = known.told;
     }
 
 pub raised_ledger : (n : ℕ) → IsLedger (entry.Raised n ∷ [])
@@ -149,7 +151,7 @@ raised_ledger n = ledger-snoc [] (entry.Raised n) empty_ledger (omega arith)
 
 -- A new ledger has raised the next number to one that this line hasn't used: the line goes on as if it had recorded nothing.
 pub first_world : LineLaws → (l : LineView) (n : ℕ) → IsLine l → IsTrusted l → l.host.next ≤ n
-    → Begins (record { machine = None; kept = entry.Raised n ∷ []; wire = given_up (wire_of l) })
+    → Begins (record { machine = None; kept = entry.Raised n ∷ []; wire = given_up (wire_of l); told = [] })
 first_world laws l n line trusted within = record {
   off = refl;
   ledger = raised_ledger n;
@@ -158,5 +160,6 @@ first_world laws l n line trusted within = record {
   trusted = (laws.trust.resumes l n 0 within trusted).0;
   receipts = tt;
   next = omega arith;
+  told = λ n among. absurd (among_nothing n among);
   wire_is = sym (none_given_up (resumed_host l.host n 0) (wire_of (resumed l n 0)) refl (resumed_kept l n 0 line));
 }

@@ -1,3 +1,4 @@
+use Rattle.escpos_till.specs.declared.machine.TillNote.TheVariants as note
 use Rattle.escpos_till_model.specs.Known.{IsWorld}
 use Rattle.escpos_till_model.specs.World.{Begins, Happening, Runs, World}
 use Rattle.std.specs.Prelude.{List}
@@ -18,6 +19,16 @@ pub returns-clause-kept : goal.returns-clause-kept
 returns-clause-kept c = λ w after happenings begins runs.
     let laws : LineLaws = record { trust = c.trust.ensures; every = c.every_line.ensures.kept; turn = c.in_turn.ensures } in
     each_is_kept after.kept (known laws w after happenings begins runs).keeps.ledger
+
+pub returns-clause-queued : goal.returns-clause-queued
+returns-clause-queued c = λ w after happenings number begins runs among.
+    let laws : LineLaws = record { trust = c.trust.ensures; every = c.every_line.ensures.kept; turn = c.in_turn.ensures } in
+    (known laws w after happenings begins runs).told (note.Queued number) among
+
+pub returns-clause-recorded : goal.returns-clause-recorded
+returns-clause-recorded c = λ w after happenings number begins runs among.
+    let laws : LineLaws = record { trust = c.trust.ensures; every = c.every_line.ensures.kept; turn = c.in_turn.ensures } in
+    (known laws w after happenings begins runs).told (note.Recorded number) among
 
 pub returns-clause-extends : goal.returns-clause-extends
 returns-clause-extends c = entries_last
