@@ -32,6 +32,19 @@ pub among_nothing : {X : Type 0} (x : X) → Among x [] → ⊥
 among_nothing x ([], following, is) = cc is
 among_nothing x (z ∷ before, following, is) = cc is
 
+pub among_last : {X : Type 0} (x y : X) (xs : List X) → Among x (xs ++ y ∷ []) → Among x xs ⊎ (y ≡ x)
+among_last x y [] among = elim (among_cons x y [] among) [
+  | inl same ↦ inr same
+  | inr more ↦ absurd (among_nothing x more)
+]
+among_last x y (z ∷ xs) among = elim (among_cons x z (xs ++ y ∷ []) among) [
+  | inl same ↦ inl (among_first x z xs same)
+  | inr more ↦ elim (among_last x y xs more) [
+    | inl there ↦ inl (among_later x z xs there)
+    | inr same ↦ inr same
+  ]
+]
+
 -- What a filter lets through was there, and passed.
 filtered_step : {X : Type 0} (p : X → Bool) (x y : X) (xs : List X) (b : Bool) → p y ≡ b → (Among x (filter p xs) → Among x xs × (p x ≡ true))
     → Among x (cond b (y ∷ filter p xs) (filter p xs)) → Among x (y ∷ xs) × (p x ≡ true)
@@ -105,11 +118,11 @@ zip_length R [] (y ∷ ys) all = absurd all
 zip_length R (x ∷ xs) [] all = absurd all
 zip_length R (x ∷ xs) (y ∷ ys) all = let more = zip_length R xs ys all.1 in omega (arith, more)
 
-recorded_append : (es : List Entry) (e : Entry) → recorded (es ++ e ∷ []) ≡ recorded es ++ recorded (e ∷ [])
-recorded_append es e = filter_map-append record_of es (e ∷ [])
+pub recorded_append : (es more : List Entry) → recorded (es ++ more) ≡ recorded es ++ recorded more
+recorded_append es more = filter_map-append record_of es more
 
 pub recorded_same : (es : List Entry) (e : Entry) → record_of e ≡ None → recorded (es ++ e ∷ []) ≡ recorded es
-recorded_same es e none = recorded_append es e ∙ ap (λ o. recorded es ++ cons_option o []) none ∙ append-nil (recorded es)
+recorded_same es e none = recorded_append es (e ∷ []) ∙ ap (λ o. recorded es ++ cons_option o []) none ∙ append-nil (recorded es)
 
 pub are_same : (es : List Entry) (e : Entry) (receipts : List (List Command)) → record_of e ≡ None → AreReceipts es receipts → AreReceipts (es ++ e ∷ []) receipts
 are_same es e receipts none are =
@@ -120,7 +133,7 @@ pub are_add : (es : List Entry) (number : ℕ) (commands : List Command) (receip
     → AreReceipts (es ++ Recorded number ∷ []) (receipts ++ commands ∷ [])
 are_add es number commands receipts are one =
     let more = Recorded number ∷ [] in
-    subst (λ ns. AllZip (IsReceiptOf (es ++ more)) ns (receipts ++ commands ∷ [])) (sym (recorded_append es (Recorded number)))
+    subst (λ ns. AllZip (IsReceiptOf (es ++ more)) ns (receipts ++ commands ∷ [])) (sym (recorded_append es more))
     (zip_add (IsReceiptOf (es ++ more)) (recorded es) receipts number commands
     (zip_turn (IsReceiptOf es) (IsReceiptOf (es ++ more)) (receipt_of_grows es more) (recorded es) receipts are)
     (receipt_of_grows es more number commands one))

@@ -1,5 +1,5 @@
 -- What holds of every world holds after the calls of a machine, and after what it is told of its link.
-use Rattle.std.proofs.Common.{ℕ, ◌≡◌, ◌+◌, ◌<◌, ◌≤◌, inl, inr, Option, Some, None, List, [], ◌∷◌, length, refl, sym, ap, subst, arith}
+use Rattle.std.proofs.Common.{ℕ, ◌≡◌, ◌+◌, ◌++◌, ◌∙◌, ◌<◌, ◌≤◌, inl, inr, Option, Some, None, List, [], ◌∷◌, length, refl, sym, ap, subst, arith}
 use Rattle.std.specs.Prelude.{is_none, true}
 use Rattle.std.proofs.Math.Nat.{le-max_right}
 use Rattle.escpos_host.specs.declared.send.SendFault.{SendFault}
@@ -25,18 +25,22 @@ use Rattle.escpos_till.specs.Delivers.{marks_taken}
 use Rattle.escpos_till.specs.Ledger.{FirstWaits}
 use Rattle.escpos_till.specs.Machine.{Delivers, Drops, Ended, IsNext, MachineView, Queues, Raises, SameBut, after_note, at, connected, hung_up as machine_hung_up, lost, not_connected, told}
 use Rattle.escpos_till.proofs.EntryLemmas.{length-taken}
-use Rattle.escpos_till_model.proofs.EntryFacts.{among_cons, among_filtered, among_nothing, first_among, first_is_taken}
+use Rattle.escpos_till_model.proofs.EntryFacts.{among_cons, among_filtered, among_last, among_nothing, first_among, first_is_taken}
 use Rattle.escpos_till_model.proofs.Keeping.{gone_keeps}
 use Rattle.escpos_till_model.proofs.Tilling.{sent_is}
 use Rattle.escpos_till_model.specs.Receipts.{Among}
 use Rattle.escpos_till_model.specs.Steps.{IsCopy}
 use Rattle.escpos_till_model.specs.declared.hand.Hand.{Hand}
 use Rattle.escpos_till_model.specs.Kept.{Keeps}
-use Rattle.escpos_till_model.specs.Known.{HasLost, Holds, IsHostOf, IsMachineIn, IsToSend, IsWorld}
-use Rattle.escpos_till_model.specs.World.{FitsLine, Moves, Wired, World, running}
+use Rattle.escpos_till_model.specs.Known.{BookMayLag, Holds, IsHostOf, IsMachineIn, IsToSend, IsWorld}
+use Rattle.escpos_till_model.specs.World.{Calls, FitsLine, IsSo, Tells, Wired, World, running}
 use Rattle.escpos_till_model.proofs.LinesKept.{LineLaws, Right, goes, same_wire, drops_right, drops_hung}
 
 -- ## Worlds, part by part
+
+-- What was told is so.
+abbrev pub AreSo : List Entry → List TillNote → Type 0
+AreSo kept notes = (n : TillNote) → Among n notes → IsSo kept n
 
 -- What holds of a world, where its machine is there.
 pub record Parts (m : MachineView) (kept : List Entry) (wire : WireView) : Type 0 where
@@ -45,11 +49,11 @@ pub record Parts (m : MachineView) (kept : List Entry) (wire : WireView) : Type 
   pub right : Right (line_of (with_earlier earlier m.host) wire)
   pub hand : Option Hand
   pub keeps : Keeps kept hand (with_earlier earlier m.host)
-  pub book : (HasLost m.stage → ⊥) → IsBookOf m.book kept
+  pub book : (BookMayLag m.stage → ⊥) → IsBookOf m.book kept
   pub holds : Holds kept hand (with_earlier earlier m.host) m.stage
 
-pub whole : (m : MachineView) (kept : List Entry) (wire : WireView) → Parts m kept wire → IsWorld (running m kept wire)
-whole m kept wire p = record {
+pub whole : (m : MachineView) (kept : List Entry) (wire : WireView) (notes : List TillNote) → AreSo kept notes → Parts m kept wire → IsWorld (running m kept wire notes)
+whole m kept wire notes so p = record {
   earlier = p.earlier;
   host = m.host;
   host_is = refl;
@@ -59,11 +63,12 @@ whole m kept wire p = record {
   hand = p.hand;
   keeps = p.keeps;
   machine = (p.book, p.holds);
+  told = so;
 }
 
-pub parts_of : (m : MachineView) (kept : List Entry) (wire : WireView) (machine : Option MachineView) → machine ≡ Some m → (w : IsWorld (record { machine = machine; kept = kept; wire = wire }))
-    → Parts m kept wire
-parts_of m kept wire machine is w =
+pub parts_of : (m : MachineView) (kept : List Entry) (wire : WireView) (notes : List TillNote) (machine : Option MachineView) → machine ≡ Some m
+    → (w : IsWorld (record { machine = machine; kept = kept; wire = wire; told = notes })) → Parts m kept wire
+parts_of m kept wire notes machine is w =
     let host : w.host ≡ m.host = subst (λ x. IsHostOf x w.host) is w.host_is in
     let known = subst (λ x. IsMachineIn x kept w.hand (with_earlier w.earlier w.host)) is w.machine in
     record {
@@ -77,13 +82,13 @@ parts_of m kept wire machine is w =
     }
 
 pub parts : (w : World) (m : MachineView) → w.machine ≡ Some m → IsWorld w → Parts m w.kept w.wire
-parts w m is known = parts_of m w.kept w.wire w.machine is known
+parts w m is known = parts_of m w.kept w.wire w.told w.machine is known
 
 -- ## The host stays as it is
 
 -- The stage alone changes, and what is in hand stays.
 pub same_host : (m after : MachineView) (kept : List Entry) (w new : WireView) (p : Parts m kept w) → after.host ≡ m.host → IsSound after.host → Wired m.host after.host w new
-    → ((HasLost after.stage → ⊥) → IsBookOf after.book kept) → Holds kept p.hand (with_earlier p.earlier m.host) after.stage → Parts after kept new
+    → ((BookMayLag after.stage → ⊥) → IsBookOf after.book kept) → Holds kept p.hand (with_earlier p.earlier m.host) after.stage → Parts after kept new
 same_host m after kept w new p same sound wired book holds =
     let wire : new ≡ w = same_wire m.host after.host w new same wired in
     record {
@@ -100,39 +105,39 @@ same_host m after kept w new p same sound wired book holds =
 
 pub at_rest : (m : MachineView) (kept : List Entry) (w : WireView) → m.stage ≡ stage.AtRest → (p : Parts m kept w) → IsBookOf m.book kept × (p.hand ≡ None)
 at_rest m kept w rest p = (
-  p.book (λ lost. subst HasLost rest lost),
+  p.book (λ lost. subst BookMayLag rest lost),
   subst (λ s. Holds kept p.hand (with_earlier p.earlier m.host) s) rest p.holds,
 )
 
-pub live_at : (s t : Stage) → s ≡ t → (HasLost t → ⊥) → HasLost s → ⊥
-live_at s t same live lost = live (subst HasLost same lost)
+pub live_at : (s t : Stage) → s ≡ t → (BookMayLag t → ⊥) → BookMayLag s → ⊥
+live_at s t same live lost = live (subst BookMayLag same lost)
 
-pub queued : (w new : World) (content : Content) → IsWorld w → Moves (λ m after. Queues m content after) w w.kept new → IsWorld new
+pub queued : (w new : World) (content : Content) → IsWorld w → Calls (λ m after. Queues m content after) w new → IsWorld new
 queued w new content known moves =
     let p = parts w moves.m moves.was known in
     let (book, none) = at_rest moves.m w.kept w.wire moves.goes.rest p in
-    subst IsWorld (sym moves.is) (whole moves.after w.kept moves.wire
+    subst IsWorld (sym moves.is) (whole moves.after w.kept moves.wire w.told known.told
     (same_host moves.m moves.after w.kept w.wire moves.wire p moves.goes.host moves.sound moves.wired
     (λ live. moves.goes.book w.kept book)
-    (subst (λ s. Holds w.kept p.hand (with_earlier p.earlier moves.m.host) s) (sym moves.goes.keeps) (tt, (none, refl)))))
+    (subst (λ s. Holds w.kept p.hand (with_earlier p.earlier moves.m.host) s) (sym moves.goes.keeps) (tt, (none, content, refl)))))
 
-pub raised : (w new : World) (first : ℕ) → IsWorld w → Moves (λ m after. Raises m first after) w w.kept new → IsWorld new
+pub raised : (w new : World) (first : ℕ) → IsWorld w → Calls (λ m after. Raises m first after) w new → IsWorld new
 raised w new first known moves =
     let p = parts w moves.m moves.was known in
     let (book, none) = at_rest moves.m w.kept w.wire moves.goes.rest p in
     let is = moves.goes.after_is in
     let least : next_free w.kept ≤ first = omega (arith, moves.goes.least, book.next) in
-    subst IsWorld (sym moves.is) (whole moves.after w.kept moves.wire
+    subst IsWorld (sym moves.is) (whole moves.after w.kept moves.wire w.told known.told
     (same_host moves.m moves.after w.kept w.wire moves.wire p (ap (λ m. m.host) is) moves.sound moves.wired
     (λ live. subst (λ b. IsBookOf b w.kept) (sym (ap (λ m. m.book) is)) book)
     (subst (λ s. Holds w.kept p.hand (with_earlier p.earlier moves.m.host) s) (sym (ap (λ m. m.stage) is)) (least, (none, refl)))))
 
-pub refused : (w new : World) → IsWorld w → Moves SameBut w w.kept new → IsWorld new
+pub refused : (w new : World) → IsWorld w → Calls SameBut w new → IsWorld new
 refused w new known moves =
     let p = parts w moves.m moves.was known in
-    subst IsWorld (sym moves.is) (whole moves.after w.kept moves.wire
+    subst IsWorld (sym moves.is) (whole moves.after w.kept moves.wire w.told known.told
     (same_host moves.m moves.after w.kept w.wire moves.wire p moves.goes.host moves.sound moves.wired
-    (λ live. moves.goes.book w.kept (p.book (λ lost. live (subst HasLost (sym moves.goes.stage) lost))))
+    (λ live. moves.goes.book w.kept (p.book (λ lost. live (subst BookMayLag (sym moves.goes.stage) lost))))
     (subst (λ s. Holds w.kept p.hand (with_earlier p.earlier moves.m.host) s) (sym moves.goes.stage) p.holds)))
 
 -- ## A receipt is due
@@ -171,14 +176,14 @@ to_send b kept openings most copy due book is next fits =
     }
 
 pub delivers : (w new : World) (openings most : ℕ) (copy : Option (List ℕ)) → IsWorld w → IsCopy copy
-    → Moves (λ m after. Delivers m openings most copy after × FitsLine after.stage) w w.kept new → IsWorld new
+    → Calls (λ m after. Delivers m openings most copy after × FitsLine after.stage) w new → IsWorld new
 delivers w new openings most copy known copy_is moves =
     let p = parts w moves.m moves.was known in
     let (goes, fitting) = moves.goes in
     let (book, none) = at_rest moves.m w.kept w.wire goes.rest p in
     let is = goes.after_is in
     let fits : FitsLine (stage.Connecting goes.due) = subst FitsLine (ap (λ m. m.stage) is) fitting in
-    subst IsWorld (sym moves.is) (whole moves.after w.kept moves.wire
+    subst IsWorld (sym moves.is) (whole moves.after w.kept moves.wire w.told known.told
     (same_host moves.m moves.after w.kept w.wire moves.wire p (ap (λ m. m.host) is) moves.sound moves.wired
     (λ live. subst (λ b. IsBookOf b w.kept) (sym (ap (λ m. m.book) is)) book)
     (subst (λ s. Holds w.kept p.hand (with_earlier p.earlier moves.m.host) s) (sym (ap (λ m. m.stage) is))
@@ -190,26 +195,26 @@ delivers w new openings most copy known copy_is moves =
 pub unchanged : (m after : MachineView) (kept : List Entry) (w new : WireView) → Parts m kept w → after ≡ m → IsSound after.host → Wired m.host after.host w new → Parts after kept new
 unchanged m after kept w new p same sound wired =
     same_host m after kept w new p (ap (λ x. x.host) same) sound wired
-    (λ live. subst (λ x. IsBookOf x.book kept) (sym same) (p.book (λ lost. live (subst (λ x. HasLost x.stage) (sym same) lost))))
+    (λ live. subst (λ x. IsBookOf x.book kept) (sym same) (p.book (λ lost. live (subst (λ x. BookMayLag x.stage) (sym same) lost))))
     (subst (λ x. Holds kept p.hand (with_earlier p.earlier m.host) x.stage) (sym same) p.holds)
 
 -- The stage becomes another, for which this is known.
 pub restaged : (m after : MachineView) (kept : List Entry) (w new : WireView) (s t : Stage) → m.stage ≡ s → (p : Parts m kept w) → after ≡ at m t → IsSound after.host → Wired m.host after.host w new
-    → ((HasLost t → ⊥) → HasLost s → ⊥) → (((HasLost s → ⊥) → IsBookOf m.book kept) → Holds kept p.hand (with_earlier p.earlier m.host) s → Holds kept p.hand (with_earlier p.earlier m.host) t)
+    → ((BookMayLag t → ⊥) → BookMayLag s → ⊥) → (((BookMayLag s → ⊥) → IsBookOf m.book kept) → Holds kept p.hand (with_earlier p.earlier m.host) s → Holds kept p.hand (with_earlier p.earlier m.host) t)
     → Parts after kept new
 restaged m after kept w new s t is p same sound wired live holds =
-    let book : (HasLost s → ⊥) → IsBookOf m.book kept = λ no_loss. p.book (λ lost. no_loss (subst HasLost is lost)) in
+    let book : (BookMayLag s → ⊥) → IsBookOf m.book kept = λ no_loss. p.book (λ lost. no_loss (subst BookMayLag is lost)) in
     same_host m after kept w new p (ap (λ x. x.host) same) sound wired
-    (λ still. subst (λ x. IsBookOf x.book kept) (sym same) (book (live (λ lost. still (subst (λ x. HasLost x.stage) (sym same) lost)))))
+    (λ still. subst (λ x. IsBookOf x.book kept) (sym same) (book (live (λ lost. still (subst (λ x. BookMayLag x.stage) (sym same) lost)))))
     (subst (λ x. Holds kept p.hand (with_earlier p.earlier m.host) x.stage) (sym same) (holds book (subst (λ x. Holds kept p.hand (with_earlier p.earlier m.host) x) is p.holds)))
 
-pub told_lost : (n : TillNote) → (HasLost (after_note n) → ⊥) → HasLost (stage.Telling n) → ⊥
-told_lost (note_kind.Queued number) live lost = lost
-told_lost note_kind.Raised live lost = lost
-told_lost (note_kind.Recorded number) live lost = lost
-told_lost (note_kind.NoLink number) live lost = lost
-told_lost (note_kind.Waiting number why) live lost = lost
-told_lost (note_kind.NotKept why) live lost = live tt
+pub told_lag : (n : TillNote) → (BookMayLag (after_note n) → ⊥) → BookMayLag (stage.Telling n) → ⊥
+told_lag (note_kind.Queued number) live lost = lost
+told_lag note_kind.Raised live lost = lost
+told_lag (note_kind.Recorded number) live lost = lost
+told_lag (note_kind.NoLink number) live lost = lost
+told_lag (note_kind.Waiting number why) live lost = lost
+told_lag (note_kind.NotKept why) live lost = live tt
 
 pub told_holds : (n : TillNote) (kept : List Entry) (hand : Option Hand) (h : HostView) → hand ≡ None → Holds kept hand h (after_note n)
 told_holds (note_kind.Queued number) kept hand h none = none
@@ -219,29 +224,24 @@ told_holds (note_kind.NoLink number) kept hand h none = none
 told_holds (note_kind.Waiting number why) kept hand h none = none
 told_holds (note_kind.NotKept why) kept hand h none = none
 
-pub told_parts : (m after : MachineView) (kept : List Entry) (w new : WireView) (s : Stage) → m.stage ≡ s → Parts m kept w → after ≡ told s m → IsSound after.host → Wired m.host after.host w new
-    → Parts after kept new
-told_parts m after kept w new (stage.Telling n) is p same sound wired =
-    restaged m after kept w new (stage.Telling n) (after_note n) is p same sound wired (told_lost n) (λ book none. told_holds n kept p.hand (with_earlier p.earlier m.host) none)
-told_parts m after kept w new stage.AtRest is p same sound wired = unchanged m after kept w new p same sound wired
-told_parts m after kept w new (stage.Connecting due) is p same sound wired = unchanged m after kept w new p same sound wired
-told_parts m after kept w new (stage.Keeping e next) is p same sound wired = unchanged m after kept w new p same sound wired
-told_parts m after kept w new (stage.Talking talk) is p same sound wired = unchanged m after kept w new p same sound wired
-told_parts m after kept w new (stage.HangingUp n) is p same sound wired = unchanged m after kept w new p same sound wired
-told_parts m after kept w new stage.Failed is p same sound wired = unchanged m after kept w new p same sound wired
+pub told_parts : (m after : MachineView) (kept : List Entry) (w new : WireView) (n : TillNote) → m.stage ≡ stage.Telling n → Parts m kept w → after ≡ told m.stage m → IsSound after.host
+    → Wired m.host after.host w new → Parts after kept new
+told_parts m after kept w new n is p same sound wired =
+    restaged m after kept w new (stage.Telling n) (after_note n) is p (same ∙ ap (λ s. told s m) is) sound wired (told_lag n)
+    (λ book holds. told_holds n kept p.hand (with_earlier p.earlier m.host) holds.0)
 
-pub hung_lost : (n : TillNote) → (HasLost (stage.Telling n) → ⊥) → HasLost (stage.HangingUp n) → ⊥
-hung_lost (note_kind.Queued number) live lost = lost
-hung_lost note_kind.Raised live lost = lost
-hung_lost (note_kind.Recorded number) live lost = lost
-hung_lost (note_kind.NoLink number) live lost = lost
-hung_lost (note_kind.Waiting number why) live lost = lost
-hung_lost (note_kind.NotKept why) live lost = live lost
+pub hung_lag : (n : TillNote) → (BookMayLag (stage.Telling n) → ⊥) → BookMayLag (stage.HangingUp n) → ⊥
+hung_lag (note_kind.Queued number) live lost = lost
+hung_lag note_kind.Raised live lost = lost
+hung_lag (note_kind.Recorded number) live lost = lost
+hung_lag (note_kind.NoLink number) live lost = lost
+hung_lag (note_kind.Waiting number why) live lost = lost
+hung_lag (note_kind.NotKept why) live lost = live lost
 
 pub hung_parts : (m after : MachineView) (kept : List Entry) (w new : WireView) (s : Stage) → m.stage ≡ s → Parts m kept w → after ≡ machine_hung_up s m → IsSound after.host
     → Wired m.host after.host w new → Parts after kept new
 hung_parts m after kept w new (stage.HangingUp n) is p same sound wired =
-    restaged m after kept w new (stage.HangingUp n) (stage.Telling n) is p same sound wired (hung_lost n) (λ book none. none)
+    restaged m after kept w new (stage.HangingUp n) (stage.Telling n) is p same sound wired (hung_lag n) (λ book holds. holds)
 hung_parts m after kept w new stage.AtRest is p same sound wired = unchanged m after kept w new p same sound wired
 hung_parts m after kept w new (stage.Connecting due) is p same sound wired = unchanged m after kept w new p same sound wired
 hung_parts m after kept w new (stage.Keeping e next) is p same sound wired = unchanged m after kept w new p same sound wired
@@ -267,7 +267,7 @@ connected_parts m after kept w new stage.Failed is p same sound wired = unchange
 pub missed_parts : (m after : MachineView) (kept : List Entry) (w new : WireView) (s : Stage) → m.stage ≡ s → Parts m kept w → after ≡ not_connected s m → IsSound after.host
     → Wired m.host after.host w new → Parts after kept new
 missed_parts m after kept w new (stage.Connecting due) is p same sound wired =
-    restaged m after kept w new (stage.Connecting due) (stage.Telling (note_kind.NoLink due.number)) is p same sound wired (λ live lost. lost) (λ book holds. holds.0)
+    restaged m after kept w new (stage.Connecting due) (stage.Telling (note_kind.NoLink due.number)) is p same sound wired (λ live lost. lost) (λ book holds. (holds.0, tt))
 missed_parts m after kept w new stage.AtRest is p same sound wired = unchanged m after kept w new p same sound wired
 missed_parts m after kept w new (stage.HangingUp n) is p same sound wired = unchanged m after kept w new p same sound wired
 missed_parts m after kept w new (stage.Keeping e next) is p same sound wired = unchanged m after kept w new p same sound wired
@@ -277,7 +277,7 @@ missed_parts m after kept w new stage.Failed is p same sound wired = unchanged m
 
 -- The host gives its link up, and nothing is in hand any more.
 pub let_go : LineLaws → (m after : MachineView) (kept : List Entry) (w new : WireView) (p : Parts m kept w) → Drops m.host after.host → IsSound after.host → Wired m.host after.host w new
-    → ((HasLost after.stage → ⊥) → IsBookOf after.book kept) → Holds kept None (with_earlier p.earlier after.host) after.stage → Parts after kept new
+    → ((BookMayLag after.stage → ⊥) → IsBookOf after.book kept) → Holds kept None (with_earlier p.earlier after.host) after.stage → Parts after kept new
 let_go laws m after kept w new p drops sound wired book holds = record {
   earlier = p.earlier;
   sound = sound;
@@ -291,8 +291,8 @@ let_go laws m after kept w new p drops sound wired book holds = record {
 pub ended_parts : LineLaws → (why : SendFault) (m after : MachineView) (kept : List Entry) (w new : WireView) (s : Stage) → m.stage ≡ s → Parts m kept w → Ended s why m after → IsSound after.host
     → Wired m.host after.host w new → Parts after kept new
 ended_parts laws why m after kept w new (stage.Talking talk) is p (drops, book, now) sound wired =
-    let_go laws m after kept w new p drops sound wired (λ live. subst (λ b. IsBookOf b kept) (sym book) (p.book (λ lost. subst HasLost is lost)))
-    (subst (λ s. Holds kept None (with_earlier p.earlier after.host) s) (sym now) refl)
+    let_go laws m after kept w new p drops sound wired (λ live. subst (λ b. IsBookOf b kept) (sym book) (p.book (λ lost. subst BookMayLag is lost)))
+    (subst (λ s. Holds kept None (with_earlier p.earlier after.host) s) (sym now) (refl, tt))
 ended_parts laws why m after kept w new stage.AtRest is p same sound wired = unchanged m after kept w new p same sound wired
 ended_parts laws why m after kept w new (stage.Connecting due) is p same sound wired = unchanged m after kept w new p same sound wired
 ended_parts laws why m after kept w new (stage.HangingUp n) is p same sound wired = unchanged m after kept w new p same sound wired
@@ -300,21 +300,34 @@ ended_parts laws why m after kept w new (stage.Keeping e next) is p same sound w
 ended_parts laws why m after kept w new (stage.Telling n) is p same sound wired = unchanged m after kept w new p same sound wired
 ended_parts laws why m after kept w new stage.Failed is p same sound wired = unchanged m after kept w new p same sound wired
 
-pub moved : (Goes : MachineView → MachineView → Type 0) (w new : World) → IsWorld w → (moves : Moves Goes w w.kept new)
+pub moved : (Goes : MachineView → MachineView → Type 0) (w new : World) → IsWorld w → (moves : Calls Goes w new)
     → (Parts moves.m w.kept w.wire → Parts moves.after w.kept moves.wire) → IsWorld new
-moved Goes w new known moves go = subst IsWorld (sym moves.is) (whole moves.after w.kept moves.wire (go (parts w moves.m moves.was known)))
+moved Goes w new known moves go = subst IsWorld (sym moves.is) (whole moves.after w.kept moves.wire w.told known.told (go (parts w moves.m moves.was known)))
 
-pub told_world : (w new : World) → IsWorld w → Moves (λ m after. after ≡ told m.stage m) w w.kept new → IsWorld new
-told_world w new known v = moved _ w new known v (λ p. told_parts v.m v.after w.kept w.wire v.wire v.m.stage refl p v.goes v.sound v.wired)
+-- One more note is so.
+pub so_more : (kept : List Entry) (notes : List TillNote) (n : TillNote) → AreSo kept notes → IsSo kept n → AreSo kept (notes ++ n ∷ [])
+so_more kept notes n so one x among = elim (among_last x n notes among) [
+  | inl there ↦ so x there
+  | inr same ↦ subst (λ v. IsSo kept v) same one
+]
 
-pub hung_world : (w new : World) → IsWorld w → Moves (λ m after. after ≡ machine_hung_up m.stage m) w w.kept new → IsWorld new
+pub told_world : (w new : World) → IsWorld w → Tells w new → IsWorld new
+told_world w new known v =
+    let moves = v.moves in
+    let (is, same) = moves.goes in
+    let p = parts w moves.m moves.was known in
+    let holds = subst (λ s. Holds w.kept p.hand (with_earlier p.earlier moves.m.host) s) is p.holds in
+    subst IsWorld (sym moves.is) (whole moves.after w.kept moves.wire (w.told ++ v.note ∷ []) (so_more w.kept w.told v.note known.told holds.1)
+    (told_parts moves.m moves.after w.kept w.wire moves.wire v.note is p same moves.sound moves.wired))
+
+pub hung_world : (w new : World) → IsWorld w → Calls (λ m after. after ≡ machine_hung_up m.stage m) w new → IsWorld new
 hung_world w new known v = moved _ w new known v (λ p. hung_parts v.m v.after w.kept w.wire v.wire v.m.stage refl p v.goes v.sound v.wired)
 
-pub connected_world : (w new : World) → IsWorld w → Moves (λ m after. after ≡ connected m.stage m) w w.kept new → IsWorld new
+pub connected_world : (w new : World) → IsWorld w → Calls (λ m after. after ≡ connected m.stage m) w new → IsWorld new
 connected_world w new known v = moved _ w new known v (λ p. connected_parts v.m v.after w.kept w.wire v.wire v.m.stage refl p v.goes v.sound v.wired)
 
-pub missed_world : (w new : World) → IsWorld w → Moves (λ m after. after ≡ not_connected m.stage m) w w.kept new → IsWorld new
+pub missed_world : (w new : World) → IsWorld w → Calls (λ m after. after ≡ not_connected m.stage m) w new → IsWorld new
 missed_world w new known v = moved _ w new known v (λ p. missed_parts v.m v.after w.kept w.wire v.wire v.m.stage refl p v.goes v.sound v.wired)
 
-pub ended_world : LineLaws → (w new : World) (why : SendFault) → IsWorld w → Moves (λ m after. Ended m.stage why m after) w w.kept new → IsWorld new
+pub ended_world : LineLaws → (w new : World) (why : SendFault) → IsWorld w → Calls (λ m after. Ended m.stage why m after) w new → IsWorld new
 ended_world laws w new why known v = moved _ w new known v (λ p. ended_parts laws why v.m v.after w.kept w.wire v.wire v.m.stage refl p v.goes v.sound v.wired)

@@ -2,6 +2,7 @@
 use Rattle.std.proofs.Common.{ℕ, zero, suc, ◌≡◌, ◌≢◌, ◌+◌, ◌-◌, ◌<◌, ◌≤◌, ◌⊎◌, inl, inr, Option, Some, None, List, [], ◌∷◌, ◌++◌, length, take, drop, refl, sym, ◌∙◌, ap, subst, append-nil, length-append, arith}
 use Rattle.std.specs.Prelude.{map, slice_index}
 use Rattle.escpos_command.specs.declared.command.Command.{Command}
+use Rattle.escpos_host.specs.declared.send.SendFault.{SendFault}
 use Rattle.escpos_command.specs.Digits.{mark_of}
 use Rattle.escpos_host.specs.Earlier.{with_earlier}
 use Rattle.escpos_host.specs.Machine.{HostView, Phase, Down, Open, IsSound, in_flight, most_in_flight, submitted, HasMark, InFlight}
@@ -26,7 +27,7 @@ use Rattle.escpos_till.specs.Entries.{MayFollow, recorded}
 use Rattle.escpos_till.specs.declared.entry.Entry.TheVariants as entry
 use Rattle.escpos_till.specs.declared.machine.Talk.{Talk}
 use Rattle.escpos_till.specs.declared.machine.Then.TheVariants as then
-use Rattle.escpos_till.specs.declared.machine.TillNote.{TillNote}
+use Rattle.escpos_till.specs.declared.machine.TillNote.TheVariants as note_kind
 use Rattle.escpos_till.specs.Machine.{Came, Drops, GoesOn as MachineGoesOn, MachineView, Submits, Turns as MachineTurns, at}
 use Rattle.escpos_till_model.proofs.GoesOn.{goes_on}
 use Rattle.escpos_till_model.proofs.Keeping.{gone_keeps, on_keeps, submitted_keeps}
@@ -232,16 +233,16 @@ abbrev pub Unrecorded : List Entry → List (List Command) → HostView → Type
 Unrecorded kept earlier host = length (earlier ++ host.records) ≡ length (recorded kept)
 
 -- The talk is over.
-pub over : LineLaws → (m after : MachineView) (kept : List Entry) (w wire : WireView) (talk : Talk) (consumed : ℕ) (host : HostView) (n : TillNote) → (x : Heard m after kept w wire talk consumed host)
-    → Drops host after.host → after.stage ≡ stage.HangingUp n → Parts after kept wire
-over laws m after kept w wire talk consumed host n x drops now = record {
+pub over : LineLaws → (m after : MachineView) (kept : List Entry) (w wire : WireView) (talk : Talk) (consumed : ℕ) (host : HostView) (why : SendFault) → (x : Heard m after kept w wire talk consumed host)
+    → Drops host after.host → after.stage ≡ stage.HangingUp (note_kind.Waiting talk.number why) → Parts after kept wire
+over laws m after kept w wire talk consumed host why x drops now = record {
   earlier = x.earlier;
   sound = x.after_sound;
   right = drops_right laws x.earlier host after.host w wire x.sound drops x.wired x.right;
   hand = None;
   keeps = subst (λ v. Keeps kept None v) (sym (drops_hung x.earlier host after.host drops)) (gone_keeps kept (Some x.held) (with_earlier x.earlier host) x.keeps);
   book = λ live. x.book;
-  holds = subst (λ s. Holds kept None (with_earlier x.earlier after.host) s) (sym now) refl;
+  holds = subst (λ s. Holds kept None (with_earlier x.earlier after.host) s) (sym now) (refl, tt);
 }
 
 -- The talk goes on, with the host as it is.
@@ -358,6 +359,6 @@ hears laws w new most known v =
         goes_down = λ a b. v.wired.goes_down up b;
       };
     } in
-    subst IsWorld (sym v.is) (whole v.after w.kept v.wire
+    subst IsWorld (sym v.is) (whole v.after w.kept v.wire w.told known.told
     (turned_parts laws v.m v.after w.kept middle v.wire v.talk v.consumed (v.talk.left - v.consumed) host e v.m.host.records x records
     (grew v.m.host host (take most w.wire.coming) v.consumed e is_heard on) on turns))

@@ -1,6 +1,6 @@
 -- What holds of every world holds after what a store does, after bytes are put, and after what happens without the machine.
-use Rattle.std.proofs.Common.{ℕ, zero, suc, ◌≡◌, ◌≢◌, ◌+◌, ◌-◌, ◌<◌, ◌≤◌, inl, inr, max, Option, Some, None, List, [], ◌∷◌, ◌++◌, length, take, refl, sym, ◌∙◌, ap, subst, append-nil, arith}
-use Rattle.std.specs.Prelude.{false}
+use Rattle.std.proofs.Common.{ℕ, zero, suc, ◌≡◌, ◌≢◌, ◌+◌, ◌-◌, ◌<◌, ◌≤◌, inl, inr, max, Option, Some, None, List, [], ◌∷◌, ◌++◌, length, take, refl, sym, ◌∙◌, ap, subst, append-nil, length-append, arith}
+use Rattle.std.specs.Prelude.{true, false}
 use Rattle.std.proofs.Math.Nat.{le-max_right}
 use Rattle.escpos_host.specs.declared.send.SendFault.{SendFault}
 use Rattle.escpos_command.specs.declared.command.Command.{Command}
@@ -21,31 +21,34 @@ use Rattle.escpos_link.specs.Wire.{WireView, given_up, line_of, with_bytes, with
 use Rattle.escpos_link.proofs.AtTheEnd.{hung_up_by, idle_kept, idle_trusted}
 use Rattle.escpos_link.proofs.Happening.{resumed_kept}
 use Rattle.escpos_host.proofs.Earlier.{earlier_sound}
+use Rattle.escpos_till.specs.declared.book.Book.{Book}
+use Rattle.escpos_till.specs.declared.entry.Content.{Content}
 use Rattle.escpos_till.specs.declared.entry.Entry.{Entry}
 use Rattle.escpos_till.specs.declared.machine.Stage.TheVariants as stage
 use Rattle.escpos_till.specs.Book.{IsBookOf}
-use Rattle.escpos_till.specs.Entries.{MayFollow, next_free, record_of, recorded, taken}
+use Rattle.escpos_till.specs.Entries.{MayFollow, contents, next_free, numbered_from, record_of, recorded, states, taken}
 use Rattle.escpos_till.specs.declared.entry.Entry.TheVariants as entry
 use Rattle.escpos_till.specs.declared.machine.Due.{Due}
 use Rattle.escpos_till.specs.declared.machine.Talk.{Talk}
 use Rattle.escpos_till.specs.declared.machine.Then.{Then}
+use Rattle.escpos_till.specs.declared.machine.TillNote.{TillNote}
+use Rattle.escpos_till.specs.declared.machine.TillNote.TheVariants as note_kind
 use Rattle.escpos_till.specs.declared.store.StoreFault.{StoreFault}
 use Rattle.escpos_till.specs.declared.machine.Then.TheVariants as then
 use Rattle.escpos_till.specs.Delivers.{fresh, marks_taken}
-use Rattle.escpos_till.specs.Machine.{Drops, Ended, Follows, Kept, MachineView, Opens, Unsure, lost, put, told}
-use Rattle.escpos_till.proofs.EntryLemmas.{next_after_tried}
+use Rattle.escpos_till.specs.Machine.{Drops, Ended, Follows, Kept, MachineView, Opens, Unsure, lost, put}
+use Rattle.escpos_till.proofs.EntryLemmas.{count_states, next_after_tried, some_state}
 use Rattle.escpos_till.proofs.MachineLemmas.{waits_tried}
-use Rattle.escpos_till_model.proofs.EntryFacts.{recorded_same, zip_length}
-use Rattle.escpos_till_model.proofs.GoesOn.{GoesOn, goes_on, no_call}
+use Rattle.escpos_till_model.proofs.EntryFacts.{among_more, recorded_append, recorded_same, taken_append, zip_length}
+use Rattle.escpos_till_model.proofs.GoesOn.{GoesOn, goes_on}
 use Rattle.escpos_till_model.proofs.Keeping.{entry_keeps, front_of, gone_keeps, linked_keeps, nudged_keeps, on_keeps, record_keeps, take_keeps}
-use Rattle.escpos_till_model.specs.Receipts.{IsReceiptOf}
-use Rattle.escpos_till_model.specs.Steps.{is_host_call}
+use Rattle.escpos_till_model.specs.Receipts.{Among, IsReceiptOf}
 use Rattle.escpos_till_model.specs.declared.hand.Hand.{Hand}
 use Rattle.escpos_till_model.specs.Kept.{Keeps}
-use Rattle.escpos_till_model.specs.Known.{HasLost, Holds, IsHostOf, IsToKeep, IsWorld}
-use Rattle.escpos_till_model.specs.World.{Breaks, Crashes, Happens, Idles, OnWire, Puts, Starts, Stores, Wired, World, off, running, with_entry, without_entry}
+use Rattle.escpos_till_model.specs.Known.{BookMayLag, Holds, IsHostOf, IsToKeep, IsWorld}
+use Rattle.escpos_till_model.specs.World.{Breaks, Crashes, GoesOnWire, Idles, IsSo, Puts, Starts, Stores, Wired, World, is_printer_event, off, running, with_entry, with_wire, without_entry}
 use Rattle.escpos_till_model.proofs.LinesKept.{LineLaws, Right, goes, down_or_up, same_wire, none_given_up, drops_right, drops_hung}
-use Rattle.escpos_till_model.proofs.WorldCalls.{Parts, whole, parts, let_go}
+use Rattle.escpos_till_model.proofs.WorldCalls.{AreSo, Parts, whole, parts, let_go}
 
 -- ## A host that has sent nothing
 
@@ -82,7 +85,7 @@ started laws w new known starts =
     let right = fresh_right laws known.earlier known.host w.wire w.kept known.hand starts.m.book.next down (record { line = known.line; trusted = known.trusted }) known.keeps
     (omega (arith, known.keeps.next, next)) in
     let keeps = fresh_keeps known.earlier known.host w.kept known.hand starts.m.book.next known.keeps (omega (arith, next)) in
-    subst IsWorld (sym starts.is) (whole starts.m w.kept w.wire (record {
+    subst IsWorld (sym starts.is) (whole starts.m w.kept w.wire w.told known.told (record {
       earlier = known.keeps.receipts;
       sound = starts.sound;
       right = subst (λ h. Right (line_of (with_earlier known.keeps.receipts h) w.wire)) (sym starts.started.host) right;
@@ -92,26 +95,40 @@ started laws w new known starts =
       holds = subst (λ s. Holds w.kept None (with_earlier known.keeps.receipts starts.m.host) s) (sym starts.started.stage) refl;
     }))
 
+-- What was told is so with more entries.
+pub so_grows : (kept more : List Entry) (n : TillNote) → IsSo kept n → IsSo (kept ++ more) n
+so_grows kept more (note_kind.Queued number) (some, within) =
+    (some, omega (arith, within, ap length (taken_append kept more), length-append (taken kept) (numbered_from (1 + length (contents kept)) (contents more))))
+so_grows kept more note_kind.Raised so = so
+so_grows kept more (note_kind.Recorded number) so =
+    subst (λ ns. Among number ns) (sym (recorded_append kept more)) (among_more number (recorded kept) (recorded more) so)
+so_grows kept more (note_kind.NoLink number) so = so
+so_grows kept more (note_kind.Waiting number why) so = so
+so_grows kept more (note_kind.NotKept why) so = so
+
+pub so_later : (kept more : List Entry) (notes : List TillNote) → AreSo kept notes → AreSo (kept ++ more) notes
+so_later kept more notes so n among = so_grows kept more n (so n among)
+
 -- ## On the wire, and off
 
-pub fits_wire : (e : Event) → is_host_call e ≡ false → IsFitting e
-fits_wire event.LinkUp call = tt
-fits_wire event.Nudge call = tt
-fits_wire (event.Submit receipt) call = no_call call
-fits_wire (event.Ask kind) call = no_call call
-fits_wire (event.HostRestart first) call = tt
-fits_wire (event.Move k) call = tt
-fits_wire (event.Deliver k) call = tt
-fits_wire event.HandOver call = tt
-fits_wire (event.Answer k) call = tt
-fits_wire event.PrinterLeaves call = tt
-fits_wire event.PrinterRestart call = tt
-fits_wire event.HostDrops call = tt
-fits_wire (event.SetCondition condition) call = tt
+pub fits_wire : (e : Event) → is_printer_event e ≡ true → IsFitting e
+fits_wire event.LinkUp at_printer = tt
+fits_wire event.Nudge at_printer = tt
+fits_wire (event.Submit receipt) at_printer = absurd (let bad : false ≡ true = at_printer in cc)
+fits_wire (event.Ask kind) at_printer = absurd (let bad : false ≡ true = at_printer in cc)
+fits_wire (event.HostRestart first) at_printer = tt
+fits_wire (event.Move k) at_printer = tt
+fits_wire (event.Deliver k) at_printer = tt
+fits_wire event.HandOver at_printer = tt
+fits_wire (event.Answer k) at_printer = tt
+fits_wire event.PrinterLeaves at_printer = tt
+fits_wire event.PrinterRestart at_printer = tt
+fits_wire event.HostDrops at_printer = tt
+fits_wire (event.SetCondition condition) at_printer = tt
 
 -- Another wire, where all else stays.
 pub rewired : (w : World) (wire : WireView) → (known : IsWorld w) → Right (line_of (with_earlier known.earlier known.host) wire)
-    → IsWorld (record { machine = w.machine; kept = w.kept; wire = wire })
+    → IsWorld (with_wire w wire)
 rewired w wire known right = record {
   earlier = known.earlier;
   host = known.host;
@@ -122,14 +139,15 @@ rewired w wire known right = record {
   hand = known.hand;
   keeps = known.keeps;
   machine = known.machine;
+  told = known.told;
 }
 
-pub on_wire : LineLaws → (w new : World) (e : Event) → IsWorld w → Happens w (OnWire e) new → IsWorld new
-on_wire laws w new e known (call, wire, (told, happened), is) =
+pub on_wire : LineLaws → (w new : World) (e : Event) → IsWorld w → GoesOnWire e w new → IsWorld new
+on_wire laws w new e known v =
     let before : HostView = with_earlier known.earlier known.host in
-    subst IsWorld (sym is) (rewired w wire known
-    (goes laws e (line_of before w.wire) (line_of before wire) told (fits_wire e call) (earlier_sound known.earlier known.host known.sound)
-    (record { line = known.line; trusted = known.trusted }) (happened before)))
+    subst IsWorld (sym v.is) (rewired w v.wire known
+    (goes laws e (line_of before w.wire) (line_of before v.wire) v.effect (fits_wire e v.at_printer) (earlier_sound known.earlier known.host known.sound)
+    (record { line = known.line; trusted = known.trusted }) (v.happened before)))
 
 pub down_of : (machine : Option MachineView) (h : HostView) → IsHostOf machine h → ((m : MachineView) → machine ≡ Some m → m.host.phase ≡ Down) → h.phase ≡ Down
 down_of None h is none = is
@@ -161,6 +179,7 @@ off_world laws w wire h known drops sound wired down =
       hand = None;
       keeps = subst (λ v. Keeps w.kept None v) (sym (drops_hung known.earlier known.host h drops)) (gone_keeps w.kept known.hand (with_earlier known.earlier known.host) known.keeps);
       machine = refl;
+      told = known.told;
     }
 
 pub still_down : (machine : Option MachineView) (h : HostView) → IsHostOf machine h → h.phase ≡ Down → (m : MachineView) → machine ≡ Some m → m.host.phase ≡ Down
@@ -209,7 +228,7 @@ moved_on earlier h w count within =
     (count, refl, omega (arith, within), refl)
 
 pub talking_book : (m : MachineView) (kept : List Entry) (w : WireView) (talk : Talk) → m.stage ≡ stage.Talking talk → Parts m kept w → IsBookOf m.book kept
-talking_book m kept w talk is p = p.book (λ lost. subst HasLost is lost)
+talking_book m kept w talk is p = p.book (λ lost. subst BookMayLag is lost)
 
 pub talking_holds : (m : MachineView) (kept : List Entry) (w : WireView) (talk : Talk) → m.stage ≡ stage.Talking talk → (p : Parts m kept w)
     → Holds kept p.hand (with_earlier p.earlier m.host) (stage.Talking talk)
@@ -222,9 +241,9 @@ puts laws w new count known v =
     let holds = talking_holds v.m w.kept w.wire v.talk v.talks p in
     let after : MachineView = put (stage.Talking v.talk) count v.m in
     let is : put v.m.stage count v.m ≡ after = ap (λ s. put s count v.m) v.talks in
-    let world : World = running after w.kept (with_bytes w.wire (take count h.out)) in
-    let same : new ≡ world = v.is ∙ ap (λ m. running m w.kept (with_bytes w.wire (take count h.out))) is in
-    subst IsWorld (sym same) (whole after w.kept (with_bytes w.wire (take count h.out)) (record {
+    let world : World = running after w.kept (with_bytes w.wire (take count h.out)) w.told in
+    let same : new ≡ world = v.is ∙ ap (λ m. running m w.kept (with_bytes w.wire (take count h.out)) w.told) is in
+    subst IsWorld (sym same) (whole after w.kept (with_bytes w.wire (take count h.out)) w.told known.told (record {
       earlier = p.earlier;
       sound = subst (λ m. IsSound m.host) is v.sound;
       right = moved_right laws p.earlier h w.wire count v.within p.sound p.right;
@@ -248,7 +267,7 @@ breaks laws w new taken count why known v =
     let off_right = goes laws event.HostDrops (line_of (with_earlier p.earlier (taken_out h count)) wire) (line_of (with_earlier p.earlier (gone_down h)) (given_up wire)) note.Done tt
     (earlier_sound p.earlier (taken_out h count) (sound_taken h count up p.sound)) put_right
     (hung_up_by (with_earlier p.earlier (taken_out h count)) (with_earlier p.earlier (gone_down h)) wire (λ u. refl) (λ down. absurd (up down))) in
-    subst IsWorld (sym v.is) (whole v.after w.kept (given_up wire) (record {
+    subst IsWorld (sym v.is) (whole v.after w.kept (given_up wire) w.told known.told (record {
       earlier = p.earlier;
       sound = v.sound;
       right = subst (λ x. Right (line_of (with_earlier p.earlier x) (given_up wire))) (sym gone) off_right;
@@ -257,30 +276,30 @@ breaks laws w new taken count why known v =
           (sym (drops_hung p.earlier h v.after.host (λ down. absurd (up down), λ u. gone)))
           (gone_keeps w.kept p.hand (with_earlier p.earlier h) p.keeps);
       book = λ live. subst (λ b. IsBookOf b w.kept) (sym book) (talking_book v.m w.kept w.wire v.talk v.talks p);
-      holds = subst (λ s. Holds w.kept None (with_earlier p.earlier v.after.host) s) (sym now) refl;
+      holds = subst (λ s. Holds w.kept None (with_earlier p.earlier v.after.host) s) (sym now) (refl, tt);
     }))
 
 -- ## An entry is to be kept
 
 -- What the store's failure leaves: nothing is in hand, and what the machine knows may not be all.
-pub lost_is_lost : (next : Then) (why : StoreFault) → HasLost (lost next why)
-lost_is_lost then.Queued why = tt
-lost_is_lost then.Raised why = tt
-lost_is_lost (then.Send due) why = tt
-lost_is_lost (then.Recorded number) why = tt
+pub lost_lags : (next : Then) (why : StoreFault) → BookMayLag (lost next why)
+lost_lags then.Queued why = tt
+lost_lags then.Raised why = tt
+lost_lags (then.Send due) why = tt
+lost_lags (then.Recorded number) why = tt
 
 pub lost_holds : (next : Then) (why : StoreFault) (kept : List Entry) (h : HostView) → Holds kept None h (lost next why)
-lost_holds then.Queued why kept h = refl
-lost_holds then.Raised why kept h = refl
-lost_holds (then.Send due) why kept h = refl
-lost_holds (then.Recorded number) why kept h = refl
+lost_holds then.Queued why kept h = (refl, tt)
+lost_holds then.Raised why kept h = (refl, tt)
+lost_holds (then.Send due) why kept h = (refl, tt)
+lost_holds (then.Recorded number) why kept h = (refl, tt)
 
 -- The entries with that one are kept by a host that has given its link up.
 pub stored_keeps : (kept : List Entry) (e : Entry) (next : Then) (hand : Option Hand) (earlier : List (List Command)) (h h' : HostView) → Keeps kept hand (with_earlier earlier h)
     → MayFollow kept e → IsToKeep kept hand (with_earlier earlier h) e next → Drops h h' → Keeps (kept ++ e ∷ []) None (with_earlier earlier h')
-stored_keeps kept e then.Queued hand earlier h h' k follows is drops =
+stored_keeps kept e then.Queued hand earlier h h' k follows (none, content, is) drops =
     subst (λ v. Keeps (kept ++ e ∷ []) None v) (sym (drops_hung earlier h h' drops))
-    (gone_keeps (kept ++ e ∷ []) hand (with_earlier earlier h) (entry_keeps kept e hand (with_earlier earlier h) is.1 follows k))
+    (gone_keeps (kept ++ e ∷ []) hand (with_earlier earlier h) (entry_keeps kept e hand (with_earlier earlier h) (ap record_of is) follows k))
 stored_keeps kept e then.Raised hand earlier h h' k follows is drops =
     subst (λ v. Keeps (kept ++ e ∷ []) None v) (sym (drops_hung earlier h h' drops))
     (gone_keeps (kept ++ e ∷ []) hand (with_earlier earlier h) (entry_keeps kept e hand (with_earlier earlier h) is.1 follows k))
@@ -300,13 +319,13 @@ failed_with laws w new why known v =
     let (is, unsure) = moves.goes in
     let (drops, book, now) = subst (λ s. Unsure s why moves.m moves.after) is unsure in
     let (follows, to_keep) = subst (λ s. Holds w.kept p.hand (with_earlier p.earlier moves.m.host) s) is p.holds in
-    subst IsWorld (sym moves.is) (whole moves.after (w.kept ++ v.entry ∷ []) moves.wire (record {
+    subst IsWorld (sym moves.is) (whole moves.after (w.kept ++ v.entry ∷ []) moves.wire w.told (so_later w.kept (v.entry ∷ []) w.told known.told) (record {
       earlier = p.earlier;
       sound = moves.sound;
       right = drops_right laws p.earlier moves.m.host moves.after.host w.wire moves.wire p.sound drops moves.wired p.right;
       hand = None;
       keeps = stored_keeps w.kept v.entry v.next p.hand p.earlier moves.m.host moves.after.host p.keeps follows to_keep drops;
-      book = λ live. absurd (live (subst HasLost (sym now) (lost_is_lost v.next why)));
+      book = λ live. absurd (live (subst BookMayLag (sym now) (lost_lags v.next why)));
       holds = subst (λ s. Holds (w.kept ++ v.entry ∷ []) None (with_earlier p.earlier moves.after.host) s) (sym now)
           (lost_holds v.next why (w.kept ++ v.entry ∷ []) (with_earlier p.earlier moves.after.host));
     }))
@@ -317,9 +336,9 @@ failed_without laws w new why known v =
     let p = parts w moves.m moves.was known in
     let (is, unsure) = moves.goes in
     let (drops, book, now) = subst (λ s. Unsure s why moves.m moves.after) is unsure in
-    subst IsWorld (sym moves.is) (whole moves.after w.kept moves.wire
+    subst IsWorld (sym moves.is) (whole moves.after w.kept moves.wire w.told known.told
     (let_go laws moves.m moves.after w.kept w.wire moves.wire p drops moves.sound moves.wired
-    (λ live. absurd (live (subst HasLost (sym now) (lost_is_lost v.next why))))
+    (λ live. absurd (live (subst BookMayLag (sym now) (lost_lags v.next why))))
     (subst (λ s. Holds w.kept None (with_earlier p.earlier moves.after.host) s) (sym now) (lost_holds v.next why w.kept (with_earlier p.earlier moves.after.host)))))
 
 -- ## An entry is kept
@@ -440,7 +459,7 @@ sent_parts laws m after kept w new e due p book follows (none, send, is) (inr (w
       hand = None;
       keeps = subst (λ h. Keeps (kept ++ e ∷ []) None (with_earlier grown.receipts h)) (sym host) kept_so;
       book = λ live. known;
-      holds = subst (λ s. Holds (kept ++ e ∷ []) None (with_earlier grown.receipts after.host) s) (sym now) refl;
+      holds = subst (λ s. Holds (kept ++ e ∷ []) None (with_earlier grown.receipts after.host) s) (sym now) (refl, tt);
     }
 
 pub quietly_kept : (m after : MachineView) (kept : List Entry) (w new : WireView) (e : Entry) → (p : Parts m kept w) → MayFollow kept e → p.hand ≡ None → record_of e ≡ None → after.host ≡ m.host
@@ -458,13 +477,28 @@ quietly_kept m after kept w new e p follows none other same sound wired known ho
       holds = subst (λ h. Holds (kept ++ e ∷ []) p.hand (with_earlier p.earlier h) after.stage) (sym same) holds;
     }
 
+-- The receipt that was taken last has the number of all that were taken.
+pub queued_so : (b : Book) (es before : List Entry) (content : Content) (number : ℕ) → IsBookOf b es → es ≡ before ++ entry.Queued content ∷ [] → number ≡ length b.states.items
+    → IsSo es (note_kind.Queued number)
+queued_so b es before content number book is same =
+    let all : length b.states.items ≡ length (states es) = ap length book.states in
+    let counts : length (states es) ≡ length (taken es) = count_states es in
+    let some : 0 < length (states es) = some_state es before content is in
+    (omega (arith, same, all, some), omega (arith, same, all, counts))
+
+pub recorded_so : (kept : List Entry) (number : ℕ) → Among number (recorded (kept ++ entry.Recorded number ∷ []))
+recorded_so kept number = (recorded kept, [], recorded_append kept (entry.Recorded number ∷ []))
+
 pub kept_parts : LineLaws → (m after : MachineView) (kept : List Entry) (w new : WireView) (e : Entry) (next : Then) → (p : Parts m kept w) → IsBookOf m.book kept
     → MayFollow kept e → IsToKeep kept p.hand (with_earlier p.earlier m.host) e next → Follows next m.host m.book.next after.book after.host after.stage → IsBookOf after.book (kept ++ e ∷ [])
     → IsSound after.host → Wired m.host after.host w new → Parts after (kept ++ e ∷ []) new
-kept_parts laws m after kept w new e then.Queued p book follows (none, other) (number, is, host, now) known sound wired =
-    quietly_kept m after kept w new e p follows none other host sound wired known (subst (λ s. Holds (kept ++ e ∷ []) p.hand (with_earlier p.earlier m.host) s) (sym now) none)
+kept_parts laws m after kept w new e then.Queued p book follows (none, content, entry_is) (number, is, host, now) known sound wired =
+    quietly_kept m after kept w new e p follows none (ap record_of entry_is) host sound wired known
+    (subst (λ s. Holds (kept ++ e ∷ []) p.hand (with_earlier p.earlier m.host) s) (sym now)
+    (none, queued_so after.book (kept ++ e ∷ []) kept content number known (ap (λ x. kept ++ x ∷ []) entry_is) is))
 kept_parts laws m after kept w new e then.Raised p book follows (none, other) (host, now) known sound wired =
-    quietly_kept m after kept w new e p follows none other host sound wired known (subst (λ s. Holds (kept ++ e ∷ []) p.hand (with_earlier p.earlier m.host) s) (sym now) none)
+    quietly_kept m after kept w new e p follows none other host sound wired known
+    (subst (λ s. Holds (kept ++ e ∷ []) p.hand (with_earlier p.earlier m.host) s) (sym now) (none, tt))
 kept_parts laws m after kept w new e (then.Send due) p book follows to_keep opens known sound wired = sent_parts laws m after kept w new e due p book follows to_keep opens known sound wired
 kept_parts laws m after kept w new e (then.Recorded number) p book follows to_keep (drops, now) known sound wired = record {
   earlier = p.earlier;
@@ -473,7 +507,8 @@ kept_parts laws m after kept w new e (then.Recorded number) p book follows to_ke
   hand = None;
   keeps = stored_keeps kept e (then.Recorded number) p.hand p.earlier m.host after.host p.keeps follows to_keep drops;
   book = λ live. known;
-  holds = subst (λ s. Holds (kept ++ e ∷ []) None (with_earlier p.earlier after.host) s) (sym now) refl;
+  holds = subst (λ s. Holds (kept ++ e ∷ []) None (with_earlier p.earlier after.host) s) (sym now)
+      (refl, subst (λ x. Among number (recorded (kept ++ x ∷ []))) (sym to_keep.3) (recorded_so kept number));
 }
 
 pub kept_world : LineLaws → (w new : World) → IsWorld w → Stores (λ m after. Kept m.stage m after) with_entry w new → IsWorld new
@@ -483,6 +518,6 @@ kept_world laws w new known v =
     let (is, kept_so) = moves.goes in
     let (notes, so) = subst (λ s. Kept s moves.m moves.after) is kept_so in
     let (follows, to_keep) = subst (λ s. Holds w.kept p.hand (with_earlier p.earlier moves.m.host) s) is p.holds in
-    let book : IsBookOf moves.m.book w.kept = p.book (λ lost. subst HasLost is lost) in
-    subst IsWorld (sym moves.is) (whole moves.after (w.kept ++ v.entry ∷ []) moves.wire
+    let book : IsBookOf moves.m.book w.kept = p.book (λ lost. subst BookMayLag is lost) in
+    subst IsWorld (sym moves.is) (whole moves.after (w.kept ++ v.entry ∷ []) moves.wire w.told (so_later w.kept (v.entry ∷ []) w.told known.told)
     (kept_parts laws moves.m moves.after w.kept w.wire moves.wire v.entry v.next p book follows to_keep so (notes w.kept book p.keeps.ledger follows) moves.sound moves.wired))

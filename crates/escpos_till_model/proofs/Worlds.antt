@@ -1,23 +1,28 @@
 -- What holds of every world holds after whatever happens in it.
-use Rattle.std.proofs.Common.{ℕ, ◌≡◌, ◌≤◌, None, List, [], ◌∷◌, ◌++◌, refl, sym, ◌∙◌, ap, subst, append-nil, append_assoc, arith}
+use Rattle.std.proofs.Common.{ℕ, ◌≡◌, ◌≤◌, None, List, [], ◌∷◌, ◌++◌, length, take, refl, sym, ◌∙◌, ap, subst, append-nil, append_assoc, arith}
+use Rattle.std.proofs.lemmas.List.{take_all}
+use Rattle.escpos_command.specs.declared.command.Command.{Command}
 use Rattle.escpos_host.specs.Earlier.{with_earlier}
+use Rattle.escpos_host.specs.Machine.{HostView, Down}
 use Rattle.escpos_link.specs.Line.{IsLine, LineView}
+use Rattle.escpos_link.specs.Resumed.{resumed, resumed_host}
 use Rattle.escpos_link.specs.Trusted.{IsTrusted}
 use Rattle.escpos_link.specs.Wire.{given_up, line_of, wire_of}
 use Rattle.escpos_link.specs.Stands.{Stands}
 use Rattle.escpos_link.proofs.Standing.{stands_front}
 use Rattle.escpos_link.proofs.Happening.{resumed_kept}
 use Rattle.escpos_till.specs.declared.entry.Entry.{Entry}
-use Rattle.escpos_till.specs.Entries.{IsLedger, taken}
+use Rattle.escpos_till.specs.Entries.{IsLedger, next_free, recorded}
 use Rattle.escpos_till.specs.declared.entry.Entry.TheVariants as entry
 use Rattle.escpos_till.specs.Delivers.{fresh}
 use Rattle.escpos_till.proofs.EntryLemmas.{empty_ledger, ledger-snoc}
-use Rattle.escpos_till_model.specs.Receipts.{Extends, RecordedStand}
-use Rattle.escpos_till_model.specs.Known.{IsWorld}
-use Rattle.escpos_till_model.specs.World.{Break, Connect, Crash, Deliver, End, FailWith, FailWithout, HangUp, Happening, Happens, Hear, Idle, Keep, Miss, OnWire, Put, Queue, Raise, Refuse, Runs, Start, Tell, World}
-use Rattle.escpos_till_model.proofs.LinesKept.{LineLaws}
+use Rattle.escpos_till_model.specs.Receipts.{AreReceipts, Extends, IsReceiptOf, RecordedStand}
+use Rattle.escpos_till_model.specs.Known.{IsHostOf, IsMachineIn, IsWorld}
+use Rattle.escpos_till_model.specs.World.{Begins, Break, Connect, Crash, Deliver, End, FailWith, FailWithout, HangUp, Happening, Happens, Hear, Idle, Keep, Miss, OnWire, Put, Queue, Raise, Refuse, Runs, Start, Tell, World}
+use Rattle.escpos_till_model.proofs.LinesKept.{LineLaws, Right, none_given_up}
+use Rattle.escpos_till_model.proofs.EntryFacts.{among_nothing, zip_length}
 use Rattle.escpos_till_model.proofs.WorldCalls.{queued, raised, refused, delivers, told_world, hung_world, connected_world, missed_world, ended_world}
-use Rattle.escpos_till_model.proofs.WorldStore.{started, on_wire, idled, crashed, puts, breaks, failed_with, failed_without, fresh_sound, kept_world}
+use Rattle.escpos_till_model.proofs.WorldStore.{started, on_wire, idled, crashed, puts, breaks, failed_with, failed_without, fresh_right, fresh_sound, kept_world}
 use Rattle.escpos_till_model.proofs.WorldHears.{hears}
 
 -- ## Whatever happens
@@ -78,8 +83,8 @@ entries_stay w new (Break taken count why) happened = same_entries w.kept new.ke
 entries_stay w new (Hear most) happened = same_entries w.kept new.kept (ap (λ v. v.kept) happened.is)
 entries_stay w new (End why) happened = same_entries w.kept new.kept (ap (λ v. v.kept) happened.is)
 entries_stay w new HangUp happened = same_entries w.kept new.kept (ap (λ v. v.kept) happened.is)
-entries_stay w new Tell happened = same_entries w.kept new.kept (ap (λ v. v.kept) happened.is)
-entries_stay w new (OnWire e) happened = same_entries w.kept new.kept (ap (λ v. v.kept) happened.3)
+entries_stay w new Tell happened = same_entries w.kept new.kept (ap (λ v. v.kept) happened.moves.is)
+entries_stay w new (OnWire e) happened = same_entries w.kept new.kept (ap (λ v. v.kept) happened.is)
 entries_stay w new Idle happened = same_entries w.kept new.kept (ap (λ v. v.kept) happened.is)
 entries_stay w new Crash happened = same_entries w.kept new.kept (ap (λ v. v.kept) happened.is)
 
@@ -92,21 +97,69 @@ entries_last w new (e ∷ es) (mid, happened, others) = more_entries w.kept mid.
 
 -- ## The first world
 
+-- A world that begins is one.
+pub begun : LineLaws → (w : World) → Begins w → IsWorld w
+begun laws w b =
+    let f : ℕ = next_free w.kept in
+    let count : ℕ = length (recorded w.kept) in
+    let records : List (List Command) = b.line.host.records in
+    let same : count ≡ length records = zip_length (IsReceiptOf w.kept) (recorded w.kept) records b.receipts in
+    let within : length records ≤ length records = omega arith in
+    let all : take count records ≡ records ++ [] = ap (λ n. take n records) same ∙ take_all (length records) records within ∙ sym (append-nil records) in
+    let host : resumed_host b.line.host f count ≡ with_earlier records (fresh f) =
+    ap (λ rs. record { phase = Down; out = []; half = []; next = f; records = rs; left = [] }) all in
+    let left : Right (line_of (resumed_host b.line.host f count) (given_up (wire_of b.line))) = record {
+      line = resumed_kept b.line f count b.is_line;
+      trusted = (laws.trust.resumes b.line f count b.next b.trusted).0;
+    } in
+    let right : Right (line_of (with_earlier records (fresh f)) w.wire) =
+    subst (λ v. Right (line_of (with_earlier records (fresh f)) v)) (sym b.wire_is) (subst (λ h. Right (line_of h (given_up (wire_of b.line)))) host left) in
+    record {
+      earlier = records;
+      host = fresh f;
+      host_is = subst (λ x. IsHostOf x (fresh f)) (sym b.off) refl;
+      sound = fresh_sound f;
+      line = right.line;
+      trusted = right.trusted;
+      hand = None;
+      keeps = record { ledger = b.ledger; receipts = records; are = b.receipts; answered = []; records = refl; next = omega arith; in_hand = refl };
+      machine = subst (λ x. IsMachineIn x w.kept None (with_earlier records (fresh f))) (sym b.off) refl;
+      told = b.told;
+    }
+
+-- A world whose till is off may begin again: its line goes on with what is recorded.
+pub begins_again : LineLaws → (w : World) → w.machine ≡ None → IsWorld w → Begins w
+begins_again laws w off known =
+    let down : known.host.phase ≡ Down = subst (λ x. IsHostOf x known.host) off known.host_is in
+    let host : HostView = with_earlier known.keeps.receipts (fresh (next_free w.kept)) in
+    let right : Right (line_of host w.wire) =
+    fresh_right laws known.earlier known.host w.wire w.kept known.hand (next_free w.kept) down (record { line = known.line; trusted = known.trusted }) known.keeps known.keeps.next in
+    record {
+      off = off;
+      ledger = known.keeps.ledger;
+      line = line_of host w.wire;
+      is_line = right.line;
+      trusted = right.trusted;
+      receipts = subst (λ rs. AreReceipts w.kept rs) (sym (append-nil known.keeps.receipts)) known.keeps.are;
+      next = omega arith;
+      wire_is = sym (none_given_up host w.wire refl right.line);
+      told = known.told;
+    }
+
 pub raised_ledger : (n : ℕ) → IsLedger (entry.Raised n ∷ [])
 raised_ledger n = ledger-snoc [] (entry.Raised n) empty_ledger (omega arith)
 
--- A till begins with whatever printer a line has left, and with links that were given up; its ledger has raised the next number to one
--- that this line hasn't used.
+-- A new ledger has raised the next number to one that this line hasn't used: the line goes on as if it had recorded nothing.
 pub first_world : LineLaws → (l : LineView) (n : ℕ) → IsLine l → IsTrusted l → l.host.next ≤ n
-    → IsWorld (record { machine = None; kept = entry.Raised n ∷ []; wire = given_up (wire_of l) })
+    → Begins (record { machine = None; kept = entry.Raised n ∷ []; wire = given_up (wire_of l); told = [] })
 first_world laws l n line trusted within = record {
-  earlier = [];
-  host = fresh n;
-  host_is = refl;
-  sound = fresh_sound n;
-  line = resumed_kept l n 0 line;
+  off = refl;
+  ledger = raised_ledger n;
+  line = resumed l n 0;
+  is_line = resumed_kept l n 0 line;
   trusted = (laws.trust.resumes l n 0 within trusted).0;
-  hand = None;
-  keeps = record { ledger = raised_ledger n; receipts = []; are = tt; answered = []; records = refl; next = omega arith; in_hand = refl };
-  machine = refl;
+  receipts = tt;
+  next = omega arith;
+  told = λ n among. absurd (among_nothing n among);
+  wire_is = sym (none_given_up (resumed_host l.host n 0) (wire_of (resumed l n 0)) refl (resumed_kept l n 0 line));
 }

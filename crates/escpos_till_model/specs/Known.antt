@@ -9,6 +9,7 @@ use Rattle.escpos_link.specs.Line.{IsLine}
 use Rattle.escpos_link.specs.declared.event.Event.TheVariants as line
 use Rattle.escpos_link.specs.Trusted.{IsFitting, IsTrusted}
 use Rattle.escpos_link.specs.Wire.{line_of}
+use Rattle.escpos_till.specs.declared.entry.Content.{Content}
 use Rattle.escpos_till.specs.declared.entry.Entry.{Entry}
 use Rattle.escpos_till.specs.declared.entry.Entry.TheVariants as entry
 use Rattle.escpos_till.specs.declared.machine.Due.{Due}
@@ -16,6 +17,7 @@ use Rattle.escpos_till.specs.declared.machine.Stage.{Stage}
 use Rattle.escpos_till.specs.declared.machine.Stage.TheVariants as stage
 use Rattle.escpos_till.specs.declared.machine.Then.{Then}
 use Rattle.escpos_till.specs.declared.machine.Then.TheVariants as then
+use Rattle.escpos_till.specs.declared.machine.TillNote.{TillNote}
 use Rattle.escpos_till.specs.declared.machine.TillNote.TheVariants as note
 use Rattle.escpos_till.specs.Book.{IsBookOf}
 use Rattle.escpos_till.specs.Delivers.{marks_taken}
@@ -23,20 +25,21 @@ use Rattle.escpos_till.specs.Entries.{MayFollow, next_free, record_of, recorded}
 use Rattle.escpos_till.specs.Machine.{MachineView}
 use Rattle.escpos_till_model.specs.declared.hand.Hand.{Hand}
 use Rattle.escpos_till_model.specs.Kept.{Keeps}
-use Rattle.escpos_till_model.specs.Receipts.{IsReceiptOf}
-use Rattle.escpos_till_model.specs.World.{World}
+use Rattle.escpos_till_model.specs.Receipts.{Among, IsReceiptOf}
+use Rattle.escpos_till_model.specs.World.{IsSo, World}
 
 -- The host at the wire is the machine's; where there is no machine it has no link.
 abbrev pub IsHostOf : Option MachineView → HostView → Type 0
 IsHostOf None h = h.phase ≡ Down
 IsHostOf (Some m) h = h ≡ m.host
 
--- The machine's store couldn't tell whether it kept an entry: what the machine knows may not be all.
-abbrev pub HasLost : Stage → Type 0
-HasLost (stage.HangingUp (note.NotKept why)) = Unit {0}
-HasLost (stage.Telling (note.NotKept why)) = Unit {0}
-HasLost stage.Failed = Unit {0}
-HasLost s = ⊥
+-- The store couldn't tell whether it kept an entry. If it did, the machine's book lags behind it by that entry, until a new machine is
+-- made.
+abbrev pub BookMayLag : Stage → Type 0
+BookMayLag (stage.HangingUp (note.NotKept why)) = Unit {0}
+BookMayLag (stage.Telling (note.NotKept why)) = Unit {0}
+BookMayLag stage.Failed = Unit {0}
+BookMayLag s = ⊥
 
 -- The receipt may be sent with numbers from the next one on.
 pub record IsToSend (kept : List Entry) (due : Due) : Type 0 where
@@ -47,7 +50,7 @@ pub record IsToSend (kept : List Entry) (due : Due) : Type 0 where
 
 -- What an entry that is to be kept is, by what follows it.
 abbrev pub IsToKeep : List Entry → Option Hand → HostView → Entry → Then → Type 0
-IsToKeep kept hand h e then.Queued = (hand ≡ None) × (record_of e ≡ None)
+IsToKeep kept hand h e then.Queued = (hand ≡ None) × (content : Content) × (e ≡ entry.Queued content)
 IsToKeep kept hand h e then.Raised = (hand ≡ None) × (record_of e ≡ None)
 IsToKeep kept hand h e (then.Send due) = (hand ≡ None) × IsToSend kept due × (e ≡ entry.Tried due.number (next_free kept + marks_taken due.openings))
 IsToKeep kept hand h e (then.Recorded number) =
@@ -61,14 +64,16 @@ Holds kept hand h (stage.Talking talk) =
     (held : Hand) × (hand ≡ Some held) × (held.number ≡ talk.number) × (held.receipt ≡ talk.receipt) × MayFollow kept (entry.Recorded talk.number)
     × (length h.records ≡ length (recorded kept)) × (h.phase ≢ Down)
     × ((receipt : List Command) → talk.receipt ≡ Some receipt → (h.next < held.limit) × IsFitting (line.Submit receipt))
+Holds kept hand h (stage.HangingUp n) = (hand ≡ None) × IsSo kept n
+Holds kept hand h (stage.Telling n) = (hand ≡ None) × IsSo kept n
 Holds kept hand h s = hand ≡ None
 
 abbrev pub IsMachineIn : Option MachineView → List Entry → Option Hand → HostView → Type 0
 IsMachineIn None kept hand h = hand ≡ None
-IsMachineIn (Some m) kept hand h = ((HasLost m.stage → ⊥) → IsBookOf m.book kept) × Holds kept hand h m.stage
+IsMachineIn (Some m) kept hand h = ((BookMayLag m.stage → ⊥) → IsBookOf m.book kept) × Holds kept hand h m.stage
 
 -- What holds of every world: with the records of the hosts before, the machine's host and the wire are a line that can be trusted, and
--- the entries are those of a till whose host this is.
+-- the entries are those of a till whose host this is; and what its owner was told is so.
 pub record IsWorld (w : World) : Type 0 where
   pub earlier : List (List Command)
   pub host : HostView
@@ -79,3 +84,4 @@ pub record IsWorld (w : World) : Type 0 where
   pub hand : Option Hand
   pub keeps : Keeps w.kept hand (with_earlier earlier host)
   pub machine : IsMachineIn w.machine w.kept hand (with_earlier earlier host)
+  pub told : (n : TillNote) → Among n w.told → IsSo w.kept n

@@ -1,36 +1,73 @@
--- A till in the world, with everything that can go wrong: its machine, which may be gone at any moment; a store, which may fail with
--- an entry or without it; and the wire to its printer.
+-- A till in the world, with what can go wrong there: its machine, which may be gone at any moment; a store, which may fail with an
+-- entry or without it; and the wire to its printer.
 --
--- The machine is the one that a program runs. What happens to it is what its calls do (`escpos_till`'s `Machine`); what comes of
--- that outside is said here. A link is there for as long as the machine's host has one: a connection on which nothing was put is
--- none, and one that the machine doesn't use any more is given up, though its owner may close it a little later.
-use Rattle.std.specs.Prelude.{ℕ, false, ◌≡◌, ◌≢◌, ◌≤◌, Option, Some, None, List, [], ◌∷◌, ◌++◌, length, take}
+-- The machine is the one that a program runs, and its calls do what `escpos_till`'s `Machine` says. What follows from that for the store,
+-- for the wire and for the till's owner is said here. The wire has a live link as long as the machine's host is on one: a connection
+-- that is opened and closed again with no byte on it is `Idle`, and a link that the host gives up has ended at that moment, though a
+-- program may close its socket a little later. A crash within an append is `FailWith` or `FailWithout`, and then `Crash`.
+--
+-- Not in this world: other writers to the printer, and bytes from it that nobody asked for; a store that loses an entry that it kept, or
+-- that is put back from a backup; two machines over one ledger at the same time; and an answer to a mark of an old link that comes late
+-- on a new one, as it may on a serial line.
+use Rattle.std.specs.Prelude.{ℕ, Bool, true, false, ◌≡◌, ◌≢◌, ◌<◌, ◌≤◌, Option, Some, None, List, [], ◌∷◌, ◌++◌, length, take}
 use Rattle.escpos_host.specs.declared.send.SendFault.{SendFault}
 use Rattle.escpos_host.specs.Machine.{HostView, Down, IsSound}
 use Rattle.escpos_link.specs.declared.event.Event.{Event}
 use Rattle.escpos_link.specs.declared.event.Note.{Note}
 use Rattle.escpos_link.specs.declared.event.Event.TheVariants as line
-use Rattle.escpos_link.specs.Trusted.{IsFitting}
-use Rattle.escpos_link.specs.Wire.{AfterOnWire, WireView, given_up, heard_from, with_bytes, with_link}
+use Rattle.escpos_link.specs.Line.{IsLine, LineView}
+use Rattle.escpos_link.specs.Trusted.{IsFitting, IsTrusted}
+use Rattle.escpos_link.specs.Wire.{AfterOnWire, WireView, given_up, heard_from, wire_of, with_bytes, with_link}
 use Rattle.escpos_till.specs.declared.entry.Content.{Content}
 use Rattle.escpos_till.specs.declared.entry.Entry.{Entry}
 use Rattle.escpos_till.specs.declared.machine.Stage.{Stage}
 use Rattle.escpos_till.specs.declared.machine.Stage.TheVariants as stage
 use Rattle.escpos_till.specs.declared.machine.Talk.{Talk}
 use Rattle.escpos_till.specs.declared.machine.Then.{Then}
+use Rattle.escpos_till.specs.declared.machine.TillNote.{TillNote}
+use Rattle.escpos_till.specs.declared.machine.TillNote.TheVariants as note
 use Rattle.escpos_till.specs.declared.store.StoreFault.{StoreFault}
 use Rattle.escpos_till.specs.Book.{IsBookOf}
+use Rattle.escpos_till.specs.Entries.{IsLedger, next_free, recorded, taken}
 use Rattle.escpos_till.specs.Machine.{Came, Delivers, Ended, IsStarted, Kept, MachineView, Queues, Raises, SameBut, Unsure, connected, hung_up, not_connected, put, told}
-use Rattle.escpos_till_model.specs.Steps.{IsCopy, is_host_call}
+use Rattle.escpos_till_model.specs.Receipts.{Among, AreReceipts}
+use Rattle.escpos_till_model.specs.Steps.{IsCopy}
 
--- The till's machine, unless it is switched off; the entries that its store has; and the wire.
+-- The till's machine, unless it is switched off; the entries that its store has; the wire; and what its owner was told, the oldest first.
 pub record World : Type 0 where
   pub machine : Option MachineView
   pub kept : List Entry
   pub wire : WireView
+  pub told : List TillNote
 
-abbrev pub running : MachineView → List Entry → WireView → World
-running m kept wire = record { machine = Some m; kept = kept; wire = wire }
+abbrev pub running : MachineView → List Entry → WireView → List TillNote → World
+running m kept wire notes = record { machine = Some m; kept = kept; wire = wire; told = notes }
+
+abbrev pub off : World → WireView → World
+off w wire = record { machine = None; kept = w.kept; wire = wire; told = w.told }
+
+abbrev pub with_wire : World → WireView → World
+with_wire w wire = record { machine = w.machine; kept = w.kept; wire = wire; told = w.told }
+
+-- What an owner is told of a receipt is so by these entries: it was taken, or it is recorded.
+abbrev pub IsSo : List Entry → TillNote → Type 0
+IsSo kept (note.Queued number) = (0 < number) × (number ≤ length (taken kept))
+IsSo kept (note.Recorded number) = Among number (recorded kept)
+IsSo kept n = Unit {0}
+
+-- A world may begin so: the till is off, and its store has a ledger, an old one or a new one. The wire is what is left of a line once its
+-- host has given its link up: whatever printer that is, with links that it still reads. That host's records are the receipts that the
+-- ledger has as recorded, and it has used no mark number from the ledger's next one on. What the owner was told before is so.
+pub record Begins (w : World) : Type 0 where
+  pub off : w.machine ≡ None
+  pub ledger : IsLedger w.kept
+  pub line : LineView
+  pub is_line : IsLine line
+  pub trusted : IsTrusted line
+  pub receipts : AreReceipts w.kept line.host.records
+  pub next : line.host.next ≤ next_free w.kept
+  pub wire_is : w.wire ≡ given_up (wire_of line)
+  pub told : (n : TillNote) → Among n w.told → IsSo w.kept n
 
 -- What may happen.
 pub data Happening : Type 0 where
@@ -55,8 +92,9 @@ pub data Happening : Type 0 where
   Hear : ℕ → Happening
   End : SendFault → Happening
   HangUp : Happening
+  -- its owner is told a note
   Tell : Happening
-  -- something happens on the wire; a link is opened and given up with nothing on it
+  -- something happens at the printer's end of the wire; a link is opened and given up with nothing on it
   OnWire : Event → Happening
   Idle : Happening
   -- the till is switched off, whatever it was doing
@@ -69,8 +107,9 @@ pub record Wired (before after : HostView) (w new : WireView) : Type 0 where
   pub stays_up : before.phase ≢ Down → after.phase ≢ Down → new ≡ w
   pub goes_down : before.phase ≢ Down → after.phase ≡ Down → new ≡ given_up w
 
--- The machine, which is there, goes from this to that, and the wire with it.
-pub record Moves (Goes : MachineView → MachineView → Type 0) (w : World) (kept : List Entry) (new : World) : Type 0 where
+-- The machine, which is there, goes from this to that, and the wire with it. Its store has these entries then, and its owner was told these
+-- notes.
+pub record Moves (Goes : MachineView → MachineView → Type 0) (w : World) (kept : List Entry) (notes : List TillNote) (new : World) : Type 0 where
   pub m : MachineView
   pub after : MachineView
   pub wire : WireView
@@ -78,13 +117,17 @@ pub record Moves (Goes : MachineView → MachineView → Type 0) (w : World) (ke
   pub goes : Goes m after
   pub sound : IsSound after.host
   pub wired : Wired m.host after.host w.wire wire
-  pub is : new ≡ running after kept wire
+  pub is : new ≡ running after kept wire notes
+
+-- Nothing is kept or told.
+abbrev pub Calls : (MachineView → MachineView → Type 0) → World → World → Type 0
+Calls Goes w new = Moves Goes w w.kept w.told new
 
 -- It is to keep an entry, which the store has then, or not.
 pub record Stores (Goes : MachineView → MachineView → Type 0) (has : List Entry → Entry → List Entry) (w : World) (new : World) : Type 0 where
   pub entry : Entry
   pub next : Then
-  pub moves : Moves (λ m after. (m.stage ≡ stage.Keeping entry next) × Goes m after) w (has w.kept entry) new
+  pub moves : Moves (λ m after. (m.stage ≡ stage.Keeping entry next) × Goes m after) w (has w.kept entry) w.told new
 
 abbrev pub with_entry : List Entry → Entry → List Entry
 with_entry kept e = kept ++ e ∷ []
@@ -92,8 +135,10 @@ with_entry kept e = kept ++ e ∷ []
 abbrev pub without_entry : List Entry → Entry → List Entry
 without_entry kept e = kept
 
-abbrev pub off : World → WireView → World
-off w wire = record { machine = None; kept = w.kept; wire = wire }
+-- It has a note for its owner, who is told that.
+pub record Tells (w : World) (new : World) : Type 0 where
+  pub note : TillNote
+  pub moves : Moves (λ m after. (m.stage ≡ stage.Telling note) × (after ≡ told m.stage m)) w w.kept (w.told ++ note ∷ []) new
 
 -- What is to be sent fits the line, as every receipt does: it is whole, and its commands are in range.
 abbrev pub FitsLine : Stage → Type 0
@@ -112,7 +157,7 @@ pub record Hears (w : World) (most : ℕ) (new : World) : Type 0 where
   pub came : Came m.stage (take most w.wire.coming) consumed m after
   pub sound : IsSound after.host
   pub wired : Wired m.host after.host (heard_from w.wire consumed) wire
-  pub is : new ≡ running after w.kept wire
+  pub is : new ≡ running after w.kept wire w.told
 
 -- Bytes are taken out and put.
 pub record Puts (w : World) (count : ℕ) (new : World) : Type 0 where
@@ -122,7 +167,7 @@ pub record Puts (w : World) (count : ℕ) (new : World) : Type 0 where
   pub talks : m.stage ≡ stage.Talking talk
   pub within : count ≤ length m.host.out
   pub sound : IsSound (put m.stage count m).host
-  pub is : new ≡ running (put m.stage count m) w.kept (with_bytes w.wire (take count m.host.out))
+  pub is : new ≡ running (put m.stage count m) w.kept (with_bytes w.wire (take count m.host.out)) w.told
 
 -- Bytes are taken out, and only so many of them are put.
 pub record Breaks (w : World) (taken count : ℕ) (why : SendFault) (new : World) : Type 0 where
@@ -135,7 +180,7 @@ pub record Breaks (w : World) (taken count : ℕ) (why : SendFault) (new : World
   pub within : taken ≤ length m.host.out
   pub ended : Ended m.stage why (put m.stage taken m) after
   pub sound : IsSound after.host
-  pub is : new ≡ running after w.kept (given_up (with_bytes w.wire (take count m.host.out)))
+  pub is : new ≡ running after w.kept (given_up (with_bytes w.wire (take count m.host.out))) w.told
 
 pub record Starts (w : World) (new : World) : Type 0 where
   pub m : MachineView
@@ -143,16 +188,28 @@ pub record Starts (w : World) (new : World) : Type 0 where
   pub started : IsStarted m
   pub book : IsBookOf m.book w.kept
   pub sound : IsSound m.host
-  pub is : new ≡ running m w.kept w.wire
+  pub is : new ≡ running m w.kept w.wire w.told
 
--- It happened, or was refused: then the wire is as the event's refusal leaves it.
-abbrev pub WireGoes : Event → WireView → WireView → Type 0
-WireGoes e w after = (told : Note) × AfterOnWire e w told after
+-- What may happen at the printer's end of a wire.
+abbrev pub is_printer_event : Event → Bool
+is_printer_event (line.Deliver most) = true
+is_printer_event line.HandOver = true
+is_printer_event line.PrinterLeaves = true
+is_printer_event line.PrinterRestart = true
+is_printer_event (line.SetCondition condition) = true
+is_printer_event e = false
+
+pub record GoesOnWire (e : Event) (w : World) (new : World) : Type 0 where
+  pub at_printer : is_printer_event e ≡ true
+  pub wire : WireView
+  pub effect : Note
+  pub happened : AfterOnWire e w.wire effect wire
+  pub is : new ≡ with_wire w wire
 
 -- There is no link at that moment.
 pub record Idles (w : World) (new : World) : Type 0 where
   pub none : (m : MachineView) → w.machine ≡ Some m → m.host.phase ≡ Down
-  pub is : new ≡ record { machine = w.machine; kept = w.kept; wire = given_up (with_link w.wire) }
+  pub is : new ≡ with_wire w (given_up (with_link w.wire))
 
 -- The host, if there is one, is gone.
 pub record Crashes (w : World) (new : World) : Type 0 where
@@ -163,22 +220,22 @@ pub record Crashes (w : World) (new : World) : Type 0 where
 
 abbrev pub Happens : World → Happening → World → Type 0
 Happens w Start new = Starts w new
-Happens w (Queue content) new = Moves (λ m after. Queues m content after) w w.kept new
-Happens w (Raise first) new = Moves (λ m after. Raises m first after) w w.kept new
-Happens w (Deliver openings most copy) new = IsCopy copy × Moves (λ m after. Delivers m openings most copy after × FitsLine after.stage) w w.kept new
-Happens w Refuse new = Moves SameBut w w.kept new
+Happens w (Queue content) new = Calls (λ m after. Queues m content after) w new
+Happens w (Raise first) new = Calls (λ m after. Raises m first after) w new
+Happens w (Deliver openings most copy) new = IsCopy copy × Calls (λ m after. Delivers m openings most copy after × FitsLine after.stage) w new
+Happens w Refuse new = Calls SameBut w new
 Happens w Keep new = Stores (λ m after. Kept m.stage m after) with_entry w new
 Happens w (FailWith why) new = Stores (λ m after. Unsure m.stage why m after) with_entry w new
 Happens w (FailWithout why) new = Stores (λ m after. Unsure m.stage why m after) without_entry w new
-Happens w Connect new = Moves (λ m after. after ≡ connected m.stage m) w w.kept new
-Happens w Miss new = Moves (λ m after. after ≡ not_connected m.stage m) w w.kept new
+Happens w Connect new = Calls (λ m after. after ≡ connected m.stage m) w new
+Happens w Miss new = Calls (λ m after. after ≡ not_connected m.stage m) w new
 Happens w (Put count) new = Puts w count new
 Happens w (Break taken count why) new = Breaks w taken count why new
 Happens w (Hear most) new = Hears w most new
-Happens w (End why) new = Moves (λ m after. Ended m.stage why m after) w w.kept new
-Happens w HangUp new = Moves (λ m after. after ≡ hung_up m.stage m) w w.kept new
-Happens w Tell new = Moves (λ m after. after ≡ told m.stage m) w w.kept new
-Happens w (OnWire e) new = (is_host_call e ≡ false) × (wire : WireView) × WireGoes e w.wire wire × (new ≡ record { machine = w.machine; kept = w.kept; wire = wire })
+Happens w (End why) new = Calls (λ m after. Ended m.stage why m after) w new
+Happens w HangUp new = Calls (λ m after. after ≡ hung_up m.stage m) w new
+Happens w Tell new = Tells w new
+Happens w (OnWire e) new = GoesOnWire e w new
 Happens w Idle new = Idles w new
 Happens w Crash new = Crashes w new
 

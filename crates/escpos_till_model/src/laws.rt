@@ -1,16 +1,16 @@
 //! Proof only: the law of a ledger's receipts, and that of a till in the world. The contract of each function is the law; when run, it does
 //! nothing.
 
-ghost use Rattle.std.specs.Prelude.{ℕ, ◌≤◌, List, [], ◌∷◌, None};
+ghost use Rattle.std.specs.Prelude.{ℕ, ◌≡◌, ◌<◌, ◌≤◌, List, [], ◌∷◌, None, length};
 ghost use Rattle.escpos_link.specs.Line.{IsLine, LineView};
 ghost use Rattle.escpos_link.specs.Trusted.{IsTrusted};
 ghost use Rattle.escpos_link.specs.Wire.{given_up, wire_of};
 ghost use Rattle.escpos_till.specs.declared.entry.Entry.{Entry};
 ghost use Rattle.escpos_till.specs.declared.entry.Entry.TheVariants as entry;
-ghost use Rattle.escpos_till.specs.Entries.{IsLedger};
-ghost use Rattle.escpos_till_model.specs.Known.{IsWorld};
-ghost use Rattle.escpos_till_model.specs.Receipts.{EachIsKept, Extends, RecordedStand};
-ghost use Rattle.escpos_till_model.specs.World.{Happening, Runs, World};
+ghost use Rattle.escpos_till.specs.declared.machine.TillNote.TheVariants as note;
+ghost use Rattle.escpos_till.specs.Entries.{IsLedger, recorded, taken};
+ghost use Rattle.escpos_till_model.specs.Receipts.{Among, EachIsKept, Extends, RecordedStand};
+ghost use Rattle.escpos_till_model.specs.World.{Begins, Happening, Runs, World};
 
 /// In every ledger each receipt that was taken waits or is recorded, and none is both; what is recorded was taken, and none is
 /// recorded twice.
@@ -19,15 +19,22 @@ pub fn each_is_kept()
 {}
 
 /// The till in the world: over every list of happenings what is recorded in its ledger stands on its printer's paper, each receipt that was
-/// taken waits or is recorded, and an entry that was kept is kept. It may begin with whatever printer a line has left, and with links
-/// that were given up, if its ledger has raised the next mark number to one that is above all that were used.
+/// taken waits or is recorded, and an entry that was kept is kept. Whoever was told that a receipt is queued or recorded may rely on it: it
+/// was taken, or it is recorded. A world whose till is off by then may begin again.
+///
+/// It may begin with whatever printer a line has left, and with links that were given up: with a ledger that knows what that line's host
+/// has recorded, or with one that has raised the next mark number to one that is above all that were used.
 pub fn what_is_recorded_stands()
-    ensures stands { (w after : World) (happenings : List Happening) → IsWorld w → Runs w happenings after
+    ensures stands { (w after : World) (happenings : List Happening) → Begins w → Runs w happenings after
         → RecordedStand after.wire.printer.sheet.line_dots after.kept after.wire.printer.sheet.items }
-    ensures kept { (w after : World) (happenings : List Happening) → IsWorld w → Runs w happenings after → EachIsKept after.kept }
+    ensures kept { (w after : World) (happenings : List Happening) → Begins w → Runs w happenings after → EachIsKept after.kept }
+    ensures queued { (w after : World) (happenings : List Happening) (number : ℕ) → Begins w → Runs w happenings after → Among (note.Queued number) after.told
+        → (0 < number) × (number ≤ length (taken after.kept)) }
+    ensures recorded { (w after : World) (happenings : List Happening) (number : ℕ) → Begins w → Runs w happenings after → Among (note.Recorded number) after.told
+        → Among number (recorded after.kept) }
     ensures extends { (w after : World) (happenings : List Happening) → Runs w happenings after → Extends w.kept after.kept }
-    ensures goes_on { (w after : World) (happenings : List Happening) → IsWorld w → Runs w happenings after → IsWorld after }
-    ensures begins { (l : LineView) (n : ℕ) → IsLine l → IsTrusted l → l.host.next ≤ n → IsWorld (record { machine = None; kept = entry.Raised n ∷ []; wire = given_up (wire_of l) }) }
+    ensures begins_again { (w after : World) (happenings : List Happening) → Begins w → Runs w happenings after → after.machine ≡ None → Begins after }
+    ensures begins { (l : LineView) (n : ℕ) → IsLine l → IsTrusted l → l.host.next ≤ n → Begins (record { machine = None; kept = entry.Raised n ∷ []; wire = given_up (wire_of l); told = [] }) }
 {
     escpos_link::laws::trust();
     escpos_link::laws::every_line();

@@ -1,23 +1,42 @@
+use Rattle.escpos_till.specs.declared.machine.TillNote.TheVariants as note
+use Rattle.escpos_till_model.specs.Known.{IsWorld}
+use Rattle.escpos_till_model.specs.World.{Begins, Happening, Runs, World}
+use Rattle.std.specs.Prelude.{List}
 use Rattle.escpos_till_model.proofs.Accounts.{each_is_kept}
 use Rattle.escpos_till_model.proofs.LinesKept.{LineLaws}
-use Rattle.escpos_till_model.proofs.Worlds.{entries_last, first_world, over_time, recorded_stand}
+use Rattle.escpos_till_model.proofs.Worlds.{begins_again, begun, entries_last, first_world, over_time, recorded_stand}
 use Rattle.escpos_till_model.proofs.laws.what_is_recorded_stands.Goals as goal
 
+known : LineLaws → (w after : World) (happenings : List Happening) → Begins w → Runs w happenings after → IsWorld after
+known laws w after happenings begins runs = over_time laws w after happenings (begun laws w begins) runs
+
 pub returns-clause-stands : goal.returns-clause-stands
-returns-clause-stands c = λ w after happenings known runs.
+returns-clause-stands c = λ w after happenings begins runs.
     let laws : LineLaws = record { trust = c.trust.ensures; every = c.every_line.ensures.kept; turn = c.in_turn.ensures } in
-    recorded_stand laws after (over_time laws w after happenings known runs)
+    recorded_stand laws after (known laws w after happenings begins runs)
 
 pub returns-clause-kept : goal.returns-clause-kept
-returns-clause-kept c = λ w after happenings known runs.
+returns-clause-kept c = λ w after happenings begins runs.
     let laws : LineLaws = record { trust = c.trust.ensures; every = c.every_line.ensures.kept; turn = c.in_turn.ensures } in
-    each_is_kept after.kept (over_time laws w after happenings known runs).keeps.ledger
+    each_is_kept after.kept (known laws w after happenings begins runs).keeps.ledger
+
+pub returns-clause-queued : goal.returns-clause-queued
+returns-clause-queued c = λ w after happenings number begins runs among.
+    let laws : LineLaws = record { trust = c.trust.ensures; every = c.every_line.ensures.kept; turn = c.in_turn.ensures } in
+    (known laws w after happenings begins runs).told (note.Queued number) among
+
+pub returns-clause-recorded : goal.returns-clause-recorded
+returns-clause-recorded c = λ w after happenings number begins runs among.
+    let laws : LineLaws = record { trust = c.trust.ensures; every = c.every_line.ensures.kept; turn = c.in_turn.ensures } in
+    (known laws w after happenings begins runs).told (note.Recorded number) among
 
 pub returns-clause-extends : goal.returns-clause-extends
 returns-clause-extends c = entries_last
 
-pub returns-clause-goes_on : goal.returns-clause-goes_on
-returns-clause-goes_on c = over_time (record { trust = c.trust.ensures; every = c.every_line.ensures.kept; turn = c.in_turn.ensures })
+pub returns-clause-begins_again : goal.returns-clause-begins_again
+returns-clause-begins_again c = λ w after happenings begins runs off.
+    let laws : LineLaws = record { trust = c.trust.ensures; every = c.every_line.ensures.kept; turn = c.in_turn.ensures } in
+    begins_again laws after off (known laws w after happenings begins runs)
 
 pub returns-clause-begins : goal.returns-clause-begins
 returns-clause-begins c = first_world (record { trust = c.trust.ensures; every = c.every_line.ensures.kept; turn = c.in_turn.ensures })
