@@ -4,7 +4,7 @@ use Rattle.std.proofs.lemmas.List.{drop-drop, nil_from_length, take_all}
 use Rattle.escpos_host.specs.declared.host.HostEvent.{HostEvent}
 use Rattle.escpos_host.specs.declared.host.HostEvent.TheVariants as event
 use Rattle.escpos_host.specs.Heard.{IsHeard}
-use Rattle.escpos_host.specs.Machine.{HostView, Phase, Down, Open, Opening}
+use Rattle.escpos_host.specs.Machine.{HostView, IsSound, Phase, Down, Open, Opening}
 use Rattle.escpos_till.specs.declared.machine.Stage.{Stage}
 use Rattle.escpos_till.specs.declared.machine.Stage.TheVariants as stage
 use Rattle.escpos_till.specs.declared.machine.Talk.{Talk}
@@ -124,18 +124,18 @@ hears_on m after bytes heard count talk is fewer came =
 
 -- One more deed.
 pub did_more : {D : Type 0} (did : D → Deed → D → Type 0) (m : MachineView) (old : D) (ds : List Deed) (mid : MachineView) (between : D) (d : Deed) (after : MachineView) (new : D)
-    → DidAll did m old ds mid between → Turns mid d after → did between d new → DidAll did m old (ds ++ d ∷ []) after new
-did_more {D} did m old [] mid between d after new (is, same) turns done =
-    (after, new, subst (λ k. Turns k d after) is turns, subst (λ (o : D). did o d new) same done, (refl, refl))
-did_more did m old (x ∷ xs) mid between d after new (one, other, turned, did_x, rest) turns done =
-    (one, other, turned, did_x, did_more did one other xs mid between d after new rest turns done)
+    → DidAll did m old ds mid between → Turns mid d after → IsSound after.host → did between d new → DidAll did m old (ds ++ d ∷ []) after new
+did_more {D} did m old [] mid between d after new (is, same) turns sound done =
+    (after, new, subst (λ k. Turns k d after) is turns, sound, subst (λ (o : D). did o d new) same done, (refl, refl))
+did_more did m old (x ∷ xs) mid between d after new (one, other, turned, well, did_x, rest) turns sound done =
+    (one, other, turned, well, did_x, did_more did one other xs mid between d after new rest turns sound done)
 
 pub ran_none : {D : Type 0} (did : D → Deed → D → Type 0) (m : MachineView) (old : D) → RanFor did m old m old 0
 ran_none did m old = record { run = record { deeds = []; did_all = (refl, refl) }; turns = refl }
 
 pub ran_more : {D : Type 0} (did : D → Deed → D → Type 0) (m : MachineView) (old : D) (mid : MachineView) (between : D) (count : ℕ) (d : Deed) (after : MachineView) (new : D)
-    → RanFor did m old mid between count → Turns mid d after → did between d new → RanFor did m old after new (count + 1)
-ran_more did m old mid between count d after new ran turns done = record {
-  run = record { deeds = ran.run.deeds ++ d ∷ []; did_all = did_more did m old ran.run.deeds mid between d after new ran.run.did_all turns done };
+    → RanFor did m old mid between count → Turns mid d after → IsSound after.host → did between d new → RanFor did m old after new (count + 1)
+ran_more did m old mid between count d after new ran turns sound done = record {
+  run = record { deeds = ran.run.deeds ++ d ∷ []; did_all = did_more did m old ran.run.deeds mid between d after new ran.run.did_all turns sound done };
   turns = length-append ran.run.deeds (d ∷ []) ∙ ap (λ n. n + 1) ran.turns;
 }

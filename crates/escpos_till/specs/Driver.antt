@@ -1,6 +1,7 @@
 -- What a driver does with a machine: all that the machine asks for, in order, with nothing between.
 use Rattle.std.specs.Prelude.{ℕ, ◌≡◌, ◌≢◌, ◌≤◌, List, [], ◌∷◌, length, take, drop}
 use Rattle.escpos_host.specs.declared.send.SendFault.{SendFault}
+use Rattle.escpos_host.specs.Machine.{IsSound}
 use Rattle.escpos_till.specs.declared.entry.Entry.{Entry}
 use Rattle.escpos_till.specs.declared.machine.Due.{Due}
 use Rattle.escpos_till.specs.declared.machine.Stage.TheVariants as stage
@@ -73,11 +74,11 @@ Turns m (Tells note) after = (m.stage ≡ stage.Telling note) × (after ≡ told
 
 -- ## A run
 
--- One deed after another: each is what the machine asks for, and the outside did it.
+-- One deed after another: each is what the machine asks for, and the outside did it. What holds of every host holds of each machine's.
 abbrev pub DidAll : {D : Type 0} → (D → Deed → D → Type 0) → MachineView → D → List Deed → MachineView → D → Type 0
 DidAll did m old [] after new = (after ≡ m) × (new ≡ old)
 DidAll {D} did m old (d ∷ ds) after new =
-    (mid : MachineView) × (between : D) × Turns m d mid × did old d between × DidAll did mid between ds after new
+    (mid : MachineView) × (between : D) × Turns m d mid × IsSound mid.host × did old d between × DidAll did mid between ds after new
 
 -- A run, from this machine and this outside to those.
 pub record Ran {D : Type 0} (did : D → Deed → D → Type 0) (m : MachineView) (old : D) (after : MachineView) (new : D) : Type 0 where

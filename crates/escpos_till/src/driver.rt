@@ -4,6 +4,7 @@
 //! were done. `specs/Driver.antt` says what a run is.
 
 ghost use Rattle.std.specs.Prelude.{◌≡◌, ◌≢◌, ◌≤◌, ◌↔◌, ℕ, List, [], length, take, IfOk, IfErr, OnOk, IsTrue};
+ghost use Rattle.escpos_host.specs.Machine.{IsSound};
 ghost use Rattle.escpos_till.specs.declared.machine.Stage.TheVariants as stage;
 ghost use Rattle.escpos_till.specs.declared.machine.Talk.{Talk};
 ghost use Rattle.escpos_till.specs.Driver.{Breaks, Deed, Ends, Gives, HangsUp, IsGiven, Keeps, Links, Loses, Misses, Puts, Ran, RanFor, Tells, Turns};
@@ -71,6 +72,19 @@ pub fn drive<D: Outside>(machine: &mut TillMachine, outside: &mut D, most: u32) 
 
 // Does one thing that the machine asks for. Returns whether there was one.
 fn turn<D: Outside>(machine: &mut TillMachine, outside: &mut D) -> bool
+    ensures turned { IsTrue result → (deed : Deed) × Turns machine.old deed machine.new × D.did outside.old deed outside.new }
+    ensures sound { IsSound machine.new.host }
+    ensures same { ¬ IsTrue result → (machine.new ≡ machine.old) × (outside.new ≡ outside.old) }
+    ensures rests { ¬ IsTrue result → Rests machine.old.stage }
+{
+    let is_done = act(machine, outside);
+    // Proof only: what holds of every host.
+    machine.is_sound();
+    is_done
+}
+
+// The same.
+fn act<D: Outside>(machine: &mut TillMachine, outside: &mut D) -> bool
     ensures turned { IsTrue result → (deed : Deed) × Turns machine.old deed machine.new × D.did outside.old deed outside.new }
     ensures same { ¬ IsTrue result → (machine.new ≡ machine.old) × (outside.new ≡ outside.old) }
     ensures rests { ¬ IsTrue result → Rests machine.old.stage }

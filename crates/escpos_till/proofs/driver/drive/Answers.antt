@@ -10,7 +10,7 @@ loop-init g c = ran_none g.D.Outside.did c.args.machine.now c.args.outside.now
 pub loop-preserved : goal.loop-preserved
 loop-preserved g c =
     let (deed, turns, done) = c.if-not-turn.ensures.turned refl in
-    ran_more g.D.Outside.did c.args.machine.now c.args.outside.now c.loop.machine c.loop.outside c.loop.counter deed c.turn.new.machine c.turn.new.outside c.loop.invariant turns done
+    ran_more g.D.Outside.did c.args.machine.now c.args.outside.now c.loop.machine c.loop.outside c.loop.counter deed c.turn.new.machine c.turn.new.outside c.loop.invariant turns c.if-not-turn.ensures.sound done
 
 pub returns-clause-most : goal.returns-clause-most
 returns-clause-most g c not =
