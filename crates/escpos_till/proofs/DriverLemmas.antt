@@ -102,9 +102,9 @@ some_bytes [] none = absurd (let bad : false ≡ true = none in cc)
 some_bytes (b ∷ bs) some = omega arith
 
 pub hears_more : (m mid after : MachineView) (bytes : List ℕ) (heard count : ℕ) (counts : List ℕ) (talk : Talk) → m.stage ≡ stage.Talking talk → heard < length bytes
-    → Came m.stage (drop heard bytes) count m mid → HearsAll mid (drop (heard + count) bytes) counts after → HearsAll m (drop heard bytes) (count ∷ counts) after
-hears_more m mid after bytes heard count counts talk is fewer came more =
-    (talk, mid, is, some_not_none (drop heard bytes) (left_some bytes heard fewer), came, subst (λ bs. HearsAll mid bs counts after) (sym (drop-drop count heard bytes)) more)
+    → Came m.stage (drop heard bytes) count m mid → IsSound mid.host → HearsAll mid (drop (heard + count) bytes) counts after → HearsAll m (drop heard bytes) (count ∷ counts) after
+hears_more m mid after bytes heard count counts talk is fewer came sound more =
+    (talk, mid, is, some_not_none (drop heard bytes) (left_some bytes heard fewer), came, sound, subst (λ bs. HearsAll mid bs counts after) (sym (drop-drop count heard bytes)) more)
 
 pub hears_no_more : (m : MachineView) (bytes : List ℕ) (heard : ℕ) → ((talk : Talk) → m.stage ≡ stage.Talking talk → length bytes ≤ heard) → HearsAll m (drop heard bytes) [] m
 hears_no_more m bytes heard none = (refl, λ talk is. nil_from_length (drop heard bytes) (omega (arith, length-drop heard bytes, none talk is)))

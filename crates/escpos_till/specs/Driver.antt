@@ -37,7 +37,8 @@ pub data Deed : Type 0 where
 abbrev pub HearsAll : MachineView → List ℕ → List ℕ → MachineView → Type 0
 HearsAll m bytes [] after = (after ≡ m) × ((talk : Talk) → m.stage ≡ stage.Talking talk → bytes ≡ [])
 HearsAll m bytes (count ∷ counts) after =
-    (talk : Talk) × (mid : MachineView) × (m.stage ≡ stage.Talking talk) × (bytes ≢ []) × Came m.stage bytes count m mid × HearsAll mid (drop count bytes) counts after
+    (talk : Talk) × (mid : MachineView) × (m.stage ≡ stage.Talking talk) × (bytes ≢ []) × Came m.stage bytes count m mid × IsSound mid.host
+    × HearsAll mid (drop count bytes) counts after
 
 -- It is given what it waited for; where nothing came, it is told that.
 abbrev pub IsGiven : MachineView → List ℕ → MachineView → Type 0

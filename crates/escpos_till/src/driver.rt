@@ -149,5 +149,7 @@ fn hear(machine: &mut TillMachine, bytes: &[u8])
     let mut heard = 0;
     while heard < bytes.len() && machine.talks() {
         heard += machine.came(&bytes[heard..]);
+        // Proof only: what holds of every host.
+        machine.is_sound();
     }
 }

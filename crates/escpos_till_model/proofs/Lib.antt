@@ -13,3 +13,4 @@ pub mod WorldCalls
 pub mod WorldStore
 pub mod WorldHears
 pub mod Worlds
+mod WireEvents

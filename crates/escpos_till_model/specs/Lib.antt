@@ -6,3 +6,4 @@ pub mod World
 pub mod Known
 pub mod Marks
 pub mod Due
+pub mod Around

@@ -10,7 +10,7 @@ loop-heard-preserved c =
     let came = subst (λ bs. Came c.loop-heard.machine.stage bs c.came-heard.result c.loop-heard.machine c.came-heard.new.self) (rest_is c.args.bytes.now c.loop-heard.heard) c.came-heard.ensures.came in
     record {
       goes_on = λ counts after more. c.loop-heard.invariant.goes_on (c.came-heard.result ∷ counts) after (hears_more c.loop-heard.machine c.came-heard.new.self after c.args.bytes.now c.loop-heard.heard c.came-heard.result counts talk is
-          c.loop-heard-test.true came more);
+          c.loop-heard-test.true came c.is_sound.ensures.host more);
       within = within_rest c.args.bytes.now c.loop-heard.heard c.came-heard.result c.loop-heard.invariant.within c.came-heard.ensures.within;
     }
 
