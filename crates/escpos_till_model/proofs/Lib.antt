@@ -14,3 +14,4 @@ pub mod WorldStore
 pub mod WorldHears
 pub mod Worlds
 mod WireEvents
+mod Driven

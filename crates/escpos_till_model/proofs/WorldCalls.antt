@@ -23,7 +23,7 @@ use Rattle.escpos_till.specs.declared.machine.TillNote.{TillNote}
 use Rattle.escpos_till.specs.declared.machine.TillNote.TheVariants as note_kind
 use Rattle.escpos_till.specs.Delivers.{marks_taken}
 use Rattle.escpos_till.specs.Ledger.{FirstWaits}
-use Rattle.escpos_till.specs.Machine.{Delivers, Drops, Ended, IsNext, MachineView, Queues, Raises, SameBut, after_note, at, connected, hung_up as machine_hung_up, lost, not_connected, told}
+use Rattle.escpos_till.specs.Machine.{Delivers, Drops, Ended, IsNext, MachineView, Queues, Raises, SameEntries, after_note, at, connected, hung_up as machine_hung_up, lost, not_connected, told}
 use Rattle.escpos_till.proofs.EntryLemmas.{length-taken}
 use Rattle.escpos_till_model.proofs.EntryFacts.{among_cons, among_filtered, among_last, among_nothing, first_among, first_is_taken}
 use Rattle.escpos_till_model.proofs.Keeping.{gone_keeps}
@@ -132,7 +132,7 @@ raised w new first known moves =
     (λ live. subst (λ b. IsBookOf b w.kept) (sym (ap (λ m. m.book) is)) book)
     (subst (λ s. Holds w.kept p.hand (with_earlier p.earlier moves.m.host) s) (sym (ap (λ m. m.stage) is)) (least, (none, refl)))))
 
-pub refused : (w new : World) → IsWorld w → Calls SameBut w new → IsWorld new
+pub refused : (w new : World) → IsWorld w → Calls SameEntries w new → IsWorld new
 refused w new known moves =
     let p = parts w moves.m moves.was known in
     subst IsWorld (sym moves.is) (whole moves.after w.kept moves.wire w.told known.told

@@ -29,7 +29,7 @@ use Rattle.escpos_till.specs.declared.machine.TillNote.TheVariants as note
 use Rattle.escpos_till.specs.declared.store.StoreFault.{StoreFault}
 use Rattle.escpos_till.specs.Book.{IsBookOf}
 use Rattle.escpos_till.specs.Entries.{IsLedger, next_free, recorded, taken}
-use Rattle.escpos_till.specs.Machine.{Came, Delivers, Ended, IsStarted, Kept, MachineView, Queues, Raises, SameBut, Unsure, connected, hung_up, not_connected, put, told}
+use Rattle.escpos_till.specs.Machine.{Came, Delivers, Ended, IsStarted, Kept, MachineView, Queues, Raises, SameEntries, Unsure, connected, hung_up, not_connected, put, told}
 use Rattle.escpos_till_model.specs.Receipts.{Among, AreReceipts}
 use Rattle.escpos_till_model.specs.Steps.{IsCopy}
 
@@ -223,7 +223,7 @@ Happens w Start new = Starts w new
 Happens w (Queue content) new = Calls (λ m after. Queues m content after) w new
 Happens w (Raise first) new = Calls (λ m after. Raises m first after) w new
 Happens w (Deliver openings most copy) new = IsCopy copy × Calls (λ m after. Delivers m openings most copy after × FitsLine after.stage) w new
-Happens w Refuse new = Calls SameBut w new
+Happens w Refuse new = Calls SameEntries w new
 Happens w Keep new = Stores (λ m after. Kept m.stage m after) with_entry w new
 Happens w (FailWith why) new = Stores (λ m after. Unsure m.stage why m after) with_entry w new
 Happens w (FailWithout why) new = Stores (λ m after. Unsure m.stage why m after) without_entry w new

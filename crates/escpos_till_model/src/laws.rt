@@ -9,6 +9,9 @@ ghost use Rattle.escpos_till.specs.declared.entry.Entry.{Entry};
 ghost use Rattle.escpos_till.specs.declared.entry.Entry.TheVariants as entry;
 ghost use Rattle.escpos_till.specs.declared.machine.TillNote.TheVariants as note;
 ghost use Rattle.escpos_till.specs.Entries.{IsLedger, recorded, taken};
+ghost use Rattle.escpos_till.specs.Driver.{Ran};
+ghost use Rattle.escpos_till.specs.Machine.{MachineView};
+ghost use Rattle.escpos_till_model.specs.Around.{Around, DoesInTime, IsAround, Reaches};
 ghost use Rattle.escpos_till_model.specs.Receipts.{Among, EachIsKept, Extends, RecordedStand};
 ghost use Rattle.escpos_till_model.specs.World.{Begins, Happening, Runs, World};
 
@@ -40,3 +43,9 @@ pub fn what_is_recorded_stands()
     escpos_link::laws::every_line();
     escpos_link::laws::in_turn();
 }
+
+/// A driver's run is a run of the world: whatever a driver did, in the order in which it did it, and whatever happened at the printer's end
+/// meanwhile, some happenings lead to a world with the same entries, the same notes and the same printer.
+pub fn a_driven_till_is_in_the_world()
+    ensures reaches { (m after : MachineView) (a new : Around) (w : World) → IsAround m a w → Ran DoesInTime m a after new → Reaches w after new }
+{}
