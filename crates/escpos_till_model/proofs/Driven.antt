@@ -185,9 +185,11 @@ idle_shown : (w : World) (m : MachineView) (a : Around) (events : List Event) (n
 idle_shown w m a events note was kept told is down goes = record {
   happenings = Idle ∷ events_of events;
   now = with_wire w (given_up a.wire);
-  runs =
-    (with_wire w (given_up (with_link w.wire)), record { none = λ k here. subst DownIn (sym was ∙ here) down; is = refl },
-      runs_events events (with_wire w (given_up (with_link w.wire))) (given_up a.wire) (goes_on_given_up events (with_link w.wire) a.wire goes));
+  runs = (
+    with_wire w (given_up (with_link w.wire)),
+    record { none = λ k here. subst DownIn (sym was ∙ here) down; is = refl },
+    runs_events events (with_wire w (given_up (with_link w.wire))) (given_up a.wire) (goes_on_given_up events (with_link w.wire) a.wire goes),
+  );
   shows = shows_at (stage.HangingUp note) m a (with_wire w (given_up a.wire)) was kept told is (down, refl);
 }
 
@@ -354,8 +356,11 @@ tells m mid a w note shows (is, mid_is) sound =
     let down' : mid.host.phase ≡ Down = ap (λ h. h.phase) host ∙ down in
     let notes : List TillNote = w.told ++ note ∷ [] in
     arrive w (running mid w.kept w.wire notes) Tell mid (around a.kept a.wire (a.told ++ note ∷ []))
-    (record { note = note; moves = move (λ k after. (k.stage ≡ stage.Telling note) × (after ≡ told k.stage k)) w m mid w.kept notes w.wire shows.machine (is, mid_is) sound
-        (wired_down m.host mid.host w.wire down down') })
+    (record {
+      note = note;
+      moves = move (λ k after. (k.stage ≡ stage.Telling note) × (after ≡ told k.stage k)) w m mid w.kept notes w.wire shows.machine (is, mid_is) sound
+          (wired_down m.host mid.host w.wire down down');
+    })
     (shows_at (after_note note) mid (around a.kept a.wire (a.told ++ note ∷ [])) (running mid w.kept w.wire notes) refl shows.kept (ap (λ k. k ++ note ∷ []) shows.told) (ap (λ v. v.stage) so)
     (noted_wire note mid.host w.wire a.wire down' same))
 
@@ -393,7 +398,7 @@ breaks m mid a w bytes why k shows (count, next, ended) sound few =
     let down : mid.host.phase ≡ Down = gone _ mid.host so.0 in
     let there : WireView = given_up (with_bytes w.wire (take k m.host.out)) in
     let is_there : there ≡ given_up (with_bytes a.wire (take k bytes)) =
-        ap (λ v. given_up (with_bytes v (take k m.host.out))) same ∙ ap (λ bs. given_up (with_bytes a.wire bs)) (sym those) in
+    ap (λ v. given_up (with_bytes v (take k m.host.out))) same ∙ ap (λ bs. given_up (with_bytes a.wire bs)) (sym those) in
     arrive w (running mid w.kept there w.told) (Break count k why) mid (around a.kept (with_bytes a.wire (take k bytes)) a.told)
     (record { m = m; after = mid; talk = next.talk; was = shows.machine; talks = next.talks; some = some; within = next.within; ended = ended; sound = sound; is = refl })
     (shows_at _ mid (around a.kept (with_bytes a.wire (take k bytes)) a.told) (running mid w.kept there w.told) refl shows.kept shows.told so.2 (down, is_there))
@@ -479,15 +484,33 @@ came_within talk m mid bytes count up (e, h, hears, turned, book) = heard_within
 heard_on : (w : World) (m mid : MachineView) (most count : ℕ) (talk : Talk) → w.machine ≡ Some m → m.stage ≡ stage.Talking talk → m.host.phase ≢ Down → Came m.stage (take most w.wire.coming) count m mid
     → IsSound mid.host → mid.host.phase ≢ Down → Happens w (Hear most) (running mid w.kept (heard_from w.wire count) w.told)
 heard_on w m mid most count talk was is up came sound up' = record {
-  m = m; after = mid; consumed = count; wire = heard_from w.wire count; talk = talk; was = was; talks = is; came = came; sound = sound;
-  wired = wired_on m.host mid.host (heard_from w.wire count) up up'; is = refl;
+  m = m;
+  after = mid;
+  consumed = count;
+  wire = heard_from w.wire count;
+  talk = talk;
+  was = was;
+  talks = is;
+  came = came;
+  sound = sound;
+  wired = wired_on m.host mid.host (heard_from w.wire count) up up';
+  is = refl;
 }
 
 heard_off : (w : World) (m mid : MachineView) (most count : ℕ) (talk : Talk) → w.machine ≡ Some m → m.stage ≡ stage.Talking talk → m.host.phase ≢ Down → Came m.stage (take most w.wire.coming) count m mid
     → IsSound mid.host → mid.host.phase ≡ Down → Happens w (Hear most) (running mid w.kept (given_up (heard_from w.wire count)) w.told)
 heard_off w m mid most count talk was is up came sound down = record {
-  m = m; after = mid; consumed = count; wire = given_up (heard_from w.wire count); talk = talk; was = was; talks = is; came = came; sound = sound;
-  wired = wired_off m.host mid.host (heard_from w.wire count) up down; is = refl;
+  m = m;
+  after = mid;
+  consumed = count;
+  wire = given_up (heard_from w.wire count);
+  talk = talk;
+  was = was;
+  talks = is;
+  came = came;
+  sound = sound;
+  wired = wired_off m.host mid.host (heard_from w.wire count) up down;
+  is = refl;
 }
 
 no_more : (counts : List ℕ) (mid after : MachineView) (bytes : List ℕ) → ((talk : Talk) → mid.stage ≡ stage.Talking talk → ⊥) → HearsAll mid bytes counts after → after ≡ mid
@@ -522,7 +545,7 @@ stands_so w m mid after a bytes count counts talk was kept notes is up came soun
 stands_so w m mid after a bytes count counts talk was kept notes is up came sound within bytes_are near more on (Done e number at up') =
     let same : after ≡ mid = no_more counts mid after (drop count bytes) (λ t bad. let no : stage.Keeping e (then.Recorded number) ≡ stage.Talking t = sym at ∙ bad in cc) more in
     let lags : heard_from w.wire count ≡ with_more (drop count bytes) a.wire =
-        ap (λ c. record { printer = w.wire.printer; ended = w.wire.ended; live = w.wire.live; coming = c }) (dropped_of count bytes w.wire.coming bytes_are within) ∙ ap (with_more (drop count bytes)) near in
+    ap (λ c. record { printer = w.wire.printer; ended = w.wire.ended; live = w.wire.live; coming = c }) (dropped_of count bytes w.wire.coming bytes_are within) ∙ ap (with_more (drop count bytes)) near in
     subst (λ k. Leads w k a) (sym same)
     (arrive w (running mid w.kept (heard_from w.wire count) w.told) (Hear (length bytes)) mid a (heard_on w m mid (length bytes) count talk was is up came sound up')
     (shows_at _ mid a (running mid w.kept (heard_from w.wire count) w.told) refl kept notes at (up', (drop count bytes, lags))))
@@ -542,7 +565,7 @@ hears_all (count ∷ counts) m after bytes w a talk was kept notes is up bytes_a
     let within = came_within talk m mid bytes count up so in
     stands_so w m mid after a bytes count counts talk was kept notes is up (subst (λ bs. Came m.stage bs count m mid) bytes_are came) sound within bytes_are near more
     (λ t2 at2 up2. hears_all counts mid after (drop count bytes) (running mid w.kept (heard_from w.wire count) w.told) a t2 refl kept notes at2 up2
-        (left_of count bytes w.wire.coming bytes_are within) (heard_twice w.wire count bytes within ∙ near) more)
+    (left_of count bytes w.wire.coming bytes_are within) (heard_twice w.wire count bytes within ∙ near) more)
     (came_stands talk m mid bytes count up so)
 
 gives_none : (m mid : MachineView) (a : Around) (w : World) (talk : Talk) → Shows m a w → m.stage ≡ stage.Talking talk → Came m.stage [] 0 m mid → IsSound mid.host
@@ -552,8 +575,12 @@ gives_none m mid a w talk shows is came sound =
     let near : heard_from w.wire 0 ≡ heard_from a.wire 0 = ap (λ v. heard_from v 0) same in
     let new : Around = around a.kept (heard_from a.wire 0) a.told in
     stands_so w m mid mid new [] 0 [] talk shows.machine shows.kept shows.told is up came sound (omega arith) refl near (refl, λ t at. refl)
-    (λ t at up'. record { happenings = []; now = running mid w.kept (heard_from w.wire 0) w.told; runs = refl;
-        shows = shows_at (stage.Talking t) mid new (running mid w.kept (heard_from w.wire 0) w.told) refl shows.kept shows.told at (up', near) })
+    (λ t at up'. record {
+      happenings = [];
+      now = running mid w.kept (heard_from w.wire 0) w.told;
+      runs = refl;
+      shows = shows_at (stage.Talking t) mid new (running mid w.kept (heard_from w.wire 0) w.told) refl shows.kept shows.told at (up', near);
+    })
     (came_stands talk m mid [] 0 up (subst (λ s. Came s [] 0 m mid) is came))
 
 gives : (bytes : List ℕ) (m mid : MachineView) (a : Around) (w : World) → Shows m a w → Turns m (Gives bytes) mid → IsSound mid.host → bytes ≡ take (length bytes) a.wire.coming
@@ -599,7 +626,12 @@ surrounds a w kept wire notes =
 
 reach_on : (w : World) (m : MachineView) (a : Around) (leads : Leads w m a) (s : Stage) → m.stage ≡ s → leads.now.wire.printer ≡ a.wire.printer → (HasNoLink s → IsAround m a leads.now) → Reaches w m a
 reach_on w m a leads s is printer rests = record {
-  happenings = leads.happenings; now = leads.now; runs = leads.runs; kept = leads.shows.kept; told = leads.shows.told; printer = printer;
+  happenings = leads.happenings;
+  now = leads.now;
+  runs = leads.runs;
+  kept = leads.shows.kept;
+  told = leads.shows.told;
+  printer = printer;
   rests = λ none. rests (subst HasNoLink is none);
 }
 
@@ -615,9 +647,11 @@ reach : (s : Stage) (w : World) (m : MachineView) (a : Around) (leads : Leads w 
 reach (stage.Keeping e (then.Send due)) w m a leads is (down, (events, goes)) = record {
   happenings = leads.happenings ++ (Idle ∷ events_of events);
   now = with_wire leads.now (given_up a.wire);
-  runs = runs_more leads.happenings (Idle ∷ events_of events) w leads.now (with_wire leads.now (given_up a.wire)) leads.runs
-      (with_wire leads.now (given_up (with_link leads.now.wire)), record { none = λ k here. subst DownIn (sym leads.shows.machine ∙ here) down; is = refl },
-        runs_events events (with_wire leads.now (given_up (with_link leads.now.wire))) (given_up a.wire) (goes_on_given_up events (with_link leads.now.wire) a.wire goes));
+  runs = runs_more leads.happenings (Idle ∷ events_of events) w leads.now (with_wire leads.now (given_up a.wire)) leads.runs (
+    with_wire leads.now (given_up (with_link leads.now.wire)),
+    record { none = λ k here. subst DownIn (sym leads.shows.machine ∙ here) down; is = refl },
+    runs_events events (with_wire leads.now (given_up (with_link leads.now.wire))) (given_up a.wire) (goes_on_given_up events (with_link leads.now.wire) a.wire goes),
+  );
   kept = leads.shows.kept;
   told = leads.shows.told;
   printer = refl;

@@ -83,9 +83,17 @@ hands_given_up handed.On h w after (a, answers, waiting, none, live, is) =
 pub event_given_up : (e : Event) (w after : WireView) (effect : Note) → is_printer_event e ≡ true → AfterOnWire e w effect after
     → (other : Note) × AfterOnWire e (given_up w) other (given_up after)
 event_given_up (line.Deliver most) w after effect is happened =
-    let (fed, new, told, feeds, well, same) = happened (fresh 0) in
-    (note.Fed fed, λ h. (fed, new, refl, subst (λ bytes. Feeds w.printer (take most bytes) fed.consumed fed.stop new) (sym (first_given_up w.ended w.live)) feeds, well,
-    ap (λ l. line_of h (given_up (wire_of l))) same ∙ sym (stopped_given_up fed.stop h w new fed.consumed)))
+    let (fed, new, told, feeds, well, same) = happened (fresh 0) in (
+      note.Fed fed,
+      λ h. (
+        fed,
+        new,
+        refl,
+        subst (λ bytes. Feeds w.printer (take most bytes) fed.consumed fed.stop new) (sym (first_given_up w.ended w.live)) feeds,
+        well,
+        ap (λ l. line_of h (given_up (wire_of l))) same ∙ sym (stopped_given_up fed.stop h w new fed.consumed),
+      ),
+    )
 event_given_up line.HandOver w after effect is happened =
     let (what, told, hands) = happened (fresh 0) in
     (note.Handed (handed_given_up what), λ h. (handed_given_up what, refl, hands_given_up what h w after hands))
@@ -128,9 +136,15 @@ hands_with_more : (what : Handed) (bytes : List ℕ) (h : HostView) (w after : W
     → HandsOver (line_of h (with_more bytes w)) what (line_of h (with_more bytes after))
 hands_with_more handed.None bytes h w after (none, is) = (none, ap (λ l. line_of h (with_more bytes (wire_of l))) is)
 hands_with_more handed.Lost bytes h w after (a, answers, waiting, some, is) = (a, answers, waiting, some, ap (λ l. line_of h (with_more bytes (wire_of l))) is)
-hands_with_more handed.On bytes h w after (a, answers, waiting, none, live, is) =
-    (a, answers, waiting, none, live, ap (λ l. line_of h (with_more bytes (wire_of l))) is
-    ∙ ap (λ c. line_of h (record { printer = answers_left w.printer answers; ended = w.ended; live = w.live; coming = c })) (sym (append_assoc bytes w.coming (answer_bytes a))))
+hands_with_more handed.On bytes h w after (a, answers, waiting, none, live, is) = (
+  a,
+  answers,
+  waiting,
+  none,
+  live,
+  ap (λ l. line_of h (with_more bytes (wire_of l))) is
+      ∙ ap (λ c. line_of h (record { printer = answers_left w.printer answers; ended = w.ended; live = w.live; coming = c })) (sym (append_assoc bytes w.coming (answer_bytes a))),
+)
 
 pub event_with_more : (e : Event) (bytes : List ℕ) (w after : WireView) (effect : Note) → is_printer_event e ≡ true → AfterOnWire e w effect after
     → (other : Note) × AfterOnWire e (with_more bytes w) other (with_more bytes after)

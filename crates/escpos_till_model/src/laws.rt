@@ -45,7 +45,19 @@ pub fn what_is_recorded_stands()
 }
 
 /// A driver's run is a run of the world: whatever a driver did, in the order in which it did it, and whatever happened at the printer's end
-/// meanwhile, some happenings lead to a world with the same entries, the same notes and the same printer.
+/// meanwhile, some happenings lead to a world with the same entries, the same notes and the same printer. So what is recorded stands on the
+/// paper at each moment of a driver's run, and its owner was told nothing but what is so.
 pub fn a_driven_till_is_in_the_world()
     ensures reaches { (m after : MachineView) (a new : Around) (w : World) → IsAround m a w → Ran DoesInTime m a after new → Reaches w after new }
-{}
+    ensures stands { (first w : World) (happenings : List Happening) (m after : MachineView) (a new : Around) → Begins first → Runs first happenings w → IsAround m a w
+        → Ran DoesInTime m a after new → RecordedStand new.wire.printer.sheet.line_dots new.kept new.wire.printer.sheet.items }
+    ensures kept { (first w : World) (happenings : List Happening) (m after : MachineView) (a new : Around) → Begins first → Runs first happenings w → IsAround m a w
+        → Ran DoesInTime m a after new → EachIsKept new.kept }
+    ensures extends { (m after : MachineView) (a new : Around) (w : World) → IsAround m a w → Ran DoesInTime m a after new → Extends a.kept new.kept }
+    ensures queued { (first w : World) (happenings : List Happening) (m after : MachineView) (a new : Around) (number : ℕ) → Begins first → Runs first happenings w → IsAround m a w
+        → Ran DoesInTime m a after new → Among (note.Queued number) new.told → (0 < number) × (number ≤ length (taken new.kept)) }
+    ensures recorded { (first w : World) (happenings : List Happening) (m after : MachineView) (a new : Around) (number : ℕ) → Begins first → Runs first happenings w → IsAround m a w
+        → Ran DoesInTime m a after new → Among (note.Recorded number) new.told → Among number (recorded new.kept) }
+{
+    what_is_recorded_stands();
+}
