@@ -43,6 +43,7 @@ refused_so error.NotWaiting old new number m n e r = r
 refused_so error.NotTried old new number m n e r = r
 refused_so error.MarksUsedUp old new number m n e r = (r.0, r.1, omega (arith, e, r.2), r.3)
 refused_so (error.MarkReused next) old new number m n e r = r
+refused_so (error.MarkTooHigh last) old new number m n e r = r
 
 -- ## What a call does
 
@@ -191,6 +192,7 @@ next_refused {S} error.NotWaiting mid new number r = ap (λ (v : LedgerView S). 
 next_refused {S} error.NotTried mid new number r = ap (λ (v : LedgerView S). v.entries) r.3
 next_refused {S} error.MarksUsedUp mid new number r = absurd r
 next_refused {S} (error.MarkReused next) mid new number r = absurd r
+next_refused {S} (error.MarkTooHigh last) mid new number r = absurd r
 
 next_concluded : {S : Type 0} (mid new : LedgerView S) (number : ℕ) (sent : Sent) (result : Delivered) → Concludes mid number sent result new → next_free new.entries ≡ next_free mid.entries
 next_concluded {S} mid new number (became.Recorded place) delivered.NothingWaits h = absurd h

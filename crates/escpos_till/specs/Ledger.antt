@@ -1,5 +1,5 @@
 -- The model of a ledger, what its calls do, and why they are refused.
-use Rattle.std.specs.Prelude.{ℕ, ◌≡◌, ◌≢◌, ◌⊎◌, ◌+◌, ◌<◌, ◌≤◌, Option, Some, None, List, [], ◌∷◌, ◌++◌, slice_get}
+use Rattle.std.specs.Prelude.{ℕ, ◌≡◌, ◌≢◌, ◌⊎◌, ◌+◌, ◌-◌, ◌<◌, ◌≤◌, Option, Some, None, List, [], ◌∷◌, ◌++◌, slice_get}
 use Rattle.escpos_command.specs.Digits.{mark_count}
 use Rattle.escpos_till.specs.declared.entry.Content.{Content}
 use Rattle.escpos_till.specs.declared.entry.Entry.{Entry}
@@ -83,6 +83,11 @@ RefusesRecorded error.NotTried old number new =
     IsLive old × Waits old.entries number × (times_tried old.entries number ≡ 0) × (new ≡ old)
 RefusesRecorded why old number new = RefusesEntry why old (entry.Recorded number) new
 
+-- The last number to which the next one may be raised: it leaves as many as a try takes, one for an opening mark and one for the closing mark.
+abbrev pub last_first : ℕ
+last_first = mark_count - 2
+
 abbrev pub RefusesRaise : {S : Type 0} → LedgerError → LedgerView S → ℕ → LedgerView S → Type 0
 RefusesRaise (error.MarkReused next) old first new = IsLive old × (next ≡ next_free old.entries) × (first < next) × (new ≡ old)
+RefusesRaise (error.MarkTooHigh last) old first new = IsLive old × (next_free old.entries ≤ first) × (last ≡ last_first) × (last < first) × (new ≡ old)
 RefusesRaise why old first new = RefusesEntry why old (entry.Raised first) new

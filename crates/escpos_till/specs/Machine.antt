@@ -33,7 +33,7 @@ use Rattle.escpos_till.specs.Book.{HasRoom, IsBookOf, Notes}
 use Rattle.escpos_till.specs.Contents.{GivesReceipt, IsContentFault}
 use Rattle.escpos_till.specs.Delivers.{Due as IsDue, fresh, marks_taken}
 use Rattle.escpos_till.specs.Entries.{IsLedger, MayFollow, Waits, next_free, times_tried, waiting}
-use Rattle.escpos_till.specs.Ledger.{FirstWaits}
+use Rattle.escpos_till.specs.Ledger.{FirstWaits, last_first}
 
 -- ## The model of a machine
 
@@ -152,10 +152,6 @@ RefusesAny m refusal.Busy = (m.stage ≢ stage.AtRest) × (m.stage ≢ stage.Fai
 RefusesAny m refusal.Failed = m.stage ≡ stage.Failed
 RefusesAny m refusal.Memory = m.stage ≡ stage.AtRest
 RefusesAny m why = ⊥
-
--- No receipt with a higher mark number than this would have enough of them for a try.
-abbrev pub last_first : ℕ
-last_first = mark_count - marks_taken 1
 
 -- Why the next mark number isn't raised to this one.
 abbrev pub RefusesRaise : MachineView → ℕ → TillRefusal → Type 0

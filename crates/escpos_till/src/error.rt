@@ -23,6 +23,8 @@ pub enum LedgerError {
     MarksUsedUp,
     /// The mark number is lower than the next one, which is this.
     MarkReused { next: u32 },
+    /// The mark number leaves fewer than a try takes. This is the last that leaves enough.
+    MarkTooHigh { last: u32 },
 }
 
 /// Why a store gives no ledger. The store's entries stay.

@@ -29,6 +29,11 @@ const MARK_COUNT: u32 = 36 * 36 * 36 * 36;
 
 const _: () = prove!(MARK_COUNT == 1_679_616);
 
+// The last mark number that leaves enough for a try.
+const LAST_FIRST: u32 = MARK_COUNT - 2;
+
+const _: () = prove!(LAST_FIRST == 1_679_614);
+
 /// A till's ledger over a store.
 #[derive(Drop)]
 pub struct Ledger<S: Store> {
@@ -182,7 +187,8 @@ impl<S: Store> Ledger<S> {
 
     /// Raises the next mark number to `first`, since those below it were used elsewhere. At `Ok` that outlives a crash.
     ///
-    /// The errors are `MarkReused`, with the next number, if that is higher, `Store`, `Failed` and `Memory`.
+    /// The errors are `MarkReused`, with the next number, if that is higher, `MarkTooHigh` if fewer numbers than a try takes would be left,
+    /// `Store`, `Failed` and `Memory`.
     pub fn raise(&mut self, first: u32) -> Result<(), LedgerError>
         ensures added { OnOk result (Adds self.old (entry_kind.Raised first) self.new) }
         ensures refused { IfErr result (λ why. RefusesRaise why self.old first self.new) }
@@ -192,6 +198,9 @@ impl<S: Store> Ledger<S> {
         let next = self.summary.next;
         if first < next {
             return Err(LedgerError::MarkReused { next });
+        }
+        if first > LAST_FIRST {
+            return Err(LedgerError::MarkTooHigh { last: LAST_FIRST });
         }
         self.append(Entry::Raised { next: first })
     }

@@ -37,6 +37,7 @@ no_store_status none.Memory = Memory
 abbrev pub ledger_refusal : LedgerError → List ℕ
 ledger_refusal (error.NotReceipt why) = refusal_line why
 ledger_refusal (error.MarkReused next) = codes "refused MarkReused " ++ decimal next ++ LF ∷ []
+ledger_refusal (error.MarkTooHigh last) = codes "refused MarkTooHigh " ++ decimal last ++ LF ∷ []
 ledger_refusal (error.Store fault.Memory) = memory_line
 ledger_refusal error.Memory = memory_line
 ledger_refusal _ = failed_line
@@ -44,6 +45,7 @@ ledger_refusal _ = failed_line
 abbrev pub ledger_status : LedgerError → Status
 ledger_status (error.NotReceipt why) = Refused
 ledger_status (error.MarkReused next) = Refused
+ledger_status (error.MarkTooHigh last) = Refused
 ledger_status (error.Store fault.Memory) = Memory
 ledger_status error.Memory = Memory
 ledger_status _ = Device

@@ -21,8 +21,9 @@ const _: () = prove!(LINE_BYTES == 64);
 /// Raises the next mark number to `first`, if one is given; then lists where each receipt stands, in the order of their
 /// numbers, and `next M`, the next mark number.
 ///
-/// The status is `Good`, or `Refused` with `refused MarkReused M` alone if `first` is lower than the next number, or `Device`
-/// with `ledger failed` if the store fails or has failed, or `Memory`. `Device` also comes where `output` has failed.
+/// The status is `Good`; `Refused` with `refused MarkReused M` alone if `first` is lower than the next number, or with
+/// `refused MarkTooHigh L` if it leaves fewer numbers than a try takes; `Device` with `ledger failed` if the store fails or has failed; or
+/// `Memory`. `Device` also comes where `output` has failed.
 pub fn list<S: Store, W: ByteOut>(
     ledger: &mut Ledger<S>,
     first: Option<u32>,

@@ -1,6 +1,6 @@
 //! The line for a call that a ledger refused.
 
-ghost use Rattle.std.specs.Prelude.{◌≡◌, ◌≢◌, ◌+◌, ◌≤◌, ◌++◌, length, IsTrue};
+ghost use Rattle.std.specs.Prelude.{◌≡◌, ◌≢◌, ◌+◌, ◌≤◌, ◌++◌, [], ◌∷◌, decimal, length, IsTrue};
 ghost use Rattle.escpos_jobs.specs.Ending.{Tells, job_end};
 ghost use Rattle.escpos_till_jobs.specs.Words.{TellsRefusal};
 
@@ -28,7 +28,7 @@ pub fn tell_text<W: ByteOut>(text: &[u8], output: &mut W, status: Status) -> Sta
 }
 
 /// Prints the line that says why a ledger refused a call: `ledger failed`, with `Device`; that of a text that gives no
-/// receipt, or `refused MarkReused M`, with `Refused`; or `memory`, with `Memory`.
+/// receipt, `refused MarkReused M` or `refused MarkTooHigh L`, with `Refused`; or `memory`, with `Memory`.
 pub fn refuse_call<W: ByteOut>(why: LedgerError, output: &mut W) -> Status
     ensures tells { TellsRefusal (job_end (W.written output.old) (W.written output.new) (W.failed output.new) result) why }
     ensures not_hidden { result ≢ Status.Device → ¬ IsTrue (W.failed output.old) → ¬ IsTrue (W.failed output.new) }
@@ -36,7 +36,10 @@ pub fn refuse_call<W: ByteOut>(why: LedgerError, output: &mut W) -> Status
 {
     match why {
         LedgerError::NotReceipt(fault) => refuse_text(JsonError::Refused(fault), output),
-        LedgerError::MarkReused { next } => refuse_number(next, output),
+        LedgerError::MarkReused { next } => { refuse_number(b"refused MarkReused ", next, output) }
+        LedgerError::MarkTooHigh { last } => {
+            refuse_number(b"refused MarkTooHigh ", last, output)
+        }
         LedgerError::Memory | LedgerError::Store(StoreFault::Memory) => {
             tell_text(MEMORY, output, Status::Memory)
         }
@@ -44,16 +47,17 @@ pub fn refuse_call<W: ByteOut>(why: LedgerError, output: &mut W) -> Status
     }
 }
 
-// Prints that a mark number is lower than the next one, which is this.
-fn refuse_number<W: ByteOut>(next: u32, output: &mut W) -> Status
-    ensures tells { TellsRefusal (job_end (W.written output.old) (W.written output.new) (W.failed output.new) result) (LedgerError.MarkReused next) }
+// Prints that a mark number is too low or too high, and a number that isn't.
+fn refuse_number<W: ByteOut>(why: &[u8], number: u32, output: &mut W) -> Status
+    requires { length why.now ≤ 20 }
+    ensures tells { Tells (job_end (W.written output.old) (W.written output.new) (W.failed output.new) result) (why.now ++ decimal number ++ LF ∷ []) Status.Refused }
     ensures not_hidden { result ≢ Status.Device → ¬ IsTrue (W.failed output.old) → ¬ IsTrue (W.failed output.new) }
 {
     // Proof only: appended bytes count as given.
     laws::given_in_place();
     let mut gather = Gather::new();
-    gather.extend(b"refused MarkReused ");
-    append_number(&mut gather, next as usize);
+    gather.extend(why);
+    append_number(&mut gather, number as usize);
     gather.push(LF);
     match gather.flush(output) {
         Ok(()) => Status::Refused,

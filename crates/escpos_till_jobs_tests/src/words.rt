@@ -89,6 +89,8 @@ fn tells_each(rt: &impl Abort, ledger: &mut Ledger<MemoryStore>) {
     lists(rt, ledger, None, recorded);
     let reused = ("refused MarkReused 4\n", Status::Refused);
     lists(rt, ledger, Some(3), reused);
+    let too_high = ("refused MarkTooHigh 1679614\n", Status::Refused);
+    lists(rt, ledger, Some(1_679_615), too_high);
     lists(rt, ledger, Some(4), recorded);
     let raised = ("1 recorded 0\n2 tried 1\nnext 7\n", Status::Good);
     lists(rt, ledger, Some(7), raised);

@@ -96,6 +96,8 @@ fn raises(rt: &impl Abort, alloc: Global, ledger: &mut Ledger<MemoryStore>) {
     assert!(rt; ledger.raise(6) == Err(LedgerError::MarkReused { next: 7 }));
     assert!(rt; ledger.raise(7) == Ok(()));
     tries(rt, ledger, 1, 2, 7);
+    let too_high = LedgerError::MarkTooHigh { last: 1_679_614 };
+    assert!(rt; ledger.raise(1_679_615) == Err(too_high));
     assert!(rt; ledger.raise(1_679_614) == Ok(()));
     assert!(rt; ledger.tried(number(rt, 1), 3) == Err(LedgerError::MarksUsedUp));
     tries(rt, ledger, 1, 2, 1_679_614);
