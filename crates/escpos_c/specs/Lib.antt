@@ -13,3 +13,5 @@ pub mod HostCalls
 pub mod PrinterNumbers
 pub mod PrinterCalls
 pub mod Owned
+pub mod TillLines
+pub mod TillTexts
