@@ -15,3 +15,5 @@ pub mod PrinterCalls
 pub mod Owned
 pub mod TillLines
 pub mod TillTexts
+pub mod TillNumbers
+pub mod TillCalls
