@@ -35,6 +35,35 @@ int escpos_printer_set_condition(kolatennis_printer *printer, const kolatennis_s
 int escpos_printer_paper(kolatennis_printer *printer, uint8_t *out, size_t capacity, size_t *written);
 int escpos_printer_tear_off(kolatennis_printer *printer);
 
+/* Why a call of a till is refused, and where a receipt stands. */
+typedef struct {
+    uint32_t reason, fault;
+    size_t at;
+    uint32_t next;
+} till_told;
+typedef struct {
+    uint32_t kind;
+    size_t number;
+} till_standing;
+
+int escpos_till_open(kolatennis_till *till, const uint8_t *lines, size_t len, uint32_t *reason, size_t *at);
+void escpos_till_free(kolatennis_till *till);
+int escpos_till_queue(kolatennis_till *till, const kolatennis_options *options, const uint8_t *json, size_t json_len, till_told *told);
+int escpos_till_raise(kolatennis_till *till, uint32_t first, till_told *told);
+int escpos_till_deliver(kolatennis_till *till, uint32_t openings, const uint8_t *copy, size_t copy_len, uint32_t most, till_told *told);
+int escpos_till_asks(kolatennis_till *till, kolatennis_asked *asked);
+int escpos_till_append(kolatennis_till *till, uint8_t *out, size_t capacity, size_t *written);
+int escpos_till_appended(kolatennis_till *till, bool kept);
+int escpos_till_connected(kolatennis_till *till, bool is);
+int escpos_till_take_out(kolatennis_till *till, uint8_t *out, size_t capacity, size_t *written);
+int escpos_till_came(kolatennis_till *till, const uint8_t *bytes, size_t len, size_t *consumed);
+int escpos_till_link_ended(kolatennis_till *till, uint32_t why);
+int escpos_till_hung_up(kolatennis_till *till);
+int escpos_till_told(kolatennis_till *till);
+int escpos_till_receipts(kolatennis_till *till, size_t *receipts);
+int escpos_till_standing(kolatennis_till *till, size_t number, till_standing *standing);
+int escpos_till_next_mark(kolatennis_till *till, uint32_t *mark);
+
 /* ---- what stands for a NULL ---- */
 
 static const kolatennis_options USUAL = {0, 0};
@@ -57,7 +86,7 @@ static bool is_buffer(const uint8_t *at, size_t len) { return at || !len; }
 
 /* ---- the families of numbers ---- */
 
-enum { RECEIPT = 100, HOST = 200, FAULT = 300, EVENT = 400, STATE = 500, STOP = 600, BAD_ARGUMENT = KOLATENNIS_STATUS_BAD_ARGUMENT };
+enum { RECEIPT = 100, HOST = 200, FAULT = 300, EVENT = 400, STATE = 500, STOP = 600, TILL = 700, ASK = 800, NOTE = 900, LINK = 1000, STANDS = 1100, BAD_ARGUMENT = KOLATENNIS_STATUS_BAD_ARGUMENT };
 
 /* A reason of a family, or 0 for none. */
 static uint32_t reason_in(uint32_t family, uint32_t number) { return number ? family + number : 0; }
@@ -93,6 +122,18 @@ const char *kolatennis_error_name(uint32_t reason) {
         case KOLATENNIS_FAULT_BAD_PARAMETER: return "BadParameter";
         case KOLATENNIS_FAULT_BAD_BARCODE: return "BadBarcode";
         case KOLATENNIS_FAULT_BAD_SIZE: return "BadSize";
+        case KOLATENNIS_TILL_BUSY: return "Busy";
+        case KOLATENNIS_TILL_FAILED: return "Failed";
+        case KOLATENNIS_TILL_NOTHING_WAITS: return "NothingWaits";
+        case KOLATENNIS_TILL_MARK_REUSED: return "MarkReused";
+        case KOLATENNIS_TILL_BAD_COPY: return "BadCopy";
+        case KOLATENNIS_TILL_DAMAGED: return "Damaged";
+        case KOLATENNIS_LINK_ENDED: return "Ended";
+        case KOLATENNIS_LINK_READ_FAULT: return "ReadFault";
+        case KOLATENNIS_LINK_WRITE_FAULT: return "WriteFault";
+        case KOLATENNIS_LINK_TIMED_OUT: return "TimedOut";
+        case KOLATENNIS_LINK_TOO_MANY_ANSWERS: return "TooManyAnswers";
+        case KOLATENNIS_LINK_BAD_ANSWER: return "BadAnswer";
         default: return "unknown";
     }
 }
@@ -277,3 +318,126 @@ int kolatennis_printer_paper(kolatennis_printer *printer, uint8_t *out, size_t c
 }
 
 int kolatennis_printer_tear_off(kolatennis_printer *printer) { return printer ? escpos_printer_tear_off(printer) : BAD_ARGUMENT; }
+
+/* ---- a till ---- */
+
+static const till_told NOTHING_TOLD = {0, 0, KOLATENNIS_NO_PLACE, 0};
+
+/* Why a till refuses: a receipt's fault has its own reason, and so have mark numbers that are used up. */
+static uint32_t till_reason(const till_told *told) {
+    if (told->fault) return reason_in(RECEIPT, told->fault);
+    return told->reason == 5 ? KOLATENNIS_HOST_MARKS_USED_UP : reason_in(TILL, told->reason);
+}
+
+/* Why a receipt waits: what a host refused has its own reason, and out of memory a status. That a store failed has none. */
+static uint32_t link_fault(uint32_t fault) {
+    if (fault == 14 || fault == 21) return KOLATENNIS_STATUS_MEMORY;
+    if (fault > 20) return 0;
+    return fault > 10 ? HOST + fault - 10 : reason_in(LINK, fault);
+}
+
+int kolatennis_till_new(kolatennis_till *till) { return kolatennis_till_open(till, NULL, 0, NULL, NULL); }
+
+int kolatennis_till_open(kolatennis_till *till, const uint8_t *lines, size_t len, uint32_t *reason, size_t *at) {
+    uint32_t why = 0;
+    size_t place = KOLATENNIS_NO_PLACE;
+    if (till) till->at = NULL;
+    int status = till && is_buffer(lines, len) ? escpos_till_open(till, or_none(lines), len, &why, &place) : BAD_ARGUMENT;
+    TELL(reason, reason_in(TILL, why));
+    TELL(at, place);
+    return status;
+}
+
+void kolatennis_till_free(kolatennis_till *till) {
+    if (till) escpos_till_free(till);
+}
+
+int kolatennis_till_queue(kolatennis_till *till, const kolatennis_options *options, const uint8_t *json, size_t json_len, uint32_t *reason, size_t *at) {
+    till_told told = NOTHING_TOLD;
+    int status = till && is_buffer(json, json_len) ? escpos_till_queue(till, or_usual(options), or_none(json), json_len, &told) : BAD_ARGUMENT;
+    TELL(reason, till_reason(&told));
+    TELL(at, told.at);
+    return status;
+}
+
+int kolatennis_till_raise(kolatennis_till *till, uint32_t first, uint32_t *reason, uint32_t *next) {
+    till_told told = NOTHING_TOLD;
+    int status = till ? escpos_till_raise(till, first, &told) : BAD_ARGUMENT;
+    TELL(reason, till_reason(&told));
+    TELL(next, told.next);
+    return status;
+}
+
+int kolatennis_till_deliver(kolatennis_till *till, uint32_t openings, const uint8_t *copy, size_t copy_len, uint32_t most, uint32_t *reason, size_t *at) {
+    till_told told = NOTHING_TOLD;
+    int status = till && is_buffer(copy, copy_len) ? escpos_till_deliver(till, openings, or_none(copy), copy_len, most, &told) : BAD_ARGUMENT;
+    TELL(reason, till_reason(&told));
+    TELL(at, told.at);
+    return status;
+}
+
+int kolatennis_till_asks(kolatennis_till *till, kolatennis_asked *asked) {
+    kolatennis_asked asks = {0, 0, 0, 0};
+    int status = till ? escpos_till_asks(till, &asks) : BAD_ARGUMENT;
+    asks.ask += ASK;
+    asks.note += NOTE;
+    asks.fault = link_fault(asks.fault);
+    TELL(asked, asks);
+    return status;
+}
+
+int kolatennis_till_append(kolatennis_till *till, uint8_t *out, size_t capacity, size_t *written) {
+    size_t len = 0;
+    int status = till && is_buffer(out, capacity) ? escpos_till_append(till, or_no_room(out), capacity, &len) : BAD_ARGUMENT;
+    TELL(written, len);
+    return status;
+}
+
+int kolatennis_till_appended(kolatennis_till *till, bool kept) { return till ? escpos_till_appended(till, kept) : BAD_ARGUMENT; }
+
+int kolatennis_till_connected(kolatennis_till *till, bool is) { return till ? escpos_till_connected(till, is) : BAD_ARGUMENT; }
+
+int kolatennis_till_take_out(kolatennis_till *till, uint8_t *out, size_t capacity, size_t *written) {
+    size_t len = 0;
+    int status = till && is_buffer(out, capacity) ? escpos_till_take_out(till, or_no_room(out), capacity, &len) : BAD_ARGUMENT;
+    TELL(written, len);
+    return status;
+}
+
+int kolatennis_till_came(kolatennis_till *till, const uint8_t *bytes, size_t len, size_t *consumed) {
+    size_t taken = 0;
+    int status = till && is_buffer(bytes, len) ? escpos_till_came(till, or_none(bytes), len, &taken) : BAD_ARGUMENT;
+    TELL(consumed, taken);
+    return status;
+}
+
+int kolatennis_till_link_ended(kolatennis_till *till, uint32_t why) {
+    if (!till) return BAD_ARGUMENT;
+    return escpos_till_link_ended(till, why > LINK ? why - LINK : 0);
+}
+
+int kolatennis_till_hung_up(kolatennis_till *till) { return till ? escpos_till_hung_up(till) : BAD_ARGUMENT; }
+
+int kolatennis_till_told(kolatennis_till *till) { return till ? escpos_till_told(till) : BAD_ARGUMENT; }
+
+int kolatennis_till_receipts(kolatennis_till *till, size_t *receipts) {
+    size_t count = 0;
+    int status = till ? escpos_till_receipts(till, &count) : BAD_ARGUMENT;
+    TELL(receipts, count);
+    return status;
+}
+
+int kolatennis_till_state(kolatennis_till *till, size_t number, uint32_t *state, size_t *count) {
+    till_standing standing = {0, 0};
+    int status = till ? escpos_till_standing(till, number, &standing) : BAD_ARGUMENT;
+    TELL(state, STANDS + standing.kind);
+    TELL(count, standing.number);
+    return status;
+}
+
+int kolatennis_till_next_mark(kolatennis_till *till, uint32_t *mark) {
+    uint32_t next = 0;
+    int status = till ? escpos_till_next_mark(till, &next) : BAD_ARGUMENT;
+    TELL(mark, next);
+    return status;
+}

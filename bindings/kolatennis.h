@@ -3,28 +3,28 @@
  * The library does no I/O: it opens nothing, waits for nothing, calls nothing but malloc, realloc, free, memcpy, memmove and memset,
  * and keeps no pointer that it was given. The caller keeps its own loop, sockets and threads. A call takes up to 256 KiB of stack.
  *
- * Status. Every call that returns an int returns a KOLATENNIS_STATUS_*: 0 if it is done; at any other, no host, printer or handle has
- * changed. Statuses, reasons, events, states and stops are numbers of ranges that don't overlap.
+ * Status. Every call that returns an int returns a KOLATENNIS_STATUS_*: 0 if it is done; at any other, no host, printer, till or handle has
+ * changed. Statuses, reasons, events, states, stops, asks and notes are numbers of ranges that don't overlap.
  *
  * Buffers. A buffer is a pointer and its length in bytes. What is written stands at the start of `out`, `written` is its length, and
  * the rest of `out` is as it was. Where nothing is written, all of it is as it was, and `written` is 0, but at 5 the length that is
  * needed: so a call with capacity 0 asks for it. No two arguments may overlap, unless both are only read.
  *
  * Results. Every call sets each of its results, whatever its status. Where there is nothing to tell, a count, a number or a reason is 0,
- * a place KOLATENNIS_NO_PLACE, and an event, a state or a stop the first of its kind.
+ * a place KOLATENNIS_NO_PLACE, and an event, a state, a stop, an ask or a note the first of its kind.
  *
  * NULL. A buffer of length 0 may be NULL, and so may the place of any result that isn't wanted, options (the usual ones) and sensors
  * (all false). To free NULL does nothing. With any other NULL a call answers KOLATENNIS_STATUS_BAD_ARGUMENT.
  *
  * Handles. A handle is a small struct of the caller's: begin with KOLATENNIS_INIT, pass its address, never copy it, and free what it
- * holds in the end. The calls that make a host or a printer only write to the handle, which may be uninitialised: what it held before
+ * holds in the end. The calls that make a host, a printer or a till only write to the handle, which may be uninitialised: what it held before
  * isn't freed, so free a handle before it is made anew. If such a call fails, the handle holds nothing.
  *
  * Threads. Calls may be made from any thread, and a handle may move between threads. It takes one call at a time: threads that share
  * a handle need a lock.
  *
  * Signals and fork. A signal handler may make no call but kolatennis_version and kolatennis_error_name, since others may allocate.
- * After fork each handle is there twice: two hosts that would use the same mark numbers. Only one process may go on with it; the child
+ * After fork each handle is there twice: two hosts or tills that would use the same mark numbers. Only one process may go on with it; the child
  * of a process with threads may make no call. */
 #ifndef KOLATENNIS_H
 #define KOLATENNIS_H
@@ -92,7 +92,27 @@ enum kolatennis_fault {
     KOLATENNIS_FAULT_BAD_SIZE = 305
 };
 
-/* The name of a status, or of a reason (RECEIPT, HOST, FAULT), as the program and the Python module spell it; "unknown" for any other
+/* Why a till refuses a call. */
+enum kolatennis_till_reason {
+    KOLATENNIS_TILL_BUSY = 701,          /* it asks for something that isn't done yet */
+    KOLATENNIS_TILL_FAILED = 702,        /* it isn't known whether an entry is kept: open a till of the entries that are there */
+    KOLATENNIS_TILL_NOTHING_WAITS = 703, /* no receipt waits */
+    KOLATENNIS_TILL_MARK_REUSED = 706,   /* the mark number is lower than the next one */
+    KOLATENNIS_TILL_BAD_COPY = 707,      /* the text of a copy isn't 1 to 42 characters, each 20 to 7E (hexadecimal) */
+    KOLATENNIS_TILL_DAMAGED = 708        /* a line is no entry, or one that may not come after those before it */
+};
+
+/* Why a link ended; its owner may say the first four. */
+enum kolatennis_link {
+    KOLATENNIS_LINK_ENDED = 1001,            /* the printer closed it */
+    KOLATENNIS_LINK_READ_FAULT = 1002,       /* it can't be read */
+    KOLATENNIS_LINK_WRITE_FAULT = 1003,      /* it can't be written */
+    KOLATENNIS_LINK_TIMED_OUT = 1004,        /* it was waited for as long as may be */
+    KOLATENNIS_LINK_TOO_MANY_ANSWERS = 1005, /* as many bytes of answers were read as may be */
+    KOLATENNIS_LINK_BAD_ANSWER = 1006        /* a byte fits no answer */
+};
+
+/* The name of a status, or of a reason (RECEIPT, HOST, FAULT, TILL, LINK), as the program and the Python module spell it; "unknown" for any other
  * number. The string is never freed. */
 KOLATENNIS_API const char *kolatennis_error_name(uint32_t reason);
 
@@ -148,7 +168,7 @@ typedef struct {
     void *at; /* the library's own */
 } kolatennis_host;
 
-/* What a handle is made of, a host's or a printer's, while it holds nothing: kolatennis_host host = KOLATENNIS_INIT; */
+/* What a handle is made of while it holds nothing: kolatennis_host host = KOLATENNIS_INIT; */
 #define KOLATENNIS_INIT { 0 }
 
 /* What a host hears. */
@@ -252,6 +272,126 @@ KOLATENNIS_API int kolatennis_printer_paper(kolatennis_printer *printer, uint8_t
 
 /* Drops what is on the paper. */
 KOLATENNIS_API int kolatennis_printer_tear_off(kolatennis_printer *printer);
+
+/* ---- A till with one printer ----
+ *
+ * All that a till does with a printer, but for I/O: it takes receipts, delivers them one at a time, and knows which are printed. It
+ * asks for one thing at a time. Its owner calls kolatennis_till_queue, _raise or _deliver, and then, until it asks for nothing, does
+ * what kolatennis_till_asks says, and says what came of it:
+ *
+ *   ASK_APPEND   keep the line that _append gives after those before it, so that it outlives a crash; then call _appended
+ *   ASK_CONNECT  open a link to the printer; then call _connected
+ *   ASK_PUT      send what _take_out gives; if that can't be done, call _link_ended
+ *   ASK_WAIT     read what the printer sends, `number` bytes at most, and hand it to _came; if nothing comes, call _link_ended
+ *   ASK_HANG_UP  close the link; then call _hung_up
+ *   ASK_TELL     see what `note` says; then call _told
+ *
+ * Entries. What a till has to remember is its entries. Each is a line of text, which ends with a newline and has no other: a row of a
+ * table, or a line of a file. All lines that are kept, in order, make the till of the next run, by kolatennis_till_open; none, one that
+ * is new. No line is ever changed or removed. A line that was half written when a crash came was never said to be kept, so whoever
+ * opens the entries cuts off what stands after the last newline. One process at a time may have them: lock them.
+ *
+ * Crashes. kolatennis_till_appended(till, true) may be called only once the entry would outlive a crash, in a file after fsync (for the
+ * first entry of a new file, of its folder too). No byte of a receipt goes out before an entry says that it is tried, with the mark
+ * numbers that its link uses; a receipt is recorded only once the printer has said that it is printed.
+ *
+ * Bytes. kolatennis_till_came may take less than it is given. While the till asks for ASK_PUT or ASK_WAIT, the others must be given
+ * again, before any that come later; once it asks for anything else they are of no use.
+ *
+ * A call of the second kind does nothing where the till asks for something else. */
+typedef struct {
+    void *at; /* the library's own */
+} kolatennis_till;
+
+/* What a till asks for. */
+enum kolatennis_ask {
+    KOLATENNIS_ASK_NOTHING = 800,
+    KOLATENNIS_ASK_APPEND = 801,
+    KOLATENNIS_ASK_CONNECT = 802,
+    KOLATENNIS_ASK_PUT = 803,
+    KOLATENNIS_ASK_WAIT = 804,
+    KOLATENNIS_ASK_HANG_UP = 805,
+    KOLATENNIS_ASK_TELL = 806
+};
+
+/* What a till tells its owner. `number` is the receipt's, counted from 1. */
+enum kolatennis_note {
+    KOLATENNIS_NOTE_NONE = 900,
+    KOLATENNIS_NOTE_QUEUED = 901,   /* the receipt is taken */
+    KOLATENNIS_NOTE_RAISED = 902,   /* the next mark number is raised */
+    KOLATENNIS_NOTE_RECORDED = 903, /* the receipt is printed, and recorded */
+    KOLATENNIS_NOTE_NO_LINK = 904,  /* there was no link. The receipt waits, and nothing of it was sent */
+    KOLATENNIS_NOTE_WAITING = 905,  /* the receipt waits. It may be printed or not: `fault` is a LINK or HOST reason, or STATUS_MEMORY */
+    KOLATENNIS_NOTE_NOT_KEPT = 906  /* it isn't known whether the entry is kept. The till has failed */
+};
+
+/* What a till asks for. */
+typedef struct {
+    uint32_t ask;   /* an ASK */
+    uint32_t note;  /* at ASK_TELL a NOTE */
+    uint32_t fault; /* at NOTE_WAITING why, otherwise 0 */
+    size_t number;  /* at ASK_WAIT the most bytes, at ASK_TELL the receipt's number, if the note has one; otherwise 0 */
+} kolatennis_asked;
+
+/* Where a receipt stands. */
+enum kolatennis_stands {
+    KOLATENNIS_STANDS_UNKNOWN = 1100, /* no receipt has this number */
+    KOLATENNIS_STANDS_WAITING = 1101, /* it waits, and was tried `count` times: if that isn't 0, it may be on the paper */
+    KOLATENNIS_STANDS_RECORDED = 1102 /* it is printed; `count` were recorded before it */
+};
+
+/* Makes a till: a new one, or one of the entries that were kept, given as their lines, one after another. At 1 `reason` is
+ * TILL_DAMAGED, and `at` the first line at fault, counted from 0. */
+KOLATENNIS_API int kolatennis_till_new(kolatennis_till *till);
+KOLATENNIS_API int kolatennis_till_open(kolatennis_till *till, const uint8_t *lines, size_t len, uint32_t *reason, size_t *at);
+
+/* Frees the till; the handle holds nothing then. If it held nothing, nothing happens. The entries are the owner's. */
+KOLATENNIS_API void kolatennis_till_free(kolatennis_till *till);
+
+/* Takes the receipt that a text in JSON describes. At 1 either the text gives none: `reason` is a RECEIPT reason, `at` its place; or
+ * `reason` is TILL_BUSY or TILL_FAILED. `options` may be NULL. */
+KOLATENNIS_API int kolatennis_till_queue(kolatennis_till *till, const kolatennis_options *options, const uint8_t *json, size_t json_len, uint32_t *reason, size_t *at);
+
+/* Raises the number of the next mark to `first`, where those below it were used elsewhere. At 1 `reason` is TILL_BUSY, TILL_FAILED, or
+ * TILL_MARK_REUSED, and then `next` the next number. */
+KOLATENNIS_API int kolatennis_till_raise(kolatennis_till *till, uint32_t first, uint32_t *reason, uint32_t *next);
+
+/* Delivers the first receipt that waits. A printer may still wait for the rest of a command that an older link cut off, and takes the
+ * first opening marks for that: so put out a few. `copy` is a line that is printed before a receipt that was tried before, 1 to 42
+ * characters, each 20 to 7E (hexadecimal); of length 0, there is none. At most `most` bytes of answers are read. At 1 `reason` is
+ * TILL_BUSY, TILL_FAILED, TILL_NOTHING_WAITS, TILL_BAD_COPY or HOST_MARKS_USED_UP; or the text that waits gives no receipt now: a
+ * RECEIPT reason, `at` its place. */
+KOLATENNIS_API int kolatennis_till_deliver(kolatennis_till *till, uint32_t openings, const uint8_t *copy, size_t copy_len, uint32_t most, uint32_t *reason, size_t *at);
+
+/* What the till asks for. */
+KOLATENNIS_API int kolatennis_till_asks(kolatennis_till *till, kolatennis_asked *asked);
+
+/* The line of the entry that is to be kept, as often as it is wanted. At 1 none is to be kept. */
+KOLATENNIS_API int kolatennis_till_append(kolatennis_till *till, uint8_t *out, size_t capacity, size_t *written);
+
+/* Whether the entry would outlive a crash now. If that isn't known, the till fails, and gives its link up first. */
+KOLATENNIS_API int kolatennis_till_appended(kolatennis_till *till, bool kept);
+
+/* Whether there is a link. */
+KOLATENNIS_API int kolatennis_till_connected(kolatennis_till *till, bool is);
+
+/* Moves the next bytes for the link into the buffer, as many as there are and fit. It never answers 5. */
+KOLATENNIS_API int kolatennis_till_take_out(kolatennis_till *till, uint8_t *out, size_t capacity, size_t *written);
+
+/* Hears bytes from the link: `consumed` of them. */
+KOLATENNIS_API int kolatennis_till_came(kolatennis_till *till, const uint8_t *bytes, size_t len, size_t *consumed);
+
+/* The link has ended, for one of the first four LINK reasons; for any other number it answers 1. */
+KOLATENNIS_API int kolatennis_till_link_ended(kolatennis_till *till, uint32_t why);
+
+/* The link is given up; and the note is read. */
+KOLATENNIS_API int kolatennis_till_hung_up(kolatennis_till *till);
+KOLATENNIS_API int kolatennis_till_told(kolatennis_till *till);
+
+/* How many receipts were taken: they have the numbers from 1 to this. Where one of them stands. The number of the next mark. */
+KOLATENNIS_API int kolatennis_till_receipts(kolatennis_till *till, size_t *receipts);
+KOLATENNIS_API int kolatennis_till_state(kolatennis_till *till, size_t number, uint32_t *state, size_t *count);
+KOLATENNIS_API int kolatennis_till_next_mark(kolatennis_till *till, uint32_t *mark);
 
 #ifdef __cplusplus
 }

@@ -576,9 +576,288 @@ static void holds_no_printer(void) {
     kolatennis_printer_free(&printer);
 }
 
+/* ---- a till ---- */
+
+static const char HI_RECEIPT[] = "[{\"line\":\"Hi\"}]";
+#define HI_LINE "queued 0200005b7b226c696e65223a224869227d5d\n"
+#define TRIED_LINE "tried 000000000000000100000004\n"
+#define RECORDED_LINE "recorded 0000000000000001\n"
+
+static int queues(kolatennis_till *till, const char *json, uint32_t *reason, size_t *at) {
+    return CALL(kolatennis_till_queue(till, NULL, bytes(json), strlen(json), reason, at));
+}
+
+static int delivers(kolatennis_till *till, const char *copy, uint32_t *reason, size_t *at) {
+    return CALL(kolatennis_till_deliver(till, 3, bytes(copy), strlen(copy), 100, reason, at));
+}
+
+static kolatennis_asked asks(kolatennis_till *till) {
+    kolatennis_asked asked = {77, 77, 77, 77};
+    IS(kolatennis_till_asks(till, &asked) == KOLATENNIS_STATUS_GOOD);
+    return asked;
+}
+
+static void asks_for(kolatennis_till *till, uint32_t ask, size_t number, int line) {
+    kolatennis_asked asked = asks(till);
+    is(asked.ask == ask && asked.note == KOLATENNIS_NOTE_NONE && asked.fault == 0 && asked.number == number, "asks for something else", line);
+}
+#define ASKS(till, ask, number) asks_for(till, KOLATENNIS_ASK_##ask, number, __LINE__)
+
+static void notes(kolatennis_till *till, uint32_t note, size_t number, uint32_t fault, int line) {
+    kolatennis_asked asked = asks(till);
+    is(asked.ask == KOLATENNIS_ASK_TELL && asked.note == note && asked.number == number && asked.fault == fault, "tells something else", line);
+    IS(kolatennis_till_told(till) == KOLATENNIS_STATUS_GOOD);
+}
+#define NOTES(till, note, number, fault) notes(till, KOLATENNIS_NOTE_##note, number, fault, __LINE__)
+
+/* Keeps the entry that it asks for, which has this line. */
+static void appends(kolatennis_till *till, const char *wanted, int line) {
+    size_t written = 77, len = strlen(wanted);
+    ASKS(till, APPEND, 0);
+    blank();
+    is(CALL(kolatennis_till_append(till, buffer, len - 1, &written)) == KOLATENNIS_STATUS_SHORT && written == len && is_blank(0), "too short", line);
+    is(CALL(kolatennis_till_append(till, buffer, CAPACITY, &written)) == KOLATENNIS_STATUS_GOOD && written == len && holds(wanted, len), wanted, line);
+    IS(kolatennis_till_appended(till, true) == KOLATENNIS_STATUS_GOOD);
+}
+#define APPENDS(till, wanted) appends(till, wanted, __LINE__)
+
+static void takes_out(kolatennis_till *till, const char *wanted, size_t len) {
+    size_t written = 77;
+    ASKS(till, PUT, 0);
+    blank();
+    IS(kolatennis_till_take_out(till, buffer, 3, &written) == KOLATENNIS_STATUS_GOOD && written == 3 && is_blank(3));
+    IS(kolatennis_till_take_out(till, buffer + 3, CAPACITY - 3, &written) == KOLATENNIS_STATUS_GOOD && 3 + written == len && holds(wanted, len));
+}
+
+static void came(kolatennis_till *till, const char *answer, size_t len, size_t wanted) {
+    size_t consumed = 77;
+    IS(kolatennis_till_came(till, bytes(answer), len, &consumed) == KOLATENNIS_STATUS_GOOD && consumed == wanted);
+}
+
+static void hangs_up(kolatennis_till *till) {
+    ASKS(till, HANG_UP, 0);
+    IS(kolatennis_till_hung_up(till) == KOLATENNIS_STATUS_GOOD);
+}
+
+static void knows(kolatennis_till *till, size_t receipts, uint32_t next_mark, uint32_t state, size_t count) {
+    size_t found = 77;
+    uint32_t mark = 77, stands = 77;
+    IS(kolatennis_till_receipts(till, &found) == KOLATENNIS_STATUS_GOOD && found == receipts);
+    IS(kolatennis_till_next_mark(till, &mark) == KOLATENNIS_STATUS_GOOD && mark == next_mark);
+    IS(kolatennis_till_state(till, 1, &stands, &found) == KOLATENNIS_STATUS_GOOD && stands == state && found == count);
+    IS(kolatennis_till_state(till, receipts + 1, &stands, &found) == KOLATENNIS_STATUS_GOOD && stands == KOLATENNIS_STANDS_UNKNOWN && found == 0);
+    IS(kolatennis_till_state(till, 0, &stands, &found) == KOLATENNIS_STATUS_GOOD && stands == KOLATENNIS_STANDS_UNKNOWN && found == 0);
+}
+
+static int opens(kolatennis_till *till, const char *lines, uint32_t *reason, size_t *at) {
+    return CALL(kolatennis_till_open(till, bytes(lines), strlen(lines), reason, at));
+}
+
+/* A till of a receipt that waits, which was tried so many times. */
+static kolatennis_till waits(int tries) {
+    kolatennis_till till = KOLATENNIS_INIT;
+    uint32_t reason = 77;
+    size_t at = 77;
+    IS(opens(&till, tries ? HI_LINE TRIED_LINE : HI_LINE, &reason, &at) == KOLATENNIS_STATUS_GOOD && reason == 0 && at == KOLATENNIS_NO_PLACE);
+    return till;
+}
+
+#define OPENINGS_FROM_0 "\x1D(H\x06\x00" "000000" "\x1D(H\x06\x00" "000001" "\x1D(H\x06\x00" "000002"
+#define OPENINGS_FROM_4 "\x1D(H\x06\x00" "000004" "\x1D(H\x06\x00" "000005" "\x1D(H\x06\x00" "000006"
+
+static void takes_a_receipt(void) {
+    kolatennis_till till = KOLATENNIS_INIT;
+    uint32_t reason = 77, next = 77;
+    size_t at = 77, written = 77;
+    IS(CALL(kolatennis_till_new(&till)) == KOLATENNIS_STATUS_GOOD);
+    knows(&till, 0, 0, KOLATENNIS_STANDS_UNKNOWN, 0);
+    ASKS(&till, NOTHING, 0);
+    IS(delivers(&till, "", &reason, &at) == KOLATENNIS_STATUS_REFUSED && reason == KOLATENNIS_TILL_NOTHING_WAITS && at == KOLATENNIS_NO_PLACE);
+    for (size_t row = 0; row < COUNT(REFUSED); row++) {
+        reason = at = 77;
+        IS(queues(&till, REFUSED[row].json, &reason, &at) == KOLATENNIS_STATUS_REFUSED && reason == REFUSED[row].reason && at == REFUSED[row].at);
+    }
+    for (size_t row = 0; row < COUNT(BAD_OPTIONS); row++) {
+        reason = at = 77;
+        IS(CALL(kolatennis_till_queue(&till, &BAD_OPTIONS[row], bytes(HI_RECEIPT), 15, &reason, &at)) == KOLATENNIS_STATUS_REFUSED);
+        IS(reason == KOLATENNIS_RECEIPT_BAD_OPTIONS && at == KOLATENNIS_NO_PLACE);
+    }
+    blank();
+    IS(CALL(kolatennis_till_append(&till, buffer, CAPACITY, &written)) == KOLATENNIS_STATUS_REFUSED && written == 0 && is_blank(0));
+    IS(queues(&till, HI_RECEIPT, &reason, &at) == KOLATENNIS_STATUS_GOOD && reason == 0 && at == KOLATENNIS_NO_PLACE);
+    IS(queues(&till, HI_RECEIPT, &reason, &at) == KOLATENNIS_STATUS_REFUSED && reason == KOLATENNIS_TILL_BUSY);
+    IS(delivers(&till, "", &reason, &at) == KOLATENNIS_STATUS_REFUSED && reason == KOLATENNIS_TILL_BUSY);
+    IS(CALL(kolatennis_till_raise(&till, 9, &reason, &next)) == KOLATENNIS_STATUS_REFUSED && reason == KOLATENNIS_TILL_BUSY && next == 0);
+    APPENDS(&till, HI_LINE);
+    NOTES(&till, QUEUED, 1, 0);
+    ASKS(&till, NOTHING, 0);
+    knows(&till, 1, 0, KOLATENNIS_STANDS_WAITING, 0);
+    const kolatennis_options narrow = {144, '?'};
+    IS(CALL(kolatennis_till_queue(&till, &narrow, bytes("[{\"line\":\"\\u6f22\"}]"), 19, &reason, &at)) == KOLATENNIS_STATUS_GOOD);
+    APPENDS(&till, "queued 00903f5b7b226c696e65223a225c7536663232227d5d\n");
+    NOTES(&till, QUEUED, 2, 0);
+    IS(CALL(kolatennis_till_raise(&till, 36, &reason, &next)) == KOLATENNIS_STATUS_GOOD && reason == 0 && next == 0);
+    APPENDS(&till, "raised 00000024\n");
+    NOTES(&till, RAISED, 0, 0);
+    IS(CALL(kolatennis_till_raise(&till, 35, &reason, &next)) == KOLATENNIS_STATUS_REFUSED && reason == KOLATENNIS_TILL_MARK_REUSED && next == 36);
+    knows(&till, 2, 36, KOLATENNIS_STANDS_WAITING, 0);
+    /* an entry that may not be kept */
+    IS(queues(&till, HI_RECEIPT, &reason, &at) == KOLATENNIS_STATUS_GOOD);
+    IS(kolatennis_till_appended(&till, false) == KOLATENNIS_STATUS_GOOD);
+    NOTES(&till, NOT_KEPT, 0, 0);
+    ASKS(&till, NOTHING, 0);
+    IS(queues(&till, HI_RECEIPT, &reason, &at) == KOLATENNIS_STATUS_REFUSED && reason == KOLATENNIS_TILL_FAILED);
+    kolatennis_till_free(&till);
+    kolatennis_till_free(&till);
+}
+
+static void delivers_a_receipt(void) {
+    kolatennis_till till = waits(0);
+    uint32_t reason = 77;
+    size_t at = 77;
+    knows(&till, 1, 0, KOLATENNIS_STANDS_WAITING, 0);
+    IS(delivers(&till, "\x7F", &reason, &at) == KOLATENNIS_STATUS_REFUSED && reason == KOLATENNIS_TILL_BAD_COPY && at == KOLATENNIS_NO_PLACE);
+    IS(delivers(&till, FORTY "ABC", &reason, &at) == KOLATENNIS_STATUS_REFUSED && reason == KOLATENNIS_TILL_BAD_COPY);
+    IS(delivers(&till, "COPY", &reason, &at) == KOLATENNIS_STATUS_GOOD && reason == 0 && at == KOLATENNIS_NO_PLACE);
+    ASKS(&till, CONNECT, 0);
+    /* what it doesn't ask for changes nothing */
+    IS(kolatennis_till_told(&till) == KOLATENNIS_STATUS_GOOD && kolatennis_till_hung_up(&till) == KOLATENNIS_STATUS_GOOD);
+    IS(kolatennis_till_appended(&till, true) == KOLATENNIS_STATUS_GOOD && kolatennis_till_link_ended(&till, KOLATENNIS_LINK_ENDED) == KOLATENNIS_STATUS_GOOD);
+    came(&till, BYTES("\x12\x12"), 2);
+    ASKS(&till, CONNECT, 0);
+    IS(kolatennis_till_connected(&till, false) == KOLATENNIS_STATUS_GOOD);
+    NOTES(&till, NO_LINK, 1, 0);
+    knows(&till, 1, 0, KOLATENNIS_STANDS_WAITING, 0);
+    IS(delivers(&till, "COPY", &reason, &at) == KOLATENNIS_STATUS_GOOD);
+    IS(kolatennis_till_connected(&till, true) == KOLATENNIS_STATUS_GOOD);
+    APPENDS(&till, TRIED_LINE);
+    if (asks(&till).ask == KOLATENNIS_ASK_PUT) {
+        takes_out(&till, BYTES(OPENINGS_FROM_0));
+        ASKS(&till, WAIT, 100);
+        for (uint32_t why = 0; why < 2000; why++)
+            if (why <= KOLATENNIS_LINK_ENDED - 1 || why > KOLATENNIS_LINK_TIMED_OUT) IS(kolatennis_till_link_ended(&till, why) == KOLATENNIS_STATUS_REFUSED);
+        came(&till, BYTES("\x37\"00"), 4);
+        ASKS(&till, WAIT, 96);
+        came(&till, BYTES("00\x00\x37\"0001\x00"), 3);
+    }
+    if (asks(&till).ask == KOLATENNIS_ASK_PUT) {
+        takes_out(&till, BYTES("\x1B@Hi\n\x1D(H\x06\x00" "000003"));
+        ASKS(&till, WAIT, 93);
+        came(&till, BYTES("\x37\"0001\x00\x37\"0002\x00\x37\"0003\x00"), 21);
+        APPENDS(&till, RECORDED_LINE);
+        hangs_up(&till);
+        NOTES(&till, RECORDED, 1, 0);
+        knows(&till, 1, 4, KOLATENNIS_STANDS_RECORDED, 0);
+    } else {
+        /* out of memory for the bytes that are put */
+        IS(failing);
+        hangs_up(&till);
+        NOTES(&till, WAITING, 1, KOLATENNIS_STATUS_MEMORY);
+        knows(&till, 1, 4, KOLATENNIS_STANDS_WAITING, 1);
+    }
+    ASKS(&till, NOTHING, 0);
+    kolatennis_till_free(&till);
+}
+
+/* The link ends, for each reason that there is; the receipt is tried again, with the line of a copy. */
+static void tries_a_receipt(void) {
+    static const uint32_t WHY[] = {
+        KOLATENNIS_LINK_ENDED, KOLATENNIS_LINK_READ_FAULT, KOLATENNIS_LINK_WRITE_FAULT, KOLATENNIS_LINK_TIMED_OUT, KOLATENNIS_LINK_BAD_ANSWER, KOLATENNIS_LINK_TOO_MANY_ANSWERS,
+    };
+    for (size_t row = 0; row < COUNT(WHY); row++) {
+        kolatennis_till till = waits(1);
+        uint32_t reason = 77;
+        size_t at = 77;
+        knows(&till, 1, 4, KOLATENNIS_STANDS_WAITING, 1);
+        IS(delivers(&till, "COPY", &reason, &at) == KOLATENNIS_STATUS_GOOD && kolatennis_till_connected(&till, true) == KOLATENNIS_STATUS_GOOD);
+        APPENDS(&till, "tried 000000000000000100000008\n");
+        if (asks(&till).ask == KOLATENNIS_ASK_PUT) {
+            takes_out(&till, BYTES(OPENINGS_FROM_4));
+            if (WHY[row] <= KOLATENNIS_LINK_TIMED_OUT) IS(kolatennis_till_link_ended(&till, WHY[row]) == KOLATENNIS_STATUS_GOOD);
+            else if (WHY[row] == KOLATENNIS_LINK_BAD_ANSWER) came(&till, BYTES("\xFF"), 0);
+            else came(&till, BYTES("\x37\"0006\x00"), 7);
+        }
+        if (asks(&till).ask == KOLATENNIS_ASK_PUT) {
+            takes_out(&till, BYTES("\x1B@\x1B" "a\x01\x1B" "E\x01" "COPY\n\x1B" "E\x00\x1B" "a\x00" "Hi\n\x1D(H\x06\x00" "000007"));
+            uint8_t many[200];
+            size_t consumed = 77;
+            memset(many, 0x12, sizeof many);
+            for (size_t left = 93; left; left--) IS(kolatennis_till_came(&till, many, 1, &consumed) == KOLATENNIS_STATUS_GOOD && consumed == 1);
+        }
+        hangs_up(&till);
+        int ran_out = failing && asks(&till).fault == KOLATENNIS_STATUS_MEMORY;
+        NOTES(&till, WAITING, 1, ran_out ? (uint32_t)KOLATENNIS_STATUS_MEMORY : WHY[row]);
+        knows(&till, 1, 8, KOLATENNIS_STANDS_WAITING, 2);
+        kolatennis_till_free(&till);
+    }
+}
+
+struct damaged {
+    const char *lines;
+    size_t at;
+};
+static const struct damaged DAMAGED[] = {
+    {"\n", 0}, {"x\n", 0}, {"queued \n", 0}, {"queued 0200\n", 0}, {"queued 0000005b5d\n", 0}, {"queued 0401005b5d\n", 0}, {"queued 0200015b5d\n", 0},
+    {"queued 0200005b5\n", 0}, {"queued  0200005b5d\n", 0}, {"Queued 0200005b5d\n", 0}, {"queued 0200005b5d\r\n", 0}, {HI_LINE "\n", 1}, {HI_LINE HI_LINE "quey", 2},
+    {HI_LINE "tried 00000000000000010000000", 1}, {HI_LINE "tried 000000000000000100000004", 1}, {HI_LINE "tried 000000000000000000000004\n", 1},
+    {HI_LINE "tried 000000000000000200000004\n" HI_LINE, 1}, {HI_LINE "tried 000000000000000100000000\n", 1}, {HI_LINE "tried 0000000000000001\n", 1},
+    {HI_LINE RECORDED_LINE, 1}, {HI_LINE TRIED_LINE TRIED_LINE, 2}, {HI_LINE TRIED_LINE RECORDED_LINE RECORDED_LINE HI_LINE "x\n", 3},
+    {HI_LINE TRIED_LINE "raised 00000003\n", 2}, {"raised 0000003\n", 0}, {"raised 000000003\n", 0}, {RECORDED_LINE, 0}, {"recorded 00000001\n", 0},
+    {HI_LINE HI_LINE HI_LINE HI_LINE HI_LINE HI_LINE "recorded 0000000000000006\n" HI_LINE HI_LINE, 6},
+};
+
+static void opens_entries(void) {
+    kolatennis_till till = KOLATENNIS_INIT;
+    uint32_t reason = 77;
+    size_t at = 77;
+    for (size_t row = 0; row < COUNT(DAMAGED); row++) {
+        reason = at = 77;
+        IS(opens(&till, DAMAGED[row].lines, &reason, &at) == KOLATENNIS_STATUS_REFUSED && reason == KOLATENNIS_TILL_DAMAGED);
+        is(at == DAMAGED[row].at, DAMAGED[row].lines, (int)row);
+        IS(kolatennis_till_told(&till) == KOLATENNIS_STATUS_EMPTY);
+    }
+    IS(opens(&till, HI_LINE TRIED_LINE RECORDED_LINE "raised 00000010\n" HI_LINE, &reason, &at) == KOLATENNIS_STATUS_GOOD && reason == 0 && at == KOLATENNIS_NO_PLACE);
+    knows(&till, 2, 16, KOLATENNIS_STANDS_RECORDED, 0);
+    kolatennis_till_free(&till);
+    IS(opens(&till, "raised 0019A100\n" HI_LINE, &reason, &at) == KOLATENNIS_STATUS_GOOD);
+    IS(delivers(&till, "", &reason, &at) == KOLATENNIS_STATUS_REFUSED && reason == KOLATENNIS_HOST_MARKS_USED_UP && at == KOLATENNIS_NO_PLACE);
+    kolatennis_till_free(&till);
+    IS(opens(&till, "queued 0200005b7b22666564223a317d5d\n", &reason, &at) == KOLATENNIS_STATUS_GOOD);
+    IS(delivers(&till, "", &reason, &at) == KOLATENNIS_STATUS_REFUSED && reason == KOLATENNIS_RECEIPT_BAD_SHAPE && at == 0);
+    kolatennis_till_free(&till);
+}
+
+static void holds_no_till(void) {
+    kolatennis_till till = KOLATENNIS_INIT;
+    kolatennis_asked asked = {77, 77, 77, 77};
+    uint32_t reason = 77, number = 77;
+    size_t at = 77, count = 77;
+    IS(queues(&till, HI_RECEIPT, &reason, &at) == KOLATENNIS_STATUS_EMPTY && reason == 0 && at == KOLATENNIS_NO_PLACE);
+    reason = at = 77;
+    IS(delivers(&till, "", &reason, &at) == KOLATENNIS_STATUS_EMPTY && reason == 0 && at == KOLATENNIS_NO_PLACE);
+    reason = 77;
+    IS(kolatennis_till_raise(&till, 1, &reason, &number) == KOLATENNIS_STATUS_EMPTY && reason == 0 && number == 0);
+    IS(kolatennis_till_asks(&till, &asked) == KOLATENNIS_STATUS_EMPTY && asked.ask == KOLATENNIS_ASK_NOTHING && asked.note == KOLATENNIS_NOTE_NONE && asked.fault == 0 && asked.number == 0);
+    blank();
+    IS(kolatennis_till_append(&till, buffer, CAPACITY, &count) == KOLATENNIS_STATUS_EMPTY && count == 0 && is_blank(0));
+    IS(kolatennis_till_appended(&till, true) == KOLATENNIS_STATUS_EMPTY && kolatennis_till_connected(&till, true) == KOLATENNIS_STATUS_EMPTY);
+    count = 77;
+    IS(kolatennis_till_take_out(&till, buffer, CAPACITY, &count) == KOLATENNIS_STATUS_EMPTY && count == 0 && is_blank(0));
+    count = 77;
+    IS(kolatennis_till_came(&till, bytes("A"), 1, &count) == KOLATENNIS_STATUS_EMPTY && count == 0);
+    IS(kolatennis_till_link_ended(&till, KOLATENNIS_LINK_ENDED) == KOLATENNIS_STATUS_EMPTY);
+    IS(kolatennis_till_hung_up(&till) == KOLATENNIS_STATUS_EMPTY && kolatennis_till_told(&till) == KOLATENNIS_STATUS_EMPTY);
+    count = 77;
+    IS(kolatennis_till_receipts(&till, &count) == KOLATENNIS_STATUS_EMPTY && count == 0);
+    count = 77;
+    IS(kolatennis_till_state(&till, 1, &number, &count) == KOLATENNIS_STATUS_EMPTY && number == KOLATENNIS_STANDS_UNKNOWN && count == 0);
+    IS(kolatennis_till_next_mark(&till, &number) == KOLATENNIS_STATUS_EMPTY && number == 0);
+    kolatennis_till_free(&till);
+}
+
 /* ---- results stay in their places ---- */
 
-static uint64_t rooms[4][3];
+static uint64_t rooms[4][5];
 /* A place for a result, with eight bytes before it and some after it. */
 static uint64_t *place(int room) {
     memset(rooms[room], 0xC3, sizeof rooms[room]);
@@ -599,6 +878,7 @@ static int stays(int room, size_t size) {
 static void results_stay(void) {
     kolatennis_host host = KOLATENNIS_INIT;
     kolatennis_printer printer = KOLATENNIS_INIT;
+    kolatennis_till till = KOLATENNIS_INIT;
     kolatennis_sensors fine = {false, false, false};
     const kolatennis_options none = {0, 0}, bad = {1025, 0};
     const size_t s = sizeof(size_t), u = sizeof(uint32_t);
@@ -606,6 +886,8 @@ static void results_stay(void) {
         if (full) {
             IS(CALL(kolatennis_host_new(&host, 0)) == KOLATENNIS_STATUS_GOOD);
             IS(CALL(kolatennis_printer_new(&printer, &fine, 0)) == KOLATENNIS_STATUS_GOOD);
+            IS(CALL(kolatennis_till_open(&till, bytes("x"), 1, number_at(0), count_at(1))) == KOLATENNIS_STATUS_REFUSED && STAY_2(u, s));
+            IS(CALL(kolatennis_till_open(&till, NULL, 0, number_at(0), count_at(1))) == KOLATENNIS_STATUS_GOOD && STAY_2(u, s));
         }
         int wanted = full ? KOLATENNIS_STATUS_GOOD : KOLATENNIS_STATUS_EMPTY, refused = full ? KOLATENNIS_STATUS_REFUSED : KOLATENNIS_STATUS_EMPTY;
         IS(CALL(kolatennis_encode(NULL, bytes("[]"), 2, buffer, 9, count_at(0), number_at(1), count_at(2))) == KOLATENNIS_STATUS_REFUSED && STAY_3(s, u, s));
@@ -634,7 +916,18 @@ static void results_stay(void) {
         IS(CALL(kolatennis_printer_feed(&printer, bytes("\x06"), 1, count_at(0), number_at(1), number_at(2), count_at(3))) == wanted && STAY_4(s, u, u, s));
         IS(kolatennis_printer_take_answer(&printer, buffer, CAPACITY, count_at(0)) == wanted && stays(0, s));
         IS(CALL(kolatennis_printer_paper(&printer, buffer, CAPACITY, count_at(0))) == wanted && stays(0, s));
+        IS(CALL(kolatennis_till_queue(&till, &none, bytes("[]"), 2, number_at(0), count_at(1))) == refused && STAY_2(u, s));
+        IS(CALL(kolatennis_till_deliver(&till, 0, NULL, 0, 9, number_at(0), count_at(1))) == refused && STAY_2(u, s));
+        IS(CALL(kolatennis_till_raise(&till, 9, number_at(0), number_at(1))) == wanted && STAY_2(u, u));
+        IS(kolatennis_till_asks(&till, (kolatennis_asked *)place(0)) == wanted && stays(0, sizeof(kolatennis_asked)));
+        IS(CALL(kolatennis_till_append(&till, buffer, CAPACITY, count_at(0))) == wanted && stays(0, s));
+        IS(kolatennis_till_take_out(&till, buffer, 2, count_at(0)) == wanted && stays(0, s));
+        IS(kolatennis_till_came(&till, bytes("\x12"), 1, count_at(0)) == wanted && stays(0, s));
+        IS(kolatennis_till_receipts(&till, count_at(0)) == wanted && stays(0, s));
+        IS(kolatennis_till_state(&till, 1, number_at(0), count_at(1)) == wanted && STAY_2(u, s));
+        IS(kolatennis_till_next_mark(&till, number_at(0)) == wanted && stays(0, u));
     }
+    kolatennis_till_free(&till);
     kolatennis_host_free(&host);
     kolatennis_printer_free(&printer);
 }
@@ -718,6 +1011,11 @@ static void all(void) {
     prints();
     prints_on_a_width();
     holds_no_printer();
+    takes_a_receipt();
+    delivers_a_receipt();
+    tries_a_receipt();
+    opens_entries();
+    holds_no_till();
     prints_a_receipt();
     results_stay();
 }

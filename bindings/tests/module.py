@@ -7,7 +7,7 @@ usage: module.py OTHER      with the package in PYTHONPATH, KOLATENNIS_LIBRARY, 
 import copy, doctest, inspect, os, re, subprocess, sys, threading, typing, unittest
 
 import kolatennis
-from kolatennis import _errors, _library, _line, _numbers, _texts
+from kolatennis import _errors, _library, _line, _numbers, _texts, _till
 
 HEADER = os.path.join(os.path.dirname(os.path.abspath(__file__)), "../kolatennis.h")
 OPENED = b"\x37\x220000\x00"
@@ -23,6 +23,15 @@ def enumeration(family):
     return {name: int(number) for name, number in re.findall(rf"^    KOLATENNIS_{family}_(\w+) = (\d+)", header(), re.MULTILINE)}
 
 
+def keeps(till):
+    """Keeps the entry that a till asks for, tells it so, and returns its line."""
+    line = till.line()
+    till.appended(True)
+    if till.asks.ask == "tell":
+        till.told()
+    return line
+
+
 def open_host():
     host = kolatennis.Host()
     host.link_up()
@@ -34,13 +43,20 @@ def open_host():
 class Numbers(unittest.TestCase):
     def test_are_those_of_the_header(self):
         self.assertEqual({it.name: it.value for it in _numbers.Status}, enumeration("STATUS"))
-        reasons = {"RECEIPT": kolatennis.RECEIPT_REASONS, "HOST": kolatennis.HOST_REASONS, "FAULT": kolatennis.FAULT_REASONS}
+        reasons = {
+            "RECEIPT": kolatennis.RECEIPT_REASONS, "HOST": kolatennis.HOST_REASONS, "FAULT": kolatennis.FAULT_REASONS,
+            "TILL": kolatennis.TILL_REASONS, "LINK": kolatennis.LINK_REASONS,
+        }
         for family, names in reasons.items():
             wanted = {number: name.title().replace("_", "") for name, number in enumeration(family).items()}
             self.assertEqual(names, wanted)
             for number, name in names.items():
                 self.assertEqual(_library.library.kolatennis_error_name(number).decode(), name)
-        for family, names in {"EVENT": kolatennis.EVENTS, "STATE": kolatennis.STATES, "STOP": kolatennis.STOPS}.items():
+        others = {
+            "EVENT": kolatennis.EVENTS, "STATE": kolatennis.STATES, "STOP": kolatennis.STOPS, "ASK": kolatennis.ASKS, "NOTE": kolatennis.NOTES,
+            "STANDS": kolatennis.STANDS,
+        }
+        for family, names in others.items():
             self.assertEqual(names, {number: name.lower().replace("_", " ") for name, number in enumeration(family).items()})
         every = re.findall(r"^    (KOLATENNIS_\w+) = (\d+)", header(), re.MULTILINE)
         self.assertEqual(len(every), len({number for _, number in every}))
@@ -101,6 +117,13 @@ class Errors(unittest.TestCase):
             (kolatennis.NotNow, lambda: kolatennis.Host().submit([{"line": "Hi"}])),
             (kolatennis.OutOfRange, lambda: kolatennis.Host(-1)),
             (kolatennis.OutOfRange, lambda: kolatennis.Printer(width=0)),
+            (kolatennis.Refused, lambda: kolatennis.Till().queue("[")),
+            (kolatennis.NotNow, lambda: kolatennis.Till().deliver()),
+            (kolatennis.NotNow, lambda: kolatennis.Till().line()),
+            (kolatennis.NotNow, lambda: kolatennis.Till(b"raised 00000005\n").raise_mark(4)),
+            (kolatennis.Damaged, lambda: kolatennis.Till(b"x")),
+            (kolatennis.OutOfRange, lambda: kolatennis.Till().raise_mark(2**32)),
+            (kolatennis.OutOfRange, lambda: kolatennis.Till().link_ended("BadAnswer")),
             (kolatennis.Closed, lambda: closed.next_mark),
             (kolatennis.Closed, lambda: closed.hear(b"\x12")),
             (kolatennis.TooLong, lambda: kolatennis.listing(b"\xff" * 16777216)),
@@ -112,6 +135,60 @@ class Errors(unittest.TestCase):
     def test_a_handle_is_not_copied(self):
         with self.assertRaises(TypeError):
             copy.copy(kolatennis.Host())
+
+
+class Tills(unittest.TestCase):
+    def test_what_is_damaged_is_told(self):
+        till = kolatennis.Till()
+        till.queue([{"line": "Hi"}])
+        line = keeps(till)
+        for lines, place in [(b"x", 1), (line + line + line[:-1], 3), (line + b"recorded 0000000000000001\n", 2)]:
+            with self.assertRaises(kolatennis.Damaged) as raised:
+                kolatennis.Till(lines)
+            self.assertEqual(raised.exception.line, place)
+        self.assertEqual(kolatennis.Till(bytearray(line + line)).receipts, 2)
+
+    def test_a_long_line_is_whole(self):
+        till = kolatennis.Till()
+        till.queue([{"line": "A" * 100}] * 1000)
+        again = kolatennis.Till(keeps(till))
+        self.assertEqual(again.state(1), kolatennis.Standing("waiting", 0))
+        self.assertEqual((again.state(0), again.state(2)), (kolatennis.Standing("unknown", 0),) * 2)
+
+    def test_it_fails_where_an_entry_may_not_be_kept(self):
+        till = kolatennis.Till()
+        till.raise_mark(9)
+        till.appended(False)
+        self.assertEqual(till.asks, kolatennis.Asked("tell", "not kept"))
+        till.told()
+        self.assertEqual(list(till.steps()), [])
+        with self.assertRaises(kolatennis.NotNow) as raised:
+            till.queue([{"line": "Hi"}])
+        self.assertEqual(raised.exception.reason, "Failed")
+
+    def test_why_a_receipt_waits(self):
+        till = kolatennis.Till()
+        till.queue([{"line": "Hi"}])
+        keeps(till)
+        for tries, why in enumerate(["Ended", "ReadFault", "WriteFault", "TimedOut", "BadAnswer", "TooManyAnswers"], 1):
+            till.deliver(openings=1, copy="AGAIN", most=7)
+            till.connected(True)
+            keeps(till)
+            till.take_out()
+            if why == "BadAnswer":
+                self.assertEqual(till.came(b"\xff\xff"), b"\xff\xff")
+            elif why == "TooManyAnswers":
+                self.assertEqual(till.came(b"\x12" * 7), b"\x12" * 6)
+                self.assertEqual([till.came(b"\x12") for _ in range(6)], [b""] * 6)
+            else:
+                till.link_ended(why)
+            till.hung_up()
+            self.assertEqual(till.asks, kolatennis.Asked("tell", "waiting", 1, why))
+            till.told()
+            self.assertEqual(till.state(1), kolatennis.Standing("waiting", tries))
+        till.deliver(copy=b"AGAIN")
+        till.connected(False)
+        self.assertEqual(till.asks, kolatennis.Asked("tell", "no link", 1))
 
 
 class Handles(unittest.TestCase):
@@ -131,11 +208,11 @@ class Handles(unittest.TestCase):
         self.assertEqual(host.next_mark, 7)
 
     def test_a_forked_process_is_refused(self):
-        host, printer = open_host(), kolatennis.Printer()
+        host, printer, till = open_host(), kolatennis.Printer(), kolatennis.Till()
         child = os.fork()
         if child == 0:
             refused = 0
-            for call in (lambda: host.next_mark, host.take_out, lambda: host.hear(b"\x12"), lambda: host.submit([{"line": "Hi"}]), printer.paper):
+            for call in (lambda: host.next_mark, host.take_out, lambda: host.hear(b"\x12"), lambda: host.submit([{"line": "Hi"}]), printer.paper, till.deliver):
                 try:
                     call()
                 except kolatennis.Forked:
@@ -144,7 +221,7 @@ class Handles(unittest.TestCase):
             with kolatennis.Host(3) as own:
                 refused += own.next_mark == 3
             os._exit(refused)
-        self.assertEqual(os.waitstatus_to_exitcode(os.waitpid(child, 0)[1]), 6)
+        self.assertEqual(os.waitstatus_to_exitcode(os.waitpid(child, 0)[1]), 7)
         host.submit([{"line": "Hi"}])
         self.assertEqual(host.state, "sending")
 
@@ -168,7 +245,7 @@ class Handles(unittest.TestCase):
 
 
 def load_tests(loader, tests, pattern):
-    for module in (kolatennis, _texts, _line):
+    for module in (kolatennis, _texts, _line, _till):
         tests.addTests(doctest.DocTestSuite(module))
     return tests
 

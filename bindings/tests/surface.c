@@ -50,12 +50,12 @@ static void has_names(void) {
     IS(sscanf(KOLATENNIS_VERSION, "%u.%u.%u", &major, &minor, &patch) == 3);
     IS(KOLATENNIS_VERSION_NUMBER == 10000 * major + 100 * minor + patch);
     unsigned known = 0;
-    for (uint32_t one = 0; one < 1000; one++) {
+    for (uint32_t one = 0; one < 1200; one++) {
         if (!strcmp(kolatennis_error_name(one), "unknown")) continue;
         known++;
         for (uint32_t other = 0; other < one; other++) IS(strcmp(kolatennis_error_name(one), kolatennis_error_name(other)));
     }
-    IS(known == 7 + 10 + 5 + 5);
+    IS(known == 7 + 10 + 5 + 5 + 6 + 6);
     IS(!strcmp(kolatennis_error_name(KOLATENNIS_RECEIPT_TEXT_LEFT), "TextLeft"));
     IS(!strcmp(kolatennis_error_name(UINT32_MAX), "unknown") && !strcmp(kolatennis_error_name(KOLATENNIS_EVENT_OPENED), "unknown"));
 }
@@ -124,12 +124,36 @@ static void takes_null_of_a_printer(void) {
     kolatennis_printer_free(NULL);
 }
 
+static void takes_null_of_a_till(void) {
+    kolatennis_till till;
+    memset(&till, 0xA5, sizeof till);
+    IS(kolatennis_till_new(&till) == GOOD && kolatennis_till_queue(&till, NULL, HI, NULL, NULL) == GOOD);
+    IS(kolatennis_till_queue(&till, NULL, NULL, 0, NULL, NULL) == REFUSED && kolatennis_till_raise(&till, 1, NULL, NULL) == REFUSED);
+    IS(kolatennis_till_asks(&till, NULL) == GOOD && kolatennis_till_append(&till, NULL, 0, NULL) == SHORT);
+    reset();
+    IS(kolatennis_till_append(&till, buffer, sizeof buffer, NULL) == GOOD && !memcmp(buffer, "queued 020000", 13));
+    IS(kolatennis_till_appended(&till, true) == GOOD && kolatennis_till_told(&till) == GOOD);
+    IS(kolatennis_till_deliver(&till, 0, NULL, 0, 9, NULL, NULL) == GOOD && kolatennis_till_connected(&till, true) == GOOD);
+    IS(kolatennis_till_appended(&till, true) == GOOD && kolatennis_till_take_out(&till, NULL, 0, NULL) == GOOD);
+    IS(kolatennis_till_came(&till, NULL, 0, NULL) == GOOD && kolatennis_till_receipts(&till, NULL) == GOOD);
+    IS(kolatennis_till_state(&till, 1, NULL, NULL) == GOOD && kolatennis_till_next_mark(&till, NULL) == GOOD);
+    kolatennis_till_free(&till);
+    memset(&till, 0x5A, sizeof till);
+    IS(kolatennis_till_open(&till, bytes("x"), 1, NULL, NULL) == REFUSED && kolatennis_till_told(&till) == KOLATENNIS_STATUS_EMPTY);
+    memset(&till, 0x5A, sizeof till);
+    IS(kolatennis_till_open(&till, NULL, 0, NULL, NULL) == GOOD);
+    kolatennis_till_free(&till);
+    kolatennis_till_free(&till);
+    kolatennis_till_free(NULL);
+}
+
 /* ---- NULL where it is not ---- */
 
 static void refuses_null(void) {
     kolatennis_host host = KOLATENNIS_INIT;
     kolatennis_printer printer = KOLATENNIS_INIT;
-    IS(kolatennis_host_new(&host, 0) == GOOD && kolatennis_printer_new(&printer, NULL, 0) == GOOD);
+    kolatennis_till till = KOLATENNIS_INIT;
+    IS(kolatennis_host_new(&host, 0) == GOOD && kolatennis_printer_new(&printer, NULL, 0) == GOOD && kolatennis_till_new(&till) == GOOD);
     reset();
     IS(kolatennis_encode(NULL, NULL, 1, buffer, 9, &count, &reason, &at) == BAD && count == 0 && reason == 0 && at == KOLATENNIS_NO_PLACE);
     IS(kolatennis_encode(NULL, HI, NULL, 1, NULL, NULL, NULL) == BAD);
@@ -158,9 +182,31 @@ static void refuses_null(void) {
     IS(kolatennis_printer_take_answer(NULL, buffer, 9, &count) == BAD && kolatennis_printer_take_answer(&printer, NULL, 7, NULL) == BAD);
     reset();
     IS(kolatennis_printer_paper(NULL, buffer, 9, &count) == BAD && count == 0 && kolatennis_printer_paper(&printer, NULL, 1, NULL) == BAD);
+    kolatennis_asked asked = {77, 77, 77, 77};
+    IS(kolatennis_till_new(NULL) == BAD && kolatennis_till_open(NULL, HI, NULL, NULL) == BAD && kolatennis_till_asks(NULL, &asked) == BAD);
+    IS(asked.ask == KOLATENNIS_ASK_NOTHING && asked.note == KOLATENNIS_NOTE_NONE && asked.fault == 0 && asked.number == 0);
+    reset();
+    IS(kolatennis_till_queue(NULL, NULL, HI, &reason, &at) == BAD && reason == 0 && at == KOLATENNIS_NO_PLACE && kolatennis_till_queue(&till, NULL, NULL, 1, NULL, NULL) == BAD);
+    reset();
+    IS(kolatennis_till_deliver(NULL, 1, NULL, 0, 9, &reason, &at) == BAD && reason == 0 && at == KOLATENNIS_NO_PLACE && kolatennis_till_deliver(&till, 1, NULL, 1, 9, NULL, NULL) == BAD);
+    reset();
+    IS(kolatennis_till_raise(NULL, 1, &reason, &event) == BAD && reason == 0 && event == 0 && kolatennis_till_came(NULL, HI, &count) == BAD && count == 0);
+    reset();
+    IS(kolatennis_till_append(NULL, buffer, 9, &count) == BAD && count == 0 && kolatennis_till_append(&till, NULL, 1, NULL) == BAD && kolatennis_till_came(&till, NULL, 1, NULL) == BAD);
+    reset();
+    IS(kolatennis_till_take_out(NULL, buffer, 9, &count) == BAD && count == 0 && kolatennis_till_take_out(&till, NULL, 1, NULL) == BAD);
+    IS(kolatennis_till_appended(NULL, true) == BAD && kolatennis_till_connected(NULL, true) == BAD && kolatennis_till_link_ended(NULL, KOLATENNIS_LINK_ENDED) == BAD);
+    IS(kolatennis_till_hung_up(NULL) == BAD && kolatennis_till_told(NULL) == BAD);
+    reset();
+    IS(kolatennis_till_receipts(NULL, &count) == BAD && count == 0 && kolatennis_till_next_mark(NULL, &reason) == BAD && reason == 0);
+    reset();
+    IS(kolatennis_till_state(NULL, 1, &reason, &count) == BAD && reason == KOLATENNIS_STANDS_UNKNOWN && count == 0);
+    kolatennis_till_free(&till);
+    IS(kolatennis_till_open(&till, NULL, 1, NULL, NULL) == BAD && kolatennis_till_told(&till) == KOLATENNIS_STATUS_EMPTY);
     IS(is_blank());
     kolatennis_host_free(&host);
     kolatennis_printer_free(&printer);
+    kolatennis_till_free(&till);
 }
 
 /* ---- texts that would be too long ---- */
@@ -240,6 +286,7 @@ int main(int arguments, char **argument) {
     takes_null();
     takes_null_of_a_host();
     takes_null_of_a_printer();
+    takes_null_of_a_till();
     refuses_null();
     moves_between_threads();
     /* (the long texts take seconds, and much longer under valgrind) */

@@ -1,118 +1,137 @@
 #!/usr/bin/env python3
-"""A till of one receipt over a plain socket: sends it, waits at most ten seconds for everything, and says whether it is printed.
+"""A till with one printer over a plain socket: takes a receipt, delivers all that wait, and says of each whether it is printed.
 
-The number of its next mark stands in a file, as seven digits and a newline, since no number may be used twice with a printer; that of a
-printer which is new has 0000000. One till at a time may have the file: it locks FILE.lock.
+What it remembers is an SQLite database with a row for each entry of a kolatennis.Till. Killed at any moment, it goes on from there with
+the next run: no receipt that was taken is lost, no mark number is used twice, and what may be on the paper already is printed again with
+a line that says so. One till at a time may have the database.
 
     pip install bindings/out/dist/*.whl
     escpos_cli emulate 127.0.0.1:9100 &
-    echo 0000000 > marks.txt
-    examples/python/till.py 127.0.0.1 9100 marks.txt < examples/gate_ticket.json
+    examples/python/till.py 127.0.0.1 9100 till.db < examples/gate_ticket.json
 
-The exit status:
-    0  recorded: the receipt is printed
-    1  refused: the text is no receipt, so nothing of it was sent
-    2  the caller's own fault (arguments, input, the file): nothing of the receipt was sent
-    3  not sent: the printer wasn't reached, or didn't answer. It is safe to send the receipt again
-    4  may be printed: bytes of the receipt were sent, and the printer didn't say that it is printed
-    5  recorded, but standard output took no word of it
+With no receipt (</dev/null) it delivers what waits. It prints `recorded N` or `waiting N WHY` of the receipt number N. All that it does
+for one receipt takes at most ten seconds. The exit status:
+    0  no receipt waits
+    1  refused: the text is no receipt, and wasn't taken
+    2  the caller's own fault (arguments, input, the database)
+    3  a receipt waits, and nothing of it was sent by this run
+    4  a receipt waits, and may be printed
+    5  as 0, but standard output took no word of it
 """
-import fcntl, ipaddress, os, re, socket, sys, time
+import ipaddress, os, re, socket, sqlite3, sys, time
 
 import kolatennis
 
-RECORDED, REFUSED, FAULT, NOT_SENT, MAY_BE_PRINTED, UNSAID = range(6)
-SECONDS, OPENINGS, MARKS = 10, 3, 1679616
+DELIVERED, REFUSED, FAULT, NOT_SENT, MAY_BE_PRINTED, UNSAID = range(6)
+SECONDS = 10
 
 
 class Fault(Exception):
     """The caller's own."""
 
 
-class Marks:
-    """The file with the number of the next mark, which no other till has now."""
+class Store:
+    """The database with the entries, which no other till has now."""
 
     def __init__(self, path):
-        self.path = path
         try:
-            self.lock = open(f"{path}.lock", "ab")
-            fcntl.flock(self.lock, fcntl.LOCK_EX | fcntl.LOCK_NB)
-        except OSError as why:
-            raise Fault(f"the file with the number can't be locked, or another till has it: {why}")
+            with open(path, "ab+") as file:
+                file.seek(0)
+                if file.read(16) not in (b"", b"SQLite format 3\0"):
+                    raise Fault(f"{path} isn't a database")
+            self.base = sqlite3.connect(path, timeout=0, isolation_level=None)
+            # a row is on the disk once its INSERT has returned; the lock stays until the end
+            self.base.executescript("PRAGMA synchronous = EXTRA; PRAGMA locking_mode = EXCLUSIVE; BEGIN EXCLUSIVE")
+            self.base.execute("CREATE TABLE IF NOT EXISTS entry (id INTEGER PRIMARY KEY, line BLOB NOT NULL)")
+            self.base.execute("COMMIT")
+            self.till = kolatennis.Till(b"".join(line for line, in self.base.execute("SELECT line FROM entry ORDER BY id")))
+        except (OSError, sqlite3.Error, kolatennis.Damaged) as why:
+            raise Fault(f"{path} can't be opened, another till has it, or it is damaged: {why}")
 
-    def read(self):
-        """Returns the number. A file of any other form may have lost some of its digits, so it isn't one."""
+    def keeps(self, line):
         try:
-            with open(self.path, "rb") as file:
-                text = file.read(9)
-        except OSError as why:
-            raise Fault(f"the file with the number can't be read: {why}")
-        if not re.fullmatch(rb"[0-9]{7}\n", text) or int(text) > MARKS:
-            raise Fault("the file isn't a number of seven digits and a newline")
-        return int(text)
-
-    def keep(self, mark):
-        """Keeps the number on the disk, before a byte that uses an older one is sent: whole, or not at all."""
-        try:
-            with open(f"{self.path}.new", "wb") as file:
-                file.write(b"%07d\n" % mark)
-                file.flush()
-                os.fsync(file.fileno())
-            os.rename(f"{self.path}.new", self.path)
-            folder = os.open(os.path.dirname(self.path) or ".", os.O_RDONLY | os.O_DIRECTORY)
-            try:
-                os.fsync(folder)
-            finally:
-                os.close(folder)
-        except OSError as why:
-            raise Fault(f"the number can't be kept, and nothing of the receipt was sent: {why}")
+            self.base.execute("INSERT INTO entry (line) VALUES (?)", (line,))
+        except sqlite3.Error:
+            return False
+        return True
 
 
 class Link:
-    """A link to a printer, for so many seconds."""
+    """A link to the printer, until this time at most; `rest` is what came and the till didn't take yet."""
 
-    def __init__(self, place):
-        self.end = time.monotonic() + SECONDS
-        self.is_sent = False
-        self.socket = socket.create_connection(place, timeout=SECONDS)
-
-    def send(self, host, marks, is_receipt):
-        """Sends all that the host puts out."""
-        marks.keep(host.next_mark)
-        while piece := host.take_out():
-            while piece:
-                self.socket.settimeout(self.left())
-                piece = piece[self.socket.send(piece) :]
-                self.is_sent |= is_receipt
-
-    def receive(self):
-        """Returns the next bytes that the printer sent."""
-        self.socket.settimeout(self.left())
-        answer = self.socket.recv(256)
-        if not answer:
-            raise OSError("the printer closed the link")
-        return answer
+    def __init__(self, place, end):
+        self.end, self.rest = end, b""
+        self.socket = socket.create_connection(place, timeout=self.left())
 
     def left(self):
-        """Returns the seconds that are left."""
         left = self.end - time.monotonic()
         if left <= 0:
-            raise TimeoutError("no answer")
+            raise TimeoutError
         return left
 
+    def put(self, till):
+        piece = till.take_out()
+        while piece:
+            self.socket.settimeout(self.left())
+            piece = piece[self.socket.send(piece) :]
 
-def is_recorded(host, link, marks, receipt):
-    """Sends a receipt once the link is open, and returns once it is recorded."""
-    link.send(host, marks, False)
-    while True:
-        for event in host.hear(link.receive()):
-            if event.kind == "recorded":
-                return
-            if event.kind == "bad answer":
-                raise OSError("a bad answer")
-            if event.kind == "opened":
-                host.submit(receipt)
-                link.send(host, marks, True)
+    def wait(self, till, most):
+        self.socket.settimeout(self.left())
+        answer = self.rest or self.socket.recv(min(most, 256))
+        if not answer:
+            return till.link_ended("Ended")
+        self.rest = till.came(answer)
+
+
+def run(store, place):
+    """Does what the till asks for, until it asks for nothing, and returns the exit status."""
+    till, link, status, end = store.till, None, DELIVERED, time.monotonic() + SECONDS
+    for asked in till.steps():
+        try:
+            if asked.ask == "append":
+                till.appended(store.keeps(till.line()))
+            elif asked.ask == "connect":
+                link = Link(place, end)
+                till.connected(True)
+            elif asked.ask == "put":
+                link.put(till)
+            elif asked.ask == "wait":
+                link.wait(till, asked.number)
+            elif asked.ask == "hang up":
+                link.socket.close()
+                till.hung_up()
+            else:
+                status = tell(asked) or status
+                till.told()
+        except OSError as why:
+            if asked.ask == "connect":
+                till.connected(False)
+            else:
+                till.link_ended("TimedOut" if isinstance(why, TimeoutError) else "WriteFault" if asked.ask == "put" else "ReadFault")
+    return status
+
+
+def tell(asked):
+    """Prints what became of a receipt, and returns the exit status that it stands for."""
+    if asked.note == "recorded":
+        return say(f"recorded {asked.number}", sys.stdout)
+    if asked.note in ("no link", "waiting"):
+        say(f"waiting {asked.number} {asked.why or 'NoLink'}", sys.stdout)
+        return MAY_BE_PRINTED if asked.why else NOT_SENT
+    if asked.note == "not kept":
+        raise Fault("an entry may not be kept: the next run finds it, or it doesn't")
+
+
+def say(text, file):
+    """Prints a line, and returns 0, or UNSAID if it couldn't."""
+    try:
+        print(text, file=file, flush=True)
+    except OSError:
+        # (at its end the interpreter would try again, and change the exit status)
+        os.dup2(os.open(os.devnull, os.O_WRONLY), file.fileno())
+        if file is sys.stdout:
+            say("standard output is full or closed", sys.stderr)
+        return UNSAID
 
 
 def numeric(address, port):
@@ -126,56 +145,31 @@ def numeric(address, port):
     return address, int(port)
 
 
-def prints(address, port, path, receipt):
-    """Prints a receipt, and returns the exit status and what is to be said."""
-    link = None
-    try:
-        place = numeric(address, port)
-        marks = Marks(path)
-        with kolatennis.Host(marks.read()) as host:
-            host.link_up()
-            # a printer may still wait for the rest of a command that an older link cut off: it takes the first opening marks for that
-            for _ in range(1, OPENINGS):
-                host.nudge()
-            link = Link(place)
-            is_recorded(host, link, marks, receipt)
-    except kolatennis.Refused as why:
-        return REFUSED, f"refused: {why}"
-    except (Fault, kolatennis.NotNow) as why:
-        return FAULT, str(why)
-    except Exception as why:
-        return (MAY_BE_PRINTED, f"may be printed: {why}") if link and link.is_sent else (NOT_SENT, f"not sent: {why}")
-    return RECORDED, "recorded"
-
-
-def is_said(text, file):
-    """Prints a line, and returns whether it could."""
-    try:
-        print(text, file=file, flush=True)
-    except OSError:
-        # (at its end the interpreter would try again, and change the exit status)
-        os.dup2(os.open(os.devnull, os.O_WRONLY), file.fileno())
-        return False
-    return True
-
-
 def main(arguments):
     if None in (sys.stdin, sys.stdout, sys.stderr):
         return FAULT
-    if len(arguments) != 3:
-        is_said(__doc__.strip(), sys.stderr)
-        return FAULT
     try:
-        receipt = sys.stdin.buffer.read()
-    except OSError as why:
-        is_said(f"the receipt can't be read: {why}", sys.stderr)
+        if len(arguments) != 3:
+            raise Fault(__doc__.strip())
+        place, receipt = numeric(*arguments[:2]), sys.stdin.buffer.read()
+        store, status = Store(arguments[2]), DELIVERED
+        if receipt:
+            store.till.queue(receipt)
+            run(store, place)
+        while status in (DELIVERED, UNSAID):
+            store.till.deliver(copy="*** MAY BE A COPY ***")
+            status = run(store, place) or status
+    except kolatennis.Refused as why:
+        say(f"refused: {why}", sys.stderr)
+        return REFUSED
+    except kolatennis.NotNow as why:
+        if why.reason == "NothingWaits":
+            return status
+        say(str(why), sys.stderr)
         return FAULT
-    status, text = prints(*arguments, receipt)
-    if status != RECORDED:
-        is_said(text, sys.stderr)
-    elif not is_said(text, sys.stdout):
-        is_said("recorded, but standard output is full or closed", sys.stderr)
-        return UNSAID
+    except (Fault, kolatennis.Error, OSError) as why:
+        say(str(why), sys.stderr)
+        return FAULT
     return status
 
 

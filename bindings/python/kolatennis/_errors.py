@@ -24,19 +24,30 @@ class Refused(Error, ValueError):
 
 
 class NotNow(Error, RuntimeError):
-    """A host can't do this now: `reason` is its name."""
+    """A host or a till can't do this now: `reason` is its name."""
 
     def __init__(self, reason: str) -> None:
         super().__init__(reason)
         self.reason = reason
 
 
+class Damaged(Error, ValueError):
+    """The lines of a till's entries aren't what a till has written: `line` is the number of the first at fault, from 1."""
+
+    def __init__(self, line: int) -> None:
+        super().__init__(line)
+        self.line = line
+
+    def __str__(self) -> str:
+        return f"line {self.line} is no entry, or may not come after those before it"
+
+
 class Closed(Error, ValueError):
-    """A host or a printer is closed."""
+    """A host, a printer or a till is closed."""
 
 
 class Forked(Error, RuntimeError):
-    """A host or a printer was made before a fork, in the parent: two hosts would use the same mark numbers."""
+    """A host, a printer or a till was made before a fork, in the parent: both would use the same mark numbers."""
 
 
 class TooLong(Error, ValueError):
@@ -51,5 +62,5 @@ class NoPillow(Error, ImportError):
     """Pillow isn't installed, and the picture is none of PBM, PGM and PPM."""
 
 
-for _error in (Error, OutOfRange, Refused, NotNow, Closed, Forked, TooLong, OutOfMemory, NoPillow):
+for _error in (Error, OutOfRange, Refused, NotNow, Damaged, Closed, Forked, TooLong, OutOfMemory, NoPillow):
     _error.__module__ = "kolatennis"

@@ -17,7 +17,7 @@ LONGEST_TEXT = 268435456
 
 
 class Handle(ctypes.Structure):
-    """A handle: kolatennis_host or kolatennis_printer."""
+    """A handle: kolatennis_host, kolatennis_printer or kolatennis_till."""
 
     _fields_ = [("at", ctypes.c_void_p)]
 
@@ -34,7 +34,13 @@ class Options(ctypes.Structure):
     _fields_ = [("width", ctypes.c_uint16), ("replacement", ctypes.c_uint8)]
 
 
-_HANDLE, _SENSORS, _OPTIONS = ctypes.POINTER(Handle), ctypes.POINTER(Sensors), ctypes.POINTER(Options)
+class Asks(ctypes.Structure):
+    """kolatennis_asked."""
+
+    _fields_ = [("ask", ctypes.c_uint32), ("note", ctypes.c_uint32), ("fault", ctypes.c_uint32), ("number", ctypes.c_size_t)]
+
+
+_HANDLE, _SENSORS, _OPTIONS, _ASKS = map(ctypes.POINTER, (Handle, Sensors, Options, Asks))
 _BUFFER = [ctypes.c_void_p, ctypes.c_size_t]
 _SIZE, _U32, _BOOL = ctypes.POINTER(ctypes.c_size_t), ctypes.POINTER(ctypes.c_uint32), ctypes.POINTER(ctypes.c_bool)
 _TEXT = [*_BUFFER, *_BUFFER, _SIZE]
@@ -68,6 +74,24 @@ _CALLS = {
     "kolatennis_printer_set_condition": [_HANDLE, _SENSORS],
     "kolatennis_printer_paper": [_HANDLE, *_BUFFER, _SIZE],
     "kolatennis_printer_tear_off": [_HANDLE],
+    "kolatennis_till_new": [_HANDLE],
+    "kolatennis_till_open": [_HANDLE, *_BUFFER, _U32, _SIZE],
+    "kolatennis_till_free": [_HANDLE],
+    "kolatennis_till_queue": [_HANDLE, _OPTIONS, *_BUFFER, _U32, _SIZE],
+    "kolatennis_till_raise": [_HANDLE, ctypes.c_uint32, _U32, _U32],
+    "kolatennis_till_deliver": [_HANDLE, ctypes.c_uint32, *_BUFFER, ctypes.c_uint32, _U32, _SIZE],
+    "kolatennis_till_asks": [_HANDLE, _ASKS],
+    "kolatennis_till_append": [_HANDLE, *_BUFFER, _SIZE],
+    "kolatennis_till_appended": [_HANDLE, ctypes.c_bool],
+    "kolatennis_till_connected": [_HANDLE, ctypes.c_bool],
+    "kolatennis_till_take_out": [_HANDLE, *_BUFFER, _SIZE],
+    "kolatennis_till_came": [_HANDLE, *_BUFFER, _SIZE],
+    "kolatennis_till_link_ended": [_HANDLE, ctypes.c_uint32],
+    "kolatennis_till_hung_up": [_HANDLE],
+    "kolatennis_till_told": [_HANDLE],
+    "kolatennis_till_receipts": [_HANDLE, _SIZE],
+    "kolatennis_till_state": [_HANDLE, ctypes.c_size_t, _U32, _SIZE],
+    "kolatennis_till_next_mark": [_HANDLE, _U32],
 }
 
 

@@ -32,3 +32,17 @@ EVENTS: Dict[int, str] = {400: "none", 401: "opened", 402: "recorded", 403: "sta
 STATES: Dict[int, str] = {500: "down", 501: "opening", 502: "ready", 503: "sending"}
 #: Why a printer took no more bytes, by number.
 STOPS: Dict[int, str] = {600: "all", 601: "answers full", 602: "offline", 603: "fault", 604: "memory"}
+#: Why a till takes no call, by number.
+TILL_REASONS: Dict[int, str] = {
+    701: "Busy", 702: "Failed", 703: "NothingWaits", 706: "MarkReused", 707: "BadCopy", 708: "Damaged",
+}
+#: What a till asks for, by number.
+ASKS: Dict[int, str] = {800: "nothing", 801: "append", 802: "connect", 803: "put", 804: "wait", 805: "hang up", 806: "tell"}
+#: What a till tells its owner, by number.
+NOTES: Dict[int, str] = {900: "none", 901: "queued", 902: "raised", 903: "recorded", 904: "no link", 905: "waiting", 906: "not kept"}
+#: Why a link ended, by number.
+LINK_REASONS: Dict[int, str] = {
+    1001: "Ended", 1002: "ReadFault", 1003: "WriteFault", 1004: "TimedOut", 1005: "TooManyAnswers", 1006: "BadAnswer",
+}
+#: Where a receipt of a till stands, by number.
+STANDS: Dict[int, str] = {1100: "unknown", 1101: "waiting", 1102: "recorded"}

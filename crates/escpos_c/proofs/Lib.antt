@@ -6,4 +6,6 @@ pub mod OnHandle
 pub mod Recast
 pub mod Slots
 pub mod Steps
+pub mod TillLineLemmas
+pub mod TillTextLemmas
 pub mod Word

@@ -13,3 +13,7 @@ pub mod HostCalls
 pub mod PrinterNumbers
 pub mod PrinterCalls
 pub mod Owned
+pub mod TillLines
+pub mod TillTexts
+pub mod TillNumbers
+pub mod TillCalls

@@ -1,0 +1,79 @@
+-- The line of an entry gives the entry back.
+use Rattle.std.proofs.Common.{◌≡◌, ◌∙◌, ◌∷◌, ◌++◌, ℕ, ◌<◌, ◌^◌, List, [], Some, None, refl, ap, arith, zero, suc}
+use Rattle.std.specs.Prelude.{Option, IfSome, IsTrue, if◌then◌else◌, ◌==◌, true, false}
+use Rattle.std.specs.Int.{w16, w32, w64, bytes_high_first, byte_at, to_be_bytes}
+use Rattle.std.proofs.lemmas.Nat.{from_be_bytes-to_be_bytes_2, from_be_bytes-to_be_bytes_4, from_be_bytes-to_be_bytes_8}
+use Rattle.hex.specs.Hex.{encode_lower, IsBytes}
+use Rattle.hex.proofs.HexLemmas.{decode_of-encode_lower}
+use Rattle.escpos_command.specs.LineWidths.{is_line_width}
+use Rattle.escpos_text.specs.Replacements.{is_replacement}
+use Rattle.escpos_till.specs.declared.entry.Entry.{Entry}
+use Rattle.escpos_till.specs.declared.entry.Entry.TheVariants as entry
+use Rattle.escpos_c.specs.TillLines.{IsReal, bytes_in, entry_in, fields, if_ok, kind_in, line_of, mark_in, number_in, queued_in, queued_of, raised_of, recorded_of, replacement_byte, replacement_in, tried_in, tried_of, width_in}
+
+-- ## The fields are bytes
+
+one_more : (x : ℕ) (xs : List ℕ) → x < 256 → IsBytes xs → IsBytes (x ∷ xs)
+one_more x xs h hs zero = h
+one_more x xs h hs (suc i) = hs i
+
+none_more : IsBytes []
+none_more i = omega arith
+
+byte_small : (i n : ℕ) → byte_at i n < 256
+byte_small zero n = omega arith
+byte_small (suc i) n = omega arith
+
+high_bytes : (k n : ℕ) (more : List ℕ) → IsBytes more → IsBytes (bytes_high_first k n ++ more)
+high_bytes zero n more h = h
+high_bytes (suc k) n more h = one_more (byte_at k n) (bytes_high_first k n ++ more) (byte_small k n) (high_bytes k n more h)
+
+code_small : (replacement : Option ℕ) → IfSome replacement (λ code. IsTrue (is_replacement code)) → replacement_byte replacement < 256
+code_small None h = omega arith
+code_small (Some code) h = grind (arith, h)
+
+-- ## Each field
+
+width_back : (w : ℕ) → IsTrue (is_line_width w) → width_in (to_be_bytes w16 w) ≡ Some w
+width_back w h =
+    let small : w < 2 ^ 16 = grind (arith, h) in
+    ap (λ n. if is_line_width n then Some n else None) (from_be_bytes-to_be_bytes_2 w small) ∙ ap (λ b. if b then Some w else None) h
+
+replacement_back : (r : Option ℕ) → IfSome r (λ code. IsTrue (is_replacement code)) → replacement_in (replacement_byte r) ≡ Some r
+replacement_back None h = refl
+replacement_back (Some code) h =
+    let not_zero : (code == 0) ≡ false = grind (arith, h) in
+    ap (λ b. if b then Some None else if is_replacement code then Some (Some code) else None) not_zero ∙ ap (λ b. if b then Some (Some code) else None) h
+
+number_back : (n : ℕ) → 0 < n → n < 2 ^ 64 → number_in (to_be_bytes w64 n) ≡ Some n
+number_back n some h =
+    let not_zero : (n == 0) ≡ false = grind (arith, some) in
+    ap (λ m. if m == 0 then None else Some m) (from_be_bytes-to_be_bytes_8 n h) ∙ ap (λ b. if b then None else Some n) not_zero
+
+mark_back : (n : ℕ) → n < 2 ^ 32 → mark_in (to_be_bytes w32 n) ≡ Some n
+mark_back n h = ap Some (from_be_bytes-to_be_bytes_4 n h)
+
+-- ## The line
+
+bytes_back : (bytes : List ℕ) → IsBytes bytes → bytes_in (encode_lower bytes) ≡ Some bytes
+bytes_back bytes h = ap if_ok (decode_of-encode_lower bytes h)
+
+pub read_back : (e : Entry) → IsReal e → entry_in (line_of e) ≡ Some e
+read_back (entry.Queued content) real =
+    let width = content.options.width in let replacement = content.options.replacement in
+    let rest = replacement_byte replacement ∷ content.text in
+    let are_bytes = high_bytes 2 width rest (one_more (replacement_byte replacement) content.text (code_small replacement real.1) real.2) in
+    ap (kind_in queued_in) (bytes_back (fields (entry.Queued content)) are_bytes)
+    ∙ ap (λ o. queued_of o (replacement_in (replacement_byte replacement)) content.text) (width_back width real.0)
+    ∙ ap (λ o. queued_of (Some width) o content.text) (replacement_back replacement real.1)
+read_back (entry.Tried number next) real =
+    let are_bytes = high_bytes 8 number (to_be_bytes w32 next) (high_bytes 4 next [] none_more) in
+    ap (kind_in tried_in) (bytes_back (fields (entry.Tried number next)) are_bytes)
+    ∙ ap (λ o. tried_of o (mark_in (to_be_bytes w32 next))) (number_back number real.0 real.1)
+    ∙ ap (tried_of (Some number)) (mark_back next real.2)
+read_back (entry.Recorded number) real =
+    ap (kind_in (λ bytes. recorded_of (number_in bytes))) (bytes_back (to_be_bytes w64 number) (high_bytes 8 number [] none_more))
+    ∙ ap recorded_of (number_back number real.0 real.1)
+read_back (entry.Raised next) real =
+    ap (kind_in (λ bytes. raised_of (mark_in bytes))) (bytes_back (to_be_bytes w32 next) (high_bytes 4 next [] none_more))
+    ∙ ap raised_of (mark_back next real)

@@ -1,0 +1,129 @@
+-- The line of text that an entry of a till's ledger is kept as: a word, a blank, and fields in hexadecimal.
+use Rattle.std.specs.Prelude.{ℕ, ◌≡◌, ◌==◌, ◌<◌, ◌^◌, Bool, if◌then◌else◌, Option, None, Some, Result, Ok, Err, List, [], ◌∷◌, ◌++◌, length, take, drop, codes, map, flat_map, IfSome, IsTrue}
+use Rattle.std.specs.Int.{w16, w32, w64, from_be_bytes, to_be_bytes}
+use Rattle.hex.specs.declared.error.FromHexError.{FromHexError}
+use Rattle.hex.specs.Hex.{decode_of, encode_lower, IsBytes}
+use Rattle.escpos_command.specs.declared.bytes.TheConstants.{LF}
+use Rattle.escpos_command.specs.LineWidths.{is_line_width}
+use Rattle.escpos_text.specs.Replacements.{is_replacement}
+use Rattle.escpos_till.specs.declared.entry.Entry.{Entry}
+use Rattle.escpos_till.specs.declared.entry.Entry.TheVariants as entry
+use Rattle.escpos_till.specs.Contents.{content_with}
+
+-- ## The line of an entry
+
+abbrev pub queued_word : List ℕ
+queued_word = codes "queued "
+
+abbrev pub tried_word : List ℕ
+tried_word = codes "tried "
+
+abbrev pub recorded_word : List ℕ
+recorded_word = codes "recorded "
+
+abbrev pub raised_word : List ℕ
+raised_word = codes "raised "
+
+abbrev pub word : Entry → List ℕ
+word (entry.Queued content) = queued_word
+word (entry.Tried number next) = tried_word
+word (entry.Recorded number) = recorded_word
+word (entry.Raised next) = raised_word
+
+-- The replacement of a receipt's options, and 0 where there is none.
+abbrev pub replacement_byte : Option ℕ → ℕ
+replacement_byte None = 0
+replacement_byte (Some code) = code
+
+-- The bytes of the fields: the width of a line in two and the replacement in one, then the receipt's text; the receipt's number in
+-- eight, the next mark number in four.
+abbrev pub fields : Entry → List ℕ
+fields (entry.Queued content) = to_be_bytes w16 content.options.width ++ replacement_byte content.options.replacement ∷ content.text
+fields (entry.Tried number next) = to_be_bytes w64 number ++ to_be_bytes w32 next
+fields (entry.Recorded number) = to_be_bytes w64 number
+fields (entry.Raised next) = to_be_bytes w32 next
+
+-- The line of an entry, without its end.
+abbrev pub line_of : Entry → List ℕ
+line_of e = word e ++ encode_lower (fields e)
+
+-- The same with its end.
+abbrev pub ended_line : Entry → List ℕ
+ended_line e = line_of e ++ LF ∷ []
+
+-- ## The entry of a line
+
+-- What stands after this word.
+abbrev pub after : List ℕ → List ℕ → Option (List ℕ)
+after [] line = Some line
+after (b ∷ word) [] = None
+after (b ∷ word) (c ∷ line) = if b == c then after word line else None
+
+abbrev pub if_ok : Result (List ℕ) FromHexError → Option (List ℕ)
+if_ok (Ok bytes) = Some bytes
+if_ok (Err why) = None
+
+-- The bytes that these digits stand for.
+abbrev pub bytes_in : List ℕ → Option (List ℕ)
+bytes_in digits = if_ok (decode_of digits)
+
+abbrev pub width_in : List ℕ → Option ℕ
+width_in bytes = if length bytes == 2 then (if is_line_width (from_be_bytes w16 bytes) then Some (from_be_bytes w16 bytes) else None) else None
+
+abbrev pub replacement_in : ℕ → Option (Option ℕ)
+replacement_in byte = if byte == 0 then Some None else if is_replacement byte then Some (Some byte) else None
+
+abbrev pub number_in : List ℕ → Option ℕ
+number_in bytes = if length bytes == 8 then (if from_be_bytes w64 bytes == 0 then None else Some (from_be_bytes w64 bytes)) else None
+
+abbrev pub mark_in : List ℕ → Option ℕ
+mark_in bytes = if length bytes == 4 then Some (from_be_bytes w32 bytes) else None
+
+abbrev pub queued_of : Option ℕ → Option (Option ℕ) → List ℕ → Option Entry
+queued_of (Some width) (Some replacement) text = Some (entry.Queued (content_with (record { width = width; replacement = replacement }) text))
+queued_of _ _ text = None
+
+abbrev pub queued_in : List ℕ → Option Entry
+queued_in (a ∷ b ∷ c ∷ text) = queued_of (width_in (a ∷ b ∷ [])) (replacement_in c) text
+queued_in _ = None
+
+abbrev pub tried_of : Option ℕ → Option ℕ → Option Entry
+tried_of (Some number) (Some next) = Some (entry.Tried number next)
+tried_of _ _ = None
+
+abbrev pub tried_in : List ℕ → Option Entry
+tried_in bytes = tried_of (number_in (take 8 bytes)) (mark_in (drop 8 bytes))
+
+abbrev pub recorded_of : Option ℕ → Option Entry
+recorded_of None = None
+recorded_of (Some number) = Some (entry.Recorded number)
+
+abbrev pub raised_of : Option ℕ → Option Entry
+raised_of None = None
+raised_of (Some next) = Some (entry.Raised next)
+
+abbrev pub kind_in : (List ℕ → Option Entry) → Option (List ℕ) → Option Entry
+kind_in read None = None
+kind_in read (Some bytes) = read bytes
+
+-- The digits that stand after one of the words; the first word that fits counts.
+abbrev pub digits_in : Option (List ℕ) → Option (List ℕ) → Option (List ℕ) → Option (List ℕ) → Option Entry
+digits_in (Some digits) _ _ _ = kind_in queued_in (bytes_in digits)
+digits_in None (Some digits) _ _ = kind_in tried_in (bytes_in digits)
+digits_in None None (Some digits) _ = kind_in (λ bytes. recorded_of (number_in bytes)) (bytes_in digits)
+digits_in None None None (Some digits) = kind_in (λ bytes. raised_of (mark_in bytes)) (bytes_in digits)
+digits_in None None None None = None
+
+-- The entry that a line, without its end, is.
+abbrev pub entry_in : List ℕ → Option Entry
+entry_in line = digits_in (after queued_word line) (after tried_word line) (after recorded_word line) (after raised_word line)
+
+-- ## Entries that there are
+
+-- The entry is one that the types have: receipt numbers begin at 1, numbers have 64 bits and mark numbers 32, and the text is bytes.
+abbrev pub IsReal : Entry → Type 0
+IsReal (entry.Queued content) =
+    IsTrue (is_line_width content.options.width) × IfSome content.options.replacement (λ code. IsTrue (is_replacement code)) × IsBytes content.text
+IsReal (entry.Tried number next) = (0 < number) × (number < 2 ^ 64) × (next < 2 ^ 32)
+IsReal (entry.Recorded number) = (0 < number) × (number < 2 ^ 64)
+IsReal (entry.Raised next) = next < 2 ^ 32

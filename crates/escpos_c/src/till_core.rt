@@ -1,0 +1,187 @@
+//! The machine that a handle holds, and what C is told of it.
+
+ghost use Rattle.std.specs.Prelude.{◌≡◌, List, length, IfSome, IfOk, IfErr, IsTrue};
+ghost use Rattle.escpos_command.specs.declared.command.Command.{Command};
+ghost use Rattle.escpos_till.specs.declared.entry.Entry.{Entry as EntryValue};
+ghost use Rattle.escpos_till.specs.Book.{IsBookOf};
+ghost use Rattle.escpos_till.specs.Contents.{content_with};
+ghost use Rattle.escpos_till.specs.Entries.{states};
+ghost use Rattle.escpos_c.specs.EncodeCalls.{GivesReceipt};
+ghost use Rattle.escpos_c.specs.Reasons.{IsReason};
+ghost use Rattle.escpos_c.specs.Status.{number_of_status};
+ghost use Rattle.escpos_c.specs.TillCalls.{DeliversCopy, GivesEntry, GivesLine, QueuesText, QueuesTextWith, RaisesTo, TakesAppended, TakesEnd, TellsAsk};
+ghost use Rattle.escpos_c.specs.TillNumbers.{standing_of};
+
+use crate::buffer::give;
+use crate::call_status::CallStatus;
+use crate::no_receipt::NoReceipt;
+use crate::refusal::Refusal;
+use crate::submit::receipt_of;
+use crate::till_lines::line_of;
+use crate::till_numbers::{
+    Asked, BAD_COPY, Standing, Told, ended, fault_of, note_asked, standing_of,
+};
+use escpos_receipt::ReceiptOptions;
+use escpos_till::{Action, Content, CopyText, Entry, StoreFault, TillMachine};
+use std::alloc::Global;
+
+/// The machine of a till with one printer.
+#[derive(Drop)]
+pub struct TillCore {
+    pub machine: TillMachine,
+}
+
+impl TillCore {
+    /// A machine on the heap; `None` if the allocation failed.
+    pub fn boxed(alloc: Global, machine: TillMachine) -> Option<Box<TillCore>>
+        ensures { IfSome result (λ core. core.value.machine ≡ machine) }
+    {
+        match Box::new(alloc, TillCore { machine }) {
+            Ok(core) => Some(core),
+            Err(_) => None,
+        }
+    }
+
+    /// Takes the receipt that a text describes with these options, `None` where they are out of range.
+    pub fn queue_with(
+        &mut self,
+        alloc: Global,
+        options: Option<ReceiptOptions>,
+        json: &[u8],
+    ) -> (CallStatus, Told)
+        ensures { QueuesTextWith options json.now (number_of_status result.0) result.1 self.old self.new }
+    {
+        match options {
+            Some(options) => self.queue(alloc, &options, json),
+            None => (CallStatus::Refused, Told::receipt(Refusal::bad_options())),
+        }
+    }
+
+    // Takes the receipt that a text describes, or says why it describes none.
+    fn queue(&mut self, alloc: Global, options: &ReceiptOptions, json: &[u8]) -> (CallStatus, Told)
+        ensures { QueuesText options.now json.now (number_of_status result.0) result.1 self.old self.new }
+    {
+        match content_of(alloc, options, json) {
+            Ok(content) => ended(self.machine.queue(content)),
+            Err(NoReceipt::Refused(refusal)) => (CallStatus::Refused, Told::receipt(refusal)),
+            Err(NoReceipt::Memory) => (CallStatus::Memory, Told::nothing()),
+        }
+    }
+
+    /// Raises the next mark number, as `TillMachine::raise` does.
+    pub fn raise(&mut self, first: u32) -> (CallStatus, Told)
+        ensures { RaisesTo first (number_of_status result.0) result.1 self.old self.new }
+    {
+        ended(self.machine.raise(first))
+    }
+
+    /// Delivers the first receipt that waits, as `TillMachine::deliver` does. An empty text of a copy is none.
+    pub fn deliver(&mut self, openings: u32, copy: &[u8], most: u32) -> (CallStatus, Told)
+        ensures { DeliversCopy openings copy.now most (number_of_status result.0) result.1 self.old self.new }
+    {
+        if copy.is_empty() {
+            return ended(self.machine.deliver(openings, None, most));
+        }
+        match CopyText::new(copy) {
+            Some(text) => ended(self.machine.deliver(openings, Some(&text), most)),
+            None => (CallStatus::Refused, Told::reason(BAD_COPY)),
+        }
+    }
+
+    /// What it asks for.
+    pub fn asks(&self) -> Asked
+        ensures { TellsAsk self.now.machine result }
+    {
+        match self.machine.asks() {
+            Action::Nothing => Asked::only(0),
+            Action::Append(_) => Asked::only(1),
+            Action::Connect => Asked::only(2),
+            Action::Put => Asked::only(3),
+            Action::Wait(most) => Asked::answers(most),
+            Action::HangUp => Asked::only(5),
+            Action::Tell(note) => note_asked(note),
+        }
+    }
+
+    /// Gives the line of the entry that is to be kept.
+    pub fn entry(&self, alloc: Global, out: &mut [u8], written: &mut usize) -> CallStatus
+        ensures { GivesEntry self.now.machine.stage (number_of_status result) out.old out.new written.new }
+    {
+        match self.machine.asks() {
+            Action::Append(entry) => give_line(alloc, entry, out, written),
+            Action::Nothing
+            | Action::Connect
+            | Action::Put
+            | Action::Wait(_)
+            | Action::HangUp
+            | Action::Tell(_) => {
+                *written = 0;
+                CallStatus::Refused
+            }
+        }
+    }
+
+    /// Whether the entry is kept, as `TillMachine::appended` is told.
+    pub fn appended(&mut self, is: bool)
+        ensures { TakesAppended (IsTrue is) self.old.machine self.new.machine }
+    {
+        if is {
+            self.machine.appended(Ok(()));
+        } else {
+            self.machine.appended(Err(StoreFault::Failed));
+        }
+    }
+
+    /// The link has ended for the reason of this number, as `TillMachine::link_ended` is told.
+    pub fn link_ended(&mut self, why: u32) -> CallStatus
+        ensures { TakesEnd why (number_of_status result) self.old self.new }
+    {
+        match fault_of(why) {
+            Some(fault) => {
+                self.machine.link_ended(fault);
+                CallStatus::Good
+            }
+            None => CallStatus::Refused,
+        }
+    }
+
+    /// How many receipts were taken.
+    pub fn receipts(&self) -> usize
+        ensures { (entries : List EntryValue) → IsBookOf self.now.machine.book entries → result ≡ length (states entries) }
+    {
+        self.machine.states().len()
+    }
+
+    /// Where the receipt of this number stands.
+    pub fn standing(&self, number: usize) -> Standing
+        ensures { (entries : List EntryValue) → IsBookOf self.now.machine.book entries → result ≡ standing_of (states entries) number }
+    {
+        standing_of(self.machine.states(), number)
+    }
+}
+
+// Gives the line of an entry.
+fn give_line(alloc: Global, entry: &Entry, out: &mut [u8], written: &mut usize) -> CallStatus
+    ensures { GivesLine entry.now (number_of_status result) out.old out.new written.new }
+{
+    match line_of(alloc, entry) {
+        Ok(line) => give(CallStatus::Good, &line, out, written),
+        Err(_) => {
+            *written = 0;
+            CallStatus::Memory
+        }
+    }
+}
+
+// What a machine takes of a text that is known to describe a receipt with these options.
+fn content_of(alloc: Global, options: &ReceiptOptions, json: &[u8]) -> Result<Content, NoReceipt>
+    ensures content { IfOk result (λ content. content ≡ content_with options.now json.now) }
+    ensures receipt { IfOk result (λ _. (receipt : List Command) × GivesReceipt options.now json.now receipt) }
+    ensures refused { IfErr result (λ why. IsReason options.now why json.now) }
+{
+    let _ = receipt_of(alloc, options, json)?;
+    match json.to_vec(alloc) {
+        Ok(text) => Ok(Content::with_options(text, *options)),
+        Err(_) => Err(NoReceipt::Memory),
+    }
+}
