@@ -126,6 +126,7 @@ const char *kolatennis_error_name(uint32_t reason) {
         case KOLATENNIS_TILL_FAILED: return "Failed";
         case KOLATENNIS_TILL_NOTHING_WAITS: return "NothingWaits";
         case KOLATENNIS_TILL_MARK_REUSED: return "MarkReused";
+        case KOLATENNIS_TILL_MARK_TOO_HIGH: return "MarkTooHigh";
         case KOLATENNIS_TILL_BAD_COPY: return "BadCopy";
         case KOLATENNIS_TILL_DAMAGED: return "Damaged";
         case KOLATENNIS_LINK_ENDED: return "Ended";

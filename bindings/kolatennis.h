@@ -99,7 +99,8 @@ enum kolatennis_till_reason {
     KOLATENNIS_TILL_NOTHING_WAITS = 703, /* no receipt waits */
     KOLATENNIS_TILL_MARK_REUSED = 706,   /* the mark number is lower than the next one */
     KOLATENNIS_TILL_BAD_COPY = 707,      /* the text of a copy isn't 1 to 42 characters, each 20 to 7E (hexadecimal) */
-    KOLATENNIS_TILL_DAMAGED = 708        /* a line is no entry, or one that may not come after those before it */
+    KOLATENNIS_TILL_DAMAGED = 708,       /* a line is no entry, or one that may not come after those before it */
+    KOLATENNIS_TILL_MARK_TOO_HIGH = 709  /* the mark number leaves fewer than a try takes */
 };
 
 /* Why a link ended; its owner may say the first four. */
@@ -352,8 +353,8 @@ KOLATENNIS_API void kolatennis_till_free(kolatennis_till *till);
  * `reason` is TILL_BUSY or TILL_FAILED. `options` may be NULL. */
 KOLATENNIS_API int kolatennis_till_queue(kolatennis_till *till, const kolatennis_options *options, const uint8_t *json, size_t json_len, uint32_t *reason, size_t *at);
 
-/* Raises the number of the next mark to `first`, where those below it were used elsewhere. At 1 `reason` is TILL_BUSY, TILL_FAILED, or
- * TILL_MARK_REUSED, and then `next` the next number. */
+/* Raises the number of the next mark to `first`, where those below it were used elsewhere. At 1 `reason` is TILL_BUSY, TILL_FAILED;
+ * TILL_MARK_REUSED, and then `next` the next number; or TILL_MARK_TOO_HIGH, and then `next` the last that leaves enough for a try. */
 KOLATENNIS_API int kolatennis_till_raise(kolatennis_till *till, uint32_t first, uint32_t *reason, uint32_t *next);
 
 /* Delivers the first receipt that waits. A printer may still wait for the rest of a command that an older link cut off, and takes the

@@ -700,6 +700,7 @@ static void takes_a_receipt(void) {
     APPENDS(&till, "raised 00000024\n");
     NOTES(&till, RAISED, 0, 0);
     IS(CALL(kolatennis_till_raise(&till, 35, &reason, &next)) == KOLATENNIS_STATUS_REFUSED && reason == KOLATENNIS_TILL_MARK_REUSED && next == 36);
+    IS(CALL(kolatennis_till_raise(&till, 1679615, &reason, &next)) == KOLATENNIS_STATUS_REFUSED && reason == KOLATENNIS_TILL_MARK_TOO_HIGH && next == 1679614);
     knows(&till, 2, 36, KOLATENNIS_STANDS_WAITING, 0);
     /* an entry that may not be kept */
     IS(queues(&till, HI_RECEIPT, &reason, &at) == KOLATENNIS_STATUS_GOOD);

@@ -12,7 +12,7 @@ use Rattle.escpos_till.specs.declared.machine.TillRefusal.{TillRefusal}
 use Rattle.escpos_till.specs.declared.store.StoreFault.TheVariants as store
 use Rattle.escpos_till.specs.Contents.{content_with}
 use Rattle.escpos_till.specs.Copy.{IsCopyText}
-use Rattle.escpos_till.specs.Machine.{Asks, Came, Delivers, Ended, Kept, MachineView, Queues, Raises, Refuses, SameBut, Unsure, connected, hung_up, not_connected, put, told}
+use Rattle.escpos_till.specs.Machine.{Asks, Came, Delivers, Ended, Kept, MachineView, Queues, Raises, RefusesAny, RefusesDeliver, RefusesRaise, SameEntries, Unsure, connected, hung_up, not_connected, put, told}
 use Rattle.escpos_c.specs.declared.call_status.CallStatus.{CallStatus}
 use Rattle.escpos_c.specs.declared.call_status.CallStatus.TheVariants as call
 use Rattle.escpos_c.specs.declared.refusal.TheConstants.{BAD_OPTIONS, NO_REASON, NO_PLACE}
@@ -43,11 +43,11 @@ Opens text status reason at old new =
 
 -- ## Calls of one at rest
 
--- The call did this; or the machine refuses it, and is as this says.
-abbrev pub TillCalled : (MachineView → MachineView → Type 0) → (MachineView → MachineView → Type 0) → ℤ → Told → TillCore → TillCore → Type 0
-TillCalled does keeps status told old new =
+-- The call did this; or the machine refuses it for such a reason, and is as this says.
+abbrev pub TillCalled : (MachineView → MachineView → Type 0) → (MachineView → TillRefusal → Type 0) → (MachineView → MachineView → Type 0) → ℤ → Told → TillCore → TillCore → Type 0
+TillCalled does refuses keeps status told old new =
     ((status ≡ pos 0) × (told ≡ nothing_told) × does old.machine new.machine)
-    ⊎ ((why : TillRefusal) × Refuses old.machine why × keeps old.machine new.machine
+    ⊎ ((why : TillRefusal) × refuses old.machine why × keeps old.machine new.machine
     × (status ≡ number_of_status (till_status why)) × (told ≡ told_of why))
 
 abbrev pub Same : MachineView → MachineView → Type 0
@@ -58,7 +58,7 @@ Same m after = after ≡ m
 abbrev pub QueuesText : ReceiptOptions → List ℕ → ℤ → Told → TillCore → TillCore → Type 0
 QueuesText options json status told old new =
     ((receipt : List Command) × GivesReceipt options json receipt
-    × TillCalled (λ m after. Queues m (content_with options json) after) SameBut status told old new)
+    × TillCalled (λ m after. Queues m (content_with options json) after) RefusesAny SameEntries status told old new)
     ⊎ ((status ≡ pos 1) × (told.reason ≡ NO_REASON) × IsRefusal options json told.fault told.at × (told.next ≡ 0) × (new ≡ old))
     ⊎ ((status ≡ pos 4) × (told ≡ nothing_told) × (new ≡ old))
 
@@ -69,7 +69,7 @@ QueuesTextWith None json status told old new =
 QueuesTextWith (Some options) json status told old new = QueuesText options json status told old new
 
 abbrev pub RaisesTo : ℕ → ℤ → Told → TillCore → TillCore → Type 0
-RaisesTo first = TillCalled (λ m after. Raises m first after) Same
+RaisesTo first = TillCalled (λ m after. Raises m first after) (λ m why. RefusesRaise m first why) Same
 
 -- No bytes are no text of a copy.
 abbrev pub copy_of : List ℕ → Option (List ℕ)
@@ -79,7 +79,7 @@ copy_of (b ∷ copy) = Some (b ∷ copy)
 -- The first receipt that waits is delivered, or the machine refuses to; or the text of a copy is none, and the machine isn't asked.
 abbrev pub DeliversCopy : ℕ → List ℕ → ℕ → ℤ → Told → TillCore → TillCore → Type 0
 DeliversCopy openings copy most status told old new =
-    TillCalled (λ m after. Delivers m openings most (copy_of copy) after) Same status told old new
+    TillCalled (λ m after. Delivers m openings most (copy_of copy) after) (λ m why. RefusesDeliver m openings why) Same status told old new
     ⊎ ((copy ≢ []) × ¬ IsCopyText copy × (status ≡ pos 1) × (told ≡ refused_for BAD_COPY) × (new ≡ old))
 
 -- ## What it asks for

@@ -3,8 +3,6 @@ use Rattle.std.specs.Prelude.{ℕ, ◌+◌, ◌==◌, Option, Some, None, List, 
 use Rattle.escpos_host.specs.declared.send.SendFault.{SendFault}
 use Rattle.escpos_host.specs.declared.send.SendFault.TheVariants as fault
 use Rattle.escpos_host.specs.Machine.{error_number}
-use Rattle.escpos_receipt.specs.declared.json.JsonError.{JsonError}
-use Rattle.escpos_receipt.specs.declared.json.JsonError.TheVariants as json
 use Rattle.escpos_receipt.specs.Refusals.{json_number, json_place}
 use Rattle.escpos_till.specs.declared.machine.Action.{Action}
 use Rattle.escpos_till.specs.declared.machine.Action.TheVariants as action
@@ -75,33 +73,25 @@ fault_of why =
 
 -- ## What it refuses
 
--- A refusal is told by its reason; a receipt's by that and the number and place of its fault; a used mark's by that and the next number.
+-- A refusal is told by its reason; a receipt's by that and the number and place of its fault; a mark number's by that and the next number, or the last that is allowed.
 abbrev pub refused_for : ℕ → Told
 refused_for reason = record { reason = reason; fault = NO_REASON; at = NO_PLACE; next = 0 }
 
 abbrev pub nothing_told : Told
 nothing_told = refused_for NO_REASON
 
-abbrev pub told_error : JsonError → Told
-told_error (json.Refused why) = record { reason = 4; fault = json_number why; at = place_number (json_place why); next = 0 }
-told_error json.Memory = nothing_told
-
 abbrev pub told_of : TillRefusal → Told
 told_of refusal.Busy = refused_for 1
 told_of refusal.Failed = refused_for 2
 told_of refusal.Memory = nothing_told
 told_of refusal.NothingWaits = refused_for 3
-told_of (refusal.NoReceipt number why) = told_error why
+told_of (refusal.NoReceipt number why) = record { reason = 4; fault = json_number why; at = place_number (json_place why); next = 0 }
 told_of (refusal.MarksUsedUp number) = refused_for 5
 told_of (refusal.MarkReused next) = record { reason = 6; fault = NO_REASON; at = NO_PLACE; next = next }
-
-abbrev pub error_status : JsonError → CallStatus
-error_status (json.Refused why) = call.Refused
-error_status json.Memory = call.Memory
+told_of (refusal.MarkTooHigh last) = record { reason = 9; fault = NO_REASON; at = NO_PLACE; next = last }
 
 abbrev pub till_status : TillRefusal → CallStatus
 till_status refusal.Memory = call.Memory
-till_status (refusal.NoReceipt number why) = error_status why
 till_status _ = call.Refused
 
 -- ## Where its receipts stand

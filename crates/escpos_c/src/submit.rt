@@ -127,12 +127,8 @@ fn submit_text(
     }
 }
 
-/// The receipt that a text describes with these options.
-pub fn receipt_of(
-    alloc: Global,
-    options: &ReceiptOptions,
-    json: &[u8],
-) -> Result<Receipt, NoReceipt>
+// The receipt that a text describes with these options.
+fn receipt_of(alloc: Global, options: &ReceiptOptions, json: &[u8]) -> Result<Receipt, NoReceipt>
     ensures receipt { IfOk result (λ receipt. GivesReceipt options.now json.now receipt) }
     ensures refused { IfErr result (λ why. IsReason options.now why json.now) }
 {

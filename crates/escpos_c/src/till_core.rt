@@ -14,15 +14,15 @@ ghost use Rattle.escpos_c.specs.TillNumbers.{standing_of};
 
 use crate::buffer::give;
 use crate::call_status::CallStatus;
-use crate::no_receipt::NoReceipt;
+use crate::no_receipt::{NoReceipt, no_receipt};
 use crate::refusal::Refusal;
-use crate::submit::receipt_of;
 use crate::till_lines::line_of;
 use crate::till_numbers::{
     Asked, BAD_COPY, Standing, Told, ended, fault_of, note_asked, standing_of,
 };
+use escpos_jobs::input::INPUT_LIMIT;
 use escpos_receipt::ReceiptOptions;
-use escpos_till::{Action, Content, CopyText, Entry, StoreFault, TillMachine};
+use escpos_till::{Action, CopyText, Entry, ReceiptContent, StoreFault, TillMachine};
 use std::alloc::Global;
 
 /// The machine of a till with one printer.
@@ -62,7 +62,10 @@ impl TillCore {
         ensures { QueuesText options.now json.now (number_of_status result.0) result.1 self.old self.new }
     {
         match content_of(alloc, options, json) {
-            Ok(content) => ended(self.machine.queue(content)),
+            Ok(content) => match self.machine.queue(content) {
+                Ok(()) => ended(Ok(())),
+                Err((why, _)) => ended(Err(why)),
+            },
             Err(NoReceipt::Refused(refusal)) => (CallStatus::Refused, Told::receipt(refusal)),
             Err(NoReceipt::Memory) => (CallStatus::Memory, Told::nothing()),
         }
@@ -173,15 +176,24 @@ fn give_line(alloc: Global, entry: &Entry, out: &mut [u8], written: &mut usize) 
     }
 }
 
-// What a machine takes of a text that is known to describe a receipt with these options.
-fn content_of(alloc: Global, options: &ReceiptOptions, json: &[u8]) -> Result<Content, NoReceipt>
+// What a machine takes of a text that describes a receipt with these options.
+fn content_of(
+    alloc: Global,
+    options: &ReceiptOptions,
+    json: &[u8],
+) -> Result<ReceiptContent, NoReceipt>
     ensures content { IfOk result (λ content. content ≡ content_with options.now json.now) }
     ensures receipt { IfOk result (λ _. (receipt : List Command) × GivesReceipt options.now json.now receipt) }
     ensures refused { IfErr result (λ why. IsReason options.now why json.now) }
 {
-    let _ = receipt_of(alloc, options, json)?;
-    match json.to_vec(alloc) {
-        Ok(text) => Ok(Content::with_options(text, *options)),
-        Err(_) => Err(NoReceipt::Memory),
+    if json.len() > INPUT_LIMIT {
+        return Err(NoReceipt::Refused(Refusal::too_long()));
+    }
+    let Ok(text) = json.to_vec(alloc) else {
+        return Err(NoReceipt::Memory);
+    };
+    match ReceiptContent::read(alloc, options, text) {
+        Ok(content) => Ok(content),
+        Err(why) => Err(no_receipt(why)),
     }
 }

@@ -2,12 +2,11 @@
 
 ghost use Rattle.std.specs.Prelude.{◌≡◌, None, IfErr, OnOk};
 ghost use Rattle.escpos_c.specs.declared.refusal.TheConstants.{NO_REASON, NO_PLACE};
-ghost use Rattle.escpos_c.specs.TillNumbers.{error_status, fault_number, fault_of, note_asked, nothing_told, only, refused_for, standing_at, standing_of, store_number, telling, till_status, told_error, told_of};
+ghost use Rattle.escpos_c.specs.TillNumbers.{fault_number, fault_of, note_asked, nothing_told, only, refused_for, standing_at, standing_of, store_number, telling, till_status, told_of};
 
 use crate::call_status::CallStatus;
 use crate::refusal::{NO_PLACE, NO_REASON, Refusal};
 use escpos_host::SendFault;
-use escpos_receipt::JsonError;
 use escpos_till::{ReceiptState, StoreFault, TillNote, TillRefusal};
 
 /// The reason of a copy's text that isn't 1 to 42 characters from 20 to 7E hexadecimal. Those of a machine are less.
@@ -195,12 +194,12 @@ impl Told {
         }
     }
 
-    // The mark number was used: this is the next one.
-    fn used(next: u32) -> Self
-        ensures { result ≡ record { reason = 6; fault = NO_REASON; at = NO_PLACE; next = next } }
+    // A mark number is refused for this reason: this one is the next, or the last that is allowed.
+    fn number(reason: u32, next: u32) -> Self
+        ensures { result ≡ record { reason = reason; fault = NO_REASON; at = NO_PLACE; next = next } }
     {
         Told {
-            reason: 6,
+            reason,
             fault: NO_REASON,
             at: NO_PLACE,
             next,
@@ -229,20 +228,12 @@ fn refused(why: TillRefusal) -> (CallStatus, Told)
         TillRefusal::Failed => (CallStatus::Refused, Told::reason(2)),
         TillRefusal::Memory => (CallStatus::Memory, Told::nothing()),
         TillRefusal::NothingWaits => (CallStatus::Refused, Told::reason(3)),
-        TillRefusal::NoReceipt { why, .. } => not_read(why),
+        TillRefusal::NoReceipt { why, .. } => {
+            (CallStatus::Refused, Told::waiting(Refusal::from(why)))
+        }
         TillRefusal::MarksUsedUp { .. } => (CallStatus::Refused, Told::reason(5)),
-        TillRefusal::MarkReused { next } => (CallStatus::Refused, Told::used(next)),
-    }
-}
-
-// The text of a receipt that waits gives none.
-fn not_read(why: JsonError) -> (CallStatus, Told)
-    ensures status { result.0 ≡ error_status why }
-    ensures told { result.1 ≡ told_error why }
-{
-    match why {
-        JsonError::Refused(fault) => (CallStatus::Refused, Told::waiting(Refusal::from(fault))),
-        JsonError::Memory => (CallStatus::Memory, Told::nothing()),
+        TillRefusal::MarkReused { next } => (CallStatus::Refused, Told::number(6, next)),
+        TillRefusal::MarkTooHigh { last } => (CallStatus::Refused, Told::number(9, last)),
     }
 }
 
