@@ -1,15 +1,17 @@
 -- The line of an entry gives the entry back.
 use Rattle.std.proofs.Common.{◌≡◌, ◌∙◌, ◌∷◌, ◌++◌, ℕ, ◌<◌, ◌^◌, List, [], Some, None, refl, ap, arith, zero, suc}
-use Rattle.std.specs.Prelude.{Option, IfSome, IsTrue, if◌then◌else◌, ◌==◌, true, false}
+use Rattle.std.specs.Prelude.{Bool, Option, IfSome, IsTrue, if◌then◌else◌, ◌==◌, true, false}
 use Rattle.std.specs.Int.{w16, w32, w64, bytes_high_first, byte_at, to_be_bytes}
 use Rattle.std.proofs.lemmas.Nat.{from_be_bytes-to_be_bytes_2, from_be_bytes-to_be_bytes_4, from_be_bytes-to_be_bytes_8}
-use Rattle.hex.specs.Hex.{encode_lower, IsBytes}
-use Rattle.hex.proofs.HexLemmas.{decode_of-encode_lower}
+use Rattle.std.specs.List.{AllPass}
+use Rattle.hex.specs.Hex.{encode_lower, is_hex_digit, IsBytes}
+use Rattle.hex.proofs.HexLemmas.{decode_of-encode_lower, decode_of-ok}
+use Rattle.escpos_command.specs.declared.bytes.TheConstants.{LF}
 use Rattle.escpos_command.specs.LineWidths.{is_line_width}
 use Rattle.escpos_text.specs.Replacements.{is_replacement}
 use Rattle.escpos_till.specs.declared.entry.Entry.{Entry}
 use Rattle.escpos_till.specs.declared.entry.Entry.TheVariants as entry
-use Rattle.escpos_c.specs.TillLines.{IsReal, bytes_in, entry_in, fields, if_ok, kind_in, line_of, mark_in, number_in, queued_in, queued_of, raised_of, recorded_of, replacement_byte, replacement_in, tried_in, tried_of, width_in}
+use Rattle.escpos_c.specs.TillLines.{IsReal, bytes_in, entry_in, fields, if_ok, kind_in, line_of, mark_in, number_in, queued_in, queued_of, raised_of, recorded_of, replacement_byte, replacement_in, tried_in, tried_of, width_in, word}
 
 -- ## The fields are bytes
 
@@ -58,22 +60,71 @@ mark_back n h = ap Some (from_be_bytes-to_be_bytes_4 n h)
 bytes_back : (bytes : List ℕ) → IsBytes bytes → bytes_in (encode_lower bytes) ≡ Some bytes
 bytes_back bytes h = ap if_ok (decode_of-encode_lower bytes h)
 
+pub fields_are_bytes : (e : Entry) → IsReal e → IsBytes (fields e)
+fields_are_bytes (entry.Queued content) real =
+    let replacement = content.options.replacement in
+    high_bytes 2 content.options.width (replacement_byte replacement ∷ content.text)
+    (one_more (replacement_byte replacement) content.text (code_small replacement real.1) real.2)
+fields_are_bytes (entry.Tried number next) real = high_bytes 8 number (to_be_bytes w32 next) (high_bytes 4 next [] none_more)
+fields_are_bytes (entry.Recorded number) real = high_bytes 8 number [] none_more
+fields_are_bytes (entry.Raised next) real = high_bytes 4 next [] none_more
+
 pub read_back : (e : Entry) → IsReal e → entry_in (line_of e) ≡ Some e
 read_back (entry.Queued content) real =
-    let width = content.options.width in let replacement = content.options.replacement in
-    let rest = replacement_byte replacement ∷ content.text in
-    let are_bytes = high_bytes 2 width rest (one_more (replacement_byte replacement) content.text (code_small replacement real.1) real.2) in
-    ap (kind_in queued_in) (bytes_back (fields (entry.Queued content)) are_bytes)
+    let width = content.options.width in let replacement = content.options.replacement in let e = entry.Queued content in
+    ap (kind_in queued_in) (bytes_back (fields e) (fields_are_bytes e real))
     ∙ ap (λ o. queued_of o (replacement_in (replacement_byte replacement)) content.text) (width_back width real.0)
     ∙ ap (λ o. queued_of (Some width) o content.text) (replacement_back replacement real.1)
 read_back (entry.Tried number next) real =
-    let are_bytes = high_bytes 8 number (to_be_bytes w32 next) (high_bytes 4 next [] none_more) in
-    ap (kind_in tried_in) (bytes_back (fields (entry.Tried number next)) are_bytes)
+    let e = entry.Tried number next in
+    ap (kind_in tried_in) (bytes_back (fields e) (fields_are_bytes e real))
     ∙ ap (λ o. tried_of o (mark_in (to_be_bytes w32 next))) (number_back number real.0 real.1)
     ∙ ap (tried_of (Some number)) (mark_back next real.2)
 read_back (entry.Recorded number) real =
-    ap (kind_in (λ bytes. recorded_of (number_in bytes))) (bytes_back (to_be_bytes w64 number) (high_bytes 8 number [] none_more))
-    ∙ ap recorded_of (number_back number real.0 real.1)
+    let e = entry.Recorded number in
+    ap (kind_in (λ bytes. recorded_of (number_in bytes))) (bytes_back (fields e) (fields_are_bytes e real)) ∙ ap recorded_of (number_back number real.0 real.1)
 read_back (entry.Raised next) real =
-    ap (kind_in (λ bytes. raised_of (mark_in bytes))) (bytes_back (to_be_bytes w32 next) (high_bytes 4 next [] none_more))
-    ∙ ap raised_of (mark_back next real)
+    let e = entry.Raised next in
+    ap (kind_in (λ bytes. raised_of (mark_in bytes))) (bytes_back (fields e) (fields_are_bytes e real)) ∙ ap raised_of (mark_back next real)
+
+-- ## No LF
+
+abbrev pub no_lf : List ℕ → Bool
+no_lf [] = true
+no_lf (c ∷ text) = if c == LF then false else no_lf text
+
+neither : (b s : Bool) → (if b then false else s) ≡ true → (b ≡ false) × (s ≡ true)
+neither true s h = absurd (cc h)
+neither false s h = (refl, h)
+
+pub first_of_no_lf : (c : ℕ) (text : List ℕ) → no_lf (c ∷ text) ≡ true → ((c == LF) ≡ false) × (no_lf text ≡ true)
+first_of_no_lf c text h = neither (c == LF) (no_lf text) h
+
+one_more_no_lf : (c : ℕ) (text : List ℕ) → (c == LF) ≡ false → no_lf text ≡ true → no_lf (c ∷ text) ≡ true
+one_more_no_lf c text other h = ap (λ b. if b then false else no_lf text) other ∙ h
+
+both_no_lf : (text more : List ℕ) → no_lf text ≡ true → no_lf more ≡ true → no_lf (text ++ more) ≡ true
+both_no_lf [] more h k = k
+both_no_lf (c ∷ text) more h k =
+    let parts = first_of_no_lf c text h in one_more_no_lf c (text ++ more) parts.0 (both_no_lf text more parts.1 k)
+
+digit_no_lf : (c : ℕ) → is_hex_digit c ≡ true → (c == LF) ≡ false
+digit_no_lf c h = grind (arith, h)
+
+digits_no_lf : (text : List ℕ) → AllPass is_hex_digit text → no_lf text ≡ true
+digits_no_lf [] h = refl
+digits_no_lf (c ∷ text) h =
+    one_more_no_lf c text (digit_no_lf c (h 0 0 (omega arith))) (digits_no_lf text (λ k d inside. h (suc k) d (omega (arith, inside))))
+
+word_no_lf : (e : Entry) → no_lf (word e) ≡ true
+word_no_lf (entry.Queued content) = refl
+word_no_lf (entry.Tried number next) = refl
+word_no_lf (entry.Recorded number) = refl
+word_no_lf (entry.Raised next) = refl
+
+-- The line of an entry has no LF but its end.
+pub line_no_lf : (e : Entry) → IsReal e → no_lf (line_of e) ≡ true
+line_no_lf e real =
+    let bytes = fields e in
+    both_no_lf (word e) (encode_lower bytes) (word_no_lf e)
+    (digits_no_lf (encode_lower bytes) (decode_of-ok (encode_lower bytes) bytes (decode_of-encode_lower bytes (fields_are_bytes e real))).1)

@@ -1,5 +1,5 @@
 -- What the calls of a till answer. Each does what the call of escpos_till's machine does that it stands for.
-use Rattle.std.specs.Prelude.{ℕ, ℤ, pos, ◌≡◌, ◌≢◌, ◌⊎◌, ◌<◌, min, List, [], ◌∷◌, ◌++◌, length, take, drop, Option, Some, None}
+use Rattle.std.specs.Prelude.{ℕ, ℤ, pos, ◌≡◌, ◌≢◌, ◌⊎◌, min, List, [], ◌∷◌, ◌++◌, length, take, drop, Option, Some, None}
 use Rattle.escpos_command.specs.declared.command.Command.{Command}
 use Rattle.escpos_host.specs.declared.send.SendFault.{SendFault}
 use Rattle.escpos_receipt.specs.declared.options.ReceiptOptions.{ReceiptOptions}
@@ -12,7 +12,7 @@ use Rattle.escpos_till.specs.declared.machine.TillRefusal.{TillRefusal}
 use Rattle.escpos_till.specs.declared.store.StoreFault.TheVariants as store
 use Rattle.escpos_till.specs.Contents.{content_with}
 use Rattle.escpos_till.specs.Copy.{IsCopyText}
-use Rattle.escpos_till.specs.Machine.{Asks, Came, Delivers, Ended, Kept, MachineView, Queues, Raises, RefusesAny, RefusesDeliver, RefusesRaise, SameEntries, Unsure, connected, hung_up, not_connected, put, told}
+use Rattle.escpos_till.specs.Machine.{Asks, Delivers, Ended, Kept, MachineView, Queues, Raises, RefusesAny, RefusesDeliver, RefusesRaise, SameEntries, Unsure, connected, not_connected, put, told}
 use Rattle.escpos_c.specs.declared.call_status.CallStatus.{CallStatus}
 use Rattle.escpos_c.specs.declared.call_status.CallStatus.TheVariants as call
 use Rattle.escpos_c.specs.declared.refusal.TheConstants.{BAD_OPTIONS, NO_REASON, NO_PLACE}

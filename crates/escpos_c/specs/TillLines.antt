@@ -1,5 +1,5 @@
 -- The line of text that an entry of a till's ledger is kept as: a word, a blank, and fields in hexadecimal.
-use Rattle.std.specs.Prelude.{ℕ, ◌≡◌, ◌==◌, ◌<◌, ◌^◌, Bool, if◌then◌else◌, Option, None, Some, Result, Ok, Err, List, [], ◌∷◌, ◌++◌, length, take, drop, codes, map, flat_map, IfSome, IsTrue}
+use Rattle.std.specs.Prelude.{ℕ, ◌==◌, ◌<◌, ◌^◌, if◌then◌else◌, Option, None, Some, Result, Ok, Err, List, [], ◌∷◌, ◌++◌, length, take, drop, codes, IfSome, IsTrue}
 use Rattle.std.specs.Int.{w16, w32, w64, from_be_bytes, to_be_bytes}
 use Rattle.hex.specs.declared.error.FromHexError.{FromHexError}
 use Rattle.hex.specs.Hex.{decode_of, encode_lower, IsBytes}

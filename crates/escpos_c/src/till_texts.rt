@@ -1,8 +1,10 @@
 //! The machine of a till from the lines of its entries.
 
-ghost use Rattle.std.specs.Prelude.{◌≡◌, ◌≢◌, ◌+◌, ◌<◌, [], length, take, IfOk, IfErr, IsErrOf};
+ghost use Rattle.std.specs.Prelude.{◌≡◌, ◌≢◌, ℕ, ◌+◌, ◌<◌, List, [], length, take, All, IfOk, IfErr, IsErrOf};
+ghost use Rattle.escpos_till.specs.declared.entry.Entry.{Entry as EntryValue};
 ghost use Rattle.escpos_till.specs.Entries.{IsLedger};
-ghost use Rattle.escpos_c.specs.TillTexts.{BeginsWith, IsDamagedAt, IsMachineOf, IsNoLine, Says};
+ghost use Rattle.escpos_c.specs.TillLines.{IsReal};
+ghost use Rattle.escpos_c.specs.TillTexts.{BeginsWith, IsDamagedAt, IsMachineOf, IsNoLine, Says, lines_of};
 
 use crate::till_lines::{NoEntry, entry_in};
 use escpos_command::LF;
@@ -88,3 +90,10 @@ fn fault_place(alloc: Global, entries: &[Entry]) -> Result<usize, AllocError>
     }
     Ok(good)
 }
+
+/// Proof only: a text is read in one way, and the lines of a ledger's entries give them back and are never at fault.
+pub fn lines_read_back()
+    ensures one_reading { (text : List ℕ) (entries others : List EntryValue) → Says text entries [] → Says text others [] → entries ≡ others }
+    ensures given_back { (entries : List EntryValue) → All IsReal entries → Says (lines_of entries) entries [] }
+    ensures never_at_fault { (entries : List EntryValue) (at : ℕ) → All IsReal entries → IsLedger entries → ¬ IsDamagedAt (lines_of entries) at }
+{}

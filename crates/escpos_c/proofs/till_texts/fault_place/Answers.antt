@@ -1,5 +1,5 @@
 -- No entries are a ledger, and all of them aren't.
-use Rattle.std.proofs.Common.{length, sym, subst, arith}
+use Rattle.std.proofs.Common.{sym, subst, arith}
 use Rattle.std.proofs.Math.Seq.{take-length}
 use Rattle.escpos_till.specs.Entries.{IsLedger}
 use Rattle.escpos_c.proofs.TillTextLemmas.{empty_ledger, has_entry}
