@@ -10,7 +10,9 @@ ghost use Rattle.escpos_till.specs.declared.entry.Entry.TheVariants as entry;
 ghost use Rattle.escpos_till.specs.declared.machine.TillNote.TheVariants as note;
 ghost use Rattle.escpos_till.specs.Entries.{IsLedger, recorded, taken};
 ghost use Rattle.escpos_till_model.specs.Receipts.{Among, EachIsKept, Extends, RecordedStand};
-ghost use Rattle.escpos_till_model.specs.World.{Begins, Happening, Runs, World};
+ghost use Rattle.escpos_till_model.specs.declared.event.Happening.{Happening};
+ghost use Rattle.escpos_till_model.specs.Known.{IsWorld};
+ghost use Rattle.escpos_till_model.specs.World.{Begins, Runs, World};
 
 /// In every ledger each receipt that was taken waits or is recorded, and none is both; what is recorded was taken, and none is
 /// recorded twice.
@@ -35,6 +37,15 @@ pub fn what_is_recorded_stands()
     ensures extends { (w after : World) (happenings : List Happening) → Runs w happenings after → Extends w.kept after.kept }
     ensures begins_again { (w after : World) (happenings : List Happening) → Begins w → Runs w happenings after → after.machine ≡ None → Begins after }
     ensures begins { (l : LineView) (n : ℕ) → IsLine l → IsTrusted l → l.host.next ≤ n → Begins (record { machine = None; kept = entry.Raised n ∷ []; wire = given_up (wire_of l); told = [] }) }
+{
+    escpos_link::laws::trust();
+    escpos_link::laws::every_line();
+    escpos_link::laws::in_turn();
+}
+
+// Proof only: what holds of every world holds of one that has come of a world that began.
+pub(crate) fn every_world()
+    ensures { (w after : World) (happenings : List Happening) → Begins w → Runs w happenings after → IsWorld after }
 {
     escpos_link::laws::trust();
     escpos_link::laws::every_line();
