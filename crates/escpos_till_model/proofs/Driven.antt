@@ -24,11 +24,14 @@ use Rattle.escpos_till.specs.declared.machine.Then.TheVariants as then
 use Rattle.escpos_till.specs.declared.machine.TillNote.{TillNote}
 use Rattle.escpos_till.specs.declared.machine.TillNote.TheVariants as note_kind
 use Rattle.escpos_till.specs.declared.store.StoreFault.{StoreFault}
+use Rattle.std.proofs.Math.Nat.{min-eq_left}
 use Rattle.escpos_till.specs.Delivers.{fresh}
 use Rattle.escpos_till.specs.Driver.{Breaks, Deed, DidAll, Ends, Gives, HangsUp, HearsAll, IsGiven, IsNextOut, IsWaiting, Keeps, Links, Loses, Misses, Puts, Ran, Tells, Turns}
 use Rattle.escpos_till.specs.Machine.{Came, Drops, Ended, Follows, GoesOn, HearsOne, Kept, MachineView, Opens, Submits, Turns as Turned, Unsure, connected, lost, after_note, hung_up, not_connected, put, told}
 use Rattle.escpos_till_model.specs.Around.{Around, Does, DoesInTime, GoesOnBy, HasNoLink, IsAround, Reaches, around}
-use Rattle.escpos_till_model.specs.World.{Break, Connect, End, FailWith, FailWithout, HangUp, Happening, Happens, Hear, Idle, Keep, Miss, Moves, OnWire, Put, Runs, Stores, Tell, Wired, World, is_printer_event, running, with_entry, with_wire, without_entry}
+use Rattle.escpos_till_model.specs.declared.event.Happening.{Happening}
+use Rattle.escpos_till_model.specs.declared.event.Happening.TheVariants.{Break, Connect, End, FailWith, FailWithout, HangUp, Hear, Idle, Keep, Miss, OnWire, Put, Tell}
+use Rattle.escpos_till_model.specs.World.{Happens, Moves, Runs, Stores, Wired, World, is_printer_event, running, with_entry, with_wire, without_entry}
 use Rattle.escpos_till_model.proofs.LinesKept.{down_or_up}
 use Rattle.escpos_till_model.proofs.WireEvents.{goes_on_given_up, goes_on_more, goes_on_with_more, with_more}
 
@@ -374,7 +377,7 @@ puts m mid a w bytes shows (count, next, mid_is) sound =
     let there : WireView = with_bytes w.wire (take count m.host.out) in
     let is_there : there ≡ with_bytes a.wire bytes = ap (λ v. with_bytes v (take count m.host.out)) same ∙ ap (with_bytes a.wire) (sym next.bytes_are) in
     arrive w (running (put m.stage count m) w.kept there w.told) (Put count) mid (around a.kept (with_bytes a.wire bytes) a.told)
-    (record { m = m; talk = next.talk; was = shows.machine; talks = next.talks; within = next.within; sound = subst (λ v. IsSound v.host) mid_is sound; is = refl })
+    (record { m = m; talk = next.talk; count = count; was = shows.machine; talks = next.talks; count_is = sym (min-eq_left next.within); sound = subst (λ v. IsSound v.host) mid_is sound; is = refl })
     (shows_at _ mid (around a.kept (with_bytes a.wire bytes) a.told) (running (put m.stage count m) w.kept there w.told) (ap Some (sym mid_is)) shows.kept shows.told (ap (λ v. v.stage) so) (up', is_there))
 
 take_front : (k rest : ℕ) (out : List ℕ) → k ≤ length out → take k (take (k + rest) out) ≡ take k out
@@ -400,7 +403,20 @@ breaks m mid a w bytes why k shows (count, next, ended) sound few =
     let is_there : there ≡ given_up (with_bytes a.wire (take k bytes)) =
     ap (λ v. given_up (with_bytes v (take k m.host.out))) same ∙ ap (λ bs. given_up (with_bytes a.wire bs)) (sym those) in
     arrive w (running mid w.kept there w.told) (Break count k why) mid (around a.kept (with_bytes a.wire (take k bytes)) a.told)
-    (record { m = m; after = mid; talk = next.talk; was = shows.machine; talks = next.talks; some = some; within = next.within; ended = ended; sound = sound; is = refl })
+    (record {
+      m = m;
+      after = mid;
+      talk = next.talk;
+      taken = count;
+      count = k;
+      was = shows.machine;
+      talks = next.talks;
+      taken_is = sym (min-eq_left next.within);
+      count_is = sym (min-eq_left some);
+      ended = ended;
+      sound = sound;
+      is = refl;
+    })
     (shows_at _ mid (around a.kept (with_bytes a.wire (take k bytes)) a.told) (running mid w.kept there w.told) refl shows.kept shows.told so.2 (down, is_there))
 
 ends : (m mid : MachineView) (a : Around) (w : World) (why : SendFault) → Shows m a w → Turns m (Ends why) mid → IsSound mid.host → Leads w mid a

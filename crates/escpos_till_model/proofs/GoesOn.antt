@@ -1,22 +1,16 @@
--- What happens on the line, other than the host's own calls: receipts in flight are recorded, in order, or lost with their
--- link; nothing else is recorded, and no mark number is used.
-use Rattle.std.proofs.Common.{ℕ, ◌≡◌, inl, inr, true, false, List, [], ◌∷◌, ◌++◌, refl, sym, ◌∙◌, ap, subst, append-nil, append_assoc}
+-- Where bytes are taken out, or answers are heard: receipts in flight are recorded, in order, or lost with their link; nothing else is
+-- recorded, and no mark number is used.
+use Rattle.std.proofs.Common.{ℕ, ◌≡◌, inl, inr, List, [], ◌∷◌, ◌++◌, refl, sym, ◌∙◌, ap, subst, append-nil, append_assoc}
 use Rattle.escpos_command.specs.declared.answer.Answer.{Answer}
 use Rattle.escpos_command.specs.declared.command.Command.{Command}
-use Rattle.escpos_printer.specs.declared.printer.FeedStop.{FeedStop}
-use Rattle.escpos_printer.specs.declared.printer.FeedStop.TheVariants as stop
 use Rattle.escpos_host.specs.declared.host.HostEvent.{HostEvent}
 use Rattle.escpos_host.specs.declared.host.HostEvent.TheVariants as heard
 use Rattle.escpos_host.specs.Heard.{Grows, HearsAll, HearsByte, HearsInTurn, IsHeard, Misfits, Turns, last_of, opened, recorded, with_half}
-use Rattle.escpos_host.specs.Machine.{HostView, InFlight, Phase, Down, Opening, Open, gone_down, in_flight}
-use Rattle.escpos_link.specs.declared.event.Event.{Event}
+use Rattle.escpos_host.specs.Machine.{HostView, InFlight, Phase, Down, Opening, Open, gone_down, in_flight, taken_out}
 use Rattle.escpos_link.specs.declared.event.Event.TheVariants as event
-use Rattle.escpos_link.specs.declared.event.Handed.{Handed}
-use Rattle.escpos_link.specs.declared.event.Handed.TheVariants as handed
 use Rattle.escpos_link.specs.declared.event.Note.{Note}
-use Rattle.escpos_link.specs.EventTable.{After, HandsOver, Leaves, heard_to, hung_up, left_by, delivered}
+use Rattle.escpos_link.specs.EventTable.{After, heard_to}
 use Rattle.escpos_link.specs.Line.{LineView}
-use Rattle.escpos_till_model.specs.Steps.{is_host_call}
 
 -- Of the receipts in flight the first ones are recorded, and the last ones are lost.
 pub record GoesOn (h after : HostView) : Type 0 where
@@ -146,12 +140,16 @@ all_on h after bytes events consumed (inr (up, heard)) = in_turn_on events h aft
 
 -- ## Events
 
-left_host : (s : FeedStop) (l : LineView) → (left_by s l).host ≡ l.host
-left_host stop.All l = refl
-left_host stop.AnswersFull l = refl
-left_host stop.Offline l = refl
-left_host (stop.Fault at why) l = refl
-left_host stop.Memory l = refl
+-- Bytes are taken out.
+pub taken_on : (h : HostView) (n : ℕ) → GoesOn h (taken_out h n)
+taken_on h n = record {
+  grown = [];
+  lost = [];
+  records = sym (append-nil h.records);
+  flight = sym (append-nil (in_flight h.phase));
+  next = refl;
+  down = λ e. e;
+}
 
 heard_host : (e : HostEvent) (l : LineView) (consumed : ℕ) (host : HostView) → (heard_to e l consumed host).host ≡ host
 heard_host heard.None l consumed host = refl
@@ -160,59 +158,8 @@ heard_host (heard.Recorded number) l consumed host = refl
 heard_host (heard.Status byte) l consumed host = refl
 heard_host (heard.BadAnswer at) l consumed host = refl
 
-handed_host : (what : Handed) (l after : LineView) → HandsOver l what after → after.host ≡ l.host
-handed_host handed.None l after (none, same) = ap (λ (v : LineView). v.host) same
-handed_host handed.Lost l after (a, answers, waits, links, same) = ap (λ (v : LineView). v.host) same
-handed_host handed.On l after (a, answers, waits, links, live, same) = ap (λ (v : LineView). v.host) same
-
-pub hung_up_on : (h : HostView) (phase : Phase) → h.phase ≡ phase → GoesOn h (hung_up phase h)
-hung_up_on h Down is = stays h
-hung_up_on h (Opening first) is = goes_down h
-hung_up_on h (Open flight) is = goes_down h
-
-pub no_call : {P : Type 0} → true ≡ false → P
-no_call e = cc
-
-by_host : (l after next : LineView) → after ≡ next → GoesOn l.host next.host → GoesOn l.host after.host
-by_host l after next same on = subst (λ (v : LineView). GoesOn l.host v.host) (sym same) on
-
-pub goes_on : (e : Event) (l after : LineView) (n : Note) → is_host_call e ≡ false → After e l n after → GoesOn l.host after.host
-goes_on event.LinkUp l after n call a = no_call call
-goes_on event.Nudge l after n call a = no_call call
-goes_on (event.Submit receipt) l after n call a = no_call call
-goes_on (event.Ask kind) l after n call a = no_call call
-goes_on (event.HostRestart first) l after n call a = no_call call
-goes_on (event.Move k) l after n call (count, note, is, same) = by_host l after _ same (record {
-  grown = [];
-  lost = [];
-  records = sym (append-nil l.host.records);
-  flight = sym (append-nil (in_flight l.host.phase));
-  next = refl;
-  down = λ e. e;
-})
-goes_on (event.Deliver k) l after n call (fed, printer, note, feeds, memory, same) =
-    stays_same l.host after.host (ap (λ (v : LineView). v.host) same ∙ left_host fed.stop (delivered l fed.consumed printer))
-goes_on event.HandOver l after n call (what, note, hands) = stays_same l.host after.host (handed_host what l after hands)
-goes_on (event.Answer k) l after n call (events, consumed, host, note, hears, same) =
+-- Answers are heard.
+pub answered_on : (most : ℕ) (l after : LineView) (n : Note) → After (event.Answer most) l n after → GoesOn l.host after.host
+answered_on most l after n (events, consumed, host, note, hears, same) =
     let is : after.host ≡ host = ap (λ (v : LineView). v.host) same ∙ heard_host (last_of events) l consumed host in
     subst (GoesOn l.host) (sym is) (all_on l.host host _ events consumed hears)
-goes_on event.PrinterLeaves l after n call (note, same) = by_host l after _ same (stays l.host)
-goes_on event.PrinterRestart l after n call (printer, note, restart, same) = by_host l after _ same (stays l.host)
-goes_on event.HostDrops l after n call (note, same) = by_host l after _ same (hung_up_on l.host l.host.phase refl)
-goes_on (event.SetCondition condition) l after n call (note, same) = by_host l after _ same (stays l.host)
-
--- A refusal leaves the line as it was, or as after fewer bytes.
-pub leaves_on : (e : Event) (l after : LineView) → is_host_call e ≡ false → Leaves e l after → GoesOn l.host after.host
-leaves_on event.LinkUp l after call same = no_call call
-leaves_on event.Nudge l after call same = no_call call
-leaves_on (event.Submit receipt) l after call same = no_call call
-leaves_on (event.Ask kind) l after call same = no_call call
-leaves_on (event.HostRestart first) l after call same = no_call call
-leaves_on (event.Move k) l after call (fewer, n, less, within, moves) = goes_on (event.Move fewer) l after n call moves
-leaves_on (event.Deliver k) l after call (fewer, n, less, feeds, wanted) = goes_on (event.Deliver fewer) l after n call feeds
-leaves_on event.HandOver l after call same = by_host l after l same (stays l.host)
-leaves_on (event.Answer k) l after call same = by_host l after l same (stays l.host)
-leaves_on event.PrinterLeaves l after call same = by_host l after l same (stays l.host)
-leaves_on event.PrinterRestart l after call same = by_host l after l same (stays l.host)
-leaves_on event.HostDrops l after call same = by_host l after l same (stays l.host)
-leaves_on (event.SetCondition condition) l after call same = by_host l after l same (stays l.host)

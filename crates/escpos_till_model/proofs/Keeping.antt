@@ -10,8 +10,7 @@ use Rattle.escpos_till.specs.declared.entry.Entry.{Entry}
 use Rattle.escpos_till.specs.declared.entry.Entry.TheVariants.{Tried, Recorded}
 use Rattle.escpos_till.specs.Entries.{MayFollow, next_free, record_of, recorded}
 use Rattle.escpos_till.proofs.EntryLemmas.{ledger-snoc, next_after_tried}
-use Rattle.escpos_till_model.specs.declared.hand.Hand.{Hand}
-use Rattle.escpos_till_model.specs.Kept.{IsInHand, IsSent, Keeps, Reserves}
+use Rattle.escpos_till_model.specs.Kept.{Hand, IsInHand, IsSent, Keeps, Reserves}
 use Rattle.escpos_till_model.specs.Receipts.{IsReceiptOf}
 use Rattle.escpos_till_model.proofs.EntryFacts.{are_add, are_same, next_grows, receipt_of_grows, zip_length}
 use Rattle.escpos_till_model.proofs.GoesOn.{GoesOn}

@@ -2,12 +2,6 @@ pub mod EntryFacts
 pub mod Accounts
 pub mod GoesOn
 pub mod Keeping
-pub mod Tilling
-pub mod Standing
-pub mod Marking
-pub mod Extending
-pub mod Possible
-pub mod Running
 pub mod LinesKept
 pub mod WorldCalls
 pub mod WorldStore
@@ -15,3 +9,4 @@ pub mod WorldHears
 pub mod Worlds
 mod WireEvents
 mod Driven
+pub mod TillHappens

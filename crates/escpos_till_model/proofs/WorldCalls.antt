@@ -1,6 +1,6 @@
 -- What holds of every world holds after the calls of a machine, and after what it is told of its link.
-use Rattle.std.proofs.Common.{ℕ, ◌≡◌, ◌+◌, ◌++◌, ◌∙◌, ◌<◌, ◌≤◌, inl, inr, Option, Some, None, List, [], ◌∷◌, length, refl, sym, ap, subst, arith}
-use Rattle.std.specs.Prelude.{is_none, true}
+use Rattle.std.proofs.Common.{ℕ, ◌≡◌, ◌+◌, ◌++◌, ◌∙◌, ◌⊎◌, ◌<◌, ◌≤◌, inl, inr, Option, Some, None, List, [], ◌∷◌, length, refl, sym, ap, subst, arith}
+use Rattle.std.specs.Prelude.{Bool, true, false, is_none, nat_lt, if◌then◌else◌}
 use Rattle.std.proofs.Math.Nat.{le-max_right}
 use Rattle.escpos_host.specs.declared.send.SendFault.{SendFault}
 use Rattle.escpos_command.specs.declared.command.Command.{Command}
@@ -21,19 +21,19 @@ use Rattle.escpos_till.specs.declared.machine.Due.{Due}
 use Rattle.escpos_till.specs.declared.machine.Then.TheVariants as then
 use Rattle.escpos_till.specs.declared.machine.TillNote.{TillNote}
 use Rattle.escpos_till.specs.declared.machine.TillNote.TheVariants as note_kind
+use Rattle.escpos_till.specs.Contents.{ContentDescribes}
+use Rattle.escpos_till.specs.Copy.{copy_line, sent_of}
 use Rattle.escpos_till.specs.Delivers.{marks_taken}
+use Rattle.escpos_receipt.specs.Whole.{Whole}
 use Rattle.escpos_till.specs.Ledger.{FirstWaits}
 use Rattle.escpos_till.specs.Machine.{Delivers, Drops, Ended, IsNext, MachineView, Queues, Raises, SameEntries, after_note, at, connected, hung_up as machine_hung_up, lost, not_connected, told}
 use Rattle.escpos_till.proofs.EntryLemmas.{length-taken}
 use Rattle.escpos_till_model.proofs.EntryFacts.{among_cons, among_filtered, among_last, among_nothing, first_among, first_is_taken}
 use Rattle.escpos_till_model.proofs.Keeping.{gone_keeps}
-use Rattle.escpos_till_model.proofs.Tilling.{sent_is}
-use Rattle.escpos_till_model.specs.Receipts.{Among}
-use Rattle.escpos_till_model.specs.Steps.{IsCopy}
-use Rattle.escpos_till_model.specs.declared.hand.Hand.{Hand}
-use Rattle.escpos_till_model.specs.Kept.{Keeps}
+use Rattle.escpos_till_model.specs.Receipts.{Among, IsReceipt}
+use Rattle.escpos_till_model.specs.Kept.{Hand, Keeps}
 use Rattle.escpos_till_model.specs.Known.{BookMayLag, Holds, IsHostOf, IsMachineIn, IsToSend, IsWorld}
-use Rattle.escpos_till_model.specs.World.{Calls, FitsLine, IsSo, Tells, Wired, World, running}
+use Rattle.escpos_till_model.specs.World.{Calls, FitsLine, IsCopy, IsSo, Tells, Wired, World, running}
 use Rattle.escpos_till_model.proofs.LinesKept.{LineLaws, Right, goes, same_wire, drops_right, drops_hung}
 
 -- ## Worlds, part by part
@@ -130,7 +130,7 @@ raised w new first known moves =
     subst IsWorld (sym moves.is) (whole moves.after w.kept moves.wire w.told known.told
     (same_host moves.m moves.after w.kept w.wire moves.wire p (ap (λ m. m.host) is) moves.sound moves.wired
     (λ live. subst (λ b. IsBookOf b w.kept) (sym (ap (λ m. m.book) is)) book)
-    (subst (λ s. Holds w.kept p.hand (with_earlier p.earlier moves.m.host) s) (sym (ap (λ m. m.stage) is)) (least, (none, refl)))))
+    (subst (λ s. Holds w.kept p.hand (with_earlier p.earlier moves.m.host) s) (sym (ap (λ m. m.stage) is)) (least, (none, first, refl)))))
 
 pub refused : (w new : World) → IsWorld w → Calls SameEntries w new → IsWorld new
 refused w new known moves =
@@ -141,6 +141,21 @@ refused w new known moves =
     (subst (λ s. Holds w.kept p.hand (with_earlier p.earlier moves.m.host) s) (sym moves.goes.stage) p.holds)))
 
 -- ## A receipt is due
+
+with_or_without : (b : Bool) (commands receipt line : List Command) → commands ≡ (if b then line ++ receipt else receipt) → (commands ≡ receipt) ⊎ (commands ≡ line ++ receipt)
+with_or_without true commands receipt line e = inr e
+with_or_without false commands receipt line e = inl e
+
+-- What is sent of a receipt is a receipt, or one after the line of a copy.
+pub sent_is : (content : Content) (receipt commands : List Command) (copy : Option (List ℕ)) (tried : ℕ) → IsCopy copy → ContentDescribes content receipt → Whole receipt
+    → commands ≡ sent_of copy tried receipt → IsReceipt content commands
+sent_is content receipt commands None tried is describes whole sent = record { receipt = receipt; describes = describes; whole = whole; sent = inl sent }
+sent_is content receipt commands (Some text) tried is describes whole sent = record {
+  receipt = receipt;
+  describes = describes;
+  whole = whole;
+  sent = elim (with_or_without (nat_lt 0 tried) commands receipt (copy_line text) sent) [ inl e ↦ inl e | inr e ↦ inr (text, is, e) ];
+}
 
 pub numbered_bounds : (m : ℕ) (cs : List Content) (t : Taken) → Among t (numbered_from m cs) → (m ≤ t.number) × (t.number < m + length cs)
 numbered_bounds m [] t among = absurd (among_nothing t among)

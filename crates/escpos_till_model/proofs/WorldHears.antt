@@ -29,10 +29,9 @@ use Rattle.escpos_till.specs.declared.machine.Talk.{Talk}
 use Rattle.escpos_till.specs.declared.machine.Then.TheVariants as then
 use Rattle.escpos_till.specs.declared.machine.TillNote.TheVariants as note_kind
 use Rattle.escpos_till.specs.Machine.{Came, Drops, GoesOn as MachineGoesOn, MachineView, Submits, Turns as MachineTurns, at}
-use Rattle.escpos_till_model.proofs.GoesOn.{goes_on}
+use Rattle.escpos_till_model.proofs.GoesOn.{answered_on}
 use Rattle.escpos_till_model.proofs.Keeping.{gone_keeps, on_keeps, submitted_keeps}
-use Rattle.escpos_till_model.specs.declared.hand.Hand.{Hand}
-use Rattle.escpos_till_model.specs.Kept.{Keeps}
+use Rattle.escpos_till_model.specs.Kept.{Hand, Keeps}
 use Rattle.escpos_till_model.specs.Known.{Holds, IsWorld}
 use Rattle.escpos_till_model.specs.World.{Hears, Wired, World}
 use Rattle.escpos_till_model.proofs.LinesKept.{LineLaws, Right, goes, same_wire, drops_right, drops_hung}
@@ -320,7 +319,7 @@ turned_parts laws m after kept w wire talk consumed left host (heard.Recorded pl
       book = λ live. x.book;
       holds = subst (λ s. Holds kept (Some x.held) (with_earlier x.earlier after.host) s) (sym now)
           (subst (λ h. Holds kept (Some x.held) (with_earlier x.earlier h) (stage.Keeping (entry.Recorded talk.number) (then.Recorded talk.number))) (sym same)
-          (x.follows, (x.held, refl, x.number, refl, one_more)));
+          (x.follows, (x.held, refl, x.number, refl, one_more, x.up)));
     }
 turned_parts laws m after kept w wire talk consumed left host (heard.BadAnswer place) old x count more on so = absurd (on tt)
 
@@ -336,7 +335,7 @@ hears laws w new most known v =
     let happened = heard_after p.earlier v.m.host host w.wire v.consumed e one on in
     let right = goes laws (event.Answer v.consumed) (line_of (with_earlier p.earlier v.m.host) w.wire) (line_of (with_earlier p.earlier host) middle) _ tt
     (earlier_sound p.earlier v.m.host p.sound) p.right happened in
-    let went = goes_on (event.Answer v.consumed) (line_of (with_earlier p.earlier v.m.host) w.wire) (line_of (with_earlier p.earlier host) middle) _ refl happened in
+    let went = answered_on v.consumed (line_of (with_earlier p.earlier v.m.host) w.wire) (line_of (with_earlier p.earlier host) middle) _ happened in
     let keeps = subst (λ x. Keeps w.kept x (with_earlier p.earlier host)) hand_is
     (on_keeps w.kept p.hand (with_earlier p.earlier v.m.host) (with_earlier p.earlier host) went p.keeps) in
     let x : Heard v.m v.after w.kept middle v.wire v.talk v.consumed host = record {

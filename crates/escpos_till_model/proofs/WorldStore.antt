@@ -1,7 +1,7 @@
 -- What holds of every world holds after what a store does, after bytes are put, and after what happens without the machine.
 use Rattle.std.proofs.Common.{ℕ, zero, suc, ◌≡◌, ◌≢◌, ◌+◌, ◌-◌, ◌<◌, ◌≤◌, inl, inr, max, Option, Some, None, List, [], ◌∷◌, ◌++◌, length, take, refl, sym, ◌∙◌, ap, subst, append-nil, length-append, arith}
 use Rattle.std.specs.Prelude.{true, false}
-use Rattle.std.proofs.Math.Nat.{le-max_right}
+use Rattle.std.proofs.Math.Nat.{le-max_right, min-le_right}
 use Rattle.escpos_host.specs.declared.send.SendFault.{SendFault}
 use Rattle.escpos_command.specs.declared.command.Command.{Command}
 use Rattle.escpos_command.specs.Digits.{mark_count}
@@ -40,11 +40,10 @@ use Rattle.escpos_till.specs.Machine.{Drops, Ended, Follows, Kept, MachineView, 
 use Rattle.escpos_till.proofs.EntryLemmas.{count_states, next_after_tried, some_state}
 use Rattle.escpos_till.proofs.MachineLemmas.{waits_tried}
 use Rattle.escpos_till_model.proofs.EntryFacts.{among_more, recorded_append, recorded_same, taken_append, zip_length}
-use Rattle.escpos_till_model.proofs.GoesOn.{GoesOn, goes_on}
+use Rattle.escpos_till_model.proofs.GoesOn.{GoesOn, taken_on}
 use Rattle.escpos_till_model.proofs.Keeping.{entry_keeps, front_of, gone_keeps, linked_keeps, nudged_keeps, on_keeps, record_keeps, take_keeps}
 use Rattle.escpos_till_model.specs.Receipts.{Among, IsReceiptOf}
-use Rattle.escpos_till_model.specs.declared.hand.Hand.{Hand}
-use Rattle.escpos_till_model.specs.Kept.{Keeps}
+use Rattle.escpos_till_model.specs.Kept.{Hand, Keeps}
 use Rattle.escpos_till_model.specs.Known.{BookMayLag, Holds, IsHostOf, IsToKeep, IsWorld}
 use Rattle.escpos_till_model.specs.World.{Breaks, Crashes, GoesOnWire, Idles, IsSo, Puts, Starts, Stores, Wired, World, is_printer_event, off, running, with_entry, with_wire, without_entry}
 use Rattle.escpos_till_model.proofs.LinesKept.{LineLaws, Right, goes, down_or_up, same_wire, none_given_up, drops_right, drops_hung}
@@ -223,9 +222,7 @@ moved_right laws earlier h w count within sound right =
     (earlier_sound earlier h sound) right (count, refl, omega (arith, within), refl)
 
 pub moved_on : (earlier : List (List Command)) (h : HostView) (w : WireView) (count : ℕ) → count ≤ length h.out → GoesOn (with_earlier earlier h) (with_earlier earlier (taken_out h count))
-moved_on earlier h w count within =
-    goes_on (event.Move count) (line_of (with_earlier earlier h) w) (line_of (with_earlier earlier (taken_out h count)) (with_bytes w (take count h.out))) (note.Moved count) refl
-    (count, refl, omega (arith, within), refl)
+moved_on earlier h w count within = taken_on (with_earlier earlier h) count
 
 pub talking_book : (m : MachineView) (kept : List Entry) (w : WireView) (talk : Talk) → m.stage ≡ stage.Talking talk → Parts m kept w → IsBookOf m.book kept
 talking_book m kept w talk is p = p.book (λ lost. subst BookMayLag is lost)
@@ -234,8 +231,10 @@ pub talking_holds : (m : MachineView) (kept : List Entry) (w : WireView) (talk :
     → Holds kept p.hand (with_earlier p.earlier m.host) (stage.Talking talk)
 talking_holds m kept w talk is p = subst (λ s. Holds kept p.hand (with_earlier p.earlier m.host) s) is p.holds
 
-pub puts : LineLaws → (w new : World) (count : ℕ) → IsWorld w → Puts w count new → IsWorld new
-puts laws w new count known v =
+pub puts : LineLaws → (w new : World) (most : ℕ) → IsWorld w → Puts w most new → IsWorld new
+puts laws w new most known v =
+    let count : ℕ = v.count in
+    let within : count ≤ length v.m.host.out = omega (arith, v.count_is, min-le_right most (length v.m.host.out)) in
     let p = parts w v.m v.was known in
     let h : HostView = v.m.host in
     let holds = talking_holds v.m w.kept w.wire v.talk v.talks p in
@@ -246,16 +245,19 @@ puts laws w new count known v =
     subst IsWorld (sym same) (whole after w.kept (with_bytes w.wire (take count h.out)) w.told known.told (record {
       earlier = p.earlier;
       sound = subst (λ m. IsSound m.host) is v.sound;
-      right = moved_right laws p.earlier h w.wire count v.within p.sound p.right;
+      right = moved_right laws p.earlier h w.wire count within p.sound p.right;
       hand = p.hand;
-      keeps = on_keeps w.kept p.hand (with_earlier p.earlier h) (with_earlier p.earlier (taken_out h count)) (moved_on p.earlier h w.wire count v.within) p.keeps;
+      keeps = on_keeps w.kept p.hand (with_earlier p.earlier h) (with_earlier p.earlier (taken_out h count)) (moved_on p.earlier h w.wire count within) p.keeps;
       book = λ live. talking_book v.m w.kept w.wire v.talk v.talks p;
       holds = holds;
     }))
 
 -- Not all of them were: the link has ended.
-pub breaks : LineLaws → (w new : World) (taken count : ℕ) (why : SendFault) → IsWorld w → Breaks w taken count why new → IsWorld new
-breaks laws w new taken count why known v =
+pub breaks : LineLaws → (w new : World) (most fewer : ℕ) (why : SendFault) → IsWorld w → Breaks w most fewer why new → IsWorld new
+breaks laws w new most fewer why known v =
+    let taken : ℕ = v.taken in
+    let count : ℕ = v.count in
+    let within : count ≤ length v.m.host.out = omega (arith, v.count_is, v.taken_is, min-le_right fewer taken, min-le_right most (length v.m.host.out)) in
     let p = parts w v.m v.was known in
     let h : HostView = v.m.host in
     let (held, hand_is, number, receipt, follows, records, up, reserved) = talking_holds v.m w.kept w.wire v.talk v.talks p in
@@ -263,7 +265,7 @@ breaks laws w new taken count why known v =
     let (drops, book, now) = ended in
     let gone : v.after.host ≡ gone_down h = drops.1 up in
     let wire : WireView = with_bytes w.wire (take count h.out) in
-    let put_right = moved_right laws p.earlier h w.wire count (omega (arith, v.some, v.within)) p.sound p.right in
+    let put_right = moved_right laws p.earlier h w.wire count within p.sound p.right in
     let off_right = goes laws event.HostDrops (line_of (with_earlier p.earlier (taken_out h count)) wire) (line_of (with_earlier p.earlier (gone_down h)) (given_up wire)) note.Done tt
     (earlier_sound p.earlier (taken_out h count) (sound_taken h count up p.sound)) put_right
     (hung_up_by (with_earlier p.earlier (taken_out h count)) (with_earlier p.earlier (gone_down h)) wire (λ u. refl) (λ down. absurd (up down))) in
@@ -300,13 +302,13 @@ pub stored_keeps : (kept : List Entry) (e : Entry) (next : Then) (hand : Option 
 stored_keeps kept e then.Queued hand earlier h h' k follows (none, content, is) drops =
     subst (λ v. Keeps (kept ++ e ∷ []) None v) (sym (drops_hung earlier h h' drops))
     (gone_keeps (kept ++ e ∷ []) hand (with_earlier earlier h) (entry_keeps kept e hand (with_earlier earlier h) (ap record_of is) follows k))
-stored_keeps kept e then.Raised hand earlier h h' k follows is drops =
+stored_keeps kept e then.Raised hand earlier h h' k follows (none, first, is) drops =
     subst (λ v. Keeps (kept ++ e ∷ []) None v) (sym (drops_hung earlier h h' drops))
-    (gone_keeps (kept ++ e ∷ []) hand (with_earlier earlier h) (entry_keeps kept e hand (with_earlier earlier h) is.1 follows k))
+    (gone_keeps (kept ++ e ∷ []) hand (with_earlier earlier h) (entry_keeps kept e hand (with_earlier earlier h) (ap record_of is) follows k))
 stored_keeps kept e (then.Send due) hand earlier h h' k follows (none, send, tried) drops =
     subst (λ v. Keeps (kept ++ e ∷ []) None v) (sym (drops_hung earlier h h' drops))
     (gone_keeps (kept ++ e ∷ []) hand (with_earlier earlier h) (entry_keeps kept e hand (with_earlier earlier h) (ap record_of tried) follows k))
-stored_keeps kept e (then.Recorded number) hand earlier h h' k follows (held, hand_is, same, recorded_is, more) drops =
+stored_keeps kept e (then.Recorded number) hand earlier h h' k follows (held, hand_is, same, recorded_is, more, up) drops =
     let is : e ≡ entry.Recorded held.number = recorded_is ∙ ap entry.Recorded (sym same) in
     subst (λ v. Keeps (kept ++ e ∷ []) None v) (sym (drops_hung earlier h h' drops))
     (subst (λ x. Keeps (kept ++ x ∷ []) None (hung_up h.phase (with_earlier earlier h))) (sym is)
@@ -496,8 +498,8 @@ kept_parts laws m after kept w new e then.Queued p book follows (none, content, 
     quietly_kept m after kept w new e p follows none (ap record_of entry_is) host sound wired known
     (subst (λ s. Holds (kept ++ e ∷ []) p.hand (with_earlier p.earlier m.host) s) (sym now)
     (none, queued_so after.book (kept ++ e ∷ []) kept content number known (ap (λ x. kept ++ x ∷ []) entry_is) is))
-kept_parts laws m after kept w new e then.Raised p book follows (none, other) (host, now) known sound wired =
-    quietly_kept m after kept w new e p follows none other host sound wired known
+kept_parts laws m after kept w new e then.Raised p book follows (none, first, entry_is) (host, now) known sound wired =
+    quietly_kept m after kept w new e p follows none (ap record_of entry_is) host sound wired known
     (subst (λ s. Holds (kept ++ e ∷ []) p.hand (with_earlier p.earlier m.host) s) (sym now) (none, tt))
 kept_parts laws m after kept w new e (then.Send due) p book follows to_keep opens known sound wired = sent_parts laws m after kept w new e due p book follows to_keep opens known sound wired
 kept_parts laws m after kept w new e (then.Recorded number) p book follows to_keep (drops, now) known sound wired = record {

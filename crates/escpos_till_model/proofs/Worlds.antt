@@ -18,7 +18,9 @@ use Rattle.escpos_till.specs.Delivers.{fresh}
 use Rattle.escpos_till.proofs.EntryLemmas.{empty_ledger, ledger-snoc}
 use Rattle.escpos_till_model.specs.Receipts.{AreReceipts, Extends, IsReceiptOf, RecordedStand}
 use Rattle.escpos_till_model.specs.Known.{IsHostOf, IsMachineIn, IsWorld}
-use Rattle.escpos_till_model.specs.World.{Begins, Break, Connect, Crash, Deliver, End, FailWith, FailWithout, HangUp, Happening, Happens, Hear, Idle, Keep, Miss, OnWire, Put, Queue, Raise, Refuse, Runs, Start, Tell, World}
+use Rattle.escpos_till_model.specs.World.{Begins, Happens, Runs, World}
+use Rattle.escpos_till_model.specs.declared.event.Happening.{Happening}
+use Rattle.escpos_till_model.specs.declared.event.Happening.TheVariants.{Break, Connect, Crash, Deliver, End, FailWith, FailWithout, HangUp, Hear, Idle, Keep, Miss, OnWire, Put, Queue, Raise, Refuse, Start, Tell}
 use Rattle.escpos_till_model.proofs.LinesKept.{LineLaws, Right, none_given_up}
 use Rattle.escpos_till_model.proofs.EntryFacts.{among_nothing, zip_length}
 use Rattle.escpos_till_model.proofs.WorldCalls.{queued, raised, refused, delivers, told_world, hung_world, connected_world, missed_world, ended_world}

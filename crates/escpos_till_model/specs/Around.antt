@@ -14,7 +14,8 @@ use Rattle.escpos_till.specs.declared.machine.Then.TheVariants as then
 use Rattle.escpos_till.specs.declared.machine.TillNote.{TillNote}
 use Rattle.escpos_till.specs.Driver.{Breaks, Deed, Ends, Gives, HangsUp, Keeps, Links, Loses, Misses, Puts, Tells}
 use Rattle.escpos_till.specs.Machine.{MachineView}
-use Rattle.escpos_till_model.specs.World.{Happening, Runs, World, is_printer_event}
+use Rattle.escpos_till_model.specs.World.{Runs, World, is_printer_event}
+use Rattle.escpos_till_model.specs.declared.event.Happening.{Happening}
 
 pub record Around : Type 0 where
   pub kept : List Entry

@@ -1,14 +1,19 @@
--- What holds for every till, so that what is recorded stands on the paper and no mark number is used twice.
+-- What a till's entries and its host have to do with each other, so that what is recorded stands on the paper. For private clauses and
+-- proofs alone.
 use Rattle.std.specs.Prelude.{ℕ, ◌≡◌, ◌⊎◌, ◌≤◌, List, [], ◌∷◌, ◌++◌, Option, Some, None}
 use Rattle.escpos_command.specs.declared.command.Command.{Command}
 use Rattle.escpos_host.specs.Machine.{Down, HostView, in_flight}
 use Rattle.escpos_till.specs.declared.entry.Entry.{Entry}
 use Rattle.escpos_till.specs.declared.entry.Entry.TheVariants as entry
 use Rattle.escpos_till.specs.Entries.{IsLedger, next_free}
-use Rattle.escpos_till_model.specs.declared.hand.Hand.{Hand}
-use Rattle.escpos_till_model.specs.declared.parts.TillParts.{TillParts}
-use Rattle.escpos_till_model.specs.Parts.{IsDesk, entries_of}
 use Rattle.escpos_till_model.specs.Receipts.{AreReceipts, IsReceiptOf}
+
+-- A receipt that is being sent: it is kept that it is tried, and not that it is recorded. What is sent of it is here until the host has it;
+-- the mark numbers from the host's next one up to the limit are reserved for it.
+pub record Hand : Type 0 where
+  pub number : ℕ
+  pub receipt : Option (List Command)
+  pub limit : ℕ
 
 -- An entry has reserved the numbers from this one up to the limit for the receipt with this number. Each of them was free
 -- before that entry.
@@ -45,8 +50,3 @@ pub record Keeps (entries : List Entry) (hand : Option Hand) (h : HostView) : Ty
   pub records : h.records ≡ receipts ++ answered
   pub next : h.next ≤ next_free entries
   pub in_hand : IsInHand entries hand answered h
-
--- What holds for every till.
-pub record IsTill (t : TillParts) : Type 0 where
-  pub desk : IsDesk t.desk
-  pub keeps : Keeps (entries_of t) t.hand t.line.host

@@ -1,6 +1,6 @@
 -- Why what a till has recorded stands on the paper, whatever happens in the world: what holds of every world. For private clauses and
 -- proofs alone.
-use Rattle.std.specs.Prelude.{◌≡◌, ◌≢◌, ◌≤◌, ◌<◌, ◌+◌, Option, Some, None, List, length}
+use Rattle.std.specs.Prelude.{ℕ, ◌≡◌, ◌≢◌, ◌≤◌, ◌<◌, ◌+◌, Option, Some, None, List, length}
 use Rattle.escpos_command.specs.declared.command.Command.{Command}
 use Rattle.escpos_command.specs.Digits.{mark_count}
 use Rattle.escpos_host.specs.Earlier.{with_earlier}
@@ -21,10 +21,9 @@ use Rattle.escpos_till.specs.declared.machine.TillNote.{TillNote}
 use Rattle.escpos_till.specs.declared.machine.TillNote.TheVariants as note
 use Rattle.escpos_till.specs.Book.{IsBookOf}
 use Rattle.escpos_till.specs.Delivers.{marks_taken}
-use Rattle.escpos_till.specs.Entries.{MayFollow, next_free, record_of, recorded}
+use Rattle.escpos_till.specs.Entries.{MayFollow, next_free, recorded}
 use Rattle.escpos_till.specs.Machine.{MachineView}
-use Rattle.escpos_till_model.specs.declared.hand.Hand.{Hand}
-use Rattle.escpos_till_model.specs.Kept.{Keeps}
+use Rattle.escpos_till_model.specs.Kept.{Hand, Keeps}
 use Rattle.escpos_till_model.specs.Receipts.{Among, IsReceiptOf}
 use Rattle.escpos_till_model.specs.World.{IsSo, World}
 
@@ -51,10 +50,17 @@ pub record IsToSend (kept : List Entry) (due : Due) : Type 0 where
 -- What an entry that is to be kept is, by what follows it.
 abbrev pub IsToKeep : List Entry → Option Hand → HostView → Entry → Then → Type 0
 IsToKeep kept hand h e then.Queued = (hand ≡ None) × (content : Content) × (e ≡ entry.Queued content)
-IsToKeep kept hand h e then.Raised = (hand ≡ None) × (record_of e ≡ None)
+IsToKeep kept hand h e then.Raised = (hand ≡ None) × (first : ℕ) × (e ≡ entry.Raised first)
 IsToKeep kept hand h e (then.Send due) = (hand ≡ None) × IsToSend kept due × (e ≡ entry.Tried due.number (next_free kept + marks_taken due.openings))
 IsToKeep kept hand h e (then.Recorded number) =
     (held : Hand) × (hand ≡ Some held) × (held.number ≡ number) × (e ≡ entry.Recorded number) × (length (recorded kept) < length h.records)
+    × (h.phase ≢ Down)
+
+-- A machine at this stage is on a link.
+abbrev pub Linked : Stage → Type 0
+Linked (stage.Talking talk) = Unit {0}
+Linked (stage.Keeping (entry.Recorded number) next) = Unit {0}
+Linked s = ⊥
 
 -- What a stage has in hand, where the host has these records with those before it.
 abbrev pub Holds : List Entry → Option Hand → HostView → Stage → Type 0

@@ -9,7 +9,7 @@
 -- Not in this world: other writers to the printer, and bytes from it that nobody asked for; a store that loses an entry that it kept, or
 -- that is put back from a backup; two machines over one ledger at the same time; and an answer to a mark of an old link that comes late
 -- on a new one, as it may on a serial line.
-use Rattle.std.specs.Prelude.{ℕ, Bool, true, false, ◌≡◌, ◌≢◌, ◌<◌, ◌≤◌, Option, Some, None, List, [], ◌∷◌, ◌++◌, length, take}
+use Rattle.std.specs.Prelude.{ℕ, Bool, true, false, ◌≡◌, ◌≢◌, ◌<◌, ◌≤◌, Option, Some, None, List, [], ◌∷◌, ◌++◌, length, min, take}
 use Rattle.escpos_host.specs.declared.send.SendFault.{SendFault}
 use Rattle.escpos_host.specs.Machine.{HostView, Down, IsSound}
 use Rattle.escpos_link.specs.declared.event.Event.{Event}
@@ -18,7 +18,6 @@ use Rattle.escpos_link.specs.declared.event.Event.TheVariants as line
 use Rattle.escpos_link.specs.Line.{IsLine, LineView}
 use Rattle.escpos_link.specs.Trusted.{IsFitting, IsTrusted}
 use Rattle.escpos_link.specs.Wire.{AfterOnWire, WireView, given_up, heard_from, wire_of, with_bytes, with_link}
-use Rattle.escpos_till.specs.declared.entry.Content.{Content}
 use Rattle.escpos_till.specs.declared.entry.Entry.{Entry}
 use Rattle.escpos_till.specs.declared.machine.Stage.{Stage}
 use Rattle.escpos_till.specs.declared.machine.Stage.TheVariants as stage
@@ -26,12 +25,13 @@ use Rattle.escpos_till.specs.declared.machine.Talk.{Talk}
 use Rattle.escpos_till.specs.declared.machine.Then.{Then}
 use Rattle.escpos_till.specs.declared.machine.TillNote.{TillNote}
 use Rattle.escpos_till.specs.declared.machine.TillNote.TheVariants as note
-use Rattle.escpos_till.specs.declared.store.StoreFault.{StoreFault}
 use Rattle.escpos_till.specs.Book.{IsBookOf}
+use Rattle.escpos_till.specs.Copy.{IsCopyText}
 use Rattle.escpos_till.specs.Entries.{IsLedger, next_free, recorded, taken}
 use Rattle.escpos_till.specs.Machine.{Came, Delivers, Ended, IsStarted, Kept, MachineView, Queues, Raises, SameEntries, Unsure, connected, hung_up, not_connected, put, told}
 use Rattle.escpos_till_model.specs.Receipts.{Among, AreReceipts}
-use Rattle.escpos_till_model.specs.Steps.{IsCopy}
+use Rattle.escpos_till_model.specs.declared.event.Happening.{Happening}
+use Rattle.escpos_till_model.specs.declared.event.Happening.TheVariants as event
 
 -- The till's machine, unless it is switched off; the entries that its store has; the wire; and what its owner was told, the oldest first.
 pub record World : Type 0 where
@@ -68,37 +68,6 @@ pub record Begins (w : World) : Type 0 where
   pub next : line.host.next ≤ next_free w.kept
   pub wire_is : w.wire ≡ given_up (wire_of line)
   pub told : (n : TillNote) → Among n w.told → IsSo w.kept n
-
--- What may happen.
-pub data Happening : Type 0 where
-  -- the till is switched on: a machine is made of the entries that are there
-  Start : Happening
-  -- its machine is called
-  Queue : Content → Happening
-  Raise : ℕ → Happening
-  Deliver : ℕ → ℕ → Option (List ℕ) → Happening
-  Refuse : Happening
-  -- the store keeps an entry; or it fails, with the entry or without it
-  Keep : Happening
-  FailWith : StoreFault → Happening
-  FailWithout : StoreFault → Happening
-  -- there is a link, or none
-  Connect : Happening
-  Miss : Happening
-  -- so many bytes are taken out and put; so many are taken out, only so many of them are put, and the link has ended
-  Put : ℕ → Happening
-  Break : ℕ → ℕ → SendFault → Happening
-  -- the machine is given so many of the bytes on their way; the link has ended
-  Hear : ℕ → Happening
-  End : SendFault → Happening
-  HangUp : Happening
-  -- its owner is told a note
-  Tell : Happening
-  -- something happens at the printer's end of the wire; a link is opened and given up with nothing on it
-  OnWire : Event → Happening
-  Idle : Happening
-  -- the till is switched off, whatever it was doing
-  Crash : Happening
 
 -- The wire after the machine's host has gone from here to there.
 pub record Wired (before after : HostView) (w new : WireView) : Type 0 where
@@ -159,25 +128,28 @@ pub record Hears (w : World) (most : ℕ) (new : World) : Type 0 where
   pub wired : Wired m.host after.host (heard_from w.wire consumed) wire
   pub is : new ≡ running after w.kept wire w.told
 
--- Bytes are taken out and put.
-pub record Puts (w : World) (count : ℕ) (new : World) : Type 0 where
+-- Bytes are taken out, at most so many, and put.
+pub record Puts (w : World) (most : ℕ) (new : World) : Type 0 where
   pub m : MachineView
   pub talk : Talk
+  pub count : ℕ
   pub was : w.machine ≡ Some m
   pub talks : m.stage ≡ stage.Talking talk
-  pub within : count ≤ length m.host.out
+  pub count_is : count ≡ min most (length m.host.out)
   pub sound : IsSound (put m.stage count m).host
   pub is : new ≡ running (put m.stage count m) w.kept (with_bytes w.wire (take count m.host.out)) w.told
 
--- Bytes are taken out, and only so many of them are put.
-pub record Breaks (w : World) (taken count : ℕ) (why : SendFault) (new : World) : Type 0 where
+-- Bytes are taken out, at most so many, and no more than this many of them are put: the link has ended.
+pub record Breaks (w : World) (most fewer : ℕ) (why : SendFault) (new : World) : Type 0 where
   pub m : MachineView
   pub after : MachineView
   pub talk : Talk
+  pub taken : ℕ
+  pub count : ℕ
   pub was : w.machine ≡ Some m
   pub talks : m.stage ≡ stage.Talking talk
-  pub some : count ≤ taken
-  pub within : taken ≤ length m.host.out
+  pub taken_is : taken ≡ min most (length m.host.out)
+  pub count_is : count ≡ min fewer taken
   pub ended : Ended m.stage why (put m.stage taken m) after
   pub sound : IsSound after.host
   pub is : new ≡ running after w.kept (given_up (with_bytes w.wire (take count m.host.out))) w.told
@@ -218,27 +190,39 @@ pub record Crashes (w : World) (new : World) : Type 0 where
   pub link : (m : MachineView) → w.machine ≡ Some m → m.host.phase ≢ Down → wire ≡ given_up w.wire
   pub is : new ≡ off w wire
 
+-- The text for the line of a copy, if there is one, is such a text.
+abbrev pub IsCopy : Option (List ℕ) → Type 0
+IsCopy None = Unit {0}
+IsCopy (Some text) = IsCopyText text
+
 abbrev pub Happens : World → Happening → World → Type 0
-Happens w Start new = Starts w new
-Happens w (Queue content) new = Calls (λ m after. Queues m content after) w new
-Happens w (Raise first) new = Calls (λ m after. Raises m first after) w new
-Happens w (Deliver openings most copy) new = IsCopy copy × Calls (λ m after. Delivers m openings most copy after × FitsLine after.stage) w new
-Happens w Refuse new = Calls SameEntries w new
-Happens w Keep new = Stores (λ m after. Kept m.stage m after) with_entry w new
-Happens w (FailWith why) new = Stores (λ m after. Unsure m.stage why m after) with_entry w new
-Happens w (FailWithout why) new = Stores (λ m after. Unsure m.stage why m after) without_entry w new
-Happens w Connect new = Calls (λ m after. after ≡ connected m.stage m) w new
-Happens w Miss new = Calls (λ m after. after ≡ not_connected m.stage m) w new
-Happens w (Put count) new = Puts w count new
-Happens w (Break taken count why) new = Breaks w taken count why new
-Happens w (Hear most) new = Hears w most new
-Happens w (End why) new = Calls (λ m after. Ended m.stage why m after) w new
-Happens w HangUp new = Calls (λ m after. after ≡ hung_up m.stage m) w new
-Happens w Tell new = Tells w new
-Happens w (OnWire e) new = GoesOnWire e w new
-Happens w Idle new = Idles w new
-Happens w Crash new = Crashes w new
+Happens w event.Start new = Starts w new
+Happens w (event.Queue content) new = Calls (λ m after. Queues m content after) w new
+Happens w (event.Raise first) new = Calls (λ m after. Raises m first after) w new
+Happens w (event.Deliver openings most copy) new = IsCopy copy × Calls (λ m after. Delivers m openings most copy after × FitsLine after.stage) w new
+Happens w event.Refuse new = Calls SameEntries w new
+Happens w event.Keep new = Stores (λ m after. Kept m.stage m after) with_entry w new
+Happens w (event.FailWith why) new = Stores (λ m after. Unsure m.stage why m after) with_entry w new
+Happens w (event.FailWithout why) new = Stores (λ m after. Unsure m.stage why m after) without_entry w new
+Happens w event.Connect new = Calls (λ m after. after ≡ connected m.stage m) w new
+Happens w event.Miss new = Calls (λ m after. after ≡ not_connected m.stage m) w new
+Happens w (event.Put most) new = Puts w most new
+Happens w (event.Break most fewer why) new = Breaks w most fewer why new
+Happens w (event.Hear most) new = Hears w most new
+Happens w (event.End why) new = Calls (λ m after. Ended m.stage why m after) w new
+Happens w event.HangUp new = Calls (λ m after. after ≡ hung_up m.stage m) w new
+Happens w event.Tell new = Tells w new
+Happens w (event.OnWire e) new = GoesOnWire e w new
+Happens w event.Idle new = Idles w new
+Happens w event.Crash new = Crashes w new
 
 abbrev pub Runs : World → List Happening → World → Type 0
 Runs w [] new = new ≡ w
 Runs w (e ∷ es) new = (mid : World) × Happens w e mid × Runs mid es new
+
+-- It has come of a world that began.
+pub record HasCome (w : World) : Type 0 where
+  pub first : World
+  pub happenings : List Happening
+  pub begins : Begins first
+  pub runs : Runs first happenings w

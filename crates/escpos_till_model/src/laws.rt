@@ -13,7 +13,9 @@ ghost use Rattle.escpos_till.specs.Driver.{Ran};
 ghost use Rattle.escpos_till.specs.Machine.{MachineView};
 ghost use Rattle.escpos_till_model.specs.Around.{Around, DoesInTime, IsAround, Reaches};
 ghost use Rattle.escpos_till_model.specs.Receipts.{Among, EachIsKept, Extends, RecordedStand};
-ghost use Rattle.escpos_till_model.specs.World.{Begins, Happening, Runs, World};
+ghost use Rattle.escpos_till_model.specs.declared.event.Happening.{Happening};
+ghost use Rattle.escpos_till_model.specs.Known.{IsWorld};
+ghost use Rattle.escpos_till_model.specs.World.{Begins, Runs, World};
 
 /// In every ledger each receipt that was taken waits or is recorded, and none is both; what is recorded was taken, and none is
 /// recorded twice.
@@ -60,4 +62,13 @@ pub fn a_driven_till_is_in_the_world()
         → Ran DoesInTime m a after new → Among (note.Recorded number) new.told → Among number (recorded new.kept) }
 {
     what_is_recorded_stands();
+}
+
+// Proof only: what holds of every world holds of one that has come of a world that began.
+pub(crate) fn every_world()
+    ensures { (w after : World) (happenings : List Happening) → Begins w → Runs w happenings after → IsWorld after }
+{
+    escpos_link::laws::trust();
+    escpos_link::laws::every_line();
+    escpos_link::laws::in_turn();
 }

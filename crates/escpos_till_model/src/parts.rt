@@ -1,396 +1,629 @@
-//! What a till is made of, and what each event does to it.
+//! What a till is made of, and what each happening does to it.
 //!
-//! What holds for a till at all times is left to `till`.
+//! What holds of a till at all times is left to `till`.
 
-ghost use Rattle.std.specs.Prelude.{ℕ, ◌≡◌, length, Some, option_map, IfOk, IfErr, OnOk, ◌≤◌};
-ghost use Rattle.escpos_link.specs.Resumed.{resumed};
-ghost use Rattle.escpos_till.specs.Contents.{content_with};
-ghost use Rattle.escpos_till.specs.Entries.{taken};
-ghost use Rattle.escpos_till_model.specs.declared.event.TillEvent.TheVariants as event;
-ghost use Rattle.escpos_till_model.specs.declared.hand.Hand.{Hand};
-ghost use Rattle.escpos_till_model.specs.Due.{Gives, Notes, RefusesGiving, RefusesNoting};
-ghost use Rattle.escpos_till_model.specs.Kept.{IsTill};
-ghost use Rattle.escpos_till_model.specs.Parts.{IsDesk, dropped, entries_of};
-ghost use Rattle.escpos_till_model.specs.Steps.{After, GoesOnLine, Refuses, RefusesMark, UsesMark, is_host_call};
+ghost use Rattle.std.specs.Prelude.{ℕ, ◌≡◌, ◌≢◌, ◌↔◌, Some, None, min, length, take, IfOk, IfErr, OnOk, OnErr, IsTrue, MatchOption, option_map};
+ghost use Rattle.escpos_host.specs.Machine.{IsSound};
+ghost use Rattle.escpos_link.specs.declared.event.Event.TheVariants as line;
+ghost use Rattle.escpos_link.specs.Wire.{given_up, with_link};
+ghost use Rattle.escpos_till.specs.declared.machine.Stage.TheVariants as stage;
+ghost use Rattle.escpos_till.specs.declared.machine.Talk.{Talk};
+ghost use Rattle.escpos_till.specs.declared.machine.Then.{Then};
+ghost use Rattle.escpos_till.specs.declared.machine.TillNote.{TillNote};
+ghost use Rattle.escpos_till.specs.Machine.{Delivers, Ended, Kept, MachineView, Unsure, put};
+ghost use Rattle.escpos_till_model.specs.declared.event.Happening.TheVariants as event;
+ghost use Rattle.escpos_till_model.specs.Instead.{Instead, IsUnwanted, KeepsEntry};
+ghost use Rattle.escpos_till_model.specs.Known.{IsWorld, Linked};
+ghost use Rattle.escpos_till_model.specs.World.{Calls, FitsLine, GoesOnWire, Happens};
 
-use crate::desk::Desk;
-use crate::due::{DueReceipt, is_copy, take_due};
-use crate::event::{TillEvent, TillRefusal};
-use crate::hand::Hand;
-use escpos_link::{Event, Note, Sim};
-use escpos_receipt::ReceiptOptions;
-use escpos_till::{Failure, Ledger, LedgerError, ReceiptNumber, Text};
-use std::alloc::Global;
-use std::mem::replace;
+use crate::event::{Happening, NotPossible};
+use escpos_host::SendFault;
+use escpos_link::{Event, Wire};
+use escpos_printer::Condition;
+use escpos_till::{
+    Action, CopyText, Entry, NoMachine, ReceiptContent, StoreFault, Text, TillMachine, TillNote,
+};
+use std::alloc::{AllocError, Global};
+use std::marker::Model;
 
-/// A till: its ledger, the receipt that it has in hand, and its line.
+// A till: its machine, unless it is switched off; what its store has; the wire; and what its owner was told.
 #[derive(Drop)]
 pub struct TillParts {
-    /// The ledger.
-    pub desk: Desk,
-    /// The receipt in hand, if there is one.
-    pub hand: Option<Hand>,
-    /// The line.
-    pub line: Sim,
+    pub machine: Option<TillMachine>,
+    pub kept: Vec<Entry>,
+    pub wire: Wire,
+    pub told: Vec<TillNote>,
+}
+
+impl Model for TillParts {
+    ghost use Rattle.escpos_till_model.specs.World.{World};
+
+    ghost Value = { World };
+
+    ghost view = { λ t. record { machine = t.machine; kept = t.kept.items; wire = t.wire; told = t.told.items } };
 }
 
 impl TillParts {
-    // The till takes a receipt.
-    pub(crate) fn queue(
-        &mut self,
-        alloc: Global,
-        options: &ReceiptOptions,
-        json: &[u8],
-    ) -> Result<ReceiptNumber, TillRefusal>
-        ensures happened { OnOk result (After (event.Queue (content_with options.now json.now)) self.old self.new) }
-        ensures number { IfOk result (λ number. number ≡ length (taken (entries_of self.new))) }
-        ensures refused { IfErr result (λ why. Refuses (event.Queue (content_with options.now json.now)) why self.old self.new) }
-        ensures desk { IsDesk self.new.desk }
-        ensures width { self.new.line.printer.sheet.line_dots ≡ self.old.line.printer.sheet.line_dots }
+    // Lets something happen.
+    pub fn happen(&mut self, alloc: Global, event: Happening) -> Result<(), NotPossible>
+        requires { IsWorld self.old }
+        ensures happened { OnOk result (Happens self.old event self.new) }
+        ensures refused { IfErr result (λ why. Instead why event self.old self.new) }
     {
-        let Desk::On(ledger) = &mut self.desk else {
-            return Err(TillRefusal::SwitchedOff);
-        };
-        let queued = ledger.queue_with(alloc, options, json);
-        // Proof only: what the ledger has is in its store.
-        ledger.is_sound();
-        match queued {
-            Ok(number) => Ok(number),
-            Err(why) => Err(TillRefusal::Ledger(why)),
+        match event {
+            Happening::Start => self.start(alloc),
+            Happening::Queue(receipt) => self.queue(receipt),
+            Happening::Raise(first) => self.raise(first),
+            Happening::Deliver {
+                openings,
+                most,
+                copy,
+            } => self.deliver(openings, most, &copy),
+            Happening::Refuse => self.refuse(),
+            Happening::Keep => self.keep(alloc),
+            Happening::FailWith(why) => self.fail_with(alloc, why),
+            Happening::FailWithout(why) => self.fail_without(why),
+            Happening::Connect => self.connect(),
+            Happening::Miss => self.miss(),
+            Happening::Put(most) => self.put(alloc, most),
+            Happening::Break { most, fewer, why } => self.break_off(alloc, most, fewer, why),
+            Happening::Hear(most) => self.hear(most),
+            Happening::End(why) => self.end(why),
+            Happening::HangUp => self.hang_up(),
+            Happening::Tell => self.tell(),
+            Happening::OnWire(event) => self.on_wire(event),
+            Happening::Idle => self.idle(),
+            Happening::Crash => {
+                self.crash();
+                Ok(())
+            }
         }
     }
 
-    // The till raises the next mark number.
-    pub(crate) fn raise(&mut self, first: u32) -> Result<(), TillRefusal>
-        ensures happened { OnOk result (After (event.Raise first) self.old self.new) }
-        ensures refused { IfErr result (λ why. Refuses (event.Raise first) why self.old self.new) }
-        ensures desk { IsDesk self.new.desk }
-        ensures width { self.new.line.printer.sheet.line_dots ≡ self.old.line.printer.sheet.line_dots }
+    fn start(&mut self, alloc: Global) -> Result<(), NotPossible>
+        requires { IsWorld self.old }
+        ensures happened { OnOk result (Happens self.old event.Start self.new) }
+        ensures refused { IfErr result (λ why. Instead why event.Start self.old self.new) }
     {
-        let Desk::On(ledger) = &mut self.desk else {
-            return Err(TillRefusal::SwitchedOff);
-        };
-        let raised = ledger.raise(first);
-        // Proof only: what the ledger has is in its store.
-        ledger.is_sound();
-        match raised {
-            Ok(()) => Ok(()),
-            Err(why) => Err(TillRefusal::Ledger(why)),
+        if self.machine.is_some() {
+            return Err(NotPossible::SwitchedOn);
+        }
+        match TillMachine::open(alloc, &self.kept) {
+            Ok(machine) => {
+                // Proof only: its host is sound.
+                machine.is_sound();
+                self.machine = Some(machine);
+                Ok(())
+            }
+            Err(NoMachine::Memory) => Err(NotPossible::Memory),
+            Err(NoMachine::Damaged) => unreachable!(),
         }
     }
 
-    // The till takes the first receipt that waits in hand.
-    pub(crate) fn take_in_hand(
-        &mut self,
-        alloc: Global,
-        openings: u32,
-        copy: Option<&[u8]>,
-    ) -> Result<ReceiptNumber, TillRefusal>
-        requires { IsTill self.old }
-        ensures happened { OnOk result (After (event.TakeInHand openings (option_map (λ t. t.now) copy.entry)) self.old self.new) }
-        ensures number { IfOk result (λ number. (hand : Hand) × (self.new.hand ≡ Some hand) × (number ≡ hand.number)) }
-        ensures refused { IfErr result (λ why. Refuses (event.TakeInHand openings (option_map (λ t. t.now) copy.entry)) why self.old self.new) }
-        ensures desk { IsDesk self.new.desk }
-        ensures width { self.new.line.printer.sheet.line_dots ≡ self.old.line.printer.sheet.line_dots }
+    fn queue(&mut self, receipt: ReceiptContent) -> Result<(), NotPossible>
+        ensures happened { OnOk result (Happens self.old (event.Queue receipt) self.new) }
+        ensures refused { IfErr result (λ why. Instead why (event.Queue receipt) self.old self.new) }
     {
-        if self.hand.is_some() {
-            return Err(TillRefusal::InHand);
-        }
-        if !is_copy(copy) {
-            return Err(TillRefusal::NotCopyText);
-        }
-        let DueReceipt {
-            number,
-            receipt,
-            first,
-            limit,
-            count,
-        } = match take_due(&mut self.desk, alloc, openings, copy) {
-            Ok(due) => due,
-            Err(why) => return Err(why),
+        let Some(machine) = &mut self.machine else {
+            return Err(NotPossible::SwitchedOff);
         };
-        resume(&mut self.line, first, count);
-        self.hand = Some(Hand {
-            number,
-            receipt: Some(receipt),
-            limit,
-        });
-        Ok(number)
-    }
-
-    // The same, with the text for the line of a copy as an event has it.
-    fn take_with(
-        &mut self,
-        alloc: Global,
-        openings: u32,
-        copy: &Option<Text>,
-    ) -> Result<(), TillRefusal>
-        requires { IsTill self.old }
-        ensures happened { OnOk result (After (event.TakeInHand openings copy.now) self.old self.new) }
-        ensures refused { IfErr result (λ why. Refuses (event.TakeInHand openings copy.now) why self.old self.new) }
-        ensures width { self.new.line.printer.sheet.line_dots ≡ self.old.line.printer.sheet.line_dots }
-    {
-        let taken = match copy {
-            None => self.take_in_hand(alloc, openings, None),
-            Some(text) => self.take_in_hand(alloc, openings, Some(text.bytes())),
-        };
-        match taken {
-            Ok(_) => Ok(()),
-            Err(why) => Err(why),
+        if let Err((why, _receipt)) = machine.queue(receipt) {
+            // Proof only: its host is sound.
+            machine.is_sound();
+            return Err(NotPossible::Machine(why));
         }
-    }
-
-    // The host opens a link, or puts one more opening mark out, with a reserved mark number.
-    pub(crate) fn use_mark(&mut self, event: Event) -> Result<(), TillRefusal>
-        ensures happened { OnOk result ((hand : Hand) × UsesMark event self.old hand hand self.new) }
-        ensures refused { IfErr result (λ why. RefusesMark event why self.old self.new) }
-        ensures width { self.new.line.printer.sheet.line_dots ≡ self.old.line.printer.sheet.line_dots }
-    {
-        let Some(hand) = &self.hand else {
-            return Err(TillRefusal::NothingInHand);
-        };
-        if self.line.host().next_mark() >= hand.limit {
-            return Err(TillRefusal::NoneReserved);
-        }
-        match self.line.step(event) {
-            Ok(_) => Ok(()),
-            Err(refused) => Err(TillRefusal::Line(refused.why)),
-        }
-    }
-
-    // The host is given the receipt in hand.
-    pub(crate) fn submit(&mut self) -> Result<(), TillRefusal>
-        ensures happened { OnOk result (After event.Submit self.old self.new) }
-        ensures refused { IfErr result (λ why. Refuses event.Submit why self.old self.new) }
-        ensures width { self.new.line.printer.sheet.line_dots ≡ self.old.line.printer.sheet.line_dots }
-    {
-        let Some(hand) = &mut self.hand else {
-            return Err(TillRefusal::NothingInHand);
-        };
-        give(hand, &mut self.line)
-    }
-
-    // The till notes that the receipt in hand is recorded.
-    pub(crate) fn record(&mut self) -> Result<ReceiptNumber, TillRefusal>
-        ensures happened { OnOk result (After event.Record self.old self.new) }
-        ensures number { IfOk result (λ number. (hand : Hand) × (self.old.hand ≡ Some hand) × (number ≡ hand.number)) }
-        ensures refused { IfErr result (λ why. Refuses event.Record why self.old self.new) }
-        ensures desk { IsDesk self.new.desk }
-        ensures width { self.new.line.printer.sheet.line_dots ≡ self.old.line.printer.sheet.line_dots }
-    {
-        // Proof only: what the ledger has is in its store.
-        self.desk.is_sound();
-        let Some(hand) = &self.hand else {
-            return Err(TillRefusal::NothingInHand);
-        };
-        let number = hand.number;
-        let records = self.line.records().len();
-        let noted = match note_recorded(&mut self.desk, number, records) {
-            Ok(noted) => noted,
-            Err(why) => return Err(why),
-        };
-        self.hand = None;
-        hang_up(&mut self.line);
-        match noted {
-            Ok(()) => Ok(number),
-            Err(why) => Err(TillRefusal::Ledger(why)),
-        }
-    }
-
-    // The till gives the receipt in hand up.
-    pub(crate) fn give_up(&mut self) -> Result<(), TillRefusal>
-        ensures happened { OnOk result (After event.GiveUp self.old self.new) }
-        ensures refused { IfErr result (λ why. Refuses event.GiveUp why self.old self.new) }
-        ensures width { self.new.line.printer.sheet.line_dots ≡ self.old.line.printer.sheet.line_dots }
-    {
-        if self.hand.is_none() {
-            return Err(TillRefusal::NothingInHand);
-        }
-        self.hand = None;
-        hang_up(&mut self.line);
+        // Proof only: its host is sound.
+        machine.is_sound();
         Ok(())
     }
 
-    // The till is switched off.
-    pub(crate) fn crash(&mut self, alloc: Global)
-        ensures crashed { After event.Crash self.old self.new }
-        ensures width { self.new.line.printer.sheet.line_dots ≡ self.old.line.printer.sheet.line_dots }
+    fn raise(&mut self, first: u32) -> Result<(), NotPossible>
+        ensures happened { OnOk result (Happens self.old (event.Raise first) self.new) }
+        ensures refused { IfErr result (λ why. Instead why (event.Raise first) self.old self.new) }
     {
-        let desk = replace(&mut self.desk, Desk::empty(alloc));
-        self.desk = Desk::Off(desk.into_store(alloc, Failure::Never));
-        self.hand = None;
-        hang_up(&mut self.line);
+        let Some(machine) = &mut self.machine else {
+            return Err(NotPossible::SwitchedOff);
+        };
+        if let Err(why) = machine.raise(first) {
+            // Proof only: its host is sound.
+            machine.is_sound();
+            return Err(NotPossible::Machine(why));
+        }
+        // Proof only: its host is sound.
+        machine.is_sound();
+        Ok(())
     }
 
-    // The till is switched on.
-    pub(crate) fn start(&mut self, alloc: Global, failure: Failure) -> Result<(), TillRefusal>
-        ensures happened { OnOk result (After (event.Start failure) self.old self.new) }
-        ensures refused { IfErr result (λ why. Refuses (event.Start failure) why self.old self.new) }
-        ensures width { self.new.line.printer.sheet.line_dots ≡ self.old.line.printer.sheet.line_dots }
+    fn deliver(&mut self, openings: u32, most: u32, copy: &Option<Text>) -> Result<(), NotPossible>
+        ensures happened { OnOk result (Happens self.old (event.Deliver openings most copy.now) self.new) }
+        ensures refused { IfErr result (λ why. Instead why (event.Deliver openings most copy.now) self.old self.new) }
     {
-        let Desk::Off(_) = &self.desk else {
-            return Err(TillRefusal::SwitchedOn);
+        match copy {
+            None => self.deliver_as(openings, most, None),
+            Some(text) => match CopyText::new(text.bytes()) {
+                Some(text) => self.deliver_as(openings, most, Some(&text)),
+                None => Err(NotPossible::NotCopyText),
+            },
+        }
+    }
+
+    fn deliver_as(
+        &mut self,
+        openings: u32,
+        most: u32,
+        copy: Option<&CopyText<'_>>,
+    ) -> Result<(), NotPossible>
+        ensures happened { OnOk result (Calls (λ m after. Delivers m openings most (option_map (λ t. t.now) copy.entry) after × FitsLine after.stage) self.old self.new) }
+        ensures refused { IfErr result (λ why. Instead why (event.Deliver openings most (option_map (λ t. t.now) copy.entry)) self.old self.new) }
+    {
+        // Proof only: a receipt fits the line.
+        escpos_link::laws::fitting();
+        let Some(machine) = &mut self.machine else {
+            return Err(NotPossible::SwitchedOff);
         };
-        let desk = replace(&mut self.desk, Desk::empty(alloc));
-        match Ledger::open(alloc, desk.into_store(alloc, failure)) {
-            Ok(ledger) => {
-                // Proof only: what the ledger has is in its store.
-                ledger.is_sound();
-                self.desk = Desk::On(ledger);
-                Ok(())
-            }
-            Err((why, store)) => {
-                self.desk = Desk::Off(store);
-                Err(TillRefusal::Open(why))
+        if let Err(why) = machine.deliver(openings, copy, most) {
+            // Proof only: its host is sound.
+            machine.is_sound();
+            return Err(NotPossible::Machine(why));
+        }
+        // Proof only: its host is sound, and what is to be sent is a receipt.
+        machine.is_sound();
+        Ok(())
+    }
+
+    fn refuse(&mut self) -> Result<(), NotPossible>
+        ensures happened { OnOk result (Happens self.old event.Refuse self.new) }
+        ensures refused { IfErr result (λ why. Instead why event.Refuse self.old self.new) }
+    {
+        let Some(machine) = &self.machine else {
+            return Err(NotPossible::SwitchedOff);
+        };
+        // Proof only: its host is sound.
+        machine.is_sound();
+        Ok(())
+    }
+
+    fn connect(&mut self) -> Result<(), NotPossible>
+        ensures happened { OnOk result (Happens self.old event.Connect self.new) }
+        ensures refused { IfErr result (λ why. Instead why event.Connect self.old self.new) }
+    {
+        let Some(machine) = &mut self.machine else {
+            return Err(NotPossible::SwitchedOff);
+        };
+        machine.connected(true);
+        // Proof only: its host is sound.
+        machine.is_sound();
+        Ok(())
+    }
+
+    fn miss(&mut self) -> Result<(), NotPossible>
+        ensures happened { OnOk result (Happens self.old event.Miss self.new) }
+        ensures refused { IfErr result (λ why. Instead why event.Miss self.old self.new) }
+    {
+        let Some(machine) = &mut self.machine else {
+            return Err(NotPossible::SwitchedOff);
+        };
+        machine.connected(false);
+        // Proof only: its host is sound.
+        machine.is_sound();
+        Ok(())
+    }
+
+    fn hang_up(&mut self) -> Result<(), NotPossible>
+        ensures happened { OnOk result (Happens self.old event.HangUp self.new) }
+        ensures refused { IfErr result (λ why. Instead why event.HangUp self.old self.new) }
+    {
+        let Some(machine) = &mut self.machine else {
+            return Err(NotPossible::SwitchedOff);
+        };
+        machine.hung_up();
+        // Proof only: its host is sound.
+        machine.is_sound();
+        Ok(())
+    }
+
+    fn tell(&mut self) -> Result<(), NotPossible>
+        ensures happened { OnOk result (Happens self.old event.Tell self.new) }
+        ensures refused { IfErr result (λ why. Instead why event.Tell self.old self.new) }
+    {
+        let Some(machine) = &mut self.machine else {
+            return Err(NotPossible::SwitchedOff);
+        };
+        let Some(note) = note_of(machine) else {
+            return Err(NotPossible::NotAsked);
+        };
+        if self.told.push(note).is_err() {
+            return Err(NotPossible::Memory);
+        }
+        machine.told();
+        // Proof only: its host is sound.
+        machine.is_sound();
+        Ok(())
+    }
+
+    fn keep(&mut self, alloc: Global) -> Result<(), NotPossible>
+        requires { IsWorld self.old }
+        ensures happened { OnOk result (Happens self.old event.Keep self.new) }
+        ensures refused { IfErr result (λ why. Instead why event.Keep self.old self.new) }
+    {
+        let Some(machine) = &mut self.machine else {
+            return Err(NotPossible::SwitchedOff);
+        };
+        let entry = match wanted(machine, alloc) {
+            Ok(entry) => entry,
+            Err(why) => return Err(why),
+        };
+        let is_tried = is_try(&entry);
+        if self.kept.push(entry).is_err() {
+            return Err(NotPossible::Memory);
+        }
+        if !is_tried {
+            keep(machine, &mut self.wire);
+            return Ok(());
+        }
+        match keep_try(machine, &mut self.wire) {
+            Ok(true) => Ok(()),
+            Ok(false) => Err(NotPossible::Memory),
+            Err(_) => {
+                let _ = self.kept.pop();
+                Err(NotPossible::Memory)
             }
         }
     }
 
-    // Lets an event happen.
-    pub(crate) fn happen(&mut self, alloc: Global, happening: TillEvent) -> Result<(), TillRefusal>
-        requires { IsTill self.old }
-        ensures happened { OnOk result (After happening self.old self.new) }
-        ensures refused { IfErr result (λ why. Refuses happening why self.old self.new) }
-        ensures desk { IsDesk self.new.desk }
-        ensures width { self.new.line.printer.sheet.line_dots ≡ self.old.line.printer.sheet.line_dots }
+    fn fail_with(&mut self, alloc: Global, why: StoreFault) -> Result<(), NotPossible>
+        requires { IsWorld self.old }
+        ensures happened { OnOk result (Happens self.old (event.FailWith why) self.new) }
+        ensures refused { IfErr result (λ refusal. Instead refusal (event.FailWith why) self.old self.new) }
     {
-        let result = self.happen_so(alloc, happening);
-        // Proof only: what the ledger has is in its store.
-        self.desk.is_sound();
-        result
+        let Some(machine) = &mut self.machine else {
+            return Err(NotPossible::SwitchedOff);
+        };
+        let entry = match wanted(machine, alloc) {
+            Ok(entry) => entry,
+            Err(why) => return Err(why),
+        };
+        if self.kept.push(entry).is_err() {
+            return Err(NotPossible::Memory);
+        }
+        fail(machine, &mut self.wire, why);
+        Ok(())
     }
 
-    // The same; its caller says what the store has.
-    fn happen_so(&mut self, alloc: Global, happening: TillEvent) -> Result<(), TillRefusal>
-        requires { IsTill self.old }
-        ensures happened { OnOk result (After happening self.old self.new) }
-        ensures refused { IfErr result (λ why. Refuses happening why self.old self.new) }
-        ensures width { self.new.line.printer.sheet.line_dots ≡ self.old.line.printer.sheet.line_dots }
+    fn fail_without(&mut self, why: StoreFault) -> Result<(), NotPossible>
+        requires { IsWorld self.old }
+        ensures happened { OnOk result (Happens self.old (event.FailWithout why) self.new) }
+        ensures refused { IfErr result (λ refusal. Instead refusal (event.FailWithout why) self.old self.new) }
+    {
+        let Some(machine) = &mut self.machine else {
+            return Err(NotPossible::SwitchedOff);
+        };
+        if !has_entry(machine) {
+            return Err(NotPossible::NotAsked);
+        }
+        fail(machine, &mut self.wire, why);
+        Ok(())
+    }
+
+    fn put(&mut self, alloc: Global, most: usize) -> Result<(), NotPossible>
+        requires { IsWorld self.old }
+        ensures happened { OnOk result (Happens self.old (event.Put most) self.new) }
+        ensures refused { IfErr result (λ why. Instead why (event.Put most) self.old self.new) }
+    {
+        let Some(machine) = &mut self.machine else {
+            return Err(NotPossible::SwitchedOff);
+        };
+        if !machine.talks() {
+            return Err(NotPossible::NotAsked);
+        }
+        let Ok(out) = taken_out(machine, alloc, most) else {
+            return Err(NotPossible::Memory);
+        };
+        if self.wire.put(&out).is_err() {
+            end(machine, &mut self.wire, SendFault::WriteFault);
+            return Err(NotPossible::Memory);
+        }
+        Ok(())
+    }
+
+    fn break_off(
+        &mut self,
+        alloc: Global,
+        most: usize,
+        fewer: usize,
+        why: SendFault,
+    ) -> Result<(), NotPossible>
+        requires { IsWorld self.old }
+        ensures happened { OnOk result (Happens self.old (event.Break most fewer why) self.new) }
+        ensures refused { IfErr result (λ refusal. Instead refusal (event.Break most fewer why) self.old self.new) }
+    {
+        let Some(machine) = &mut self.machine else {
+            return Err(NotPossible::SwitchedOff);
+        };
+        if !machine.talks() {
+            return Err(NotPossible::NotAsked);
+        }
+        let Ok(out) = taken_out(machine, alloc, most) else {
+            return Err(NotPossible::Memory);
+        };
+        let count = fewer.min(out.len());
+        if self.wire.put(&out[..count]).is_err() {
+            end(machine, &mut self.wire, why);
+            return Err(NotPossible::Memory);
+        }
+        end(machine, &mut self.wire, why);
+        Ok(())
+    }
+
+    fn hear(&mut self, most: usize) -> Result<(), NotPossible>
+        requires { IsWorld self.old }
+        ensures happened { OnOk result (Happens self.old (event.Hear most) self.new) }
+        ensures refused { IfErr result (λ why. Instead why (event.Hear most) self.old self.new) }
+    {
+        let Some(machine) = &mut self.machine else {
+            return Err(NotPossible::SwitchedOff);
+        };
+        if !machine.talks() {
+            return Err(NotPossible::NotAsked);
+        }
+        let consumed = machine.came(self.wire.front(most));
+        self.wire.heard(consumed);
+        // Proof only: its host is sound.
+        machine.is_sound();
+        let linked = is_linked(machine);
+        hang_up_if(&mut self.wire, !linked);
+        Ok(())
+    }
+
+    fn end(&mut self, why: SendFault) -> Result<(), NotPossible>
+        requires { IsWorld self.old }
+        ensures happened { OnOk result (Happens self.old (event.End why) self.new) }
+        ensures refused { IfErr result (λ refusal. Instead refusal (event.End why) self.old self.new) }
+    {
+        let Some(machine) = &mut self.machine else {
+            return Err(NotPossible::SwitchedOff);
+        };
+        let talks = machine.talks();
+        machine.link_ended(why);
+        // Proof only: its host is sound.
+        machine.is_sound();
+        hang_up_if(&mut self.wire, talks);
+        Ok(())
+    }
+
+    fn on_wire(&mut self, happening: Event) -> Result<(), NotPossible>
+        ensures happened { OnOk result (Happens self.old (event.OnWire happening) self.new) }
+        ensures refused { IfErr result (λ why. Instead why (event.OnWire happening) self.old self.new) }
     {
         match happening {
-            TillEvent::Queue(content) => match self.queue(
-                alloc,
-                &content.options,
-                content.bytes(),
-            ) {
-                Ok(_) => Ok(()),
-                Err(why) => Err(why),
-            },
-            TillEvent::Raise(first) => self.raise(first),
-            TillEvent::TakeInHand { openings, copy } => self.take_with(alloc, openings, &copy),
-            TillEvent::LinkUp => self.use_mark(Event::LinkUp),
-            TillEvent::Nudge => self.use_mark(Event::Nudge),
-            TillEvent::Submit => self.submit(),
-            TillEvent::Record => match self.record() {
-                Ok(_) => Ok(()),
-                Err(why) => Err(why),
-            },
-            TillEvent::GiveUp => self.give_up(),
-            TillEvent::Crash => {
-                self.crash(alloc);
-                Ok(())
-            }
-            TillEvent::Start(failure) => self.start(alloc, failure),
-            TillEvent::OnLine(event) => match self.on_line(event) {
-                Ok(_) => Ok(()),
-                Err(why) => Err(why),
-            },
+            Event::Deliver(most) => self.feed(most),
+            Event::HandOver => self.hand_over(),
+            Event::PrinterLeaves => self.printer_leaves(),
+            Event::PrinterRestart => self.restart_printer(),
+            Event::SetCondition(condition) => self.set_condition(condition),
+            _ => Err(NotPossible::NotAtPrinter),
         }
     }
 
-    // Something happens on the line.
-    pub(crate) fn on_line(&mut self, happening: Event) -> Result<Note, TillRefusal>
-        ensures happened { IfOk result (λ note. GoesOnLine happening self.old note self.new) }
-        ensures refused { IfErr result (λ why. Refuses (event.OnLine happening) why self.old self.new) }
-        ensures width { self.new.line.printer.sheet.line_dots ≡ self.old.line.printer.sheet.line_dots }
+    fn feed(&mut self, most: usize) -> Result<(), NotPossible>
+        ensures happened { OnOk result (GoesOnWire (line.Deliver most) self.old self.new) }
+        ensures refused { IfErr result (λ why. Instead why (event.OnWire (line.Deliver most)) self.old self.new) }
     {
-        if is_host_call(&happening) {
-            return Err(TillRefusal::IsHostCall);
+        if let Err(_refused) = self.wire.deliver(most) {
+            return Err(NotPossible::Memory);
         }
-        match self.line.step(happening) {
-            Ok(note) => Ok(note),
-            Err(refused) => Err(TillRefusal::Line(refused.why)),
+        Ok(())
+    }
+
+    fn hand_over(&mut self) -> Result<(), NotPossible>
+        ensures happened { OnOk result (GoesOnWire line.HandOver self.old self.new) }
+        ensures refused { IfErr result (λ why. Instead why (event.OnWire line.HandOver) self.old self.new) }
+    {
+        if let Err(_refused) = self.wire.hand_over() {
+            return Err(NotPossible::Memory);
         }
+        Ok(())
     }
-}
 
-// The host is given the receipt in hand, with a reserved number for its closing mark.
-fn give(hand: &mut Hand, line: &mut Sim) -> Result<(), TillRefusal>
-    ensures gives { OnOk result (Gives hand.old line.old hand.new line.new) }
-    ensures refused { IfErr result (λ why. RefusesGiving why hand.old line.old hand.new line.new) }
-    ensures width { line.new.printer.sheet.line_dots ≡ line.old.printer.sheet.line_dots }
-{
-    if line.host().next_mark() >= hand.limit {
-        return Err(TillRefusal::NoneReserved);
+    fn printer_leaves(&mut self) -> Result<(), NotPossible>
+        ensures happened { OnOk result (GoesOnWire line.PrinterLeaves self.old self.new) }
+        ensures refused { IfErr result (λ why. Instead why (event.OnWire line.PrinterLeaves) self.old self.new) }
+    {
+        self.wire.printer_leaves();
+        Ok(())
     }
-    let Some(receipt) = hand.receipt.take() else {
-        return Err(TillRefusal::Submitted);
-    };
-    match line.step(Event::Submit(receipt)) {
-        Ok(_) => Ok(()),
-        Err(refused) => {
-            hand.receipt = refused.receipt;
-            Err(TillRefusal::Line(refused.why))
+
+    fn restart_printer(&mut self) -> Result<(), NotPossible>
+        ensures happened { OnOk result (GoesOnWire line.PrinterRestart self.old self.new) }
+        ensures refused { IfErr result (λ why. Instead why (event.OnWire line.PrinterRestart) self.old self.new) }
+    {
+        self.wire.restart_printer();
+        Ok(())
+    }
+
+    fn set_condition(&mut self, condition: Condition) -> Result<(), NotPossible>
+        ensures happened { OnOk result (GoesOnWire (line.SetCondition condition) self.old self.new) }
+        ensures refused { IfErr result (λ why. Instead why (event.OnWire (line.SetCondition condition)) self.old self.new) }
+    {
+        self.wire.set_condition(condition);
+        Ok(())
+    }
+
+    fn idle(&mut self) -> Result<(), NotPossible>
+        requires { IsWorld self.old }
+        ensures happened { OnOk result (Happens self.old event.Idle self.new) }
+        ensures refused { IfErr result (λ why. Instead why event.Idle self.old self.new) }
+    {
+        if self.has_link() {
+            return Err(NotPossible::Linked);
         }
+        if self.wire.link_up().is_err() {
+            return Err(NotPossible::Memory);
+        }
+        self.wire.hang_up();
+        Ok(())
+    }
+
+    fn crash(&mut self)
+        requires { IsWorld self.old }
+        ensures crashed { Happens self.old event.Crash self.new }
+    {
+        let linked = self.has_link();
+        self.machine = None;
+        hang_up_if(&mut self.wire, linked);
+    }
+
+    // Whether there is a link.
+    fn has_link(&self) -> bool
+        ensures linked { IsTrue result → (m : MachineView) × (self.now.machine ≡ Some m) × Linked m.stage }
+        ensures none { ¬ IsTrue result → (m : MachineView) → self.now.machine ≡ Some m → Linked m.stage → ⊥ }
+    {
+        let Some(machine) = &self.machine else {
+            return false;
+        };
+        is_linked(machine)
     }
 }
 
-// The ledger notes that the receipt with this number is recorded, if the host has more records than the ledger; it has so
-// many.
-fn note_recorded(
-    desk: &mut Desk,
-    number: ReceiptNumber,
-    records: usize,
-) -> Result<Result<(), LedgerError>, TillRefusal>
-    ensures notes { IfOk result (λ noted. Notes number records desk.old noted desk.new) }
-    ensures refused { IfErr result (λ why. RefusesNoting why records desk.old × (desk.new ≡ desk.old)) }
-    ensures desk { IsDesk desk.new }
+// The entry that the machine asks for.
+fn wanted(machine: &TillMachine, alloc: Global) -> Result<Entry, NotPossible>
+    ensures entry { IfOk result (λ entry. (next : Then) × (machine.now.stage ≡ stage.Keeping entry next)) }
+    ensures refused { IfErr result (λ why. IsUnwanted why machine.now.stage) }
 {
-    let Desk::On(ledger) = desk else {
-        return Err(TillRefusal::SwitchedOff);
+    let Action::Append(entry) = machine.asks() else {
+        return Err(NotPossible::NotAsked);
     };
-    // Proof only: what the ledger has is in its store.
-    ledger.is_sound();
-    let count = match ledger.record_count() {
-        Ok(count) => count,
-        Err(why) => return Err(TillRefusal::Ledger(why)),
+    match entry.copy(alloc) {
+        Ok(entry) => Ok(entry),
+        Err(_) => Err(NotPossible::Memory),
+    }
+}
+
+// Whether the entry is a try.
+fn is_try(entry: &Entry) -> bool
+    ensures tried { IsTrue result → (number : ℕ) × (limit : ℕ) × (entry.now ≡ Entry.Tried number limit) }
+    ensures other { ¬ IsTrue result → (number limit : ℕ) → entry.now ≢ Entry.Tried number limit }
+{
+    matches!(entry, Entry::Tried { .. })
+}
+
+// Whether the machine asks for an entry to be kept.
+fn has_entry(machine: &TillMachine) -> bool
+    ensures { IsTrue result ↔ KeepsEntry machine.now.stage }
+{
+    matches!(machine.asks(), Action::Append(_))
+}
+
+// The note that the machine has for its owner.
+fn note_of(machine: &TillMachine) -> Option<TillNote>
+    ensures { MatchOption result ((note : TillNote) → machine.now.stage ≢ stage.Telling note) (λ note. machine.now.stage ≡ stage.Telling note) }
+{
+    match machine.asks() {
+        Action::Tell(note) => Some(note),
+        _ => None,
+    }
+}
+
+// Whether the machine is on a link.
+fn is_linked(machine: &TillMachine) -> bool
+    ensures { IsTrue result ↔ Linked machine.now.stage }
+{
+    match machine.asks() {
+        Action::Put | Action::Wait(_) => true,
+        Action::Append(entry) => matches!(entry, Entry::Recorded { .. }),
+        _ => false,
+    }
+}
+
+// An entry is kept that isn't a try: the machine's link, if it is on one, is given up.
+fn keep(machine: &mut TillMachine, wire: &mut Wire)
+    ensures kept { Kept machine.old.stage machine.old machine.new }
+    ensures sound { IsSound machine.new.host }
+    ensures linked { Linked machine.old.stage → wire.new ≡ given_up wire.old }
+    ensures no_link { (Linked machine.old.stage → ⊥) → wire.new ≡ wire.old }
+{
+    let linked = is_linked(machine);
+    machine.appended(Ok(()));
+    // Proof only: its host is sound.
+    machine.is_sound();
+    hang_up_if(wire, linked);
+}
+
+// A try is kept: there is a link, and the machine talks over it. No is answered where its host couldn't put its opening marks out: the link is
+// given up with nothing on it.
+fn keep_try(machine: &mut TillMachine, wire: &mut Wire) -> Result<bool, AllocError>
+    requires { wire.old.live ≡ None }
+    ensures kept { OnOk result (Kept machine.old.stage machine.old machine.new) }
+    ensures sound { IsSound machine.new.host }
+    ensures talks { IfOk result (λ talks. IsTrue talks → ((talk : Talk) × (machine.new.stage ≡ stage.Talking talk)) × (wire.new ≡ with_link wire.old)) }
+    ensures silent { IfOk result (λ talks. ¬ IsTrue talks → ¬ ((talk : Talk) × (machine.new.stage ≡ stage.Talking talk)) × (wire.new ≡ given_up (with_link wire.old))) }
+    ensures refused { OnErr result ((machine.new ≡ machine.old) × (wire.new ≡ wire.old)) }
+{
+    // Proof only: its host is sound.
+    machine.is_sound();
+    wire.link_up()?;
+    machine.appended(Ok(()));
+    // Proof only: its host is sound.
+    machine.is_sound();
+    let talks = machine.talks();
+    if !talks {
+        wire.hang_up();
+    }
+    Ok(talks)
+}
+
+// The store fails: the machine's link, if it is on one, is given up.
+fn fail(machine: &mut TillMachine, wire: &mut Wire, why: StoreFault)
+    ensures unsure { Unsure machine.old.stage why machine.old machine.new }
+    ensures sound { IsSound machine.new.host }
+    ensures linked { Linked machine.old.stage → wire.new ≡ given_up wire.old }
+    ensures no_link { (Linked machine.old.stage → ⊥) → wire.new ≡ wire.old }
+{
+    let linked = is_linked(machine);
+    machine.appended(Err(why));
+    // Proof only: its host is sound.
+    machine.is_sound();
+    hang_up_if(wire, linked);
+}
+
+// The link is given up, or nothing is done.
+fn hang_up_if(wire: &mut Wire, ends: bool)
+    ensures gone { IsTrue ends → wire.new ≡ given_up wire.old }
+    ensures stays { ¬ IsTrue ends → wire.new ≡ wire.old }
+{
+    if ends {
+        wire.hang_up();
+    }
+}
+
+// The link of a machine that talks has ended.
+fn end(machine: &mut TillMachine, wire: &mut Wire, why: SendFault)
+    ensures ended { Ended machine.old.stage why machine.old machine.new }
+    ensures sound { IsSound machine.new.host }
+    ensures wire { wire.new ≡ given_up wire.old }
+{
+    machine.link_ended(why);
+    // Proof only: its host is sound.
+    machine.is_sound();
+    wire.hang_up();
+}
+
+// Takes bytes out of a machine that talks, at most so many.
+fn taken_out(machine: &mut TillMachine, alloc: Global, most: usize) -> Result<Vec<u8>, NotPossible>
+    requires { (talk : Talk) × (machine.old.stage ≡ stage.Talking talk) }
+    ensures bytes { IfOk result (λ out. out.items ≡ take (min most (length machine.old.host.out)) machine.old.host.out) }
+    ensures taken { OnOk result (machine.new ≡ put machine.old.stage (min most (length machine.old.host.out)) machine.old) }
+    ensures sound { IsSound machine.new.host }
+    ensures refused { IfErr result (λ why. (why ≡ NotPossible.Memory) × (machine.new ≡ machine.old)) }
+{
+    let Ok(mut out) = vec![in alloc; 0; most] else {
+        // Proof only: its host is sound.
+        machine.is_sound();
+        return Err(NotPossible::Memory);
     };
-    if records <= count {
-        return Err(TillRefusal::NotAnswered);
-    }
-    let noted = ledger.recorded(number);
-    // Proof only: the same.
-    ledger.is_sound();
-    Ok(noted)
-}
-
-// The host goes on with this mark number, and so many of its records.
-fn resume(line: &mut Sim, first: u32, count: usize)
-    requires { line.old.host.next ≤ first }
-    ensures { line.new ≡ resumed line.old first count }
-{
-    match line.resume(first, count) {
-        Ok(()) => {}
-        Err(_) => unreachable!(),
-    }
-}
-
-// The host is off its link.
-fn hang_up(line: &mut Sim)
-    ensures { line.new ≡ dropped line.old }
-{
-    match line.step(Event::HostDrops) {
-        Ok(_) => {}
-        Err(_) => unreachable!(),
-    }
-}
-
-// Whether the event is a call of the host.
-fn is_host_call(event: &Event) -> bool
-    ensures { result ≡ is_host_call event.now }
-{
-    matches!(
-        event,
-        Event::LinkUp | Event::Nudge | Event::Submit(_) | Event::Ask(_) | Event::HostRestart(_)
-    )
+    let count = machine.take_out(&mut out);
+    // Proof only: its host is sound.
+    machine.is_sound();
+    out.truncate(count);
+    Ok(out)
 }

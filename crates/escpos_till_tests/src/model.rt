@@ -1,11 +1,15 @@
-//! The simulated till: a whole delivery by its events, and a crash between each two of them.
+//! A till in the world where everything may fail: a whole delivery, one happening after another, a crash between each two of them, a store
+//! that fails, and links that end.
 
-use crate::support::model::{DELIVERY, Plain, call, event_of, stand, till_at_last};
+use crate::support::model::{
+    DELIVERY, Plain, TAKEN, all_happen, happening, happens, stand, till_at_last, was_told,
+};
+use crate::support::tills::number;
+use escpos_host::SendFault;
 use escpos_io::MemoryOut;
-use escpos_link::Event;
 use escpos_paper::write_items;
-use escpos_till::{Failure, ReceiptState};
-use escpos_till_model::{Desk, Till, TillEvent, TillRefusal};
+use escpos_till::{ReceiptState, StoreFault, TillNote, TillRefusal};
+use escpos_till_model::{Happening, NotPossible, Till};
 use std::alloc::Global;
 use std::process::Abort;
 
@@ -23,84 +27,82 @@ fn prints(rt: &impl Abort, till: &Till, text: &[u8]) {
     assert!(rt; output.written() == text);
 }
 
-// The till is switched on, S is taken and delivered, and that is noted.
+// S is taken and delivered.
 fn whole(at: usize) -> Plain {
-    match at {
-        0 => Plain::Start,
-        1 => Plain::Queue,
-        _ => match DELIVERY.get(at.saturating_sub(2)) {
+    match TAKEN.get(at) {
+        Some(plain) => *plain,
+        None => match DELIVERY.get(at.saturating_sub(4)) {
             Some(plain) => *plain,
-            None => Plain::Record,
+            None => Plain::Crash,
         },
     }
 }
 
-const WHOLE: usize = 16;
+const WHOLE: usize = 18;
 
-// All of that, as events.
-fn events_of(rt: &impl Abort, alloc: Global) -> Vec<TillEvent> {
+fn events_of(rt: &impl Abort, alloc: Global) -> Vec<Happening> {
     let mut events = Vec::new(alloc);
     for at in 0..WHOLE {
-        let _ = events.push(event_of(rt, alloc, whole(at)));
+        let _ = events.push(happening(rt, alloc, whole(at)));
     }
     events
 }
 
-fn run(till: &mut Till, events: Vec<TillEvent>) {
+fn run(till: &mut Till, events: Vec<Happening>) {
     till.run(events);
 }
 
 #[test]
-fn delivered_by_events(rt: HostRuntime) {
+fn delivered_as_a_list(rt: HostRuntime) {
     let mut till = till_at_last(&rt, rt.alloc());
     run(&mut till, events_of(&rt, rt.alloc()));
     stand(&rt, &till, &RECORDED);
     prints(&rt, &till, ONCE);
+    assert!(&rt;
+        till.told()
+            == [
+                TillNote::Queued(number(&rt, 1)),
+                TillNote::Recorded(number(&rt, 1))
+            ]
+            .as_slice()
+    );
+    assert!(&rt; till.entries().len() == 3);
 }
 
 // Whether the first receipt is recorded; None if there is none.
 fn is_recorded(till: &Till) -> Option<bool> {
-    match till.desk() {
-        Desk::On(ledger) => match ledger.states() {
-            Ok([]) => None,
-            Ok(states) => Some(states == RECORDED.as_slice()),
-            Err(_) => None,
+    match till.machine() {
+        Some(machine) => match machine.states() {
+            [] => None,
+            states => Some(states == RECORDED.as_slice()),
         },
-        Desk::Off(_) => None,
+        None => None,
     }
 }
 
-fn makes(rt: &impl Abort, till: &mut Till, plain: Plain) {
-    assert!(rt; call(till, plain) == Ok(()));
-}
-
-// The till is switched off after so many calls, and then on; so is the printer. No mark is used twice: every call that follows
-// succeeds.
-fn is_cut_after(rt: &impl Abort, till: &mut Till, count: usize) {
-    for at in 0..count {
-        makes(rt, till, whole(at));
-    }
-    till.crash();
-    assert!(rt; till.hand().is_none());
-    assert!(rt; till.start(Failure::Never) == Ok(()));
-    assert!(rt; till.on_line(Event::PrinterRestart).is_ok());
-}
-
-// It goes on with what isn't done.
-fn goes_on(rt: &impl Abort, till: &mut Till) {
+// The till is switched off and on, and so is the printer; then it goes on with what isn't done.
+fn goes_on(rt: &impl Abort, alloc: Global, till: &mut Till) {
+    all_happen(
+        rt,
+        alloc,
+        till,
+        &[Plain::Crash, Plain::Start, Plain::Restart],
+    );
     if is_recorded(till).is_none() {
-        makes(rt, till, Plain::Queue);
+        all_happen(rt, alloc, till, &TAKEN[1..]);
     }
     if is_recorded(till) == Some(false) {
-        for at in 2..WHOLE {
-            makes(rt, till, whole(at));
-        }
+        all_happen(rt, alloc, till, &DELIVERY);
+        was_told(rt, till, TillNote::Recorded(number(rt, 1)));
     }
-    assert!(rt; call(till, Plain::Take) == Err(TillRefusal::NothingWaits));
+    assert!(rt;
+        happens(rt, alloc, till, Plain::Deliver)
+            == Err(NotPossible::Machine(TillRefusal::NothingWaits))
+    );
     stand(rt, till, &RECORDED);
 }
 
-// The paper after a crash that came after so many calls: S is printed again where the printer had it, and it wasn't noted.
+// The paper after a crash that came after so many happenings: S is printed again where the printer had it, and that wasn't kept.
 fn paper_of(count: usize) -> &'static [u8] {
     match count {
         13..=15 => TWICE,
@@ -108,16 +110,143 @@ fn paper_of(count: usize) -> &'static [u8] {
     }
 }
 
-fn is_delivered_over_a_crash(rt: &impl Abort, till: &mut Till, count: usize) {
-    is_cut_after(rt, till, count);
-    goes_on(rt, till);
-    prints(rt, till, paper_of(count));
-}
-
 #[test]
 fn crashes(rt: HostRuntime) {
     for count in 0..=WHOLE {
         let mut till = till_at_last(&rt, rt.alloc());
-        is_delivered_over_a_crash(&rt, &mut till, count);
+        for at in 0..count {
+            all_happen(&rt, rt.alloc(), &mut till, &[whole(at)]);
+        }
+        goes_on(&rt, rt.alloc(), &mut till);
+        prints(&rt, &till, paper_of(count));
     }
+}
+
+// So many happenings come, and then these. The owner is told this last.
+fn ends_so(
+    rt: &impl Abort,
+    alloc: Global,
+    till: &mut Till,
+    count: usize,
+    others: &[Plain],
+    note: TillNote,
+) {
+    for at in 0..count {
+        all_happen(rt, alloc, till, &[whole(at)]);
+    }
+    all_happen(rt, alloc, till, others);
+    was_told(rt, till, note);
+    goes_on(rt, alloc, till);
+}
+
+// The store fails as the receipt is to be recorded, with the entry or without it.
+#[test]
+fn store_fails(rt: HostRuntime) {
+    let failed = TillNote::NotKept(StoreFault::Failed);
+    let mut till = till_at_last(&rt, rt.alloc());
+    ends_so(
+        &rt,
+        rt.alloc(),
+        &mut till,
+        15,
+        &[Plain::FailWith, Plain::HangUp, Plain::Tell],
+        failed,
+    );
+    prints(&rt, &till, ONCE);
+    let mut till = till_at_last(&rt, rt.alloc());
+    ends_so(
+        &rt,
+        rt.alloc(),
+        &mut till,
+        15,
+        &[Plain::FailWithout, Plain::HangUp, Plain::Tell],
+        failed,
+    );
+    prints(&rt, &till, TWICE);
+}
+
+// There is no link; the link ends before the answer; it ends as the receipt is put.
+#[test]
+fn links_end(rt: HostRuntime) {
+    let first = number(&rt, 1);
+    let mut till = till_at_last(&rt, rt.alloc());
+    ends_so(
+        &rt,
+        rt.alloc(),
+        &mut till,
+        5,
+        &[Plain::Idle, Plain::Miss, Plain::Tell],
+        TillNote::NoLink(first),
+    );
+    prints(&rt, &till, ONCE);
+    let ended = TillNote::Waiting {
+        number: first,
+        why: SendFault::Ended,
+    };
+    let mut till = till_at_last(&rt, rt.alloc());
+    ends_so(
+        &rt,
+        rt.alloc(),
+        &mut till,
+        13,
+        &[Plain::End, Plain::HangUp, Plain::Tell],
+        ended,
+    );
+    prints(&rt, &till, TWICE);
+    let broken = TillNote::Waiting {
+        number: first,
+        why: SendFault::WriteFault,
+    };
+    let mut till = till_at_last(&rt, rt.alloc());
+    ends_so(
+        &rt,
+        rt.alloc(),
+        &mut till,
+        11,
+        &[
+            Plain::Break,
+            Plain::HangUp,
+            Plain::Tell,
+            Plain::Feed,
+            Plain::Leave,
+        ],
+        broken,
+    );
+    prints(&rt, &till, ONCE);
+}
+
+fn is_refused(rt: &impl Abort, alloc: Global, till: &mut Till, plain: Plain, why: NotPossible) {
+    assert!(rt; happens(rt, alloc, till, plain) == Err(why));
+}
+
+#[test]
+fn not_possible(rt: HostRuntime) {
+    let alloc = rt.alloc();
+    let mut till = till_at_last(&rt, alloc);
+    is_refused(
+        &rt,
+        alloc,
+        &mut till,
+        Plain::Raise,
+        NotPossible::SwitchedOff,
+    );
+    all_happen(&rt, alloc, &mut till, &[Plain::Start, Plain::Raise]);
+    is_refused(&rt, alloc, &mut till, Plain::Start, NotPossible::SwitchedOn);
+    is_refused(&rt, alloc, &mut till, Plain::Hear, NotPossible::NotAsked);
+    is_refused(
+        &rt,
+        alloc,
+        &mut till,
+        Plain::Raise,
+        NotPossible::Machine(TillRefusal::Busy),
+    );
+    all_happen(
+        &rt,
+        alloc,
+        &mut till,
+        &[Plain::Refuse, Plain::Close, Plain::Keep, Plain::Tell],
+    );
+    all_happen(&rt, alloc, &mut till, &TAKEN[1..]);
+    all_happen(&rt, alloc, &mut till, &DELIVERY[..3]);
+    is_refused(&rt, alloc, &mut till, Plain::Idle, NotPossible::Linked);
 }

@@ -1,12 +1,13 @@
-//! What happens to a simulated till, by its calls or by its events.
+//! What happens to a till in the world where everything may fail.
 
 use escpos_command::LineWidth;
-use escpos_host::JsonError;
-use escpos_link::{Event, Refusal};
+use escpos_host::SendFault;
+use escpos_link::Event;
 use escpos_printer::Condition;
+use escpos_receipt::ReceiptOptions;
 use escpos_test_receipts::S;
-use escpos_till::{Content, Failure, LedgerError, OpenError, ReceiptState, StoreFault};
-use escpos_till_model::{Desk, Till, TillEvent, TillRefusal};
+use escpos_till::{ReceiptContent, ReceiptState, StoreFault, TillNote};
+use escpos_till_model::{Happening, NotPossible, Till};
 use std::alloc::Global;
 use std::process::Abort;
 
@@ -17,114 +18,139 @@ pub const ONLINE: Condition = Condition {
     paper_end: false,
 };
 
-// What happens, with S for a receipt, two opening marks, and 5 as the number that is raised to.
+// What happens, with S for a receipt, one opening mark, and 5 as the number that is raised to.
 #[derive(Clone, Copy, PartialEq)]
 pub enum Plain {
     Start,
     Queue,
     Raise,
-    Take,
-    LinkUp,
-    Nudge,
-    Submit,
-    Record,
-    GiveUp,
-    Move,
     Deliver,
+    Refuse,
+    Keep,
+    FailWith,
+    FailWithout,
+    Connect,
+    Miss,
+    Put,
+    Break,
+    Hear,
+    End,
+    HangUp,
+    Tell,
+    Feed,
     HandOver,
-    Answer,
+    Leave,
+    Restart,
+    Close,
+    Idle,
+    Crash,
 }
 
-// S is delivered: both opening marks are answered, and then the closing mark.
-pub const DELIVERY: [Plain; 13] = [
-    Plain::Take,
-    Plain::LinkUp,
-    Plain::Nudge,
-    Plain::Move,
+// The till is switched on, and S is taken.
+pub const TAKEN: [Plain; 4] = [Plain::Start, Plain::Queue, Plain::Keep, Plain::Tell];
+
+// S is delivered: the opening mark is answered, and then the closing mark.
+pub const DELIVERY: [Plain; 14] = [
     Plain::Deliver,
+    Plain::Connect,
+    Plain::Keep,
+    Plain::Put,
+    Plain::Feed,
     Plain::HandOver,
+    Plain::Hear,
+    Plain::Put,
+    Plain::Feed,
     Plain::HandOver,
-    Plain::Answer,
-    Plain::Submit,
-    Plain::Move,
-    Plain::Deliver,
-    Plain::HandOver,
-    Plain::Answer,
+    Plain::Hear,
+    Plain::Keep,
+    Plain::HangUp,
+    Plain::Tell,
 ];
 
-// What happens on the line.
-fn on_line(plain: Plain) -> Event {
+fn content(rt: &impl Abort, alloc: Global) -> ReceiptContent {
+    for _ in 0..8 {
+        if let Ok(text) = S.0.to_vec(alloc) {
+            if let Ok(content) = ReceiptContent::read(alloc, &ReceiptOptions::usual(), text) {
+                return content;
+            }
+        }
+    }
+    panic!(rt; "no content")
+}
+
+// What happens at the printer's end.
+fn on_wire(plain: Plain) -> Event {
     match plain {
-        Plain::Move => Event::Move(99),
-        Plain::Deliver => Event::Deliver(99),
+        Plain::Feed => Event::Deliver(99),
         Plain::HandOver => Event::HandOver,
-        _ => Event::Answer(14),
+        Plain::Leave => Event::PrinterLeaves,
+        Plain::Restart => Event::PrinterRestart,
+        _ => Event::SetCondition(ONLINE),
     }
 }
 
-fn without_value<T: Drop>(made: Result<T, TillRefusal>) -> Result<(), TillRefusal> {
-    match made {
-        Ok(_) => Ok(()),
-        Err(why) => Err(why),
-    }
-}
-
-// Makes the call. It says nothing of what comes of it, so that its callers carry none of the contract.
-pub fn call(till: &mut Till, plain: Plain) -> Result<(), TillRefusal> {
+// What happens to the machine, but for its calls.
+fn told(plain: Plain) -> Happening {
     match plain {
-        Plain::Start => till.start(Failure::Never),
-        Plain::Queue => without_value(till.queue(S.0)),
-        Plain::Raise => till.raise(5),
-        Plain::Take => without_value(till.take_in_hand(2, None)),
-        Plain::LinkUp => till.link_up(),
-        Plain::Nudge => till.nudge(),
-        Plain::Submit => till.submit(),
-        Plain::Record => without_value(till.record()),
-        Plain::GiveUp => till.give_up(),
-        _ => without_value(till.on_line(on_line(plain))),
+        Plain::Connect => Happening::Connect,
+        Plain::Miss => Happening::Miss,
+        Plain::Put => Happening::Put(99),
+        Plain::Break => Happening::Break {
+            most: 99,
+            fewer: 3,
+            why: SendFault::WriteFault,
+        },
+        Plain::Hear => Happening::Hear(99),
+        Plain::End => Happening::End(SendFault::Ended),
+        Plain::HangUp => Happening::HangUp,
+        _ => Happening::Tell,
     }
 }
 
-fn content_at_last(rt: &impl Abort, alloc: Global) -> Content {
-    match S.0.to_vec(alloc) {
-        Ok(bytes) => Content::new(bytes),
-        Err(_) => Content::new(S.0.to_vec(alloc).expect(rt, "bytes")),
-    }
-}
-
-pub fn event_of(rt: &impl Abort, alloc: Global, plain: Plain) -> TillEvent {
+pub fn happening(rt: &impl Abort, alloc: Global, plain: Plain) -> Happening {
     match plain {
-        Plain::Start => TillEvent::Start(Failure::Never),
-        Plain::Queue => TillEvent::Queue(content_at_last(rt, alloc)),
-        Plain::Raise => TillEvent::Raise(5),
-        Plain::Take => TillEvent::TakeInHand {
-            openings: 2,
+        Plain::Start => Happening::Start,
+        Plain::Queue => Happening::Queue(content(rt, alloc)),
+        Plain::Raise => Happening::Raise(5),
+        Plain::Deliver => Happening::Deliver {
+            openings: 1,
+            most: 99,
             copy: None,
         },
-        Plain::LinkUp => TillEvent::LinkUp,
-        Plain::Nudge => TillEvent::Nudge,
-        Plain::Submit => TillEvent::Submit,
-        Plain::Record => TillEvent::Record,
-        Plain::GiveUp => TillEvent::GiveUp,
-        _ => TillEvent::OnLine(on_line(plain)),
+        Plain::Refuse => Happening::Refuse,
+        Plain::Keep => Happening::Keep,
+        Plain::FailWith => Happening::FailWith(StoreFault::Failed),
+        Plain::FailWithout => Happening::FailWithout(StoreFault::Failed),
+        Plain::Idle => Happening::Idle,
+        Plain::Crash => Happening::Crash,
+        Plain::Feed | Plain::HandOver | Plain::Leave | Plain::Restart | Plain::Close => {
+            Happening::OnWire(on_wire(plain))
+        }
+        _ => told(plain),
     }
 }
 
-fn step(till: &mut Till, event: TillEvent) -> Result<(), TillRefusal> {
-    till.step(event)
+fn happen(till: &mut Till, event: Happening) -> Result<(), NotPossible> {
+    till.happen(event)
 }
 
-// Lets the event happen.
-pub fn steps(
+// It happens, or doesn't. This says nothing of what comes of it, so that its callers carry none of the contract.
+pub fn happens(
     rt: &impl Abort,
     alloc: Global,
     till: &mut Till,
     plain: Plain,
-) -> Result<(), TillRefusal> {
-    step(till, event_of(rt, alloc, plain))
+) -> Result<(), NotPossible> {
+    happen(till, happening(rt, alloc, plain))
 }
 
-// A till that is switched off, over a line without links. Where its memory is refused, it is asked for again.
+pub fn all_happen(rt: &impl Abort, alloc: Global, till: &mut Till, all: &[Plain]) {
+    for plain in all {
+        assert!(rt; happens(rt, alloc, till, *plain) == Ok(()));
+    }
+}
+
+// A till that is switched off. Where its memory is refused, it is asked for again.
 pub fn till_at_last(rt: &impl Abort, alloc: Global) -> Till {
     match Till::new(alloc, ONLINE, LineWidth::usual()) {
         Ok(till) => till,
@@ -132,21 +158,15 @@ pub fn till_at_last(rt: &impl Abort, alloc: Global) -> Till {
     }
 }
 
-// Memory was refused, and the store hasn't failed.
-pub fn is_memory(why: TillRefusal) -> bool {
-    matches!(
-        why,
-        TillRefusal::Ledger(LedgerError::Memory)
-            | TillRefusal::NoReceipt(JsonError::Memory)
-            | TillRefusal::Open(OpenError::Memory | OpenError::Store(StoreFault::Memory))
-            | TillRefusal::Line(Refusal::Memory)
-    )
+// The till is switched on, and its receipts stand so.
+pub fn stand(rt: &impl Abort, till: &Till, states: &[ReceiptState]) {
+    match till.machine() {
+        Some(machine) => assert!(rt; machine.states() == states),
+        None => panic!(rt; "switched off"),
+    }
 }
 
-// The till's receipts stand so.
-pub fn stand(rt: &impl Abort, till: &Till, states: &[ReceiptState]) {
-    match till.desk() {
-        Desk::On(ledger) => assert!(rt; ledger.states() == Ok(states)),
-        Desk::Off(_) => panic!(rt; "switched off"),
-    }
+// The owner was told this last.
+pub fn was_told(rt: &impl Abort, till: &Till, note: TillNote) {
+    assert!(rt; till.told().last() == Some(&note));
 }

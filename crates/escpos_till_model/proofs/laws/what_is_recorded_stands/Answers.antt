@@ -1,6 +1,7 @@
 use Rattle.escpos_till.specs.declared.machine.TillNote.TheVariants as note
 use Rattle.escpos_till_model.specs.Known.{IsWorld}
-use Rattle.escpos_till_model.specs.World.{Begins, Happening, Runs, World}
+use Rattle.escpos_till_model.specs.declared.event.Happening.{Happening}
+use Rattle.escpos_till_model.specs.World.{Begins, Runs, World}
 use Rattle.std.specs.Prelude.{List}
 use Rattle.escpos_till_model.proofs.Accounts.{each_is_kept}
 use Rattle.escpos_till_model.proofs.LinesKept.{LineLaws}

@@ -1,0 +1,13 @@
+use Rattle.std.proofs.Common.{ap}
+use Rattle.escpos_till_model.proofs.TillHappens.{called_in, same_but}
+use Rattle.escpos_till_model.proofs.parts.TillParts.raise.Goals as goal
+
+pub returns-in-Err-clause-refused : goal.returns-in-Err-clause-refused
+returns-in-Err-clause-refused c =
+    let same = c.in-Err.ensures.refused.1 in
+    called_in _ c.args.self.now _ c.in-Some.machine c.raise.new.self c.self.view_is c.in-Some.is (same_but _ _ same) c.is_sound.ensures.host (ap (λ m. m.host) same)
+
+pub returns-clause-happened : goal.returns-clause-happened
+returns-clause-happened c =
+    let goes = c.in_default-raise.ensures.raises in
+    called_in _ c.args.self.now _ c.in-Some.machine c.raise.new.self c.self.view_is c.in-Some.is goes c.is_sound-2.ensures.host (ap (λ m. m.host) goes.after_is)

@@ -1,0 +1,79 @@
+-- Why something doesn't happen, and what is left then.
+use Rattle.std.specs.Prelude.{ℕ, false, ◌≡◌, ◌≢◌, ◌⊎◌, ◌<◌, Some, None, List, [], ◌∷◌}
+use Rattle.escpos_host.specs.Machine.{Down}
+use Rattle.escpos_host.specs.declared.send.SendFault.{SendFault}
+use Rattle.escpos_host.specs.declared.send.SendFault.TheVariants as fault
+use Rattle.escpos_link.specs.declared.event.Event.TheVariants as line
+use Rattle.escpos_till.specs.declared.entry.Entry.{Entry}
+use Rattle.escpos_till.specs.declared.machine.Stage.{Stage}
+use Rattle.escpos_till.specs.declared.machine.Stage.TheVariants as stage
+use Rattle.escpos_till.specs.declared.machine.Talk.{Talk}
+use Rattle.escpos_till.specs.declared.machine.Then.{Then}
+use Rattle.escpos_till.specs.declared.machine.TillNote.{TillNote}
+use Rattle.escpos_till.specs.Machine.{MachineView}
+use Rattle.escpos_till_model.specs.declared.event.Happening.{Happening}
+use Rattle.escpos_till_model.specs.declared.event.Happening.TheVariants as event
+use Rattle.escpos_till_model.specs.declared.event.NotPossible.{NotPossible}
+use Rattle.escpos_till_model.specs.declared.event.NotPossible.TheVariants as why
+use Rattle.escpos_till_model.specs.World.{Happens, IsCopy, Runs, World, is_printer_event}
+
+-- The machine asks for an entry to be kept, for bytes to be put or answers to be heard, or for its owner to be told.
+abbrev pub KeepsEntry : Stage → Type 0
+KeepsEntry s = (e : Entry) × (next : Then) × (s ≡ stage.Keeping e next)
+
+abbrev pub Talks : Stage → Type 0
+Talks s = (talk : Talk) × (s ≡ stage.Talking talk)
+
+abbrev pub HasNote : Stage → Type 0
+HasNote s = (n : TillNote) × (s ≡ stage.Telling n)
+
+-- The machine asks for it at this stage.
+abbrev pub IsFor : Happening → Stage → Type 0
+IsFor event.Keep s = KeepsEntry s
+IsFor (event.FailWith cause) s = KeepsEntry s
+IsFor (event.FailWithout cause) s = KeepsEntry s
+IsFor (event.Put most) s = Talks s
+IsFor (event.Break most fewer cause) s = Talks s
+IsFor (event.Hear most) s = Talks s
+IsFor event.Tell s = HasNote s
+IsFor e s = ⊥
+
+-- No copy of an entry that is asked for: none is, or out of memory.
+abbrev pub IsUnwanted : NotPossible → Stage → Type 0
+IsUnwanted why.NotAsked s = ¬ KeepsEntry s
+IsUnwanted why.Memory s = Unit {0}
+IsUnwanted other s = ⊥
+
+-- Out of memory leaves all as it was. But the printer may have been fed fewer bytes; a link for bytes that can't be put ends; and a host
+-- that can't put its opening marks out doesn't use the link that is there for it.
+abbrev pub LeftByMemory : Happening → World → World → Type 0
+LeftByMemory e w new =
+    (new ≡ w)
+    ⊎ (((most fewer : ℕ) × (e ≡ event.OnWire (line.Deliver most)) × (fewer < most) × Happens w (event.OnWire (line.Deliver fewer)) new)
+    ⊎ (((most : ℕ) × (e ≡ event.Put most) × Happens w (event.Break most 0 fault.WriteFault) new)
+    ⊎ (((most fewer : ℕ) × (cause : SendFault) × (e ≡ event.Break most fewer cause) × Happens w (event.Break most 0 cause) new)
+    ⊎ ((e ≡ event.Keep) × Runs w (event.Idle ∷ event.Keep ∷ []) new))))
+
+-- It would be a delivery with a text that is none for the line of a copy; it would happen at another end than the printer's.
+abbrev pub HasNoCopy : Happening → Type 0
+HasNoCopy (event.Deliver openings most copy) = ¬ IsCopy copy
+HasNoCopy e = ⊥
+
+abbrev pub IsElsewhere : Happening → Type 0
+IsElsewhere (event.OnWire e) = is_printer_event e ≡ false
+IsElsewhere e = ⊥
+
+abbrev pub Instead : NotPossible → Happening → World → World → Type 0
+Instead why.SwitchedOff e w new = (w.machine ≡ None) × (new ≡ w)
+Instead why.SwitchedOn e w new = (w.machine ≢ None) × (new ≡ w)
+Instead why.Linked e w new = ((m : MachineView) × (w.machine ≡ Some m) × (m.host.phase ≢ Down)) × (new ≡ w)
+Instead why.NotAsked e w new = ((m : MachineView) × (w.machine ≡ Some m) × ¬ IsFor e m.stage) × (new ≡ w)
+Instead why.NotCopyText e w new = HasNoCopy e × (new ≡ w)
+Instead why.NotAtPrinter e w new = IsElsewhere e × (new ≡ w)
+Instead (why.Machine cause) e w new = Happens w event.Refuse new
+Instead why.Memory e w new = LeftByMemory e w new
+
+-- They came one after another; each of them happened, or didn't.
+abbrev pub Ran : World → List Happening → World → Type 0
+Ran w [] new = new ≡ w
+Ran w (e ∷ es) new = (mid : World) × (Happens w e mid ⊎ ((cause : NotPossible) × Instead cause e w mid)) × Ran mid es new
