@@ -1,11 +1,12 @@
 //! The machine that a handle holds, and what C is told of it.
 
-ghost use Rattle.std.specs.Prelude.{◌≡◌, List, length, IfSome, IfOk, IfErr, IsTrue};
+ghost use Rattle.std.specs.Prelude.{◌≡◌, List, length, IfSome, IfOk, IfErr, IsTrue, OnOk};
 ghost use Rattle.escpos_command.specs.declared.command.Command.{Command};
 ghost use Rattle.escpos_till.specs.declared.entry.Entry.{Entry as EntryValue};
 ghost use Rattle.escpos_till.specs.Book.{IsBookOf};
 ghost use Rattle.escpos_till.specs.Contents.{content_with};
 ghost use Rattle.escpos_till.specs.Entries.{states};
+ghost use Rattle.escpos_till.specs.Machine.{Queues, RefusesAny, SameEntries};
 ghost use Rattle.escpos_c.specs.EncodeCalls.{GivesReceipt};
 ghost use Rattle.escpos_c.specs.Reasons.{IsReason};
 ghost use Rattle.escpos_c.specs.Status.{number_of_status};
@@ -22,7 +23,7 @@ use crate::till_numbers::{
 };
 use escpos_jobs::input::INPUT_LIMIT;
 use escpos_receipt::ReceiptOptions;
-use escpos_till::{Action, CopyText, Entry, ReceiptContent, StoreFault, TillMachine};
+use escpos_till::{Action, CopyText, Entry, ReceiptContent, StoreFault, TillMachine, TillRefusal};
 use std::alloc::Global;
 
 /// The machine of a till with one printer.
@@ -62,13 +63,21 @@ impl TillCore {
         ensures { QueuesText options.now json.now (number_of_status result.0) result.1 self.old self.new }
     {
         match content_of(alloc, options, json) {
-            Ok(content) => match self.machine.queue(content) {
-                Ok(()) => ended(Ok(())),
-                Err((why, _)) => ended(Err(why)),
-            },
+            Ok(content) => ended(self.take(content)),
             Err(NoReceipt::Refused(refusal)) => (CallStatus::Refused, Told::receipt(refusal)),
             Err(NoReceipt::Memory) => (CallStatus::Memory, Told::nothing()),
         }
+    }
+
+    // Takes a receipt that was read.
+    fn take(&mut self, content: ReceiptContent) -> Result<(), TillRefusal>
+        ensures taken { OnOk result (Queues self.old.machine content self.new.machine) }
+        ensures refused { IfErr result (λ why. RefusesAny self.old.machine why × SameEntries self.old.machine self.new.machine) }
+    {
+        if let Err((why, _content)) = self.machine.queue(content) {
+            return Err(why);
+        }
+        Ok(())
     }
 
     /// Raises the next mark number, as `TillMachine::raise` does.

@@ -10,3 +10,5 @@ pub mod Worlds
 mod WireEvents
 mod Driven
 pub mod TillHappens
+mod Carrying
+mod Widths

@@ -4,3 +4,4 @@ pub mod World
 pub mod Known
 pub mod Instead
 pub mod Around
+pub mod Carried

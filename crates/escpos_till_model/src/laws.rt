@@ -8,10 +8,12 @@ ghost use Rattle.escpos_link.specs.Wire.{given_up, wire_of};
 ghost use Rattle.escpos_till.specs.declared.entry.Entry.{Entry};
 ghost use Rattle.escpos_till.specs.declared.entry.Entry.TheVariants as entry;
 ghost use Rattle.escpos_till.specs.declared.machine.TillNote.TheVariants as note;
-ghost use Rattle.escpos_till.specs.Entries.{IsLedger, recorded, taken};
+ghost use Rattle.escpos_till.specs.Entries.{IsLedger, next_free, recorded, taken};
 ghost use Rattle.escpos_till.specs.Driver.{Ran};
 ghost use Rattle.escpos_till.specs.Machine.{MachineView};
 ghost use Rattle.escpos_till_model.specs.Around.{Around, DoesInTime, IsAround, Reaches};
+ghost use Rattle.std.specs.List.{AllByRecursion};
+ghost use Rattle.escpos_till_model.specs.Carried.{AreApart, Carried, Carries, HasOwnMarks};
 ghost use Rattle.escpos_till_model.specs.Receipts.{Among, EachIsKept, Extends, RecordedStand};
 ghost use Rattle.escpos_till_model.specs.declared.event.Happening.{Happening};
 ghost use Rattle.escpos_till_model.specs.Known.{IsWorld};
@@ -38,8 +40,24 @@ pub fn what_is_recorded_stands()
     ensures recorded { (w after : World) (happenings : List Happening) (number : ℕ) → Begins w → Runs w happenings after → Among (note.Recorded number) after.told
         → Among number (recorded after.kept) }
     ensures extends { (w after : World) (happenings : List Happening) → Runs w happenings after → Extends w.kept after.kept }
+    ensures width { (w after : World) (happenings : List Happening) → Begins w → Runs w happenings after
+        → after.wire.printer.sheet.line_dots ≡ w.wire.printer.sheet.line_dots }
     ensures begins_again { (w after : World) (happenings : List Happening) → Begins w → Runs w happenings after → after.machine ≡ None → Begins after }
     ensures begins { (l : LineView) (n : ℕ) → IsLine l → IsTrusted l → l.host.next ≤ n → Begins (record { machine = None; kept = entry.Raised n ∷ []; wire = given_up (wire_of l); told = [] }) }
+{
+    escpos_link::laws::trust();
+    escpos_link::laws::every_line();
+    escpos_link::laws::in_turn();
+}
+
+/// What goes out: over every list of happenings each link has mark numbers of its own, which an entry has reserved before, and the bytes
+/// that are put on it have no other; so no mark number goes out twice.
+pub fn marks_are_used_once()
+    ensures carries { (w after : World) (happenings : List Happening) → Runs w happenings after → (links : List Carried) × Carries w happenings after [] links }
+    ensures apart { (w after : World) (happenings : List Happening) (links : List Carried) → Begins w → Carries w happenings after [] links
+        → AreApart (next_free w.kept) links (next_free after.kept) }
+    ensures own { (w after : World) (happenings : List Happening) (links : List Carried) → Begins w → Carries w happenings after [] links
+        → AllByRecursion HasOwnMarks links }
 {
     escpos_link::laws::trust();
     escpos_link::laws::every_line();

@@ -6,7 +6,8 @@ use Rattle.escpos_till.specs.Machine.{MachineView}
 use Rattle.escpos_till.specs.declared.machine.TillNote.TheVariants as note
 use Rattle.escpos_till_model.specs.Around.{Around, DoesInTime, IsAround, Reaches}
 use Rattle.escpos_till_model.specs.Receipts.{Among, EachIsKept, Extends, RecordedStand}
-use Rattle.escpos_till_model.specs.World.{Begins, Happening, Runs, World}
+use Rattle.escpos_till_model.specs.declared.event.Happening.{Happening}
+use Rattle.escpos_till_model.specs.World.{Begins, Runs, World}
 use Rattle.escpos_till_model.proofs.Driven.{driven, runs_more}
 use Rattle.escpos_till_model.proofs.laws.a_driven_till_is_in_the_world.Goals as goal
 

@@ -5,6 +5,7 @@ use Rattle.escpos_till_model.specs.World.{Begins, Runs, World}
 use Rattle.std.specs.Prelude.{List}
 use Rattle.escpos_till_model.proofs.Accounts.{each_is_kept}
 use Rattle.escpos_till_model.proofs.LinesKept.{LineLaws}
+use Rattle.escpos_till_model.proofs.Widths.{same_width}
 use Rattle.escpos_till_model.proofs.Worlds.{begins_again, begun, entries_last, first_world, over_time, recorded_stand}
 use Rattle.escpos_till_model.proofs.laws.what_is_recorded_stands.Goals as goal
 
@@ -41,3 +42,8 @@ returns-clause-begins_again c = λ w after happenings begins runs off.
 
 pub returns-clause-begins : goal.returns-clause-begins
 returns-clause-begins c = first_world (record { trust = c.trust.ensures; every = c.every_line.ensures.kept; turn = c.in_turn.ensures })
+
+pub returns-clause-width : goal.returns-clause-width
+returns-clause-width c = λ w after happenings begins runs.
+    let laws : LineLaws = record { trust = c.trust.ensures; every = c.every_line.ensures.kept; turn = c.in_turn.ensures } in
+    same_width laws happenings w after (begun laws w begins) runs

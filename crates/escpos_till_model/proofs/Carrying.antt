@@ -1,0 +1,530 @@
+-- Why no mark number goes out twice, whatever happens: each link has numbers of its own, and what is put on it has no other.
+use Rattle.std.proofs.Common.{ℕ, zero, suc, ◌≡◌, ◌≢◌, ◌⊎◌, inl, inr, ◌+◌, ◌-◌, ◌<◌, ◌≤◌, min, max, Option, Some, None, List, [], ◌∷◌, ◌++◌, length, take, drop, refl, sym, ◌∙◌, ap, subst, append-nil, append_assoc, arith}
+use Rattle.std.specs.List.{AllByRecursion}
+use Rattle.std.specs.Prelude.{option_to_list, slice_index}
+use Rattle.std.proofs.lemmas.Grind.{flat_map-append}
+use Rattle.std.proofs.lemmas.List.{take-append-drop, take_min}
+use Rattle.escpos_command.specs.declared.command.Command.{Command}
+use Rattle.escpos_command.specs.declared.command.Command.TheVariants as kind
+use Rattle.escpos_command.specs.CommandTable.{row, spell}
+use Rattle.escpos_command.specs.Digits.{mark_of}
+use Rattle.escpos_command.specs.Marks.{mark_id, marks}
+use Rattle.escpos_host.specs.declared.host.HostEvent.{HostEvent}
+use Rattle.escpos_host.specs.declared.host.HostEvent.TheVariants as heard
+use Rattle.escpos_host.specs.declared.send.SendFault.{SendFault}
+use Rattle.escpos_host.specs.Heard.{HearsByte, IsHeard, with_half}
+use Rattle.escpos_host.specs.Earlier.{with_earlier}
+use Rattle.escpos_host.specs.Awaits.{dialled}
+use Rattle.escpos_host.specs.Machine.{HostView, InFlight, next_mark, submitted, taken_out}
+use Rattle.escpos_host.specs.Says.{marks_from}
+use Rattle.escpos_link.specs.Trusted.{IsFitting}
+use Rattle.escpos_link.specs.declared.event.Event.TheVariants as line
+use Rattle.escpos_till.specs.declared.entry.Entry.{Entry}
+use Rattle.escpos_till.specs.declared.entry.Entry.TheVariants as entry
+use Rattle.escpos_till.specs.declared.machine.Due.{Due}
+use Rattle.escpos_till.specs.declared.machine.Stage.{Stage}
+use Rattle.escpos_till.specs.declared.machine.Stage.TheVariants as stage
+use Rattle.escpos_till.specs.declared.machine.Talk.{Talk}
+use Rattle.escpos_till.specs.declared.machine.Then.{Then}
+use Rattle.escpos_till.specs.declared.machine.Then.TheVariants as then
+use Rattle.escpos_till.specs.declared.machine.TillNote.{TillNote}
+use Rattle.escpos_till.specs.declared.machine.TillNote.TheVariants as note
+use Rattle.escpos_till.specs.declared.store.StoreFault.{StoreFault}
+use Rattle.escpos_till.specs.Delivers.{IsNumbered, fresh, marks_taken}
+use Rattle.escpos_till.specs.Book.{IsBookOf}
+use Rattle.escpos_till.specs.Entries.{MayFollow, next_free}
+use Rattle.escpos_till.specs.Machine.{Came, Delivers, Ended, Follows, GoesOn, HearsOne, Kept, MachineView, Queues, Raises, SameEntries, Submits, Turns as Turned, Unsure, after_note, connected, hung_up, lost, not_connected, put, told}
+use Rattle.escpos_till.proofs.EntryLemmas.{next_after_queued, next_after_raised, next_after_recorded, next_after_tried}
+use Rattle.escpos_till_model.specs.declared.event.Happening.{Happening}
+use Rattle.escpos_till_model.specs.declared.event.Happening.TheVariants as event
+use Rattle.escpos_till_model.specs.Carried.{AreApart, Carried, Carries, HasOwnMarks, limit_of, link_at, link_by, link_of, links_after, out_of, with_put}
+use Rattle.escpos_till_model.specs.Known.{BookMayLag, Holds, IsMachineIn, IsToKeep, IsWorld}
+use Rattle.escpos_till_model.specs.Kept.{Hand}
+use Rattle.escpos_till_model.specs.World.{Breaks, FitsLine, Happens, Hears, Moves, Puts, Runs, Stores, World, with_entry, without_entry}
+use Rattle.escpos_till_model.proofs.LinesKept.{LineLaws, down_or_up}
+use Rattle.escpos_till_model.proofs.Worlds.{whatever}
+
+-- ## Marks
+
+higher : (first next limit : ℕ) (cs : List Command) → next ≤ limit → AllByRecursion (IsNumbered first next) cs → AllByRecursion (IsNumbered first limit) cs
+higher first next limit [] within all = tt
+higher first next limit (c ∷ cs) within all =
+    (λ id is. let (n, from, below, same) = all.0 id is in (n, from, omega (arith, below, within), same), higher first next limit cs within all.1)
+
+joined : (first next : ℕ) (some others : List Command) → AllByRecursion (IsNumbered first next) some → AllByRecursion (IsNumbered first next) others
+    → AllByRecursion (IsNumbered first next) (some ++ others)
+joined first next [] others all more = more
+joined first next (c ∷ some) others all more = (all.0, joined first next some others all.1 more)
+
+same_id : (a b : List ℕ) → kind.Mark a ≡ kind.Mark b → a ≡ b
+same_id a b e = cc
+
+numbered_mark : (first next k : ℕ) → first ≤ k → k < next → IsNumbered first next (kind.Mark (mark_of k))
+numbered_mark first next k from below id is = (k, from, below, sym (same_id (mark_of k) id is))
+
+numbered_openings : (first next count k : ℕ) → first ≤ k → k + count ≤ next → AllByRecursion (IsNumbered first next) (marks_from count k)
+numbered_openings first next zero k from below = tt
+numbered_openings first next (suc count) k from below = (numbered_mark first next k from (omega (arith, below)), numbered_openings first next count (k + 1) (omega (arith, from)) (omega (arith, below)))
+
+nothing_after : (xs ys : List (List ℕ)) → xs ++ ys ≡ [] → ys ≡ []
+nothing_after [] ys none = none
+nothing_after (x ∷ xs) ys none = absurd (let bad : x ∷ (xs ++ ys) ≡ [] = none in cc)
+
+numbered_unmarked : (first next : ℕ) (cs : List Command) → marks cs ≡ [] → AllByRecursion (IsNumbered first next) cs
+numbered_unmarked first next [] none = tt
+numbered_unmarked first next (c ∷ cs) none = (
+  λ id is. absurd (let bad : id ∷ marks cs ≡ [] = subst (λ k. option_to_list (mark_id k) ++ marks cs ≡ []) is none in cc),
+  numbered_unmarked first next cs (nothing_after (option_to_list (mark_id c)) (marks cs) none),
+)
+
+-- ## What holds of the links, whatever happens
+
+-- What the host has said on the newest link, and may still say.
+pub record IsSaying (l : Carried) (h : HostView) (receipt : Option (List Command)) : Type 0 where
+  pub said : List Command
+  pub begins : spell said ≡ l.bytes ++ h.out
+  pub numbered : AllByRecursion (IsNumbered l.first h.next) said
+  pub from : l.first ≤ h.next
+  pub within : h.next ≤ l.limit
+  pub left : (commands : List Command) → receipt ≡ Some commands → h.next < l.limit
+
+abbrev pub SaysOn : List Carried → HostView → Option (List Command) → Type 0
+SaysOn [] h receipt = ⊥
+SaysOn (l ∷ ls) h receipt = IsSaying l h receipt
+
+abbrev pub TalksOn : Stage → HostView → List Carried → Type 0
+TalksOn (stage.Talking talk) h links = SaysOn links h talk.receipt
+TalksOn s h links = Unit {0}
+
+abbrev pub MachineOn : Option MachineView → List Carried → Type 0
+MachineOn None links = Unit {0}
+MachineOn (Some m) links = TalksOn m.stage m.host links
+
+pub record AreCarried (low : ℕ) (w : World) (links : List Carried) : Type 0 where
+  pub apart : AreApart low links (next_free w.kept)
+  pub own : AllByRecursion HasOwnMarks links
+  pub talks : MachineOn w.machine links
+
+-- The machine is on no link.
+abbrev pub IsQuiet : Stage → Type 0
+IsQuiet (stage.Talking talk) = ⊥
+IsQuiet s = Unit {0}
+
+quiet_on : (s : Stage) (h : HostView) (links : List Carried) → IsQuiet s → TalksOn s h links
+quiet_on (stage.Talking talk) h links quiet = absurd quiet
+quiet_on stage.AtRest h links quiet = tt
+quiet_on (stage.Connecting due) h links quiet = tt
+quiet_on (stage.Keeping e next) h links quiet = tt
+quiet_on (stage.HangingUp n) h links quiet = tt
+quiet_on (stage.Telling n) h links quiet = tt
+quiet_on stage.Failed h links quiet = tt
+
+-- The numbers below a higher one.
+apart_more : (low high higher' : ℕ) (links : List Carried) → high ≤ higher' → AreApart low links high → AreApart low links higher'
+apart_more low high higher' [] more apart = omega (arith, more, apart)
+apart_more low high higher' (l ∷ ls) more (within, some, rest) = (omega (arith, more, within), some, rest)
+
+-- ## Calls that leave the links as they are
+
+-- The machine goes on as it was, or is quiet.
+abbrev pub SameOrQuiet : MachineView → MachineView → Type 0
+SameOrQuiet m after = (after ≡ m) ⊎ IsQuiet after.stage
+
+same_or_quiet : (m after : MachineView) (links : List Carried) → SameOrQuiet m after → TalksOn m.stage m.host links → TalksOn after.stage after.host links
+same_or_quiet m after links (inl same) talks = subst (λ k. TalksOn k.stage k.host links) (sym same) talks
+same_or_quiet m after links (inr quiet) talks = quiet_on after.stage after.host links quiet
+
+connected_so : (s : Stage) (m after : MachineView) → after ≡ connected s m → SameOrQuiet m after
+connected_so (stage.Connecting due) m after is = inr (subst (λ k. IsQuiet k.stage) (sym is) tt)
+connected_so stage.AtRest m after is = inl is
+connected_so (stage.Keeping e next) m after is = inl is
+connected_so (stage.Talking talk) m after is = inl is
+connected_so (stage.HangingUp n) m after is = inl is
+connected_so (stage.Telling n) m after is = inl is
+connected_so stage.Failed m after is = inl is
+
+missed_so : (s : Stage) (m after : MachineView) → after ≡ not_connected s m → SameOrQuiet m after
+missed_so (stage.Connecting due) m after is = inr (subst (λ k. IsQuiet k.stage) (sym is) tt)
+missed_so stage.AtRest m after is = inl is
+missed_so (stage.Keeping e next) m after is = inl is
+missed_so (stage.Talking talk) m after is = inl is
+missed_so (stage.HangingUp n) m after is = inl is
+missed_so (stage.Telling n) m after is = inl is
+missed_so stage.Failed m after is = inl is
+
+hung_so : (s : Stage) (m after : MachineView) → after ≡ hung_up s m → SameOrQuiet m after
+hung_so (stage.HangingUp n) m after is = inr (subst (λ k. IsQuiet k.stage) (sym is) tt)
+hung_so stage.AtRest m after is = inl is
+hung_so (stage.Connecting due) m after is = inl is
+hung_so (stage.Keeping e next) m after is = inl is
+hung_so (stage.Talking talk) m after is = inl is
+hung_so (stage.Telling n) m after is = inl is
+hung_so stage.Failed m after is = inl is
+
+note_quiet : (n : TillNote) → IsQuiet (after_note n)
+note_quiet (note.Queued number) = tt
+note_quiet note.Raised = tt
+note_quiet (note.Recorded number) = tt
+note_quiet (note.NoLink number) = tt
+note_quiet (note.Waiting number why) = tt
+note_quiet (note.NotKept why) = tt
+
+ended_so : (s : Stage) (why : SendFault) (m after : MachineView) → Ended s why m after → SameOrQuiet m after
+ended_so (stage.Talking talk) why m after (drops, book, is) = inr (subst IsQuiet (sym is) tt)
+ended_so stage.AtRest why m after is = inl is
+ended_so (stage.Connecting due) why m after is = inl is
+ended_so (stage.Keeping e next) why m after is = inl is
+ended_so (stage.HangingUp n) why m after is = inl is
+ended_so (stage.Telling n) why m after is = inl is
+ended_so stage.Failed why m after is = inl is
+
+lost_quiet : (next : Then) (why : StoreFault) → IsQuiet (lost next why)
+lost_quiet then.Queued why = tt
+lost_quiet then.Raised why = tt
+lost_quiet (then.Send due) why = tt
+lost_quiet (then.Recorded number) why = tt
+
+-- ## An entry more
+
+grows : (kept : List Entry) (e : Entry) → MayFollow kept e → next_free kept ≤ next_free (kept ++ e ∷ [])
+grows kept (entry.Queued content) follows = omega (arith, next_after_queued kept content)
+grows kept (entry.Tried number next) follows = omega (arith, next_after_tried kept number next, follows.1)
+grows kept (entry.Recorded number) follows = omega (arith, next_after_recorded kept number)
+grows kept (entry.Raised next) follows = omega (arith, next_after_raised kept next, follows)
+
+-- ## What goes on without a byte
+
+-- The machine goes from this to that, and keeps and puts nothing.
+moved_on : (Goes : MachineView → MachineView → Type 0) (w new : World) (notes : List TillNote) (low : ℕ) (links : List Carried) → Moves Goes w w.kept notes new
+    → ((m after : MachineView) → Goes m after → TalksOn m.stage m.host links → TalksOn after.stage after.host links) → AreCarried low w links → AreCarried low new links
+moved_on Goes w new notes low links moves on c = record {
+  apart = subst (λ k. AreApart low links (next_free k.kept)) (sym moves.is) c.apart;
+  own = c.own;
+  talks = subst (λ k. MachineOn k.machine links) (sym moves.is) (on moves.m moves.after moves.goes (subst (λ o. MachineOn o links) moves.was c.talks));
+}
+
+-- ## An entry is kept
+
+kept_by : (next : Then) (low : ℕ) (links : List Carried) (kept : List Entry) (hand : Option Hand) (h : HostView) (m after : MachineView) (e : Entry) → m.book.next ≡ next_free kept
+    → MayFollow kept e → IsToKeep kept hand h e next → Follows next m.host m.book.next after.book after.host after.stage → AreApart low links (next_free kept) → AllByRecursion HasOwnMarks links
+    → AreApart low (link_of next e (next_free kept) ++ links) (next_free (kept ++ e ∷ [])) × AllByRecursion HasOwnMarks (link_of next e (next_free kept) ++ links)
+    × TalksOn after.stage after.host (link_of next e (next_free kept) ++ links)
+kept_by then.Queued low links kept hand h m after e first may keeps (number, is, host, at) apart own =
+    (apart_more low (next_free kept) (next_free (kept ++ e ∷ [])) links (grows kept e may) apart, own, quiet_on after.stage after.host links (subst IsQuiet (sym at) tt))
+kept_by then.Raised low links kept hand h m after e first may keeps (host, at) apart own =
+    (apart_more low (next_free kept) (next_free (kept ++ e ∷ [])) links (grows kept e may) apart, own, quiet_on after.stage after.host links (subst IsQuiet (sym at) tt))
+kept_by (then.Recorded number) low links kept hand h m after e first may keeps (drops, at) apart own =
+    (apart_more low (next_free kept) (next_free (kept ++ e ∷ [])) links (grows kept e may) apart, own, quiet_on after.stage after.host links (subst IsQuiet (sym at) tt))
+kept_by (then.Send due) low links kept hand h m after e first may keeps follows apart own =
+    let openings : ℕ = max due.openings 1 in
+    let is : e ≡ entry.Tried due.number (next_free kept + marks_taken due.openings) = keeps.2 in
+    let limit : limit_of e ≡ next_free kept + marks_taken due.openings = ap limit_of is in
+    let after_it : next_free (kept ++ e ∷ []) ≡ next_free kept + marks_taken due.openings =
+    ap (λ x. next_free (kept ++ x ∷ [])) is ∙ next_after_tried kept due.number (next_free kept + marks_taken due.openings) in
+    let l : Carried = record { first = next_free kept; limit = limit_of e; bytes = [] } in (
+      (omega (arith, limit, after_it), omega (arith, limit), apart),
+      (record { said = []; unsaid = []; begins = refl; numbered = tt }, own),
+      elim follows [
+        | inl opened ↦
+            let host : after.host ≡ dialled (fresh (next_free kept)) openings = opened.0 ∙ ap (λ f. dialled (fresh f) openings) first in
+            subst (λ s. TalksOn s after.host (l ∷ links)) (sym opened.1) (subst (λ v. IsSaying l v (Some due.receipt)) (sym host) (record {
+              said = marks_from openings (next_free kept);
+              begins = refl;
+              numbered = numbered_openings (next_free kept) (next_free kept + openings) openings (next_free kept) (omega arith) (omega arith);
+              from = omega arith;
+              within = omega (arith, limit);
+              left = λ commands some. omega (arith, limit);
+            }))
+        | inr refused ↦ quiet_on after.stage after.host (l ∷ links) (subst IsQuiet (sym refused.2) tt)
+      ],
+    )
+
+kept_carried : (w new : World) (low : ℕ) (links : List Carried) → IsWorld w → AreCarried low w links → Happens w event.Keep new → AreCarried low new (links_after w event.Keep links)
+kept_carried w new low links known c stores =
+    let m : MachineView = stores.moves.m in
+    let after : MachineView = stores.moves.after in
+    let e : Entry = stores.entry in
+    let is : m.stage ≡ stage.Keeping e stores.next = stores.moves.goes.0 in
+    let here = subst (λ o. IsMachineIn o w.kept known.hand (with_earlier known.earlier known.host)) stores.moves.was known.machine in
+    let holds = subst (Holds w.kept known.hand (with_earlier known.earlier known.host)) is here.1 in
+    let book = (subst (λ s. (BookMayLag s → ⊥) → IsBookOf m.book w.kept) is here.0) (λ no. no) in
+    let kept = subst (λ s. Kept s m after) is stores.moves.goes.1 in
+    let link : link_by w.machine (next_free w.kept) ≡ link_of stores.next e (next_free w.kept) = ap (λ o. link_by o (next_free w.kept)) stores.moves.was ∙ ap (λ s. link_at s (next_free w.kept)) is in
+    let (apart, own, talks) = kept_by stores.next low links w.kept known.hand (with_earlier known.earlier known.host) m after e book.next holds.0 holds.1 kept.1 c.apart c.own in
+    subst (λ ls. AreCarried low new (ls ++ links)) (sym link) (record {
+      apart = subst (λ k. AreApart low (link_of stores.next e (next_free w.kept) ++ links) (next_free k.kept)) (sym stores.moves.is) apart;
+      own = own;
+      talks = subst (λ k. MachineOn k.machine (link_of stores.next e (next_free w.kept) ++ links)) (sym stores.moves.is) talks;
+    })
+
+-- The store fails: no link is opened for the entry.
+failed_carried : (w new : World) (low : ℕ) (links : List Carried) (why : StoreFault) (has : List Entry → Entry → List Entry) → IsWorld w → ((e : Entry) → MayFollow w.kept e → next_free w.kept ≤ next_free (has w.kept e))
+    → AreCarried low w links → Stores (λ m after. Unsure m.stage why m after) has w new → AreCarried low new links
+failed_carried w new low links why has known more c stores =
+    let m : MachineView = stores.moves.m in
+    let is : m.stage ≡ stage.Keeping stores.entry stores.next = stores.moves.goes.0 in
+    let here = subst (λ o. IsMachineIn o w.kept known.hand (with_earlier known.earlier known.host)) stores.moves.was known.machine in
+    let holds = subst (Holds w.kept known.hand (with_earlier known.earlier known.host)) is here.1 in
+    let unsure = subst (λ s. Unsure s why m stores.moves.after) is stores.moves.goes.1 in
+    record {
+      apart = subst (λ k. AreApart low links (next_free k.kept)) (sym stores.moves.is)
+          (apart_more low (next_free w.kept) (next_free (has w.kept stores.entry)) links (more stores.entry holds.0) c.apart);
+      own = c.own;
+      talks = subst (λ k. MachineOn k.machine links) (sym stores.moves.is)
+          (quiet_on stores.moves.after.stage stores.moves.after.host links (subst IsQuiet (sym unsure.2) (lost_quiet stores.next why)));
+    }
+
+-- ## Bytes are put
+
+own_of : (l : Carried) (h : HostView) (receipt : Option (List Command)) → IsSaying l h receipt → HasOwnMarks l
+own_of l h receipt says = record { said = says.said; unsaid = h.out; begins = says.begins; numbered = higher l.first h.next l.limit says.said says.within says.numbered }
+
+put_says : (l : Carried) (h : HostView) (receipt : Option (List Command)) (most count : ℕ) → count ≡ min most (length h.out) → IsSaying l h receipt
+    → IsSaying (record { first = l.first; limit = l.limit; bytes = l.bytes ++ take most h.out }) (taken_out h count) receipt
+put_says l h receipt most count is says =
+    let same : take most h.out ≡ take count h.out = sym (take_min most h.out) ∙ ap (λ k. take k h.out) (sym is) in
+    record {
+      said = says.said;
+      begins = says.begins ∙ ap (λ k. l.bytes ++ k) (sym (take-append-drop count h.out)) ∙ sym (append_assoc l.bytes (take count h.out) (drop count h.out))
+          ∙ ap (λ k. (l.bytes ++ k) ++ drop count h.out) (sym same);
+      numbered = says.numbered;
+      from = says.from;
+      within = says.within;
+      left = says.left;
+    }
+
+-- The newest link, with these bytes more on it.
+one_put : (low high : ℕ) (links : List Carried) (h : HostView) (receipt : Option (List Command)) (most count : ℕ) → count ≡ min most (length h.out) → SaysOn links h receipt → AreApart low links high
+    → AllByRecursion HasOwnMarks links → AreApart low (with_put (take most h.out) links) high × AllByRecursion HasOwnMarks (with_put (take most h.out) links)
+    × SaysOn (with_put (take most h.out) links) (taken_out h count) receipt
+one_put low high [] h receipt most count is says apart own = absurd says
+one_put low high (l ∷ ls) h receipt most count is says apart own =
+    let more = put_says l h receipt most count is says in
+    (apart, (own_of _ (taken_out h count) receipt more, own.1), more)
+
+puts_carried : (w new : World) (low : ℕ) (links : List Carried) (most : ℕ) → AreCarried low w links → Puts w most new → AreCarried low new (links_after w (event.Put most) links)
+puts_carried w new low links most c puts =
+    let m : MachineView = puts.m in
+    let out : out_of w.machine ≡ m.host.out = ap out_of puts.was in
+    let says = subst (λ s. TalksOn s m.host links) puts.talks (subst (λ o. MachineOn o links) puts.was c.talks) in
+    let (apart, own, talks) = one_put low (next_free w.kept) links m.host puts.talk.receipt most puts.count puts.count_is says c.apart c.own in
+    subst (λ bytes. AreCarried low new (with_put (take most bytes) links)) (sym out) (record {
+      apart = subst (λ k. AreApart low (with_put (take most m.host.out) links) (next_free k.kept)) (sym puts.is) apart;
+      own = own;
+      talks = subst (λ k. MachineOn k.machine (with_put (take most m.host.out) links)) (sym puts.is)
+          (subst (λ s. TalksOn (put s puts.count m).stage (put s puts.count m).host (with_put (take most m.host.out) links)) (sym puts.talks) talks);
+    })
+
+part_put : (low high : ℕ) (links : List Carried) (h : HostView) (receipt : Option (List Command)) (most fewer : ℕ) → SaysOn links h receipt → AreApart low links high → AllByRecursion HasOwnMarks links
+    → AreApart low (with_put (take fewer (take most h.out)) links) high × AllByRecursion HasOwnMarks (with_put (take fewer (take most h.out)) links)
+part_put low high [] h receipt most fewer says apart own = absurd says
+part_put low high (l ∷ ls) h receipt most fewer says apart own =
+    let front : List ℕ = take most h.out in
+    let all : (l.bytes ++ take fewer front) ++ (drop fewer front ++ drop most h.out) ≡ l.bytes ++ h.out =
+    append_assoc l.bytes (take fewer front) (drop fewer front ++ drop most h.out) ∙ ap (λ k. l.bytes ++ k) (sym (append_assoc (take fewer front) (drop fewer front) (drop most h.out)))
+    ∙ ap (λ k. l.bytes ++ (k ++ drop most h.out)) (take-append-drop fewer front) ∙ ap (λ k. l.bytes ++ k) (take-append-drop most h.out) in (
+      apart,
+      (
+        record {
+          said = says.said;
+          unsaid = drop fewer front ++ drop most h.out;
+          begins = says.begins ∙ sym all;
+          numbered = higher l.first h.next l.limit says.said says.within says.numbered;
+        },
+        own.1,
+      ),
+    )
+
+breaks_carried : (w new : World) (low : ℕ) (links : List Carried) (most fewer : ℕ) (why : SendFault) → AreCarried low w links → Breaks w most fewer why new
+    → AreCarried low new (links_after w (event.Break most fewer why) links)
+breaks_carried w new low links most fewer why c breaks =
+    let m : MachineView = breaks.m in
+    let out : out_of w.machine ≡ m.host.out = ap out_of breaks.was in
+    let says = subst (λ s. TalksOn s m.host links) breaks.talks (subst (λ o. MachineOn o links) breaks.was c.talks) in
+    let (apart, own) = part_put low (next_free w.kept) links m.host breaks.talk.receipt most fewer says c.apart c.own in
+    let ended = subst (λ s. Ended s why (put s breaks.taken m) breaks.after) breaks.talks breaks.ended in
+    let put_so : List Carried = with_put (take fewer (take most m.host.out)) links in
+    subst (λ bytes. AreCarried low new (with_put (take fewer (take most bytes)) links)) (sym out) (record {
+      apart = subst (λ k. AreApart low put_so (next_free k.kept)) (sym breaks.is) apart;
+      own = own;
+      talks = subst (λ k. MachineOn k.machine put_so) (sym breaks.is) (quiet_on breaks.after.stage breaks.after.host put_so (subst IsQuiet (sym ended.2) tt));
+    })
+
+-- ## Bytes are heard
+
+saying_for : (l : Carried) (h h' : HostView) (receipt : Option (List Command)) → h'.out ≡ h.out → h'.next ≡ h.next → IsSaying l h receipt → IsSaying l h' receipt
+saying_for l h h' receipt out next says = record {
+  said = says.said;
+  begins = says.begins ∙ ap (λ k. l.bytes ++ k) (sym out);
+  numbered = subst (λ n. AllByRecursion (IsNumbered l.first n) says.said) (sym next) says.numbered;
+  from = subst (λ n. l.first ≤ n) (sym next) says.from;
+  within = subst (λ n. n ≤ l.limit) (sym next) says.within;
+  left = λ commands some. subst (λ n. n < l.limit) (sym next) (says.left commands some);
+}
+
+abbrev IsGood : HostEvent → Type 0
+IsGood (heard.BadAnswer place) = ⊥
+IsGood e = Unit {0}
+
+-- Nothing is said by hearing.
+abbrev SaysSame : HostView → HostView → Type 0
+SaysSame h h' = (h'.out ≡ h.out) × (h'.next ≡ h.next)
+
+same_by : (h h' changed : HostView) → changed.out ≡ h.out → changed.next ≡ h.next → h' ≡ changed → SaysSame h h'
+same_by h h' changed out next is = (ap (λ v. v.out) is ∙ out, ap (λ v. v.next) is ∙ next)
+
+byte_says : (e : HostEvent) (h : HostView) (byte at : ℕ) (h' : HostView) → HearsByte h byte at e h' → IsGood e → SaysSame h h'
+byte_says heard.None h byte at h' (inl (same, half)) good = same_by h h' _ refl refl same
+byte_says heard.None h byte at h' (inr (inl misfits)) good = absurd misfits
+byte_says heard.None h byte at h' (inr (inr (a, spells, (ignores, same)))) good = same_by h h' _ refl refl same
+byte_says heard.Opened h byte at h' (inl grown) good = absurd grown
+byte_says heard.Opened h byte at h' (inr (inl misfits)) good = absurd misfits
+byte_says heard.Opened h byte at h' (inr (inr (a, spells, (first, id, phase, is, mark, same)))) good = same_by h h' _ refl refl same
+byte_says (heard.Recorded number) h byte at h' (inl grown) good = absurd grown
+byte_says (heard.Recorded number) h byte at h' (inr (inl misfits)) good = absurd misfits
+byte_says (heard.Recorded number) h byte at h' (inr (inr (a, spells, (p, ps, phase, is, count, same)))) good = same_by h h' _ refl refl same
+byte_says (heard.Status byte') h byte at h' (inl grown) good = absurd grown
+byte_says (heard.Status byte') h byte at h' (inr (inl misfits)) good = absurd misfits
+byte_says (heard.Status byte') h byte at h' (inr (inr (a, spells, (is, same)))) good = same_by h h' _ refl refl same
+byte_says (heard.BadAnswer place) h byte at h' hears good = absurd good
+
+heard_says : (e : HostEvent) (h : HostView) (bytes : List ℕ) (count : ℕ) (h' : HostView) → IsHeard h bytes count e h' → IsGood e → SaysSame h h'
+heard_says e h bytes count h' (inl (none, all, passed, same)) good = same_by h h' _ refl refl same
+heard_says e h bytes count h' (inr (at, half, fewer, some, taken, passed, hears)) good = byte_says e (with_half h half) (slice_index bytes at) at h' hears good
+
+hears_says : (e : HostEvent) (h : HostView) (bytes : List ℕ) (count : ℕ) (h' : HostView) → HearsOne h bytes count e h' → IsGood e → SaysSame h h'
+hears_says e h bytes count h' hears good = elim (down_or_up h.phase) [
+  | inl down ↦ same_by h h' h refl refl (hears.0 down).2
+  | inr up ↦ heard_says e h bytes count h' (hears.1 up) good
+]
+
+goes_says : (l : Carried) (ls : List Carried) (talk : Talk) (left : ℕ) (h : HostView) (after : MachineView) → IsSaying l h talk.receipt → GoesOn talk left h after.host after.stage
+    → TalksOn after.stage after.host (l ∷ ls)
+goes_says l ls talk zero h after says (drops, is) = quiet_on after.stage after.host (l ∷ ls) (subst IsQuiet (sym is) tt)
+goes_says l ls talk (suc left) h after says (same, is) = subst (λ s. TalksOn s after.host (l ∷ ls)) (sym is) (subst (λ v. IsSaying l v talk.receipt) (sym same) says)
+
+-- The receipt is put out, with one more mark.
+submitted_says : (l : Carried) (h : HostView) (flight : List InFlight) (commands : List Command) → IsSaying l h (Some commands) → marks commands ≡ []
+    → IsSaying l (submitted h flight commands) None
+submitted_says l h flight commands says unmarked =
+    let more : List Command = kind.Init ∷ (commands ++ next_mark h ∷ []) in
+    let fewer : h.next < l.limit = says.left commands refl in
+    record {
+      said = says.said ++ more;
+      begins = flat_map-append row says.said more ∙ ap (λ k. k ++ spell more) says.begins ∙ append_assoc l.bytes h.out (spell more);
+      numbered = joined l.first (h.next + 1) says.said more (higher l.first h.next (h.next + 1) says.said (omega arith) says.numbered) (
+        λ id is. absurd (let bad : kind.Init ≡ kind.Mark id = is in cc),
+        joined l.first (h.next + 1) commands (next_mark h ∷ []) (numbered_unmarked l.first (h.next + 1) commands unmarked)
+            (numbered_mark l.first (h.next + 1) h.next says.from (omega arith), tt),
+      );
+      from = omega (arith, says.from);
+      within = omega (arith, fewer);
+      left = λ others some. absurd (let bad : None ≡ Some others = some in cc);
+    }
+
+submits_says : (l : Carried) (ls : List Carried) (talk : Talk) (receipt : Option (List Command)) (left : ℕ) (h : HostView) (after : MachineView) → talk.receipt ≡ receipt → IsSaying l h talk.receipt
+    → ((commands : List Command) → talk.receipt ≡ Some commands → marks commands ≡ []) → Submits talk receipt left h after.host after.stage → TalksOn after.stage after.host (l ∷ ls)
+submits_says l ls talk (Some commands) (suc left) h after is says unmarked (inl (flight, phase, few, mark, same, at)) =
+    subst (λ s. TalksOn s after.host (l ∷ ls)) (sym at) (subst (λ v. IsSaying l v None) (sym same) (submitted_says l h flight commands (subst (IsSaying l h) is says) (unmarked commands is)))
+submits_says l ls talk (Some commands) (suc left) h after is says unmarked (inr (why, refuses, drops, at)) = quiet_on after.stage after.host (l ∷ ls) (subst IsQuiet (sym at) tt)
+submits_says l ls talk (Some commands) zero h after is says unmarked so = goes_says l ls talk zero h after says so
+submits_says l ls talk None left h after is says unmarked so = goes_says l ls talk left h after says so
+
+turned_says : (e : HostEvent) (l : Carried) (ls : List Carried) (talk : Talk) (left : ℕ) (before h : HostView) (after : MachineView) → IsSaying l before talk.receipt → (IsGood e → SaysSame before h)
+    → ((commands : List Command) → talk.receipt ≡ Some commands → marks commands ≡ []) → Turned e talk left h after.host after.stage → TalksOn after.stage after.host (l ∷ ls)
+turned_says heard.None l ls talk left before h after says same unmarked turned = goes_says l ls talk left h after (saying_for l before h talk.receipt (same tt).0 (same tt).1 says) turned
+turned_says (heard.Status byte) l ls talk left before h after says same unmarked turned = goes_says l ls talk left h after (saying_for l before h talk.receipt (same tt).0 (same tt).1 says) turned
+turned_says heard.Opened l ls talk left before h after says same unmarked turned =
+    submits_says l ls talk talk.receipt left h after refl (saying_for l before h talk.receipt (same tt).0 (same tt).1 says) unmarked turned
+turned_says (heard.Recorded place) l ls talk left before h after says same unmarked (host, is) = quiet_on after.stage after.host (l ∷ ls) (subst IsQuiet (sym is) tt)
+turned_says (heard.BadAnswer place) l ls talk left before h after says same unmarked (drops, is) = quiet_on after.stage after.host (l ∷ ls) (subst IsQuiet (sym is) tt)
+
+came_says : (links : List Carried) (talk : Talk) (m after : MachineView) (bytes : List ℕ) (count : ℕ) → SaysOn links m.host talk.receipt → ((commands : List Command) → talk.receipt ≡ Some commands → marks commands ≡ [])
+    → Came (stage.Talking talk) bytes count m after → TalksOn after.stage after.host links
+came_says [] talk m after bytes count says unmarked came = absurd says
+came_says (l ∷ ls) talk m after bytes count says unmarked (e, h, hears, turned, book) =
+    turned_says e l ls talk (talk.left - count) m.host h after says (hears_says e m.host bytes count h hears) unmarked turned
+
+hears_carried : (w new : World) (low : ℕ) (links : List Carried) (most : ℕ) → IsWorld w → AreCarried low w links → Hears w most new → AreCarried low new links
+hears_carried w new low links most known c hears =
+    let m : MachineView = hears.m in
+    let here = subst (λ o. IsMachineIn o w.kept known.hand (with_earlier known.earlier known.host)) hears.was known.machine in
+    let holds = subst (Holds w.kept known.hand (with_earlier known.earlier known.host)) hears.talks here.1 in
+    let says = subst (λ s. TalksOn s m.host links) hears.talks (subst (λ o. MachineOn o links) hears.was c.talks) in
+    let came = subst (λ s. Came s (take most w.wire.coming) hears.consumed m hears.after) hears.talks hears.came in
+    record {
+      apart = subst (λ k. AreApart low links (next_free k.kept)) (sym hears.is) c.apart;
+      own = c.own;
+      talks = subst (λ k. MachineOn k.machine links) (sym hears.is)
+          (came_says links hears.talk m hears.after (take most w.wire.coming) hears.consumed says (λ commands some. (holds.7 commands some).1.0) came);
+    }
+
+-- ## Whatever happens
+
+on_machine : (w new : World) (low : ℕ) (links : List Carried) → new.machine ≡ w.machine → new.kept ≡ w.kept → AreCarried low w links → AreCarried low new links
+on_machine w new low links machine kept c = record {
+  apart = subst (λ es. AreApart low links (next_free es)) (sym kept) c.apart;
+  own = c.own;
+  talks = subst (λ o. MachineOn o links) (sym machine) c.talks;
+}
+
+quietly : (links : List Carried) (m after : MachineView) → IsQuiet after.stage → TalksOn m.stage m.host links → TalksOn after.stage after.host links
+quietly links m after quiet talks = quiet_on after.stage after.host links quiet
+
+step_carried : (e : Happening) (w new : World) (low : ℕ) (links : List Carried) → IsWorld w → Happens w e new → AreCarried low w links → AreCarried low new (links_after w e links)
+step_carried event.Start w new low links known starts c = record {
+  apart = subst (λ k. AreApart low links (next_free k.kept)) (sym starts.is) c.apart;
+  own = c.own;
+  talks = subst (λ k. MachineOn k.machine links) (sym starts.is) (quiet_on starts.m.stage starts.m.host links (subst IsQuiet (sym starts.started.stage) tt));
+}
+step_carried (event.Queue content) w new low links known moves c =
+    moved_on (λ m after. Queues m content after) w new w.told low links moves (λ m after queues. quietly links m after (subst IsQuiet (sym queues.keeps) tt)) c
+step_carried (event.Raise first) w new low links known moves c =
+    moved_on (λ m after. Raises m first after) w new w.told low links moves (λ m after raises. quietly links m after (subst (λ k. IsQuiet k.stage) (sym raises.after_is) tt)) c
+step_carried (event.Deliver openings most copy) w new low links known (is_copy, moves) c =
+    moved_on (λ m after. Delivers m openings most copy after × FitsLine after.stage) w new w.told low links moves
+    (λ m after delivers. quietly links m after (subst (λ k. IsQuiet k.stage) (sym delivers.0.after_is) tt)) c
+step_carried event.Refuse w new low links known moves c =
+    moved_on SameEntries w new w.told low links moves
+    (λ m after same talks. subst (λ s. TalksOn s after.host links) (sym same.stage) (subst (λ h. TalksOn m.stage h links) (sym same.host) talks)) c
+step_carried event.Keep w new low links known stores c = kept_carried w new low links known c stores
+step_carried (event.FailWith why) w new low links known stores c = failed_carried w new low links why with_entry known (grows w.kept) c stores
+step_carried (event.FailWithout why) w new low links known stores c = failed_carried w new low links why without_entry known (λ e may. omega arith) c stores
+step_carried event.Connect w new low links known moves c =
+    moved_on (λ m after. after ≡ connected m.stage m) w new w.told low links moves (λ m after is. same_or_quiet m after links (connected_so m.stage m after is)) c
+step_carried event.Miss w new low links known moves c =
+    moved_on (λ m after. after ≡ not_connected m.stage m) w new w.told low links moves (λ m after is. same_or_quiet m after links (missed_so m.stage m after is)) c
+step_carried (event.Put most) w new low links known puts c = puts_carried w new low links most c puts
+step_carried (event.Break most fewer why) w new low links known breaks c = breaks_carried w new low links most fewer why c breaks
+step_carried (event.Hear most) w new low links known hears c = hears_carried w new low links most known c hears
+step_carried (event.End why) w new low links known moves c =
+    moved_on (λ m after. Ended m.stage why m after) w new w.told low links moves (λ m after ended. same_or_quiet m after links (ended_so m.stage why m after ended)) c
+step_carried event.HangUp w new low links known moves c =
+    moved_on (λ m after. after ≡ hung_up m.stage m) w new w.told low links moves (λ m after is. same_or_quiet m after links (hung_so m.stage m after is)) c
+step_carried event.Tell w new low links known tells c =
+    moved_on _ w new (w.told ++ tells.note ∷ []) low links tells.moves
+    (λ m after goes. quietly links m after (subst (λ k. IsQuiet k.stage) (sym (goes.1 ∙ ap (λ s. told s m) goes.0)) (note_quiet tells.note))) c
+step_carried (event.OnWire e) w new low links known goes c = on_machine w new low links (ap (λ k. k.machine) goes.is) (ap (λ k. k.kept) goes.is) c
+step_carried event.Idle w new low links known idles c = on_machine w new low links (ap (λ k. k.machine) idles.is) (ap (λ k. k.kept) idles.is) c
+step_carried event.Crash w new low links known crashes c = record {
+  apart = subst (λ k. AreApart low links (next_free k.kept)) (sym crashes.is) c.apart;
+  own = c.own;
+  talks = subst (λ k. MachineOn k.machine links) (sym crashes.is) tt;
+}
+
+pub all_carried : LineLaws → (es : List Happening) (w new : World) (low : ℕ) (before links : List Carried) → IsWorld w → AreCarried low w before → Carries w es new before links
+    → AreCarried low new links
+all_carried laws [] w new low before links known c (same, is) = subst (AreCarried low new) (sym is) (subst (λ k. AreCarried low k before) (sym same) c)
+all_carried laws (e ∷ es) w new low before links known c (mid, happened, more) =
+    all_carried laws es mid new low (links_after w e before) links (whatever laws w mid e known happened) (step_carried e w mid low before known happened c) more
+
+pub none_carried : (w : World) → w.machine ≡ None → AreCarried (next_free w.kept) w []
+none_carried w off = record { apart = omega arith; own = tt; talks = subst (λ o. MachineOn o []) (sym off) tt }
+
+-- ## Each run has its links
+
+pub carried_some : (w after : World) (es : List Happening) (before : List Carried) → Runs w es after → (links : List Carried) × Carries w es after before links
+carried_some w after [] before same = (before, (same, refl))
+carried_some w after (e ∷ es) before (mid, happened, more) =
+    let (links, rest) = carried_some mid after es (links_after w e before) more in
+    (links, (mid, happened, rest))

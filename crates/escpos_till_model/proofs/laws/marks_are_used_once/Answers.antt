@@ -1,0 +1,20 @@
+-- The links of a run.
+use Rattle.std.proofs.Common.{List, []}
+use Rattle.escpos_till_model.specs.World.{Begins, World}
+use Rattle.escpos_till_model.proofs.LinesKept.{LineLaws}
+use Rattle.escpos_till_model.proofs.Carrying.{all_carried, carried_some, none_carried}
+use Rattle.escpos_till_model.proofs.Worlds.{begun}
+use Rattle.escpos_till_model.proofs.laws.marks_are_used_once.Goals as goal
+
+pub returns-clause-carries : goal.returns-clause-carries
+returns-clause-carries c = λ w after happenings runs. carried_some w after happenings [] runs
+
+pub returns-clause-apart : goal.returns-clause-apart
+returns-clause-apart c = λ w after happenings links begins carries.
+    let laws : LineLaws = record { trust = c.trust.ensures; every = c.every_line.ensures.kept; turn = c.in_turn.ensures } in
+    (all_carried laws happenings w after _ [] links (begun laws w begins) (none_carried w begins.off) carries).apart
+
+pub returns-clause-own : goal.returns-clause-own
+returns-clause-own c = λ w after happenings links begins carries.
+    let laws : LineLaws = record { trust = c.trust.ensures; every = c.every_line.ensures.kept; turn = c.in_turn.ensures } in
+    (all_carried laws happenings w after _ [] links (begun laws w begins) (none_carried w begins.off) carries).own

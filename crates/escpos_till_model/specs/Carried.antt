@@ -1,0 +1,75 @@
+-- What a till puts on its links, and with which mark numbers: told of the bytes on each link, over every run of the world.
+use Rattle.std.specs.Prelude.{ℕ, ◌≡◌, ◌<◌, ◌≤◌, Option, Some, None, List, [], ◌∷◌, ◌++◌, take}
+use Rattle.std.specs.List.{AllByRecursion}
+use Rattle.escpos_command.specs.declared.command.Command.{Command}
+use Rattle.escpos_command.specs.CommandTable.{spell}
+use Rattle.escpos_till.specs.declared.entry.Entry.{Entry}
+use Rattle.escpos_till.specs.declared.entry.Entry.TheVariants as entry
+use Rattle.escpos_till.specs.declared.machine.Stage.{Stage}
+use Rattle.escpos_till.specs.declared.machine.Stage.TheVariants as stage
+use Rattle.escpos_till.specs.declared.machine.Then.{Then}
+use Rattle.escpos_till.specs.declared.machine.Then.TheVariants as then
+use Rattle.escpos_till.specs.Delivers.{IsNumbered}
+use Rattle.escpos_till.specs.Entries.{next_free}
+use Rattle.escpos_till.specs.Machine.{MachineView}
+use Rattle.escpos_till_model.specs.declared.event.Happening.{Happening}
+use Rattle.escpos_till_model.specs.declared.event.Happening.TheVariants as event
+use Rattle.escpos_till_model.specs.World.{Happens, World}
+
+-- A link for which it was kept that a receipt is tried: the mark numbers that are reserved with that, from the first up to the limit, which
+-- isn't one of them; and the bytes that were put on the link so far.
+pub record Carried : Type 0 where
+  pub first : ℕ
+  pub limit : ℕ
+  pub bytes : List ℕ
+
+-- The bytes that a machine has to put.
+abbrev pub out_of : Option MachineView → List ℕ
+out_of None = []
+out_of (Some m) = m.host.out
+
+-- The bytes are put on the newest link, which is the first.
+abbrev pub with_put : List ℕ → List Carried → List Carried
+with_put bytes [] = []
+with_put bytes (l ∷ ls) = record { first = l.first; limit = l.limit; bytes = l.bytes ++ bytes } ∷ ls
+
+abbrev pub limit_of : Entry → ℕ
+limit_of (entry.Tried number limit) = limit
+limit_of e = 0
+
+-- The link of an entry that is kept, if a receipt is sent then.
+abbrev pub link_of : Then → Entry → ℕ → List Carried
+link_of (then.Send due) e first = record { first = first; limit = limit_of e; bytes = [] } ∷ []
+link_of next e first = []
+
+abbrev pub link_at : Stage → ℕ → List Carried
+link_at (stage.Keeping e next) first = link_of next e first
+link_at s first = []
+
+abbrev pub link_by : Option MachineView → ℕ → List Carried
+link_by None first = []
+link_by (Some m) first = link_at m.stage first
+
+-- The links, the newest first, after something happened in this world.
+abbrev pub links_after : World → Happening → List Carried → List Carried
+links_after w event.Keep links = link_by w.machine (next_free w.kept) ++ links
+links_after w (event.Put most) links = with_put (take most (out_of w.machine)) links
+links_after w (event.Break most fewer why) links = with_put (take fewer (take most (out_of w.machine))) links
+links_after w e links = links
+
+-- The links after a run, where these were there before.
+abbrev pub Carries : World → List Happening → World → List Carried → List Carried → Type 0
+Carries w [] new before links = (new ≡ w) × (links ≡ before)
+Carries w (e ∷ es) new before links = (mid : World) × Happens w e mid × Carries mid es new (links_after w e before) links
+
+-- What was put on the link is the beginning of commands, each of whose marks has a number that is reserved for it.
+pub record HasOwnMarks (l : Carried) : Type 0 where
+  pub said : List Command
+  pub unsaid : List ℕ
+  pub begins : spell said ≡ l.bytes ++ unsaid
+  pub numbered : AllByRecursion (IsNumbered l.first l.limit) said
+
+-- The numbers of each link are above those of the links before it, from `low` on and below `high`: none is reserved twice.
+abbrev pub AreApart : ℕ → List Carried → ℕ → Type 0
+AreApart low [] high = low ≤ high
+AreApart low (l ∷ ls) high = (l.limit ≤ high) × (l.first < l.limit) × AreApart low ls l.first
