@@ -1,5 +1,5 @@
 -- Why no mark number goes out twice, whatever happens: each link has numbers of its own, and what is put on it has no other.
-use Rattle.std.proofs.Common.{ℕ, zero, suc, ◌≡◌, ◌≢◌, ◌⊎◌, inl, inr, ◌+◌, ◌-◌, ◌<◌, ◌≤◌, min, max, Option, Some, None, List, [], ◌∷◌, ◌++◌, length, take, drop, refl, sym, ◌∙◌, ap, subst, append-nil, append_assoc, arith}
+use Rattle.std.proofs.Common.{ℕ, zero, suc, ◌≡◌, ◌⊎◌, inl, inr, ◌+◌, ◌-◌, ◌<◌, ◌≤◌, min, max, Option, Some, None, List, [], ◌∷◌, ◌++◌, length, take, drop, refl, sym, ◌∙◌, ap, subst, append_assoc, arith}
 use Rattle.std.specs.List.{AllByRecursion}
 use Rattle.std.specs.Prelude.{option_to_list, slice_index}
 use Rattle.std.proofs.lemmas.Grind.{flat_map-append}
@@ -17,11 +17,8 @@ use Rattle.escpos_host.specs.Earlier.{with_earlier}
 use Rattle.escpos_host.specs.Awaits.{dialled}
 use Rattle.escpos_host.specs.Machine.{HostView, InFlight, next_mark, submitted, taken_out}
 use Rattle.escpos_host.specs.Says.{marks_from}
-use Rattle.escpos_link.specs.Trusted.{IsFitting}
-use Rattle.escpos_link.specs.declared.event.Event.TheVariants as line
 use Rattle.escpos_till.specs.declared.entry.Entry.{Entry}
 use Rattle.escpos_till.specs.declared.entry.Entry.TheVariants as entry
-use Rattle.escpos_till.specs.declared.machine.Due.{Due}
 use Rattle.escpos_till.specs.declared.machine.Stage.{Stage}
 use Rattle.escpos_till.specs.declared.machine.Stage.TheVariants as stage
 use Rattle.escpos_till.specs.declared.machine.Talk.{Talk}

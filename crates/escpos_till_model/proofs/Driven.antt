@@ -1,21 +1,20 @@
 -- Why a driver's run is a run of the world: each deed of a driver, and what it does to what surrounds the machine, is some happenings there.
-use Rattle.std.proofs.Common.{ℕ, zero, suc, ◌≡◌, ◌≢◌, ◌⊎◌, inl, inr, ◌+◌, ◌-◌, ◌<◌, ◌≤◌, Option, Some, None, List, [], ◌∷◌, ◌++◌, length, take, drop, refl, sym, ◌∙◌, ap, subst, append-nil, append_assoc, arith, length-drop}
-use Rattle.std.specs.Prelude.{true, false, max, slice_index}
+use Rattle.std.proofs.Common.{ℕ, zero, suc, ◌≡◌, ◌≢◌, inl, inr, ◌+◌, ◌-◌, ◌<◌, ◌≤◌, Option, Some, None, List, [], ◌∷◌, ◌++◌, length, take, drop, refl, sym, ◌∙◌, ap, subst, arith, length-drop}
+use Rattle.std.specs.Prelude.{max, slice_index}
 use Rattle.std.proofs.Math.Seq.{take-add}
-use Rattle.std.proofs.lemmas.List.{drop-append-le, drop-drop, drop-take, length-take-le, nil_from_length, take-append-le, take-append-drop, take_all}
+use Rattle.std.proofs.lemmas.List.{drop-append-le, drop-drop, drop-take, length-take-le, take-append-le, take-append-drop, take_all}
 use Rattle.escpos_command.specs.declared.command.Command.{Command}
 use Rattle.escpos_host.specs.declared.host.HostError.{HostError}
 use Rattle.escpos_host.specs.declared.host.HostError.TheVariants as error
 use Rattle.escpos_host.specs.declared.host.HostEvent.{HostEvent}
 use Rattle.escpos_host.specs.declared.host.HostEvent.TheVariants as heard
 use Rattle.escpos_host.specs.declared.send.SendFault.{SendFault}
-use Rattle.escpos_host.specs.Awaits.{RefusesOpening, dialled}
+use Rattle.escpos_host.specs.Awaits.{RefusesOpening}
 use Rattle.escpos_host.specs.Heard.{HearsByte, IsHeard, taken_at, with_half}
-use Rattle.escpos_host.specs.Machine.{HostView, Phase, Down, Opening, Open, IsSound}
+use Rattle.escpos_host.specs.Machine.{HostView, Down, IsSound}
 use Rattle.escpos_link.specs.declared.event.Event.{Event}
 use Rattle.escpos_link.specs.Wire.{WireView, given_up, heard_from, with_bytes, with_link}
 use Rattle.escpos_till.specs.declared.entry.Entry.{Entry}
-use Rattle.escpos_till.specs.declared.machine.Due.{Due}
 use Rattle.escpos_till.specs.declared.machine.Stage.{Stage}
 use Rattle.escpos_till.specs.declared.machine.Stage.TheVariants as stage
 use Rattle.escpos_till.specs.declared.machine.Talk.{Talk}
@@ -26,12 +25,12 @@ use Rattle.escpos_till.specs.declared.machine.TillNote.TheVariants as note_kind
 use Rattle.escpos_till.specs.declared.store.StoreFault.{StoreFault}
 use Rattle.std.proofs.Math.Nat.{min-eq_left}
 use Rattle.escpos_till.specs.Delivers.{fresh}
-use Rattle.escpos_till.specs.Driver.{Breaks, Deed, DidAll, Ends, Gives, HangsUp, HearsAll, IsGiven, IsNextOut, IsWaiting, Keeps, Links, Loses, Misses, Puts, Ran, Tells, Turns}
-use Rattle.escpos_till.specs.Machine.{Came, Drops, Ended, Follows, GoesOn, HearsOne, Kept, MachineView, Opens, Submits, Turns as Turned, Unsure, connected, lost, after_note, hung_up, not_connected, put, told}
+use Rattle.escpos_till.specs.Driver.{Breaks, Deed, DidAll, Ends, Gives, HangsUp, HearsAll, Keeps, Links, Loses, Misses, Puts, Ran, Tells, Turns}
+use Rattle.escpos_till.specs.Machine.{Came, Drops, Ended, Follows, GoesOn, Kept, MachineView, Submits, Turns as Turned, Unsure, connected, lost, after_note, hung_up, not_connected, put, told}
 use Rattle.escpos_till_model.specs.Around.{Around, Does, DoesInTime, GoesOnBy, HasNoLink, IsAround, Reaches, around}
 use Rattle.escpos_till_model.specs.declared.event.Happening.{Happening}
 use Rattle.escpos_till_model.specs.declared.event.Happening.TheVariants.{Break, Connect, End, FailWith, FailWithout, HangUp, Hear, Idle, Keep, Miss, OnWire, Put, Tell}
-use Rattle.escpos_till_model.specs.World.{Happens, Moves, Runs, Stores, Wired, World, is_printer_event, running, with_entry, with_wire, without_entry}
+use Rattle.escpos_till_model.specs.World.{Happens, Moves, Runs, Stores, Wired, World, running, with_entry, with_wire, without_entry}
 use Rattle.escpos_till_model.proofs.LinesKept.{down_or_up}
 use Rattle.escpos_till_model.proofs.WireEvents.{goes_on_given_up, goes_on_more, goes_on_with_more, with_more}
 

@@ -1,5 +1,5 @@
 -- Why a printer's lines keep their width, whatever happens in the world.
-use Rattle.std.proofs.Common.{ℕ, ◌≡◌, ◌≢◌, inl, inr, Option, Some, None, List, [], ◌∷◌, refl, sym, ◌∙◌, ap, subst}
+use Rattle.std.proofs.Common.{ℕ, ◌≡◌, inl, inr, Option, Some, None, List, [], ◌∷◌, refl, sym, ◌∙◌, ap, subst}
 use Rattle.escpos_host.specs.Earlier.{with_earlier}
 use Rattle.escpos_host.specs.Machine.{HostView, Down}
 use Rattle.escpos_host.proofs.Earlier.{earlier_sound}
@@ -67,7 +67,7 @@ step_width laws (event.OnWire e) w new known happened =
     let before : HostView = with_earlier known.earlier known.host in
     ap (λ k. width_of k.wire) happened.is
     ∙ (laws.trust.kept e (line_of before w.wire) (line_of before happened.wire) happened.effect (fits_wire e happened.at_printer) (earlier_sound known.earlier known.host known.sound)
-        known.line (happened.happened before) known.trusted).1
+    known.line (happened.happened before) known.trusted).1
 step_width laws event.Idle w new known happened = ap (λ k. width_of k.wire) happened.is
 step_width laws event.Crash w new known happened = ap (λ k. width_of k.wire) happened.is ∙ crashed_width w new w.machine refl happened
 

@@ -1,7 +1,6 @@
 -- What happens at the printer's end of a wire happens just so where the host's end has been given up, and where more bytes are on their way.
-use Rattle.std.proofs.Common.{ℕ, ◌≡◌, ◌≢◌, ◌⊎◌, inl, inr, Option, Some, None, List, [], ◌∷◌, ◌++◌, length, take, refl, sym, ◌∙◌, ap, subst, append-nil, append_assoc}
+use Rattle.std.proofs.Common.{ℕ, ◌≡◌, ◌≢◌, inl, inr, Option, Some, None, List, [], ◌∷◌, ◌++◌, take, refl, sym, ◌∙◌, ap, subst, append_assoc}
 use Rattle.std.specs.Prelude.{true, false, option_to_list}
-use Rattle.escpos_command.specs.declared.answer.Answer.{Answer}
 use Rattle.escpos_command.specs.Answers.{answer_bytes}
 use Rattle.escpos_host.specs.Machine.{HostView}
 use Rattle.escpos_link.specs.declared.event.Event.{Event}
@@ -10,7 +9,7 @@ use Rattle.escpos_link.specs.declared.event.Handed.{Handed}
 use Rattle.escpos_link.specs.declared.event.Handed.TheVariants as handed
 use Rattle.escpos_link.specs.declared.event.Note.{Note}
 use Rattle.escpos_link.specs.declared.event.Note.TheVariants as note
-use Rattle.escpos_link.specs.EventTable.{After, HandsOver, answers_left, delivered, first_of, left_by, with_printer, without_first}
+use Rattle.escpos_link.specs.EventTable.{HandsOver, answers_left, delivered, first_of, left_by, without_first}
 use Rattle.escpos_link.specs.Line.{LineView}
 use Rattle.escpos_link.specs.Wire.{AfterOnWire, WireView, given_up, line_of, wire_of}
 use Rattle.escpos_printer.specs.declared.printer.FeedStop.{FeedStop}

@@ -1,13 +1,12 @@
 -- A driver's run, one deed after another; and what holds of every run of the world.
-use Rattle.std.proofs.Common.{ℕ, ◌≡◌, ◌<◌, ◌≤◌, List, ◌++◌, length, sym, subst, ap}
-use Rattle.escpos_till.specs.Driver.{Ran}
+use Rattle.std.proofs.Common.{◌≤◌, List, ◌++◌, length, sym, subst, ap}
 use Rattle.escpos_till.specs.Entries.{recorded, taken}
 use Rattle.escpos_till.specs.Machine.{MachineView}
 use Rattle.escpos_till.specs.declared.machine.TillNote.TheVariants as note
-use Rattle.escpos_till_model.specs.Around.{Around, DoesInTime, IsAround, Reaches}
+use Rattle.escpos_till_model.specs.Around.{Around, Reaches}
 use Rattle.escpos_till_model.specs.Receipts.{Among, EachIsKept, Extends, RecordedStand}
 use Rattle.escpos_till_model.specs.declared.event.Happening.{Happening}
-use Rattle.escpos_till_model.specs.World.{Begins, Runs, World}
+use Rattle.escpos_till_model.specs.World.{Runs, World}
 use Rattle.escpos_till_model.proofs.Driven.{driven, runs_more}
 use Rattle.escpos_till_model.proofs.laws.a_driven_till_is_in_the_world.Goals as goal
 

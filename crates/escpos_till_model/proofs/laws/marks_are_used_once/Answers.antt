@@ -1,6 +1,5 @@
 -- The links of a run.
-use Rattle.std.proofs.Common.{List, []}
-use Rattle.escpos_till_model.specs.World.{Begins, World}
+use Rattle.std.proofs.Common.{[]}
 use Rattle.escpos_till_model.proofs.LinesKept.{LineLaws}
 use Rattle.escpos_till_model.proofs.Carrying.{all_carried, carried_some, none_carried}
 use Rattle.escpos_till_model.proofs.Worlds.{begun}
