@@ -127,6 +127,7 @@ pub record Queues (m : MachineView) (content : Content) (after : MachineView) : 
 pub record Raises (m : MachineView) (first : ℕ) (after : MachineView) : Type 0 where
   pub rest : m.stage ≡ stage.AtRest
   pub least : m.book.next ≤ first
+  pub most : first ≤ last_first
   pub after_is : after ≡ at m (stage.Keeping (entry.Raised first) then.Raised)
 
 -- It is the first receipt that waits, and there are enough mark numbers for it.

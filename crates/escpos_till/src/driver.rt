@@ -7,7 +7,7 @@ ghost use Rattle.std.specs.Prelude.{◌≡◌, ◌≢◌, ◌≤◌, ◌↔◌, 
 ghost use Rattle.escpos_host.specs.Machine.{IsSound};
 ghost use Rattle.escpos_till.specs.declared.machine.Stage.TheVariants as stage;
 ghost use Rattle.escpos_till.specs.declared.machine.Talk.{Talk};
-ghost use Rattle.escpos_till.specs.Driver.{Breaks, Deed, Ends, Gives, HangsUp, IsGiven, Keeps, Links, Loses, Misses, Puts, Ran, RanFor, Tells, Turns};
+ghost use Rattle.escpos_till.specs.Driver.{Breaks, Deed, Ends, Gives, HangsUp, IsGiven, Keeps, Links, Loses, Misses, Puts, RanFor, Tells, Turns};
 ghost use Rattle.escpos_till.specs.Machine.{Rests};
 
 use crate::entry::Entry;
@@ -40,7 +40,7 @@ pub trait Outside {
         ensures puts { OnOk result (did self.old (Puts bytes.now) self.new) }
         ensures breaks { IfErr result (λ why. did self.old (Breaks bytes.now why) self.new) };
 
-    /// Waits for bytes of answers, moves them to the start of `room`, and returns how many there are: 0 only where `room` has no place.
+    /// Waits for bytes of answers, moves them to the start of `room`, and returns how many there are. With 0, nothing came.
     fn pull(&mut self, room: &mut [u8]) -> Result<usize, SendFault>
         ensures within { IfOk result (λ count. count ≤ length room.old) }
         ensures gives { IfOk result (λ count. did self.old (Gives (take count room.new)) self.new) }
@@ -58,9 +58,8 @@ pub trait Outside {
 /// Does what the machine asks for, one thing after another, until it asks for nothing, at most `most` things. Returns whether
 /// it asks for nothing.
 pub fn drive<D: Outside>(machine: &mut TillMachine, outside: &mut D, most: u32) -> bool
-    ensures ran { Ran D.did machine.old outside.old machine.new outside.new }
+    ensures ran { (count : ℕ) × RanFor D.did machine.old outside.old machine.new outside.new count × (count ≤ most) × (¬ IsTrue result → count ≡ most) }
     ensures rests { IsTrue result ↔ Rests machine.new.stage }
-    ensures most { ¬ IsTrue result → RanFor D.did machine.old outside.old machine.new outside.new most }
 {
     for _ in 0..most {
         if !turn(machine, outside) {

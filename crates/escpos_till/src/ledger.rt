@@ -11,7 +11,7 @@ ghost use Rattle.escpos_till.specs.Contents.{ContentDescribes, content_with, pla
 ghost use Rattle.escpos_till.specs.declared.entry.Entry.{Entry};
 ghost use Rattle.escpos_till.specs.declared.entry.Entry.TheVariants as entry_kind;
 ghost use Rattle.escpos_till.specs.Entries.{IsLedger, MayFollow, Waits, next_free, recorded, states as states_of, taken, times_tried, waiting};
-ghost use Rattle.escpos_till.specs.Ledger.{Adds, FirstWaits, HasFailed, IsKept, IsLive, MayBeLeft, RefusesEntry, RefusesQueue, RefusesRaise, RefusesRecorded, RefusesTried};
+ghost use Rattle.escpos_till.specs.Ledger.{Adds, FirstWaits, HasFailed, IsKept, IsLive, MayBeLeft, RefusesEntry, RefusesQueue, RefusesRaise, RefusesRecorded, RefusesTried, last_first};
 
 use crate::entry::{Content, Entry};
 use crate::error::{LedgerError, OpenError};
@@ -191,6 +191,7 @@ impl<S: Store> Ledger<S> {
     /// `Store`, `Failed` and `Memory`.
     pub fn raise(&mut self, first: u32) -> Result<(), LedgerError>
         ensures added { OnOk result (Adds self.old (entry_kind.Raised first) self.new) }
+        ensures most { OnOk result (first ≤ last_first) }
         ensures refused { IfErr result (λ why. RefusesRaise why self.old first self.new) }
         ensures was_faithful { S.faithful self.new.store → S.faithful self.old.store }
     {

@@ -1,13 +1,14 @@
 -- Why no mark number goes out twice, whatever happens: each link has numbers of its own, and what is put on it has no other.
 use Rattle.std.proofs.Common.{ℕ, zero, suc, ◌≡◌, ◌⊎◌, inl, inr, ◌+◌, ◌-◌, ◌<◌, ◌≤◌, min, max, Option, Some, None, List, [], ◌∷◌, ◌++◌, length, take, drop, refl, sym, ◌∙◌, ap, subst, append_assoc, arith}
 use Rattle.std.specs.List.{AllByRecursion}
-use Rattle.std.specs.Prelude.{option_to_list, slice_index}
+use Rattle.std.specs.Prelude.{IsTrue, map, option_to_list, slice_index}
 use Rattle.std.proofs.lemmas.Grind.{flat_map-append}
 use Rattle.std.proofs.lemmas.List.{take-append-drop, take_min}
 use Rattle.escpos_command.specs.declared.command.Command.{Command}
 use Rattle.escpos_command.specs.declared.command.Command.TheVariants as kind
-use Rattle.escpos_command.specs.CommandTable.{row, spell}
-use Rattle.escpos_command.specs.Digits.{mark_of}
+use Rattle.escpos_command.specs.CommandTable.{AreCommands, row, spell}
+use Rattle.escpos_command.specs.Digits.{mark_count, mark_of}
+use Rattle.escpos_command.specs.Parameters.{is_mark_id}
 use Rattle.escpos_command.specs.Marks.{mark_id, marks}
 use Rattle.escpos_host.specs.declared.host.HostEvent.{HostEvent}
 use Rattle.escpos_host.specs.declared.host.HostEvent.TheVariants as heard
@@ -17,6 +18,8 @@ use Rattle.escpos_host.specs.Earlier.{with_earlier}
 use Rattle.escpos_host.specs.Awaits.{dialled}
 use Rattle.escpos_host.specs.Machine.{HostView, InFlight, next_mark, submitted, taken_out}
 use Rattle.escpos_host.specs.Says.{marks_from}
+use Rattle.escpos_link.specs.Trusted.{IsFitting}
+use Rattle.escpos_link.specs.declared.event.Event.TheVariants as line
 use Rattle.escpos_till.specs.declared.entry.Entry.{Entry}
 use Rattle.escpos_till.specs.declared.entry.Entry.TheVariants as entry
 use Rattle.escpos_till.specs.declared.machine.Stage.{Stage}
@@ -27,14 +30,14 @@ use Rattle.escpos_till.specs.declared.machine.Then.TheVariants as then
 use Rattle.escpos_till.specs.declared.machine.TillNote.{TillNote}
 use Rattle.escpos_till.specs.declared.machine.TillNote.TheVariants as note
 use Rattle.escpos_till.specs.declared.store.StoreFault.{StoreFault}
-use Rattle.escpos_till.specs.Delivers.{IsNumbered, fresh, marks_taken}
+use Rattle.escpos_till.specs.Delivers.{fresh, marks_taken}
 use Rattle.escpos_till.specs.Book.{IsBookOf}
 use Rattle.escpos_till.specs.Entries.{MayFollow, next_free}
 use Rattle.escpos_till.specs.Machine.{Came, Delivers, Ended, Follows, GoesOn, HearsOne, Kept, MachineView, Queues, Raises, SameEntries, Submits, Turns as Turned, Unsure, after_note, connected, hung_up, lost, not_connected, put, told}
 use Rattle.escpos_till.proofs.EntryLemmas.{next_after_queued, next_after_raised, next_after_recorded, next_after_tried}
 use Rattle.escpos_till_model.specs.declared.event.Happening.{Happening}
 use Rattle.escpos_till_model.specs.declared.event.Happening.TheVariants as event
-use Rattle.escpos_till_model.specs.Carried.{AreApart, Carried, Carries, HasOwnMarks, limit_of, link_at, link_by, link_of, links_after, out_of, with_put}
+use Rattle.escpos_till_model.specs.Carried.{AreApart, Carried, Carries, HasOwnMarks, limit_of, link_at, link_by, link_of, links_after, numbers_from, out_of, with_put}
 use Rattle.escpos_till_model.specs.Known.{BookMayLag, Holds, IsMachineIn, IsToKeep, IsWorld}
 use Rattle.escpos_till_model.specs.Kept.{Hand}
 use Rattle.escpos_till_model.specs.World.{Breaks, FitsLine, Happens, Hears, Moves, Puts, Runs, Stores, World, with_entry, without_entry}
@@ -43,47 +46,46 @@ use Rattle.escpos_till_model.proofs.Worlds.{whatever}
 
 -- ## Marks
 
-higher : (first next limit : ℕ) (cs : List Command) → next ≤ limit → AllByRecursion (IsNumbered first next) cs → AllByRecursion (IsNumbered first limit) cs
-higher first next limit [] within all = tt
-higher first next limit (c ∷ cs) within all =
-    (λ id is. let (n, from, below, same) = all.0 id is in (n, from, omega (arith, below, within), same), higher first next limit cs within all.1)
+-- A mark with such a number is a command.
+abbrev pub Ids : Type 0
+Ids = (n : ℕ) → n < mark_count → IsTrue (is_mark_id (mark_of n))
 
-joined : (first next : ℕ) (some others : List Command) → AllByRecursion (IsNumbered first next) some → AllByRecursion (IsNumbered first next) others
-    → AllByRecursion (IsNumbered first next) (some ++ others)
-joined first next [] others all more = more
-joined first next (c ∷ some) others all more = (all.0, joined first next some others all.1 more)
+marks_of_both : (some others : List Command) → marks (some ++ others) ≡ marks some ++ marks others
+marks_of_both some others = flat_map-append (λ c. option_to_list (mark_id c)) some others
 
-same_id : (a b : List ℕ) → kind.Mark a ≡ kind.Mark b → a ≡ b
-same_id a b e = cc
+all_of_both : (some others : List Command) → AreCommands some → AreCommands others → AreCommands (some ++ others)
+all_of_both [] others all more = more
+all_of_both (c ∷ some) others all more = (all.0, all_of_both some others all.1 more)
 
-numbered_mark : (first next k : ℕ) → first ≤ k → k < next → IsNumbered first next (kind.Mark (mark_of k))
-numbered_mark first next k from below id is = (k, from, below, sym (same_id (mark_of k) id is))
+marks_of_openings : (count first : ℕ) → marks (marks_from count first) ≡ map mark_of (numbers_from count first)
+marks_of_openings zero first = refl
+marks_of_openings (suc count) first = ap (λ ids. mark_of first ∷ ids) (marks_of_openings count (first + 1))
 
-numbered_openings : (first next count k : ℕ) → first ≤ k → k + count ≤ next → AllByRecursion (IsNumbered first next) (marks_from count k)
-numbered_openings first next zero k from below = tt
-numbered_openings first next (suc count) k from below = (numbered_mark first next k from (omega (arith, below)), numbered_openings first next count (k + 1) (omega (arith, from)) (omega (arith, below)))
+openings_in_range : Ids → (count first : ℕ) → first + count ≤ mark_count → AreCommands (marks_from count first)
+openings_in_range ids zero first within = tt
+openings_in_range ids (suc count) first within = (ids first (omega (arith, within)), openings_in_range ids count (first + 1) (omega (arith, within)))
 
-nothing_after : (xs ys : List (List ℕ)) → xs ++ ys ≡ [] → ys ≡ []
-nothing_after [] ys none = none
-nothing_after (x ∷ xs) ys none = absurd (let bad : x ∷ (xs ++ ys) ≡ [] = none in cc)
+one_number_more : (count first : ℕ) → numbers_from (suc count) first ≡ numbers_from count first ++ (first + count) ∷ []
+one_number_more zero first = ap (λ n. n ∷ []) (let so : first ≡ first + 0 = omega arith in so)
+one_number_more (suc count) first =
+    ap (λ ns. first ∷ ns) (one_number_more count (first + 1) ∙ ap (λ n. numbers_from count (first + 1) ++ n ∷ []) (let so : first + 1 + count ≡ first + suc count = omega arith in so))
 
-numbered_unmarked : (first next : ℕ) (cs : List Command) → marks cs ≡ [] → AllByRecursion (IsNumbered first next) cs
-numbered_unmarked first next [] none = tt
-numbered_unmarked first next (c ∷ cs) none = (
-  λ id is. absurd (let bad : id ∷ marks cs ≡ [] = subst (λ k. option_to_list (mark_id k) ++ marks cs ≡ []) is none in cc),
-  numbered_unmarked first next cs (nothing_after (option_to_list (mark_id c)) (marks cs) none),
-)
+map_one_more : (ns : List ℕ) (n : ℕ) → map mark_of (ns ++ n ∷ []) ≡ map mark_of ns ++ mark_of n ∷ []
+map_one_more [] n = refl
+map_one_more (k ∷ ns) n = ap (λ ids. mark_of k ∷ ids) (map_one_more ns n)
 
 -- ## What holds of the links, whatever happens
 
 -- What the host has said on the newest link, and may still say.
 pub record IsSaying (l : Carried) (h : HostView) (receipt : Option (List Command)) : Type 0 where
   pub said : List Command
+  pub used : ℕ
   pub begins : spell said ≡ l.bytes ++ h.out
-  pub numbered : AllByRecursion (IsNumbered l.first h.next) said
-  pub from : l.first ≤ h.next
+  pub commands : AreCommands said
+  pub marks_are : marks said ≡ map mark_of (numbers_from used l.first)
+  pub next_is : h.next ≡ l.first + used
   pub within : h.next ≤ l.limit
-  pub left : (commands : List Command) → receipt ≡ Some commands → h.next < l.limit
+  pub left : (some : List Command) → receipt ≡ Some some → h.next < l.limit
 
 abbrev pub SaysOn : List Carried → HostView → Option (List Command) → Type 0
 SaysOn [] h receipt = ⊥
@@ -202,33 +204,36 @@ moved_on Goes w new notes low links moves on c = record {
 
 -- ## An entry is kept
 
-kept_by : (next : Then) (low : ℕ) (links : List Carried) (kept : List Entry) (hand : Option Hand) (h : HostView) (m after : MachineView) (e : Entry) → m.book.next ≡ next_free kept
+kept_by : Ids → (next : Then) (low : ℕ) (links : List Carried) (kept : List Entry) (hand : Option Hand) (h : HostView) (m after : MachineView) (e : Entry) → m.book.next ≡ next_free kept
     → MayFollow kept e → IsToKeep kept hand h e next → Follows next m.host m.book.next after.book after.host after.stage → AreApart low links (next_free kept) → AllByRecursion HasOwnMarks links
     → AreApart low (link_of next e (next_free kept) ++ links) (next_free (kept ++ e ∷ [])) × AllByRecursion HasOwnMarks (link_of next e (next_free kept) ++ links)
     × TalksOn after.stage after.host (link_of next e (next_free kept) ++ links)
-kept_by then.Queued low links kept hand h m after e first may keeps (number, is, host, at) apart own =
+kept_by ids then.Queued low links kept hand h m after e first may keeps (number, is, host, at) apart own =
     (apart_more low (next_free kept) (next_free (kept ++ e ∷ [])) links (grows kept e may) apart, own, quiet_on after.stage after.host links (subst IsQuiet (sym at) tt))
-kept_by then.Raised low links kept hand h m after e first may keeps (host, at) apart own =
+kept_by ids then.Raised low links kept hand h m after e first may keeps (host, at) apart own =
     (apart_more low (next_free kept) (next_free (kept ++ e ∷ [])) links (grows kept e may) apart, own, quiet_on after.stage after.host links (subst IsQuiet (sym at) tt))
-kept_by (then.Recorded number) low links kept hand h m after e first may keeps (drops, at) apart own =
+kept_by ids (then.Recorded number) low links kept hand h m after e first may keeps (drops, at) apart own =
     (apart_more low (next_free kept) (next_free (kept ++ e ∷ [])) links (grows kept e may) apart, own, quiet_on after.stage after.host links (subst IsQuiet (sym at) tt))
-kept_by (then.Send due) low links kept hand h m after e first may keeps follows apart own =
+kept_by ids (then.Send due) low links kept hand h m after e first may keeps follows apart own =
     let openings : ℕ = max due.openings 1 in
     let is : e ≡ entry.Tried due.number (next_free kept + marks_taken due.openings) = keeps.2 in
     let limit : limit_of e ≡ next_free kept + marks_taken due.openings = ap limit_of is in
     let after_it : next_free (kept ++ e ∷ []) ≡ next_free kept + marks_taken due.openings =
     ap (λ x. next_free (kept ++ x ∷ [])) is ∙ next_after_tried kept due.number (next_free kept + marks_taken due.openings) in
+    let enough : next_free kept + openings ≤ mark_count = omega (arith, keeps.1.within) in
     let l : Carried = record { first = next_free kept; limit = limit_of e; bytes = [] } in (
       (omega (arith, limit, after_it), omega (arith, limit), apart),
-      (record { said = []; unsaid = []; begins = refl; numbered = tt }, own),
+      (record { said = []; unsaid = []; used = 0; begins = refl; commands = tt; marks_are = refl; within = omega (arith, limit) }, own),
       elim follows [
         | inl opened ↦
             let host : after.host ≡ dialled (fresh (next_free kept)) openings = opened.0 ∙ ap (λ f. dialled (fresh f) openings) first in
             subst (λ s. TalksOn s after.host (l ∷ links)) (sym opened.1) (subst (λ v. IsSaying l v (Some due.receipt)) (sym host) (record {
               said = marks_from openings (next_free kept);
+              used = openings;
               begins = refl;
-              numbered = numbered_openings (next_free kept) (next_free kept + openings) openings (next_free kept) (omega arith) (omega arith);
-              from = omega arith;
+              commands = openings_in_range ids openings (next_free kept) enough;
+              marks_are = marks_of_openings openings (next_free kept);
+              next_is = refl;
               within = omega (arith, limit);
               left = λ commands some. omega (arith, limit);
             }))
@@ -236,8 +241,8 @@ kept_by (then.Send due) low links kept hand h m after e first may keeps follows 
       ],
     )
 
-kept_carried : (w new : World) (low : ℕ) (links : List Carried) → IsWorld w → AreCarried low w links → Happens w event.Keep new → AreCarried low new (links_after w event.Keep links)
-kept_carried w new low links known c stores =
+kept_carried : Ids → (w new : World) (low : ℕ) (links : List Carried) → IsWorld w → AreCarried low w links → Happens w event.Keep new → AreCarried low new (links_after w event.Keep links)
+kept_carried ids w new low links known c stores =
     let m : MachineView = stores.moves.m in
     let after : MachineView = stores.moves.after in
     let e : Entry = stores.entry in
@@ -247,7 +252,7 @@ kept_carried w new low links known c stores =
     let book = (subst (λ s. (BookMayLag s → ⊥) → IsBookOf m.book w.kept) is here.0) (λ no. no) in
     let kept = subst (λ s. Kept s m after) is stores.moves.goes.1 in
     let link : link_by w.machine (next_free w.kept) ≡ link_of stores.next e (next_free w.kept) = ap (λ o. link_by o (next_free w.kept)) stores.moves.was ∙ ap (λ s. link_at s (next_free w.kept)) is in
-    let (apart, own, talks) = kept_by stores.next low links w.kept known.hand (with_earlier known.earlier known.host) m after e book.next holds.0 holds.1 kept.1 c.apart c.own in
+    let (apart, own, talks) = kept_by ids stores.next low links w.kept known.hand (with_earlier known.earlier known.host) m after e book.next holds.0 holds.1 kept.1 c.apart c.own in
     subst (λ ls. AreCarried low new (ls ++ links)) (sym link) (record {
       apart = subst (λ k. AreApart low (link_of stores.next e (next_free w.kept) ++ links) (next_free k.kept)) (sym stores.moves.is) apart;
       own = own;
@@ -274,7 +279,8 @@ failed_carried w new low links why has known more c stores =
 -- ## Bytes are put
 
 own_of : (l : Carried) (h : HostView) (receipt : Option (List Command)) → IsSaying l h receipt → HasOwnMarks l
-own_of l h receipt says = record { said = says.said; unsaid = h.out; begins = says.begins; numbered = higher l.first h.next l.limit says.said says.within says.numbered }
+own_of l h receipt says =
+    record { said = says.said; unsaid = h.out; used = says.used; begins = says.begins; commands = says.commands; marks_are = says.marks_are; within = omega (arith, says.next_is, says.within) }
 
 put_says : (l : Carried) (h : HostView) (receipt : Option (List Command)) (most count : ℕ) → count ≡ min most (length h.out) → IsSaying l h receipt
     → IsSaying (record { first = l.first; limit = l.limit; bytes = l.bytes ++ take most h.out }) (taken_out h count) receipt
@@ -282,10 +288,12 @@ put_says l h receipt most count is says =
     let same : take most h.out ≡ take count h.out = sym (take_min most h.out) ∙ ap (λ k. take k h.out) (sym is) in
     record {
       said = says.said;
+      used = says.used;
       begins = says.begins ∙ ap (λ k. l.bytes ++ k) (sym (take-append-drop count h.out)) ∙ sym (append_assoc l.bytes (take count h.out) (drop count h.out))
           ∙ ap (λ k. (l.bytes ++ k) ++ drop count h.out) (sym same);
-      numbered = says.numbered;
-      from = says.from;
+      commands = says.commands;
+      marks_are = says.marks_are;
+      next_is = says.next_is;
       within = says.within;
       left = says.left;
     }
@@ -325,8 +333,11 @@ part_put low high (l ∷ ls) h receipt most fewer says apart own =
         record {
           said = says.said;
           unsaid = drop fewer front ++ drop most h.out;
+          used = says.used;
           begins = says.begins ∙ sym all;
-          numbered = higher l.first h.next l.limit says.said says.within says.numbered;
+          commands = says.commands;
+          marks_are = says.marks_are;
+          within = omega (arith, says.next_is, says.within);
         },
         own.1,
       ),
@@ -352,9 +363,11 @@ breaks_carried w new low links most fewer why c breaks =
 saying_for : (l : Carried) (h h' : HostView) (receipt : Option (List Command)) → h'.out ≡ h.out → h'.next ≡ h.next → IsSaying l h receipt → IsSaying l h' receipt
 saying_for l h h' receipt out next says = record {
   said = says.said;
+  used = says.used;
   begins = says.begins ∙ ap (λ k. l.bytes ++ k) (sym out);
-  numbered = subst (λ n. AllByRecursion (IsNumbered l.first n) says.said) (sym next) says.numbered;
-  from = subst (λ n. l.first ≤ n) (sym next) says.from;
+  commands = says.commands;
+  marks_are = says.marks_are;
+  next_is = next ∙ says.next_is;
   within = subst (λ n. n ≤ l.limit) (sym next) says.within;
   left = λ commands some. subst (λ n. n < l.limit) (sym next) (says.left commands some);
 }
@@ -401,49 +414,50 @@ goes_says l ls talk zero h after says (drops, is) = quiet_on after.stage after.h
 goes_says l ls talk (suc left) h after says (same, is) = subst (λ s. TalksOn s after.host (l ∷ ls)) (sym is) (subst (λ v. IsSaying l v talk.receipt) (sym same) says)
 
 -- The receipt is put out, with one more mark.
-submitted_says : (l : Carried) (h : HostView) (flight : List InFlight) (commands : List Command) → IsSaying l h (Some commands) → marks commands ≡ []
+submitted_says : Ids → (l : Carried) (h : HostView) (flight : List InFlight) (commands : List Command) → IsSaying l h (Some commands) → IsFitting (line.Submit commands) → h.next < mark_count
     → IsSaying l (submitted h flight commands) None
-submitted_says l h flight commands says unmarked =
+submitted_says ids l h flight commands says (unmarked, in_range) high =
     let more : List Command = kind.Init ∷ (commands ++ next_mark h ∷ []) in
     let fewer : h.next < l.limit = says.left commands refl in
+    let marked : marks more ≡ mark_of h.next ∷ [] = marks_of_both commands (next_mark h ∷ []) ∙ ap (λ ids. ids ++ mark_of h.next ∷ []) unmarked in
     record {
       said = says.said ++ more;
+      used = suc says.used;
       begins = flat_map-append row says.said more ∙ ap (λ k. k ++ spell more) says.begins ∙ append_assoc l.bytes h.out (spell more);
-      numbered = joined l.first (h.next + 1) says.said more (higher l.first h.next (h.next + 1) says.said (omega arith) says.numbered) (
-        λ id is. absurd (let bad : kind.Init ≡ kind.Mark id = is in cc),
-        joined l.first (h.next + 1) commands (next_mark h ∷ []) (numbered_unmarked l.first (h.next + 1) commands unmarked)
-            (numbered_mark l.first (h.next + 1) h.next says.from (omega arith), tt),
-      );
-      from = omega (arith, says.from);
+      commands = all_of_both says.said more says.commands (refl, all_of_both commands (next_mark h ∷ []) in_range (ids h.next high, tt));
+      marks_are = marks_of_both says.said more ∙ ap (λ ids. ids ++ marks more) says.marks_are ∙ ap (λ ids. map mark_of (numbers_from says.used l.first) ++ ids) marked
+          ∙ ap (λ n. map mark_of (numbers_from says.used l.first) ++ mark_of n ∷ []) says.next_is ∙ sym (map_one_more (numbers_from says.used l.first) (l.first + says.used))
+          ∙ ap (map mark_of) (sym (one_number_more says.used l.first));
+      next_is = omega (arith, says.next_is);
       within = omega (arith, fewer);
       left = λ others some. absurd (let bad : None ≡ Some others = some in cc);
     }
 
-submits_says : (l : Carried) (ls : List Carried) (talk : Talk) (receipt : Option (List Command)) (left : ℕ) (h : HostView) (after : MachineView) → talk.receipt ≡ receipt → IsSaying l h talk.receipt
-    → ((commands : List Command) → talk.receipt ≡ Some commands → marks commands ≡ []) → Submits talk receipt left h after.host after.stage → TalksOn after.stage after.host (l ∷ ls)
-submits_says l ls talk (Some commands) (suc left) h after is says unmarked (inl (flight, phase, few, mark, same, at)) =
-    subst (λ s. TalksOn s after.host (l ∷ ls)) (sym at) (subst (λ v. IsSaying l v None) (sym same) (submitted_says l h flight commands (subst (IsSaying l h) is says) (unmarked commands is)))
-submits_says l ls talk (Some commands) (suc left) h after is says unmarked (inr (why, refuses, drops, at)) = quiet_on after.stage after.host (l ∷ ls) (subst IsQuiet (sym at) tt)
-submits_says l ls talk (Some commands) zero h after is says unmarked so = goes_says l ls talk zero h after says so
-submits_says l ls talk None left h after is says unmarked so = goes_says l ls talk left h after says so
+submits_says : Ids → (l : Carried) (ls : List Carried) (talk : Talk) (receipt : Option (List Command)) (left : ℕ) (h : HostView) (after : MachineView) → talk.receipt ≡ receipt → IsSaying l h talk.receipt
+    → ((commands : List Command) → talk.receipt ≡ Some commands → IsFitting (line.Submit commands)) → Submits talk receipt left h after.host after.stage → TalksOn after.stage after.host (l ∷ ls)
+submits_says ids l ls talk (Some commands) (suc left) h after is says fits (inl (flight, phase, few, mark, same, at)) =
+    subst (λ s. TalksOn s after.host (l ∷ ls)) (sym at) (subst (λ v. IsSaying l v None) (sym same) (submitted_says ids l h flight commands (subst (IsSaying l h) is says) (fits commands is) mark))
+submits_says ids l ls talk (Some commands) (suc left) h after is says fits (inr (why, refuses, drops, at)) = quiet_on after.stage after.host (l ∷ ls) (subst IsQuiet (sym at) tt)
+submits_says ids l ls talk (Some commands) zero h after is says fits so = goes_says l ls talk zero h after says so
+submits_says ids l ls talk None left h after is says fits so = goes_says l ls talk left h after says so
 
-turned_says : (e : HostEvent) (l : Carried) (ls : List Carried) (talk : Talk) (left : ℕ) (before h : HostView) (after : MachineView) → IsSaying l before talk.receipt → (IsGood e → SaysSame before h)
-    → ((commands : List Command) → talk.receipt ≡ Some commands → marks commands ≡ []) → Turned e talk left h after.host after.stage → TalksOn after.stage after.host (l ∷ ls)
-turned_says heard.None l ls talk left before h after says same unmarked turned = goes_says l ls talk left h after (saying_for l before h talk.receipt (same tt).0 (same tt).1 says) turned
-turned_says (heard.Status byte) l ls talk left before h after says same unmarked turned = goes_says l ls talk left h after (saying_for l before h talk.receipt (same tt).0 (same tt).1 says) turned
-turned_says heard.Opened l ls talk left before h after says same unmarked turned =
-    submits_says l ls talk talk.receipt left h after refl (saying_for l before h talk.receipt (same tt).0 (same tt).1 says) unmarked turned
-turned_says (heard.Recorded place) l ls talk left before h after says same unmarked (host, is) = quiet_on after.stage after.host (l ∷ ls) (subst IsQuiet (sym is) tt)
-turned_says (heard.BadAnswer place) l ls talk left before h after says same unmarked (drops, is) = quiet_on after.stage after.host (l ∷ ls) (subst IsQuiet (sym is) tt)
+turned_says : Ids → (e : HostEvent) (l : Carried) (ls : List Carried) (talk : Talk) (left : ℕ) (before h : HostView) (after : MachineView) → IsSaying l before talk.receipt → (IsGood e → SaysSame before h)
+    → ((commands : List Command) → talk.receipt ≡ Some commands → IsFitting (line.Submit commands)) → Turned e talk left h after.host after.stage → TalksOn after.stage after.host (l ∷ ls)
+turned_says ids heard.None l ls talk left before h after says same fits turned = goes_says l ls talk left h after (saying_for l before h talk.receipt (same tt).0 (same tt).1 says) turned
+turned_says ids (heard.Status byte) l ls talk left before h after says same fits turned = goes_says l ls talk left h after (saying_for l before h talk.receipt (same tt).0 (same tt).1 says) turned
+turned_says ids heard.Opened l ls talk left before h after says same fits turned =
+    submits_says ids l ls talk talk.receipt left h after refl (saying_for l before h talk.receipt (same tt).0 (same tt).1 says) fits turned
+turned_says ids (heard.Recorded place) l ls talk left before h after says same fits (host, is) = quiet_on after.stage after.host (l ∷ ls) (subst IsQuiet (sym is) tt)
+turned_says ids (heard.BadAnswer place) l ls talk left before h after says same fits (drops, is) = quiet_on after.stage after.host (l ∷ ls) (subst IsQuiet (sym is) tt)
 
-came_says : (links : List Carried) (talk : Talk) (m after : MachineView) (bytes : List ℕ) (count : ℕ) → SaysOn links m.host talk.receipt → ((commands : List Command) → talk.receipt ≡ Some commands → marks commands ≡ [])
+came_says : Ids → (links : List Carried) (talk : Talk) (m after : MachineView) (bytes : List ℕ) (count : ℕ) → SaysOn links m.host talk.receipt → ((commands : List Command) → talk.receipt ≡ Some commands → IsFitting (line.Submit commands))
     → Came (stage.Talking talk) bytes count m after → TalksOn after.stage after.host links
-came_says [] talk m after bytes count says unmarked came = absurd says
-came_says (l ∷ ls) talk m after bytes count says unmarked (e, h, hears, turned, book) =
-    turned_says e l ls talk (talk.left - count) m.host h after says (hears_says e m.host bytes count h hears) unmarked turned
+came_says ids [] talk m after bytes count says fits came = absurd says
+came_says ids (l ∷ ls) talk m after bytes count says fits (e, h, hears, turned, book) =
+    turned_says ids e l ls talk (talk.left - count) m.host h after says (hears_says e m.host bytes count h hears) fits turned
 
-hears_carried : (w new : World) (low : ℕ) (links : List Carried) (most : ℕ) → IsWorld w → AreCarried low w links → Hears w most new → AreCarried low new links
-hears_carried w new low links most known c hears =
+hears_carried : Ids → (w new : World) (low : ℕ) (links : List Carried) (most : ℕ) → IsWorld w → AreCarried low w links → Hears w most new → AreCarried low new links
+hears_carried ids w new low links most known c hears =
     let m : MachineView = hears.m in
     let here = subst (λ o. IsMachineIn o w.kept known.hand (with_earlier known.earlier known.host)) hears.was known.machine in
     let holds = subst (Holds w.kept known.hand (with_earlier known.earlier known.host)) hears.talks here.1 in
@@ -453,7 +467,7 @@ hears_carried w new low links most known c hears =
       apart = subst (λ k. AreApart low links (next_free k.kept)) (sym hears.is) c.apart;
       own = c.own;
       talks = subst (λ k. MachineOn k.machine links) (sym hears.is)
-          (came_says links hears.talk m hears.after (take most w.wire.coming) hears.consumed says (λ commands some. (holds.7 commands some).1.0) came);
+          (came_says ids links hears.talk m hears.after (take most w.wire.coming) hears.consumed says (λ commands some. (holds.7 commands some).1) came);
     }
 
 -- ## Whatever happens
@@ -468,52 +482,52 @@ on_machine w new low links machine kept c = record {
 quietly : (links : List Carried) (m after : MachineView) → IsQuiet after.stage → TalksOn m.stage m.host links → TalksOn after.stage after.host links
 quietly links m after quiet talks = quiet_on after.stage after.host links quiet
 
-step_carried : (e : Happening) (w new : World) (low : ℕ) (links : List Carried) → IsWorld w → Happens w e new → AreCarried low w links → AreCarried low new (links_after w e links)
-step_carried event.Start w new low links known starts c = record {
+step_carried : Ids → (e : Happening) (w new : World) (low : ℕ) (links : List Carried) → IsWorld w → Happens w e new → AreCarried low w links → AreCarried low new (links_after w e links)
+step_carried ids event.Start w new low links known starts c = record {
   apart = subst (λ k. AreApart low links (next_free k.kept)) (sym starts.is) c.apart;
   own = c.own;
   talks = subst (λ k. MachineOn k.machine links) (sym starts.is) (quiet_on starts.m.stage starts.m.host links (subst IsQuiet (sym starts.started.stage) tt));
 }
-step_carried (event.Queue content) w new low links known moves c =
+step_carried ids (event.Queue content) w new low links known moves c =
     moved_on (λ m after. Queues m content after) w new w.told low links moves (λ m after queues. quietly links m after (subst IsQuiet (sym queues.keeps) tt)) c
-step_carried (event.Raise first) w new low links known moves c =
+step_carried ids (event.Raise first) w new low links known moves c =
     moved_on (λ m after. Raises m first after) w new w.told low links moves (λ m after raises. quietly links m after (subst (λ k. IsQuiet k.stage) (sym raises.after_is) tt)) c
-step_carried (event.Deliver openings most copy) w new low links known (is_copy, moves) c =
+step_carried ids (event.Deliver openings most copy) w new low links known (is_copy, moves) c =
     moved_on (λ m after. Delivers m openings most copy after × FitsLine after.stage) w new w.told low links moves
     (λ m after delivers. quietly links m after (subst (λ k. IsQuiet k.stage) (sym delivers.0.after_is) tt)) c
-step_carried event.Refuse w new low links known moves c =
+step_carried ids event.Refuse w new low links known moves c =
     moved_on SameEntries w new w.told low links moves
     (λ m after same talks. subst (λ s. TalksOn s after.host links) (sym same.stage) (subst (λ h. TalksOn m.stage h links) (sym same.host) talks)) c
-step_carried event.Keep w new low links known stores c = kept_carried w new low links known c stores
-step_carried (event.FailWith why) w new low links known stores c = failed_carried w new low links why with_entry known (grows w.kept) c stores
-step_carried (event.FailWithout why) w new low links known stores c = failed_carried w new low links why without_entry known (λ e may. omega arith) c stores
-step_carried event.Connect w new low links known moves c =
+step_carried ids event.Keep w new low links known stores c = kept_carried ids w new low links known c stores
+step_carried ids (event.FailWith why) w new low links known stores c = failed_carried w new low links why with_entry known (grows w.kept) c stores
+step_carried ids (event.FailWithout why) w new low links known stores c = failed_carried w new low links why without_entry known (λ e may. omega arith) c stores
+step_carried ids event.Connect w new low links known moves c =
     moved_on (λ m after. after ≡ connected m.stage m) w new w.told low links moves (λ m after is. same_or_quiet m after links (connected_so m.stage m after is)) c
-step_carried event.Miss w new low links known moves c =
+step_carried ids event.Miss w new low links known moves c =
     moved_on (λ m after. after ≡ not_connected m.stage m) w new w.told low links moves (λ m after is. same_or_quiet m after links (missed_so m.stage m after is)) c
-step_carried (event.Put most) w new low links known puts c = puts_carried w new low links most c puts
-step_carried (event.Break most fewer why) w new low links known breaks c = breaks_carried w new low links most fewer why c breaks
-step_carried (event.Hear most) w new low links known hears c = hears_carried w new low links most known c hears
-step_carried (event.End why) w new low links known moves c =
+step_carried ids (event.Put most) w new low links known puts c = puts_carried w new low links most c puts
+step_carried ids (event.Break most fewer why) w new low links known breaks c = breaks_carried w new low links most fewer why c breaks
+step_carried ids (event.Hear most) w new low links known hears c = hears_carried ids w new low links most known c hears
+step_carried ids (event.End why) w new low links known moves c =
     moved_on (λ m after. Ended m.stage why m after) w new w.told low links moves (λ m after ended. same_or_quiet m after links (ended_so m.stage why m after ended)) c
-step_carried event.HangUp w new low links known moves c =
+step_carried ids event.HangUp w new low links known moves c =
     moved_on (λ m after. after ≡ hung_up m.stage m) w new w.told low links moves (λ m after is. same_or_quiet m after links (hung_so m.stage m after is)) c
-step_carried event.Tell w new low links known tells c =
+step_carried ids event.Tell w new low links known tells c =
     moved_on _ w new (w.told ++ tells.note ∷ []) low links tells.moves
     (λ m after goes. quietly links m after (subst (λ k. IsQuiet k.stage) (sym (goes.1 ∙ ap (λ s. told s m) goes.0)) (note_quiet tells.note))) c
-step_carried (event.OnWire e) w new low links known goes c = on_machine w new low links (ap (λ k. k.machine) goes.is) (ap (λ k. k.kept) goes.is) c
-step_carried event.Idle w new low links known idles c = on_machine w new low links (ap (λ k. k.machine) idles.is) (ap (λ k. k.kept) idles.is) c
-step_carried event.Crash w new low links known crashes c = record {
+step_carried ids (event.OnWire e) w new low links known goes c = on_machine w new low links (ap (λ k. k.machine) goes.is) (ap (λ k. k.kept) goes.is) c
+step_carried ids event.Idle w new low links known idles c = on_machine w new low links (ap (λ k. k.machine) idles.is) (ap (λ k. k.kept) idles.is) c
+step_carried ids event.Crash w new low links known crashes c = record {
   apart = subst (λ k. AreApart low links (next_free k.kept)) (sym crashes.is) c.apart;
   own = c.own;
   talks = subst (λ k. MachineOn k.machine links) (sym crashes.is) tt;
 }
 
-pub all_carried : LineLaws → (es : List Happening) (w new : World) (low : ℕ) (before links : List Carried) → IsWorld w → AreCarried low w before → Carries w es new before links
+pub all_carried : Ids → LineLaws → (es : List Happening) (w new : World) (low : ℕ) (before links : List Carried) → IsWorld w → AreCarried low w before → Carries w es new before links
     → AreCarried low new links
-all_carried laws [] w new low before links known c (same, is) = subst (AreCarried low new) (sym is) (subst (λ k. AreCarried low k before) (sym same) c)
-all_carried laws (e ∷ es) w new low before links known c (mid, happened, more) =
-    all_carried laws es mid new low (links_after w e before) links (whatever laws w mid e known happened) (step_carried e w mid low before known happened c) more
+all_carried ids laws [] w new low before links known c (same, is) = subst (AreCarried low new) (sym is) (subst (λ k. AreCarried low k before) (sym same) c)
+all_carried ids laws (e ∷ es) w new low before links known c (mid, happened, more) =
+    all_carried ids laws es mid new low (links_after w e before) links (whatever laws w mid e known happened) (step_carried ids e w mid low before known happened c) more
 
 pub none_carried : (w : World) → w.machine ≡ None → AreCarried (next_free w.kept) w []
 none_carried w off = record { apart = omega arith; own = tt; talks = subst (λ o. MachineOn o []) (sym off) tt }

@@ -27,10 +27,10 @@ use Rattle.std.proofs.Math.Nat.{min-eq_left}
 use Rattle.escpos_till.specs.Delivers.{fresh}
 use Rattle.escpos_till.specs.Driver.{Breaks, Deed, DidAll, Ends, Gives, HangsUp, HearsAll, Keeps, Links, Loses, Misses, Puts, Ran, Tells, Turns}
 use Rattle.escpos_till.specs.Machine.{Came, Drops, Ended, Follows, GoesOn, Kept, MachineView, Submits, Turns as Turned, Unsure, connected, lost, after_note, hung_up, not_connected, put, told}
-use Rattle.escpos_till_model.specs.Around.{Around, Does, DoesInTime, GoesOnBy, HasNoLink, IsAround, Reaches, around}
+use Rattle.escpos_till_model.specs.Around.{Around, CrashesTo, Does, DoesInTime, GoesOnBy, HasNoLink, IsAround, Reaches, around}
 use Rattle.escpos_till_model.specs.declared.event.Happening.{Happening}
-use Rattle.escpos_till_model.specs.declared.event.Happening.TheVariants.{Break, Connect, End, FailWith, FailWithout, HangUp, Hear, Idle, Keep, Miss, OnWire, Put, Tell}
-use Rattle.escpos_till_model.specs.World.{Happens, Moves, Runs, Stores, Wired, World, running, with_entry, with_wire, without_entry}
+use Rattle.escpos_till_model.specs.declared.event.Happening.TheVariants.{Break, Connect, Crash, End, FailWith, FailWithout, HangUp, Hear, Idle, Keep, Miss, OnWire, Put, Tell}
+use Rattle.escpos_till_model.specs.World.{Happens, Moves, Runs, Stores, Wired, World, running, with_entry, with_wire, without_entry, Crashes, off}
 use Rattle.escpos_till_model.proofs.LinesKept.{down_or_up}
 use Rattle.escpos_till_model.proofs.WireEvents.{goes_on_given_up, goes_on_more, goes_on_with_more, with_more}
 
@@ -332,6 +332,26 @@ misses m mid a w shows (due, is, mid_is) sound =
     (move (λ k after. after ≡ not_connected k.stage k) w m mid w.kept w.told w.wire shows.machine mid_is sound (wired_down m.host mid.host w.wire down down'))
     (shows_at _ mid a (running mid w.kept w.wire w.told) refl shows.kept shows.told (ap (λ v. v.stage) so) (down', same))
 
+-- The printer had the link, and it was given up with nothing on it.
+misses_late : (m mid : MachineView) (a : Around) (w : World) → Shows m a w → Turns m Misses mid → IsSound mid.host → Leads w mid (around a.kept (given_up (with_link a.wire)) a.told)
+misses_late m mid a w shows (due, is, mid_is) sound =
+    let so : mid ≡ not_connected (stage.Connecting due) m = mid_is ∙ ap (λ s. not_connected s m) is in
+    let (down, same) = wire_at (stage.Connecting due) m a w is shows in
+    let host : mid.host ≡ m.host = ap (λ v. v.host) so in
+    let down' : mid.host.phase ≡ Down = ap (λ h. h.phase) host ∙ down in
+    let idle : WireView = given_up (with_link w.wire) in
+    let new : World = running mid w.kept idle w.told in
+    record {
+      happenings = Miss ∷ Idle ∷ [];
+      now = new;
+      runs = (
+        running mid w.kept w.wire w.told,
+        move (λ k after. after ≡ not_connected k.stage k) w m mid w.kept w.told w.wire shows.machine mid_is sound (wired_down m.host mid.host w.wire down down'),
+        (new, record { none = λ k here. subst DownIn here down'; is = refl }, refl),
+      );
+      shows = shows_at _ mid (around a.kept (given_up (with_link a.wire)) a.told) new refl shows.kept shows.told (ap (λ v. v.stage) so) (down', ap (λ v. given_up (with_link v)) same);
+    }
+
 hangs_up : (m mid : MachineView) (a : Around) (w : World) → Shows m a w → Turns m HangsUp mid → IsSound mid.host → Leads w mid (around a.kept (given_up a.wire) a.told)
 hangs_up m mid a w shows (note, is, mid_is) sound =
     let so : mid ≡ hung_up (stage.HangingUp note) m = mid_is ∙ ap (λ s. hung_up s m) is in
@@ -616,7 +636,8 @@ does (Keeps e) m mid a new w shows turns sound is = to_new w mid _ new is (keeps
 does (Loses e why) m mid a new w shows turns sound (inl is) = to_new w mid _ new is (loses_without m mid a w e why shows turns sound)
 does (Loses e why) m mid a new w shows turns sound (inr is) = to_new w mid _ new is (loses_with m mid a w e why shows turns sound)
 does Links m mid a new w shows turns sound is = to_new w mid _ new is (links m mid a w shows turns sound)
-does Misses m mid a new w shows turns sound is = to_new w mid _ new is (misses m mid a w shows turns sound)
+does Misses m mid a new w shows turns sound (inl is) = to_new w mid _ new is (misses m mid a w shows turns sound)
+does Misses m mid a new w shows turns sound (inr is) = to_new w mid _ new is (misses_late m mid a w shows turns sound)
 does (Puts bytes) m mid a new w shows turns sound is = to_new w mid _ new is (puts m mid a w bytes shows turns sound)
 does (Breaks bytes why) m mid a new w shows turns sound (k, few, is) = to_new w mid _ new is (breaks m mid a w bytes why k shows turns sound few)
 does (Gives bytes) m mid a new w shows turns sound (bytes_are, is) = to_new w mid _ new is (gives bytes m mid a w shows turns sound bytes_are)
@@ -682,6 +703,70 @@ reach (stage.Keeping e then.Raised) w m a leads is shown = reach_at_rest w m a l
 reach (stage.Telling note) w m a leads is shown = reach_at_rest w m a leads (stage.Telling note) is tt shown
 reach stage.Failed w m a leads is shown = reach_at_rest w m a leads stage.Failed is tt shown
 
+-- ## Where the till is switched off
+
+-- Its host is on no link: the wire stays as it is.
+crash_down : (w : World) (m : MachineView) (wire : WireView) → w.machine ≡ Some m → w.wire ≡ wire → m.host.phase ≡ Down → Crashes w (off w w.wire)
+crash_down w m wire was same down = record {
+  wire = w.wire;
+  no_link = λ none. refl;
+  link = λ k here up. absurd (up (subst DownIn (sym was ∙ here) down));
+  is = refl;
+}
+
+crash_up : (w : World) (m : MachineView) → w.machine ≡ Some m → m.host.phase ≢ Down → Crashes w (off w (given_up w.wire))
+crash_up w m was up = record {
+  wire = given_up w.wire;
+  no_link = λ none. absurd (up (none m was));
+  link = λ k here up. refl;
+  is = refl;
+}
+
+crash_with : (w : World) (m : MachineView) (a : Around) (es : List Happening) (mid : World) (wire : WireView) (s : Stage) → m.stage ≡ s → Runs w es mid → Crashes mid (off mid wire) → mid.kept ≡ a.kept → mid.told ≡ a.told
+    → (HasNoLink s → wire ≡ a.wire) → ((HasNoLink s → ⊥) → wire ≡ given_up a.wire) → CrashesTo w m a
+crash_with w m a es mid wire s is runs crashes kept notes none some = record {
+  happenings = es ++ Crash ∷ [];
+  now = off mid wire;
+  runs = runs_more es (Crash ∷ []) w mid (off mid wire) runs (one mid (off mid wire) Crash crashes);
+  off = refl;
+  kept = kept;
+  told = notes;
+  no_link = λ rests. none (subst HasNoLink is rests);
+  link = λ not. some (λ rests. not (subst HasNoLink (sym is) rests));
+}
+
+crash_at_rest : (w : World) (m : MachineView) (a : Around) (leads : Leads w m a) (s : Stage) → m.stage ≡ s → HasNoLink s → (m.host.phase ≡ Down) × (leads.now.wire ≡ a.wire) → CrashesTo w m a
+crash_at_rest w m a leads s is none (down, same) =
+    crash_with w m a leads.happenings leads.now leads.now.wire s is leads.runs (crash_down leads.now m a.wire leads.shows.machine same down) leads.shows.kept leads.shows.told (λ no. same)
+    (λ not. absurd (not none))
+
+crash : (s : Stage) (w : World) (m : MachineView) (a : Around) (leads : Leads w m a) → m.stage ≡ s → ShowsWire s m.host leads.now.wire a.wire → CrashesTo w m a
+crash (stage.Keeping e (then.Send due)) w m a leads is (down, (events, goes)) =
+    let idle : World = with_wire leads.now (given_up (with_link leads.now.wire)) in
+    let mid : World = with_wire leads.now (given_up a.wire) in
+    crash_with w m a (leads.happenings ++ (Idle ∷ events_of events)) mid (given_up a.wire) (stage.Keeping e (then.Send due)) is
+    (runs_more leads.happenings (Idle ∷ events_of events) w leads.now mid leads.runs (
+      idle,
+      record { none = λ k here. subst DownIn (sym leads.shows.machine ∙ here) down; is = refl },
+      runs_events events idle (given_up a.wire) (goes_on_given_up events (with_link leads.now.wire) a.wire goes),
+    ))
+    (crash_down mid m (given_up a.wire) leads.shows.machine refl down) leads.shows.kept leads.shows.told (λ none. absurd none) (λ not. refl)
+crash (stage.Keeping e (then.Recorded number)) w m a leads is (up, (dropped, same)) =
+    crash_with w m a leads.happenings leads.now (given_up leads.now.wire) (stage.Keeping e (then.Recorded number)) is leads.runs (crash_up leads.now m leads.shows.machine up) leads.shows.kept leads.shows.told
+    (λ none. absurd none) (λ not. ap given_up same)
+crash (stage.Talking talk) w m a leads is (up, same) =
+    crash_with w m a leads.happenings leads.now (given_up leads.now.wire) (stage.Talking talk) is leads.runs (crash_up leads.now m leads.shows.machine up) leads.shows.kept leads.shows.told (λ none. absurd none)
+    (λ not. ap given_up same)
+crash (stage.HangingUp note) w m a leads is (down, same) =
+    crash_with w m a leads.happenings leads.now leads.now.wire (stage.HangingUp note) is leads.runs (crash_down leads.now m (given_up a.wire) leads.shows.machine same down) leads.shows.kept leads.shows.told
+    (λ none. absurd none) (λ not. same)
+crash stage.AtRest w m a leads is shown = crash_at_rest w m a leads stage.AtRest is tt shown
+crash (stage.Connecting due) w m a leads is shown = crash_at_rest w m a leads (stage.Connecting due) is tt shown
+crash (stage.Keeping e then.Queued) w m a leads is shown = crash_at_rest w m a leads (stage.Keeping e then.Queued) is tt shown
+crash (stage.Keeping e then.Raised) w m a leads is shown = crash_at_rest w m a leads (stage.Keeping e then.Raised) is tt shown
+crash (stage.Telling note) w m a leads is shown = crash_at_rest w m a leads (stage.Telling note) is tt shown
+crash stage.Failed w m a leads is shown = crash_at_rest w m a leads stage.Failed is tt shown
+
 starts : (s : Stage) (h : HostView) (w near : WireView) → HasNoLink s → h.phase ≡ Down → w ≡ near → ShowsWire s h w near
 starts stage.AtRest h w near none down same = (down, same)
 starts (stage.Connecting due) h w near none down same = (down, same)
@@ -694,9 +779,19 @@ starts (stage.HangingUp note) h w near none down same = absurd none
 starts (stage.Telling note) h w near none down same = (down, same)
 starts stage.Failed h w near none down same = (down, same)
 
-pub driven : (m after : MachineView) (a new : Around) (w : World) → IsAround m a w → Ran DoesInTime m a after new → Reaches w after new
-driven m after a new w here ran =
+-- A driver's run, as it shows in the world.
+run_shown : (m after : MachineView) (a new : Around) (w : World) → IsAround m a w → Ran DoesInTime m a after new → Leads w after new
+run_shown m after a new w here ran =
     let wire : ShowsWire m.stage m.host w.wire a.wire = starts m.stage m.host w.wire a.wire here.stage here.down (ap (λ k. k.wire) (sym here.surrounds)) in
     let shows : Shows m a w = record { machine = here.machine; kept = ap (λ k. k.kept) (sym here.surrounds); told = ap (λ k. k.told) (sym here.surrounds); wire = wire } in
-    let leads = does_all ran.deeds m after a new w shows ran.did_all in
+    does_all ran.deeds m after a new w shows ran.did_all
+
+pub driven : (m after : MachineView) (a new : Around) (w : World) → IsAround m a w → Ran DoesInTime m a after new → Reaches w after new
+driven m after a new w here ran =
+    let leads = run_shown m after a new w here ran in
     reach after.stage w after new leads refl leads.shows.wire
+
+pub crashed : (m after : MachineView) (a new : Around) (w : World) → IsAround m a w → Ran DoesInTime m a after new → CrashesTo w after new
+crashed m after a new w here ran =
+    let leads = run_shown m after a new w here ran in
+    crash after.stage w after new leads refl leads.shows.wire

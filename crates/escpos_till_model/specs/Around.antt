@@ -2,7 +2,7 @@
 --
 -- Here a link is opened where the driver opens it, and given up where the driver does that: before the machine's host is on it, and after
 -- it is off again. Between two deeds, and before the first, anything may happen at the printer's end.
-use Rattle.std.specs.Prelude.{ℕ, true, ◌≡◌, ◌≤◌, ◌⊎◌, List, [], ◌∷◌, ◌++◌, length, take, Some}
+use Rattle.std.specs.Prelude.{ℕ, true, ◌≡◌, ◌≤◌, ◌⊎◌, List, [], ◌∷◌, ◌++◌, length, take, None, Some}
 use Rattle.escpos_host.specs.Machine.{Down}
 use Rattle.escpos_link.specs.declared.event.Event.{Event}
 use Rattle.escpos_link.specs.declared.event.Note.{Note}
@@ -30,12 +30,13 @@ abbrev pub GoesOnBy : WireView → List Event → WireView → Type 0
 GoesOnBy w [] after = after ≡ w
 GoesOnBy w (e ∷ es) after = (mid : WireView) × (effect : Note) × (is_printer_event e ≡ true) × AfterOnWire e w effect mid × GoesOnBy mid es after
 
--- What each deed does, on a wire that neither changes bytes nor loses any in the middle, and with a store that keeps what it has kept.
+-- What each deed does, on a wire that neither changes bytes nor loses any in the middle, and with a store that keeps what it has kept. A link
+-- that is missed may have been there for the printer. Where the till is switched off within an append or a put, that is `Loses` or `Breaks`.
 abbrev pub Does : Around → Deed → Around → Type 0
 Does a (Keeps e) new = new ≡ around (a.kept ++ e ∷ []) a.wire a.told
 Does a (Loses e why) new = (new ≡ a) ⊎ (new ≡ around (a.kept ++ e ∷ []) a.wire a.told)
 Does a Links new = new ≡ around a.kept (with_link a.wire) a.told
-Does a Misses new = new ≡ a
+Does a Misses new = (new ≡ a) ⊎ (new ≡ around a.kept (given_up (with_link a.wire)) a.told)
 Does a (Puts bytes) new = new ≡ around a.kept (with_bytes a.wire bytes) a.told
 Does a (Breaks bytes why) new = (count : ℕ) × (count ≤ length bytes) × (new ≡ around a.kept (with_bytes a.wire (take count bytes)) a.told)
 Does a (Gives bytes) new = (bytes ≡ take (length bytes) a.wire.coming) × (new ≡ around a.kept (heard_from a.wire (length bytes)) a.told)
@@ -77,3 +78,15 @@ pub record Reaches (w : World) (m : MachineView) (a : Around) : Type 0 where
   pub told : now.told ≡ a.told
   pub printer : now.wire.printer ≡ a.wire.printer
   pub rests : HasNoLink m.stage → IsAround m a now
+
+-- The till is switched off there, whatever it was doing: happenings lead to a world with the same entries and notes, whose wire is that of the
+-- driver once its link, if there is one, is given up.
+pub record CrashesTo (w : World) (m : MachineView) (a : Around) : Type 0 where
+  pub happenings : List Happening
+  pub now : World
+  pub runs : Runs w happenings now
+  pub off : now.machine ≡ None
+  pub kept : now.kept ≡ a.kept
+  pub told : now.told ≡ a.told
+  pub no_link : HasNoLink m.stage → now.wire ≡ a.wire
+  pub link : (HasNoLink m.stage → ⊥) → now.wire ≡ given_up a.wire

@@ -1,15 +1,15 @@
 -- What a till puts on its links, and with which mark numbers: told of the bytes on each link, over every run of the world.
-use Rattle.std.specs.Prelude.{ℕ, ◌≡◌, ◌<◌, ◌≤◌, Option, Some, None, List, [], ◌∷◌, ◌++◌, take}
-use Rattle.std.specs.List.{AllByRecursion}
+use Rattle.std.specs.Prelude.{ℕ, zero, suc, ◌≡◌, ◌+◌, ◌<◌, ◌≤◌, map, Option, Some, None, List, [], ◌∷◌, ◌++◌, take}
 use Rattle.escpos_command.specs.declared.command.Command.{Command}
-use Rattle.escpos_command.specs.CommandTable.{spell}
+use Rattle.escpos_command.specs.CommandTable.{AreCommands, spell}
+use Rattle.escpos_command.specs.Digits.{mark_of}
+use Rattle.escpos_command.specs.Marks.{marks}
 use Rattle.escpos_till.specs.declared.entry.Entry.{Entry}
 use Rattle.escpos_till.specs.declared.entry.Entry.TheVariants as entry
 use Rattle.escpos_till.specs.declared.machine.Stage.{Stage}
 use Rattle.escpos_till.specs.declared.machine.Stage.TheVariants as stage
 use Rattle.escpos_till.specs.declared.machine.Then.{Then}
 use Rattle.escpos_till.specs.declared.machine.Then.TheVariants as then
-use Rattle.escpos_till.specs.Delivers.{IsNumbered}
 use Rattle.escpos_till.specs.Entries.{next_free}
 use Rattle.escpos_till.specs.Machine.{MachineView}
 use Rattle.escpos_till_model.specs.declared.event.Happening.{Happening}
@@ -62,12 +62,21 @@ abbrev pub Carries : World → List Happening → World → List Carried → Lis
 Carries w [] new before links = (new ≡ w) × (links ≡ before)
 Carries w (e ∷ es) new before links = (mid : World) × Happens w e mid × Carries mid es new (links_after w e before) links
 
--- What was put on the link is the beginning of commands, each of whose marks has a number that is reserved for it.
+-- So many numbers, one after another, from this one on.
+abbrev pub numbers_from : ℕ → ℕ → List ℕ
+numbers_from zero first = []
+numbers_from (suc count) first = first ∷ numbers_from count (first + 1)
+
+-- What was put on the link is the beginning of commands. Their marks have the numbers that are reserved for it, from the first on, each
+-- once and in order.
 pub record HasOwnMarks (l : Carried) : Type 0 where
   pub said : List Command
   pub unsaid : List ℕ
+  pub used : ℕ
   pub begins : spell said ≡ l.bytes ++ unsaid
-  pub numbered : AllByRecursion (IsNumbered l.first l.limit) said
+  pub commands : AreCommands said
+  pub marks_are : marks said ≡ map mark_of (numbers_from used l.first)
+  pub within : l.first + used ≤ l.limit
 
 -- The numbers of each link are above those of the links before it, from `low` on and below `high`: none is reserved twice.
 abbrev pub AreApart : ℕ → List Carried → ℕ → Type 0

@@ -11,7 +11,7 @@ ghost use Rattle.escpos_till.specs.declared.machine.TillNote.TheVariants as note
 ghost use Rattle.escpos_till.specs.Entries.{IsLedger, next_free, recorded, taken};
 ghost use Rattle.escpos_till.specs.Driver.{Ran};
 ghost use Rattle.escpos_till.specs.Machine.{MachineView};
-ghost use Rattle.escpos_till_model.specs.Around.{Around, DoesInTime, IsAround, Reaches};
+ghost use Rattle.escpos_till_model.specs.Around.{Around, CrashesTo, DoesInTime, IsAround, Reaches};
 ghost use Rattle.std.specs.List.{AllByRecursion};
 ghost use Rattle.escpos_till_model.specs.Carried.{AreApart, Carried, Carries, HasOwnMarks};
 ghost use Rattle.escpos_till_model.specs.Receipts.{Among, EachIsKept, Extends, RecordedStand};
@@ -50,8 +50,8 @@ pub fn what_is_recorded_stands()
     escpos_link::laws::in_turn();
 }
 
-/// What goes out: over every list of happenings each link has mark numbers of its own, which an entry has reserved before, and the bytes
-/// that are put on it have no other; so no mark number goes out twice.
+/// What goes out: over every list of happenings each link has mark numbers of its own, which an entry has reserved before. The marks in the
+/// bytes that are put on it have these numbers, each once and in order; so no mark number goes out twice.
 pub fn marks_are_used_once()
     ensures carries { (w after : World) (happenings : List Happening) → Runs w happenings after → (links : List Carried) × Carries w happenings after [] links }
     ensures apart { (w after : World) (happenings : List Happening) (links : List Carried) → Begins w → Carries w happenings after [] links
@@ -59,6 +59,7 @@ pub fn marks_are_used_once()
     ensures own { (w after : World) (happenings : List Happening) (links : List Carried) → Begins w → Carries w happenings after [] links
         → AllByRecursion HasOwnMarks links }
 {
+    escpos_command::laws::mark_numbers();
     escpos_link::laws::trust();
     escpos_link::laws::every_line();
     escpos_link::laws::in_turn();
@@ -66,9 +67,11 @@ pub fn marks_are_used_once()
 
 /// A driver's run is a run of the world: whatever a driver did, in the order in which it did it, and whatever happened at the printer's end
 /// meanwhile, some happenings lead to a world with the same entries, the same notes and the same printer. So what is recorded stands on the
-/// paper at each moment of a driver's run, and its owner was told nothing but what is so.
+/// paper at each moment of a driver's run, and what its owner was told to be queued or recorded is. Where it ends in the middle, some
+/// happenings lead to what the next machine finds.
 pub fn a_driven_till_is_in_the_world()
     ensures reaches { (m after : MachineView) (a new : Around) (w : World) → IsAround m a w → Ran DoesInTime m a after new → Reaches w after new }
+    ensures crashes { (m after : MachineView) (a new : Around) (w : World) → IsAround m a w → Ran DoesInTime m a after new → CrashesTo w after new }
     ensures stands { (first w : World) (happenings : List Happening) (m after : MachineView) (a new : Around) → Begins first → Runs first happenings w → IsAround m a w
         → Ran DoesInTime m a after new → RecordedStand new.wire.printer.sheet.line_dots new.kept new.wire.printer.sheet.items }
     ensures kept { (first w : World) (happenings : List Happening) (m after : MachineView) (a new : Around) → Begins first → Runs first happenings w → IsAround m a w

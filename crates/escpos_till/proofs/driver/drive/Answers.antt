@@ -1,6 +1,5 @@
 -- A run goes on by one deed.
-use Rattle.std.proofs.Common.{◌≡◌, refl, subst, arith}
-use Rattle.escpos_till.specs.Driver.{RanFor}
+use Rattle.std.proofs.Common.{refl}
 use Rattle.escpos_till.proofs.DriverLemmas.{ran_more, ran_none}
 use Rattle.escpos_till.proofs.driver.drive.Goals as goal
 
@@ -10,9 +9,5 @@ loop-init g c = ran_none g.D.Outside.did c.args.machine.now c.args.outside.now
 pub loop-preserved : goal.loop-preserved
 loop-preserved g c =
     let (deed, turns, done) = c.if-not-turn.ensures.turned refl in
-    ran_more g.D.Outside.did c.args.machine.now c.args.outside.now c.loop.machine c.loop.outside c.loop.counter deed c.turn.new.machine c.turn.new.outside c.loop.invariant turns c.if-not-turn.ensures.sound done
-
-pub returns-clause-most : goal.returns-clause-most
-returns-clause-most g c not =
-    let all : c.loop.counter ≡ c.args.most = omega (arith, c.loop-test.false, c.loop.auto.counter-end) in
-    subst (λ n. RanFor g.D.Outside.did c.args.machine.now c.args.outside.now c.loop.machine c.loop.outside n) all c.loop.invariant
+    ran_more g.D.Outside.did c.args.machine.now c.args.outside.now c.loop.machine c.loop.outside c.loop.counter deed c.turn.new.machine c.turn.new.outside c.loop.invariant turns
+    c.if-not-turn.ensures.sound done

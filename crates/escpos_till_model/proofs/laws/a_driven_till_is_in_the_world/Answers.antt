@@ -7,11 +7,14 @@ use Rattle.escpos_till_model.specs.Around.{Around, Reaches}
 use Rattle.escpos_till_model.specs.Receipts.{Among, EachIsKept, Extends, RecordedStand}
 use Rattle.escpos_till_model.specs.declared.event.Happening.{Happening}
 use Rattle.escpos_till_model.specs.World.{Runs, World}
-use Rattle.escpos_till_model.proofs.Driven.{driven, runs_more}
+use Rattle.escpos_till_model.proofs.Driven.{crashed, driven, runs_more}
 use Rattle.escpos_till_model.proofs.laws.a_driven_till_is_in_the_world.Goals as goal
 
 pub returns-clause-reaches : goal.returns-clause-reaches
 returns-clause-reaches c = λ m after a new w around ran. driven m after a new w around ran
+
+pub returns-clause-crashes : goal.returns-clause-crashes
+returns-clause-crashes c = λ m after a new w around ran. crashed m after a new w around ran
 
 -- The happenings before the run, and those of the run.
 abbrev all_of : (w : World) (happenings : List Happening) (after : MachineView) (new : Around) → Reaches w after new → List Happening
