@@ -282,7 +282,7 @@ KOLATENNIS_API int kolatennis_printer_tear_off(kolatennis_printer *printer);
  *
  *   ASK_APPEND   keep the line that _append gives after those before it, so that it outlives a crash; then call _appended
  *   ASK_CONNECT  open a link to the printer; then call _connected
- *   ASK_PUT      send what _take_out gives; if that can't be done, call _link_ended
+ *   ASK_PUT      send all that _take_out gives, in order; if that can't be done, call _link_ended
  *   ASK_WAIT     read what the printer sends, `number` bytes at most, and hand it to _came; if nothing comes, call _link_ended
  *   ASK_HANG_UP  close the link; then call _hung_up
  *   ASK_TELL     see what `note` says; then call _told
@@ -290,16 +290,18 @@ KOLATENNIS_API int kolatennis_printer_tear_off(kolatennis_printer *printer);
  * Entries. What a till has to remember is its entries. Each is a line of text, which ends with a newline and has no other: a row of a
  * table, or a line of a file. All lines that are kept, in order, make the till of the next run, by kolatennis_till_open; none, one that
  * is new. No line is ever changed or removed. A line that was half written when a crash came was never said to be kept, so whoever
- * opens the entries cuts off what stands after the last newline. One process at a time may have them: lock them.
+ * opens the entries cuts off what stands after the last newline. What is read may not be on the disk yet, if the run before ended within
+ * an append: call fsync before kolatennis_till_open. One till at a time may have the entries, in one process: lock them.
  *
  * Crashes. kolatennis_till_appended(till, true) may be called only once the entry would outlive a crash, in a file after fsync (for the
  * first entry of a new file, of its folder too). No byte of a receipt goes out before an entry says that it is tried, with the mark
- * numbers that its link uses; a receipt is recorded only once the printer has said that it is printed.
+ * numbers that its link uses; a receipt is recorded only once the printer has said that it is printed. Each try takes as many numbers as it
+ * puts opening marks, and one; there are 1,679,616 in all, so wait a while before the same receipt is tried again.
  *
  * Bytes. kolatennis_till_came may take less than it is given. While the till asks for ASK_PUT or ASK_WAIT, the others must be given
  * again, before any that come later; once it asks for anything else they are of no use.
  *
- * A call of the second kind does nothing where the till asks for something else. */
+ * _appended, _connected, _hung_up and _told do nothing where the till asks for something else. */
 typedef struct {
     void *at; /* the library's own */
 } kolatennis_till;
@@ -321,7 +323,7 @@ enum kolatennis_note {
     KOLATENNIS_NOTE_QUEUED = 901,   /* the receipt is taken */
     KOLATENNIS_NOTE_RAISED = 902,   /* the next mark number is raised */
     KOLATENNIS_NOTE_RECORDED = 903, /* the receipt is printed, and recorded */
-    KOLATENNIS_NOTE_NO_LINK = 904,  /* there was no link. The receipt waits, and nothing of it was sent */
+    KOLATENNIS_NOTE_NO_LINK = 904,  /* there was no link. The receipt waits, and nothing of it was sent this time */
     KOLATENNIS_NOTE_WAITING = 905,  /* the receipt waits. It may be printed or not: `fault` is a LINK or HOST reason, or STATUS_MEMORY */
     KOLATENNIS_NOTE_NOT_KEPT = 906  /* it isn't known whether the entry is kept. The till has failed */
 };
@@ -367,7 +369,7 @@ KOLATENNIS_API int kolatennis_till_deliver(kolatennis_till *till, uint32_t openi
 /* What the till asks for. */
 KOLATENNIS_API int kolatennis_till_asks(kolatennis_till *till, kolatennis_asked *asked);
 
-/* The line of the entry that is to be kept, as often as it is wanted. At 1 none is to be kept. */
+/* The line of the entry that is to be kept, as often as it is wanted. At 1 none is to be kept; at 4 memory ran out. */
 KOLATENNIS_API int kolatennis_till_append(kolatennis_till *till, uint8_t *out, size_t capacity, size_t *written);
 
 /* Whether the entry would outlive a crash now. If that isn't known, the till fails, and gives its link up first. */

@@ -49,8 +49,8 @@ static int ends(int status, const char *what, const char *why) {
 
 /* ---- the file ---- */
 
-/* Opens the file and the till of its entries, the first of which is a receipt. Half a line after the last newline is cut off: a crash came while it was written, so the
- * till was never told that it is kept, and did nothing that rests on it. */
+/* Opens the file and the till of its entries, the first of which is a receipt. Half a line after the last newline is cut off: a crash came
+ * while it was written, so the till was never told that it is kept. What is left is on the disk before anything rests on it. */
 static int opens(const char *path) {
     char folder[4096] = "";
     struct stat is;
@@ -64,7 +64,7 @@ static int opens(const char *path) {
     if (len && memcmp(lines, "queued ", word)) return ends(FAULT, path, " isn't a till's entries");
     while (len && lines[len - 1] != '\n') len--;
     if (kolatennis_till_open(&till, lines, len, NULL, NULL)) return ends(FAULT, path, " is damaged, or there is no memory for it");
-    if (len < (size_t)is.st_size && (ftruncate(file, len) || fsync(file))) return ends(FAULT, path, " can't be written");
+    if (ftruncate(file, len) || fsync(file)) return ends(FAULT, path, " can't be written");
     return 0;
 }
 
@@ -176,6 +176,7 @@ int main(int count, char **arguments) {
     struct addrinfo wanted = {.ai_flags = AI_NUMERICHOST | AI_NUMERICSERV, .ai_socktype = SOCK_STREAM}, *printer;
     const char *copy = "*** MAY BE A COPY ***";
     uint32_t reason = 0;
+    int status = 0;
     for (int stream = 0; stream < 3; stream++)
         if (fcntl(stream, F_GETFD) < 0) return FAULT; /* it is closed, and the link would get its number */
     if (count != 4) return ends(FAULT, "usage: till ADDRESS PORT FILE < RECEIPT", "");
@@ -184,12 +185,12 @@ int main(int count, char **arguments) {
     if (ferror(stdin)) return ends(FAULT, "the receipt can't be read", "");
     if (opens(arguments[3])) return FAULT;
     if (len) {
-        int status = kolatennis_till_queue(&till, NULL, receipt, len, &reason, NULL);
+        status = kolatennis_till_queue(&till, NULL, receipt, len, &reason, NULL);
         if (status) return ends(status == KOLATENNIS_STATUS_REFUSED ? REFUSED : FAULT, "refused: ", kolatennis_error_name(reason ? reason : (uint32_t)status));
         runs(printer);
     }
-    while (!outcome && !kolatennis_till_deliver(&till, OPENINGS, (const uint8_t *)copy, strlen(copy), MOST_ANSWERS, &reason, NULL)) runs(printer);
-    if (!outcome && reason != KOLATENNIS_TILL_NOTHING_WAITS) outcome = ends(FAULT, "can't be delivered: ", kolatennis_error_name(reason));
+    while (!outcome && !(status = kolatennis_till_deliver(&till, OPENINGS, (const uint8_t *)copy, strlen(copy), MOST_ANSWERS, &reason, NULL))) runs(printer);
+    if (!outcome && reason != KOLATENNIS_TILL_NOTHING_WAITS) outcome = ends(NOT_SENT, "can't be delivered: ", kolatennis_error_name(reason ? reason : (uint32_t)status));
     kolatennis_till_free(&till);
     return is_unsaid && !outcome ? ends(UNSAID, "standard output is full or closed", "") : outcome;
 }

@@ -44,6 +44,8 @@ class Store:
             self.base.executescript("PRAGMA synchronous = EXTRA; PRAGMA locking_mode = EXCLUSIVE; BEGIN EXCLUSIVE")
             self.base.execute("CREATE TABLE IF NOT EXISTS entry (id INTEGER PRIMARY KEY, line BLOB NOT NULL)")
             self.base.execute("COMMIT")
+            # (what an earlier run wrote may not be on the disk yet, if that was killed: this writes, and syncs all)
+            self.base.execute("PRAGMA user_version = 1")
             self.till = kolatennis.Till(b"".join(line for line, in self.base.execute("SELECT line FROM entry ORDER BY id")))
         except (OSError, sqlite3.Error, kolatennis.Damaged) as why:
             raise Fault(f"{path} can't be opened, another till has it, or it is damaged: {why}")
@@ -157,16 +159,17 @@ def main(arguments):
             store.till.queue(receipt)
             run(store, place)
         while status in (DELIVERED, UNSAID):
-            store.till.deliver(copy="*** MAY BE A COPY ***")
+            try:
+                store.till.deliver(copy="*** MAY BE A COPY ***")
+            except (kolatennis.Refused, kolatennis.NotNow) as why:
+                if why.reason == "NothingWaits":
+                    return status
+                say(f"can't be delivered: {why}", sys.stderr)
+                return NOT_SENT
             status = run(store, place) or status
     except kolatennis.Refused as why:
         say(f"refused: {why}", sys.stderr)
         return REFUSED
-    except kolatennis.NotNow as why:
-        if why.reason == "NothingWaits":
-            return status
-        say(str(why), sys.stderr)
-        return FAULT
     except (Fault, kolatennis.Error, OSError) as why:
         say(str(why), sys.stderr)
         return FAULT
