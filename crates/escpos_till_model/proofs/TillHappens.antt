@@ -659,9 +659,9 @@ runs_more a b c (e ∷ es) fs (mid, happened, later) more = (mid, happened, runs
 
 -- What happens instead is a run, too.
 pub instead_runs : (cause : NotPossible) (e : Happening) (w new : World) → Instead cause e w new → (es : List Happening) × Runs w es new
-instead_runs why.SwitchedOff e w new (is, same) = ([], same)
-instead_runs why.SwitchedOn e w new (is, same) = ([], same)
-instead_runs why.Linked e w new (is, same) = ([], same)
+instead_runs why.SwitchedOff e w new (needs, is, same) = ([], same)
+instead_runs why.SwitchedOn e w new (start, is, same) = ([], same)
+instead_runs why.Linked e w new (idle, is, same) = ([], same)
 instead_runs why.NotAsked e w new (is, same) = ([], same)
 instead_runs why.NotCopyText e w new (is, same) = ([], same)
 instead_runs why.NotAtPrinter e w new (is, same) = ([], same)

@@ -27,7 +27,7 @@ Talks s = (talk : Talk) × (s ≡ stage.Talking talk)
 abbrev pub HasNote : Stage → Type 0
 HasNote s = (n : TillNote) × (s ≡ stage.Telling n)
 
--- The machine asks for it at this stage.
+-- The machine asks for it at this stage, if it is something that it asks for.
 abbrev pub IsFor : Happening → Stage → Type 0
 IsFor event.Keep s = KeepsEntry s
 IsFor (event.FailWith cause) s = KeepsEntry s
@@ -36,7 +36,23 @@ IsFor (event.Put most) s = Talks s
 IsFor (event.Break most fewer cause) s = Talks s
 IsFor (event.Hear most) s = Talks s
 IsFor event.Tell s = HasNote s
-IsFor e s = ⊥
+IsFor e s = Unit {0}
+
+-- There must be a machine for it.
+abbrev pub NeedsMachine : Happening → Type 0
+NeedsMachine event.Start = ⊥
+NeedsMachine (event.OnWire e) = ⊥
+NeedsMachine event.Idle = ⊥
+NeedsMachine event.Crash = ⊥
+NeedsMachine e = Unit {0}
+
+abbrev pub IsStart : Happening → Type 0
+IsStart event.Start = Unit {0}
+IsStart e = ⊥
+
+abbrev pub IsIdle : Happening → Type 0
+IsIdle event.Idle = Unit {0}
+IsIdle e = ⊥
 
 -- No copy of an entry that is asked for: none is, or out of memory.
 abbrev pub IsUnwanted : NotPossible → Stage → Type 0
@@ -64,9 +80,9 @@ IsElsewhere (event.OnWire e) = is_printer_event e ≡ false
 IsElsewhere e = ⊥
 
 abbrev pub Instead : NotPossible → Happening → World → World → Type 0
-Instead why.SwitchedOff e w new = (w.machine ≡ None) × (new ≡ w)
-Instead why.SwitchedOn e w new = (w.machine ≢ None) × (new ≡ w)
-Instead why.Linked e w new = ((m : MachineView) × (w.machine ≡ Some m) × (m.host.phase ≢ Down)) × (new ≡ w)
+Instead why.SwitchedOff e w new = NeedsMachine e × (w.machine ≡ None) × (new ≡ w)
+Instead why.SwitchedOn e w new = IsStart e × (w.machine ≢ None) × (new ≡ w)
+Instead why.Linked e w new = IsIdle e × ((m : MachineView) × (w.machine ≡ Some m) × (m.host.phase ≢ Down)) × (new ≡ w)
 Instead why.NotAsked e w new = ((m : MachineView) × (w.machine ≡ Some m) × ¬ IsFor e m.stage) × (new ≡ w)
 Instead why.NotCopyText e w new = HasNoCopy e × (new ≡ w)
 Instead why.NotAtPrinter e w new = IsElsewhere e × (new ≡ w)

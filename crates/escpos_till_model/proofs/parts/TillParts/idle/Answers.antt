@@ -5,4 +5,4 @@ use Rattle.escpos_till_model.proofs.parts.TillParts.idle.Goals as goal
 pub returns-then-has_link-clause-refused : goal.returns-then-has_link-clause-refused
 returns-then-has_link-clause-refused c =
     let (m, was, linked) = c.if-has_link.ensures.linked refl in
-    ((m, was, is_up c.args.self.now m c.requires was linked), refl)
+    (tt, (m, was, is_up c.args.self.now m c.requires was linked), refl)
