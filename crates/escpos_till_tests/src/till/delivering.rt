@@ -1,6 +1,6 @@
 //! The worked rows of delivering, over memory: what goes out, what is answered, and what the ledger has then.
 
-use crate::support::tills::{new_ledger, number, queues};
+use crate::support::tills::{new_ledger, number, queues, tries};
 use escpos_host::SendFault;
 use escpos_io::{MemoryIn, MemoryOut};
 use escpos_test_receipts::{A, S, SENT};
@@ -129,7 +129,8 @@ fn store_fails_at_delivery(rt: HostRuntime) {
 fn numbers_used_up(rt: HostRuntime) {
     let mut ledger = new_ledger(&rt, rt.alloc(), Failure::Never);
     queues(&rt, rt.alloc(), &mut ledger, S.0, 1);
-    assert!(&rt; ledger.raise(1_679_615) == Ok(()));
+    assert!(&rt; ledger.raise(1_679_614) == Ok(()));
+    tries(&rt, &mut ledger, 1, 2, 1_679_614);
     let wanted = Delivered::NotTried(LedgerError::MarksUsedUp);
     delivers(
         &rt,
@@ -139,7 +140,7 @@ fn numbers_used_up(rt: HostRuntime) {
         ANSWERS_01,
         (wanted, b""),
     );
-    assert!(&rt; ledger.states() == Ok([ReceiptState::Waiting { tried: 0 }].as_slice()));
+    assert!(&rt; ledger.states() == Ok([ReceiptState::Waiting { tried: 1 }].as_slice()));
 }
 
 // The text of a copy: 1 to 42 characters, each 20 to 7E.
