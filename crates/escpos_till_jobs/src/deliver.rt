@@ -229,10 +229,8 @@ fn tell<W: ByteOut>(number: ReceiptNumber, delivered: Delivered, output: &mut W)
         Delivered::NotRecorded { why, .. } => {
             tell_waiting(number, why.name().as_bytes(), status_of_fault(why), output)
         }
-        Delivered::NotTried(LedgerError::MarksUsedUp) => {
-            tell_waiting(number, b"MarksUsedUp", Status::Refused, output)
-        }
-        Delivered::NotTried(why) | Delivered::NotNoted { why, .. } => refuse_call(why, output),
+        Delivered::NotTried(why) => tell_not_tried(number, why, output),
+        Delivered::NotNoted { why, .. } => refuse_call(why, output),
         Delivered::NoReceipt {
             why: JsonError::Refused(why),
             ..
@@ -242,6 +240,19 @@ fn tell<W: ByteOut>(number: ReceiptNumber, delivered: Delivered, output: &mut W)
             ..
         } => tell_text(MEMORY, output, Status::Memory),
         Delivered::NothingWaits | Delivered::Recorded(_) => Status::Good,
+    }
+}
+
+// Prints why the receipt with this number wasn't tried.
+fn tell_not_tried<W: ByteOut>(number: ReceiptNumber, why: LedgerError, output: &mut W) -> Status
+    ensures tells { Tells (job_end (W.written output.old) (W.written output.new) (W.failed output.new) result) (delivered_line number (Delivered.NotTried why))
+        (delivered_status (Delivered.NotTried why)) }
+    ensures not_hidden { result ≢ Status.Device → ¬ IsTrue (W.failed output.old) → ¬ IsTrue (W.failed output.new) }
+    ensures never_usage { result ≢ Status.Usage }
+{
+    match why {
+        LedgerError::MarksUsedUp => tell_waiting(number, b"MarksUsedUp", Status::Refused, output),
+        other => refuse_call(other, output),
     }
 }
 
