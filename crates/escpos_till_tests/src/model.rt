@@ -142,7 +142,6 @@ fn ends_so(
 // The store fails as the receipt is to be recorded, with the entry or without it.
 #[test]
 fn store_fails(rt: HostRuntime) {
-    let failed = TillNote::NotKept(StoreFault::Failed);
     let mut till = till_at_last(&rt, rt.alloc());
     ends_so(
         &rt,
@@ -150,7 +149,7 @@ fn store_fails(rt: HostRuntime) {
         &mut till,
         15,
         &[Plain::FailWith, Plain::HangUp, Plain::Tell],
-        failed,
+        TillNote::NotKept(StoreFault::Failed),
     );
     prints(&rt, &till, ONCE);
     let mut till = till_at_last(&rt, rt.alloc());
@@ -160,7 +159,7 @@ fn store_fails(rt: HostRuntime) {
         &mut till,
         15,
         &[Plain::FailWithout, Plain::HangUp, Plain::Tell],
-        failed,
+        TillNote::NotKept(StoreFault::Failed),
     );
     prints(&rt, &till, TWICE);
 }
