@@ -12,9 +12,9 @@ use Rattle.escpos_till.specs.declared.state.ReceiptState.TheVariants as state
 use Rattle.escpos_till.specs.Book.{HasContents, IsBookOf}
 use Rattle.escpos_till.specs.Entries.{IsLedger, MayFollow, Waits, contents, recorded, states, times_tried, waiting}
 use Rattle.escpos_till.specs.Entries.{states as states_of}
-use Rattle.escpos_till.specs.Ledger.{FirstWaits}
-use Rattle.escpos_till.specs.Summary.{IsFirstWaiting, tries_in}
-use Rattle.escpos_till.proofs.SummaryLemmas.{first_after_queued, first_after_tried, get-set, get-snoc}
+use Rattle.escpos_till.specs.Delivers.{FirstWaits}
+use Rattle.escpos_till.specs.States.{IsFirstWaiting, tries_in}
+use Rattle.escpos_till.proofs.StateLemmas.{first_after_queued, first_after_tried, get-set, get-snoc}
 use Rattle.escpos_till.proofs.EntryLemmas.{first_of_states, length-states, no_more, next_after_queued, next_after_raised, next_after_recorded, next_after_tried, recorded-count, recorded-same, recorded_states, states_after_queued, states_after_raised, tried_states, waiting_state, waits_by_state, within_states}
 
 -- ## Contents

@@ -1,15 +1,27 @@
 -- What a driver's turns do.
-use Rattle.std.proofs.Common.{ℕ, true, false, ◌==◌, ◌≡◌, ◌≢◌, ◌+◌, ◌*◌, ◌-◌, ◌<◌, ◌≤◌, ◌⊎◌, inl, inr, List, [], ◌∷◌, ◌++◌, length, take, drop, refl, sym, ◌∙◌, ap, subst, arith, length-append, length-drop}
+use Rattle.std.proofs.Common.{ℕ, zero, suc, true, false, ◌==◌, ◌≡◌, ◌≢◌, ◌+◌, ◌*◌, ◌-◌, ◌<◌, ◌≤◌, ◌⊎◌, inl, inr, Option, Some, None, List, [], ◌∷◌, ◌++◌, length, take, drop, refl, sym, ◌∙◌, ap, subst, arith, length-append, length-drop}
 use Rattle.std.proofs.lemmas.List.{drop-drop, nil_from_length, take_all}
+use Rattle.escpos_command.specs.declared.command.Command.{Command}
 use Rattle.escpos_host.specs.declared.host.HostEvent.{HostEvent}
 use Rattle.escpos_host.specs.declared.host.HostEvent.TheVariants as event
+use Rattle.escpos_host.specs.declared.send.SendFault.{SendFault}
+use Rattle.escpos_host.specs.declared.send.SendFault.TheVariants as fault
 use Rattle.escpos_host.specs.Heard.{IsHeard}
 use Rattle.escpos_host.specs.Machine.{HostView, IsSound, Phase, Down, Open, Opening}
+use Rattle.escpos_till.specs.declared.book.Book.{Book}
+use Rattle.escpos_till.specs.declared.entry.Entry.{Entry}
+use Rattle.escpos_till.specs.declared.entry.Entry.TheVariants as entry
+use Rattle.escpos_till.specs.declared.machine.Due.{Due}
 use Rattle.escpos_till.specs.declared.machine.Stage.{Stage}
 use Rattle.escpos_till.specs.declared.machine.Stage.TheVariants as stage
 use Rattle.escpos_till.specs.declared.machine.Talk.{Talk}
-use Rattle.escpos_till.specs.Driver.{Deed, DidAll, HearsAll, IsGiven, RanFor, Turns}
-use Rattle.escpos_till.specs.Machine.{Came, HearsOne, MachineView, Turns as Turned}
+use Rattle.escpos_till.specs.declared.machine.Then.{Then}
+use Rattle.escpos_till.specs.declared.machine.Then.TheVariants as then
+use Rattle.escpos_till.specs.declared.machine.TillNote.{TillNote}
+use Rattle.escpos_till.specs.declared.machine.TillNote.TheVariants as note
+use Rattle.escpos_till.specs.declared.store.StoreFault.{StoreFault}
+use Rattle.escpos_till.specs.Driver.{Breaks, Deed, DidAll, Ends, Gives, HangsUp, HearsAll, IsGiven, IsTold, Keeps, Links, Loses, Misses, Puts, RanFor, RanTo, Tells, Turns}
+use Rattle.escpos_till.specs.Machine.{Came, Ended, Follows, GoesOn, HearsOne, Kept, MachineView, Opens, Rests, Submits, Turns as Turned, Unsure, connected, hung_up, lost, not_connected, put}
 
 -- 1 while a machine talks.
 abbrev pub is_talking : Stage → ℕ
@@ -120,6 +132,84 @@ hears_on m after bytes heard count talk is fewer came =
     fewer_left bytes heard count after.stage m.stage fewer (talking_is m.stage talk is) (talking_most after.stage)
     (came_moves m.stage (drop heard bytes) count m after talk is (left_some bytes heard fewer) came)
 
+-- ## Turns
+
+not_at : (s other : Stage) → s ≡ other → (Rests other → ⊥) → Rests s → ⊥
+not_at s other is never = λ rests. never (subst Rests is rests)
+
+opens_not : (due : Due) (first : ℕ) (h : HostView) (s : Stage) → Opens due first h s → Rests s → ⊥
+opens_not due first h s (inl it) = not_at s (stage.Talking (record { number = due.number; receipt = Some due.receipt; left = due.most })) it.1 (λ h. h)
+opens_not due first h s (inr (why, refused, is)) = not_at s (stage.HangingUp (note.Waiting due.number (fault.Refused why))) is (λ h. h)
+
+follows_not : (next : Then) (before : HostView) (first : ℕ) (b : Book) (h : HostView) (s : Stage) → Follows next before first b h s → Rests s → ⊥
+follows_not then.Queued before first b h s (number, count, same, is) = not_at s (stage.Telling (note.Queued number)) is (λ h. h)
+follows_not then.Raised before first b h s (same, is) = not_at s (stage.Telling note.Raised) is (λ h. h)
+follows_not (then.Send due) before first b h s opens = opens_not due first h s opens
+follows_not (then.Recorded number) before first b h s (drops, is) = not_at s (stage.HangingUp (note.Recorded number)) is (λ h. h)
+
+lost_not : (next : Then) (why : StoreFault) → Rests (lost next why) → ⊥
+lost_not then.Queued why h = h
+lost_not then.Raised why h = h
+lost_not (then.Send due) why h = h
+lost_not (then.Recorded number) why h = h
+
+kept_not : (s : Stage) (e : Entry) (next : Then) (m after : MachineView) → s ≡ stage.Keeping e next → Kept s m after → Rests after.stage → ⊥
+kept_not s e next m after is kept = follows_not next m.host m.book.next after.book after.host after.stage (subst (λ at. Kept at m after) is kept).1
+
+unsure_not : (s : Stage) (e : Entry) (next : Then) (why : StoreFault) (m after : MachineView) → s ≡ stage.Keeping e next → Unsure s why m after → Rests after.stage → ⊥
+unsure_not s e next why m after is unsure = not_at after.stage (lost next why) (subst (λ at. Unsure at why m after) is unsure).2 (lost_not next why)
+
+ended_not : (s : Stage) (talk : Talk) (why : SendFault) (m after : MachineView) → s ≡ stage.Talking talk → Ended s why m after → Rests after.stage → ⊥
+ended_not s talk why m after is ended = not_at after.stage (stage.HangingUp (note.Waiting talk.number why)) (subst (λ at. Ended at why m after) is ended).2 (λ h. h)
+
+on_not : (talk : Talk) (left : ℕ) (before h : HostView) (s : Stage) → GoesOn talk left before h s → Rests s → ⊥
+on_not talk zero before h s (drops, is) = not_at s (stage.HangingUp (note.Waiting talk.number fault.TooLong)) is (λ h. h)
+on_not talk (suc left) before h s (same, is) = not_at s (stage.Talking (record { number = talk.number; receipt = talk.receipt; left = suc left })) is (λ h. h)
+
+submits_not : (talk : Talk) (receipt : Option (List Command)) (left : ℕ) (before h : HostView) (s : Stage) → Submits talk receipt left before h s → Rests s → ⊥
+submits_not talk None left before h s goes = on_not talk left before h s goes
+submits_not talk (Some receipt) zero before h s goes = on_not talk zero before h s goes
+submits_not talk (Some receipt) (suc left) before h s (inl (flight, opened, few, mark, host, is)) = not_at s (stage.Talking (record { number = talk.number; receipt = None; left = suc left })) is (λ h. h)
+submits_not talk (Some receipt) (suc left) before h s (inr (why, refused, drops, is)) = not_at s (stage.HangingUp (note.Waiting talk.number (fault.Refused why))) is (λ h. h)
+
+turned_not : (e : HostEvent) (talk : Talk) (left : ℕ) (before h : HostView) (s : Stage) → Turned e talk left before h s → Rests s → ⊥
+turned_not event.None talk left before h s goes = on_not talk left before h s goes
+turned_not (event.Status byte) talk left before h s goes = on_not talk left before h s goes
+turned_not event.Opened talk left before h s goes = submits_not talk talk.receipt left before h s goes
+turned_not (event.Recorded place) talk left before h s (same, is) = not_at s (stage.Keeping (entry.Recorded talk.number) (then.Recorded talk.number)) is (λ h. h)
+turned_not (event.BadAnswer place) talk left before h s (drops, is) = not_at s (stage.HangingUp (note.Waiting talk.number fault.BadAnswer)) is (λ h. h)
+
+came_not : (s : Stage) (talk : Talk) (bytes : List ℕ) (count : ℕ) (m after : MachineView) → s ≡ stage.Talking talk → Came s bytes count m after → Rests after.stage → ⊥
+came_not s talk bytes count m after is came =
+    let (e, h, hears, turned, book) = subst (λ at. Came at bytes count m after) is came in
+    turned_not e talk (talk.left - count) h after.host after.stage turned
+
+hears_not : (m : MachineView) (bytes counts : List ℕ) (after : MachineView) → (Rests m.stage → ⊥) → HearsAll m bytes counts after → Rests after.stage → ⊥
+hears_not m bytes [] after never (same, talks) = λ rests. never (subst (λ (k : MachineView). Rests k.stage) same rests)
+hears_not m bytes (count ∷ counts) after never (talk, mid, is, some, came, sound, more) =
+    hears_not mid (drop count bytes) counts after (came_not m.stage talk bytes count m mid is came) more
+
+given_not : (m : MachineView) (talk : Talk) (bytes : List ℕ) (after : MachineView) → m.stage ≡ stage.Talking talk → IsGiven m bytes after → Rests after.stage → ⊥
+given_not m talk [] after is came = came_not m.stage talk [] 0 m after is came
+given_not m talk (b ∷ bs) after is (counts, hears) = hears_not m (b ∷ bs) counts after (not_at m.stage (stage.Talking talk) is (λ h. h)) hears
+
+-- A machine that has done what it asked for, but hasn't told its owner, asks for more.
+pub goes_on : (m : MachineView) (d : Deed) (after : MachineView) → (IsTold d → ⊥) → Turns m d after → Rests after.stage → ⊥
+goes_on m (Keeps e) after never (next, is, kept) = kept_not m.stage e next m after is kept
+goes_on m (Loses e why) after never (next, is, unsure) = unsure_not m.stage e next why m after is unsure
+goes_on m Links after never (due, is, done) =
+    λ rests. subst (λ (k : MachineView). Rests k.stage) (done ∙ ap (λ s. connected s m) is) rests
+goes_on m Misses after never (due, is, done) =
+    λ rests. subst (λ (k : MachineView). Rests k.stage) (done ∙ ap (λ s. not_connected s m) is) rests
+goes_on m (Puts bytes) after never (count, out, done) =
+    λ rests. subst (λ (k : MachineView). Rests k.stage) (done ∙ ap (λ s. put s count m) out.talks) rests
+goes_on m (Breaks bytes why) after never (count, out, ended) = ended_not m.stage out.talk why (put m.stage count m) after out.talks ended
+goes_on m (Gives bytes) after never (waits, given) = given_not m waits.talk bytes after waits.talks given
+goes_on m (Ends why) after never (waits, ended) = ended_not m.stage waits.talk why m after waits.talks ended
+goes_on m HangsUp after never (n, is, done) =
+    λ rests. subst (λ (k : MachineView). Rests k.stage) (done ∙ ap (λ s. hung_up s m) is) rests
+goes_on m (Tells n) after never turns = absurd (never tt)
+
 -- ## Runs
 
 -- One more deed.
@@ -139,3 +229,19 @@ ran_more did m old mid between count d after new ran turns sound done = record {
   run = record { deeds = ran.run.deeds ++ d ∷ []; did_all = did_more did m old ran.run.deeds mid between d after new ran.run.did_all turns sound done };
   turns = length-append ran.run.deeds (d ∷ []) ∙ ap (λ n. n + 1) ran.turns;
 }
+
+-- At the end its owner is told.
+pub ran_to : {D : Type 0} (did : D → Deed → D → Type 0) (m : MachineView) (old : D) (mid : MachineView) (between : D) (count : ℕ) (n : TillNote) (most : ℕ) (after : MachineView) (new : D)
+    → RanFor did m old mid between count → count < most → Turns mid (Tells n) after → IsSound after.host → did between (Tells n) new → RanTo did m old n most after new
+ran_to did m old mid between count n most after new ran fewer turns sound done = record {
+  before = ran.run.deeds;
+  did_all = did_more did m old ran.run.deeds mid between (Tells n) after new ran.run.did_all turns sound done;
+  turns = subst (λ k. k < most) (sym ran.turns) fewer;
+}
+
+-- No more is done than may be.
+pub all_done : {D : Type 0} (did : D → Deed → D → Type 0) (m : MachineView) (old : D) (after : MachineView) (new : D) (count most : ℕ)
+    → RanFor did m old after new count → count ≤ most → most ≤ count → RanFor did m old after new most
+all_done did m old after new count most ran fewer more =
+    let same : count ≡ most = omega (arith, fewer, more) in
+    subst (λ n. RanFor did m old after new n) same ran

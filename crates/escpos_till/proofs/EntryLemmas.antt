@@ -12,7 +12,7 @@ use Rattle.escpos_till.specs.declared.entry.Content.{Content}
 use Rattle.escpos_till.specs.declared.entry.Entry.{Entry}
 use Rattle.escpos_till.specs.declared.entry.Entry.TheVariants.{Queued, Tried, Recorded, Raised}
 use Rattle.escpos_till.specs.declared.state.ReceiptState.TheVariants as state
-use Rattle.escpos_till.specs.Ledger.{FirstWaits, MayBeLeft}
+use Rattle.escpos_till.specs.Delivers.{FirstWaits}
 use Rattle.escpos_till.specs.Entries.{IsLedger, MayFollow, Taken, Waits, content_of, contents, is_try_of, last_or, next_free, next_of, numbered_from, place_of, record_of, recorded, state_by, state_of, states, taken, times_tried, waiting}
 
 -- ## Tests and places
@@ -403,13 +403,3 @@ first_of_states es at tried content got is h =
           ∙ ap (λ n. Some (let t : Taken = record { number = n; content = content } in t)) (sym same);
       times = ap (times_tried es) same ∙ parts.1;
     }
-
--- What a crash may leave is a ledger.
-pub opens_sure : (es : List Entry) (unsure : Option Entry) → unsure ≡ None → IsLedger es → (left : List Entry) → MayBeLeft es unsure left → IsLedger left
-opens_sure es unsure none ledger left may =
-    let same : left ≡ es = subst (λ u. MayBeLeft es u left) none may in
-    subst IsLedger (sym same) ledger
-
-pub opens_unsure : (es : List Entry) (e : Entry) → IsLedger es → MayFollow es e → (left : List Entry) → MayBeLeft es (Some e) left → IsLedger left
-opens_unsure es e ledger follows left (inl same) = subst IsLedger (sym same) ledger
-opens_unsure es e ledger follows left (inr same) = subst IsLedger (sym same) (ledger-snoc es e ledger follows)

@@ -1,8 +1,7 @@
 mod Worked
 pub mod EntryLemmas
-pub mod SummaryLemmas
+pub mod StateLemmas
 pub mod CopyLemmas
 pub mod DriverLemmas
-pub mod MarkLemmas
 pub mod BookLemmas
 pub mod MachineLemmas

@@ -5,7 +5,7 @@ use Rattle.escpos_till.specs.declared.entry.Content.{Content}
 use Rattle.escpos_till.specs.declared.entry.Entry.{Entry}
 use Rattle.escpos_till.specs.declared.state.ReceiptState.TheVariants as state
 use Rattle.escpos_till.specs.Entries.{IsLedger, MayFollow, contents, next_free, recorded, states}
-use Rattle.escpos_till.specs.Summary.{IsFirstWaiting}
+use Rattle.escpos_till.specs.States.{IsFirstWaiting}
 
 -- These are the contents of the receipts that wait, each at the place of its receipt.
 pub record HasContents (kept : List Content) (entries : List Entry) : Type 0 where

@@ -1,7 +1,8 @@
 -- What a driver does with a machine: all that the machine asks for, in order, with nothing between.
-use Rattle.std.specs.Prelude.{ℕ, ◌≡◌, ◌≢◌, ◌≤◌, List, [], ◌∷◌, length, take, drop}
+use Rattle.std.specs.Prelude.{ℕ, Option, ◌≡◌, ◌≢◌, ◌<◌, ◌≤◌, List, [], ◌∷◌, ◌++◌, length, take, drop}
 use Rattle.escpos_host.specs.declared.send.SendFault.{SendFault}
 use Rattle.escpos_host.specs.Machine.{IsSound}
+use Rattle.escpos_till.specs.declared.entry.Content.{Content}
 use Rattle.escpos_till.specs.declared.entry.Entry.{Entry}
 use Rattle.escpos_till.specs.declared.machine.Due.{Due}
 use Rattle.escpos_till.specs.declared.machine.Stage.TheVariants as stage
@@ -9,7 +10,7 @@ use Rattle.escpos_till.specs.declared.machine.Talk.{Talk}
 use Rattle.escpos_till.specs.declared.machine.Then.{Then}
 use Rattle.escpos_till.specs.declared.machine.TillNote.{TillNote}
 use Rattle.escpos_till.specs.declared.store.StoreFault.{StoreFault}
-use Rattle.escpos_till.specs.Machine.{Came, Ended, Kept, MachineView, Unsure, connected, hung_up, not_connected, put, told}
+use Rattle.escpos_till.specs.Machine.{Came, Delivers, Ended, Kept, MachineView, Queues, Raises, SendsReceipt, Unsure, connected, hung_up, not_connected, put, told}
 
 -- ## One turn
 
@@ -31,6 +32,11 @@ pub data Deed : Type 0 where
   HangsUp : Deed
   -- the owner is told this
   Tells : TillNote → Deed
+
+-- Its owner is told something.
+abbrev pub IsTold : Deed → Type 0
+IsTold (Tells note) = Unit {0}
+IsTold deed = ⊥
 
 -- It hears these bytes, each time up to an event, for as long as it talks; what comes after that is dropped. The counts are how many it took
 -- each time.
@@ -86,7 +92,42 @@ pub record Ran {D : Type 0} (did : D → Deed → D → Type 0) (m : MachineView
   pub deeds : List Deed
   pub did_all : DidAll did m old deeds after new
 
--- The same, with so many deeds.
+-- A run at whose end the machine's owner is told this, with at most so many deeds.
+pub record RanTo {D : Type 0} (did : D → Deed → D → Type 0) (m : MachineView) (old : D) (n : TillNote) (most : ℕ) (after : MachineView) (new : D) : Type 0 where
+  pub before : List Deed
+  pub did_all : DidAll did m old (before ++ Tells n ∷ []) after new
+  pub turns : length before < most
+
+-- A run with so many deeds.
 pub record RanFor {D : Type 0} (did : D → Deed → D → Type 0) (m : MachineView) (old : D) (after : MachineView) (new : D) (count : ℕ) : Type 0 where
   pub run : Ran did m old after new
   pub turns : length run.deeds ≡ count
+
+-- ## What an owner asks for
+
+-- A call of a machine at rest.
+pub data Call : Type 0 where
+  -- a receipt with this content is to be taken
+  Queue : Content → Call
+  -- the next mark number is to be this
+  Raise : ℕ → Call
+  -- the first receipt that waits is to be delivered: with so many opening marks, at most so many bytes of answers, and perhaps a text for copies
+  Deliver : ℕ → ℕ → Option (List ℕ) → Call
+
+-- It is made, and what is to be sent is a receipt.
+abbrev pub Calls : MachineView → Call → MachineView → Type 0
+Calls m (Queue content) asked = Queues m content asked
+Calls m (Raise first) asked = Raises m first asked
+Calls m (Deliver openings most copy) asked = Delivers m openings most copy asked × SendsReceipt asked.stage
+
+-- A call, and the run that follows, at whose end the owner is told this, with at most so many deeds.
+pub record Serves {D : Type 0} (did : D → Deed → D → Type 0) (m : MachineView) (old : D) (call : Call) (n : TillNote) (most : ℕ) (after : MachineView) (new : D) : Type 0 where
+  pub asked : MachineView
+  pub calls : Calls m call asked
+  pub runs : RanTo did asked old n most after new
+
+-- The same, where the owner isn't told anything within so many deeds.
+pub record GivesUp {D : Type 0} (did : D → Deed → D → Type 0) (m : MachineView) (old : D) (call : Call) (most : ℕ) (after : MachineView) (new : D) : Type 0 where
+  pub asked : MachineView
+  pub calls : Calls m call asked
+  pub runs : RanFor did asked old after new most

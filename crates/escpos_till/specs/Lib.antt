@@ -1,10 +1,9 @@
 pub mod Contents
 pub mod Entries
-pub mod Ledger
-pub mod Summary
-pub mod Kept
+pub mod States
 pub mod Copy
 pub mod Delivers
 pub mod Driver
+pub mod Surroundings
 pub mod Book
 pub mod Machine

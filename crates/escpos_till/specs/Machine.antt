@@ -31,9 +31,8 @@ use Rattle.escpos_till.specs.declared.machine.TillRefusal.TheVariants as refusal
 use Rattle.escpos_till.specs.declared.store.StoreFault.{StoreFault}
 use Rattle.escpos_till.specs.Book.{HasRoom, IsBookOf, Notes}
 use Rattle.escpos_till.specs.Contents.{GivesReceipt, IsContentFault}
-use Rattle.escpos_till.specs.Delivers.{Due as IsDue, fresh, marks_taken}
+use Rattle.escpos_till.specs.Delivers.{Due as IsDue, FirstWaits, fresh, marks_taken}
 use Rattle.escpos_till.specs.Entries.{IsLedger, MayFollow, Waits, next_free, times_tried, waiting}
-use Rattle.escpos_till.specs.Ledger.{FirstWaits, last_first}
 
 -- ## The model of a machine
 
@@ -52,6 +51,10 @@ with_host m h s = record { book = m.book; host = h; stage = s }
 -- No more entries than these are ever taken.
 abbrev pub most_entries : ℕ
 most_entries = 2 ^ 62
+
+-- The last number to which the next one may be raised: it leaves as many as a try takes, one for an opening mark and one for the closing mark.
+abbrev pub last_first : ℕ
+last_first = mark_count - 2
 
 -- What follows suits the entry.
 abbrev pub Suits : Then → Entry → Type 0

@@ -10,13 +10,12 @@ ghost use Rattle.escpos_till.specs.declared.state.ReceiptState.{ReceiptState};
 ghost use Rattle.escpos_till.specs.Contents.{content_with};
 ghost use Rattle.escpos_till.specs.Book.{HasRoom, IsBookOf, Notes};
 ghost use Rattle.escpos_till.specs.Entries.{IsLedger, MayFollow, Waits, times_tried, waiting};
-ghost use Rattle.escpos_till.specs.Ledger.{FirstWaits};
-ghost use Rattle.escpos_till.specs.Summary.{IsRecorded};
+ghost use Rattle.escpos_till.specs.Delivers.{FirstWaits};
+ghost use Rattle.escpos_till.specs.States.{IsRecorded};
 
 use crate::entry::{Content, Entry};
 use crate::number::ReceiptNumber;
-use crate::state::ReceiptState;
-use crate::summary::{first_waiting_from, one_try_more, tries_in};
+use crate::state::{ReceiptState, first_waiting_from, one_try_more, tries_in};
 use crate::waiting::WaitingReceipt;
 use std::alloc::{AllocError, Global};
 

@@ -1,137 +1,132 @@
 //! The driver of a till's machine: a small loop that does what the machine asks for, and tells it what came of that.
 //!
-//! What it acts on, a store, a printer's link and an owner, is one value, so that its contract can say in which order things
-//! were done. `specs/Driver.antt` says what a run is.
+//! It acts on a store and a line to a printer, and returns what the machine's owner is to be told. `specs/Driver.antt` says what a
+//! run is.
 
-ghost use Rattle.std.specs.Prelude.{◌≡◌, ◌≢◌, ◌≤◌, ◌↔◌, ℕ, List, [], length, take, IfOk, IfErr, OnOk, IsTrue};
+ghost use Rattle.std.specs.Prelude.{◌≡◌, ◌≢◌, ◌≤◌, ◌⊎◌, ℕ, List, [], None, IfSome};
 ghost use Rattle.escpos_host.specs.Machine.{IsSound};
 ghost use Rattle.escpos_till.specs.declared.machine.Stage.TheVariants as stage;
 ghost use Rattle.escpos_till.specs.declared.machine.Talk.{Talk};
-ghost use Rattle.escpos_till.specs.Driver.{Breaks, Deed, Ends, Gives, HangsUp, IsGiven, Keeps, Links, Loses, Misses, Puts, RanFor, Tells, Turns};
+ghost use Rattle.escpos_till.specs.Driver.{Deed, IsGiven, IsTold, RanFor, RanTo, Tells, Turns};
 ghost use Rattle.escpos_till.specs.Machine.{Rests};
+ghost use Rattle.escpos_till.specs.Surroundings.{Did};
 
-use crate::entry::Entry;
 use crate::machine::{Action, TillMachine, TillNote};
-use crate::store::StoreFault;
-use escpos_host::SendFault;
+use crate::store::Store;
+use crate::surroundings::{PrinterLine, Surroundings};
 
 // The most bytes that are put or read at a time.
 const PIECE_BYTES: usize = 512;
 
 const _: () = prove!(PIECE_BYTES == 512);
 
-/// All that a machine acts on: a store, a printer's link and an owner.
-pub trait Outside {
-    // It did this, and then it is so.
-    ghost did: { Self → Deed → Self → Type 0 };
-
-    /// Keeps an entry, so that it outlives a crash. At `Err` it may be kept or not.
-    fn append(&mut self, entry: &Entry) -> Result<(), StoreFault>
-        ensures keeps { OnOk result (did self.old (Keeps entry.now) self.new) }
-        ensures loses { IfErr result (λ why. did self.old (Loses entry.now why) self.new) };
-
-    /// Opens a link to the printer, and returns whether there is one.
-    fn connect(&mut self) -> bool
-        ensures links { IsTrue result → did self.old Links self.new }
-        ensures misses { ¬ IsTrue result → did self.old Misses self.new };
-
-    /// Puts bytes on the link. At `Err` some of them may be put, and the link is of no more use.
-    fn put(&mut self, bytes: &[u8]) -> Result<(), SendFault>
-        ensures puts { OnOk result (did self.old (Puts bytes.now) self.new) }
-        ensures breaks { IfErr result (λ why. did self.old (Breaks bytes.now why) self.new) };
-
-    /// Waits for bytes of answers, moves them to the start of `room`, and returns how many there are. With 0, nothing came.
-    fn pull(&mut self, room: &mut [u8]) -> Result<usize, SendFault>
-        ensures within { IfOk result (λ count. count ≤ length room.old) }
-        ensures gives { IfOk result (λ count. did self.old (Gives (take count room.new)) self.new) }
-        ensures ends { IfErr result (λ why. did self.old (Ends why) self.new) };
-
-    /// Gives the link up.
-    fn hang_up(&mut self)
-        ensures { did self.old HangsUp self.new };
-
-    /// Tells the owner.
-    fn tell(&mut self, note: TillNote)
-        ensures { did self.old (Tells note) self.new };
+// What came of a turn.
+#[derive(Clone, Copy)]
+enum Turned {
+    // The machine asks for nothing.
+    Rests,
+    // What it asked for is done.
+    Done,
+    // Its owner is to be told this.
+    Tells(TillNote),
 }
 
-/// Does what the machine asks for, one thing after another, until it asks for nothing, at most `most` things. Returns whether
-/// it asks for nothing.
-pub fn drive<D: Outside>(machine: &mut TillMachine, outside: &mut D, most: u32) -> bool
-    ensures ran { (count : ℕ) × RanFor D.did machine.old outside.old machine.new outside.new count × (count ≤ most) × (¬ IsTrue result → count ≡ most) }
-    ensures rests { IsTrue result ↔ Rests machine.new.stage }
+/// Does what the machine asks for, one thing after another, until its owner is to be told something, and returns that. At most `most`
+/// things are done. `None` if it asks for nothing, or still asks for something after so many.
+pub fn drive<S: Store, L: PrinterLine>(
+    machine: &mut TillMachine,
+    around: &mut Surroundings<S, L>,
+    most: u32,
+) -> Option<TillNote>
+    ensures told { IfSome result (λ note. RanTo (Did S.faithful S.holds S.leaves L.did) machine.old around.old note most machine.new around.new) }
+    ensures not_told { result ≡ None → (Rests machine.old.stage × (machine.new ≡ machine.old) × (around.new ≡ around.old))
+        ⊎ RanFor (Did S.faithful S.holds S.leaves L.did) machine.old around.old machine.new around.new most }
 {
     for _ in 0..most {
-        if !turn(machine, outside) {
-            return true;
+        match turn(machine, around) {
+            Turned::Rests => return None,
+            Turned::Done => {}
+            Turned::Tells(note) => return Some(note),
         }
     }
-    machine.rests()
+    None
 }
 
-// Does one thing that the machine asks for. Returns whether there was one.
-fn turn<D: Outside>(machine: &mut TillMachine, outside: &mut D) -> bool
-    ensures turned { IsTrue result → (deed : Deed) × Turns machine.old deed machine.new × D.did outside.old deed outside.new }
+// Does one thing that the machine asks for.
+fn turn<S: Store, L: PrinterLine>(
+    machine: &mut TillMachine,
+    around: &mut Surroundings<S, L>,
+) -> Turned
+    ensures turned { result ≡ Turned.Done → (deed : Deed) × (IsTold deed → ⊥) × Turns machine.old deed machine.new × Did S.faithful S.holds S.leaves L.did around.old deed around.new }
+    ensures tells { (note : TillNote) → result ≡ Turned.Tells note → Turns machine.old (Tells note) machine.new × Did S.faithful S.holds S.leaves L.did around.old (Tells note) around.new }
     ensures sound { IsSound machine.new.host }
-    ensures same { ¬ IsTrue result → (machine.new ≡ machine.old) × (outside.new ≡ outside.old) }
-    ensures rests { ¬ IsTrue result → Rests machine.old.stage }
+    ensures rests { result ≡ Turned.Rests → (machine.new ≡ machine.old) × (around.new ≡ around.old) × Rests machine.old.stage }
 {
-    let is_done = act(machine, outside);
+    let came = act(machine, around);
     // Proof only: what holds of every host.
     machine.is_sound();
-    is_done
+    came
 }
 
 // The same.
-fn act<D: Outside>(machine: &mut TillMachine, outside: &mut D) -> bool
-    ensures turned { IsTrue result → (deed : Deed) × Turns machine.old deed machine.new × D.did outside.old deed outside.new }
-    ensures same { ¬ IsTrue result → (machine.new ≡ machine.old) × (outside.new ≡ outside.old) }
-    ensures rests { ¬ IsTrue result → Rests machine.old.stage }
+fn act<S: Store, L: PrinterLine>(
+    machine: &mut TillMachine,
+    around: &mut Surroundings<S, L>,
+) -> Turned
+    ensures turned { result ≡ Turned.Done → (deed : Deed) × (IsTold deed → ⊥) × Turns machine.old deed machine.new × Did S.faithful S.holds S.leaves L.did around.old deed around.new }
+    ensures tells { (note : TillNote) → result ≡ Turned.Tells note → Turns machine.old (Tells note) machine.new × Did S.faithful S.holds S.leaves L.did around.old (Tells note) around.new }
+    ensures rests { result ≡ Turned.Rests → (machine.new ≡ machine.old) × (around.new ≡ around.old) × Rests machine.old.stage }
 {
     match machine.asks() {
-        Action::Nothing => return false,
+        Action::Nothing => return Turned::Rests,
         Action::Append(entry) => {
-            let kept = outside.append(entry);
+            let kept = around.append(entry);
             machine.appended(kept);
         }
         Action::Connect => {
-            let is = outside.connect();
+            let is = around.connect();
             machine.connected(is);
         }
-        Action::Put => put_out(machine, outside),
-        Action::Wait(most) => wait(machine, outside, most),
+        Action::Put => put_out(machine, around),
+        Action::Wait(most) => wait(machine, around, most),
         Action::HangUp => {
-            outside.hang_up();
+            around.hang_up();
             machine.hung_up();
         }
         Action::Tell(note) => {
-            outside.tell(note);
             machine.told();
+            // Proof only: it leaves what is around as it is.
+            around.tells();
+            return Turned::Tells(note);
         }
     }
-    true
+    Turned::Done
 }
 
 // Puts the next bytes.
-fn put_out<D: Outside>(machine: &mut TillMachine, outside: &mut D)
+fn put_out<S: Store, L: PrinterLine>(machine: &mut TillMachine, around: &mut Surroundings<S, L>)
     requires talks { (talk : Talk) × (machine.old.stage ≡ stage.Talking talk) × (machine.old.host.out ≢ []) }
-    ensures { (deed : Deed) × Turns machine.old deed machine.new × D.did outside.old deed outside.new }
+    ensures { (deed : Deed) × (IsTold deed → ⊥) × Turns machine.old deed machine.new × Did S.faithful S.holds S.leaves L.did around.old deed around.new }
 {
     let mut room = [0; PIECE_BYTES];
     let count = machine.take_out(&mut room);
-    if let Err(why) = outside.put(&room[..count]) {
+    if let Err(why) = around.put(&room[..count]) {
         machine.link_ended(why);
     }
 }
 
 // Waits for at most so many bytes of answers, and has the machine hear them.
-fn wait<D: Outside>(machine: &mut TillMachine, outside: &mut D, most: u32)
+fn wait<S: Store, L: PrinterLine>(
+    machine: &mut TillMachine,
+    around: &mut Surroundings<S, L>,
+    most: u32,
+)
     requires talks { (talk : Talk) × (machine.old.stage ≡ stage.Talking talk) × (machine.old.host.out ≡ []) × (talk.left ≡ most) }
-    ensures { (deed : Deed) × Turns machine.old deed machine.new × D.did outside.old deed outside.new }
+    ensures { (deed : Deed) × (IsTold deed → ⊥) × Turns machine.old deed machine.new × Did S.faithful S.holds S.leaves L.did around.old deed around.new }
 {
     let mut room = [0; PIECE_BYTES];
     let most = PIECE_BYTES.min(most as usize);
-    match outside.pull(&mut room[..most]) {
+    match around.pull(&mut room[..most]) {
         Ok(count) => hear(machine, &room[..count]),
         Err(why) => machine.link_ended(why),
     }

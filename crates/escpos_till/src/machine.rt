@@ -19,18 +19,17 @@
 //! Before a byte of a receipt goes out, an entry is kept that says that it is tried, with the mark numbers that its link may
 //! use; and a receipt is recorded only where the host has recorded it. `specs/Machine.antt` says what each call does.
 
-ghost use Rattle.std.specs.Prelude.{◌≡◌, ◌≢◌, ◌↔◌, ◌-◌, ◌++◌, ◌<◌, ◌≤◌, ℕ, List, length, take, drop, min, option_map, Ok, IfOk, IfErr, OnOk, IsErrOf, IsTrue};
+ghost use Rattle.std.specs.Prelude.{◌≡◌, ◌≢◌, ◌↔◌, ◌-◌, ◌++◌, ◌<◌, ◌≤◌, ◌^◌, ℕ, List, length, take, drop, min, option_map, Ok, IfOk, IfErr, OnOk, IsErrOf, IsTrue};
 ghost use Rattle.escpos_till.specs.declared.entry.Entry.{Entry};
 ghost use Rattle.escpos_till.specs.Entries.{IsLedger, states as states_of};
 ghost use Rattle.escpos_till.specs.Book.{IsBookOf, Notes};
 ghost use Rattle.escpos_host.specs.Machine.{IsSound};
-ghost use Rattle.escpos_till.specs.Delivers.{fresh};
+ghost use Rattle.escpos_till.specs.Delivers.{fresh, marks_taken};
 ghost use Rattle.escpos_till.specs.declared.machine.Talk.{Talk};
 ghost use Rattle.escpos_till.specs.Machine.{Asks, Came, Delivers, Drops, Ended, Fits, Follows, GoesOn, IsNext, IsStarted, Kept, Opens, Queues, Raises, RefusesAny, RefusesDeliver, RefusesRaise, Rests, SameEntries, SendsReceipt, Submits, Turns, Unsure, connected, hung_up, lost, not_connected, put, told};
 
 use crate::book::{Book, NoBook};
 use crate::copy::CopyText;
-use crate::deliver::marks_taken;
 use crate::entry::Entry;
 use crate::number::ReceiptNumber;
 use crate::receipt_content::ReceiptContent;
@@ -633,4 +632,12 @@ fn less(left: u32, count: usize) -> u32
         Ok(count) => left.saturating_sub(count),
         Err(_) => 0,
     }
+}
+
+// How many mark numbers a try takes: one for each opening mark, at least one, and one for the closing mark. If that can't be counted,
+// it is more than there are.
+fn marks_taken(openings: u32) -> u32
+    ensures { result ≡ min (marks_taken openings) (2 ^ 32 - 1) }
+{
+    openings.max(1).saturating_add(1)
 }

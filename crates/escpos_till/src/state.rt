@@ -1,4 +1,10 @@
 //! Where a receipt of a ledger stands.
+//!
+//! `specs/States.antt` says which is the first that waits.
+
+ghost use Rattle.std.specs.Prelude.{◌≡◌, ℕ, ◌+◌, ◌^◌, ◌<◌, ◌≤◌, length, slice_get, Some};
+ghost use Rattle.escpos_till.specs.declared.state.ReceiptState.TheVariants as state_kind;
+ghost use Rattle.escpos_till.specs.States.{IsFirstWaiting, IsRecorded, tries_in};
 
 /// Where a receipt of a ledger stands.
 #[derive(Clone, Copy, Debug, PartialEq, Eq)]
@@ -7,4 +13,38 @@ pub enum ReceiptState {
     Waiting { tried: usize },
     /// It is printed: it is the record at this place, counted from 0.
     Recorded { place: usize },
+}
+
+// The first of these states that waits, of which those before this place are recorded; past the end if none does.
+pub(crate) fn first_waiting_from(states: &[ReceiptState], from: usize) -> usize
+    requires within { from ≤ length states.now }
+    requires passed { (k : ℕ) (s : _) → k < from → slice_get states.now k ≡ Some s → IsRecorded s }
+    ensures { IsFirstWaiting states.now result }
+{
+    let mut at = from;
+    while let Some(ReceiptState::Recorded { .. }) = states.get(at) {
+        at += 1;
+    }
+    at
+}
+
+// The state of a receipt that waits, when it is tried once more.
+pub(crate) fn one_try_more(state: ReceiptState) -> ReceiptState
+    requires { (tried : ℕ) × (state ≡ state_kind.Waiting tried) × (tried < 2 ^ 63) }
+    ensures { (tried : ℕ) → state ≡ state_kind.Waiting tried → result ≡ state_kind.Waiting (tried + 1) }
+{
+    match state {
+        ReceiptState::Waiting { tried } => ReceiptState::Waiting { tried: tried + 1 },
+        ReceiptState::Recorded { .. } => unreachable!(),
+    }
+}
+
+// How often a receipt in this state was tried, if it waits.
+pub(crate) fn tries_in(state: ReceiptState) -> Option<usize>
+    ensures { result ≡ tries_in state }
+{
+    match state {
+        ReceiptState::Waiting { tried } => Some(tried),
+        ReceiptState::Recorded { .. } => None,
+    }
 }

@@ -3,8 +3,8 @@ use Rattle.std.proofs.Common.{◌≡◌, ◌<◌, ◌∙◌, Some, ap, length, s
 use Rattle.std.proofs.lemmas.Option.{slice_get_read}
 use Rattle.escpos_till.specs.Contents.{content_with}
 use Rattle.escpos_till.specs.Entries.{Waits}
-use Rattle.escpos_till.specs.Ledger.{FirstWaits}
-use Rattle.escpos_till.specs.Summary.{IsRecorded}
+use Rattle.escpos_till.specs.Delivers.{FirstWaits}
+use Rattle.escpos_till.specs.States.{IsRecorded}
 use Rattle.escpos_till.specs.declared.state.ReceiptState.TheVariants as state
 use Rattle.escpos_till.proofs.BookLemmas.{contents_so, first_left, first_waits, none_left, number_is}
 use Rattle.escpos_till.proofs.book.Book.first_waiting.Goals as goal

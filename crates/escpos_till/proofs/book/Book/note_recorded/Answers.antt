@@ -1,10 +1,10 @@
 -- One more receipt is recorded.
 use Rattle.std.proofs.Common.{◌-◌, ◌∙◌, List, ap, slice_get, sym, subst, refl, arith}
-use Rattle.escpos_till.specs.Summary.{IsFirstWaiting}
+use Rattle.escpos_till.specs.States.{IsFirstWaiting}
 use Rattle.escpos_till.specs.declared.state.ReceiptState.{ReceiptState}
 use Rattle.escpos_till.proofs.EntryLemmas.{few_records}
 use Rattle.escpos_till.proofs.BookLemmas.{book_after_recorded, within_contents}
-use Rattle.escpos_till.proofs.SummaryLemmas.{passed_after_recorded}
+use Rattle.escpos_till.proofs.StateLemmas.{passed_after_recorded}
 use Rattle.escpos_till.proofs.book.Book.note_recorded.Goals as goal
 
 pub index_mut-requires-2 : goal.index_mut-requires-2

@@ -1,7 +1,7 @@
 use Rattle.std.proofs.Common.{◌≡◌, ℕ, ◌-◌, ◌<◌, ◌≤◌, length, slice_get, Some}
 use Rattle.escpos_till.specs.declared.state.ReceiptState.{ReceiptState}
-use Rattle.escpos_till.specs.Summary.{IsRecorded}
-use Rattle.escpos_till.proofs.summary.first_waiting_from.Given as goal
+use Rattle.escpos_till.specs.States.{IsRecorded}
+use Rattle.escpos_till.proofs.state.first_waiting_from.Given as goal
 
 abbrev pub invariant-loop-at : goal.invariant-loop-at
 invariant-loop-at l = record {

@@ -1,0 +1,63 @@
+-- What one more entry does to the first receipt that waits.
+use Rattle.std.proofs.Common.{ℕ, zero, suc, ◌≡◌, ◌<◌, ◌≤◌, ◌⊎◌, inl, inr, Some, None, List, [], ◌∷◌, ◌++◌, length, set, refl, sym, ap, subst, length-append, length-set, arith}
+use Rattle.std.specs.Prelude.{slice_get}
+use Rattle.escpos_till.specs.declared.state.ReceiptState.{ReceiptState}
+use Rattle.escpos_till.specs.declared.state.ReceiptState.TheVariants as state
+use Rattle.escpos_till.specs.States.{IsFirstWaiting, IsRecorded}
+
+pub get-set : {X : Type 0} (xs : List X) (i k : ℕ) (y s : X) → slice_get (set xs i y) k ≡ Some s → ((k ≡ i) × (s ≡ y) × (k < length xs)) ⊎ (slice_get xs k ≡ Some s)
+get-set [] i k y s h = inr h
+get-set (x ∷ xs) zero zero y s h = inl (refl, cc, omega arith)
+get-set (x ∷ xs) zero (suc k) y s h = inr h
+get-set (x ∷ xs) (suc i) zero y s h = inr h
+get-set (x ∷ xs) (suc i) (suc k) y s h = elim (get-set xs i k y s h) [
+  | inl here ↦ inl (ap suc here.0, here.1, omega (arith, here.2))
+  | inr other ↦ inr other
+]
+
+pub get-snoc : {X : Type 0} (xs : List X) (x : X) (k : ℕ) (s : X) → slice_get (xs ++ x ∷ []) k ≡ Some s → (slice_get xs k ≡ Some s) ⊎ ((k ≡ length xs) × (s ≡ x))
+get-snoc [] x zero s h = inr (refl, cc)
+get-snoc [] x (suc k) s h = absurd (let bad : None ≡ Some s = h in cc)
+get-snoc (y ∷ xs) x zero s h = inl h
+get-snoc (y ∷ xs) x (suc k) s h = elim (get-snoc xs x k s h) [
+  | inl within ↦ inl within
+  | inr last ↦ inr (ap suc last.0, last.1)
+]
+
+waiting_is_not : (s : ReceiptState) (tried : ℕ) → s ≡ state.Waiting tried → IsRecorded s → ⊥
+waiting_is_not s tried e h = subst IsRecorded e h
+
+recorded_is : (s : ReceiptState) (place : ℕ) → s ≡ state.Recorded place → IsRecorded s
+recorded_is s place e = subst IsRecorded (sym e) tt
+
+pub first_after_queued : (ss : List ReceiptState) (at : ℕ) → IsFirstWaiting ss at → IsFirstWaiting (ss ++ state.Waiting 0 ∷ []) at
+first_after_queued ss at f = record {
+  within = omega (arith, f.within, length-append ss (state.Waiting 0 ∷ []));
+  passed = λ k s before h. elim (get-snoc ss (state.Waiting 0) k s h) [
+    | inl within ↦ f.passed k s before within
+    | inr last ↦ absurd (omega (arith, last.0, before, f.within))
+  ];
+  waits = λ s h is. elim (get-snoc ss (state.Waiting 0) at s h) [
+    | inl within ↦ f.waits s within is
+    | inr last ↦ waiting_is_not s 0 last.1 is
+  ];
+}
+
+pub first_after_tried : (ss : List ReceiptState) (at d old new : ℕ) → slice_get ss d ≡ Some (state.Waiting old) → IsFirstWaiting ss at → IsFirstWaiting (set ss d (state.Waiting new)) at
+first_after_tried ss at d old new was f = record {
+  within = subst (λ n. at ≤ n) (sym (length-set ss d (state.Waiting new))) f.within;
+  passed = λ k s before h. elim (get-set ss d k (state.Waiting new) s h) [
+    | inl here ↦ absurd (f.passed d (state.Waiting old) (subst (λ n. n < at) here.0 before) was)
+    | inr other ↦ f.passed k s before other
+  ];
+  waits = λ s h is. elim (get-set ss d at (state.Waiting new) s h) [
+    | inl here ↦ waiting_is_not s new here.1 is
+    | inr other ↦ f.waits s other is
+  ];
+}
+
+pub passed_after_recorded : (ss : List ReceiptState) (at d place : ℕ) → IsFirstWaiting ss at → (k : ℕ) (s : ReceiptState) → k < at → slice_get (set ss d (state.Recorded place)) k ≡ Some s → IsRecorded s
+passed_after_recorded ss at d place f k s before h = elim (get-set ss d k (state.Recorded place) s h) [
+  | inl here ↦ recorded_is s place here.1
+  | inr other ↦ f.passed k s before other
+]

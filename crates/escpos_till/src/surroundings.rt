@@ -1,0 +1,101 @@
+//! What surrounds a till's machine: a store for its entries, and a line to its printer.
+//!
+//! Both are one value, so that a contract can say in which order things were done. How a link is opened and what goes over it is
+//! left to the types that implement `PrinterLine`.
+
+ghost use Rattle.std.specs.Prelude.{◌≡◌, ◌≤◌, length, take, IfErr, IfOk, OnOk, IsTrue};
+ghost use Rattle.escpos_till.specs.declared.machine.TillNote.{TillNote};
+ghost use Rattle.escpos_till.specs.Driver.{Breaks, Deed, Ends, Gives, HangsUp, Keeps, Links, Loses, Misses, Puts, Tells};
+ghost use Rattle.escpos_till.specs.Surroundings.{Did};
+
+use crate::entry::Entry;
+use crate::store::{Store, StoreFault};
+use escpos_host::SendFault;
+
+/// A line to a printer. At most one link is open over it.
+pub trait PrinterLine {
+    // Of what is done over a link: it did this, and then it is so.
+    ghost did: { Self → Deed → Self → Type 0 };
+
+    /// Opens a link to the printer, and returns whether there is one.
+    fn connect(&mut self) -> bool
+        ensures links { IsTrue result → did self.old Links self.new }
+        ensures misses { ¬ IsTrue result → did self.old Misses self.new };
+
+    /// Puts bytes on the link. At `Err` some of them may be put, and the link is of no more use.
+    fn put(&mut self, bytes: &[u8]) -> Result<(), SendFault>
+        ensures puts { OnOk result (did self.old (Puts bytes.now) self.new) }
+        ensures breaks { IfErr result (λ why. did self.old (Breaks bytes.now why) self.new) };
+
+    /// Waits for bytes of answers, moves them to the start of `room`, and returns how many there are. With 0, nothing came.
+    fn pull(&mut self, room: &mut [u8]) -> Result<usize, SendFault>
+        ensures within { IfOk result (λ count. count ≤ length room.old) }
+        ensures gives { IfOk result (λ count. did self.old (Gives (take count room.new)) self.new) }
+        ensures ends { IfErr result (λ why. did self.old (Ends why) self.new) };
+
+    /// Gives the link up.
+    fn hang_up(&mut self)
+        ensures { did self.old HangsUp self.new };
+}
+
+/// A store and a line to a printer.
+#[derive(Drop)]
+pub struct Surroundings<S: Store, L: PrinterLine> {
+    /// Where entries are kept.
+    pub store: S,
+    /// The line to the printer.
+    pub line: L,
+}
+
+impl<S: Store, L: PrinterLine> Surroundings<S, L> {
+    /// Keeps an entry in the store.
+    #[tactic(auto, unfolding(crate::specs::Surroundings::Did))]
+    pub(crate) fn append(&mut self, entry: &Entry) -> Result<(), StoreFault>
+        ensures keeps { OnOk result (Did S.faithful S.holds S.leaves L.did self.old (Keeps entry.now) self.new) }
+        ensures loses { IfErr result (λ why. Did S.faithful S.holds S.leaves L.did self.old (Loses entry.now why) self.new) }
+    {
+        self.store.append(entry)
+    }
+
+    /// Opens a link over the line.
+    #[tactic(auto, unfolding(crate::specs::Surroundings::Did))]
+    pub(crate) fn connect(&mut self) -> bool
+        ensures links { IsTrue result → Did S.faithful S.holds S.leaves L.did self.old Links self.new }
+        ensures misses { ¬ IsTrue result → Did S.faithful S.holds S.leaves L.did self.old Misses self.new }
+    {
+        self.line.connect()
+    }
+
+    /// Puts bytes on the link.
+    #[tactic(auto, unfolding(crate::specs::Surroundings::Did))]
+    pub(crate) fn put(&mut self, bytes: &[u8]) -> Result<(), SendFault>
+        ensures puts { OnOk result (Did S.faithful S.holds S.leaves L.did self.old (Puts bytes.now) self.new) }
+        ensures breaks { IfErr result (λ why. Did S.faithful S.holds S.leaves L.did self.old (Breaks bytes.now why) self.new) }
+    {
+        self.line.put(bytes)
+    }
+
+    /// Waits for bytes of answers.
+    #[tactic(auto, unfolding(crate::specs::Surroundings::Did))]
+    pub(crate) fn pull(&mut self, room: &mut [u8]) -> Result<usize, SendFault>
+        ensures within { IfOk result (λ count. count ≤ length room.old) }
+        ensures gives { IfOk result (λ count. Did S.faithful S.holds S.leaves L.did self.old (Gives (take count room.new)) self.new) }
+        ensures ends { IfErr result (λ why. Did S.faithful S.holds S.leaves L.did self.old (Ends why) self.new) }
+    {
+        self.line.pull(room)
+    }
+
+    /// Gives the link up.
+    #[tactic(auto, unfolding(crate::specs::Surroundings::Did))]
+    pub(crate) fn hang_up(&mut self)
+        ensures { Did S.faithful S.holds S.leaves L.did self.old HangsUp self.new }
+    {
+        self.line.hang_up();
+    }
+
+    // Proof only: gives the caller this fact: to tell the owner changes neither.
+    #[tactic(auto, unfolding(crate::specs::Surroundings::Did))]
+    pub(crate) fn tells(&self)
+        ensures { (note : TillNote) → Did S.faithful S.holds S.leaves L.did self.now (Tells note) self.now }
+    {}
+}
