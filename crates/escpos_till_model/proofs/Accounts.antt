@@ -1,6 +1,6 @@
 -- In a ledger each receipt that was taken waits or is recorded, and none is both.
 use Rattle.std.proofs.Common.{ℕ, zero, suc, ◌≡◌, ◌≢◌, ◌+◌, ◌-◌, ◌<◌, ◌⊎◌, inl, inr, Bool, true, false, cond, Option, Some, None, List, [], ◌∷◌, ◌++◌, length, refl, sym, ◌∙◌, ap, subst, add-zero, arith}
-use Rattle.std.specs.Prelude.{◌==◌, is_none}
+use Rattle.std.specs.Prelude.{◌==◌, is_none, slice_get}
 use Rattle.std.specs.List.{cons_option, filter_map, position_from}
 use Rattle.std.proofs.lemmas.Bool.Decides.{nat_tests}
 use Rattle.std.proofs.lemmas.Option.{same_Some}
@@ -136,3 +136,21 @@ each_is_kept entries ledger = record {
       let (pre, e, post, split, front, says) = split_at record_of entries before number following is in
       no_place pre number (waited entries pre post e number ledger split says).open_still (subst (λ ns. Among number ns) (sym front) among);
 }
+
+-- ## What a machine delivers
+
+none_there : (before following : List Taken) (x : Taken) → [] ≡ before ++ x ∷ following → ⊥
+none_there [] following x is = absurd cc
+none_there (b ∷ bs) following x is = absurd cc
+
+-- Where none waits, each that was taken is recorded.
+pub all_recorded : (entries : List Entry) → IsLedger entries → Rattle.escpos_till.specs.Entries.waiting entries ≡ [] → (receipt : Taken) → Among receipt (taken entries)
+    → Among receipt.number (recorded entries)
+all_recorded entries ledger none receipt among = elim ((each_is_kept entries ledger).waits_or_recorded receipt among) [
+  | inl (before, following, is) ↦ absurd (none_there before following receipt (sym none ∙ is))
+  | inr recorded ↦ recorded
+]
+
+pub first_among : (xs : List Taken) (x : Taken) → slice_get xs 0 ≡ Some x → Among x xs
+first_among [] x is = absurd (let bad : None ≡ Some x = is in cc)
+first_among (y ∷ ys) x is = let same : y ≡ x = cc in ([], ys, ap (λ t. t ∷ ys) same)

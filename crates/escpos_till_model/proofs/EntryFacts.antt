@@ -9,7 +9,7 @@ use Rattle.escpos_till.specs.declared.entry.Content.{Content}
 use Rattle.escpos_till.specs.declared.entry.Entry.{Entry}
 use Rattle.escpos_till.specs.declared.entry.Entry.TheVariants.{Queued, Tried, Recorded, Raised}
 use Rattle.escpos_till.specs.Entries.{MayFollow, Taken, content_of, contents, next_free, numbered_from, record_of, recorded, taken}
-use Rattle.escpos_till.specs.Ledger.{FirstWaits}
+use Rattle.escpos_till.specs.Delivers.{FirstWaits}
 use Rattle.escpos_till.proofs.EntryLemmas.{next_after_queued, next_after_raised, next_after_recorded, next_after_tried}
 use Rattle.escpos_till_model.specs.Receipts.{Among, AreReceipts, IsReceiptOf, IsTaken}
 

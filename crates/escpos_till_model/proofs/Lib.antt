@@ -8,7 +8,13 @@ pub mod WorldStore
 pub mod WorldHears
 pub mod Worlds
 mod WireEvents
+mod Shown
+mod DrivenDeeds
 mod Driven
 pub mod TillHappens
+mod TillWorlds
 mod Carrying
 mod Widths
+mod DriverDoes
+mod Served
+mod OffLine

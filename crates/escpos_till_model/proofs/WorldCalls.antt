@@ -25,7 +25,7 @@ use Rattle.escpos_till.specs.Contents.{ContentDescribes}
 use Rattle.escpos_till.specs.Copy.{copy_line, sent_of}
 use Rattle.escpos_till.specs.Delivers.{marks_taken}
 use Rattle.escpos_receipt.specs.Whole.{Whole}
-use Rattle.escpos_till.specs.Ledger.{FirstWaits}
+use Rattle.escpos_till.specs.Delivers.{FirstWaits}
 use Rattle.escpos_till.specs.Machine.{Delivers, Drops, Ended, IsNext, MachineView, Queues, Raises, SameEntries, after_note, at, connected, hung_up as machine_hung_up, lost, not_connected, told}
 use Rattle.escpos_till.proofs.EntryLemmas.{length-taken}
 use Rattle.escpos_till_model.proofs.EntryFacts.{among_cons, among_filtered, among_last, among_nothing, first_among, first_is_taken}

@@ -5,3 +5,4 @@ pub mod Known
 pub mod Instead
 pub mod Around
 pub mod Carried
+pub mod Bridge

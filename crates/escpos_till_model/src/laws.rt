@@ -1,28 +1,44 @@
-//! Proof only: the law of a ledger's receipts, and that of a till in the world. The contract of each function is the law; when run, it does
-//! nothing.
+//! Proof only: the laws of a ledger's receipts, of a till in the world, and of what a driver did on a real store and a real line. The contract
+//! of each function is the law; when run, it does nothing.
 
-ghost use Rattle.std.specs.Prelude.{ℕ, ◌≡◌, ◌<◌, ◌≤◌, List, [], ◌∷◌, None, length};
+ghost use Rattle.std.specs.Prelude.{ℕ, ◌≡◌, ◌<◌, ◌≤◌, Option, List, [], ◌∷◌, ◌++◌, None, length};
 ghost use Rattle.escpos_link.specs.Line.{IsLine, LineView};
 ghost use Rattle.escpos_link.specs.Trusted.{IsTrusted};
-ghost use Rattle.escpos_link.specs.Wire.{given_up, wire_of};
+ghost use Rattle.escpos_link.specs.Wire.{WireView, given_up, wire_of};
+ghost use Rattle.escpos_till.specs.declared.entry.Content.{Content};
 ghost use Rattle.escpos_till.specs.declared.entry.Entry.{Entry};
 ghost use Rattle.escpos_till.specs.declared.entry.Entry.TheVariants as entry;
+ghost use Rattle.escpos_till.specs.declared.machine.Stage.TheVariants as stage;
+ghost use Rattle.escpos_till.specs.declared.machine.TillNote.{TillNote};
 ghost use Rattle.escpos_till.specs.declared.machine.TillNote.TheVariants as note;
-ghost use Rattle.escpos_till.specs.Entries.{IsLedger, next_free, recorded, taken};
-ghost use Rattle.escpos_till.specs.Driver.{Ran};
-ghost use Rattle.escpos_till.specs.Machine.{MachineView};
-ghost use Rattle.escpos_till_model.specs.Around.{Around, CrashesTo, DoesInTime, IsAround, Reaches};
+ghost use Rattle.escpos_till.specs.declared.machine.TillRefusal.TheVariants as refusal;
+ghost use Rattle.escpos_till.specs.declared.surroundings.Surroundings.{Surroundings};
+ghost use Rattle.escpos_till.specs.Entries.{IsLedger, Taken, next_free, recorded, taken, waiting};
+ghost use Rattle.escpos_host.specs.Machine.{IsSound};
+ghost use Rattle.escpos_till.specs.Book.{IsBookOf};
+ghost use Rattle.escpos_till.specs.Driver.{Call, Ran, RanTo, Serves, Tells};
+ghost use Rattle.escpos_till.specs.Machine.{Delivers, IsStarted, MachineView, RefusesDeliver, after_note};
+ghost use Rattle.escpos_till.specs.Surroundings.{Did};
+ghost use Rattle.escpos_till_model.specs.Around.{Around, CrashesTo, DoesInTime, IsAround, Reaches, around};
+ghost use Rattle.escpos_till_model.specs.Bridge.{AllOnWire, EndsIn, FitsWire, GoesTo, IsFaithful, IsGivenUp, IsOffLine, IsServed, notes_of};
 ghost use Rattle.std.specs.List.{AllByRecursion};
 ghost use Rattle.escpos_till_model.specs.Carried.{AreApart, Carried, Carries, HasOwnMarks};
 ghost use Rattle.escpos_till_model.specs.Receipts.{Among, EachIsKept, Extends, RecordedStand};
 ghost use Rattle.escpos_till_model.specs.declared.event.Happening.{Happening};
-ghost use Rattle.escpos_till_model.specs.Known.{IsWorld};
-ghost use Rattle.escpos_till_model.specs.World.{Begins, Runs, World};
+ghost use Rattle.escpos_till_model.specs.Known.{BookMayLag, IsWorld};
+ghost use Rattle.escpos_till_model.specs.World.{Begins, HasCome, Runs, World, off};
+
+use escpos_till::{PrinterLine, Store};
 
 /// In every ledger each receipt that was taken waits or is recorded, and none is both; what is recorded was taken, and none is
-/// recorded twice.
+/// recorded twice. What waits is what a machine delivers: where it says that nothing waits, each receipt that was taken is recorded, and what it
+/// delivers otherwise is one that waits.
 pub fn each_is_kept()
-    ensures { (entries : List Entry) → IsLedger entries → EachIsKept entries }
+    ensures kept { (entries : List Entry) → IsLedger entries → EachIsKept entries }
+    ensures nothing_waits { (m : MachineView) (entries : List Entry) (openings : ℕ) → IsLedger entries → IsBookOf m.book entries → RefusesDeliver m openings refusal.NothingWaits
+        → (receipt : Taken) → Among receipt (taken entries) → Among receipt.number (recorded entries) }
+    ensures delivers { (m asked : MachineView) (entries : List Entry) (openings most : ℕ) (copy : Option (List ℕ)) → IsBookOf m.book entries → (it : Delivers m openings most copy asked)
+        → (content : Content) × Among (record { number = it.due.number; content = content }) (waiting entries) }
 {}
 
 /// The till in the world: over every list of happenings what is recorded in its ledger stands on its printer's paper, each receipt that was
@@ -82,6 +98,65 @@ pub fn a_driven_till_is_in_the_world()
     ensures recorded { (first w : World) (happenings : List Happening) (m after : MachineView) (a new : Around) (number : ℕ) → Begins first → Runs first happenings w → IsAround m a w
         → Ran DoesInTime m a after new → Among (note.Recorded number) new.told → Among number (recorded new.kept) }
 {
+    what_is_recorded_stands();
+}
+
+/// What a driver did on a store and over a line is what a driver does in the world: if the store has done what it was asked to, and a wire did
+/// what was done over the line. At the end the store has what a crash may leave then: where it couldn't tell whether it kept an entry, it has
+/// the entry or not. Otherwise that is what it holds. The wire is the one that comes of the line's deeds, and the owner was told the notes of
+/// all deeds, which is one if the run ends with it.
+pub fn what_a_driver_did<S: Store, L: PrinterLine>()
+    ensures ran { (m after : MachineView) (old new : Surroundings S L) (ran : Ran (Did S.faithful S.holds S.leaves L.did) m old after new) (kept left : List Entry) (w wire : WireView) (told : List TillNote)
+        → IsFaithful S.faithful S.holds old.store kept new.store → S.leaves new.store left → AllOnWire w ran.deeds wire
+        → Ran DoesInTime m (around kept w told) after (around left wire (told ++ notes_of ran.deeds)) }
+    ensures told { (m after : MachineView) (old new : Surroundings S L) (note : TillNote) (most : ℕ) (ran : RanTo (Did S.faithful S.holds S.leaves L.did) m old note most after new) (kept left : List Entry)
+        (w wire : WireView) (told : List TillNote) → IsFaithful S.faithful S.holds old.store kept new.store → S.leaves new.store left → AllOnWire w (ran.before ++ Tells note ∷ []) wire
+        → RanTo DoesInTime m (around kept w told) note most after (around left wire (told ++ note ∷ [])) }
+    ensures held { (m after : MachineView) (old new : Surroundings S L) (ran : Ran (Did S.faithful S.holds S.leaves L.did) m old after new) (kept : List Entry) (w wire : WireView) (told : List TillNote)
+        → IsFaithful S.faithful S.holds old.store kept new.store → (BookMayLag after.stage → ⊥) → AllOnWire w ran.deeds wire
+        → (entries : List Entry) × S.holds new.store entries × Ran DoesInTime m (around kept w told) after (around entries wire (told ++ notes_of ran.deeds)) }
+    ensures was_faithful { (m after : MachineView) (old new : Surroundings S L) → Ran (Did S.faithful S.holds S.leaves L.did) m old after new → S.faithful new.store → S.faithful old.store }
+{}
+
+/// When a line is like a wire to a printer. For proofs alone: whoever calls `a_line_is_like_a_wire` has a type of his own that says it.
+pub trait LikeWire<L: PrinterLine> {
+    // The line is like this wire.
+    ghost fits: { L → WireView → Type 0 };
+}
+
+/// A line that stays like a wire, deed by deed: a wire did what a driver did over it, and it is like that wire at the end.
+pub fn a_line_is_like_a_wire<S: Store, L: PrinterLine, W: LikeWire<L>>()
+    ensures ran { FitsWire L.did W.fits → (m after : MachineView) (old new : Surroundings S L) (ran : Ran (Did S.faithful S.holds S.leaves L.did) m old after new) (w : WireView) → W.fits old.line w
+        → (wire : WireView) × AllOnWire w ran.deeds wire × W.fits new.line wire }
+    ensures told { FitsWire L.did W.fits → (m after : MachineView) (old new : Surroundings S L) (note : TillNote) (most : ℕ) (ran : RanTo (Did S.faithful S.holds S.leaves L.did) m old note most after new) (w : WireView)
+        → W.fits old.line w → (wire : WireView) × AllOnWire w (ran.before ++ Tells note ∷ []) wire × W.fits new.line wire }
+{}
+
+/// A call of a till's machine that a driver has served, in a world that has come of one that began: happenings lead to a world around the
+/// machine as it is then, whose store has what it holds, or what a crash may leave now, and whose owner was told the note. So the next call may
+/// follow, or a crash; what is recorded stands on the paper, each receipt that was taken is kept, and the note is so.
+pub fn a_served_till_is_in_the_world<S: Store, L: PrinterLine>()
+    ensures served { (world : World) (m after : MachineView) (old new : Surroundings S L) (call : Call) (note : TillNote) (most : ℕ) (wire : WireView) → IsServed S.faithful S.holds S.leaves L.did world m old call note most after new wire
+        → after_note note ≡ stage.AtRest → (entries : List Entry) × S.holds new.store entries × (after.stage ≡ stage.AtRest) × GoesTo world after (around entries wire (world.told ++ note ∷ [])) }
+    ensures may_leave { (world : World) (m after : MachineView) (old new : Surroundings S L) (call : Call) (note : TillNote) (most : ℕ) (wire : WireView) (left : List Entry) → IsServed S.faithful S.holds S.leaves L.did world m old call note most after new wire
+        → S.leaves new.store left → GoesTo world after (around left wire (world.told ++ note ∷ [])) }
+    ensures given_up { (world : World) (m after : MachineView) (old new : Surroundings S L) (call : Call) (most : ℕ) (wire : WireView) (left : List Entry)
+        (it : IsGivenUp S.faithful S.holds S.leaves L.did world m old call most after new wire) → S.leaves new.store left → EndsIn world after (around left wire (world.told ++ notes_of it.gives.runs.run.deeds)) }
+    ensures off_line { (m after : MachineView) (old new : Surroundings S L) (call : Call) (note : TillNote) (most : ℕ) (serves : Serves (Did S.faithful S.holds S.leaves L.did) m old call note most after new) (w : WireView)
+        → IsOffLine call → AllOnWire w (serves.runs.before ++ Tells note ∷ []) w }
+    ensures starts { (world : World) (m : MachineView) → HasCome world → world.machine ≡ None → IsStarted m → IsBookOf m.book world.kept → IsSound m.host → GoesTo world m (around world.kept world.wire world.told) }
+    ensures stops { (world : World) (m : MachineView) → HasCome world → IsAround m (around world.kept world.wire world.told) world → Begins (off world world.wire) }
+    ensures stands { (world : World) (m after : MachineView) (old new : Surroundings S L) (call : Call) (note : TillNote) (most : ℕ) (wire : WireView) (left : List Entry) → IsServed S.faithful S.holds S.leaves L.did world m old call note most after new wire
+        → S.leaves new.store left → RecordedStand wire.printer.sheet.line_dots left wire.printer.sheet.items }
+    ensures kept { (world : World) (m after : MachineView) (old new : Surroundings S L) (call : Call) (note : TillNote) (most : ℕ) (wire : WireView) (left : List Entry) → IsServed S.faithful S.holds S.leaves L.did world m old call note most after new wire
+        → S.leaves new.store left → EachIsKept left × Extends world.kept left }
+    ensures queued { (world : World) (m after : MachineView) (old new : Surroundings S L) (call : Call) (number most : ℕ) (wire : WireView) (left : List Entry)
+        → IsServed S.faithful S.holds S.leaves L.did world m old call (note.Queued number) most after new wire → S.leaves new.store left → (0 < number) × (number ≤ length (taken left)) }
+    ensures recorded { (world : World) (m after : MachineView) (old new : Surroundings S L) (call : Call) (number most : ℕ) (wire : WireView) (left : List Entry)
+        → IsServed S.faithful S.holds S.leaves L.did world m old call (note.Recorded number) most after new wire → S.leaves new.store left → Among number (recorded left) }
+{
+    escpos_link::laws::fitting();
+    every_world();
     what_is_recorded_stands();
 }
 

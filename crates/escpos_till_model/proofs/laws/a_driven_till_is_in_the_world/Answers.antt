@@ -7,7 +7,8 @@ use Rattle.escpos_till_model.specs.Around.{Around, Reaches}
 use Rattle.escpos_till_model.specs.Receipts.{Among, EachIsKept, Extends, RecordedStand}
 use Rattle.escpos_till_model.specs.declared.event.Happening.{Happening}
 use Rattle.escpos_till_model.specs.World.{Runs, World}
-use Rattle.escpos_till_model.proofs.Driven.{crashed, driven, runs_more}
+use Rattle.escpos_till_model.proofs.Driven.{crashed, driven}
+use Rattle.escpos_till_model.proofs.Shown.{runs_more}
 use Rattle.escpos_till_model.proofs.laws.a_driven_till_is_in_the_world.Goals as goal
 
 pub returns-clause-reaches : goal.returns-clause-reaches

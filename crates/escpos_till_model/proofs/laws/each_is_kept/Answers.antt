@@ -1,6 +1,14 @@
--- The law is a lemma.
-use Rattle.escpos_till_model.proofs.Accounts.{each_is_kept}
+-- The law is a lemma; a machine's book is that of its entries.
+use Rattle.escpos_till_model.proofs.Accounts.{all_recorded, each_is_kept, first_among}
 use Rattle.escpos_till_model.proofs.laws.each_is_kept.Goals as goal
 
-pub returns : goal.returns
-returns c = each_is_kept
+pub returns-clause-kept : goal.returns-clause-kept
+returns-clause-kept c = each_is_kept
+
+pub returns-clause-nothing_waits : goal.returns-clause-nothing_waits
+returns-clause-nothing_waits c = λ m entries openings ledger book (rest, none) receipt among. all_recorded entries ledger (none entries book) receipt among
+
+pub returns-clause-delivers : goal.returns-clause-delivers
+returns-clause-delivers c = λ m asked entries openings most copy book it.
+    let due = it.next.first entries book in
+    (due.content, first_among _ _ due.first.first)

@@ -1,4 +1,4 @@
-use Rattle.escpos_till_model.proofs.TillHappens.{crash_by}
+use Rattle.escpos_till_model.proofs.TillWorlds.{crash_by}
 use Rattle.escpos_till_model.proofs.parts.TillParts.crash.Goals as goal
 
 pub returns : goal.returns

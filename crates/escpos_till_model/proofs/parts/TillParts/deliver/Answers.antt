@@ -1,6 +1,6 @@
 use Rattle.std.proofs.Common.{◌≡◌, None, Some, rules}
 use Rattle.escpos_till.specs.Copy.{IsCopyText}
-use Rattle.escpos_till_model.proofs.TillHappens.{copied}
+use Rattle.escpos_till_model.proofs.TillWorlds.{copied}
 use Rattle.escpos_till_model.proofs.parts.TillParts.deliver.Goals as goal
 
 pub returns-in-None-clause-happened : goal.returns-in-None-clause-happened

@@ -1,5 +1,6 @@
 use Rattle.std.proofs.Common.{ap}
-use Rattle.escpos_till_model.proofs.TillHappens.{called_in, fits_by, same_but}
+use Rattle.escpos_till_model.proofs.TillHappens.{called_in}
+use Rattle.escpos_till_model.proofs.TillWorlds.{fits_by, same_but}
 use Rattle.escpos_till_model.proofs.parts.TillParts.deliver_as.Goals as goal
 
 pub returns-in-Err-clause-refused : goal.returns-in-Err-clause-refused

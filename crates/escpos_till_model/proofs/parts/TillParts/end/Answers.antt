@@ -1,7 +1,7 @@
 use Rattle.std.proofs.Common.{◌≡◌, rules}
 use Rattle.escpos_link.specs.Wire.{given_up}
 use Rattle.escpos_till_model.specs.Instead.{Talks}
-use Rattle.escpos_till_model.proofs.TillHappens.{ends_in}
+use Rattle.escpos_till_model.proofs.TillWorlds.{ends_in}
 use Rattle.escpos_till_model.proofs.parts.TillParts.end.Goals as goal
 
 pub returns-clause-happened : goal.returns-clause-happened

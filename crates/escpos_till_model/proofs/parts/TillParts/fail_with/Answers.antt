@@ -2,7 +2,7 @@ use Rattle.std.proofs.Common.{◌≡◌, ◌++◌, ◌∷◌, [], sym, subst, ru
 use Rattle.escpos_till.specs.Machine.{Unsure}
 use Rattle.escpos_till_model.specs.declared.event.Happening.TheVariants as event
 use Rattle.escpos_till_model.specs.World.{Stores, running, with_entry}
-use Rattle.escpos_till_model.proofs.TillHappens.{fails_in, unwanted_in}
+use Rattle.escpos_till_model.proofs.TillWorlds.{fails_in, unwanted_in}
 use Rattle.escpos_till_model.proofs.parts.TillParts.fail_with.Goals as goal
 
 pub returns-in-Err-clause-refused : goal.returns-in-Err-clause-refused

@@ -2,7 +2,7 @@ use Rattle.std.proofs.Common.{rules}
 use Rattle.escpos_till_model.specs.declared.event.Happening.TheVariants as event
 use Rattle.escpos_till_model.specs.Instead.{KeepsEntry}
 use Rattle.escpos_till_model.specs.World.{without_entry}
-use Rattle.escpos_till_model.proofs.TillHappens.{fails_in, not_asked_in}
+use Rattle.escpos_till_model.proofs.TillWorlds.{fails_in, not_asked_in}
 use Rattle.escpos_till_model.proofs.parts.TillParts.fail_without.Goals as goal
 
 pub returns-then-not-has_entry-clause-refused : goal.returns-then-not-has_entry-clause-refused

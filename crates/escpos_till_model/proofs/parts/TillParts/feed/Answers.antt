@@ -1,6 +1,6 @@
 use Rattle.std.proofs.Common.{refl}
 use Rattle.escpos_link.specs.declared.event.Event.TheVariants as line
-use Rattle.escpos_till_model.proofs.TillHappens.{fed_in, goes_in}
+use Rattle.escpos_till_model.proofs.TillWorlds.{fed_in, goes_in}
 use Rattle.escpos_till_model.proofs.parts.TillParts.feed.Goals as goal
 
 pub returns-in-Err-clause-refused : goal.returns-in-Err-clause-refused

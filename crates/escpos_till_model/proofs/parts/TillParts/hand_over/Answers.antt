@@ -1,6 +1,6 @@
 use Rattle.std.proofs.Common.{inl, refl}
 use Rattle.escpos_link.specs.declared.event.Event.TheVariants as line
-use Rattle.escpos_till_model.proofs.TillHappens.{goes_in, handed_in}
+use Rattle.escpos_till_model.proofs.TillWorlds.{goes_in, handed_in}
 use Rattle.escpos_till_model.proofs.parts.TillParts.hand_over.Goals as goal
 
 pub returns-in-Err-clause-refused : goal.returns-in-Err-clause-refused

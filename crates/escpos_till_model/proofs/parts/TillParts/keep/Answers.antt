@@ -5,7 +5,7 @@ use Rattle.escpos_till.specs.Machine.{Kept}
 use Rattle.escpos_till_model.specs.declared.event.Happening.TheVariants as event
 use Rattle.escpos_till_model.specs.Instead.{LeftByMemory, Talks}
 use Rattle.escpos_till_model.specs.World.{Stores, running, with_entry}
-use Rattle.escpos_till_model.proofs.TillHappens.{idled_in, keeps_in, tried_in, unwanted_in}
+use Rattle.escpos_till_model.proofs.TillWorlds.{idled_in, keeps_in, tried_in, unwanted_in}
 use Rattle.escpos_till_model.proofs.parts.TillParts.keep.Goals as goal
 
 pub returns-in-Err-clause-refused : goal.returns-in-Err-clause-refused

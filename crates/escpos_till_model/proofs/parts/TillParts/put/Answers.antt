@@ -4,7 +4,7 @@ use Rattle.escpos_link.specs.Wire.{given_up, with_bytes}
 use Rattle.escpos_till_model.specs.declared.event.Happening.TheVariants as event
 use Rattle.escpos_till_model.specs.Instead.{LeftByMemory, Talks}
 use Rattle.escpos_till_model.specs.World.{Puts, running}
-use Rattle.escpos_till_model.proofs.TillHappens.{breaks_nothing, not_asked_in, puts_in}
+use Rattle.escpos_till_model.proofs.TillWorlds.{breaks_nothing, not_asked_in, puts_in}
 use Rattle.escpos_till_model.proofs.parts.TillParts.put.Goals as goal
 
 pub returns-then-not-talks-clause-refused : goal.returns-then-not-talks-clause-refused

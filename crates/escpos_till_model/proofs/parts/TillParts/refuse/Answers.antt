@@ -1,4 +1,4 @@
-use Rattle.escpos_till_model.proofs.TillHappens.{refuses_in}
+use Rattle.escpos_till_model.proofs.TillWorlds.{refuses_in}
 use Rattle.escpos_till_model.proofs.parts.TillParts.refuse.Goals as goal
 
 pub returns-clause-happened : goal.returns-clause-happened

@@ -1,6 +1,6 @@
 use Rattle.std.proofs.Common.{◌≡◌, None, subst, rules}
 use Rattle.escpos_till.specs.Book.{IsBookOf}
-use Rattle.escpos_till_model.proofs.TillHappens.{starts_in}
+use Rattle.escpos_till_model.proofs.TillWorlds.{starts_in}
 use Rattle.escpos_till_model.proofs.parts.TillParts.start.Goals as goal
 
 pub returns-in-Ok-clause-happened : goal.returns-in-Ok-clause-happened

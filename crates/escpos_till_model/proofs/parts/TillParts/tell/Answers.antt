@@ -1,7 +1,7 @@
 use Rattle.std.proofs.Common.{◌≡◌, ◌++◌, ◌∷◌, [], sym, subst, rules}
 use Rattle.escpos_till_model.specs.declared.event.Happening.TheVariants as event
 use Rattle.escpos_till_model.specs.World.{Tells, running}
-use Rattle.escpos_till_model.proofs.TillHappens.{not_asked_in, tells_in}
+use Rattle.escpos_till_model.proofs.TillWorlds.{not_asked_in, tells_in}
 use Rattle.escpos_till_model.proofs.parts.TillParts.tell.Goals as goal
 
 pub returns-in_default-note_of-clause-refused : goal.returns-in_default-note_of-clause-refused

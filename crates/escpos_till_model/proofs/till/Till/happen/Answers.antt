@@ -1,4 +1,4 @@
-use Rattle.escpos_till_model.proofs.TillHappens.{come_by}
+use Rattle.escpos_till_model.proofs.TillWorlds.{come_by}
 use Rattle.escpos_till_model.proofs.till.Till.happen.Goals as goal
 
 pub invariant_of-self : goal.invariant_of-self

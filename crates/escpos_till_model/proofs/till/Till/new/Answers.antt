@@ -1,7 +1,7 @@
 -- A new till begins, with a new line.
 use Rattle.std.proofs.Common.{[], refl}
 use Rattle.escpos_till.specs.Delivers.{fresh}
-use Rattle.escpos_till_model.proofs.TillHappens.{new_begins}
+use Rattle.escpos_till_model.proofs.TillWorlds.{new_begins}
 use Rattle.escpos_till_model.proofs.till.Till.new.Goals as goal
 
 pub invariant_of-result : goal.invariant_of-result

@@ -1,7 +1,7 @@
 -- Those that have come, and the next one.
 use Rattle.std.proofs.Common.{◌≡◌, [], List, refl, subst, sym, rules}
 use Rattle.escpos_till_model.specs.declared.event.Happening.{Happening}
-use Rattle.escpos_till_model.proofs.TillHappens.{SoFar, all_came, goes_so_far, ran_extends}
+use Rattle.escpos_till_model.proofs.TillWorlds.{SoFar, all_came, goes_so_far, ran_extends}
 use Rattle.escpos_till_model.proofs.till.Till.run.Goals as goal
 
 pub loop-event-preserved : goal.loop-event-preserved

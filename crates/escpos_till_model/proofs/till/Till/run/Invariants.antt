@@ -1,6 +1,6 @@
 -- The happenings that are left haven't come, and the others have.
 use Rattle.std.proofs.Common.{length}
-use Rattle.escpos_till_model.proofs.TillHappens.{SoFar}
+use Rattle.escpos_till_model.proofs.TillWorlds.{SoFar}
 use Rattle.escpos_till_model.proofs.till.Till.run.Given as goal
 
 abbrev pub invariant-loop-event : goal.invariant-loop-event

@@ -1,0 +1,91 @@
+-- Why a call that only keeps an entry does nothing over the line.
+use Rattle.std.proofs.Common.{◌≡◌, List, [], ◌∷◌, refl, sym, ◌∙◌, ap, subst}
+use Rattle.escpos_link.specs.Wire.{WireView}
+use Rattle.escpos_till.specs.declared.entry.Entry.{Entry}
+use Rattle.escpos_till.specs.declared.machine.Stage.{Stage}
+use Rattle.escpos_till.specs.declared.machine.Stage.TheVariants as stage
+use Rattle.escpos_till.specs.declared.machine.Then.{Then}
+use Rattle.escpos_till.specs.declared.machine.Then.TheVariants as then
+use Rattle.escpos_till.specs.declared.machine.TillNote.{TillNote}
+use Rattle.escpos_till.specs.declared.machine.TillNote.TheVariants as note_kind
+use Rattle.escpos_till.specs.declared.store.StoreFault.{StoreFault}
+use Rattle.escpos_till.specs.Driver.{Breaks, Call, Calls, Deed, Deliver, DidAll, Ends, Gives, HangsUp, Keeps, Links, Loses, Misses, Puts, Queue, Raise, Tells, Turns}
+use Rattle.escpos_till.specs.Machine.{Kept, MachineView, Unsure, after_note, lost, told}
+use Rattle.escpos_till_model.specs.Bridge.{AllOnWire, IsOffLine, IsOnLine}
+
+-- It keeps an entry that isn't about a link, tells its owner something, or rests.
+abbrev IsQuiet : Stage → Type 0
+IsQuiet stage.AtRest = Unit {0}
+IsQuiet (stage.Keeping e then.Queued) = Unit {0}
+IsQuiet (stage.Keeping e then.Raised) = Unit {0}
+IsQuiet (stage.Telling n) = Unit {0}
+IsQuiet stage.Failed = Unit {0}
+IsQuiet s = ⊥
+
+quiet_at : (s other : Stage) → s ≡ other → IsQuiet s → IsQuiet other
+quiet_at s other is quiet = subst IsQuiet is quiet
+
+quiet_as : (s other : Stage) → s ≡ other → IsQuiet other → IsQuiet s
+quiet_as s other is quiet = subst IsQuiet (sym is) quiet
+
+note_quiet : (n : TillNote) → IsQuiet (after_note n)
+note_quiet (note_kind.Queued number) = tt
+note_quiet note_kind.Raised = tt
+note_quiet (note_kind.Recorded number) = tt
+note_quiet (note_kind.NoLink number) = tt
+note_quiet (note_kind.Waiting number why) = tt
+note_quiet (note_kind.NotKept why) = tt
+
+kept_quiet : (e : Entry) (next : Then) (m mid : MachineView) → IsQuiet (stage.Keeping e next) → Kept (stage.Keeping e next) m mid → IsQuiet mid.stage
+kept_quiet e then.Queued m mid quiet (notes, (number, count, host, is)) = quiet_as mid.stage (stage.Telling (note_kind.Queued number)) is tt
+kept_quiet e then.Raised m mid quiet (notes, (host, is)) = quiet_as mid.stage (stage.Telling note_kind.Raised) is tt
+kept_quiet e (then.Send due) m mid quiet kept = absurd quiet
+kept_quiet e (then.Recorded number) m mid quiet kept = absurd quiet
+
+lost_quiet : (e : Entry) (next : Then) (why : StoreFault) → IsQuiet (stage.Keeping e next) → IsQuiet (lost next why)
+lost_quiet e then.Queued why quiet = tt
+lost_quiet e then.Raised why quiet = tt
+lost_quiet e (then.Send due) why quiet = absurd quiet
+lost_quiet e (then.Recorded number) why quiet = absurd quiet
+
+-- It asks for nothing over the line, and goes on so.
+quiet_on : (d : Deed) (m mid : MachineView) → IsQuiet m.stage → Turns m d mid → (IsOnLine d → ⊥) × IsQuiet mid.stage
+quiet_on (Keeps e) m mid quiet (next, is, kept) = (λ on. on, kept_quiet e next m mid (quiet_at m.stage _ is quiet) (subst (λ s. Kept s m mid) is kept))
+quiet_on (Loses e why) m mid quiet (next, is, unsure) =
+    (λ on. on, quiet_as mid.stage (lost next why) (subst (λ s. Unsure s why m mid) is unsure).2 (lost_quiet e next why (quiet_at m.stage _ is quiet)))
+quiet_on (Tells n) m mid quiet (is, mid_is) = (λ on. on, quiet_as mid.stage (after_note n) (ap (λ v. v.stage) (mid_is ∙ ap (λ s. told s m) is)) (note_quiet n))
+quiet_on Links m mid quiet (due, is, mid_is) = absurd (quiet_at m.stage _ is quiet)
+quiet_on Misses m mid quiet (due, is, mid_is) = absurd (quiet_at m.stage _ is quiet)
+quiet_on (Puts bytes) m mid quiet (count, next, mid_is) = absurd (quiet_at m.stage _ next.talks quiet)
+quiet_on (Breaks bytes why) m mid quiet (count, next, ended) = absurd (quiet_at m.stage _ next.talks quiet)
+quiet_on (Gives bytes) m mid quiet (waits, given) = absurd (quiet_at m.stage _ waits.talks quiet)
+quiet_on (Ends why) m mid quiet (waits, ended) = absurd (quiet_at m.stage _ waits.talks quiet)
+quiet_on HangsUp m mid quiet (n, is, mid_is) = absurd (quiet_at m.stage _ is quiet)
+
+quiet_first : (d : Deed) (ds : List Deed) (w : WireView) → (IsOnLine d → ⊥) → AllOnWire w ds w → AllOnWire w (d ∷ ds) w
+quiet_first (Keeps e) ds w never rest = rest
+quiet_first (Loses e why) ds w never rest = rest
+quiet_first (Tells n) ds w never rest = rest
+quiet_first Links ds w never rest = absurd (never tt)
+quiet_first Misses ds w never rest = absurd (never tt)
+quiet_first (Puts bytes) ds w never rest = absurd (never tt)
+quiet_first (Breaks bytes why) ds w never rest = absurd (never tt)
+quiet_first (Gives bytes) ds w never rest = absurd (never tt)
+quiet_first (Ends why) ds w never rest = absurd (never tt)
+quiet_first HangsUp ds w never rest = absurd (never tt)
+
+quiet_all : {D : Type 0} (did : D → Deed → D → Type 0) (ds : List Deed) (m after : MachineView) (old new : D) (w : WireView) → IsQuiet m.stage → DidAll did m old ds after new → AllOnWire w ds w
+quiet_all did [] m after old new w quiet all = refl
+quiet_all did (d ∷ ds) m after old new w quiet (mid, between, turns, sound, first, more) =
+    let (never, goes) = quiet_on d m mid quiet turns in
+    quiet_first d ds w never (quiet_all did ds mid after between new w goes more)
+
+asked_quiet : (call : Call) (m asked : MachineView) → IsOffLine call → Calls m call asked → IsQuiet asked.stage
+asked_quiet (Queue content) m asked off calls = quiet_as asked.stage _ calls.keeps tt
+asked_quiet (Raise first) m asked off calls = quiet_as asked.stage _ (ap (λ v. v.stage) calls.after_is) tt
+asked_quiet (Deliver openings most copy) m asked off calls = absurd off
+
+-- A wire stays as it is while such a call is served.
+pub off_line : {D : Type 0} (did : D → Deed → D → Type 0) (call : Call) (ds : List Deed) (m asked after : MachineView) (old new : D) (w : WireView) → IsOffLine call → Calls m call asked
+    → DidAll did asked old ds after new → AllOnWire w ds w
+off_line did call ds m asked after old new w off calls all = quiet_all did ds asked after old new w (asked_quiet call m asked off calls) all
