@@ -1,3 +1,7 @@
 pub mod Lines
-pub mod Words
+pub mod Opening
+pub mod Outcomes
 pub mod Delivering
+pub mod LinkLine
+pub mod WithStore
+pub mod Performing

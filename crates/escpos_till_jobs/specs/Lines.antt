@@ -1,21 +1,27 @@
 -- The lines that `queue`, `deliver` and `ledger` print, and the exit statuses that go with them.
 use Rattle.std.specs.Prelude.{ℕ, ◌==◌, if◌then◌else◌, ◌+◌, List, [], ◌∷◌, ◌++◌, codes, decimal}
 use Rattle.escpos_command.specs.declared.bytes.TheConstants.{LF}
+use Rattle.escpos_host.specs.Refusals.{fault_name}
 use Rattle.escpos_jobs.specs.declared.status.Status.{Status}
-use Rattle.escpos_jobs.specs.declared.status.Status.TheVariants.{Refused, Device, Memory}
+use Rattle.escpos_jobs.specs.declared.status.Status.TheVariants.{Good, Refused, Device, Memory}
 use Rattle.escpos_jobs.specs.Ending.{memory_line}
-use Rattle.escpos_jobs.specs.Refusal.{refusal_line}
+use Rattle.escpos_jobs.specs.Send.{is_memory_fault, status_of_fault}
+use Rattle.escpos_receipt.specs.Refusals.{json_name}
 use Rattle.escpos_till.specs.declared.entry.Entry.{Entry}
-use Rattle.escpos_till.specs.declared.error.LedgerError.{LedgerError}
-use Rattle.escpos_till.specs.declared.error.LedgerError.TheVariants as error
+use Rattle.escpos_till.specs.declared.machine.TillNote.{TillNote}
+use Rattle.escpos_till.specs.declared.machine.TillNote.TheVariants as note
+use Rattle.escpos_till.specs.declared.machine.TillRefusal.{TillRefusal}
+use Rattle.escpos_till.specs.declared.machine.TillRefusal.TheVariants as refusal
 use Rattle.escpos_till.specs.declared.state.ReceiptState.{ReceiptState}
 use Rattle.escpos_till.specs.declared.state.ReceiptState.TheVariants as state
 use Rattle.escpos_till.specs.declared.store.NoStore.{NoStore}
 use Rattle.escpos_till.specs.declared.store.NoStore.TheVariants as none
-use Rattle.escpos_till.specs.declared.store.StoreFault.TheVariants as fault
+use Rattle.escpos_till.specs.declared.store.StoreFault.TheVariants as store
 use Rattle.escpos_till.specs.Entries.{next_free, states}
+use Rattle.escpos_till_jobs.specs.declared.outcome.Outcome.{Outcome}
+use Rattle.escpos_till_jobs.specs.declared.outcome.Outcome.TheVariants as outcome
 
--- ## Refusals
+-- ## Whether there is a ledger
 
 abbrev pub failed_line : List ℕ
 failed_line = codes "ledger failed\n"
@@ -33,33 +39,72 @@ no_store_status none.NoLedger = Device
 no_store_status none.Failed = Device
 no_store_status none.Memory = Memory
 
--- Why a call was refused.
-abbrev pub ledger_refusal : LedgerError → List ℕ
-ledger_refusal (error.NotReceipt why) = refusal_line why
-ledger_refusal (error.MarkReused next) = codes "refused MarkReused " ++ decimal next ++ LF ∷ []
-ledger_refusal (error.MarkTooHigh last) = codes "refused MarkTooHigh " ++ decimal last ++ LF ∷ []
-ledger_refusal (error.Store fault.Memory) = memory_line
-ledger_refusal error.Memory = memory_line
-ledger_refusal _ = failed_line
+-- ## What came of a call
 
-abbrev pub ledger_status : LedgerError → Status
-ledger_status (error.NotReceipt why) = Refused
-ledger_status (error.MarkReused next) = Refused
-ledger_status (error.MarkTooHigh last) = Refused
-ledger_status (error.Store fault.Memory) = Memory
-ledger_status error.Memory = Memory
-ledger_status _ = Device
-
--- ## Receipts
+-- A text and a number.
+abbrev pub number_line : List ℕ → ℕ → List ℕ
+number_line text number = text ++ decimal number ++ LF ∷ []
 
 abbrev pub queued_line : ℕ → List ℕ
-queued_line number = codes "queued " ++ decimal number ++ LF ∷ []
+queued_line = number_line (codes "queued ")
 
 abbrev pub recorded_line : ℕ → List ℕ
-recorded_line number = codes "recorded " ++ decimal number ++ LF ∷ []
+recorded_line = number_line (codes "recorded ")
 
 abbrev pub waiting_line : ℕ → List ℕ → List ℕ
 waiting_line number why = codes "waiting " ++ decimal number ++ codes " " ++ why ++ LF ∷ []
+
+-- Why a call was refused. That nothing waits gives no line.
+abbrev pub refusal_text : TillRefusal → List ℕ
+refusal_text refusal.Busy = failed_line
+refusal_text refusal.Failed = failed_line
+refusal_text refusal.Memory = memory_line
+refusal_text refusal.NothingWaits = []
+refusal_text (refusal.NoReceipt number why) = waiting_line number (json_name why)
+refusal_text (refusal.MarksUsedUp number) = waiting_line number (codes "MarksUsedUp")
+refusal_text (refusal.MarkReused next) = number_line (codes "refused MarkReused ") next
+refusal_text (refusal.MarkTooHigh last) = number_line (codes "refused MarkTooHigh ") last
+
+abbrev pub refusal_status : TillRefusal → Status
+refusal_status refusal.Busy = Device
+refusal_status refusal.Failed = Device
+refusal_status refusal.Memory = Memory
+refusal_status refusal.NothingWaits = Good
+refusal_status (refusal.NoReceipt number why) = Refused
+refusal_status (refusal.MarksUsedUp number) = Refused
+refusal_status (refusal.MarkReused next) = Refused
+refusal_status (refusal.MarkTooHigh last) = Refused
+
+-- What a machine's owner is told. That the next mark number is raised gives no line.
+abbrev pub note_line : TillNote → List ℕ
+note_line (note.Queued number) = queued_line number
+note_line note.Raised = []
+note_line (note.Recorded number) = recorded_line number
+note_line (note.NoLink number) = waiting_line number (codes "no link")
+note_line (note.Waiting number why) = if is_memory_fault why then memory_line else waiting_line number (fault_name why)
+note_line (note.NotKept store.Memory) = memory_line
+note_line (note.NotKept store.Failed) = failed_line
+
+abbrev pub note_status : TillNote → Status
+note_status (note.Queued number) = Good
+note_status note.Raised = Good
+note_status (note.Recorded number) = Good
+note_status (note.NoLink number) = Device
+note_status (note.Waiting number why) = status_of_fault why
+note_status (note.NotKept store.Memory) = Memory
+note_status (note.NotKept store.Failed) = Device
+
+abbrev pub outcome_line : Outcome → List ℕ
+outcome_line (outcome.Refused why) = refusal_text why
+outcome_line (outcome.Told n) = note_line n
+outcome_line outcome.GivenUp = failed_line
+
+abbrev pub outcome_status : Outcome → Status
+outcome_status (outcome.Refused why) = refusal_status why
+outcome_status (outcome.Told n) = note_status n
+outcome_status outcome.GivenUp = Device
+
+-- ## Listing
 
 -- Where a receipt stands.
 abbrev pub state_text : ReceiptState → List ℕ

@@ -1,17 +1,20 @@
 //! `ledger`: where each receipt of a ledger stands, and the next mark number.
 
-ghost use Rattle.std.specs.Prelude.{◌≡◌, ◌≢◌, ◌+◌, ◌^◌, ◌<◌, ◌≤◌, ◌++◌, [], ◌∷◌, length, decimal, IsTrue};
+ghost use Rattle.std.specs.Prelude.{◌≡◌, ◌≢◌, ◌+◌, ◌^◌, ◌<◌, ◌≤◌, ◌++◌, ◌⊎◌, List, [], ◌∷◌, length, decimal, IsTrue};
 ghost use Rattle.escpos_io.specs.Giving.{IsGiven};
 ghost use Rattle.escpos_io.specs.Putting.{passage};
 ghost use Rattle.escpos_jobs.specs.Ending.{Tells, job_end};
+ghost use Rattle.escpos_till.specs.Driver.{Raise};
+ghost use Rattle.escpos_till.specs.Machine.{RefusesRaise};
+ghost use Rattle.escpos_till.specs.Surroundings.{Did};
 ghost use Rattle.escpos_till_jobs.specs.Lines.{next_line, state_line, state_lines, state_text};
-ghost use Rattle.escpos_till_jobs.specs.Words.{Lists, RaisesAndLists};
+ghost use Rattle.escpos_till_jobs.specs.Outcomes.{Becomes, Lists, RaisesAndLists};
 
-use crate::refusal::refuse_call;
+use crate::outcome::{Outcome, follow, tell};
 use escpos_command::LF;
 use escpos_io::{ByteOut, Device, GATHERED_BYTES, Gather, append_number, laws};
 use escpos_jobs::status::Status;
-use escpos_till::{Ledger, LedgerError, ReceiptState, Store};
+use escpos_till::{PrinterLine, ReceiptState, Store, Surroundings, TillMachine, TillNote};
 
 // More bytes than a line has.
 const LINE_BYTES: usize = 64;
@@ -22,36 +25,49 @@ const _: () = prove!(LINE_BYTES == 64);
 /// numbers, and `next M`, the next mark number.
 ///
 /// The status is `Good`; `Refused` with `refused MarkReused M` alone if `first` is lower than the next number, or with
-/// `refused MarkTooHigh L` if it leaves fewer numbers than a try takes; `Device` with `ledger failed` if the store fails or has failed; or
+/// `refused MarkTooHigh L` if it leaves fewer numbers than a try takes; `Device` with `ledger failed` if the store fails; or
 /// `Memory`. `Device` also comes where `output` has failed.
-pub fn list<S: Store, W: ByteOut>(
-    ledger: &mut Ledger<S>,
+pub fn list<S: Store, L: PrinterLine, W: ByteOut>(
+    machine: &mut TillMachine,
+    around: &mut Surroundings<S, L>,
     first: Option<u32>,
     output: &mut W,
 ) -> Status
-    ensures lists { RaisesAndLists ledger.old first ledger.new (job_end (W.written output.old) (W.written output.new) (W.failed output.new) result) }
-    ensures was_faithful { S.faithful ledger.new.store → S.faithful ledger.old.store }
+    ensures lists { RaisesAndLists (Did S.faithful S.holds S.leaves L.did) machine.old around.old first machine.new around.new
+        (job_end (W.written output.old) (W.written output.new) (W.failed output.new) result) }
     ensures not_hidden { result ≢ Status.Device → ¬ IsTrue (W.failed output.old) → ¬ IsTrue (W.failed output.new) }
     ensures never_usage { result ≢ Status.Usage }
 {
     if let Some(first) = first {
-        if let Err(why) = ledger.raise(first) {
-            return refuse_call(why, output);
+        match raised(machine, around, first) {
+            Outcome::Told(TillNote::Raised) => {}
+            outcome => return tell(outcome, output),
         }
     }
-    list_states(ledger, output)
+    list_states(machine, output)
+}
+
+// Raises the next mark number.
+fn raised<S: Store, L: PrinterLine>(
+    machine: &mut TillMachine,
+    around: &mut Surroundings<S, L>,
+    first: u32,
+) -> Outcome
+    ensures { Becomes (Did S.faithful S.holds S.leaves L.did) (RefusesRaise machine.old first) machine.old around.old (Raise first) result machine.new around.new }
+{
+    match machine.raise(first) {
+        Ok(()) => follow(machine, around),
+        Err(why) => Outcome::Refused(why),
+    }
 }
 
 // Lists where each receipt stands, and the next mark number.
-fn list_states<S: Store, W: ByteOut>(ledger: &Ledger<S>, output: &mut W) -> Status
-    ensures lists { Lists ledger.now (job_end (W.written output.old) (W.written output.new) (W.failed output.new) result) }
+fn list_states<W: ByteOut>(machine: &TillMachine, output: &mut W) -> Status
+    ensures lists { Lists machine.now (job_end (W.written output.old) (W.written output.new) (W.failed output.new) result) }
     ensures not_hidden { result ≢ Status.Device → ¬ IsTrue (W.failed output.old) → ¬ IsTrue (W.failed output.new) }
     ensures never_usage { result ≢ Status.Usage }
 {
-    match (ledger.states(), ledger.next_mark()) {
-        (Ok(states), Ok(next)) => print_states(states, next, output),
-        _ => refuse_call(LedgerError::Failed, output),
-    }
+    print_states(machine.states(), machine.next_mark(), output)
 }
 
 // Prints a line for each receipt, and the next mark number.

@@ -1,48 +1,48 @@
 //! Opening a ledger, and what is printed if there is none.
 
-ghost use Rattle.std.specs.Prelude.{◌≡◌, ◌≢◌, ◌↔◌, Err, List, IfErr, IfOk, IsTrue};
+ghost use Rattle.std.specs.Prelude.{◌≡◌, ◌≢◌, Err, List, IfErr, IfOk, OnErr, IsErrOf, IsTrue};
 ghost use Rattle.escpos_jobs.specs.Ending.{Tells, job_end};
 ghost use Rattle.escpos_till.specs.declared.entry.Entry.{Entry};
 ghost use Rattle.escpos_till.specs.Entries.{IsLedger};
-ghost use Rattle.escpos_till.specs.Ledger.{IsLive};
 ghost use Rattle.escpos_till_jobs.specs.Lines.{no_store_line, no_store_status};
+ghost use Rattle.escpos_till_jobs.specs.Opening.{Opens};
 
-use crate::refusal::{LEDGER_FAILED, tell_text};
+use crate::outcome::{LEDGER_FAILED, tell_text};
 use escpos_io::ByteOut;
 use escpos_jobs::ending::MEMORY;
 use escpos_jobs::status::Status;
-use escpos_till::{Ledger, NoStore, OpenError, Store, StoreFault};
+use escpos_till::{NoMachine, NoStore, Store, StoreFault, TillMachine};
 use std::alloc::Global;
 
-/// The ledger of a store; an empty store has a new ledger.
+/// The machine of the ledger that a store has; an empty store has a new ledger.
 ///
 /// The error is `NoLedger` if what the store has is no ledger, `Failed` if the store failed, and `Memory` if an allocation
-/// failed. It returns the store, which has what it had.
-pub fn open_ledger<S: Store>(alloc: Global, store: S) -> Result<Ledger<S>, (NoStore, S)>
-    ensures live { IfOk result (λ ledger. IsLive ledger) }
-    ensures found { IfOk result (λ ledger. S.faithful ledger.store → S.faithful store × S.holds store ledger.entries) }
-    ensures no_ledger { IfErr result (λ refusal. refusal.0 ≡ NoStore.NoLedger → S.faithful refusal.1 → (entries : List Entry)
-        → S.holds store entries → ¬ IsLedger entries) }
-    ensures left { IfErr result (λ refusal. S.faithful refusal.1 → (entries left : List Entry) → S.holds store entries
-        → S.leaves refusal.1 left → left ≡ entries) }
-    ensures never_in_use { IfErr result (λ refusal. refusal.0 ≢ NoStore.InUse) }
+/// failed. The store has what it had.
+pub fn open_machine<S: Store>(alloc: Global, store: &mut S) -> Result<TillMachine, NoStore>
+    ensures opens { IfOk result (λ machine. Opens S.faithful S.holds store.old machine store.new) }
+    ensures was_faithful { S.faithful store.new → S.faithful store.old }
+    ensures no_ledger { IsErrOf result NoStore.NoLedger → S.faithful store.new → (entries : List Entry) → S.holds store.old entries → ¬ IsLedger entries }
+    ensures left { OnErr result (S.faithful store.new → (entries left : List Entry) → S.holds store.old entries → S.leaves store.new left → left ≡ entries) }
+    ensures never_in_use { IfErr result (λ why. why ≢ NoStore.InUse) }
 {
-    match Ledger::open(alloc, store) {
-        Ok(ledger) => Ok(ledger),
-        Err((why, store)) => Err((no_store(why), store)),
+    match store.entries(alloc) {
+        Ok(entries) => match TillMachine::open(alloc, &entries) {
+            Ok(machine) => Ok(machine),
+            Err(NoMachine::Damaged) => Err(NoStore::NoLedger),
+            Err(NoMachine::Memory) => Err(NoStore::Memory),
+        },
+        Err(fault) => Err(no_store(fault)),
     }
 }
 
 // The same reason, as it is told.
-fn no_store(why: OpenError) -> NoStore
-    ensures damaged { result ≡ NoStore.NoLedger ↔ why ≡ OpenError.Damaged }
-    ensures failed { why ≡ OpenError.Store StoreFault.Failed → result ≡ NoStore.Failed }
-    ensures never_in_use { result ≢ NoStore.InUse }
+fn no_store(fault: StoreFault) -> NoStore
+    ensures failed { fault ≡ StoreFault.Failed → result ≡ NoStore.Failed }
+    ensures memory { fault ≡ StoreFault.Memory → result ≡ NoStore.Memory }
 {
-    match why {
-        OpenError::Damaged => NoStore::NoLedger,
-        OpenError::Store(StoreFault::Failed) => NoStore::Failed,
-        OpenError::Store(StoreFault::Memory) | OpenError::Memory => NoStore::Memory,
+    match fault {
+        StoreFault::Failed => NoStore::Failed,
+        StoreFault::Memory => NoStore::Memory,
     }
 }
 

@@ -1,86 +1,77 @@
 //! `queue`: a receipt is taken into a ledger.
 
 ghost use Rattle.std.specs.Prelude.{◌≡◌, ◌≢◌, ◌+◌, ◌<◌, ◌≤◌, List, length, IfOk, IfSome, IsErrOf, IsTrue};
-ghost use Rattle.escpos_command.specs.declared.command.Command.{Command};
 ghost use Rattle.escpos_jobs.specs.declared.input.TheConstants.{INPUT_LIMIT};
 ghost use Rattle.escpos_jobs.specs.declared.input.InputFault.{InputFault};
 ghost use Rattle.escpos_jobs.specs.declared.receipt_input.NoReceipt.{NoReceipt};
-ghost use Rattle.escpos_jobs.specs.Ending.{Tells, job_end};
+ghost use Rattle.escpos_jobs.specs.Ending.{job_end};
 ghost use Rattle.escpos_receipt.specs.declared.json.JsonError.{JsonError};
 ghost use Rattle.escpos_receipt.specs.declared.json.JsonFault.{JsonFault};
-ghost use Rattle.escpos_receipt.specs.Describes.{DescribesWith, IsFaultWith};
-ghost use Rattle.escpos_receipt.specs.Whole.{Whole};
-ghost use Rattle.escpos_till.specs.Contents.{content_with};
-ghost use Rattle.escpos_till_jobs.specs.Lines.{queued_line};
-ghost use Rattle.escpos_till_jobs.specs.Words.{QueuesAndTells};
+ghost use Rattle.escpos_receipt.specs.Describes.{IsFaultWith};
+ghost use Rattle.escpos_till.specs.Contents.{GivesReceipt, content_with};
+ghost use Rattle.escpos_till.specs.Driver.{Queue};
+ghost use Rattle.escpos_till.specs.Machine.{RefusesAny};
+ghost use Rattle.escpos_till.specs.Surroundings.{Did};
+ghost use Rattle.escpos_till_jobs.specs.Outcomes.{Becomes, BecomesAndTells};
 
-use crate::refusal::refuse_call;
-use escpos_command::LF;
-use escpos_io::{ByteIn, ByteOut, Gather, append_number, laws, read_to_end};
+use crate::outcome::{Outcome, follow, tell};
+use escpos_io::{ByteIn, ByteOut, read_to_end};
 use escpos_jobs::input::INPUT_LIMIT;
 use escpos_jobs::receipt_input::NoReceipt;
 use escpos_jobs::status::Status;
-use escpos_receipt::{Receipt, ReceiptOptions};
-use escpos_till::{Ledger, ReceiptNumber, Store};
+use escpos_receipt::ReceiptOptions;
+use escpos_till::{PrinterLine, ReceiptContent, Store, Surroundings, TillMachine};
 use std::alloc::Global;
 
-/// The text of `input`, if it describes a receipt where it is read with these options. At most 16,777,217 bytes are pulled, in at
-/// most as many calls.
-pub fn read_receipt_text<R: ByteIn>(
+/// Reads `input` as a receipt's text in JSON, with these options. At most 16,777,217 bytes are pulled, in at most as many calls.
+pub fn read_content<R: ByteIn>(
     alloc: Global,
     options: &ReceiptOptions,
     input: &mut R,
-) -> Result<Vec<u8>, NoReceipt>
-    ensures text { IfOk result (λ text. IfSome (R.to_come input.old) (λ bytes. (length bytes ≤ INPUT_LIMIT) × (text.items ≡ bytes))) }
-    ensures receipt { IfOk result (λ text. (receipt : List Command) × DescribesWith options.now text.items receipt × Whole receipt) }
+) -> Result<ReceiptContent, NoReceipt>
+    ensures text { IfOk result (λ content. IfSome (R.to_come input.old) (λ bytes. (length bytes ≤ INPUT_LIMIT) × (content ≡ content_with options.now bytes))) }
+    ensures receipt { IfOk result (λ content. GivesReceipt content) }
     ensures refused { (fault : JsonFault) → IsErrOf result (NoReceipt.Text (JsonError.Refused fault)) →
         IfSome (R.to_come input.old) (λ text. (length text ≤ INPUT_LIMIT) × IsFaultWith options.now fault text) }
     ensures too_long { IsErrOf result (NoReceipt.Input InputFault.TooLong) → IfSome (R.to_come input.old) (λ text. INPUT_LIMIT < length text) }
     ensures device { IsErrOf result (NoReceipt.Input InputFault.Device) → IsTrue (R.failed input.new) }
+    ensures bytes { ¬ IsErrOf result (NoReceipt.Input InputFault.NotHexadecimal) }
     ensures not_hidden { IsTrue (R.failed input.new) → IsErrOf result (NoReceipt.Input InputFault.Device) }
     ensures pulls { R.pull_count input.new ≤ R.pull_count input.old + INPUT_LIMIT + 1 }
 {
     let text = read_to_end(alloc, input, INPUT_LIMIT)?;
-    let _receipt = Receipt::from_json_with(alloc, options, &text)?;
-    Ok(text)
+    Ok(ReceiptContent::read(alloc, options, text)?)
 }
 
-/// Takes the receipt of a text, read with these options, into a ledger, and prints `queued N`, with its number, once it would outlive a crash.
+/// Takes a receipt, and prints `queued N`, with its number, once it would outlive a crash.
 ///
-/// The status is `Good` if it is taken. Otherwise the one line says why it isn't: `Refused` if the text gives no receipt,
-/// `Device` with `ledger failed` if the store fails or has failed, `Memory`. `Device` also comes where `output` has failed.
-pub fn queue_receipt<S: Store, W: ByteOut>(
-    alloc: Global,
-    ledger: &mut Ledger<S>,
-    options: &ReceiptOptions,
-    json: &[u8],
+/// The status is `Good` if it is taken. Otherwise the one line says why it isn't known to be: `Device` with `ledger failed` if the store
+/// fails or has failed, or `Memory`. `Device` also comes where `output` has failed.
+pub fn queue_receipt<S: Store, L: PrinterLine, W: ByteOut>(
+    machine: &mut TillMachine,
+    around: &mut Surroundings<S, L>,
+    content: ReceiptContent,
     output: &mut W,
 ) -> Status
-    ensures queues { QueuesAndTells ledger.old (content_with options.now json.now) ledger.new (job_end (W.written output.old) (W.written output.new) (W.failed output.new) result) }
-    ensures was_faithful { S.faithful ledger.new.store → S.faithful ledger.old.store }
+    ensures queues { BecomesAndTells (Did S.faithful S.holds S.leaves L.did) (RefusesAny machine.old) machine.old around.old (Queue content) machine.new around.new
+        (job_end (W.written output.old) (W.written output.new) (W.failed output.new) result) }
     ensures not_hidden { result ≢ Status.Device → ¬ IsTrue (W.failed output.old) → ¬ IsTrue (W.failed output.new) }
     ensures never_usage { result ≢ Status.Usage }
 {
-    match ledger.queue_with(alloc, options, json) {
-        Ok(number) => tell_queued(number, output),
-        Err(why) => refuse_call(why, output),
-    }
+    let outcome = queued(machine, around, content);
+    tell(outcome, output)
 }
 
-// Prints the number of a receipt that was taken.
-fn tell_queued<W: ByteOut>(number: ReceiptNumber, output: &mut W) -> Status
-    ensures tells { Tells (job_end (W.written output.old) (W.written output.new) (W.failed output.new) result) (queued_line number) Status.Good }
-    ensures not_hidden { result ≢ Status.Device → ¬ IsTrue (W.failed output.old) → ¬ IsTrue (W.failed output.new) }
-    ensures never_usage { result ≢ Status.Usage }
+// Takes a receipt.
+fn queued<S: Store, L: PrinterLine>(
+    machine: &mut TillMachine,
+    around: &mut Surroundings<S, L>,
+    content: ReceiptContent,
+) -> Outcome
+    ensures { Becomes (Did S.faithful S.holds S.leaves L.did) (RefusesAny machine.old) machine.old around.old (Queue content) result machine.new around.new }
 {
-    // Proof only: appended bytes count as given.
-    laws::given_in_place();
-    let mut gather = Gather::new();
-    gather.extend(b"queued ");
-    append_number(&mut gather, number.get());
-    gather.push(LF);
-    match gather.flush(output) {
-        Ok(()) => Status::Good,
-        Err(_) => Status::Device,
+    match machine.queue(content) {
+        Ok(()) => follow(machine, around),
+        Err((why, _content)) => Outcome::Refused(why),
     }
 }

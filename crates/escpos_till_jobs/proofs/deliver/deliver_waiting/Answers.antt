@@ -1,47 +1,33 @@
--- No receipt waits any more, or the ledger has failed, or the last round says why.
-use Rattle.std.proofs.Common.{inl, refl, subst}
-use Rattle.std.proofs.KnownBytes.{Appends-nil}
-use Rattle.escpos_jobs.specs.Ending.{Tells, job_end}
-use Rattle.escpos_till.specs.declared.error.LedgerError.TheVariants as error
-use Rattle.escpos_till_jobs.specs.Delivering.{Ends}
-use Rattle.escpos_till_jobs.specs.Lines.{ledger_refusal, ledger_status}
-use Rattle.escpos_till_jobs.proofs.Rounds.{ends_here, fewer_left, if_none, if_some, none_so_far, one_more, round_ends}
+-- One receipt after another is recorded and told.
+use Rattle.std.proofs.Common.{◌≡◌, length, arith}
+use Rattle.escpos_till.specs.Surroundings.{Did}
+use Rattle.escpos_till_jobs.proofs.Rounds.{all_recorded, none_so_far, one_more, round_ends}
 use Rattle.escpos_till_jobs.proofs.deliver.deliver_waiting.Goals as goal
 
-pub returns-in-Ok-None-clause-delivers : goal.returns-in-Ok-None-clause-delivers
-returns-in-Ok-None-clause-delivers g c =
-    ends_here _ _ _ _ _ _ _ _ _ _ _ _ c.loop-number.invariant.so_far (Ends.nothing_waits c.in-Ok-None.ensures.live (if_none _ _ c.in-Ok-None.field-0 c.in-Ok-None.ensures.first c.in-Ok-None.field-0-is) refl)
-    (inl (refl, Appends-nil (g.W.ByteOut.written c.loop-number.output)))
+pub loop-init : goal.loop-init
+loop-init g c = record {
+  so_far = none_so_far (Did g.S.Store.faithful g.S.Store.holds g.S.Store.leaves g.L.PrinterLine.did) c.args.delivery.now c.args.machine.now c.args.around.now (g.W.ByteOut.written c.args.output.now);
+  well = λ well. well;
+}
 
 pub returns-in-Err-clause-delivers : goal.returns-in-Err-clause-delivers
 returns-in-Err-clause-delivers g c =
-    let (is, failed) = c.in-Err.ensures.refused in
-    ends_here _ _ _ _ _ _ _ _ _ _ (ledger_status error.Failed) (ledger_refusal error.Failed) c.loop-number.invariant.so_far (Ends.has_failed failed refl)
-    (subst (λ why. Tells (job_end (g.W.ByteOut.written c.loop-number.output) (g.W.ByteOut.written c.refuse_call.new.output) (g.W.ByteOut.failed c.refuse_call.new.output) c.refuse_call.result)
-    (ledger_refusal why) (ledger_status why)) is c.refuse_call.ensures.tells)
+    round_ends (Did g.S.Store.faithful g.S.Store.holds g.S.Store.leaves g.L.PrinterLine.did) c.args.delivery.now c.args.machine.now c.args.around.now c.loop.machine c.loop.around
+    c.deliver_next.new.machine c.deliver_next.new.around (g.W.ByteOut.written c.args.output.now) (g.W.ByteOut.written c.loop.output) (g.W.ByteOut.written c.deliver_next.new.output)
+    (g.W.ByteOut.failed c.deliver_next.new.output) c.in-Err.status c.loop.counter c.loop.invariant.so_far c.in-Err.ensures.ended
 
-pub returns-in-Err-deliver_next-clause-delivers : goal.returns-in-Err-deliver_next-clause-delivers
-returns-in-Err-deliver_next-clause-delivers g c =
-    round_ends _ _ _ _ _ _ _ _ _ _ c.in-Ok-Some.number c.loop-number.invariant.so_far (if_some _ _ c.in-Ok-Some.field-0 c.in-Ok-Some.number c.in-Ok-Some.ensures.first c.in-Ok-Some.field-0-is) c.in-Err-deliver_next.ensures.ended
-
-pub loop-number-init : goal.loop-number-init
-loop-number-init g c = record {
-  so_far = none_so_far _ c.args.delivery.now c.args.ledger.now (g.W.ByteOut.written c.args.output.now);
-  not_failed = λ well. well;
-  was_faithful = λ f. f;
-}
-
-pub loop-number-smaller : goal.loop-number-smaller
-loop-number-smaller g c =
-    let first = if_some _ _ c.in-Ok-Some.field-0 c.in-Ok-Some.number c.in-Ok-Some.ensures.first c.in-Ok-Some.field-0-is in
-    fewer_left _ c.args.delivery.now c.loop-number.ledger c.deliver_next.new.ledger c.in-Ok-Some.number first c.in_default.ensures.delivered
-
-pub loop-number-preserved : goal.loop-number-preserved
-loop-number-preserved g c =
-    let first = if_some _ _ c.in-Ok-Some.field-0 c.in-Ok-Some.number c.in-Ok-Some.ensures.first c.in-Ok-Some.field-0-is in
+pub loop-preserved : goal.loop-preserved
+loop-preserved g c =
+    let (number, serves, told) = c.in_default.ensures.recorded in
     record {
-      so_far = one_more _ c.args.delivery.now c.args.ledger.now c.loop-number.ledger c.deliver_next.new.ledger _ _ _ c.in-Ok-Some.number c.loop-number.invariant.so_far first
-          c.in_default.ensures.delivered c.in_default.ensures.told;
-      not_failed = λ well. c.in_default.ensures.not_failed (c.loop-number.invariant.not_failed well);
-      was_faithful = λ f. c.loop-number.invariant.was_faithful (c.deliver_next.ensures.was_faithful f);
+      so_far = one_more (Did g.S.Store.faithful g.S.Store.holds g.S.Store.leaves g.L.PrinterLine.did) c.args.delivery.now c.args.machine.now c.args.around.now c.loop.machine c.loop.around
+          c.deliver_next.new.machine c.deliver_next.new.around (g.W.ByteOut.written c.args.output.now) (g.W.ByteOut.written c.loop.output) (g.W.ByteOut.written c.deliver_next.new.output)
+          c.loop.counter number c.loop.invariant.so_far serves told;
+      well = λ well. c.in_default.ensures.not_failed (c.loop.invariant.well well);
     }
+
+pub returns-clause-delivers : goal.returns-clause-delivers
+returns-clause-delivers g c =
+    let all : c.loop.counter ≡ length c.states-end.result.now = omega (arith, c.loop.auto.counter-end, c.loop-test.false) in
+    all_recorded (Did g.S.Store.faithful g.S.Store.holds g.S.Store.leaves g.L.PrinterLine.did) c.args.delivery.now c.args.machine.now c.args.around.now c.loop.machine c.loop.around
+    (g.W.ByteOut.written c.args.output.now) (g.W.ByteOut.written c.loop.output) (g.W.ByteOut.failed c.loop.output) c.loop.counter c.states-end.result.now c.loop.invariant.so_far all c.states-end.ensures

@@ -1,16 +1,11 @@
--- The receipts so far are recorded, and told; each round leaves fewer that wait.
-use Rattle.std.proofs.Common.{length, IsTrue}
-use Rattle.escpos_till.specs.Entries.{waiting}
-use Rattle.escpos_till.specs.Ledger.{IsKept}
+-- So many receipts are recorded so far, and told, and no failure of the output is hidden.
+use Rattle.std.specs.Prelude.{IsTrue}
+use Rattle.escpos_till.specs.Surroundings.{Did}
 use Rattle.escpos_till_jobs.proofs.Rounds.{SoFar}
 use Rattle.escpos_till_jobs.proofs.deliver.deliver_waiting.Given as goal
 
-abbrev pub invariant-loop-number : goal.invariant-loop-number
-invariant-loop-number g l = record {
-  so_far : SoFar (IsKept g.S.Store.faithful g.S.Store.holds g.S.Store.leaves) l.delivery l.fn.ledger l.ledger (g.W.ByteOut.written l.fn.output) (g.W.ByteOut.written l.output);
-  not_failed : ¬ IsTrue (g.W.ByteOut.failed l.fn.output) → ¬ IsTrue (g.W.ByteOut.failed l.output);
-  was_faithful : g.S.Store.faithful l.ledger.store → g.S.Store.faithful l.fn.ledger.store;
+abbrev pub invariant-loop : goal.invariant-loop
+invariant-loop g l = record {
+  so_far : SoFar (Did g.S.Store.faithful g.S.Store.holds g.S.Store.leaves g.L.PrinterLine.did) l.delivery l.fn.machine l.fn.around l.machine l.around (g.W.ByteOut.written l.fn.output) (g.W.ByteOut.written l.output) l.counter;
+  well : (¬ IsTrue (g.W.ByteOut.failed l.fn.output)) → ¬ IsTrue (g.W.ByteOut.failed l.output);
 }
-
-abbrev pub decreases-loop-number : goal.decreases-loop-number
-decreases-loop-number g l = length (waiting l.ledger.entries)

@@ -1,0 +1,223 @@
+//! What came of a call of a till's machine, and the line that says so.
+
+ghost use Rattle.std.specs.Prelude.{ℕ, ◌≡◌, ◌≢◌, ◌+◌, ◌≤◌, ◌++◌, [], ◌∷◌, decimal, length, IfErr, OnOk, IsTrue};
+ghost use Rattle.std.specs.Io.KnownBytes.{Appends};
+ghost use Rattle.escpos_jobs.specs.Ending.{Tells, job_end};
+ghost use Rattle.escpos_till.specs.Driver.{RanFor, RanTo};
+ghost use Rattle.escpos_till.specs.Machine.{Rests};
+ghost use Rattle.escpos_till.specs.Surroundings.{Did};
+ghost use Rattle.escpos_till_jobs.specs.Lines.{note_line, note_status, number_line, outcome_line, outcome_status, recorded_line, refusal_status, refusal_text, waiting_line};
+ghost use Rattle.escpos_till_jobs.specs.Outcomes.{Follows, NoteEnds};
+
+use escpos_command::LF;
+use escpos_host::SendFault;
+use escpos_io::{ByteOut, Gather, append_number, laws, put_all};
+use escpos_jobs::ending::MEMORY;
+use escpos_jobs::send::{is_memory_fault, status_of_fault};
+use escpos_jobs::status::Status;
+use escpos_till::{
+    PrinterLine, Store, StoreFault, Surroundings, TillMachine, TillNote, TillRefusal, drive,
+};
+
+/// What is printed where the store of a ledger failed.
+pub const LEDGER_FAILED: &[u8] = b"ledger failed\n";
+
+/// The most things that are done for a call.
+pub const MOST_DEEDS: u32 = u32::MAX;
+
+const _: () = prove!(MOST_DEEDS == 4_294_967_295);
+
+/// What came of a call of a machine.
+#[derive(Clone, Copy, Debug, PartialEq, Eq)]
+pub enum Outcome {
+    /// The machine refused it.
+    Refused(TillRefusal),
+    /// It was done, and this is what its owner is to be told.
+    Told(TillNote),
+    /// So many things were done for it that no more are, and the machine still asks for something.
+    GivenUp,
+}
+
+/// Does what a machine asks for since a call.
+pub(crate) fn follow<S: Store, L: PrinterLine>(
+    machine: &mut TillMachine,
+    around: &mut Surroundings<S, L>,
+) -> Outcome
+    requires { Rests machine.old.stage → ⊥ }
+    ensures { Follows (Did S.faithful S.holds S.leaves L.did) machine.old around.old result machine.new around.new }
+{
+    match drive(machine, around, MOST_DEEDS) {
+        Some(note) => Outcome::Told(note),
+        None => Outcome::GivenUp,
+    }
+}
+
+/// Prints the line that says what came of a call, if there is one, and returns the status that goes with it; `Device` if `output` has
+/// failed.
+pub(crate) fn tell<W: ByteOut>(outcome: Outcome, output: &mut W) -> Status
+    ensures tells { Tells (job_end (W.written output.old) (W.written output.new) (W.failed output.new) result) (outcome_line outcome) (outcome_status outcome) }
+    ensures not_hidden { result ≢ Status.Device → ¬ IsTrue (W.failed output.old) → ¬ IsTrue (W.failed output.new) }
+    ensures never_usage { result ≢ Status.Usage }
+{
+    match outcome {
+        Outcome::Refused(why) => tell_refusal(why, output),
+        Outcome::Told(note) => tell_note(note, output),
+        Outcome::GivenUp => tell_text(LEDGER_FAILED, output, Status::Device),
+    }
+}
+
+// Prints why a machine refused a call. Where nothing waits, nothing is printed.
+fn tell_refusal<W: ByteOut>(why: TillRefusal, output: &mut W) -> Status
+    ensures tells { Tells (job_end (W.written output.old) (W.written output.new) (W.failed output.new) result) (refusal_text why) (refusal_status why) }
+    ensures not_hidden { result ≢ Status.Device → ¬ IsTrue (W.failed output.old) → ¬ IsTrue (W.failed output.new) }
+    ensures never_usage { result ≢ Status.Usage }
+{
+    match why {
+        TillRefusal::Busy | TillRefusal::Failed => {
+            tell_text(LEDGER_FAILED, output, Status::Device)
+        }
+        TillRefusal::Memory => tell_text(MEMORY, output, Status::Memory),
+        TillRefusal::NothingWaits => tell_text(b"", output, Status::Good),
+        TillRefusal::NoReceipt { number, why } => {
+            tell_waiting(number.get(), why.name().as_bytes(), Status::Refused, output)
+        }
+        TillRefusal::MarksUsedUp { number } => {
+            tell_waiting(number.get(), b"MarksUsedUp", Status::Refused, output)
+        }
+        TillRefusal::MarkReused { next } => tell_number(
+            b"refused MarkReused ",
+            next as usize,
+            Status::Refused,
+            output,
+        ),
+        TillRefusal::MarkTooHigh { last } => tell_number(
+            b"refused MarkTooHigh ",
+            last as usize,
+            Status::Refused,
+            output,
+        ),
+    }
+}
+
+// Prints what a machine's owner is told. That the next mark number is raised gives no line.
+fn tell_note<W: ByteOut>(note: TillNote, output: &mut W) -> Status
+    ensures tells { Tells (job_end (W.written output.old) (W.written output.new) (W.failed output.new) result) (note_line note) (note_status note) }
+    ensures not_hidden { result ≢ Status.Device → ¬ IsTrue (W.failed output.old) → ¬ IsTrue (W.failed output.new) }
+    ensures never_usage { result ≢ Status.Usage }
+{
+    match note {
+        TillNote::Queued(number) => tell_number(b"queued ", number.get(), Status::Good, output),
+        TillNote::Raised => tell_text(b"", output, Status::Good),
+        TillNote::Recorded(number) => {
+            tell_number(b"recorded ", number.get(), Status::Good, output)
+        }
+        TillNote::NoLink(number) => tell_waiting(number.get(), b"no link", Status::Device, output),
+        TillNote::Waiting { number, why } => tell_fault(number.get(), why, output),
+        TillNote::NotKept(fault) => tell_not_kept(fault, output),
+    }
+}
+
+// Prints that the store couldn't tell whether it kept an entry.
+fn tell_not_kept<W: ByteOut>(fault: StoreFault, output: &mut W) -> Status
+    ensures tells { Tells (job_end (W.written output.old) (W.written output.new) (W.failed output.new) result) (note_line (TillNote.NotKept fault)) (note_status (TillNote.NotKept fault)) }
+    ensures not_hidden { result ≢ Status.Device → ¬ IsTrue (W.failed output.old) → ¬ IsTrue (W.failed output.new) }
+    ensures never_usage { result ≢ Status.Usage }
+{
+    match fault {
+        StoreFault::Memory => tell_text(MEMORY, output, Status::Memory),
+        StoreFault::Failed => tell_text(LEDGER_FAILED, output, Status::Device),
+    }
+}
+
+/// Prints what a machine's owner is told. The error is the status of any other note than that the receipt is recorded, or `Device` where
+/// `output` has failed.
+pub(crate) fn tell_if_recorded<W: ByteOut>(note: TillNote, output: &mut W) -> Result<(), Status>
+    ensures recorded { OnOk result ((number : ℕ) × (note ≡ TillNote.Recorded number) × Appends (W.written output.old) (W.written output.new) (recorded_line number)) }
+    ensures not_failed { OnOk result (¬ IsTrue (W.failed output.old) → ¬ IsTrue (W.failed output.new)) }
+    ensures ended { IfErr result (λ status. NoteEnds note (job_end (W.written output.old) (W.written output.new) (W.failed output.new) status)) }
+    ensures not_hidden { IfErr result (λ status. status ≢ Status.Device → ¬ IsTrue (W.failed output.old) → ¬ IsTrue (W.failed output.new)) }
+    ensures never_usage { IfErr result (λ status. status ≢ Status.Usage) }
+{
+    match note {
+        TillNote::Recorded(number) => tell_recorded(number.get(), output),
+        note => Err(tell_note(note, output)),
+    }
+}
+
+// Prints that a receipt is recorded. The error is `Device`: `output` has failed.
+fn tell_recorded<W: ByteOut>(number: usize, output: &mut W) -> Result<(), Status>
+    ensures told { OnOk result (Appends (W.written output.old) (W.written output.new) (recorded_line number)) }
+    ensures not_failed { OnOk result (¬ IsTrue (W.failed output.old) → ¬ IsTrue (W.failed output.new)) }
+    ensures failed { IfErr result (λ status. (status ≡ Status.Device) × IsTrue (W.failed output.new)) }
+{
+    match tell_number(b"recorded ", number, Status::Good, output) {
+        Status::Good => Ok(()),
+        status => Err(status),
+    }
+}
+
+// Prints why a receipt isn't known to be printed.
+fn tell_fault<W: ByteOut>(number: usize, why: SendFault, output: &mut W) -> Status
+    ensures tells { Tells (job_end (W.written output.old) (W.written output.new) (W.failed output.new) result)
+        (note_line (TillNote.Waiting number why)) (note_status (TillNote.Waiting number why)) }
+    ensures not_hidden { result ≢ Status.Device → ¬ IsTrue (W.failed output.old) → ¬ IsTrue (W.failed output.new) }
+    ensures never_usage { result ≢ Status.Usage }
+{
+    if is_memory_fault(why) {
+        tell_text(MEMORY, output, Status::Memory)
+    } else {
+        tell_waiting(number, why.name().as_bytes(), status_of_fault(why), output)
+    }
+}
+
+/// Prints a text. Returns the status that is given, or `Device` if `output` has failed.
+pub(crate) fn tell_text<W: ByteOut>(text: &[u8], output: &mut W, status: Status) -> Status
+    ensures tells { Tells (job_end (W.written output.old) (W.written output.new) (W.failed output.new) result) text.now status }
+    ensures not_hidden { result ≢ Status.Device → ¬ IsTrue (W.failed output.old) → ¬ IsTrue (W.failed output.new) }
+    ensures never_usage { status ≢ Status.Usage → result ≢ Status.Usage }
+{
+    match put_all(text, output) {
+        Ok(()) => status,
+        Err(_) => Status::Device,
+    }
+}
+
+// Prints a text and a number, as one line.
+fn tell_number<W: ByteOut>(text: &[u8], number: usize, status: Status, output: &mut W) -> Status
+    requires { length text.now ≤ 20 }
+    ensures tells { Tells (job_end (W.written output.old) (W.written output.new) (W.failed output.new) result) (number_line text.now number) status }
+    ensures not_hidden { result ≢ Status.Device → ¬ IsTrue (W.failed output.old) → ¬ IsTrue (W.failed output.new) }
+    ensures never_usage { status ≢ Status.Usage → result ≢ Status.Usage }
+{
+    // Proof only: appended bytes count as given.
+    laws::given_in_place();
+    let mut gather = Gather::new();
+    gather.extend(text);
+    append_number(&mut gather, number);
+    gather.push(LF);
+    match gather.flush(output) {
+        Ok(()) => status,
+        Err(_) => Status::Device,
+    }
+}
+
+// Prints that the receipt with this number waits, and why.
+fn tell_waiting<W: ByteOut>(number: usize, why: &[u8], status: Status, output: &mut W) -> Status
+    requires { length why.now ≤ 20 }
+    ensures tells { Tells (job_end (W.written output.old) (W.written output.new) (W.failed output.new) result) (waiting_line number why.now) status }
+    ensures not_hidden { result ≢ Status.Device → ¬ IsTrue (W.failed output.old) → ¬ IsTrue (W.failed output.new) }
+    ensures never_usage { status ≢ Status.Usage → result ≢ Status.Usage }
+{
+    // Proof only: appended bytes count as given.
+    laws::given_in_place();
+    let mut gather = Gather::new();
+    gather.extend(b"waiting ");
+    append_number(&mut gather, number);
+    gather.push(b' ');
+    gather.extend(why);
+    gather.push(LF);
+    match gather.flush(output) {
+        Ok(()) => status,
+        Err(_) => Status::Device,
+    }
+}
