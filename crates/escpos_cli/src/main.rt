@@ -2,12 +2,14 @@
 //!
 //! `main` joins the arguments of the command line, the standard streams, a till's ledger and the exit status. escpos_arguments
 //! says what the arguments ask for; escpos_jobs does it, escpos_probe asks a printer, and escpos_till_jobs does what a till asks of its
-//! ledger, which `ledger` opens. Names of these crates are also names of the program.
+//! ledger, which `ledger` keeps in a file. Names of these crates are also names of the program.
 #![tactic(auto)]
+
+ghost use Rattle.std.specs.Prelude.{◌≡◌, ◌≢◌, IfErr, IfOk, IsTrue};
 
 mod ledger;
 
-use crate::ledger::perform_till;
+use crate::ledger::LedgerFiles;
 pub use escpos_arguments::{
     asks_version, completions_of, is_completions_word, is_probe_word, is_till_word, probe_task_of,
     task_of, till_task_of, without_name,
@@ -22,7 +24,7 @@ pub use escpos_jobs::{
     check, draw, emulate, encode, loop_link, perform, play, render, send, status, task,
 };
 use escpos_probe::probe;
-use sqlite::Unknown;
+use escpos_till_jobs::perform_till;
 use std::process::ExitCode;
 use std::{env, io};
 
@@ -42,7 +44,9 @@ fn perform_words<R: ByteIn, W: ByteOut>(
     words: &[String],
     input: &mut R,
     output: &mut W,
-) -> Status {
+) -> Status
+    ensures not_hidden { result ≢ Status.Device → ¬ IsTrue (W.failed output.old) → ¬ IsTrue (W.failed output.new) }
+{
     let Some(word) = words.first() else {
         return perform(rt, rt.alloc(), Err(NoTask::Usage), input, output);
     };
@@ -62,10 +66,13 @@ fn perform_word<R: ByteIn, W: ByteOut>(
     words: &[String],
     input: &mut R,
     output: &mut W,
-) -> Result<Status, NoTask> {
+) -> Result<Status, NoTask>
+    ensures not_hidden { IfOk result (λ status. status ≢ Status.Device → ¬ IsTrue (W.failed output.old) → ¬ IsTrue (W.failed output.new)) }
+    ensures not_printed { IfErr result (λ _. output.new ≡ output.old) }
+{
     if is_till_word(word) {
         let task = till_task_of(rt.alloc(), words)?;
-        return Ok(perform_till(rt, Unknown, task, input, output));
+        return Ok(perform_till(rt.alloc(), &LedgerFiles::new(rt), rt, task, input, output));
     }
     if is_probe_word(word) {
         let task = probe_task_of(rt.alloc(), words)?;
@@ -86,7 +93,9 @@ fn refuse_words<R: ByteIn, W: ByteOut>(
     why: NoTask,
     input: &mut R,
     output: &mut W,
-) -> Status {
+) -> Status
+    ensures not_hidden { result ≢ Status.Device → ¬ IsTrue (W.failed output.old) → ¬ IsTrue (W.failed output.new) }
+{
     match (why, words) {
         (NoTask::Help, [word, _, ..]) => say_help(word.as_str(), output),
         (other, _) => perform(rt, rt.alloc(), Err(other), input, output),
