@@ -1,5 +1,4 @@
-//! A till's ledger, over a store in memory: what its calls answer, what is left where the store fails, and delivering; and a till's machine with
-//! its driver.
+//! A till's machine: told by hand what came of what it asks for, and with its driver over a store in memory and a line.
 
 mod delivering;
 mod driver;

@@ -1,20 +1,23 @@
 //! What a till's words do, over a store in memory.
 //!
-//! A word that is refused memory prints `memory` and nothing else. Its ledger is as it was, or its store has failed, and it is
-//! opened again; then the word is given again.
+//! A word that is refused memory prints `memory` and nothing else, and gives the store back; then the word is given again.
 
-use crate::support::tills::{Prepared, S, answered_link, ledger_over, listens};
+use crate::support::tills::{Nobody, OneLedger, S, line_over, printer_address};
 use escpos_io::{ByteIn, MemoryIn, MemoryOut};
 use escpos_jobs::ending::MEMORY;
 use escpos_jobs::input::InputFault;
 use escpos_jobs::receipt_input::NoReceipt;
 use escpos_jobs::status::Status;
 use escpos_receipt::{JsonError, ReceiptOptions};
-use escpos_till::{Entry, Failure, Ledger, LedgerError, MemoryStore, NoStore, ReceiptState};
+use escpos_till::{
+    Entry, Failure, MemoryStore, NoStore, ReceiptContent, ReceiptState, TillMachine,
+};
 use escpos_till_jobs::{
-    Delivery, deliver_waiting, list, open_ledger, queue_receipt, read_receipt_text,
+    Delivery, LedgerPath, TillTask, deliver_in, deliver_with, list_with, open_machine,
+    perform_till, queue_with, read_content,
 };
 use std::alloc::Global;
+use std::cell::Cell;
 use std::process::Abort;
 
 // A word prints this. Answers no where memory is refused: then that alone is said.
@@ -38,74 +41,32 @@ fn raised_store(rt: &impl Abort, alloc: Global) -> MemoryStore {
     MemoryStore::new(alloc, entries, Failure::Never)
 }
 
-// Its ledger. Where memory is refused, that is said, and the ledger of a store like it is opened.
-fn opened_at_last(rt: &impl Abort, alloc: Global) -> Ledger<MemoryStore> {
-    match open_ledger(alloc, raised_store(rt, alloc)) {
-        Ok(ledger) => ledger,
-        Err((why, _)) => {
-            assert!(rt; why == NoStore::Memory);
-            ledger_over(rt, alloc, raised_store(rt, alloc))
-        }
-    }
-}
-
-// The ledger after a word that was refused memory.
-fn goes_on(rt: &impl Abort, alloc: Global, ledger: Ledger<MemoryStore>) -> Ledger<MemoryStore> {
-    match ledger.next_mark() {
-        Ok(_) => ledger,
+// The machine of a store's ledger. Where memory is refused, that is said, and it is opened again.
+fn machine_at_last(rt: &impl Abort, alloc: Global, store: &mut MemoryStore) -> TillMachine {
+    match open_machine(alloc, store) {
+        Ok(machine) => machine,
         Err(why) => {
-            assert!(rt; why == LedgerError::Failed);
-            ledger_over(rt, alloc, ledger.into_store())
+            assert!(rt; why == NoStore::Memory);
+            match open_machine(alloc, store) {
+                Ok(machine) => machine,
+                Err(_) => panic!(rt; "no ledger"),
+            }
         }
     }
 }
 
-fn queues(rt: &impl Abort, alloc: Global, ledger: &mut Ledger<MemoryStore>) -> bool {
-    let mut room = [0; 64];
-    let mut output = MemoryOut::new(&mut room);
-    let status = queue_receipt(alloc, ledger, &ReceiptOptions::usual(), S, &mut output);
-    is_told(rt, (output.written(), status), b"queued 1\n")
+// The receipts of a store's ledger stand so, and the next mark has this number.
+fn stands(rt: &impl Abort, alloc: Global, store: &mut MemoryStore, state: ReceiptState, next: u32) {
+    let machine = machine_at_last(rt, alloc, store);
+    assert!(rt; machine.states() == [state].as_slice());
+    assert!(rt; machine.next_mark() == next);
 }
 
-// S waits in it.
-fn queued_at_last(rt: &impl Abort, alloc: Global) -> Ledger<MemoryStore> {
-    let mut ledger = opened_at_last(rt, alloc);
-    if !queues(rt, alloc, &mut ledger) {
-        ledger = goes_on(rt, alloc, ledger);
-        assert!(rt; queues(rt, alloc, &mut ledger));
-    }
-    ledger
-}
-
-#[test]
-fn queue_receipt_refused(rt: HostRuntime) {
-    let ledger = queued_at_last(&rt, rt.alloc());
-    assert!(&rt; ledger.states() == Ok([ReceiptState::Waiting { tried: 0 }].as_slice()));
-    assert!(&rt; ledger.next_mark() == Ok(5));
-}
-
-fn lists(rt: &impl Abort, ledger: &mut Ledger<MemoryStore>) -> bool {
-    let mut room = [0; 64];
-    let mut output = MemoryOut::new(&mut room);
-    let status = list(ledger, Some(6), &mut output);
-    is_told(rt, (output.written(), status), b"1 waiting\nnext 6\n")
-}
-
-#[test]
-fn list_refused(rt: HostRuntime) {
-    let mut ledger = queued_at_last(&rt, rt.alloc());
-    if !lists(&rt, &mut ledger) {
-        ledger = goes_on(&rt, rt.alloc(), ledger);
-        assert!(&rt; lists(&rt, &mut ledger));
-    }
-    assert!(&rt; ledger.next_mark() == Ok(6));
-}
-
-// The text of a receipt. Where memory is refused the source hasn't failed, and a new one is read.
-fn text_at_last(rt: &impl Abort, alloc: Global) -> Vec<u8> {
+// S is read. Where memory is refused the source hasn't failed, and a new one is read.
+fn content_at_last(rt: &impl Abort, alloc: Global) -> ReceiptContent {
     let mut source = MemoryIn::new(S, 7);
-    match read_receipt_text(alloc, &ReceiptOptions::usual(), &mut source) {
-        Ok(text) => text,
+    match read_content(alloc, &ReceiptOptions::usual(), &mut source) {
+        Ok(content) => content,
         Err(fault) => {
             assert!(rt;
                 matches!(
@@ -115,55 +76,142 @@ fn text_at_last(rt: &impl Abort, alloc: Global) -> Vec<u8> {
             );
             assert!(rt; !source.has_failed());
             let mut source = MemoryIn::new(S, 7);
-            read_receipt_text(alloc, &ReceiptOptions::usual(), &mut source).expect(rt, "a text")
+            match read_content(alloc, &ReceiptOptions::usual(), &mut source) {
+                Ok(content) => content,
+                Err(_) => panic!(rt; "no receipt"),
+            }
         }
     }
 }
 
 #[test]
-fn read_receipt_text_refused(rt: HostRuntime) {
-    let text = text_at_last(&rt, rt.alloc());
-    assert!(&rt; text.as_slice() == S);
+fn read_content_refused(rt: HostRuntime) {
+    let content = content_at_last(&rt, rt.alloc()).into_content();
+    assert!(&rt; content.bytes() == S);
 }
 
-// The answers to the ledger's next two marks, which are 5 and 6, or 7 and 8.
-fn answers_of(ledger: &Ledger<MemoryStore>) -> (&'static [u8], &'static [u8]) {
-    match ledger.next_mark() {
-        Ok(5) => (b"\x37\x220005\x00", b"\x37\x220006\x00"),
-        _ => (b"\x37\x220007\x00", b"\x37\x220008\x00"),
-    }
-}
-
-fn delivers(
-    rt: &impl Abort,
-    alloc: Global,
-    ledger: &mut Ledger<MemoryStore>,
-    net: &Prepared,
-) -> bool {
-    let delivery = Delivery {
-        address: net.address.into(),
-        openings: 1,
-        copy: None,
-    };
+fn queues(rt: &impl Abort, alloc: Global, store: MemoryStore) -> (MemoryStore, bool) {
     let mut room = [0; 64];
     let mut output = MemoryOut::new(&mut room);
-    let status = deliver_waiting(net, alloc, ledger, &delivery, &mut output);
-    is_told(rt, (output.written(), status), b"recorded 1\n")
+    let content = content_at_last(rt, alloc);
+    let (store, status) = queue_with(alloc, store, content, &mut output);
+    let is = is_told(rt, (output.written(), status), b"queued 1\n");
+    (store, is)
+}
+
+// S waits in it.
+fn queued_at_last(rt: &impl Abort, alloc: Global) -> MemoryStore {
+    let (store, is) = queues(rt, alloc, raised_store(rt, alloc));
+    if is {
+        return store;
+    }
+    let (store, is) = queues(rt, alloc, store);
+    assert!(rt; is);
+    store
 }
 
 #[test]
-fn deliver_waiting_refused(rt: HostRuntime) {
-    let mut ledger = queued_at_last(&rt, rt.alloc());
-    let (listener, address) = listens(&rt);
-    let answers = answers_of(&ledger);
-    let (client, _printer) = answered_link(&rt, (&listener, address), answers);
-    let client = &client;
-    if !delivers(&rt, rt.alloc(), &mut ledger, &Prepared { address, client }) {
-        ledger = goes_on(&rt, rt.alloc(), ledger);
-        let answers = answers_of(&ledger);
-        let (client, _printer) = answered_link(&rt, (&listener, address), answers);
-        let client = &client;
-        assert!(&rt; delivers(&rt, rt.alloc(), &mut ledger, &Prepared { address, client }));
+fn queue_refused(rt: HostRuntime) {
+    let mut store = queued_at_last(&rt, rt.alloc());
+    let waiting = ReceiptState::Waiting { tried: 0 };
+    stands(&rt, rt.alloc(), &mut store, waiting, 5);
+}
+
+fn lists(rt: &impl Abort, alloc: Global, store: MemoryStore) -> (MemoryStore, bool) {
+    let mut room = [0; 64];
+    let mut output = MemoryOut::new(&mut room);
+    let (store, status) = list_with(alloc, store, Some(6), &mut output);
+    let is = is_told(rt, (output.written(), status), b"1 waiting\nnext 6\n");
+    (store, is)
+}
+
+#[test]
+fn list_refused(rt: HostRuntime) {
+    let (listed, is) = lists(&rt, rt.alloc(), queued_at_last(&rt, rt.alloc()));
+    let mut store = listed;
+    if !is {
+        let (listed, is) = lists(&rt, rt.alloc(), store);
+        assert!(&rt; is);
+        store = listed;
     }
-    assert!(&rt; ledger.states() == Ok([ReceiptState::Recorded { place: 0 }].as_slice()));
+    let waiting = ReceiptState::Waiting { tried: 0 };
+    stands(&rt, rt.alloc(), &mut store, waiting, 6);
+}
+
+fn delivery() -> Delivery<'static> {
+    Delivery {
+        address: printer_address().into(),
+        openings: 1,
+        copy: None,
+    }
+}
+
+// Delivers the receipt over a link on which the ledger's next two marks are answered.
+fn delivers(rt: &impl Abort, alloc: Global, store: MemoryStore) -> (MemoryStore, bool) {
+    let mut store = store;
+    let answers = match machine_at_last(rt, alloc, &mut store).next_mark() {
+        5 => b"\x37\x220005\x00\x37\x220006\x00".as_slice(),
+        _ => b"\x37\x220007\x00\x37\x220008\x00".as_slice(),
+    };
+    let delivery = delivery();
+    let (mut sent, mut room) = ([0; 100], [0; 64]);
+    let mut output = MemoryOut::new(&mut room);
+    let line = line_over(answers, &mut sent);
+    let (store, status) = deliver_with(alloc, store, line, &delivery, &mut output);
+    let is = is_told(rt, (output.written(), status), b"recorded 1\n");
+    (store, is)
+}
+
+#[test]
+fn deliver_refused(rt: HostRuntime) {
+    let (delivered, is) = delivers(&rt, rt.alloc(), queued_at_last(&rt, rt.alloc()));
+    let mut store = delivered;
+    if !is {
+        let (delivered, is) = delivers(&rt, rt.alloc(), store);
+        assert!(&rt; is);
+        store = delivered;
+    }
+    let machine = machine_at_last(&rt, rt.alloc(), &mut store);
+    assert!(&rt; machine.states() == [ReceiptState::Recorded { place: 0 }].as_slice());
+}
+
+// S is taken into a ledger at a path.
+fn performs(rt: &impl Abort, alloc: Global, ledger: &OneLedger) -> bool {
+    let task = TillTask::Queue {
+        ledger: LedgerPath::new("a"),
+        options: ReceiptOptions::usual(),
+    };
+    let mut room = [0; 64];
+    let mut input = MemoryIn::new(S, 7);
+    let mut output = MemoryOut::new(&mut room);
+    let status = perform_till(alloc, ledger, &Nobody, task, &mut input, &mut output);
+    is_told(rt, (output.written(), status), b"queued 1\n")
+}
+
+// It waits, since nobody is reached.
+fn waits(rt: &impl Abort, alloc: Global, ledger: &OneLedger) -> bool {
+    let path = LedgerPath::new("a");
+    let mut room = [0; 64];
+    let mut output = MemoryOut::new(&mut room);
+    let status = deliver_in(alloc, ledger, &Nobody, &path, &delivery(), &mut output);
+    if status == Status::Memory {
+        assert!(rt; output.written() == MEMORY);
+        return false;
+    }
+    assert!(rt; output.written() == b"waiting 1 no link\n".as_slice());
+    status == Status::Device
+}
+
+#[test]
+fn perform_refused(rt: HostRuntime) {
+    let ledger = OneLedger {
+        path: "a",
+        store: Cell::new(Some(raised_store(&rt, rt.alloc()))),
+    };
+    if !performs(&rt, rt.alloc(), &ledger) {
+        assert!(&rt; performs(&rt, rt.alloc(), &ledger));
+    }
+    if !waits(&rt, rt.alloc(), &ledger) {
+        assert!(&rt; waits(&rt, rt.alloc(), &ledger));
+    }
 }

@@ -1,8 +1,11 @@
-//! Ledgers over stores in memory, and links of 127.0.0.1.
+//! Stores and ledgers in memory, links in memory and links of 127.0.0.1.
 
+use escpos_io::{MemoryIn, MemoryOut};
 use escpos_jobs::printer_link::Printers;
-use escpos_till::{Failure, Ledger, MemoryStore, ReceiptNumber};
+use escpos_till::{Content, Entry, Failure, MemoryStore, NoStore, ReceiptNumber};
+use escpos_till_jobs::{Dial, LedgerPath, Ledgers, Link, LinkLine};
 use std::alloc::Global;
+use std::cell::Cell;
 use std::io;
 use std::io::Write;
 use std::net::{Ipv4Addr, Net, Shutdown, SocketAddr, SocketAddrV4, TcpListener, TcpStream};
@@ -13,21 +16,96 @@ pub const S: &[u8] = b"[{\"line\":\"Hi\"}]";
 
 pub const A: &[u8] = b"[{\"line\":\"A\"}]";
 
-pub fn number(rt: &impl Abort, number: usize) -> ReceiptNumber {
+// An entry of a ledger: S is taken; it is tried, and this is the next number; it is recorded; the next number is raised.
+#[derive(Clone, Copy)]
+pub enum Plain {
+    Taken,
+    Tried(usize, u32),
+    Recorded(usize),
+    Raised(u32),
+}
+
+fn number(rt: &impl Abort, number: usize) -> ReceiptNumber {
     ReceiptNumber::new(number).expect(rt, "a number")
 }
 
-// The ledger of a store.
-pub fn ledger_over(rt: &impl Abort, alloc: Global, store: MemoryStore) -> Ledger<MemoryStore> {
-    match Ledger::open(alloc, store) {
-        Ok(ledger) => ledger,
-        Err(_) => panic!(rt; "no ledger"),
+fn entry(rt: &impl Abort, alloc: Global, plain: Plain) -> Entry {
+    match plain {
+        Plain::Taken => Entry::Queued {
+            content: Content::new(S.to_vec(alloc).expect(rt, "memory")),
+        },
+        Plain::Tried(at, next) => Entry::Tried {
+            number: number(rt, at),
+            next,
+        },
+        Plain::Recorded(at) => Entry::Recorded {
+            number: number(rt, at),
+        },
+        Plain::Raised(next) => Entry::Raised { next },
     }
 }
 
-// A ledger with no entries, whose store fails so.
-pub fn new_ledger(rt: &impl Abort, alloc: Global, failure: Failure) -> Ledger<MemoryStore> {
-    ledger_over(rt, alloc, MemoryStore::new(alloc, Vec::new(alloc), failure))
+// A store with these entries.
+pub fn store_of(rt: &impl Abort, alloc: Global, entries: &[Plain]) -> MemoryStore {
+    let mut all = Vec::new(alloc);
+    for plain in entries {
+        let _ = all.push(entry(rt, alloc, *plain));
+    }
+    MemoryStore::new(alloc, all, Failure::Never)
+}
+
+// Dials one link in memory.
+#[derive(Drop)]
+pub struct InMemory<'a> {
+    link: Option<Link<MemoryIn<'a>, MemoryOut<'a>>>,
+}
+
+impl<'a> Dial<MemoryIn<'a>, MemoryOut<'a>> for InMemory<'a> {
+    ghost dialled = { λ old link new. Unit {0} };
+
+    fn dial(&mut self) -> Option<Link<MemoryIn<'a>, MemoryOut<'a>>> {
+        self.link.take()
+    }
+}
+
+// A line over one link, on which these answers come, seven bytes at a time. What is put goes to this room.
+pub fn line_over<'a>(
+    answers: &'a [u8],
+    room: &'a mut [u8],
+) -> LinkLine<MemoryIn<'a>, MemoryOut<'a>, InMemory<'a>> {
+    let reader = MemoryIn::new(answers, 7);
+    let writer = MemoryOut::new(room);
+    LinkLine::new(InMemory {
+        link: Some(Link { reader, writer }),
+    })
+}
+
+// The ledger at one path, in memory. At any other path there is none.
+#[derive(Drop)]
+pub struct OneLedger {
+    pub path: &'static str,
+    pub store: Cell<Option<MemoryStore>>,
+}
+
+impl Ledgers<MemoryStore> for OneLedger {
+    ghost opened = { λ ledgers path result. Unit {0} };
+
+    ghost closed = { λ ledgers store. Unit {0} };
+
+    // Until it is closed, it is in use.
+    fn open(&self, path: &LedgerPath<'_>) -> Result<MemoryStore, NoStore> {
+        if path.text() != self.path {
+            return Err(NoStore::NoLedger);
+        }
+        match self.store.replace(None) {
+            Some(store) => Ok(store),
+            None => Err(NoStore::InUse),
+        }
+    }
+
+    fn close(&self, store: MemoryStore) {
+        self.store.set(Some(store));
+    }
 }
 
 pub fn printer_address() -> SocketAddrV4 {
@@ -46,7 +124,7 @@ pub fn listens<N: Net<Stream = TcpStream, Listener = TcpListener> + Abort>(
 }
 
 // Bytes of status. With an answer to a mark before them they fill a read, so that the next answer is read after it.
-const STATUS: [u8; 57] = [0x12; 57];
+const STATUS: [u8; 505] = [0x12; 505];
 
 // Both ends of a link, the printer's of which has sent these two answers and ends its writing.
 pub fn answered_link<N: Net<Stream = TcpStream, Listener = TcpListener> + Abort>(
@@ -89,3 +167,23 @@ impl Net for Prepared<'_> {
 }
 
 impl Printers for Prepared<'_> {}
+
+// A network that reaches nobody.
+#[derive(Drop)]
+pub struct Nobody;
+
+impl Net for Nobody {
+    type Stream = TcpStream;
+
+    type Listener = TcpListener;
+
+    fn bind(&self, _addr: SocketAddr) -> io::Result<TcpListener> {
+        Err(io::Error::from(io::ErrorKind::AddrNotAvailable))
+    }
+
+    fn connect(&self, _addr: SocketAddr) -> io::Result<TcpStream> {
+        Err(io::Error::from(io::ErrorKind::NetworkUnreachable))
+    }
+}
+
+impl Printers for Nobody {}

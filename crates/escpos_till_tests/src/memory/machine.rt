@@ -1,10 +1,7 @@
 //! The calls of a till's machine, where memory is refused.
 
-use escpos_receipt::{JsonError, ReceiptOptions};
-use escpos_test_receipts::S;
-use escpos_till::{
-    Action, Content, Entry, NoMachine, ReceiptContent, ReceiptState, TillMachine, TillRefusal,
-};
+use crate::support::tills::{bytes_at_last, receipt_at_last};
+use escpos_till::{Action, Content, Entry, NoMachine, ReceiptState, TillMachine, TillRefusal};
 use std::alloc::Global;
 use std::process::Abort;
 
@@ -17,28 +14,6 @@ fn opened_at_last(rt: &impl Abort, alloc: Global, entries: &[Entry]) -> TillMach
             match TillMachine::open(alloc, entries) {
                 Ok(machine) => machine,
                 Err(_) => panic!(rt; "no machine"),
-            }
-        }
-    }
-}
-
-fn bytes_at_last(rt: &impl Abort, alloc: Global) -> Vec<u8> {
-    match S.0.to_vec(alloc) {
-        Ok(bytes) => bytes,
-        Err(_) => S.0.to_vec(alloc).expect(rt, "memory"),
-    }
-}
-
-// S is read.
-fn receipt_at_last(rt: &impl Abort, alloc: Global) -> ReceiptContent {
-    let usual = ReceiptOptions::usual();
-    match ReceiptContent::read(alloc, &usual, bytes_at_last(rt, alloc)) {
-        Ok(receipt) => receipt,
-        Err(why) => {
-            assert!(rt; why == JsonError::Memory);
-            match ReceiptContent::read(alloc, &usual, bytes_at_last(rt, alloc)) {
-                Ok(receipt) => receipt,
-                Err(_) => panic!(rt; "no receipt"),
             }
         }
     }

@@ -1,90 +1,160 @@
-//! The calls of a ledger, and delivering, where memory is refused.
+//! A till that is driven over a store in memory, where memory is refused, and the copies of what its ledger has.
 
-use crate::support::tills::{ledger_over, number};
-use escpos_host::{HostError, JsonError, SendFault};
-use escpos_io::{MemoryIn, MemoryOut};
+use crate::support::tills::{
+    ANSWERS_01, ANSWERS_23, DrivenTill, Line, bytes_at_last, drives, number, receipt_at_last,
+};
+use escpos_host::{HostError, SendFault};
 use escpos_test_receipts::S;
 use escpos_till::{
-    Content, Delivered, Entry, Failure, Ledger, LedgerError, MemoryStore, OpenError, ReceiptState,
-    StoreFault, deliver_one,
+    Content, Entry, Failure, MemoryStore, NoMachine, ReceiptState, Store, StoreFault, Surroundings,
+    TillMachine, TillNote, TillRefusal,
 };
 use std::alloc::Global;
 use std::process::Abort;
 
-// The ledger of a store. Where memory is refused, the store comes back, and is opened again.
-fn opened_at_last(rt: &impl Abort, alloc: Global, store: MemoryStore) -> Ledger<MemoryStore> {
-    match Ledger::open(alloc, store) {
-        Ok(ledger) => ledger,
-        Err((why, store)) => {
-            assert!(rt; why == OpenError::Memory || why == OpenError::Store(StoreFault::Memory));
-            ledger_over(rt, alloc, store)
+// The machine of a store. None where memory is refused.
+fn machine_of(rt: &impl Abort, alloc: Global, store: &mut MemoryStore) -> Option<TillMachine> {
+    let entries = match store.entries(alloc) {
+        Ok(entries) => entries,
+        Err(why) => {
+            assert!(rt; why == StoreFault::Memory);
+            return None;
+        }
+    };
+    match TillMachine::open(alloc, &entries) {
+        Ok(machine) => Some(machine),
+        Err(why) => {
+            assert!(rt; why == NoMachine::Memory);
+            None
         }
     }
 }
 
-// A call was refused because memory ran out: the ledger is as it was; or its store failed, and it is opened again.
-fn goes_on(
-    rt: &impl Abort,
-    alloc: Global,
-    ledger: Ledger<MemoryStore>,
-    why: LedgerError,
-) -> Ledger<MemoryStore> {
-    if why == LedgerError::Memory {
-        return ledger;
+// The till of a store. Where memory is refused, the store is as it was, and is opened again.
+fn opened_at_last(rt: &impl Abort, alloc: Global, store: MemoryStore) -> DrivenTill {
+    let mut store = store;
+    let machine = match machine_of(rt, alloc, &mut store) {
+        Some(machine) => machine,
+        None => machine_of(rt, alloc, &mut store).expect(rt, "a machine"),
+    };
+    let line = Line::new();
+    DrivenTill {
+        machine,
+        around: Surroundings { store, line },
     }
-    assert!(rt; why == LedgerError::Store(StoreFault::Memory));
-    assert!(rt; ledger.next_mark() == Err(LedgerError::Failed));
-    opened_at_last(rt, alloc, ledger.into_store())
 }
 
-// A ledger in which S waits.
-fn queued_at_last(rt: &impl Abort, alloc: Global) -> Ledger<MemoryStore> {
+// What came of a call.
+#[derive(Clone, Copy, PartialEq)]
+enum Came {
+    // It is done.
+    Done,
+    // Memory was refused, and the machine is at rest.
+    Refused,
+    // Memory was refused to the store, and the machine has failed.
+    NotKept,
+}
+
+// What came of a call that the machine has taken, which is to tell this.
+fn follows(rt: &impl Abort, till: &mut DrivenTill, wanted: TillNote) -> Came {
+    match drives(till, 1_000) {
+        Some(TillNote::NotKept(why)) => {
+            assert!(rt; why == StoreFault::Memory);
+            Came::NotKept
+        }
+        Some(TillNote::Waiting { why, .. }) => {
+            assert!(rt; why == SendFault::Refused(HostError::Memory));
+            Came::Refused
+        }
+        note => {
+            assert!(rt; note == Some(wanted));
+            Came::Done
+        }
+    }
+}
+
+fn refused(rt: &impl Abort, why: TillRefusal) -> Came {
+    assert!(rt; why == TillRefusal::Memory);
+    Came::Refused
+}
+
+// The till after a call that was refused memory: where its store has failed, it is opened again.
+fn goes_on(rt: &impl Abort, alloc: Global, till: DrivenTill, came: Came) -> DrivenTill {
+    if came == Came::Refused {
+        return till;
+    }
+    let DrivenTill { machine, around } = till;
+    let mut machine = machine;
+    assert!(rt; machine.raise(9) == Err(TillRefusal::Failed));
+    let Surroundings { store, .. } = around;
+    opened_at_last(rt, alloc, store)
+}
+
+fn queues(rt: &impl Abort, alloc: Global, till: &mut DrivenTill) -> Came {
+    match till.machine.queue(receipt_at_last(rt, alloc)) {
+        Ok(()) => follows(rt, till, TillNote::Queued(number(rt, 1))),
+        Err((why, _receipt)) => refused(rt, why),
+    }
+}
+
+// The first receipt is delivered, over a link on which the next two marks are answered.
+fn delivers(rt: &impl Abort, till: &mut DrivenTill) -> Came {
+    till.around.line.answers = match till.machine.next_mark() {
+        0 => ANSWERS_01,
+        _ => ANSWERS_23,
+    };
+    match till.machine.deliver(1, None, 100) {
+        Ok(()) => follows(rt, till, TillNote::Recorded(number(rt, 1))),
+        Err(why) => refused(rt, why),
+    }
+}
+
+fn raises(rt: &impl Abort, till: &mut DrivenTill) -> Came {
+    match till.machine.raise(5) {
+        Ok(()) => follows(rt, till, TillNote::Raised),
+        Err(why) => refused(rt, why),
+    }
+}
+
+// A till that has taken S.
+fn queued_at_last(rt: &impl Abort, alloc: Global) -> DrivenTill {
     let store = MemoryStore::new(alloc, Vec::new(alloc), Failure::Never);
-    let mut ledger = opened_at_last(rt, alloc, store);
-    if let Err(why) = ledger.queue(alloc, S.0) {
-        ledger = goes_on(rt, alloc, ledger, why);
-        assert!(rt; ledger.queue(alloc, S.0).is_ok());
+    let mut till = opened_at_last(rt, alloc, store);
+    let came = queues(rt, alloc, &mut till);
+    if came != Came::Done {
+        till = goes_on(rt, alloc, till, came);
+        assert!(rt; queues(rt, alloc, &mut till) == Came::Done);
     }
-    ledger
-}
-
-// It is tried, with the marks 0 and 1.
-fn tried_at_last(rt: &impl Abort, alloc: Global) -> Ledger<MemoryStore> {
-    let mut ledger = queued_at_last(rt, alloc);
-    if let Err(why) = ledger.tried(number(rt, 1), 2) {
-        ledger = goes_on(rt, alloc, ledger, why);
-        assert!(rt; ledger.tried(number(rt, 1), 2) == Ok(0));
-    }
-    ledger
+    till
 }
 
 // It is recorded.
-fn recorded_at_last(rt: &impl Abort, alloc: Global) -> Ledger<MemoryStore> {
-    let mut ledger = tried_at_last(rt, alloc);
-    if let Err(why) = ledger.recorded(number(rt, 1)) {
-        ledger = goes_on(rt, alloc, ledger, why);
-        assert!(rt; ledger.recorded(number(rt, 1)) == Ok(()));
+fn recorded_at_last(rt: &impl Abort, alloc: Global) -> DrivenTill {
+    let mut till = queued_at_last(rt, alloc);
+    let came = delivers(rt, &mut till);
+    if came != Came::Done {
+        till = goes_on(rt, alloc, till, came);
+        assert!(rt; delivers(rt, &mut till) == Came::Done);
     }
-    ledger
+    till
 }
 
 // The next number is raised to 5.
-fn raised_at_last(rt: &impl Abort, alloc: Global) -> Ledger<MemoryStore> {
-    let mut ledger = recorded_at_last(rt, alloc);
-    if let Err(why) = ledger.raise(5) {
-        ledger = goes_on(rt, alloc, ledger, why);
-        assert!(rt; ledger.raise(5) == Ok(()));
+fn raised_at_last(rt: &impl Abort, alloc: Global) -> DrivenTill {
+    let mut till = recorded_at_last(rt, alloc);
+    let came = raises(rt, &mut till);
+    if came != Came::Done {
+        till = goes_on(rt, alloc, till, came);
+        assert!(rt; raises(rt, &mut till) == Came::Done);
     }
-    ledger
+    till
 }
 
 #[test]
-fn ledger_refused(rt: HostRuntime) {
-    let ledger = raised_at_last(&rt, rt.alloc());
-    assert!(&rt; ledger.states() == Ok([ReceiptState::Recorded { place: 0 }].as_slice()));
-    assert!(&rt; ledger.next_mark() == Ok(5));
-    assert!(&rt; ledger.waiting().is_ok());
-    assert!(&rt; ledger.record_count() == Ok(1));
+fn driven_till_refused(rt: HostRuntime) {
+    let till = raised_at_last(&rt, rt.alloc());
+    assert!(&rt; till.machine.states() == [ReceiptState::Recorded { place: 0 }].as_slice());
+    assert!(&rt; till.machine.next_mark() == 5);
 }
 
 // The same content once more. Where memory is refused, it is copied again.
@@ -111,56 +181,8 @@ fn is_s(rt: &impl Abort, entry: &Entry) {
 
 #[test]
 fn copies_refused(rt: HostRuntime) {
-    let bytes = match S.0.to_vec(rt.alloc()) {
-        Ok(bytes) => bytes,
-        Err(_) => S.0.to_vec(rt.alloc()).expect(&rt, "memory"),
-    };
+    let bytes = bytes_at_last(&rt, rt.alloc());
     let content = content_at_last(&rt, rt.alloc(), &Content::new(bytes));
     let entry = entry_at_last(&rt, rt.alloc(), &Entry::Queued { content });
     is_s(&rt, &entry);
-}
-
-// The answers to marks 0 to 3.
-const ANSWERS: &[u8] = b"\x37\x220000\x00\x37\x220001\x00\x37\x220002\x00\x37\x220003\x00";
-
-// Delivers the first receipt that waits, over a link on which the ledger's next two marks are answered.
-fn delivers(rt: &impl Abort, alloc: Global, ledger: &mut Ledger<MemoryStore>) -> Delivered {
-    let answers = match ledger.next_mark() {
-        Ok(0) => ANSWERS,
-        _ => ANSWERS.get(14..).expect(rt, "answers"),
-    };
-    let mut room = [0; 100];
-    let mut reader = MemoryIn::new(answers, 7);
-    let mut writer = MemoryOut::new(&mut room);
-    deliver_one(ledger, alloc, 1, None, &mut reader, &mut writer, 100)
-}
-
-// Why a delivery that memory was refused to isn't done, as the ledger tells it.
-fn refusal_of(rt: &impl Abort, delivered: Delivered) -> LedgerError {
-    match delivered {
-        Delivered::NotTried(why) => why,
-        Delivered::NotNoted { why, .. } => why,
-        Delivered::NoReceipt { why, .. } => {
-            assert!(rt; why == JsonError::Memory);
-            LedgerError::Memory
-        }
-        Delivered::NotRecorded { why, .. } => {
-            assert!(rt; why == SendFault::Refused(HostError::Memory));
-            LedgerError::Memory
-        }
-        _ => panic!(rt; "not refused"),
-    }
-}
-
-#[test]
-fn deliver_one_refused(rt: HostRuntime) {
-    let mut ledger = queued_at_last(&rt, rt.alloc());
-    let wanted = Delivered::Recorded(number(&rt, 1));
-    let delivered = delivers(&rt, rt.alloc(), &mut ledger);
-    if delivered != wanted {
-        let why = refusal_of(&rt, delivered);
-        ledger = goes_on(&rt, rt.alloc(), ledger, why);
-        assert!(&rt; delivers(&rt, rt.alloc(), &mut ledger) == wanted);
-    }
-    assert!(&rt; ledger.states() == Ok([ReceiptState::Recorded { place: 0 }].as_slice()));
 }

@@ -1,189 +1,176 @@
-//! The driver of a till's machine, over an outside that does what a script says.
+//! The driver of a till's machine: how many things it does, and what it leaves where there is no link or the store fails.
 
-use crate::support::tills::number;
-use escpos_host::SendFault;
-use escpos_receipt::ReceiptOptions;
-use escpos_test_receipts::{S, SENT};
-use escpos_till::{
-    Entry, Outside, ReceiptContent, ReceiptState, StoreFault, TillMachine, TillNote, drive,
+use crate::support::tills::{
+    ANSWERS_01, ANSWERS_23, Answers, DrivenTill, SENT_AGAIN, delivers, drives, has_sent, new_till,
+    nothing_waits, number, opened_again, refuses_all, stands, starts, takes,
 };
+use escpos_host::SendFault;
+use escpos_test_receipts::{S, SENT};
+use escpos_till::{Failure, ReceiptState, Store, StoreFault, TillNote};
 use std::alloc::Global;
-use std::collections::VecDeque;
 use std::process::Abort;
 
-// What it does in turn, and what was done with it.
-#[derive(Drop)]
-struct Scripted {
-    // what each wait gives: bytes, or the end
-    answers: VecDeque<Option<Vec<u8>>>,
-    // whether the store fails at the entry of this number, from 0 on
-    fails_at: usize,
-    has_link: bool,
-    // how many entries came
-    entries: usize,
-    put: Vec<u8>,
-    // the notes, newest last
-    notes: Vec<TillNote>,
-    hang_ups: usize,
+const UNTRIED: ReceiptState = ReceiptState::Waiting { tried: 0 };
+
+const ONCE: ReceiptState = ReceiptState::Waiting { tried: 1 };
+
+const RECORDED: ReceiptState = ReceiptState::Recorded { place: 0 };
+
+// The answer to mark 0, and that to mark 1 in single bytes.
+const IN_BYTES: Answers = &[
+    b"\x37\x220000\x00",
+    b"\x37",
+    b"\x22",
+    b"0",
+    b"0",
+    b"0",
+    b"1",
+    b"\x00",
+];
+
+// The answer to mark 0 among statuses.
+const AMONG_STATUSES: Answers = &[b"\x12\x12\x37\x220000\x00\x12\x12"];
+
+// A till with one receipt, whose store fails so.
+fn till_with_one(rt: &impl Abort, alloc: Global, failure: Failure) -> DrivenTill {
+    let mut till = new_till(rt, alloc, failure);
+    takes(rt, alloc, &mut till, S.0, 1);
+    till
 }
 
-impl Outside for Scripted {
-    ghost did = { λ old deed new. Unit {0} };
-
-    fn append(&mut self, _entry: &Entry) -> Result<(), StoreFault> {
-        let at = self.entries;
-        self.entries = at.saturating_add(1);
-        if at == self.fails_at {
-            return Err(StoreFault::Failed);
-        }
-        Ok(())
-    }
-
-    fn connect(&mut self) -> bool {
-        self.has_link
-    }
-
-    fn put(&mut self, bytes: &[u8]) -> Result<(), SendFault> {
-        match self.put.extend_from_slice(bytes) {
-            Ok(()) => Ok(()),
-            Err(_) => Err(SendFault::WriteFault),
-        }
-    }
-
-    fn pull(&mut self, room: &mut [u8]) -> Result<usize, SendFault> {
-        match self.answers.pop_front() {
-            Some(Some(bytes)) => {
-                let count = bytes.len().min(room.len());
-                room[..count].copy_from_slice(&bytes[..count]);
-                Ok(count)
-            }
-            Some(None) => Err(SendFault::TimedOut),
-            None => Err(SendFault::Ended),
-        }
-    }
-
-    fn hang_up(&mut self) {
-        self.hang_ups = self.hang_ups.saturating_add(1);
-    }
-
-    fn tell(&mut self, note: TillNote) {
-        let _ = self.notes.push(note);
-    }
+// So many things are done, the last of which is to tell this. The driver gives up before that one, and goes on when it is called again.
+fn drives_in(rt: &impl Abort, till: &mut DrivenTill, turns: u32, note: TillNote) {
+    assert!(rt; drives(till, turns.saturating_sub(1)) == None);
+    assert!(rt; !till.machine.rests());
+    assert!(rt; drives(till, 1) == Some(note));
+    assert!(rt; till.machine.rests());
+    assert!(rt; drives(till, 1) == None);
 }
 
-// It gives these answers, and has a link; its store keeps all.
-fn outside_of(alloc: Global) -> Scripted {
-    Scripted {
-        answers: VecDeque::new(alloc),
-        fails_at: usize::MAX,
-        has_link: true,
-        entries: 0,
-        put: Vec::new(alloc),
-        notes: Vec::new(alloc),
-        hang_ups: 0,
-    }
-}
-
-// One wait more gives these bytes.
-fn answers(rt: &impl Abort, alloc: Global, outside: &mut Scripted, bytes: &[u8]) {
-    let bytes = bytes.to_vec(alloc).expect(rt, "memory");
-    if outside.answers.push_back(Some(bytes)).is_err() {
-        panic!(rt; "memory");
-    }
-}
-
-// A machine that has taken S.
-fn machine_with_one(rt: &impl Abort, alloc: Global, outside: &mut Scripted) -> TillMachine {
-    let text = S.0.to_vec(alloc).expect(rt, "memory");
-    let mut machine = match TillMachine::open(alloc, &[]) {
-        Ok(machine) => machine,
-        Err(_) => panic!(rt; "no machine"),
-    };
-    match ReceiptContent::read(alloc, &ReceiptOptions::usual(), text) {
-        Ok(receipt) => match machine.queue(receipt) {
-            Ok(()) => {}
-            Err((_, _receipt)) => panic!(rt; "not taken"),
-        },
-        Err(_) => panic!(rt; "no receipt"),
-    }
-    assert!(rt; drive(&mut machine, outside, 2));
-    assert!(rt; outside.notes.as_slice() == [TillNote::Queued(number(rt, 1))].as_slice());
-    machine
-}
-
-// All that is asked for is done, in so many turns, and the last note is this.
-fn delivers(
-    rt: &impl Abort,
-    machine: &mut TillMachine,
-    outside: &mut Scripted,
-    turns: u32,
-    note: TillNote,
-) {
-    assert!(rt; machine.deliver(1, None, 100) == Ok(()));
-    assert!(rt; !drive(machine, outside, turns.saturating_sub(1)));
-    assert!(rt; drive(machine, outside, 1));
-    match outside.notes.as_slice().last() {
-        Some(last) => assert!(rt; *last == note),
-        None => panic!(rt; "no note"),
+// The store has so many entries.
+fn has_kept(rt: &impl Abort, alloc: Global, till: &mut DrivenTill, count: usize) {
+    match till.around.store.entries(alloc) {
+        Ok(entries) => assert!(rt; entries.len() == count),
+        Err(_) => panic!(rt; "no entries"),
     }
 }
 
 // The answers come in one piece each, and in single bytes.
 #[test]
 fn driver_records(rt: HostRuntime) {
-    let mut outside = outside_of(rt.alloc());
-    let mut machine = machine_with_one(&rt, rt.alloc(), &mut outside);
-    answers(&rt, rt.alloc(), &mut outside, b"\x37\x220000\x00");
-    for byte in b"\x37\x220001\x00" {
-        answers(&rt, rt.alloc(), &mut outside, &[*byte]);
-    }
-    let recorded = TillNote::Recorded(number(&rt, 1));
-    delivers(&rt, &mut machine, &mut outside, 15, recorded);
-    assert!(&rt; outside.put.as_slice() == SENT);
-    assert!(&rt; outside.entries == 3);
-    assert!(&rt; outside.hang_ups == 1);
-    assert!(&rt; machine.states() == [ReceiptState::Recorded { place: 0 }].as_slice());
+    let mut till = till_with_one(&rt, rt.alloc(), Failure::Never);
+    starts(&rt, &mut till, 1, None, IN_BYTES);
+    drives_in(&rt, &mut till, 15, TillNote::Recorded(number(&rt, 1)));
+    has_sent(&rt, &till, SENT);
+    assert!(&rt; till.around.line.hang_ups == 1);
+    has_kept(&rt, rt.alloc(), &mut till, 3);
+    stands(&rt, &till, &[RECORDED], 2);
 }
 
 // The answer to an opening mark comes among statuses, in one piece; then the answers end.
 #[test]
 fn driver_hears_a_whole_piece(rt: HostRuntime) {
-    let mut outside = outside_of(rt.alloc());
-    let mut machine = machine_with_one(&rt, rt.alloc(), &mut outside);
-    answers(
-        &rt,
-        rt.alloc(),
-        &mut outside,
-        b"\x12\x12\x37\x220000\x00\x12\x12",
-    );
+    let mut till = till_with_one(&rt, rt.alloc(), Failure::Never);
+    starts(&rt, &mut till, 1, None, AMONG_STATUSES);
     let waiting = TillNote::Waiting {
         number: number(&rt, 1),
         why: SendFault::Ended,
     };
-    delivers(&rt, &mut machine, &mut outside, 8, waiting);
-    assert!(&rt; outside.put.as_slice() == SENT);
-    assert!(&rt; machine.states() == [ReceiptState::Waiting { tried: 1 }].as_slice());
+    drives_in(&rt, &mut till, 8, waiting);
+    has_sent(&rt, &till, SENT);
+    stands(&rt, &till, &[ONCE], 2);
 }
 
 #[test]
 fn driver_finds_no_link(rt: HostRuntime) {
-    let mut outside = outside_of(rt.alloc());
-    let mut machine = machine_with_one(&rt, rt.alloc(), &mut outside);
-    outside.has_link = false;
-    let no_link = TillNote::NoLink(number(&rt, 1));
-    delivers(&rt, &mut machine, &mut outside, 2, no_link);
-    assert!(&rt; outside.hang_ups == 0);
-    assert!(&rt; machine.states() == [ReceiptState::Waiting { tried: 0 }].as_slice());
+    let mut till = till_with_one(&rt, rt.alloc(), Failure::Never);
+    till.around.line.has_link = false;
+    starts(&rt, &mut till, 1, None, ANSWERS_01);
+    drives_in(&rt, &mut till, 2, TillNote::NoLink(number(&rt, 1)));
+    assert!(&rt; till.around.line.hang_ups == 0);
+    has_kept(&rt, rt.alloc(), &mut till, 1);
+    stands(&rt, &till, &[UNTRIED], 0);
 }
 
-// The store fails at the entry that a receipt is tried: no byte goes out.
+// A store that fails while a receipt is delivered.
+struct FailingStore {
+    failure: Failure,
+    // how many things are done
+    turns: u32,
+    // what is put
+    sent: &'static [u8],
+    // where the receipt stands when a machine is opened again, and the next mark
+    left: (ReceiptState, u32),
+    // what is answered then, and put, when the receipt is delivered; None if it doesn't wait
+    again: Option<(Answers, &'static [u8])>,
+}
+
+// It fails where the receipt is to be tried, before that is kept and after; and where it is to be recorded.
+const FAILING_STORES: [FailingStore; 4] = [
+    FailingStore {
+        failure: Failure::BeforeKeeping { calls: 1 },
+        turns: 4,
+        sent: b"",
+        left: (UNTRIED, 0),
+        again: Some((ANSWERS_01, SENT)),
+    },
+    FailingStore {
+        failure: Failure::AfterKeeping { calls: 1 },
+        turns: 4,
+        sent: b"",
+        left: (ONCE, 2),
+        again: Some((ANSWERS_23, SENT_AGAIN)),
+    },
+    FailingStore {
+        failure: Failure::BeforeKeeping { calls: 2 },
+        turns: 9,
+        sent: SENT,
+        left: (ONCE, 2),
+        again: Some((ANSWERS_23, SENT_AGAIN)),
+    },
+    FailingStore {
+        failure: Failure::AfterKeeping { calls: 2 },
+        turns: 9,
+        sent: SENT,
+        left: (RECORDED, 2),
+        again: None,
+    },
+];
+
+// The store fails: the link is given up, and the machine refuses all.
+fn fails(rt: &impl Abort, alloc: Global, till: &mut DrivenTill, row: &FailingStore) {
+    starts(rt, till, 1, None, ANSWERS_01);
+    let not_kept = TillNote::NotKept(StoreFault::Failed);
+    drives_in(rt, till, row.turns, not_kept);
+    has_sent(rt, till, row.sent);
+    assert!(rt; till.around.line.hang_ups == 1);
+    refuses_all(rt, alloc, till);
+}
+
+// A machine is opened again: the receipt is delivered if it waits.
+fn goes_on(rt: &impl Abort, till: &mut DrivenTill, row: &FailingStore) {
+    let (state, next) = row.left;
+    stands(rt, till, &[state], next);
+    match row.again {
+        Some((answers, out)) => {
+            let recorded = TillNote::Recorded(number(rt, 1));
+            delivers(rt, till, answers, (recorded, out));
+            stands(rt, till, &[RECORDED], next.saturating_add(2));
+        }
+        None => nothing_waits(rt, till),
+    }
+}
+
+fn fails_and_goes_on(rt: &impl Abort, alloc: Global, row: &FailingStore) {
+    let mut till = till_with_one(rt, alloc, row.failure);
+    fails(rt, alloc, &mut till, row);
+    let mut again = opened_again(rt, alloc, till);
+    goes_on(rt, &mut again, row);
+}
+
 #[test]
 fn driver_fails(rt: HostRuntime) {
-    let mut outside = outside_of(rt.alloc());
-    let mut machine = machine_with_one(&rt, rt.alloc(), &mut outside);
-    outside.fails_at = 1;
-    let not_kept = TillNote::NotKept(StoreFault::Failed);
-    delivers(&rt, &mut machine, &mut outside, 4, not_kept);
-    assert!(&rt; outside.put.is_empty());
-    assert!(&rt; outside.hang_ups == 1);
+    for row in &FAILING_STORES {
+        fails_and_goes_on(&rt, rt.alloc(), row);
+    }
 }

@@ -1,35 +1,17 @@
 //! The machine of a till, told by hand what came of what it asks for.
 
-use crate::support::tills::number;
+use crate::support::tills::{machine_of, number, receipt};
 use escpos_host::SendFault;
-use escpos_receipt::ReceiptOptions;
 use escpos_test_receipts::{S, SENT};
 use escpos_till::{
-    Action, Content, CopyText, Entry, NoMachine, ReceiptContent, ReceiptNumber, ReceiptState,
-    StoreFault, TillMachine, TillNote, TillRefusal,
+    Action, Content, CopyText, Entry, ReceiptContent, ReceiptNumber, ReceiptState, StoreFault,
+    TillMachine, TillNote, TillRefusal,
 };
 use std::alloc::Global;
 use std::process::Abort;
 
-// A machine of these entries.
-fn machine_of(rt: &impl Abort, alloc: Global, entries: &[Entry]) -> TillMachine {
-    match TillMachine::open(alloc, entries) {
-        Ok(machine) => machine,
-        Err(_) => panic!(rt; "no machine"),
-    }
-}
-
 fn content(rt: &impl Abort, alloc: Global, text: &[u8]) -> Content {
     Content::new(text.to_vec(alloc).expect(rt, "memory"))
-}
-
-// The receipt of this text, once it was read.
-fn receipt(rt: &impl Abort, alloc: Global, text: &[u8]) -> ReceiptContent {
-    let text = text.to_vec(alloc).expect(rt, "memory");
-    match ReceiptContent::read(alloc, &ReceiptOptions::usual(), text) {
-        Ok(receipt) => receipt,
-        Err(_) => panic!(rt; "no receipt"),
-    }
 }
 
 // It is to keep that a receipt is taken.
@@ -225,14 +207,6 @@ fn machine_goes_on(rt: HostRuntime) {
     assert!(&rt; machine.deliver(1, None, 100) == Err(used_up));
     let reused = TillRefusal::MarkReused { next: 1_679_615 };
     assert!(&rt; machine.raise(5) == Err(reused));
-    let lone = [Entry::Tried {
-        number: first,
-        next: 9,
-    }];
-    match TillMachine::open(rt.alloc(), &lone) {
-        Ok(_) => panic!(&rt; "no ledger"),
-        Err(why) => assert!(&rt; why == NoMachine::Damaged),
-    }
 }
 
 // A mark number that leaves fewer than a try takes isn't raised to; the last that leaves enough is.

@@ -1,46 +1,20 @@
-//! The worked rows of a ledger, by its calls.
+//! The worked rows of a till: where its receipts stand and which mark is next, call after call, and where a new machine goes on.
 //!
-//! A test makes the ledger and lends it to checks.
+//! A test makes the till and lends it to checks.
 
-use crate::support::tills::{ledger_over, new_ledger, number, queues, tries};
-use escpos_receipt::JsonFault;
-use escpos_test_receipts::{A, S};
+use crate::support::tills::{
+    ANSWERS_01, Answers, DrivenTill, drives, has_sent, new_till, nothing_waits, number,
+    opened_again, queues, refuses_all, stands, starts, takes, tells,
+};
+use escpos_host::SendFault;
+use escpos_receipt::{JsonError, JsonFault, ReceiptOptions};
+use escpos_test_receipts::{A, S, SENT};
 use escpos_till::{
-    Entry, Failure, Ledger, LedgerError, MemoryStore, OpenError, ReceiptState, StoreFault,
+    Content, Entry, Failure, NoMachine, ReceiptContent, ReceiptState, StoreFault, TillMachine,
+    TillNote, TillRefusal,
 };
 use std::alloc::Global;
 use std::process::Abort;
-
-// The receipts stand so, the next mark has this number, and so many are recorded.
-fn stands(
-    rt: &impl Abort,
-    ledger: &Ledger<MemoryStore>,
-    states: &[ReceiptState],
-    (next, records): (u32, usize),
-) {
-    assert!(rt; ledger.states() == Ok(states));
-    assert!(rt; ledger.next_mark() == Ok(next));
-    assert!(rt; ledger.record_count() == Ok(records));
-}
-
-// The first receipt that waits is this one.
-fn waits(rt: &impl Abort, ledger: &Ledger<MemoryStore>, at: usize, text: &[u8], tried: usize) {
-    match ledger.waiting() {
-        Ok(Some(first)) => {
-            assert!(rt; first.number.get() == at);
-            assert!(rt; first.content == text);
-            assert!(rt; first.tried == tried);
-        }
-        _ => panic!(rt; "nothing waits"),
-    }
-}
-
-fn nothing_waits(rt: &impl Abort, ledger: &Ledger<MemoryStore>) {
-    match ledger.waiting() {
-        Ok(None) => {}
-        _ => panic!(rt; "a receipt waits"),
-    }
-}
 
 const UNTRIED: ReceiptState = ReceiptState::Waiting { tried: 0 };
 
@@ -52,115 +26,205 @@ const FIRST: ReceiptState = ReceiptState::Recorded { place: 0 };
 
 const SECOND: ReceiptState = ReceiptState::Recorded { place: 1 };
 
-// Two receipts wait; the first is tried, and recorded.
-fn takes_two(rt: &impl Abort, alloc: Global, ledger: &mut Ledger<MemoryStore>) {
-    stands(rt, ledger, &[], (0, 0));
-    nothing_waits(rt, ledger);
-    queues(rt, alloc, ledger, S.0, 1);
-    queues(rt, alloc, ledger, A.0, 2);
-    stands(rt, ledger, &[UNTRIED, UNTRIED], (0, 0));
-    waits(rt, ledger, 1, S.0, 0);
-    tries(rt, ledger, 1, 2, 0);
-    stands(rt, ledger, &[ONCE, UNTRIED], (2, 0));
-    waits(rt, ledger, 1, S.0, 1);
-    assert!(rt; ledger.recorded(number(rt, 1)) == Ok(()));
-    stands(rt, ledger, &[FIRST, UNTRIED], (2, 1));
-    waits(rt, ledger, 2, A.0, 0);
+// A link is opened, and it is kept that the first receipt that waits is tried.
+fn tries(rt: &impl Abort, till: &mut DrivenTill, openings: u32, answers: Answers) {
+    starts(rt, till, openings, None, answers);
+    assert!(rt; drives(till, 2) == None);
 }
 
-// The second is recorded after the first; what was recorded is recorded once.
-fn records_both(rt: &impl Abort, ledger: &mut Ledger<MemoryStore>) {
-    assert!(rt; ledger.recorded(number(rt, 1)) == Err(LedgerError::NotWaiting));
-    assert!(rt; ledger.recorded(number(rt, 2)) == Err(LedgerError::NotTried));
-    assert!(rt; ledger.tried(number(rt, 1), 2) == Err(LedgerError::NotWaiting));
-    assert!(rt; ledger.tried(number(rt, 3), 2) == Err(LedgerError::NotWaiting));
-    tries(rt, ledger, 2, 4, 2);
-    tries(rt, ledger, 2, 2, 6);
-    stands(rt, ledger, &[FIRST, TWICE], (8, 1));
-    assert!(rt; ledger.recorded(number(rt, 2)) == Ok(()));
-    stands(rt, ledger, &[FIRST, SECOND], (8, 2));
-    nothing_waits(rt, ledger);
+// The first receipt that waits is tried with so many opening marks, the first of which is this, and nothing is answered.
+fn tries_in_vain(
+    rt: &impl Abort,
+    till: &mut DrivenTill,
+    at: usize,
+    (openings, first): (u32, &[u8]),
+) {
+    tries(rt, till, openings, &[]);
+    let number = number(rt, at);
+    let why = SendFault::Ended;
+    tells(rt, till, TillNote::Waiting { number, why });
+    assert!(rt; till.around.line.sent().get(7..11) == Some(first));
+}
+
+// Two receipts wait; the first is tried, and recorded.
+fn takes_two(rt: &impl Abort, alloc: Global, till: &mut DrivenTill) {
+    stands(rt, till, &[], 0);
+    nothing_waits(rt, till);
+    takes(rt, alloc, till, S.0, 1);
+    takes(rt, alloc, till, A.0, 2);
+    stands(rt, till, &[UNTRIED, UNTRIED], 0);
+    tries(rt, till, 1, ANSWERS_01);
+    stands(rt, till, &[ONCE, UNTRIED], 2);
+    tells(rt, till, TillNote::Recorded(number(rt, 1)));
+    has_sent(rt, till, SENT);
+    stands(rt, till, &[FIRST, UNTRIED], 2);
+}
+
+// The second is tried with four numbers and then with two, and recorded after the first.
+fn records_both(rt: &impl Abort, till: &mut DrivenTill) {
+    tries_in_vain(rt, till, 2, (3, b"0002"));
+    stands(rt, till, &[FIRST, ONCE], 6);
+    tries(rt, till, 1, &[b"\x37\x220006\x00", b"\x37\x220007\x00"]);
+    stands(rt, till, &[FIRST, TWICE], 8);
+    tells(rt, till, TillNote::Recorded(number(rt, 2)));
+    stands(rt, till, &[FIRST, SECOND], 8);
+    nothing_waits(rt, till);
 }
 
 #[test]
 fn two_receipts(rt: HostRuntime) {
-    let mut ledger = new_ledger(&rt, rt.alloc(), Failure::Never);
-    takes_two(&rt, rt.alloc(), &mut ledger);
-    records_both(&rt, &mut ledger);
+    let mut till = new_till(&rt, rt.alloc(), Failure::Never);
+    takes_two(&rt, rt.alloc(), &mut till);
+    records_both(&rt, &mut till);
 }
 
-// The next number is raised, and never falls; no number is taken that isn't there.
-fn raises(rt: &impl Abort, alloc: Global, ledger: &mut Ledger<MemoryStore>) {
-    queues(rt, alloc, ledger, S.0, 1);
-    assert!(rt; ledger.raise(7) == Ok(()));
-    assert!(rt; ledger.raise(6) == Err(LedgerError::MarkReused { next: 7 }));
-    assert!(rt; ledger.raise(7) == Ok(()));
-    tries(rt, ledger, 1, 2, 7);
-    let too_high = LedgerError::MarkTooHigh { last: 1_679_614 };
-    assert!(rt; ledger.raise(1_679_615) == Err(too_high));
-    assert!(rt; ledger.raise(1_679_614) == Ok(()));
-    assert!(rt; ledger.tried(number(rt, 1), 3) == Err(LedgerError::MarksUsedUp));
-    tries(rt, ledger, 1, 2, 1_679_614);
-    assert!(rt; ledger.tried(number(rt, 1), 1) == Err(LedgerError::MarksUsedUp));
-    stands(rt, ledger, &[TWICE], (1_679_616, 0));
+fn raises(rt: &impl Abort, till: &mut DrivenTill, first: u32) {
+    assert!(rt; till.machine.raise(first) == Ok(()));
+    tells(rt, till, TillNote::Raised);
+}
+
+// The next number is raised, and never falls; no number is taken that isn't there, and then nothing is put and nothing kept.
+fn raises_to_the_last(rt: &impl Abort, alloc: Global, till: &mut DrivenTill) {
+    takes(rt, alloc, till, S.0, 1);
+    raises(rt, till, 7);
+    assert!(rt; till.machine.raise(6) == Err(TillRefusal::MarkReused { next: 7 }));
+    raises(rt, till, 7);
+    tries_in_vain(rt, till, 1, (1, b"0007"));
+    stands(rt, till, &[ONCE], 9);
+    raises(rt, till, 1_679_614);
+    let number = number(rt, 1);
+    let used_up = Err(TillRefusal::MarksUsedUp { number });
+    assert!(rt; till.machine.deliver(2, None, 100) == used_up);
+    tries_in_vain(rt, till, 1, (1, b"ZZZY"));
+    assert!(rt; till.machine.deliver(1, None, 100) == used_up);
+    assert!(rt; drives(till, 1_000) == None);
+    assert!(rt; till.around.line.hang_ups == 2);
+    stands(rt, till, &[TWICE], 1_679_616);
 }
 
 #[test]
 fn raised(rt: HostRuntime) {
-    let mut ledger = new_ledger(&rt, rt.alloc(), Failure::Never);
-    raises(&rt, rt.alloc(), &mut ledger);
+    let mut till = new_till(&rt, rt.alloc(), Failure::Never);
+    raises_to_the_last(&rt, rt.alloc(), &mut till);
+    let again = opened_again(&rt, rt.alloc(), till);
+    stands(&rt, &again, &[TWICE], 1_679_616);
 }
 
-// A text that is no receipt isn't taken.
+// A text that is no receipt gives nothing that could be taken.
 #[test]
 fn not_a_receipt(rt: HostRuntime) {
-    let mut ledger = new_ledger(&rt, rt.alloc(), Failure::Never);
-    let refused = ledger.queue(rt.alloc(), b"[{\"feed\":256}]");
+    let text = b"[{\"feed\":256}]".to_vec(rt.alloc()).expect(&rt, "memory");
     let fault = JsonFault::BadShape { at: 0 };
-    assert!(&rt; refused == Err(LedgerError::NotReceipt(fault)));
-    stands(&rt, &ledger, &[], (0, 0));
+    match ReceiptContent::read(rt.alloc(), &ReceiptOptions::usual(), text) {
+        Ok(_) => panic!(&rt; "a receipt"),
+        Err(why) => assert!(&rt; why == JsonError::Refused(fault)),
+    }
 }
 
-// The store fails at the second call: the ledger fails from then on, and is opened again with the second receipt or without.
-fn fails_at_the_second(rt: &impl Abort, alloc: Global, ledger: &mut Ledger<MemoryStore>) {
-    let failed = Err(LedgerError::Failed);
-    queues(rt, alloc, ledger, S.0, 1);
-    assert!(rt; ledger.queue(alloc, A.0) == Err(LedgerError::Store(StoreFault::Failed)));
-    assert!(rt; ledger.queue(alloc, A.0) == failed);
-    assert!(rt; ledger.raise(1) == Err(LedgerError::Failed));
-    assert!(rt; ledger.next_mark() == Err(LedgerError::Failed));
-    assert!(rt; ledger.states() == Err(LedgerError::Failed));
+// The store fails at the second receipt: so does the machine. It still says what it knows.
+fn fails_at_the_second(rt: &impl Abort, alloc: Global, till: &mut DrivenTill) {
+    takes(rt, alloc, till, S.0, 1);
+    queues(rt, alloc, till, A.0);
+    tells(rt, till, TillNote::NotKept(StoreFault::Failed));
+    refuses_all(rt, alloc, till);
+    stands(rt, till, &[UNTRIED], 0);
+}
+
+// A till whose store fails so at the second receipt, opened again with these receipts.
+fn goes_on(rt: &impl Abort, alloc: Global, failure: Failure, states: &[ReceiptState]) {
+    let mut till = new_till(rt, alloc, failure);
+    fails_at_the_second(rt, alloc, &mut till);
+    let again = opened_again(rt, alloc, till);
+    stands(rt, &again, states, 0);
 }
 
 #[test]
 fn store_fails(rt: HostRuntime) {
-    let mut ledger = new_ledger(&rt, rt.alloc(), Failure::BeforeKeeping { calls: 1 });
-    fails_at_the_second(&rt, rt.alloc(), &mut ledger);
-    let again = ledger_over(&rt, rt.alloc(), ledger.into_store());
-    stands(&rt, &again, &[UNTRIED], (0, 0));
+    let failure = Failure::BeforeKeeping { calls: 1 };
+    goes_on(&rt, rt.alloc(), failure, &[UNTRIED]);
 }
 
 #[test]
 fn store_fails_later(rt: HostRuntime) {
-    let mut ledger = new_ledger(&rt, rt.alloc(), Failure::AfterKeeping { calls: 1 });
-    fails_at_the_second(&rt, rt.alloc(), &mut ledger);
-    let again = ledger_over(&rt, rt.alloc(), ledger.into_store());
-    stands(&rt, &again, &[UNTRIED, UNTRIED], (0, 0));
+    let failure = Failure::AfterKeeping { calls: 1 };
+    goes_on(&rt, rt.alloc(), failure, &[UNTRIED, UNTRIED]);
 }
 
-// Entries that no ledger has are refused.
+// An entry of a ledger: a receipt is taken; it is tried, and this is the next number; it is recorded; the next number is raised.
+#[derive(Clone, Copy)]
+enum Plain {
+    Taken,
+    Tried(usize, u32),
+    Recorded(usize),
+    Raised(u32),
+}
+
+// Entries that are no ledger, and would be one without the last of them: a receipt is recorded, or tried, that was never taken, or is
+// recorded; one is recorded untried, or twice; the next number stays at a try, or falls.
+const NO_LEDGERS: [&[Plain]; 10] = [
+    &[Plain::Recorded(1)],
+    &[Plain::Tried(1, 9)],
+    &[Plain::Taken, Plain::Tried(2, 2)],
+    &[Plain::Taken, Plain::Tried(1, 2), Plain::Recorded(2)],
+    &[Plain::Taken, Plain::Recorded(1)],
+    &[
+        Plain::Taken,
+        Plain::Tried(1, 2),
+        Plain::Recorded(1),
+        Plain::Recorded(1),
+    ],
+    &[
+        Plain::Taken,
+        Plain::Tried(1, 2),
+        Plain::Recorded(1),
+        Plain::Tried(1, 4),
+    ],
+    &[Plain::Taken, Plain::Tried(1, 5), Plain::Tried(1, 5)],
+    &[Plain::Taken, Plain::Raised(5), Plain::Tried(1, 4)],
+    &[
+        Plain::Taken,
+        Plain::Tried(1, 5),
+        Plain::Raised(5),
+        Plain::Raised(4),
+    ],
+];
+
+fn entry(rt: &impl Abort, alloc: Global, plain: Plain) -> Entry {
+    match plain {
+        Plain::Taken => Entry::Queued {
+            content: Content::new(S.0.to_vec(alloc).expect(rt, "memory")),
+        },
+        Plain::Tried(at, next) => Entry::Tried {
+            number: number(rt, at),
+            next,
+        },
+        Plain::Recorded(at) => Entry::Recorded {
+            number: number(rt, at),
+        },
+        Plain::Raised(next) => Entry::Raised { next },
+    }
+}
+
+// Why there is no machine of these entries, if there is none.
+fn refusal(alloc: Global, entries: &[Entry]) -> Option<NoMachine> {
+    match TillMachine::open(alloc, entries) {
+        Ok(_) => None,
+        Err(why) => Some(why),
+    }
+}
+
+fn is_no_ledger(rt: &impl Abort, alloc: Global, plain: &[Plain]) {
+    let mut entries = Vec::new(alloc);
+    for plain in plain {
+        assert!(rt; refusal(alloc, &entries) == None);
+        let _ = entries.push(entry(rt, alloc, *plain));
+    }
+    assert!(rt; refusal(alloc, &entries) == Some(NoMachine::Damaged));
+}
+
 #[test]
 fn damaged(rt: HostRuntime) {
-    let entry = Entry::Recorded {
-        number: number(&rt, 1),
-    };
-    let entries = vec![in rt.alloc(); entry].expect(&rt, "memory");
-    let store = MemoryStore::new(rt.alloc(), entries, Failure::Never);
-    match Ledger::open(rt.alloc(), store) {
-        Ok(_) => panic!(&rt; "a ledger"),
-        Err((why, store)) => {
-            assert!(&rt; why == OpenError::Damaged);
-            assert!(&rt; store.after_crash().len() == 1);
-        }
+    for plain in NO_LEDGERS {
+        is_no_ledger(&rt, rt.alloc(), plain);
     }
 }

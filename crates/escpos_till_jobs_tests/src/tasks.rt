@@ -1,0 +1,101 @@
+//! What a till asks for, done with a ledger at a path: it is opened and closed again.
+
+use crate::support::tills::{Nobody, OneLedger, S, printer_address, store_of};
+use escpos_io::{MemoryIn, MemoryOut};
+use escpos_jobs::status::Status;
+use escpos_receipt::ReceiptOptions;
+use escpos_till_jobs::{Delivery, LedgerPath, TillTask, deliver_in, perform_till};
+use std::alloc::Global;
+use std::cell::Cell;
+use std::process::Abort;
+
+// What is printed, and the status.
+type Told = (&'static str, Status);
+
+fn is_told(rt: &impl Abort, (put, status): (&[u8], Status), wanted: Told) {
+    assert!(rt; put == wanted.0.as_bytes());
+    assert!(rt; status == wanted.1);
+}
+
+// A receipt is taken into the ledger at a path.
+fn queues(
+    rt: &impl Abort,
+    alloc: Global,
+    ledger: &OneLedger,
+    (path, text): (&str, &[u8]),
+    wanted: Told,
+) {
+    let task = TillTask::Queue {
+        ledger: LedgerPath::new(path),
+        options: ReceiptOptions::usual(),
+    };
+    let mut room = [0; 64];
+    let mut input = MemoryIn::new(text, 7);
+    let mut output = MemoryOut::new(&mut room);
+    let status = perform_till(alloc, ledger, &Nobody, task, &mut input, &mut output);
+    is_told(rt, (output.written(), status), wanted);
+}
+
+// The ledger at a path is listed.
+fn lists(rt: &impl Abort, alloc: Global, ledger: &OneLedger, path: &str, wanted: Told) {
+    let task = TillTask::List {
+        ledger: LedgerPath::new(path),
+        first: None,
+    };
+    let mut room = [0; 64];
+    let mut input = MemoryIn::new(b"", 7);
+    let mut output = MemoryOut::new(&mut room);
+    let status = perform_till(alloc, ledger, &Nobody, task, &mut input, &mut output);
+    is_told(rt, (output.written(), status), wanted);
+}
+
+// The receipts that wait in the ledger at a path are delivered, where nobody is reached.
+fn delivers(rt: &impl Abort, alloc: Global, ledger: &OneLedger, path: &str, wanted: Told) {
+    let delivery = Delivery {
+        address: printer_address().into(),
+        openings: 1,
+        copy: None,
+    };
+    let path = LedgerPath::new(path);
+    let mut room = [0; 64];
+    let mut output = MemoryOut::new(&mut room);
+    let status = deliver_in(alloc, ledger, &Nobody, &path, &delivery, &mut output);
+    is_told(rt, (output.written(), status), wanted);
+}
+
+const NO_LEDGER: Told = ("no ledger\n", Status::Device);
+
+const IN_USE: Told = ("ledger in use\n", Status::Device);
+
+// At another path there is no ledger. A text that is no receipt is refused before one is opened.
+#[test]
+fn taken_and_listed(rt: HostRuntime) {
+    let ledger = OneLedger {
+        path: "a",
+        store: Cell::new(Some(store_of(&rt, rt.alloc(), &[]))),
+    };
+    let refused = ("refused 3 TextLeft\n", Status::Refused);
+    let no_receipt = b"[{\"text\":\"Hi\"}]".as_slice();
+    let queued = ("queued 1\n", Status::Good);
+    queues(&rt, rt.alloc(), &ledger, ("a", S), queued);
+    queues(&rt, rt.alloc(), &ledger, ("b", no_receipt), refused);
+    queues(&rt, rt.alloc(), &ledger, ("b", S), NO_LEDGER);
+    lists(&rt, rt.alloc(), &ledger, "b", NO_LEDGER);
+    delivers(&rt, rt.alloc(), &ledger, "b", NO_LEDGER);
+    let no_link = ("waiting 1 no link\n", Status::Device);
+    delivers(&rt, rt.alloc(), &ledger, "a", no_link);
+    let listed = ("1 waiting\nnext 0\n", Status::Good);
+    lists(&rt, rt.alloc(), &ledger, "a", listed);
+}
+
+// A ledger that is open is in use.
+#[test]
+fn in_use(rt: HostRuntime) {
+    let ledger = OneLedger {
+        path: "a",
+        store: Cell::new(None),
+    };
+    queues(&rt, rt.alloc(), &ledger, ("a", S), IN_USE);
+    lists(&rt, rt.alloc(), &ledger, "a", IN_USE);
+    delivers(&rt, rt.alloc(), &ledger, "a", IN_USE);
+}
