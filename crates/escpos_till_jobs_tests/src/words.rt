@@ -13,7 +13,7 @@ use escpos_jobs::status::Status;
 use escpos_receipt::ReceiptOptions;
 use escpos_text::Replacement;
 use escpos_till::{
-    CopyText, Failure, MemoryStore, NoStore, ReceiptContent, Surroundings, TillMachine,
+    CopyText, Entry, Failure, MemoryStore, NoStore, ReceiptContent, Surroundings, TillMachine,
 };
 use escpos_till_jobs::{
     AtAddress, Delivery, LinkLine, NoLine, deliver_waiting, deliver_with, list, list_with,
@@ -383,4 +383,24 @@ fn damaged(rt: HostRuntime) {
     let nothing = (b"".as_slice(), b"".as_slice());
     let store = delivers_over_memory(&rt, rt.alloc(), store, nothing, no_ledger);
     assert!(&rt; store.after_crash().len() == 1);
+}
+
+// A ledger of so many entries takes a receipt, and is listed.
+fn holds_many(rt: &impl Abort, alloc: Global, count: usize) {
+    let mut entries = Vec::new(alloc);
+    for _ in 0..count {
+        assert!(rt; entries.push(Entry::Raised { next: 5 }).is_ok());
+    }
+    let store = MemoryStore::new(alloc, entries, Failure::Never);
+    let store = queues(rt, alloc, store, S, ("queued 1\n", Status::Good));
+    let listed = ("1 waiting\nnext 9\n", Status::Good);
+    lists(rt, alloc, store, Some(9), listed);
+}
+
+// No number of entries is too high.
+#[test]
+fn many_entries(rt: HostRuntime) {
+    for count in [1, 255, 256, 1_000, 65_536] {
+        holds_many(&rt, rt.alloc(), count);
+    }
 }
