@@ -20,7 +20,7 @@ use Rattle.escpos_till.specs.declared.machine.Then.TheVariants as then
 use Rattle.escpos_till.specs.declared.machine.TillNote.{TillNote}
 use Rattle.escpos_till.specs.declared.machine.TillNote.TheVariants as note
 use Rattle.escpos_till.specs.declared.store.StoreFault.{StoreFault}
-use Rattle.escpos_till.specs.Driver.{Breaks, Deed, DidAll, Ends, Gives, HangsUp, HearsAll, IsGiven, IsTold, Keeps, Links, Loses, Misses, Puts, RanFor, RanTo, Tells, Turns}
+use Rattle.escpos_till.specs.Driver.{Breaks, Deed, DidAll, Ends, Gives, HangsUp, HearsAll, IsGiven, IsTold, Keeps, Links, Loses, Misses, Puts, RanFor, RanTo, Tells, TellsNothing, Turns}
 use Rattle.escpos_till.specs.Machine.{Came, Ended, Follows, GoesOn, HearsOne, Kept, MachineView, Opens, Rests, Submits, Turns as Turned, Unsure, connected, hung_up, lost, not_connected, put}
 
 -- 1 while a machine talks.
@@ -204,13 +204,17 @@ goes_on m Misses after never (due, is, done) =
 goes_on m (Puts bytes) after never (count, out, done) =
     λ rests. subst (λ (k : MachineView). Rests k.stage) (done ∙ ap (λ s. put s count m) out.talks) rests
 goes_on m (Breaks bytes why) after never (count, out, ended) = ended_not m.stage out.talk why (put m.stage count m) after out.talks ended
-goes_on m (Gives bytes) after never (waits, given) = given_not m waits.talk bytes after waits.talks given
-goes_on m (Ends why) after never (waits, ended) = ended_not m.stage waits.talk why m after waits.talks ended
+goes_on m (Gives room bytes) after never (waits, within, given) = given_not m waits.talk bytes after waits.talks given
+goes_on m (Ends why) after never (room, waits, ended) = ended_not m.stage waits.talk why m after waits.talks ended
 goes_on m HangsUp after never (n, is, done) =
     λ rests. subst (λ (k : MachineView). Rests k.stage) (done ∙ ap (λ s. hung_up s m) is) rests
 goes_on m (Tells n) after never turns = absurd (never tt)
 
 -- ## Runs
+
+quiet_more : (ds : List Deed) (d : Deed) → TellsNothing ds → (IsTold d → ⊥) → TellsNothing (ds ++ d ∷ [])
+quiet_more [] d quiet never = (never, tt)
+quiet_more (x ∷ xs) d (first, rest) never = (first, quiet_more xs d rest never)
 
 -- One more deed.
 pub did_more : {D : Type 0} (did : D → Deed → D → Type 0) (m : MachineView) (old : D) (ds : List Deed) (mid : MachineView) (between : D) (d : Deed) (after : MachineView) (new : D)
@@ -221,13 +225,14 @@ did_more did m old (x ∷ xs) mid between d after new (one, other, turned, well,
     (one, other, turned, well, did_x, did_more did one other xs mid between d after new rest turns sound done)
 
 pub ran_none : {D : Type 0} (did : D → Deed → D → Type 0) (m : MachineView) (old : D) → RanFor did m old m old 0
-ran_none did m old = record { run = record { deeds = []; did_all = (refl, refl) }; turns = refl }
+ran_none did m old = record { run = record { deeds = []; did_all = (refl, refl) }; turns = refl; quiet = tt }
 
 pub ran_more : {D : Type 0} (did : D → Deed → D → Type 0) (m : MachineView) (old : D) (mid : MachineView) (between : D) (count : ℕ) (d : Deed) (after : MachineView) (new : D)
-    → RanFor did m old mid between count → Turns mid d after → IsSound after.host → did between d new → RanFor did m old after new (count + 1)
-ran_more did m old mid between count d after new ran turns sound done = record {
+    → RanFor did m old mid between count → (IsTold d → ⊥) → Turns mid d after → IsSound after.host → did between d new → RanFor did m old after new (count + 1)
+ran_more did m old mid between count d after new ran never turns sound done = record {
   run = record { deeds = ran.run.deeds ++ d ∷ []; did_all = did_more did m old ran.run.deeds mid between d after new ran.run.did_all turns sound done };
   turns = length-append ran.run.deeds (d ∷ []) ∙ ap (λ n. n + 1) ran.turns;
+  quiet = quiet_more ran.run.deeds d ran.quiet never;
 }
 
 -- At the end its owner is told.

@@ -25,8 +25,8 @@ pub data Deed : Type 0 where
   -- these bytes are put; or not all of them are, and the link is of no more use
   Puts : List ℕ → Deed
   Breaks : List ℕ → SendFault → Deed
-  -- these bytes of answers came; or no more come
-  Gives : List ℕ → Deed
+  -- with room for so many, these bytes of answers came; or no more come
+  Gives : ℕ → List ℕ → Deed
   Ends : SendFault → Deed
   -- the link is given up
   HangsUp : Deed
@@ -51,20 +51,22 @@ abbrev pub IsGiven : MachineView → List ℕ → MachineView → Type 0
 IsGiven m [] after = Came m.stage [] 0 m after
 IsGiven m bytes after = (counts : List ℕ) × HearsAll m bytes counts after
 
--- The first bytes that are to be put.
+-- The first bytes that are to be put, at least one.
 pub record IsNextOut (m : MachineView) (bytes : List ℕ) (count : ℕ) : Type 0 where
   pub talk : Talk
   pub talks : m.stage ≡ stage.Talking talk
   pub some : m.host.out ≢ []
+  pub positive : 0 < count
   pub within : count ≤ length m.host.out
   pub bytes_are : bytes ≡ take count m.host.out
 
--- It waits, and may be given so many bytes.
-pub record IsWaiting (m : MachineView) (count : ℕ) : Type 0 where
+-- It waits for answers, with room for so many bytes of them: for some, unless none may be read any more.
+pub record IsWaiting (m : MachineView) (room : ℕ) : Type 0 where
   pub talk : Talk
   pub talks : m.stage ≡ stage.Talking talk
   pub nothing_out : m.host.out ≡ []
-  pub within : count ≤ talk.left
+  pub within : room ≤ talk.left
+  pub some : room ≡ 0 → talk.left ≡ 0
 
 -- The machine asks for this deed, and is told what came of it.
 abbrev pub Turns : MachineView → Deed → MachineView → Type 0
@@ -74,8 +76,8 @@ Turns m Links after = (due : Due) × (m.stage ≡ stage.Connecting due) × (afte
 Turns m Misses after = (due : Due) × (m.stage ≡ stage.Connecting due) × (after ≡ not_connected m.stage m)
 Turns m (Puts bytes) after = (count : ℕ) × IsNextOut m bytes count × (after ≡ put m.stage count m)
 Turns m (Breaks bytes why) after = (count : ℕ) × IsNextOut m bytes count × Ended m.stage why (put m.stage count m) after
-Turns m (Gives bytes) after = IsWaiting m (length bytes) × IsGiven m bytes after
-Turns m (Ends why) after = IsWaiting m 0 × Ended m.stage why m after
+Turns m (Gives room bytes) after = IsWaiting m room × (length bytes ≤ room) × IsGiven m bytes after
+Turns m (Ends why) after = (room : ℕ) × IsWaiting m room × Ended m.stage why m after
 Turns m HangsUp after = (note : TillNote) × (m.stage ≡ stage.HangingUp note) × (after ≡ hung_up m.stage m)
 Turns m (Tells note) after = (m.stage ≡ stage.Telling note) × (after ≡ told m.stage m)
 
@@ -98,10 +100,16 @@ pub record RanTo {D : Type 0} (did : D → Deed → D → Type 0) (m : MachineVi
   pub did_all : DidAll did m old (before ++ Tells n ∷ []) after new
   pub turns : length before < most
 
--- A run with so many deeds.
+-- Its owner is told nothing by these.
+abbrev pub TellsNothing : List Deed → Type 0
+TellsNothing [] = Unit {0}
+TellsNothing (d ∷ ds) = (IsTold d → ⊥) × TellsNothing ds
+
+-- A run with so many deeds, by which its owner is told nothing.
 pub record RanFor {D : Type 0} (did : D → Deed → D → Type 0) (m : MachineView) (old : D) (after : MachineView) (new : D) (count : ℕ) : Type 0 where
   pub run : Ran did m old after new
   pub turns : length run.deeds ≡ count
+  pub quiet : TellsNothing run.deeds
 
 -- ## What an owner asks for
 
@@ -131,3 +139,14 @@ pub record GivesUp {D : Type 0} (did : D → Deed → D → Type 0) (m : Machine
   pub asked : MachineView
   pub calls : Calls m call asked
   pub runs : RanFor did asked old after new most
+
+-- A call, and what its owner was told of it.
+pub record Answered : Type 0 where
+  pub call : Call
+  pub note : TillNote
+
+-- These calls were served, one after another, and between them nothing was done.
+pub data ServesAll {D : Type 0} (did : D → Deed → D → Type 0) (most : ℕ) (m : MachineView) (old : D) : List Answered → MachineView → D → Type 0 where
+  none : ServesAll did most m old [] m old
+  more : (before : List Answered) (mid : MachineView) (between : D) (last : Answered) (after : MachineView) (new : D) (all : List Answered) → ServesAll did most m old before mid between
+      → Serves did mid between last.call last.note most after new → all ≡ before ++ last ∷ [] → ServesAll did most m old all after new

@@ -1,6 +1,7 @@
 -- What is done with a store and a line to a printer.
 use Rattle.std.specs.Prelude.{◌≡◌, ◌⊎◌, List, [], ◌∷◌, ◌++◌}
 use Rattle.escpos_till.specs.declared.entry.Entry.{Entry}
+use Rattle.escpos_till.specs.declared.store.StoreFault.{StoreFault}
 use Rattle.escpos_till.specs.declared.surroundings.Surroundings.{Surroundings}
 use Rattle.escpos_till.specs.Driver.{Deed, Keeps, Loses, Tells}
 
@@ -9,14 +10,15 @@ pub record Appends {S : Type 0} (faithful : S → Type 0) (holds : S → List En
   pub was_faithful : faithful new → faithful old
   pub kept : faithful new → (entries : List Entry) → holds old entries → holds new (entries ++ e ∷ [])
 
--- If the store has done what it was asked to, a crash leaves what it held, with the entry or without.
-pub record MayAppend {S : Type 0} (faithful : S → Type 0) (holds leaves : S → List Entry → Type 0) (old : S) (e : Entry) (new : S) : Type 0 where
+-- The store says why it couldn't tell. If it has done what it was asked to, a crash leaves what it held, with the entry or without.
+pub record MayAppend {S : Type 0} (faithful : S → Type 0) (holds leaves : S → List Entry → Type 0) (says : S → StoreFault → Type 0) (old : S) (e : Entry) (why : StoreFault) (new : S) : Type 0 where
+  pub said : says new why
   pub was_faithful : faithful new → faithful old
   pub kept_or_not : faithful new → (entries left : List Entry) → holds old entries → leaves new left → (left ≡ entries) ⊎ (left ≡ entries ++ e ∷ [])
 
 -- This was done, and then it is so: by the store, or over the line, and the other is as it was. To tell the owner changes neither.
-unfoldable pub Did : {S L : Type 0} → (S → Type 0) → (S → List Entry → Type 0) → (S → List Entry → Type 0) → (L → Deed → L → Type 0) → Surroundings S L → Deed → Surroundings S L → Type 0
-Did faithful holds leaves did old (Keeps e) new = Appends faithful holds old.store e new.store × (new.line ≡ old.line)
-Did faithful holds leaves did old (Loses e why) new = MayAppend faithful holds leaves old.store e new.store × (new.line ≡ old.line)
-Did faithful holds leaves did old (Tells note) new = new ≡ old
-Did faithful holds leaves did old deed new = did old.line deed new.line × (new.store ≡ old.store)
+unfoldable pub Did : {S L : Type 0} → (S → Type 0) → (S → List Entry → Type 0) → (S → List Entry → Type 0) → (S → StoreFault → Type 0) → (L → Deed → L → Type 0) → Surroundings S L → Deed → Surroundings S L → Type 0
+Did faithful holds leaves says did old (Keeps e) new = Appends faithful holds old.store e new.store × (new.line ≡ old.line)
+Did faithful holds leaves says did old (Loses e why) new = MayAppend faithful holds leaves says old.store e why new.store × (new.line ≡ old.line)
+Did faithful holds leaves says did old (Tells note) new = new ≡ old
+Did faithful holds leaves says did old deed new = did old.line deed new.line × (new.store ≡ old.store)

@@ -38,9 +38,9 @@ pub fn drive<S: Store, L: PrinterLine>(
     around: &mut Surroundings<S, L>,
     most: u32,
 ) -> Option<TillNote>
-    ensures told { IfSome result (λ note. RanTo (Did S.faithful S.holds S.leaves L.did) machine.old around.old note most machine.new around.new) }
+    ensures told { IfSome result (λ note. RanTo (Did S.faithful S.holds S.leaves S.says L.did) machine.old around.old note most machine.new around.new) }
     ensures not_told { result ≡ None → (Rests machine.old.stage × (machine.new ≡ machine.old) × (around.new ≡ around.old))
-        ⊎ RanFor (Did S.faithful S.holds S.leaves L.did) machine.old around.old machine.new around.new most }
+        ⊎ RanFor (Did S.faithful S.holds S.leaves S.says L.did) machine.old around.old machine.new around.new most }
 {
     for _ in 0..most {
         match turn(machine, around) {
@@ -57,8 +57,8 @@ fn turn<S: Store, L: PrinterLine>(
     machine: &mut TillMachine,
     around: &mut Surroundings<S, L>,
 ) -> Turned
-    ensures turned { result ≡ Turned.Done → (deed : Deed) × (IsTold deed → ⊥) × Turns machine.old deed machine.new × Did S.faithful S.holds S.leaves L.did around.old deed around.new }
-    ensures tells { (note : TillNote) → result ≡ Turned.Tells note → Turns machine.old (Tells note) machine.new × Did S.faithful S.holds S.leaves L.did around.old (Tells note) around.new }
+    ensures turned { result ≡ Turned.Done → (deed : Deed) × (IsTold deed → ⊥) × Turns machine.old deed machine.new × Did S.faithful S.holds S.leaves S.says L.did around.old deed around.new }
+    ensures tells { (note : TillNote) → result ≡ Turned.Tells note → Turns machine.old (Tells note) machine.new × Did S.faithful S.holds S.leaves S.says L.did around.old (Tells note) around.new }
     ensures sound { IsSound machine.new.host }
     ensures rests { result ≡ Turned.Rests → (machine.new ≡ machine.old) × (around.new ≡ around.old) × Rests machine.old.stage }
 {
@@ -73,8 +73,8 @@ fn act<S: Store, L: PrinterLine>(
     machine: &mut TillMachine,
     around: &mut Surroundings<S, L>,
 ) -> Turned
-    ensures turned { result ≡ Turned.Done → (deed : Deed) × (IsTold deed → ⊥) × Turns machine.old deed machine.new × Did S.faithful S.holds S.leaves L.did around.old deed around.new }
-    ensures tells { (note : TillNote) → result ≡ Turned.Tells note → Turns machine.old (Tells note) machine.new × Did S.faithful S.holds S.leaves L.did around.old (Tells note) around.new }
+    ensures turned { result ≡ Turned.Done → (deed : Deed) × (IsTold deed → ⊥) × Turns machine.old deed machine.new × Did S.faithful S.holds S.leaves S.says L.did around.old deed around.new }
+    ensures tells { (note : TillNote) → result ≡ Turned.Tells note → Turns machine.old (Tells note) machine.new × Did S.faithful S.holds S.leaves S.says L.did around.old (Tells note) around.new }
     ensures rests { result ≡ Turned.Rests → (machine.new ≡ machine.old) × (around.new ≡ around.old) × Rests machine.old.stage }
 {
     match machine.asks() {
@@ -106,7 +106,7 @@ fn act<S: Store, L: PrinterLine>(
 // Puts the next bytes.
 fn put_out<S: Store, L: PrinterLine>(machine: &mut TillMachine, around: &mut Surroundings<S, L>)
     requires talks { (talk : Talk) × (machine.old.stage ≡ stage.Talking talk) × (machine.old.host.out ≢ []) }
-    ensures { (deed : Deed) × (IsTold deed → ⊥) × Turns machine.old deed machine.new × Did S.faithful S.holds S.leaves L.did around.old deed around.new }
+    ensures { (deed : Deed) × (IsTold deed → ⊥) × Turns machine.old deed machine.new × Did S.faithful S.holds S.leaves S.says L.did around.old deed around.new }
 {
     let mut room = [0; PIECE_BYTES];
     let count = machine.take_out(&mut room);
@@ -122,7 +122,7 @@ fn wait<S: Store, L: PrinterLine>(
     most: u32,
 )
     requires talks { (talk : Talk) × (machine.old.stage ≡ stage.Talking talk) × (machine.old.host.out ≡ []) × (talk.left ≡ most) }
-    ensures { (deed : Deed) × (IsTold deed → ⊥) × Turns machine.old deed machine.new × Did S.faithful S.holds S.leaves L.did around.old deed around.new }
+    ensures { (deed : Deed) × (IsTold deed → ⊥) × Turns machine.old deed machine.new × Did S.faithful S.holds S.leaves S.says L.did around.old deed around.new }
 {
     let mut room = [0; PIECE_BYTES];
     let most = PIECE_BYTES.min(most as usize);

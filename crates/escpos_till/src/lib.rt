@@ -1,4 +1,8 @@
-//! The till's ledger.
+//! A till with one printer: its ledger, and the machine that says what is to be done for it.
+//!
+//! `entry`, `state` and `waiting` have what a ledger says, `book` what a machine knows of it, and `store` where its entries are
+//! kept. `machine` is the till itself, over values alone; `driver` does what it asks for, over the store and the line of
+//! `surroundings`.
 #![tactic(auto)]
 
 mod book;

@@ -7,8 +7,9 @@
 //! A crash in the middle of a call is seen as a call that isn't answered with `Ok`: what it leaves is what a crash may leave
 //! after `Err`.
 
-ghost use Rattle.std.specs.Prelude.{◌≡◌, ◌⊎◌, List, [], ◌∷◌, ◌++◌, IfOk, OnOk, OnErr};
+ghost use Rattle.std.specs.Prelude.{◌≡◌, ◌⊎◌, List, [], ◌∷◌, ◌++◌, IfErr, IfOk, OnOk, OnErr};
 ghost use Rattle.escpos_till.specs.declared.entry.Entry.{Entry};
+ghost use Rattle.escpos_till.specs.declared.store.StoreFault.{StoreFault as Why};
 
 use crate::entry::Entry;
 use std::alloc::Global;
@@ -46,20 +47,25 @@ pub trait Store {
     // A crash at this moment may leave these entries.
     ghost leaves: { Self → List Entry → Type 0 };
 
+    // The store says that this is why its last call didn't do what it was asked to.
+    ghost says: { Self → Why → Type 0 };
+
     /// Adds an entry after those that are there. At `Ok` it would outlive a crash. At `Err` it may have been added or not.
     fn append(&mut self, entry: &Entry) -> Result<(), StoreFault>
         ensures was_faithful { faithful self.new → faithful self.old }
         ensures kept { OnOk result (faithful self.new → (entries : List Entry) → holds self.old entries
             → holds self.new (entries ++ entry.now ∷ [])) }
         ensures kept_or_not { OnErr result (faithful self.new → (entries left : List Entry) → holds self.old entries
-            → leaves self.new left → (left ≡ entries) ⊎ (left ≡ entries ++ entry.now ∷ [])) };
+            → leaves self.new left → (left ≡ entries) ⊎ (left ≡ entries ++ entry.now ∷ [])) }
+        ensures says { IfErr result (λ why. says self.new why) };
 
     /// The entries that the store holds, in order. They stay, whatever the result.
     fn entries(&mut self, alloc: Global) -> Result<Vec<Entry>, StoreFault>
         ensures was_faithful { faithful self.new → faithful self.old }
         ensures read { IfOk result (λ read. faithful self.new → holds self.old read.items × holds self.new read.items) }
         ensures unread { OnErr result (faithful self.new → (entries left : List Entry) → holds self.old entries
-            → leaves self.new left → left ≡ entries) };
+            → leaves self.new left → left ≡ entries) }
+        ensures says { IfErr result (λ why. says self.new why) };
 
     // A store holds one list of entries.
     ghost one_list: { (s : Self) (entries others : List Entry) → faithful s → holds s entries → holds s others → entries ≡ others };

@@ -30,7 +30,7 @@ pub trait PrinterLine {
     /// Waits for bytes of answers, moves them to the start of `room`, and returns how many there are. With 0, nothing came.
     fn pull(&mut self, room: &mut [u8]) -> Result<usize, SendFault>
         ensures within { IfOk result (λ count. count ≤ length room.old) }
-        ensures gives { IfOk result (λ count. did self.old (Gives (take count room.new)) self.new) }
+        ensures gives { IfOk result (λ count. did self.old (Gives (length room.old) (take count room.new)) self.new) }
         ensures ends { IfErr result (λ why. did self.old (Ends why) self.new) };
 
     /// Gives the link up.
@@ -51,8 +51,8 @@ impl<S: Store, L: PrinterLine> Surroundings<S, L> {
     /// Keeps an entry in the store.
     #[tactic(auto, unfolding(crate::specs::Surroundings::Did))]
     pub(crate) fn append(&mut self, entry: &Entry) -> Result<(), StoreFault>
-        ensures keeps { OnOk result (Did S.faithful S.holds S.leaves L.did self.old (Keeps entry.now) self.new) }
-        ensures loses { IfErr result (λ why. Did S.faithful S.holds S.leaves L.did self.old (Loses entry.now why) self.new) }
+        ensures keeps { OnOk result (Did S.faithful S.holds S.leaves S.says L.did self.old (Keeps entry.now) self.new) }
+        ensures loses { IfErr result (λ why. Did S.faithful S.holds S.leaves S.says L.did self.old (Loses entry.now why) self.new) }
     {
         self.store.append(entry)
     }
@@ -60,8 +60,8 @@ impl<S: Store, L: PrinterLine> Surroundings<S, L> {
     /// Opens a link over the line.
     #[tactic(auto, unfolding(crate::specs::Surroundings::Did))]
     pub(crate) fn connect(&mut self) -> bool
-        ensures links { IsTrue result → Did S.faithful S.holds S.leaves L.did self.old Links self.new }
-        ensures misses { ¬ IsTrue result → Did S.faithful S.holds S.leaves L.did self.old Misses self.new }
+        ensures links { IsTrue result → Did S.faithful S.holds S.leaves S.says L.did self.old Links self.new }
+        ensures misses { ¬ IsTrue result → Did S.faithful S.holds S.leaves S.says L.did self.old Misses self.new }
     {
         self.line.connect()
     }
@@ -69,8 +69,8 @@ impl<S: Store, L: PrinterLine> Surroundings<S, L> {
     /// Puts bytes on the link.
     #[tactic(auto, unfolding(crate::specs::Surroundings::Did))]
     pub(crate) fn put(&mut self, bytes: &[u8]) -> Result<(), SendFault>
-        ensures puts { OnOk result (Did S.faithful S.holds S.leaves L.did self.old (Puts bytes.now) self.new) }
-        ensures breaks { IfErr result (λ why. Did S.faithful S.holds S.leaves L.did self.old (Breaks bytes.now why) self.new) }
+        ensures puts { OnOk result (Did S.faithful S.holds S.leaves S.says L.did self.old (Puts bytes.now) self.new) }
+        ensures breaks { IfErr result (λ why. Did S.faithful S.holds S.leaves S.says L.did self.old (Breaks bytes.now why) self.new) }
     {
         self.line.put(bytes)
     }
@@ -79,8 +79,8 @@ impl<S: Store, L: PrinterLine> Surroundings<S, L> {
     #[tactic(auto, unfolding(crate::specs::Surroundings::Did))]
     pub(crate) fn pull(&mut self, room: &mut [u8]) -> Result<usize, SendFault>
         ensures within { IfOk result (λ count. count ≤ length room.old) }
-        ensures gives { IfOk result (λ count. Did S.faithful S.holds S.leaves L.did self.old (Gives (take count room.new)) self.new) }
-        ensures ends { IfErr result (λ why. Did S.faithful S.holds S.leaves L.did self.old (Ends why) self.new) }
+        ensures gives { IfOk result (λ count. Did S.faithful S.holds S.leaves S.says L.did self.old (Gives (length room.old) (take count room.new)) self.new) }
+        ensures ends { IfErr result (λ why. Did S.faithful S.holds S.leaves S.says L.did self.old (Ends why) self.new) }
     {
         self.line.pull(room)
     }
@@ -88,7 +88,7 @@ impl<S: Store, L: PrinterLine> Surroundings<S, L> {
     /// Gives the link up.
     #[tactic(auto, unfolding(crate::specs::Surroundings::Did))]
     pub(crate) fn hang_up(&mut self)
-        ensures { Did S.faithful S.holds S.leaves L.did self.old HangsUp self.new }
+        ensures { Did S.faithful S.holds S.leaves S.says L.did self.old HangsUp self.new }
     {
         self.line.hang_up();
     }
@@ -96,6 +96,6 @@ impl<S: Store, L: PrinterLine> Surroundings<S, L> {
     // Proof only: gives the caller this fact: to tell the owner changes neither.
     #[tactic(auto, unfolding(crate::specs::Surroundings::Did))]
     pub(crate) fn tells(&self)
-        ensures { (note : TillNote) → Did S.faithful S.holds S.leaves L.did self.now (Tells note) self.now }
+        ensures { (note : TillNote) → Did S.faithful S.holds S.leaves S.says L.did self.now (Tells note) self.now }
     {}
 }
