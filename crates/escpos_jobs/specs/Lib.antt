@@ -14,6 +14,7 @@ pub mod Refusal
 pub mod Image
 pub mod Encode
 pub mod Links
+pub mod PrinterLinks
 pub mod Send
 pub mod Conditions
 pub mod PrinterStatus
@@ -27,3 +28,4 @@ pub mod Draw
 pub mod DrawSteps
 pub mod LastText
 pub mod ScriptLines
+pub mod Waits

@@ -4,6 +4,7 @@ ghost use Rattle.std.specs.Prelude.{◌≡◌, ◌↔◌, ◌≤◌, ◌++◌, d
 ghost use Rattle.std.specs.Net.Grammar.{IsSocketText};
 ghost use Rattle.escpos_jobs.specs.Address.{IsAddress, IsPort, after_colon, are_all, before_colon, is_device_text, is_host_name};
 ghost use Rattle.escpos_jobs.specs.Address.{is_host_character, is_number_character};
+ghost use Rattle.escpos_jobs.specs.PrinterLinks.{IsByDevice, Suits};
 
 use crate::printer_link::{PrinterLink, Printers};
 use itoa::Buffer;
@@ -103,7 +104,9 @@ impl Address {
     }
 
     /// Connects to it, or opens its file. Each address of a name is tried in turn; the error is that of the last, or of the look-up.
-    pub fn connect<N: Printers>(&self, net: &N) -> io::Result<PrinterLink> {
+    pub fn connect<N: Printers>(&self, net: &N) -> io::Result<PrinterLink>
+        ensures { IfOk result (λ link. Suits self.now link) }
+    {
         match self {
             Address::Numeric(address) => {
                 PrinterLink::over_tcp(TcpStream::connect(net, *address)?)
@@ -112,7 +115,8 @@ impl Address {
                 PrinterLink::over_tcp(TcpStream::connect(net, name.text()?)?)
             }
             Address::Device(file) => {
-                Ok(PrinterLink::by_device(net.open_device(path_of(file.text()?), None)?))
+                let device = net.open_device(path_of(file.text()?), None)?;
+                Ok(PrinterLink::by_device(device))
             }
         }
     }
@@ -121,7 +125,9 @@ impl Address {
     pub fn listen<N: Net<Stream = TcpStream, Listener = TcpListener>>(
         &self,
         net: &N,
-    ) -> io::Result<TcpListener> {
+    ) -> io::Result<TcpListener>
+        ensures { IfOk result (λ _. ¬ IsByDevice self.now) }
+    {
         match self {
             Address::Numeric(address) => TcpListener::bind(net, *address),
             Address::Named(name) => TcpListener::bind(net, name.text()?),

@@ -1,5 +1,7 @@
 //! A printer's device file, such as `/dev/usb/lp0`, as both ways of a link.
 
+ghost use Rattle.std.specs.Prelude.{◌≡◌, IfOk};
+
 use mio::unix::SourceFd;
 use mio::{Events, Interest, Poll, Token};
 use std::alloc::Global;
@@ -31,7 +33,9 @@ impl DeviceFile {
         alloc: Global,
         path: &str,
         limit: Option<Duration>,
-    ) -> io::Result<DeviceFile> {
+    ) -> io::Result<DeviceFile>
+        ensures { IfOk result (λ file. (file.reading.limit ≡ limit) × (file.writing.limit ≡ limit)) }
+    {
         let file = OpenOptions::new().read(true).write(true).open(net, path)?;
         if os::set_nonblocking(file.as_raw_fd(), true) != 0 {
             return Err(io::Error::from(ErrorKind::Unsupported));
@@ -64,7 +68,9 @@ impl DeviceEnd {
         file: File,
         interest: Interest,
         limit: Option<Duration>,
-    ) -> io::Result<DeviceEnd> {
+    ) -> io::Result<DeviceEnd>
+        ensures { IfOk result (λ end. end.limit ≡ limit) }
+    {
         let poll = Poll::new(net)?;
         poll.registry()
             .register(&mut SourceFd(&file.as_raw_fd()), Token(0), interest)?;

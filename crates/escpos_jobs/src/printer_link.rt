@@ -1,5 +1,8 @@
 //! A link to a printer, over TCP or by its device file.
 
+ghost use Rattle.std.specs.Prelude.{◌≡◌, IfOk};
+ghost use Rattle.escpos_jobs.specs.PrinterLinks.{IsOverTcp};
+
 use crate::device_file::{DeviceEnd, DeviceFile};
 use std::io;
 use std::io::{ErrorKind, Read, Write};
@@ -32,7 +35,9 @@ pub struct PrinterLink {
 
 impl PrinterLink {
     /// A link over TCP. What is put on it goes out at once; a stream that can't do so is used as it is.
-    pub fn over_tcp(stream: TcpStream) -> io::Result<PrinterLink> {
+    pub fn over_tcp(stream: TcpStream) -> io::Result<PrinterLink>
+        ensures { IfOk result (λ link. IsOverTcp link) }
+    {
         let _ = stream.set_nodelay(true);
         let other = stream.try_clone()?;
         Ok(PrinterLink {
@@ -42,7 +47,10 @@ impl PrinterLink {
     }
 
     /// A link by a device file.
-    pub fn by_device(file: DeviceFile) -> PrinterLink {
+    pub fn by_device(file: DeviceFile) -> PrinterLink
+        ensures reader { result.reader ≡ LinkReader.Device file.reading }
+        ensures writer { result.writer ≡ LinkWriter.Device file.writing }
+    {
         let DeviceFile { reading, writing } = file;
         PrinterLink {
             reader: LinkReader::Device(reading),

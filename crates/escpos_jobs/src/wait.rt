@@ -1,5 +1,8 @@
 //! Waits that end: no wait for a printer lasts longer than a time that was given.
 
+ghost use Rattle.std.specs.Prelude.{◌≡◌};
+ghost use Rattle.escpos_jobs.specs.Waits.{IsWithin};
+
 use crate::device_file::DeviceFile;
 use crate::printer_link::Printers;
 use std::io;
@@ -9,14 +12,16 @@ use std::time::Duration;
 /// A network whose connections are made within a time, and over whose links no read waits longer than that for a byte, and no
 /// write to put one. A stream that can't be told so isn't connected, and a time of 0 makes no link.
 #[derive(Drop)]
-pub struct Within<'n, N: Net> {
+pub struct Within<'n, N> {
     net: &'n N,
     time: Duration,
 }
 
 impl<'n, N: Net> Within<'n, N> {
     /// The network `net`, with waits of at most so many seconds.
-    pub fn new(net: &'n N, seconds: u32) -> Self {
+    pub fn new(net: &'n N, seconds: u32) -> Self
+        ensures { IsWithin net.now seconds result }
+    {
         Within {
             net,
             time: Duration::from_secs(u64::from(seconds)),

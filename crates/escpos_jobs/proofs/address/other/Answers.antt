@@ -1,4 +1,4 @@
-use Rattle.std.proofs.Common.{◌≡◌, ◌∙◌, Some, ap, sym}
+use Rattle.std.proofs.Common.{◌∙◌, Some, ap, sym}
 use Rattle.escpos_jobs.specs.Address.{is_device_text}
 use Rattle.escpos_jobs.proofs.Addresses.{only_device, only_named}
 use Rattle.escpos_jobs.proofs.address.other.Goals as goal
