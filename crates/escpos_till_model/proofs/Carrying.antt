@@ -109,7 +109,7 @@ abbrev pub IsQuiet : Stage → Type 0
 IsQuiet (stage.Talking talk) = ⊥
 IsQuiet s = Unit {0}
 
-quiet_on : (s : Stage) (h : HostView) (links : List Carried) → IsQuiet s → TalksOn s h links
+pub quiet_on : (s : Stage) (h : HostView) (links : List Carried) → IsQuiet s → TalksOn s h links
 quiet_on (stage.Talking talk) h links quiet = absurd quiet
 quiet_on stage.AtRest h links quiet = tt
 quiet_on (stage.Connecting due) h links quiet = tt
@@ -119,7 +119,7 @@ quiet_on (stage.Telling n) h links quiet = tt
 quiet_on stage.Failed h links quiet = tt
 
 -- The numbers below a higher one.
-apart_more : (low high higher' : ℕ) (links : List Carried) → high ≤ higher' → AreApart low links high → AreApart low links higher'
+pub apart_more : (low high higher' : ℕ) (links : List Carried) → high ≤ higher' → AreApart low links high → AreApart low links higher'
 apart_more low high higher' [] more apart = omega (arith, more, apart)
 apart_more low high higher' (l ∷ ls) more (within, some, rest) = (omega (arith, more, within), some, rest)
 
@@ -129,11 +129,11 @@ apart_more low high higher' (l ∷ ls) more (within, some, rest) = (omega (arith
 abbrev pub SameOrQuiet : MachineView → MachineView → Type 0
 SameOrQuiet m after = (after ≡ m) ⊎ IsQuiet after.stage
 
-same_or_quiet : (m after : MachineView) (links : List Carried) → SameOrQuiet m after → TalksOn m.stage m.host links → TalksOn after.stage after.host links
+pub same_or_quiet : (m after : MachineView) (links : List Carried) → SameOrQuiet m after → TalksOn m.stage m.host links → TalksOn after.stage after.host links
 same_or_quiet m after links (inl same) talks = subst (λ k. TalksOn k.stage k.host links) (sym same) talks
 same_or_quiet m after links (inr quiet) talks = quiet_on after.stage after.host links quiet
 
-connected_so : (s : Stage) (m after : MachineView) → after ≡ connected s m → SameOrQuiet m after
+pub connected_so : (s : Stage) (m after : MachineView) → after ≡ connected s m → SameOrQuiet m after
 connected_so (stage.Connecting due) m after is = inr (subst (λ k. IsQuiet k.stage) (sym is) tt)
 connected_so stage.AtRest m after is = inl is
 connected_so (stage.Keeping e next) m after is = inl is
@@ -142,7 +142,7 @@ connected_so (stage.HangingUp n) m after is = inl is
 connected_so (stage.Telling n) m after is = inl is
 connected_so stage.Failed m after is = inl is
 
-missed_so : (s : Stage) (m after : MachineView) → after ≡ not_connected s m → SameOrQuiet m after
+pub missed_so : (s : Stage) (m after : MachineView) → after ≡ not_connected s m → SameOrQuiet m after
 missed_so (stage.Connecting due) m after is = inr (subst (λ k. IsQuiet k.stage) (sym is) tt)
 missed_so stage.AtRest m after is = inl is
 missed_so (stage.Keeping e next) m after is = inl is
@@ -151,7 +151,7 @@ missed_so (stage.HangingUp n) m after is = inl is
 missed_so (stage.Telling n) m after is = inl is
 missed_so stage.Failed m after is = inl is
 
-hung_so : (s : Stage) (m after : MachineView) → after ≡ hung_up s m → SameOrQuiet m after
+pub hung_so : (s : Stage) (m after : MachineView) → after ≡ hung_up s m → SameOrQuiet m after
 hung_so (stage.HangingUp n) m after is = inr (subst (λ k. IsQuiet k.stage) (sym is) tt)
 hung_so stage.AtRest m after is = inl is
 hung_so (stage.Connecting due) m after is = inl is
@@ -160,7 +160,7 @@ hung_so (stage.Talking talk) m after is = inl is
 hung_so (stage.Telling n) m after is = inl is
 hung_so stage.Failed m after is = inl is
 
-note_quiet : (n : TillNote) → IsQuiet (after_note n)
+pub note_quiet : (n : TillNote) → IsQuiet (after_note n)
 note_quiet (note.Queued number) = tt
 note_quiet note.Raised = tt
 note_quiet (note.Recorded number) = tt
@@ -168,7 +168,7 @@ note_quiet (note.NoLink number) = tt
 note_quiet (note.Waiting number why) = tt
 note_quiet (note.NotKept why) = tt
 
-ended_so : (s : Stage) (why : SendFault) (m after : MachineView) → Ended s why m after → SameOrQuiet m after
+pub ended_so : (s : Stage) (why : SendFault) (m after : MachineView) → Ended s why m after → SameOrQuiet m after
 ended_so (stage.Talking talk) why m after (drops, book, is) = inr (subst IsQuiet (sym is) tt)
 ended_so stage.AtRest why m after is = inl is
 ended_so (stage.Connecting due) why m after is = inl is
@@ -177,7 +177,7 @@ ended_so (stage.HangingUp n) why m after is = inl is
 ended_so (stage.Telling n) why m after is = inl is
 ended_so stage.Failed why m after is = inl is
 
-lost_quiet : (next : Then) (why : StoreFault) → IsQuiet (lost next why)
+pub lost_quiet : (next : Then) (why : StoreFault) → IsQuiet (lost next why)
 lost_quiet then.Queued why = tt
 lost_quiet then.Raised why = tt
 lost_quiet (then.Send due) why = tt
@@ -185,7 +185,7 @@ lost_quiet (then.Recorded number) why = tt
 
 -- ## An entry more
 
-grows : (kept : List Entry) (e : Entry) → MayFollow kept e → next_free kept ≤ next_free (kept ++ e ∷ [])
+pub grows : (kept : List Entry) (e : Entry) → MayFollow kept e → next_free kept ≤ next_free (kept ++ e ∷ [])
 grows kept (entry.Queued content) follows = omega (arith, next_after_queued kept content)
 grows kept (entry.Tried number next) follows = omega (arith, next_after_tried kept number next, follows.1)
 grows kept (entry.Recorded number) follows = omega (arith, next_after_recorded kept number)
@@ -204,7 +204,7 @@ moved_on Goes w new notes low links moves on c = record {
 
 -- ## An entry is kept
 
-kept_by : Ids → (next : Then) (low : ℕ) (links : List Carried) (kept : List Entry) (hand : Option Hand) (h : HostView) (m after : MachineView) (e : Entry) → m.book.next ≡ next_free kept
+pub kept_by : Ids → (next : Then) (low : ℕ) (links : List Carried) (kept : List Entry) (hand : Option Hand) (h : HostView) (m after : MachineView) (e : Entry) → m.book.next ≡ next_free kept
     → MayFollow kept e → IsToKeep kept hand h e next → Follows next m.host m.book.next after.book after.host after.stage → AreApart low links (next_free kept) → AllByRecursion HasOwnMarks links
     → AreApart low (link_of next e (next_free kept) ++ links) (next_free (kept ++ e ∷ [])) × AllByRecursion HasOwnMarks (link_of next e (next_free kept) ++ links)
     × TalksOn after.stage after.host (link_of next e (next_free kept) ++ links)
@@ -299,7 +299,7 @@ put_says l h receipt most count is says =
     }
 
 -- The newest link, with these bytes more on it.
-one_put : (low high : ℕ) (links : List Carried) (h : HostView) (receipt : Option (List Command)) (most count : ℕ) → count ≡ min most (length h.out) → SaysOn links h receipt → AreApart low links high
+pub one_put : (low high : ℕ) (links : List Carried) (h : HostView) (receipt : Option (List Command)) (most count : ℕ) → count ≡ min most (length h.out) → SaysOn links h receipt → AreApart low links high
     → AllByRecursion HasOwnMarks links → AreApart low (with_put (take most h.out) links) high × AllByRecursion HasOwnMarks (with_put (take most h.out) links)
     × SaysOn (with_put (take most h.out) links) (taken_out h count) receipt
 one_put low high [] h receipt most count is says apart own = absurd says
@@ -320,7 +320,7 @@ puts_carried w new low links most c puts =
           (subst (λ s. TalksOn (put s puts.count m).stage (put s puts.count m).host (with_put (take most m.host.out) links)) (sym puts.talks) talks);
     })
 
-part_put : (low high : ℕ) (links : List Carried) (h : HostView) (receipt : Option (List Command)) (most fewer : ℕ) → SaysOn links h receipt → AreApart low links high → AllByRecursion HasOwnMarks links
+pub part_put : (low high : ℕ) (links : List Carried) (h : HostView) (receipt : Option (List Command)) (most fewer : ℕ) → SaysOn links h receipt → AreApart low links high → AllByRecursion HasOwnMarks links
     → AreApart low (with_put (take fewer (take most h.out)) links) high × AllByRecursion HasOwnMarks (with_put (take fewer (take most h.out)) links)
 part_put low high [] h receipt most fewer says apart own = absurd says
 part_put low high (l ∷ ls) h receipt most fewer says apart own =
@@ -450,7 +450,7 @@ turned_says ids heard.Opened l ls talk left before h after says same fits turned
 turned_says ids (heard.Recorded place) l ls talk left before h after says same fits (host, is) = quiet_on after.stage after.host (l ∷ ls) (subst IsQuiet (sym is) tt)
 turned_says ids (heard.BadAnswer place) l ls talk left before h after says same fits (drops, is) = quiet_on after.stage after.host (l ∷ ls) (subst IsQuiet (sym is) tt)
 
-came_says : Ids → (links : List Carried) (talk : Talk) (m after : MachineView) (bytes : List ℕ) (count : ℕ) → SaysOn links m.host talk.receipt → ((commands : List Command) → talk.receipt ≡ Some commands → IsFitting (line.Submit commands))
+pub came_says : Ids → (links : List Carried) (talk : Talk) (m after : MachineView) (bytes : List ℕ) (count : ℕ) → SaysOn links m.host talk.receipt → ((commands : List Command) → talk.receipt ≡ Some commands → IsFitting (line.Submit commands))
     → Came (stage.Talking talk) bytes count m after → TalksOn after.stage after.host links
 came_says ids [] talk m after bytes count says fits came = absurd says
 came_says ids (l ∷ ls) talk m after bytes count says fits (e, h, hears, turned, book) =

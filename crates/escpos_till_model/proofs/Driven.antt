@@ -20,7 +20,7 @@ use Rattle.escpos_till_model.proofs.DrivenDeeds.{breaks, ends, gives, hangs_up, 
 to_new : (w : World) (m : MachineView) (a new : Around) → new ≡ a → Leads w m a → Leads w m new
 to_new w m a new is leads = subst (λ k. Leads w m k) (sym is) leads
 
-does : (d : Deed) (m mid : MachineView) (a new : Around) (w : World) → Shows m a w → Turns m d mid → IsSound mid.host → Does a d new → Leads w mid new
+pub does : (d : Deed) (m mid : MachineView) (a new : Around) (w : World) → Shows m a w → Turns m d mid → IsSound mid.host → Does a d new → Leads w mid new
 does (Keeps e) m mid a new w shows turns sound is = to_new w mid _ new is (keeps m mid a w e shows turns sound)
 does (Loses e why) m mid a new w shows turns sound (inl is) = to_new w mid _ new is (loses_without m mid a w e why shows turns sound)
 does (Loses e why) m mid a new w shows turns sound (inr is) = to_new w mid _ new is (loses_with m mid a w e why shows turns sound)
@@ -29,7 +29,7 @@ does Misses m mid a new w shows turns sound (inl is) = to_new w mid _ new is (mi
 does Misses m mid a new w shows turns sound (inr is) = to_new w mid _ new is (misses_late m mid a w shows turns sound)
 does (Puts bytes) m mid a new w shows turns sound is = to_new w mid _ new is (puts m mid a w bytes shows turns sound)
 does (Breaks bytes why) m mid a new w shows turns sound (k, few, is) = to_new w mid _ new is (breaks m mid a w bytes why k shows turns sound few)
-does (Gives bytes) m mid a new w shows turns sound (bytes_are, is) = to_new w mid _ new is (gives bytes m mid a w shows turns sound bytes_are)
+does (Gives room bytes) m mid a new w shows turns sound (bytes_are, is) = to_new w mid _ new is (gives room bytes m mid a w shows turns sound bytes_are)
 does (Ends why) m mid a new w shows turns sound is = to_new w mid _ new is (ends m mid a w why shows turns sound)
 does HangsUp m mid a new w shows turns sound is = to_new w mid _ new is (hangs_up m mid a w shows turns sound)
 does (Tells note) m mid a new w shows turns sound is = to_new w mid _ new is (tells m mid a w note shows turns sound)
@@ -168,12 +168,19 @@ starts (stage.HangingUp note) h w near none down same = absurd none
 starts (stage.Telling note) h w near none down same = (down, same)
 starts stage.Failed h w near none down same = (down, same)
 
+-- What surrounds a machine shows in the world.
+pub shows_around : (m : MachineView) (a : Around) (w : World) → IsAround m a w → Shows m a w
+shows_around m a w here = record {
+  machine = here.machine;
+  kept = ap (λ k. k.kept) (sym here.surrounds);
+  told = ap (λ k. k.told) (sym here.surrounds);
+  wire = starts m.stage m.host w.wire a.wire here.stage here.down (ap (λ k. k.wire) (sym here.surrounds));
+}
+
 -- A driver's run, as it shows in the world.
 run_shown : (m after : MachineView) (a new : Around) (w : World) → IsAround m a w → Ran DoesInTime m a after new → Leads w after new
 run_shown m after a new w here ran =
-    let wire : ShowsWire m.stage m.host w.wire a.wire = starts m.stage m.host w.wire a.wire here.stage here.down (ap (λ k. k.wire) (sym here.surrounds)) in
-    let shows : Shows m a w = record { machine = here.machine; kept = ap (λ k. k.kept) (sym here.surrounds); told = ap (λ k. k.told) (sym here.surrounds); wire = wire } in
-    does_all ran.deeds m after a new w shows ran.did_all
+    does_all ran.deeds m after a new w (shows_around m a w here) ran.did_all
 
 pub driven : (m after : MachineView) (a new : Around) (w : World) → IsAround m a w → Ran DoesInTime m a after new → Reaches w after new
 driven m after a new w here ran =

@@ -278,7 +278,7 @@ breaks m mid a w bytes why k shows (count, next, ended) sound few =
     (shows_at _ mid (around a.kept (with_bytes a.wire (take k bytes)) a.told) (running mid w.kept there w.told) refl shows.kept shows.told so.2 (down, is_there))
 
 pub ends : (m mid : MachineView) (a : Around) (w : World) (why : SendFault) → Shows m a w → Turns m (Ends why) mid → IsSound mid.host → Leads w mid a
-ends m mid a w why shows (waiting, ended) sound =
+ends m mid a w why shows (room, waiting, ended) sound =
     let (up, same) = wire_at (stage.Talking waiting.talk) m a w waiting.talks shows in
     let so = subst (λ s. Ended s why m mid) waiting.talks ended in
     let down : mid.host.phase ≡ Down = gone m.host mid.host so.0 in
@@ -457,10 +457,10 @@ gives_none m mid a w talk shows is came sound =
     })
     (came_stands talk m mid [] 0 up (subst (λ s. Came s [] 0 m mid) is came))
 
-pub gives : (bytes : List ℕ) (m mid : MachineView) (a : Around) (w : World) → Shows m a w → Turns m (Gives bytes) mid → IsSound mid.host → bytes ≡ take (length bytes) a.wire.coming
+pub gives : (room : ℕ) (bytes : List ℕ) (m mid : MachineView) (a : Around) (w : World) → Shows m a w → Turns m (Gives room bytes) mid → IsSound mid.host → bytes ≡ take (length bytes) a.wire.coming
     → Leads w mid (around a.kept (heard_from a.wire (length bytes)) a.told)
-gives [] m mid a w shows (waiting, came) sound bytes_are = gives_none m mid a w waiting.talk shows waiting.talks came sound
-gives (b ∷ bs) m mid a w shows (waiting, (counts, hears)) sound bytes_are =
+gives room [] m mid a w shows (waiting, within, came) sound bytes_are = gives_none m mid a w waiting.talk shows waiting.talks came sound
+gives room (b ∷ bs) m mid a w shows (waiting, within, (counts, hears)) sound bytes_are =
     let (up, same) = wire_at (stage.Talking waiting.talk) m a w waiting.talks shows in
     hears_all counts m mid (b ∷ bs) w (around a.kept (heard_from a.wire (length (b ∷ bs))) a.told) waiting.talk shows.machine shows.kept shows.told waiting.talks up
     (bytes_are ∙ ap (λ v. take (length (b ∷ bs)) v.coming) (sym same)) (ap (λ v. heard_from v (length (b ∷ bs))) same) hears

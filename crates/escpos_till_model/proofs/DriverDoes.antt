@@ -21,30 +21,30 @@ use Rattle.escpos_till_model.specs.Known.{BookMayLag}
 
 -- ## A store that has done what it was asked to had done so before
 
-faithful_before : {S L : Type 0} (faithful : S → Type 0) (holds leaves : S → List Entry → Type 0) (did : L → Deed → L → Type 0) (d : Deed) (old new : Surroundings S L)
-    → Did faithful holds leaves did old d new → faithful new.store → faithful old.store
+faithful_before : {S L : Type 0} (faithful : S → Type 0) (holds leaves : S → List Entry → Type 0) (says : S → StoreFault → Type 0) (did : L → Deed → L → Type 0) (d : Deed) (old new : Surroundings S L)
+    → Did faithful holds leaves says did old d new → faithful new.store → faithful old.store
 unfolding Did
-faithful_before faithful holds leaves did (Keeps e) old new (appends, line) done = appends.was_faithful done
-faithful_before faithful holds leaves did (Loses e why) old new (may, line) done = may.was_faithful done
-faithful_before {S} {L} faithful holds leaves did (Tells n) old new same done = subst (λ (k : Surroundings S L). faithful k.store) same done
-faithful_before faithful holds leaves did Links old new (so, same) done = subst faithful same done
-faithful_before faithful holds leaves did Misses old new (so, same) done = subst faithful same done
-faithful_before faithful holds leaves did (Puts bytes) old new (so, same) done = subst faithful same done
-faithful_before faithful holds leaves did (Breaks bytes why) old new (so, same) done = subst faithful same done
-faithful_before faithful holds leaves did (Gives bytes) old new (so, same) done = subst faithful same done
-faithful_before faithful holds leaves did (Ends why) old new (so, same) done = subst faithful same done
-faithful_before faithful holds leaves did HangsUp old new (so, same) done = subst faithful same done
+faithful_before faithful holds leaves says did (Keeps e) old new (appends, line) done = appends.was_faithful done
+faithful_before faithful holds leaves says did (Loses e why) old new (may, line) done = may.was_faithful done
+faithful_before {S} {L} faithful holds leaves says did (Tells n) old new same done = subst (λ (k : Surroundings S L). faithful k.store) same done
+faithful_before faithful holds leaves says did Links old new (so, same) done = subst faithful same done
+faithful_before faithful holds leaves says did Misses old new (so, same) done = subst faithful same done
+faithful_before faithful holds leaves says did (Puts bytes) old new (so, same) done = subst faithful same done
+faithful_before faithful holds leaves says did (Breaks bytes why) old new (so, same) done = subst faithful same done
+faithful_before faithful holds leaves says did (Gives room bytes) old new (so, same) done = subst faithful same done
+faithful_before faithful holds leaves says did (Ends why) old new (so, same) done = subst faithful same done
+faithful_before faithful holds leaves says did HangsUp old new (so, same) done = subst faithful same done
 
-pub was_faithful : {S L : Type 0} (faithful : S → Type 0) (holds leaves : S → List Entry → Type 0) (did : L → Deed → L → Type 0) (ds : List Deed) (m after : MachineView) (old new : Surroundings S L)
-    → DidAll (Did faithful holds leaves did) m old ds after new → faithful new.store → faithful old.store
-was_faithful {S} {L} faithful holds leaves did [] m after old new (is, same) done = subst (λ (k : Surroundings S L). faithful k.store) same done
-was_faithful faithful holds leaves did (d ∷ ds) m after old new (mid, between, turns, sound, first, more) done =
-    faithful_before faithful holds leaves did d old between first (was_faithful faithful holds leaves did ds mid after between new more done)
+pub was_faithful : {S L : Type 0} (faithful : S → Type 0) (holds leaves : S → List Entry → Type 0) (says : S → StoreFault → Type 0) (did : L → Deed → L → Type 0) (ds : List Deed) (m after : MachineView) (old new : Surroundings S L)
+    → DidAll (Did faithful holds leaves says did) m old ds after new → faithful new.store → faithful old.store
+was_faithful {S} {L} faithful holds leaves says did [] m after old new (is, same) done = subst (λ (k : Surroundings S L). faithful k.store) same done
+was_faithful faithful holds leaves says did (d ∷ ds) m after old new (mid, between, turns, sound, first, more) done =
+    faithful_before faithful holds leaves says did d old between first (was_faithful faithful holds leaves says did ds mid after between new more done)
 
 -- ## Where a machine has no more to keep
 
 -- It gives its link up, tells its owner something, or rests.
-abbrev IsEnding : Stage → Type 0
+abbrev pub IsEnding : Stage → Type 0
 IsEnding stage.AtRest = Unit {0}
 IsEnding (stage.HangingUp n) = Unit {0}
 IsEnding (stage.Telling n) = Unit {0}
@@ -68,7 +68,7 @@ after_note_ends (note_kind.Waiting number why) = tt
 after_note_ends (note_kind.NotKept why) = tt
 
 -- From there it only goes on to its end.
-ends_on : (d : Deed) (m mid : MachineView) → IsEnding m.stage → Turns m d mid → IsLast d × IsEnding mid.stage
+pub ends_on : (d : Deed) (m mid : MachineView) → IsEnding m.stage → Turns m d mid → IsLast d × IsEnding mid.stage
 ends_on HangsUp m mid ending (n, is, mid_is) =
     (tt, subst IsEnding (sym (ap (λ v. v.stage) (mid_is ∙ ap (λ s. hung_up s m) is))) tt)
 ends_on (Tells n) m mid ending (is, mid_is) =
@@ -79,8 +79,8 @@ ends_on Links m mid ending (due, is, mid_is) = absurd (ending_at m.stage _ is en
 ends_on Misses m mid ending (due, is, mid_is) = absurd (ending_at m.stage _ is ending)
 ends_on (Puts bytes) m mid ending (count, next, mid_is) = absurd (ending_at m.stage _ next.talks ending)
 ends_on (Breaks bytes why) m mid ending (count, next, ended) = absurd (ending_at m.stage _ next.talks ending)
-ends_on (Gives bytes) m mid ending (waits, given) = absurd (ending_at m.stage _ waits.talks ending)
-ends_on (Ends why) m mid ending (waits, ended) = absurd (ending_at m.stage _ waits.talks ending)
+ends_on (Gives room bytes) m mid ending (waits, within, given) = absurd (ending_at m.stage _ waits.talks ending)
+ends_on (Ends why) m mid ending (room, waits, ended) = absurd (ending_at m.stage _ waits.talks ending)
 
 -- After an entry that may be kept or not, its owner is told that; from then on it has failed.
 lost_lags : (next : Then) (why : StoreFault) → BookMayLag (lost next why)
@@ -89,10 +89,10 @@ lost_lags then.Raised why = tt
 lost_lags (then.Send due) why = tt
 lost_lags (then.Recorded number) why = tt
 
-unsure_lags : (m mid : MachineView) (e : Entry) (why : StoreFault) → Turns m (Loses e why) mid → BookMayLag mid.stage
+pub unsure_lags : (m mid : MachineView) (e : Entry) (why : StoreFault) → Turns m (Loses e why) mid → BookMayLag mid.stage
 unsure_lags m mid e why (next, is, unsure) = subst BookMayLag (sym (subst (λ s. Unsure s why m mid) is unsure).2) (lost_lags next why)
 
-lags_ends : (s : Stage) → BookMayLag s → IsEnding s
+pub lags_ends : (s : Stage) → BookMayLag s → IsEnding s
 lags_ends (stage.HangingUp n) lags = tt
 lags_ends (stage.Telling n) lags = tt
 lags_ends stage.Failed lags = tt
@@ -128,7 +128,7 @@ lags_on Links m mid lags turns = absurd (ends_on Links m mid (lags_ends m.stage 
 lags_on Misses m mid lags turns = absurd (ends_on Misses m mid (lags_ends m.stage lags) turns).0
 lags_on (Puts bytes) m mid lags turns = absurd (ends_on (Puts bytes) m mid (lags_ends m.stage lags) turns).0
 lags_on (Breaks bytes why) m mid lags turns = absurd (ends_on (Breaks bytes why) m mid (lags_ends m.stage lags) turns).0
-lags_on (Gives bytes) m mid lags turns = absurd (ends_on (Gives bytes) m mid (lags_ends m.stage lags) turns).0
+lags_on (Gives room bytes) m mid lags turns = absurd (ends_on (Gives room bytes) m mid (lags_ends m.stage lags) turns).0
 lags_on (Ends why) m mid lags turns = absurd (ends_on (Ends why) m mid (lags_ends m.stage lags) turns).0
 
 lags_all : {D : Type 0} (did : D → Deed → D → Type 0) (ds : List Deed) (m after : MachineView) (old new : D) → BookMayLag m.stage → DidAll did m old ds after new → BookMayLag after.stage
@@ -155,22 +155,22 @@ tells_first m mid after kept left w wire notes n ds turns sound more = (
 )
 
 -- A machine that has no more to keep leaves its store alone.
-ends_alone : {S L : Type 0} (faithful : S → Type 0) (holds leaves : S → List Entry → Type 0) (did : L → Deed → L → Type 0) (ds : List Deed) (m after : MachineView) (old new : Surroundings S L) → IsEnding m.stage
-    → DidAll (Did faithful holds leaves did) m old ds after new → new.store ≡ old.store
+ends_alone : {S L : Type 0} (faithful : S → Type 0) (holds leaves : S → List Entry → Type 0) (says : S → StoreFault → Type 0) (did : L → Deed → L → Type 0) (ds : List Deed) (m after : MachineView) (old new : Surroundings S L) → IsEnding m.stage
+    → DidAll (Did faithful holds leaves says did) m old ds after new → new.store ≡ old.store
 unfolding Did
-ends_alone {S} {L} faithful holds leaves did [] m after old new ending (is, same) = ap (λ (k : Surroundings S L). k.store) same
-ends_alone faithful holds leaves did (HangsUp ∷ ds) m after old new ending (mid, between, turns, sound, (so, same), more) =
-    ends_alone faithful holds leaves did ds mid after between new (ends_on HangsUp m mid ending turns).1 more ∙ same
-ends_alone {S} {L} faithful holds leaves did (Tells n ∷ ds) m after old new ending (mid, between, turns, sound, same, more) =
-    ends_alone faithful holds leaves did ds mid after between new (ends_on (Tells n) m mid ending turns).1 more ∙ ap (λ (k : Surroundings S L). k.store) same
-ends_alone faithful holds leaves did (Keeps e ∷ ds) m after old new ending (mid, between, turns, sound, first, more) = absurd (ends_on (Keeps e) m mid ending turns).0
-ends_alone faithful holds leaves did (Loses e why ∷ ds) m after old new ending (mid, between, turns, sound, first, more) = absurd (ends_on (Loses e why) m mid ending turns).0
-ends_alone faithful holds leaves did (Links ∷ ds) m after old new ending (mid, between, turns, sound, first, more) = absurd (ends_on Links m mid ending turns).0
-ends_alone faithful holds leaves did (Misses ∷ ds) m after old new ending (mid, between, turns, sound, first, more) = absurd (ends_on Misses m mid ending turns).0
-ends_alone faithful holds leaves did (Puts bytes ∷ ds) m after old new ending (mid, between, turns, sound, first, more) = absurd (ends_on (Puts bytes) m mid ending turns).0
-ends_alone faithful holds leaves did (Breaks bytes why ∷ ds) m after old new ending (mid, between, turns, sound, first, more) = absurd (ends_on (Breaks bytes why) m mid ending turns).0
-ends_alone faithful holds leaves did (Gives bytes ∷ ds) m after old new ending (mid, between, turns, sound, first, more) = absurd (ends_on (Gives bytes) m mid ending turns).0
-ends_alone faithful holds leaves did (Ends why ∷ ds) m after old new ending (mid, between, turns, sound, first, more) = absurd (ends_on (Ends why) m mid ending turns).0
+ends_alone {S} {L} faithful holds leaves says did [] m after old new ending (is, same) = ap (λ (k : Surroundings S L). k.store) same
+ends_alone faithful holds leaves says did (HangsUp ∷ ds) m after old new ending (mid, between, turns, sound, (so, same), more) =
+    ends_alone faithful holds leaves says did ds mid after between new (ends_on HangsUp m mid ending turns).1 more ∙ same
+ends_alone {S} {L} faithful holds leaves says did (Tells n ∷ ds) m after old new ending (mid, between, turns, sound, same, more) =
+    ends_alone faithful holds leaves says did ds mid after between new (ends_on (Tells n) m mid ending turns).1 more ∙ ap (λ (k : Surroundings S L). k.store) same
+ends_alone faithful holds leaves says did (Keeps e ∷ ds) m after old new ending (mid, between, turns, sound, first, more) = absurd (ends_on (Keeps e) m mid ending turns).0
+ends_alone faithful holds leaves says did (Loses e why ∷ ds) m after old new ending (mid, between, turns, sound, first, more) = absurd (ends_on (Loses e why) m mid ending turns).0
+ends_alone faithful holds leaves says did (Links ∷ ds) m after old new ending (mid, between, turns, sound, first, more) = absurd (ends_on Links m mid ending turns).0
+ends_alone faithful holds leaves says did (Misses ∷ ds) m after old new ending (mid, between, turns, sound, first, more) = absurd (ends_on Misses m mid ending turns).0
+ends_alone faithful holds leaves says did (Puts bytes ∷ ds) m after old new ending (mid, between, turns, sound, first, more) = absurd (ends_on (Puts bytes) m mid ending turns).0
+ends_alone faithful holds leaves says did (Breaks bytes why ∷ ds) m after old new ending (mid, between, turns, sound, first, more) = absurd (ends_on (Breaks bytes why) m mid ending turns).0
+ends_alone faithful holds leaves says did (Gives room bytes ∷ ds) m after old new ending (mid, between, turns, sound, first, more) = absurd (ends_on (Gives room bytes) m mid ending turns).0
+ends_alone faithful holds leaves says did (Ends why ∷ ds) m after old new ending (mid, between, turns, sound, first, more) = absurd (ends_on (Ends why) m mid ending turns).0
 
 -- Whatever its store has, it has that to the end.
 ends_all : {D : Type 0} (ds : List Deed) (m after : MachineView) (left : List Entry) (w wire : WireView) (notes : List TillNote) → IsEnding m.stage → (did : D → Deed → D → Type 0) (old new : D) → DidAll did m old ds after new
@@ -186,7 +186,7 @@ ends_all (Links ∷ ds) m after left w wire notes ending did old new (mid, betwe
 ends_all (Misses ∷ ds) m after left w wire notes ending did old new (mid, between, turns, sound, first, more) on = absurd (ends_on Misses m mid ending turns).0
 ends_all (Puts bytes ∷ ds) m after left w wire notes ending did old new (mid, between, turns, sound, first, more) on = absurd (ends_on (Puts bytes) m mid ending turns).0
 ends_all (Breaks bytes why ∷ ds) m after left w wire notes ending did old new (mid, between, turns, sound, first, more) on = absurd (ends_on (Breaks bytes why) m mid ending turns).0
-ends_all (Gives bytes ∷ ds) m after left w wire notes ending did old new (mid, between, turns, sound, first, more) on = absurd (ends_on (Gives bytes) m mid ending turns).0
+ends_all (Gives room bytes ∷ ds) m after left w wire notes ending did old new (mid, between, turns, sound, first, more) on = absurd (ends_on (Gives room bytes) m mid ending turns).0
 ends_all (Ends why ∷ ds) m after left w wire notes ending did old new (mid, between, turns, sound, first, more) on = absurd (ends_on (Ends why) m mid ending turns).0
 
 -- The store couldn't tell whether it has the entry: what a crash leaves says it.
@@ -227,61 +227,61 @@ over_line holds leaves s d ds m mid after kept w there wire notes none turns sou
       subst (λ ns. DidAll DoesInTime mid (around kept there notes) ds after (around entries wire (notes ++ ns))) (sym none) goes,
     )) ends
 
-goes_all : {S L : Type 0} (faithful : S → Type 0) (holds leaves : S → List Entry → Type 0) (did : L → Deed → L → Type 0) (ds : List Deed) (m after : MachineView) (old new : Surroundings S L) (kept : List Entry)
-    (w wire : WireView) (notes : List TillNote) → DidAll (Did faithful holds leaves did) m old ds after new → faithful new.store → holds old.store kept → AllOnWire w ds wire
+goes_all : {S L : Type 0} (faithful : S → Type 0) (holds leaves : S → List Entry → Type 0) (says : S → StoreFault → Type 0) (did : L → Deed → L → Type 0) (ds : List Deed) (m after : MachineView) (old new : Surroundings S L) (kept : List Entry)
+    (w wire : WireView) (notes : List TillNote) → DidAll (Did faithful holds leaves says did) m old ds after new → faithful new.store → holds old.store kept → AllOnWire w ds wire
     → EndsWith holds leaves new.store after.stage (Goes m kept w notes ds after wire)
 unfolding Did
-goes_all {S} {L} faithful holds leaves did [] m after old new kept w wire notes (is, same) done held on =
+goes_all {S} {L} faithful holds leaves says did [] m after old new kept w wire notes (is, same) done held on =
     inl (kept, subst (λ (k : Surroundings S L). holds k.store kept) (sym same) held, (is, same_around kept kept wire w notes refl on))
-goes_all faithful holds leaves did (Keeps e ∷ ds) m after old new kept w wire notes (mid, between, turns, sound, (appends, line), more) done held on =
-    let held_more = appends.kept (was_faithful faithful holds leaves did ds mid after between new more done) kept held in
+goes_all faithful holds leaves says did (Keeps e ∷ ds) m after old new kept w wire notes (mid, between, turns, sound, (appends, line), more) done held on =
+    let held_more = appends.kept (was_faithful faithful holds leaves says did ds mid after between new more done) kept held in
     ends_so holds leaves new.store after.stage (Goes mid (kept ++ e ∷ []) w notes ds after wire) (Goes m kept w notes (Keeps e ∷ ds) after wire)
     (λ entries goes. (mid, around (kept ++ e ∷ []) w notes, turns, sound, record { events = []; wire = w; goes_on = refl; does = refl }, goes))
-    (goes_all faithful holds leaves did ds mid after between new (kept ++ e ∷ []) w wire notes more done held_more on)
-goes_all {S} {L} faithful holds leaves did (Loses e why ∷ ds) m after old new kept w wire notes (mid, between, turns, sound, (appends, line), more) done held on =
+    (goes_all faithful holds leaves says did ds mid after between new (kept ++ e ∷ []) w wire notes more done held_more on)
+goes_all {S} {L} faithful holds leaves says did (Loses e why ∷ ds) m after old new kept w wire notes (mid, between, turns, sound, (appends, line), more) done held on =
     let lags = unsure_lags m mid e why turns in
-    let stays = ends_alone faithful holds leaves did ds mid after between new (lags_ends mid.stage lags) more in
+    let stays = ends_alone faithful holds leaves says did ds mid after between new (lags_ends mid.stage lags) more in
     inr (
-      lags_all (Did faithful holds leaves did) ds mid after between new lags more,
+      lags_all (Did faithful holds leaves says did) ds mid after between new lags more,
       λ left may.
           let so = appends.kept_or_not (subst faithful stays done) kept left held (subst (λ s. leaves s left) stays may) in
-          (mid, around left w notes, turns, sound, loses_so kept left e why w notes so, ends_all ds mid after left w wire notes (lags_ends mid.stage lags) (Did faithful holds leaves did) between new more on),
+          (mid, around left w notes, turns, sound, loses_so kept left e why w notes so, ends_all ds mid after left w wire notes (lags_ends mid.stage lags) (Did faithful holds leaves says did) between new more on),
     )
-goes_all {S} {L} faithful holds leaves did (Tells n ∷ ds) m after old new kept w wire notes (mid, between, turns, sound, same, more) done held on =
+goes_all {S} {L} faithful holds leaves says did (Tells n ∷ ds) m after old new kept w wire notes (mid, between, turns, sound, same, more) done held on =
     ends_so holds leaves new.store after.stage (Goes mid kept w (notes ++ n ∷ []) ds after wire) (Goes m kept w notes (Tells n ∷ ds) after wire)
     (λ entries goes. tells_first m mid after kept entries w wire notes n ds turns sound goes)
-    (goes_all faithful holds leaves did ds mid after between new kept w wire (notes ++ n ∷ []) more done (subst (λ (k : Surroundings S L). holds k.store kept) (sym same) held) on)
-goes_all faithful holds leaves did (Links ∷ ds) m after old new kept w wire notes (mid, between, turns, sound, (so, same), more) done held (there, on, rest) =
+    (goes_all faithful holds leaves says did ds mid after between new kept w wire (notes ++ n ∷ []) more done (subst (λ (k : Surroundings S L). holds k.store kept) (sym same) held) on)
+goes_all faithful holds leaves says did (Links ∷ ds) m after old new kept w wire notes (mid, between, turns, sound, (so, same), more) done held (there, on, rest) =
     over_line holds leaves new.store Links ds m mid after kept w there wire notes refl turns sound on
-    (goes_all faithful holds leaves did ds mid after between new kept there wire notes more done (subst (λ s. holds s kept) (sym same) held) rest)
-goes_all faithful holds leaves did (Misses ∷ ds) m after old new kept w wire notes (mid, between, turns, sound, (so, same), more) done held (there, on, rest) =
+    (goes_all faithful holds leaves says did ds mid after between new kept there wire notes more done (subst (λ s. holds s kept) (sym same) held) rest)
+goes_all faithful holds leaves says did (Misses ∷ ds) m after old new kept w wire notes (mid, between, turns, sound, (so, same), more) done held (there, on, rest) =
     over_line holds leaves new.store Misses ds m mid after kept w there wire notes refl turns sound on
-    (goes_all faithful holds leaves did ds mid after between new kept there wire notes more done (subst (λ s. holds s kept) (sym same) held) rest)
-goes_all faithful holds leaves did (Puts bytes ∷ ds) m after old new kept w wire notes (mid, between, turns, sound, (so, same), more) done held (there, on, rest) =
+    (goes_all faithful holds leaves says did ds mid after between new kept there wire notes more done (subst (λ s. holds s kept) (sym same) held) rest)
+goes_all faithful holds leaves says did (Puts bytes ∷ ds) m after old new kept w wire notes (mid, between, turns, sound, (so, same), more) done held (there, on, rest) =
     over_line holds leaves new.store (Puts bytes) ds m mid after kept w there wire notes refl turns sound on
-    (goes_all faithful holds leaves did ds mid after between new kept there wire notes more done (subst (λ s. holds s kept) (sym same) held) rest)
-goes_all faithful holds leaves did (Breaks bytes why ∷ ds) m after old new kept w wire notes (mid, between, turns, sound, (so, same), more) done held (there, on, rest) =
+    (goes_all faithful holds leaves says did ds mid after between new kept there wire notes more done (subst (λ s. holds s kept) (sym same) held) rest)
+goes_all faithful holds leaves says did (Breaks bytes why ∷ ds) m after old new kept w wire notes (mid, between, turns, sound, (so, same), more) done held (there, on, rest) =
     over_line holds leaves new.store (Breaks bytes why) ds m mid after kept w there wire notes refl turns sound on
-    (goes_all faithful holds leaves did ds mid after between new kept there wire notes more done (subst (λ s. holds s kept) (sym same) held) rest)
-goes_all faithful holds leaves did (Gives bytes ∷ ds) m after old new kept w wire notes (mid, between, turns, sound, (so, same), more) done held (there, on, rest) =
-    over_line holds leaves new.store (Gives bytes) ds m mid after kept w there wire notes refl turns sound on
-    (goes_all faithful holds leaves did ds mid after between new kept there wire notes more done (subst (λ s. holds s kept) (sym same) held) rest)
-goes_all faithful holds leaves did (Ends why ∷ ds) m after old new kept w wire notes (mid, between, turns, sound, (so, same), more) done held (there, on, rest) =
+    (goes_all faithful holds leaves says did ds mid after between new kept there wire notes more done (subst (λ s. holds s kept) (sym same) held) rest)
+goes_all faithful holds leaves says did (Gives room bytes ∷ ds) m after old new kept w wire notes (mid, between, turns, sound, (so, same), more) done held (there, on, rest) =
+    over_line holds leaves new.store (Gives room bytes) ds m mid after kept w there wire notes refl turns sound on
+    (goes_all faithful holds leaves says did ds mid after between new kept there wire notes more done (subst (λ s. holds s kept) (sym same) held) rest)
+goes_all faithful holds leaves says did (Ends why ∷ ds) m after old new kept w wire notes (mid, between, turns, sound, (so, same), more) done held (there, on, rest) =
     over_line holds leaves new.store (Ends why) ds m mid after kept w there wire notes refl turns sound on
-    (goes_all faithful holds leaves did ds mid after between new kept there wire notes more done (subst (λ s. holds s kept) (sym same) held) rest)
-goes_all faithful holds leaves did (HangsUp ∷ ds) m after old new kept w wire notes (mid, between, turns, sound, (so, same), more) done held (there, on, rest) =
+    (goes_all faithful holds leaves says did ds mid after between new kept there wire notes more done (subst (λ s. holds s kept) (sym same) held) rest)
+goes_all faithful holds leaves says did (HangsUp ∷ ds) m after old new kept w wire notes (mid, between, turns, sound, (so, same), more) done held (there, on, rest) =
     over_line holds leaves new.store HangsUp ds m mid after kept w there wire notes refl turns sound on
-    (goes_all faithful holds leaves did ds mid after between new kept there wire notes more done (subst (λ s. holds s kept) (sym same) held) rest)
+    (goes_all faithful holds leaves says did ds mid after between new kept there wire notes more done (subst (λ s. holds s kept) (sym same) held) rest)
 
 -- What a store holds outlives a crash, once more.
-abbrev pub Outlives : {S : Type 0} → (S → Type 0) → (S → List Entry → Type 0) → (S → List Entry → Type 0) → Type 0
-Outlives {S} faithful holds leaves = (s : S) (entries left : List Entry) → faithful s → holds s entries → leaves s left → left ≡ entries
+abbrev pub Outlives : {S : Type 0} → (S → Type 0) → (S → List Entry → Type 0) → (S → List Entry → Type 0) → (S → StoreFault → Type 0) → Type 0
+Outlives {S} faithful holds leaves says = (s : S) (entries left : List Entry) → faithful s → holds s entries → leaves s left → left ≡ entries
 
 -- With what a crash leaves.
-with_left : {S : Type 0} (faithful : S → Type 0) (holds leaves : S → List Entry → Type 0) (s : S) (last : Stage) (Holds : List Entry → Type 0) (left : List Entry) → Outlives faithful holds leaves → faithful s
+with_left : {S : Type 0} (faithful : S → Type 0) (holds leaves : S → List Entry → Type 0) (says : S → StoreFault → Type 0) (s : S) (last : Stage) (Holds : List Entry → Type 0) (left : List Entry) → Outlives faithful holds leaves says → faithful s
     → leaves s left → EndsWith holds leaves s last Holds → Holds left
-with_left faithful holds leaves s last Holds left outlives done may (inl (entries, held, it)) = subst Holds (sym (outlives s entries left done held may)) it
-with_left faithful holds leaves s last Holds left outlives done may (inr (lags, it)) = it left may
+with_left faithful holds leaves says s last Holds left outlives done may (inl (entries, held, it)) = subst Holds (sym (outlives s entries left done held may)) it
+with_left faithful holds leaves says s last Holds left outlives done may (inr (lags, it)) = it left may
 
 -- With what the store holds.
 with_held : {S : Type 0} (holds leaves : S → List Entry → Type 0) (s : S) (last : Stage) (Holds : List Entry → Type 0) → (BookMayLag last → ⊥) → EndsWith holds leaves s last Holds
@@ -289,60 +289,60 @@ with_held : {S : Type 0} (holds leaves : S → List Entry → Type 0) (s : S) (l
 with_held holds leaves s last Holds never (inl it) = it
 with_held holds leaves s last Holds never (inr (lags, it)) = absurd (never lags)
 
-pub does_all : {S L : Type 0} (faithful : S → Type 0) (holds leaves : S → List Entry → Type 0) (did : L → Deed → L → Type 0) → Outlives faithful holds leaves
+pub does_all : {S L : Type 0} (faithful : S → Type 0) (holds leaves : S → List Entry → Type 0) (says : S → StoreFault → Type 0) (did : L → Deed → L → Type 0) → Outlives faithful holds leaves says
     → (ds : List Deed) (m after : MachineView) (old new : Surroundings S L) (kept left : List Entry) (w wire : WireView) (notes : List TillNote)
-    → DidAll (Did faithful holds leaves did) m old ds after new → IsFaithful faithful holds old.store kept new.store → leaves new.store left → AllOnWire w ds wire
+    → DidAll (Did faithful holds leaves says did) m old ds after new → IsFaithful faithful holds old.store kept new.store → leaves new.store left → AllOnWire w ds wire
     → DidAll DoesInTime m (around kept w notes) ds after (around left wire (notes ++ notes_of ds))
-does_all faithful holds leaves did outlives ds m after old new kept left w wire notes all so may on =
-    with_left faithful holds leaves new.store after.stage (Goes m kept w notes ds after wire) left outlives so.done may
-    (goes_all faithful holds leaves did ds m after old new kept w wire notes all so.done so.held on)
+does_all faithful holds leaves says did outlives ds m after old new kept left w wire notes all so may on =
+    with_left faithful holds leaves says new.store after.stage (Goes m kept w notes ds after wire) left outlives so.done may
+    (goes_all faithful holds leaves says did ds m after old new kept w wire notes all so.done so.held on)
 
-pub holds_all : {S L : Type 0} (faithful : S → Type 0) (holds leaves : S → List Entry → Type 0) (did : L → Deed → L → Type 0) (ds : List Deed) (m after : MachineView) (old new : Surroundings S L) (kept : List Entry)
-    (w wire : WireView) (notes : List TillNote) → DidAll (Did faithful holds leaves did) m old ds after new → IsFaithful faithful holds old.store kept new.store → (BookMayLag after.stage → ⊥) → AllOnWire w ds wire
+pub holds_all : {S L : Type 0} (faithful : S → Type 0) (holds leaves : S → List Entry → Type 0) (says : S → StoreFault → Type 0) (did : L → Deed → L → Type 0) (ds : List Deed) (m after : MachineView) (old new : Surroundings S L) (kept : List Entry)
+    (w wire : WireView) (notes : List TillNote) → DidAll (Did faithful holds leaves says did) m old ds after new → IsFaithful faithful holds old.store kept new.store → (BookMayLag after.stage → ⊥) → AllOnWire w ds wire
     → (entries : List Entry) × holds new.store entries × DidAll DoesInTime m (around kept w notes) ds after (around entries wire (notes ++ notes_of ds))
-holds_all faithful holds leaves did ds m after old new kept w wire notes all so never on =
-    with_held holds leaves new.store after.stage (Goes m kept w notes ds after wire) never (goes_all faithful holds leaves did ds m after old new kept w wire notes all so.done so.held on)
+holds_all faithful holds leaves says did ds m after old new kept w wire notes all so never on =
+    with_held holds leaves new.store after.stage (Goes m kept w notes ds after wire) never (goes_all faithful holds leaves says did ds m after old new kept w wire notes all so.done so.held on)
 
 -- ## A line that is like a wire
 
-pub fits_all : {S L : Type 0} (faithful : S → Type 0) (holds leaves : S → List Entry → Type 0) (did : L → Deed → L → Type 0) (fits : L → WireView → Type 0) → FitsWire did fits
-    → (ds : List Deed) (m after : MachineView) (old new : Surroundings S L) (w : WireView) → DidAll (Did faithful holds leaves did) m old ds after new → fits old.line w
+pub fits_all : {S L : Type 0} (faithful : S → Type 0) (holds leaves : S → List Entry → Type 0) (says : S → StoreFault → Type 0) (did : L → Deed → L → Type 0) (fits : L → WireView → Type 0) → FitsWire did fits
+    → (ds : List Deed) (m after : MachineView) (old new : Surroundings S L) (w : WireView) → DidAll (Did faithful holds leaves says did) m old ds after new → fits old.line w
     → (wire : WireView) × AllOnWire w ds wire × fits new.line wire
 unfolding Did
-fits_all {S} {L} faithful holds leaves did fits does [] m after old new w (is, same) like = (w, refl, subst (λ (k : Surroundings S L). fits k.line w) (sym same) like)
-fits_all faithful holds leaves did fits does (Keeps e ∷ ds) m after old new w (mid, between, turns, sound, (appends, same), more) like =
-    fits_all faithful holds leaves did fits does ds mid after between new w more (subst (λ l. fits l w) (sym same) like)
-fits_all faithful holds leaves did fits does (Loses e why ∷ ds) m after old new w (mid, between, turns, sound, (appends, same), more) like =
-    fits_all faithful holds leaves did fits does ds mid after between new w more (subst (λ l. fits l w) (sym same) like)
-fits_all {S} {L} faithful holds leaves did fits does (Tells n ∷ ds) m after old new w (mid, between, turns, sound, same, more) like =
-    fits_all faithful holds leaves did fits does ds mid after between new w more (subst (λ (k : Surroundings S L). fits k.line w) (sym same) like)
-fits_all faithful holds leaves did fits does (Links ∷ ds) m after old new w (mid, between, turns, sound, (so, same), more) like =
+fits_all {S} {L} faithful holds leaves says did fits does [] m after old new w (is, same) like = (w, refl, subst (λ (k : Surroundings S L). fits k.line w) (sym same) like)
+fits_all faithful holds leaves says did fits does (Keeps e ∷ ds) m after old new w (mid, between, turns, sound, (appends, same), more) like =
+    fits_all faithful holds leaves says did fits does ds mid after between new w more (subst (λ l. fits l w) (sym same) like)
+fits_all faithful holds leaves says did fits does (Loses e why ∷ ds) m after old new w (mid, between, turns, sound, (appends, same), more) like =
+    fits_all faithful holds leaves says did fits does ds mid after between new w more (subst (λ l. fits l w) (sym same) like)
+fits_all {S} {L} faithful holds leaves says did fits does (Tells n ∷ ds) m after old new w (mid, between, turns, sound, same, more) like =
+    fits_all faithful holds leaves says did fits does ds mid after between new w more (subst (λ (k : Surroundings S L). fits k.line w) (sym same) like)
+fits_all faithful holds leaves says did fits does (Links ∷ ds) m after old new w (mid, between, turns, sound, (so, same), more) like =
     let (there, on, near) = does old.line between.line Links w tt so like in
-    let (wire, rest, at_end) = fits_all faithful holds leaves did fits does ds mid after between new there more near in
+    let (wire, rest, at_end) = fits_all faithful holds leaves says did fits does ds mid after between new there more near in
     (wire, (there, on, rest), at_end)
-fits_all faithful holds leaves did fits does (Misses ∷ ds) m after old new w (mid, between, turns, sound, (so, same), more) like =
+fits_all faithful holds leaves says did fits does (Misses ∷ ds) m after old new w (mid, between, turns, sound, (so, same), more) like =
     let (there, on, near) = does old.line between.line Misses w tt so like in
-    let (wire, rest, at_end) = fits_all faithful holds leaves did fits does ds mid after between new there more near in
+    let (wire, rest, at_end) = fits_all faithful holds leaves says did fits does ds mid after between new there more near in
     (wire, (there, on, rest), at_end)
-fits_all faithful holds leaves did fits does (Puts bytes ∷ ds) m after old new w (mid, between, turns, sound, (so, same), more) like =
+fits_all faithful holds leaves says did fits does (Puts bytes ∷ ds) m after old new w (mid, between, turns, sound, (so, same), more) like =
     let (there, on, near) = does old.line between.line (Puts bytes) w tt so like in
-    let (wire, rest, at_end) = fits_all faithful holds leaves did fits does ds mid after between new there more near in
+    let (wire, rest, at_end) = fits_all faithful holds leaves says did fits does ds mid after between new there more near in
     (wire, (there, on, rest), at_end)
-fits_all faithful holds leaves did fits does (Breaks bytes why ∷ ds) m after old new w (mid, between, turns, sound, (so, same), more) like =
+fits_all faithful holds leaves says did fits does (Breaks bytes why ∷ ds) m after old new w (mid, between, turns, sound, (so, same), more) like =
     let (there, on, near) = does old.line between.line (Breaks bytes why) w tt so like in
-    let (wire, rest, at_end) = fits_all faithful holds leaves did fits does ds mid after between new there more near in
+    let (wire, rest, at_end) = fits_all faithful holds leaves says did fits does ds mid after between new there more near in
     (wire, (there, on, rest), at_end)
-fits_all faithful holds leaves did fits does (Gives bytes ∷ ds) m after old new w (mid, between, turns, sound, (so, same), more) like =
-    let (there, on, near) = does old.line between.line (Gives bytes) w tt so like in
-    let (wire, rest, at_end) = fits_all faithful holds leaves did fits does ds mid after between new there more near in
+fits_all faithful holds leaves says did fits does (Gives room bytes ∷ ds) m after old new w (mid, between, turns, sound, (so, same), more) like =
+    let (there, on, near) = does old.line between.line (Gives room bytes) w tt so like in
+    let (wire, rest, at_end) = fits_all faithful holds leaves says did fits does ds mid after between new there more near in
     (wire, (there, on, rest), at_end)
-fits_all faithful holds leaves did fits does (Ends why ∷ ds) m after old new w (mid, between, turns, sound, (so, same), more) like =
+fits_all faithful holds leaves says did fits does (Ends why ∷ ds) m after old new w (mid, between, turns, sound, (so, same), more) like =
     let (there, on, near) = does old.line between.line (Ends why) w tt so like in
-    let (wire, rest, at_end) = fits_all faithful holds leaves did fits does ds mid after between new there more near in
+    let (wire, rest, at_end) = fits_all faithful holds leaves says did fits does ds mid after between new there more near in
     (wire, (there, on, rest), at_end)
-fits_all faithful holds leaves did fits does (HangsUp ∷ ds) m after old new w (mid, between, turns, sound, (so, same), more) like =
+fits_all faithful holds leaves says did fits does (HangsUp ∷ ds) m after old new w (mid, between, turns, sound, (so, same), more) like =
     let (there, on, near) = does old.line between.line HangsUp w tt so like in
-    let (wire, rest, at_end) = fits_all faithful holds leaves did fits does ds mid after between new there more near in
+    let (wire, rest, at_end) = fits_all faithful holds leaves says did fits does ds mid after between new there more near in
     (wire, (there, on, rest), at_end)
 
 -- ## A run at whose end the owner is told
@@ -358,8 +358,8 @@ no_turn Links m mid rests (due, is, mid_is) = rests_so m.stage _ is rests
 no_turn Misses m mid rests (due, is, mid_is) = rests_so m.stage _ is rests
 no_turn (Puts bytes) m mid rests (count, next, mid_is) = rests_so m.stage _ next.talks rests
 no_turn (Breaks bytes why) m mid rests (count, next, ended) = rests_so m.stage _ next.talks rests
-no_turn (Gives bytes) m mid rests (waits, given) = rests_so m.stage _ waits.talks rests
-no_turn (Ends why) m mid rests (waits, ended) = rests_so m.stage _ waits.talks rests
+no_turn (Gives room bytes) m mid rests (waits, within, given) = rests_so m.stage _ waits.talks rests
+no_turn (Ends why) m mid rests (room, waits, ended) = rests_so m.stage _ waits.talks rests
 no_turn HangsUp m mid rests (n, is, mid_is) = rests_so m.stage _ is rests
 no_turn (Tells n) m mid rests (is, mid_is) = rests_so m.stage _ is rests
 
@@ -398,7 +398,7 @@ one_note did (Links ∷ ds) n m after old new (mid, between, turns, sound, first
 one_note did (Misses ∷ ds) n m after old new (mid, between, turns, sound, first, more) = one_note did ds n mid after between new more
 one_note did (Puts bytes ∷ ds) n m after old new (mid, between, turns, sound, first, more) = one_note did ds n mid after between new more
 one_note did (Breaks bytes why ∷ ds) n m after old new (mid, between, turns, sound, first, more) = one_note did ds n mid after between new more
-one_note did (Gives bytes ∷ ds) n m after old new (mid, between, turns, sound, first, more) = one_note did ds n mid after between new more
+one_note did (Gives room bytes ∷ ds) n m after old new (mid, between, turns, sound, first, more) = one_note did ds n mid after between new more
 one_note did (Ends why ∷ ds) n m after old new (mid, between, turns, sound, first, more) = one_note did ds n mid after between new more
 one_note did (HangsUp ∷ ds) n m after old new (mid, between, turns, sound, first, more) = one_note did ds n mid after between new more
 
@@ -420,17 +420,17 @@ run_to m after kept entries w wire notes before n most few one all = record {
   turns = few;
 }
 
-pub does_to : {S L : Type 0} (faithful : S → Type 0) (holds leaves : S → List Entry → Type 0) (did : L → Deed → L → Type 0) → Outlives faithful holds leaves
-    → (m after : MachineView) (old new : Surroundings S L) (n : TillNote) (most : ℕ) (ran : RanTo (Did faithful holds leaves did) m old n most after new) (kept left : List Entry) (w wire : WireView) (notes : List TillNote)
+pub does_to : {S L : Type 0} (faithful : S → Type 0) (holds leaves : S → List Entry → Type 0) (says : S → StoreFault → Type 0) (did : L → Deed → L → Type 0) → Outlives faithful holds leaves says
+    → (m after : MachineView) (old new : Surroundings S L) (n : TillNote) (most : ℕ) (ran : RanTo (Did faithful holds leaves says did) m old n most after new) (kept left : List Entry) (w wire : WireView) (notes : List TillNote)
     → IsFaithful faithful holds old.store kept new.store → leaves new.store left → AllOnWire w (ran.before ++ Tells n ∷ []) wire
     → RanTo DoesInTime m (around kept w notes) n most after (around left wire (notes ++ n ∷ []))
-does_to faithful holds leaves did outlives m after old new n most ran kept left w wire notes so may on =
-    run_to m after kept left w wire notes ran.before n most ran.turns (one_note (Did faithful holds leaves did) ran.before n m after old new ran.did_all)
-    (does_all faithful holds leaves did outlives (ran.before ++ Tells n ∷ []) m after old new kept left w wire notes ran.did_all so may on)
+does_to faithful holds leaves says did outlives m after old new n most ran kept left w wire notes so may on =
+    run_to m after kept left w wire notes ran.before n most ran.turns (one_note (Did faithful holds leaves says did) ran.before n m after old new ran.did_all)
+    (does_all faithful holds leaves says did outlives (ran.before ++ Tells n ∷ []) m after old new kept left w wire notes ran.did_all so may on)
 
-pub holds_to : {S L : Type 0} (faithful : S → Type 0) (holds leaves : S → List Entry → Type 0) (did : L → Deed → L → Type 0) (m after : MachineView) (old new : Surroundings S L) (n : TillNote) (most : ℕ)
-    (ran : RanTo (Did faithful holds leaves did) m old n most after new) (kept : List Entry) (w wire : WireView) (notes : List TillNote) → IsFaithful faithful holds old.store kept new.store → (BookMayLag after.stage → ⊥)
+pub holds_to : {S L : Type 0} (faithful : S → Type 0) (holds leaves : S → List Entry → Type 0) (says : S → StoreFault → Type 0) (did : L → Deed → L → Type 0) (m after : MachineView) (old new : Surroundings S L) (n : TillNote) (most : ℕ)
+    (ran : RanTo (Did faithful holds leaves says did) m old n most after new) (kept : List Entry) (w wire : WireView) (notes : List TillNote) → IsFaithful faithful holds old.store kept new.store → (BookMayLag after.stage → ⊥)
     → AllOnWire w (ran.before ++ Tells n ∷ []) wire → (entries : List Entry) × holds new.store entries × RanTo DoesInTime m (around kept w notes) n most after (around entries wire (notes ++ n ∷ []))
-holds_to faithful holds leaves did m after old new n most ran kept w wire notes so never on =
-    let (entries, held, all) = holds_all faithful holds leaves did (ran.before ++ Tells n ∷ []) m after old new kept w wire notes ran.did_all so never on in
-    (entries, held, run_to m after kept entries w wire notes ran.before n most ran.turns (one_note (Did faithful holds leaves did) ran.before n m after old new ran.did_all) all)
+holds_to faithful holds leaves says did m after old new n most ran kept w wire notes so never on =
+    let (entries, held, all) = holds_all faithful holds leaves says did (ran.before ++ Tells n ∷ []) m after old new kept w wire notes ran.did_all so never on in
+    (entries, held, run_to m after kept entries w wire notes ran.before n most ran.turns (one_note (Did faithful holds leaves says did) ran.before n m after old new ran.did_all) all)

@@ -18,3 +18,6 @@ mod Widths
 mod DriverDoes
 mod Served
 mod OffLine
+mod Rows
+mod WireLines
+mod CarryingDeeds

@@ -58,8 +58,8 @@ quiet_on Links m mid quiet (due, is, mid_is) = absurd (quiet_at m.stage _ is qui
 quiet_on Misses m mid quiet (due, is, mid_is) = absurd (quiet_at m.stage _ is quiet)
 quiet_on (Puts bytes) m mid quiet (count, next, mid_is) = absurd (quiet_at m.stage _ next.talks quiet)
 quiet_on (Breaks bytes why) m mid quiet (count, next, ended) = absurd (quiet_at m.stage _ next.talks quiet)
-quiet_on (Gives bytes) m mid quiet (waits, given) = absurd (quiet_at m.stage _ waits.talks quiet)
-quiet_on (Ends why) m mid quiet (waits, ended) = absurd (quiet_at m.stage _ waits.talks quiet)
+quiet_on (Gives room bytes) m mid quiet (waits, within, given) = absurd (quiet_at m.stage _ waits.talks quiet)
+quiet_on (Ends why) m mid quiet (room, waits, ended) = absurd (quiet_at m.stage _ waits.talks quiet)
 quiet_on HangsUp m mid quiet (n, is, mid_is) = absurd (quiet_at m.stage _ is quiet)
 
 quiet_first : (d : Deed) (ds : List Deed) (w : WireView) → (IsOnLine d → ⊥) → AllOnWire w ds w → AllOnWire w (d ∷ ds) w
@@ -70,7 +70,7 @@ quiet_first Links ds w never rest = absurd (never tt)
 quiet_first Misses ds w never rest = absurd (never tt)
 quiet_first (Puts bytes) ds w never rest = absurd (never tt)
 quiet_first (Breaks bytes why) ds w never rest = absurd (never tt)
-quiet_first (Gives bytes) ds w never rest = absurd (never tt)
+quiet_first (Gives room bytes) ds w never rest = absurd (never tt)
 quiet_first (Ends why) ds w never rest = absurd (never tt)
 quiet_first HangsUp ds w never rest = absurd (never tt)
 

@@ -55,7 +55,7 @@ host_sound : (w : World) (m : MachineView) → IsWorld w → w.machine ≡ Some 
 host_sound w m world was = subst IsSound (subst (λ o. IsHostOf o world.host) was world.host_is) world.sound
 
 -- What surrounds the machine is the same then.
-asked_around : (w : World) (m asked : MachineView) (a : Around) (call : Call) → IsAround m a w → Calls m call asked → IsAround asked a (running asked w.kept w.wire w.told)
+pub asked_around : (w : World) (m asked : MachineView) (a : Around) (call : Call) → IsAround m a w → Calls m call asked → IsAround asked a (running asked w.kept w.wire w.told)
 asked_around w m asked a call is calls = record {
   machine = refl;
   surrounds = is.surrounds;
@@ -65,6 +65,12 @@ asked_around w m asked a call is calls = record {
 
 asked_sound : (w : World) (m asked : MachineView) (a : Around) (call : Call) → IsWorld w → IsAround m a w → Calls m call asked → IsSound asked.host
 asked_sound w m asked a call world is calls = subst IsSound (sym (asked_host call m asked calls)) (host_sound w m world is.machine)
+
+-- That world has come.
+pub asked_come : Fitting → (w : World) (m asked : MachineView) (a : Around) (call : Call) → HasCome w → IsWorld w → IsAround m a w → Calls m call asked → MayCall call → HasCome (running asked w.kept w.wire w.told)
+asked_come fitting w m asked a call come world is calls may =
+    let next : World = running asked w.kept w.wire w.told in
+    comes_on w next (happening_of call ∷ []) come (next, called_so fitting call w m asked is.machine calls may (asked_sound w m asked a call world is calls), refl)
 
 -- What a driver did after a call leads to a world that is around the machine.
 pub served_in : Fitting → (w : World) (m asked after : MachineView) (a new : Around) (call : Call) (n : TillNote) (most : ℕ) → HasCome w → IsWorld w → IsAround m a w → Calls m call asked → MayCall call

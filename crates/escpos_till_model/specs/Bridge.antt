@@ -1,12 +1,14 @@
 -- What a driver did on a store and over a line, as the world has it: when the store did what it was asked to, when a wire did what was done
 -- over the line, and what the till's owner was told.
-use Rattle.std.specs.Prelude.{ℕ, ◌≡◌, List, [], ◌∷◌, ◌++◌}
+use Rattle.std.specs.Prelude.{ℕ, ◌≡◌, List, [], ◌∷◌, ◌++◌, map}
 use Rattle.escpos_link.specs.Wire.{WireView}
 use Rattle.escpos_till.specs.declared.entry.Entry.{Entry}
+use Rattle.escpos_till.specs.declared.machine.Stage.TheVariants as stage
 use Rattle.escpos_till.specs.declared.machine.TillNote.{TillNote}
 use Rattle.escpos_till.specs.declared.surroundings.Surroundings.{Surroundings}
-use Rattle.escpos_till.specs.Driver.{Call, Deed, Deliver, GivesUp, Keeps, Loses, Serves, Tells}
-use Rattle.escpos_till.specs.Machine.{MachineView}
+use Rattle.escpos_till.specs.declared.store.StoreFault.{StoreFault}
+use Rattle.escpos_till.specs.Driver.{Answered, Call, Deed, Deliver, GivesUp, Keeps, Loses, Serves, ServesAll, Tells}
+use Rattle.escpos_till.specs.Machine.{MachineView, after_note}
 use Rattle.escpos_till.specs.Surroundings.{Did}
 use Rattle.escpos_till_model.specs.Around.{Around, CrashesTo, DoesInTime, IsAround, around}
 use Rattle.escpos_till_model.specs.declared.event.Happening.{Happening}
@@ -66,24 +68,49 @@ IsOffLine call = Unit {0}
 
 -- A driver has served a call of a till that is in this world, until its owner was told this note: over a line whose deeds a wire did, with a
 -- store that had the world's entries and has done what it was asked to. The wire is this one then.
-pub record IsServed {S L : Type 0} (faithful : S → Type 0) (holds leaves : S → List Entry → Type 0) (did : L → Deed → L → Type 0) (world : World) (m : MachineView) (old : Surroundings S L) (call : Call)
+pub record IsServed {S L : Type 0} (faithful : S → Type 0) (holds leaves : S → List Entry → Type 0) (says : S → StoreFault → Type 0) (did : L → Deed → L → Type 0) (world : World) (m : MachineView) (old : Surroundings S L) (call : Call)
     (note : TillNote) (most : ℕ) (after : MachineView) (new : Surroundings S L) (wire : WireView) : Type 0 where
   pub come : HasCome world
   pub is : IsAround m (around world.kept world.wire world.told) world
-  pub serves : Serves (Did faithful holds leaves did) m old call note most after new
+  pub serves : Serves (Did faithful holds leaves says did) m old call note most after new
   pub may : MayCall call
   pub store : IsFaithful faithful holds old.store world.kept new.store
   pub line : AllOnWire world.wire (serves.runs.before ++ Tells note ∷ []) wire
 
 -- The same, where its owner wasn't told anything within so many deeds.
-pub record IsGivenUp {S L : Type 0} (faithful : S → Type 0) (holds leaves : S → List Entry → Type 0) (did : L → Deed → L → Type 0) (world : World) (m : MachineView) (old : Surroundings S L) (call : Call)
+pub record IsGivenUp {S L : Type 0} (faithful : S → Type 0) (holds leaves : S → List Entry → Type 0) (says : S → StoreFault → Type 0) (did : L → Deed → L → Type 0) (world : World) (m : MachineView) (old : Surroundings S L) (call : Call)
     (most : ℕ) (after : MachineView) (new : Surroundings S L) (wire : WireView) : Type 0 where
   pub come : HasCome world
   pub is : IsAround m (around world.kept world.wire world.told) world
-  pub gives : GivesUp (Did faithful holds leaves did) m old call most after new
+  pub gives : GivesUp (Did faithful holds leaves says did) m old call most after new
   pub may : MayCall call
   pub store : IsFaithful faithful holds old.store world.kept new.store
   pub line : AllOnWire world.wire gives.runs.run.deeds wire
+
+-- ## A row of calls
+
+-- Each of these calls may be made, and the machine is at rest after what its owner was told of it.
+abbrev pub AreMade : List Answered → Type 0
+AreMade [] = Unit {0}
+AreMade (a ∷ more) = MayCall a.call × (after_note a.note ≡ stage.AtRest) × AreMade more
+
+-- What the owner was told of these calls, the oldest first.
+abbrev pub told_of : List Answered → List TillNote
+told_of answered = map (λ a. a.note) answered
+
+-- A driver has served these calls of a till that is in this world, one after another: over a line that stays like a wire, and was like the
+-- world's at first, with a store that had the world's entries and has done what it was asked to.
+pub record AreServed {S L : Type 0} (faithful : S → Type 0) (holds leaves : S → List Entry → Type 0) (says : S → StoreFault → Type 0) (did : L → Deed → L → Type 0) (fits : L → WireView → Type 0) (world : World) (m : MachineView)
+    (old : Surroundings S L) (answered : List Answered) (most : ℕ) (after : MachineView) (new : Surroundings S L) : Type 0 where
+  pub come : HasCome world
+  pub is : IsAround m (around world.kept world.wire world.told) world
+  pub serves : ServesAll (Did faithful holds leaves says did) most m old answered after new
+  pub made : AreMade answered
+  pub store : IsFaithful faithful holds old.store world.kept new.store
+  pub stays : FitsWire did fits
+  pub like : fits old.line world.wire
+
+-- ## In the world
 
 -- Happenings lead from this world to one that is around this machine.
 pub record GoesTo (world : World) (m : MachineView) (a : Around) : Type 0 where

@@ -1,5 +1,6 @@
--- What a till puts on its links, and with which mark numbers: told of the bytes on each link, over every run of the world.
-use Rattle.std.specs.Prelude.{ℕ, zero, suc, ◌≡◌, ◌+◌, ◌<◌, ◌≤◌, map, Option, Some, None, List, [], ◌∷◌, ◌++◌, take}
+-- What a till puts on its links, and with which mark numbers: told of the bytes on each link, over every run of the world, and of a driver.
+use Rattle.std.specs.Prelude.{ℕ, zero, suc, ◌≡◌, ◌≢◌, ◌+◌, ◌<◌, ◌≤◌, map, Option, Some, None, List, [], ◌∷◌, ◌++◌, length, take}
+use Rattle.std.specs.List.{AllByRecursion}
 use Rattle.escpos_command.specs.declared.command.Command.{Command}
 use Rattle.escpos_command.specs.CommandTable.{AreCommands, spell}
 use Rattle.escpos_command.specs.Digits.{mark_of}
@@ -10,6 +11,7 @@ use Rattle.escpos_till.specs.declared.machine.Stage.{Stage}
 use Rattle.escpos_till.specs.declared.machine.Stage.TheVariants as stage
 use Rattle.escpos_till.specs.declared.machine.Then.{Then}
 use Rattle.escpos_till.specs.declared.machine.Then.TheVariants as then
+use Rattle.escpos_till.specs.Driver.{Breaks, Deed, Keeps, Puts}
 use Rattle.escpos_till.specs.Entries.{next_free}
 use Rattle.escpos_till.specs.Machine.{MachineView}
 use Rattle.escpos_till_model.specs.declared.event.Happening.{Happening}
@@ -82,3 +84,26 @@ pub record HasOwnMarks (l : Carried) : Type 0 where
 abbrev pub AreApart : ℕ → List Carried → ℕ → Type 0
 AreApart low [] high = low ≤ high
 AreApart low (l ∷ ls) high = (l.limit ≤ high) × (l.first < l.limit) × AreApart low ls l.first
+
+-- ## What a driver puts
+
+-- The link of an entry that is kept after these, if a receipt is tried by it.
+abbrev pub link_for : List Entry → Entry → List Carried
+link_for kept (entry.Tried number limit) = record { first = next_free kept; limit = limit; bytes = [] } ∷ []
+link_for kept e = []
+
+-- The links after these deeds, where the store had these entries and these links were there before: one for each entry by which a receipt is
+-- tried, with what was put since then. Nothing is put before there is one. Where a link broke, some of the bytes were put, or none or all.
+abbrev pub CarriesBy : List Entry → List Deed → List Carried → List Carried → Type 0
+CarriesBy kept [] before links = links ≡ before
+CarriesBy kept (Keeps e ∷ ds) before links = CarriesBy (kept ++ e ∷ []) ds (link_for kept e ++ before) links
+CarriesBy kept (Puts bytes ∷ ds) before links = (before ≢ []) × CarriesBy kept ds (with_put bytes before) links
+CarriesBy kept (Breaks bytes why ∷ ds) before links = (count : ℕ) × (count ≤ length bytes) × (before ≢ []) × CarriesBy kept ds (with_put (take count bytes) before) links
+CarriesBy kept (d ∷ ds) before links = CarriesBy kept ds before links
+
+-- These deeds have such links, where the store had these entries at first and has those at the end. Each link has mark numbers of its own, and
+-- no others are put on it.
+pub record UsesMarksOnce (kept : List Entry) (deeds : List Deed) (left : List Entry) : Type 0 where
+  pub some : (links : List Carried) × CarriesBy kept deeds [] links
+  pub apart : (links : List Carried) → CarriesBy kept deeds [] links → AreApart (next_free kept) links (next_free left)
+  pub own : (links : List Carried) → CarriesBy kept deeds [] links → AllByRecursion HasOwnMarks links

@@ -16,18 +16,19 @@ ghost use Rattle.escpos_till.specs.declared.surroundings.Surroundings.{Surroundi
 ghost use Rattle.escpos_till.specs.Entries.{IsLedger, Taken, next_free, recorded, taken, waiting};
 ghost use Rattle.escpos_host.specs.Machine.{IsSound};
 ghost use Rattle.escpos_till.specs.Book.{IsBookOf};
-ghost use Rattle.escpos_till.specs.Driver.{Call, Ran, RanTo, Serves, Tells};
+ghost use Rattle.escpos_till.specs.Driver.{Answered, Call, Ran, RanTo, Serves, Tells};
 ghost use Rattle.escpos_till.specs.Machine.{Delivers, IsStarted, MachineView, RefusesDeliver, after_note};
 ghost use Rattle.escpos_till.specs.Surroundings.{Did};
 ghost use Rattle.escpos_till_model.specs.Around.{Around, CrashesTo, DoesInTime, IsAround, Reaches, around};
-ghost use Rattle.escpos_till_model.specs.Bridge.{AllOnWire, EndsIn, FitsWire, GoesTo, IsFaithful, IsGivenUp, IsOffLine, IsServed, notes_of};
+ghost use Rattle.escpos_till_model.specs.Bridge.{AllOnWire, AreServed, EndsIn, FitsWire, GoesTo, IsFaithful, IsGivenUp, IsOffLine, IsServed, notes_of, told_of};
 ghost use Rattle.std.specs.List.{AllByRecursion};
-ghost use Rattle.escpos_till_model.specs.Carried.{AreApart, Carried, Carries, HasOwnMarks};
+ghost use Rattle.escpos_till_model.specs.Carried.{AreApart, Carried, Carries, HasOwnMarks, UsesMarksOnce};
 ghost use Rattle.escpos_till_model.specs.Receipts.{Among, EachIsKept, Extends, RecordedStand};
 ghost use Rattle.escpos_till_model.specs.declared.event.Happening.{Happening};
 ghost use Rattle.escpos_till_model.specs.Known.{BookMayLag, IsWorld};
 ghost use Rattle.escpos_till_model.specs.World.{Begins, HasCome, Runs, World, off};
 
+use crate::wire_line::{SameWire, WireLine};
 use escpos_till::{PrinterLine, Store};
 
 /// In every ledger each receipt that was taken waits or is recorded, and none is both; what is recorded was taken, and none is
@@ -106,16 +107,16 @@ pub fn a_driven_till_is_in_the_world()
 /// the entry or not. Otherwise that is what it holds. The wire is the one that comes of the line's deeds, and the owner was told the notes of
 /// all deeds, which is one if the run ends with it.
 pub fn what_a_driver_did<S: Store, L: PrinterLine>()
-    ensures ran { (m after : MachineView) (old new : Surroundings S L) (ran : Ran (Did S.faithful S.holds S.leaves L.did) m old after new) (kept left : List Entry) (w wire : WireView) (told : List TillNote)
+    ensures ran { (m after : MachineView) (old new : Surroundings S L) (ran : Ran (Did S.faithful S.holds S.leaves S.says L.did) m old after new) (kept left : List Entry) (w wire : WireView) (told : List TillNote)
         → IsFaithful S.faithful S.holds old.store kept new.store → S.leaves new.store left → AllOnWire w ran.deeds wire
         → Ran DoesInTime m (around kept w told) after (around left wire (told ++ notes_of ran.deeds)) }
-    ensures told { (m after : MachineView) (old new : Surroundings S L) (note : TillNote) (most : ℕ) (ran : RanTo (Did S.faithful S.holds S.leaves L.did) m old note most after new) (kept left : List Entry)
+    ensures told { (m after : MachineView) (old new : Surroundings S L) (note : TillNote) (most : ℕ) (ran : RanTo (Did S.faithful S.holds S.leaves S.says L.did) m old note most after new) (kept left : List Entry)
         (w wire : WireView) (told : List TillNote) → IsFaithful S.faithful S.holds old.store kept new.store → S.leaves new.store left → AllOnWire w (ran.before ++ Tells note ∷ []) wire
         → RanTo DoesInTime m (around kept w told) note most after (around left wire (told ++ note ∷ [])) }
-    ensures held { (m after : MachineView) (old new : Surroundings S L) (ran : Ran (Did S.faithful S.holds S.leaves L.did) m old after new) (kept : List Entry) (w wire : WireView) (told : List TillNote)
+    ensures held { (m after : MachineView) (old new : Surroundings S L) (ran : Ran (Did S.faithful S.holds S.leaves S.says L.did) m old after new) (kept : List Entry) (w wire : WireView) (told : List TillNote)
         → IsFaithful S.faithful S.holds old.store kept new.store → (BookMayLag after.stage → ⊥) → AllOnWire w ran.deeds wire
         → (entries : List Entry) × S.holds new.store entries × Ran DoesInTime m (around kept w told) after (around entries wire (told ++ notes_of ran.deeds)) }
-    ensures was_faithful { (m after : MachineView) (old new : Surroundings S L) → Ran (Did S.faithful S.holds S.leaves L.did) m old after new → S.faithful new.store → S.faithful old.store }
+    ensures was_faithful { (m after : MachineView) (old new : Surroundings S L) → Ran (Did S.faithful S.holds S.leaves S.says L.did) m old after new → S.faithful new.store → S.faithful old.store }
 {}
 
 /// When a line is like a wire to a printer. For proofs alone: whoever calls `a_line_is_like_a_wire` has a type of his own that says it.
@@ -126,38 +127,86 @@ pub trait LikeWire<L: PrinterLine> {
 
 /// A line that stays like a wire, deed by deed: a wire did what a driver did over it, and it is like that wire at the end.
 pub fn a_line_is_like_a_wire<S: Store, L: PrinterLine, W: LikeWire<L>>()
-    ensures ran { FitsWire L.did W.fits → (m after : MachineView) (old new : Surroundings S L) (ran : Ran (Did S.faithful S.holds S.leaves L.did) m old after new) (w : WireView) → W.fits old.line w
+    ensures ran { FitsWire L.did W.fits → (m after : MachineView) (old new : Surroundings S L) (ran : Ran (Did S.faithful S.holds S.leaves S.says L.did) m old after new) (w : WireView) → W.fits old.line w
         → (wire : WireView) × AllOnWire w ran.deeds wire × W.fits new.line wire }
-    ensures told { FitsWire L.did W.fits → (m after : MachineView) (old new : Surroundings S L) (note : TillNote) (most : ℕ) (ran : RanTo (Did S.faithful S.holds S.leaves L.did) m old note most after new) (w : WireView)
+    ensures told { FitsWire L.did W.fits → (m after : MachineView) (old new : Surroundings S L) (note : TillNote) (most : ℕ) (ran : RanTo (Did S.faithful S.holds S.leaves S.says L.did) m old note most after new) (w : WireView)
         → W.fits old.line w → (wire : WireView) × AllOnWire w (ran.before ++ Tells note ∷ []) wire × W.fits new.line wire }
+{}
+
+/// A line in memory to the printer of a wire stays like the wire that it has: it is a line of which all that is proved of the world holds.
+pub fn a_line_in_memory_is_like_its_wire()
+    ensures { FitsWire ⟦<WireLine as PrinterLine>⟧.did ⟦<SameWire as LikeWire<WireLine>>⟧.fits }
 {}
 
 /// A call of a till's machine that a driver has served, in a world that has come of one that began: happenings lead to a world around the
 /// machine as it is then, whose store has what it holds, or what a crash may leave now, and whose owner was told the note. So the next call may
 /// follow, or a crash; what is recorded stands on the paper, each receipt that was taken is kept, and the note is so.
 pub fn a_served_till_is_in_the_world<S: Store, L: PrinterLine>()
-    ensures served { (world : World) (m after : MachineView) (old new : Surroundings S L) (call : Call) (note : TillNote) (most : ℕ) (wire : WireView) → IsServed S.faithful S.holds S.leaves L.did world m old call note most after new wire
+    ensures served { (world : World) (m after : MachineView) (old new : Surroundings S L) (call : Call) (note : TillNote) (most : ℕ) (wire : WireView) → IsServed S.faithful S.holds S.leaves S.says L.did world m old call note most after new wire
         → after_note note ≡ stage.AtRest → (entries : List Entry) × S.holds new.store entries × (after.stage ≡ stage.AtRest) × GoesTo world after (around entries wire (world.told ++ note ∷ [])) }
-    ensures may_leave { (world : World) (m after : MachineView) (old new : Surroundings S L) (call : Call) (note : TillNote) (most : ℕ) (wire : WireView) (left : List Entry) → IsServed S.faithful S.holds S.leaves L.did world m old call note most after new wire
+    ensures may_leave { (world : World) (m after : MachineView) (old new : Surroundings S L) (call : Call) (note : TillNote) (most : ℕ) (wire : WireView) (left : List Entry) → IsServed S.faithful S.holds S.leaves S.says L.did world m old call note most after new wire
         → S.leaves new.store left → GoesTo world after (around left wire (world.told ++ note ∷ [])) }
     ensures given_up { (world : World) (m after : MachineView) (old new : Surroundings S L) (call : Call) (most : ℕ) (wire : WireView) (left : List Entry)
-        (it : IsGivenUp S.faithful S.holds S.leaves L.did world m old call most after new wire) → S.leaves new.store left → EndsIn world after (around left wire (world.told ++ notes_of it.gives.runs.run.deeds)) }
-    ensures off_line { (m after : MachineView) (old new : Surroundings S L) (call : Call) (note : TillNote) (most : ℕ) (serves : Serves (Did S.faithful S.holds S.leaves L.did) m old call note most after new) (w : WireView)
+        (it : IsGivenUp S.faithful S.holds S.leaves S.says L.did world m old call most after new wire) → S.leaves new.store left → EndsIn world after (around left wire (world.told ++ notes_of it.gives.runs.run.deeds)) }
+    ensures off_line { (m after : MachineView) (old new : Surroundings S L) (call : Call) (note : TillNote) (most : ℕ) (serves : Serves (Did S.faithful S.holds S.leaves S.says L.did) m old call note most after new) (w : WireView)
         → IsOffLine call → AllOnWire w (serves.runs.before ++ Tells note ∷ []) w }
     ensures starts { (world : World) (m : MachineView) → HasCome world → world.machine ≡ None → IsStarted m → IsBookOf m.book world.kept → IsSound m.host → GoesTo world m (around world.kept world.wire world.told) }
     ensures stops { (world : World) (m : MachineView) → HasCome world → IsAround m (around world.kept world.wire world.told) world → Begins (off world world.wire) }
-    ensures stands { (world : World) (m after : MachineView) (old new : Surroundings S L) (call : Call) (note : TillNote) (most : ℕ) (wire : WireView) (left : List Entry) → IsServed S.faithful S.holds S.leaves L.did world m old call note most after new wire
+    ensures stands { (world : World) (m after : MachineView) (old new : Surroundings S L) (call : Call) (note : TillNote) (most : ℕ) (wire : WireView) (left : List Entry) → IsServed S.faithful S.holds S.leaves S.says L.did world m old call note most after new wire
         → S.leaves new.store left → RecordedStand wire.printer.sheet.line_dots left wire.printer.sheet.items }
-    ensures kept { (world : World) (m after : MachineView) (old new : Surroundings S L) (call : Call) (note : TillNote) (most : ℕ) (wire : WireView) (left : List Entry) → IsServed S.faithful S.holds S.leaves L.did world m old call note most after new wire
+    ensures kept { (world : World) (m after : MachineView) (old new : Surroundings S L) (call : Call) (note : TillNote) (most : ℕ) (wire : WireView) (left : List Entry) → IsServed S.faithful S.holds S.leaves S.says L.did world m old call note most after new wire
         → S.leaves new.store left → EachIsKept left × Extends world.kept left }
     ensures queued { (world : World) (m after : MachineView) (old new : Surroundings S L) (call : Call) (number most : ℕ) (wire : WireView) (left : List Entry)
-        → IsServed S.faithful S.holds S.leaves L.did world m old call (note.Queued number) most after new wire → S.leaves new.store left → (0 < number) × (number ≤ length (taken left)) }
+        → IsServed S.faithful S.holds S.leaves S.says L.did world m old call (note.Queued number) most after new wire → S.leaves new.store left → (0 < number) × (number ≤ length (taken left)) }
     ensures recorded { (world : World) (m after : MachineView) (old new : Surroundings S L) (call : Call) (number most : ℕ) (wire : WireView) (left : List Entry)
-        → IsServed S.faithful S.holds S.leaves L.did world m old call (note.Recorded number) most after new wire → S.leaves new.store left → Among number (recorded left) }
+        → IsServed S.faithful S.holds S.leaves S.says L.did world m old call (note.Recorded number) most after new wire → S.leaves new.store left → Among number (recorded left) }
 {
     escpos_link::laws::fitting();
     every_world();
     what_is_recorded_stands();
+}
+
+/// Calls of a till's machine that a driver has served one after another, in a world that has come of one that began, over a line that stays like
+/// the world's wire: happenings lead to a world around the machine as it is then, with the entries that the store holds then and a wire that the
+/// line is like. So the next call may follow, or a crash; what is recorded stands on that wire's paper, each receipt that was taken is kept, and
+/// all that the owner was told is so.
+pub fn a_row_of_calls_is_in_the_world<S: Store, L: PrinterLine, W: LikeWire<L>>()
+    ensures served { (world : World) (m after : MachineView) (old new : Surroundings S L) (answered : List Answered) (most : ℕ) → AreServed S.faithful S.holds S.leaves S.says L.did W.fits world m old answered most after new
+        → (entries : List Entry) × (wire : WireView) × S.holds new.store entries × W.fits new.line wire × GoesTo world after (around entries wire (world.told ++ told_of answered)) }
+    ensures may_leave { (world : World) (m after : MachineView) (old new : Surroundings S L) (answered : List Answered) (most : ℕ) (left : List Entry)
+        → AreServed S.faithful S.holds S.leaves S.says L.did W.fits world m old answered most after new → S.leaves new.store left
+        → (wire : WireView) × W.fits new.line wire × GoesTo world after (around left wire (world.told ++ told_of answered)) }
+    ensures stands { (world : World) (m after : MachineView) (old new : Surroundings S L) (answered : List Answered) (most : ℕ) (left : List Entry)
+        → AreServed S.faithful S.holds S.leaves S.says L.did W.fits world m old answered most after new → S.leaves new.store left
+        → (wire : WireView) × W.fits new.line wire × RecordedStand wire.printer.sheet.line_dots left wire.printer.sheet.items }
+    ensures kept { (world : World) (m after : MachineView) (old new : Surroundings S L) (answered : List Answered) (most : ℕ) (left : List Entry)
+        → AreServed S.faithful S.holds S.leaves S.says L.did W.fits world m old answered most after new → S.leaves new.store left → EachIsKept left × Extends world.kept left }
+    ensures queued { (world : World) (m after : MachineView) (old new : Surroundings S L) (answered : List Answered) (number most : ℕ) (left : List Entry)
+        → AreServed S.faithful S.holds S.leaves S.says L.did W.fits world m old answered most after new → S.leaves new.store left → Among (note.Queued number) (told_of answered)
+        → (0 < number) × (number ≤ length (taken left)) }
+    ensures recorded { (world : World) (m after : MachineView) (old new : Surroundings S L) (answered : List Answered) (number most : ℕ) (left : List Entry)
+        → AreServed S.faithful S.holds S.leaves S.says L.did W.fits world m old answered most after new → S.leaves new.store left → Among (note.Recorded number) (told_of answered)
+        → Among number (recorded left) }
+{
+    escpos_link::laws::fitting();
+    every_world();
+    what_is_recorded_stands();
+}
+
+/// What a driver puts out, told of its deeds: each entry by which a receipt is tried has a link, whose mark numbers that entry has reserved
+/// before, and nothing is put but on such a link. The marks in what is put have these numbers, each once and in order; so no mark number goes
+/// out twice, in one call or in the next.
+pub fn a_driver_uses_marks_once<S: Store, L: PrinterLine>()
+    ensures ran { (w : World) (m after : MachineView) (a new : Around) (ran : Ran DoesInTime m a after new) → HasCome w → IsAround m a w → UsesMarksOnce a.kept ran.deeds new.kept }
+    ensures served { (world : World) (m after : MachineView) (old new : Surroundings S L) (call : Call) (note : TillNote) (most : ℕ) (wire : WireView) (left : List Entry)
+        (it : IsServed S.faithful S.holds S.leaves S.says L.did world m old call note most after new wire) → S.leaves new.store left → UsesMarksOnce world.kept (it.serves.runs.before ++ Tells note ∷ []) left }
+    ensures given_up { (world : World) (m after : MachineView) (old new : Surroundings S L) (call : Call) (most : ℕ) (wire : WireView) (left : List Entry)
+        (it : IsGivenUp S.faithful S.holds S.leaves S.says L.did world m old call most after new wire) → S.leaves new.store left → UsesMarksOnce world.kept it.gives.runs.run.deeds left }
+    ensures both { (low mid high : ℕ) (links others : List Carried) → AreApart low links mid → AreApart mid others high → AreApart low (others ++ links) high }
+{
+    escpos_command::laws::mark_numbers();
+    escpos_link::laws::fitting();
+    every_world();
 }
 
 // Proof only: what holds of every world holds of one that has come of a world that began.

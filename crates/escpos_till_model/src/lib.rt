@@ -7,13 +7,16 @@
 //! whoever runs the machine. `specs/Known.antt` says why it holds at all times.
 //!
 //! `Till` is such a world that runs: a program may let happen to it what it likes, one by one or as a list. `event` has what may happen,
-//! and why it doesn't; `parts` has what a till is made of, and what each happening does to it.
+//! and why it doesn't; `parts` has what a till is made of, and what each happening does to it. `WireLine` is a line for a driver, to the
+//! printer of such a wire.
 #![tactic(auto)]
 
 mod event;
 pub mod laws;
 mod parts;
 mod till;
+mod wire_line;
 
 pub use event::{Happening, NotPossible};
 pub use till::Till;
+pub use wire_line::{SameWire, WireLine};

@@ -21,15 +21,15 @@ use Rattle.escpos_till_model.proofs.laws.a_served_till_is_in_the_world.Goals as 
 
 pub returns-clause-served : goal.returns-clause-served
 returns-clause-served g c = λ world m after old new call n most wire it rest.
-    let at_rest : after.stage ≡ stage.AtRest = stage_at_end (Did g.S.Store.faithful g.S.Store.holds g.S.Store.leaves g.L.PrinterLine.did) it.serves.runs.before n it.serves.asked after old new it.serves.runs.did_all ∙ rest in
-    let (entries, held, ran) = holds_to g.S.Store.faithful g.S.Store.holds g.S.Store.leaves g.L.PrinterLine.did it.serves.asked after old new n most it.serves.runs world.kept world.wire wire world.told it.store
+    let at_rest : after.stage ≡ stage.AtRest = stage_at_end (Did g.S.Store.faithful g.S.Store.holds g.S.Store.leaves g.S.Store.says g.L.PrinterLine.did) it.serves.runs.before n it.serves.asked after old new it.serves.runs.did_all ∙ rest in
+    let (entries, held, ran) = holds_to g.S.Store.faithful g.S.Store.holds g.S.Store.leaves g.S.Store.says g.L.PrinterLine.did it.serves.asked after old new n most it.serves.runs world.kept world.wire wire world.told it.store
     (λ lags. subst BookMayLag at_rest lags) it.line in
     let known = c.every_world.ensures it.come.first world it.come.happenings it.come.begins it.come.runs in
     (entries, held, at_rest, served_in c.fitting.ensures world m it.serves.asked after _ _ call n most it.come known it.is it.serves.calls it.may ran)
 
 pub returns-clause-may_leave : goal.returns-clause-may_leave
 returns-clause-may_leave g c = λ world m after old new call n most wire left it may.
-    let ran = does_to g.S.Store.faithful g.S.Store.holds g.S.Store.leaves g.L.PrinterLine.did g.met.S.Store.outlives it.serves.asked after old new n most it.serves.runs world.kept left world.wire wire world.told it.store may
+    let ran = does_to g.S.Store.faithful g.S.Store.holds g.S.Store.leaves g.S.Store.says g.L.PrinterLine.did g.met.S.Store.outlives it.serves.asked after old new n most it.serves.runs world.kept left world.wire wire world.told it.store may
     it.line in
     served_in c.fitting.ensures world m it.serves.asked after _ _ call n most it.come (c.every_world.ensures it.come.first world it.come.happenings it.come.begins it.come.runs) it.is it.serves.calls it.may ran
 
@@ -38,7 +38,7 @@ returns-clause-given_up g c = λ world m after old new call most wire left it ma
     let run = it.gives.runs.run in
     let ran : Ran DoesInTime it.gives.asked (around world.kept world.wire world.told) after (around left wire (world.told ++ notes_of run.deeds)) = record {
       deeds = run.deeds;
-      did_all = does_all g.S.Store.faithful g.S.Store.holds g.S.Store.leaves g.L.PrinterLine.did g.met.S.Store.outlives run.deeds it.gives.asked after old new world.kept left world.wire wire world.told run.did_all it.store may it.line;
+      did_all = does_all g.S.Store.faithful g.S.Store.holds g.S.Store.leaves g.S.Store.says g.L.PrinterLine.did g.met.S.Store.outlives run.deeds it.gives.asked after old new world.kept left world.wire wire world.told run.did_all it.store may it.line;
     } in
     let known = c.every_world.ensures it.come.first world it.come.happenings it.come.begins it.come.runs in
     let crashes = switched_off c.fitting.ensures world m it.gives.asked after _ _ call known it.is it.gives.calls it.may ran in
@@ -47,7 +47,7 @@ returns-clause-given_up g c = λ world m after old new call most wire left it ma
 
 pub returns-clause-off_line : goal.returns-clause-off_line
 returns-clause-off_line g c = λ m after old new call n most it w off.
-    off_line (Did g.S.Store.faithful g.S.Store.holds g.S.Store.leaves g.L.PrinterLine.did) call (it.runs.before ++ Tells n ∷ []) m it.asked after old new w off it.calls it.runs.did_all
+    off_line (Did g.S.Store.faithful g.S.Store.holds g.S.Store.leaves g.S.Store.says g.L.PrinterLine.did) call (it.runs.before ++ Tells n ∷ []) m it.asked after old new w off it.calls it.runs.did_all
 
 pub returns-clause-starts : goal.returns-clause-starts
 returns-clause-starts g c = started_in
