@@ -1,5 +1,7 @@
 //! Where the program keeps a till's ledger: in a database file, with its log beside it.
 
+ghost use Rattle.std.specs.Prelude.{◌≡◌};
+
 use escpos_store::SqliteStore;
 use escpos_till::NoStore;
 use escpos_till_jobs::{LedgerPath, Ledgers};
@@ -13,7 +15,9 @@ pub struct LedgerFiles<'r> {
 
 impl<'r> LedgerFiles<'r> {
     /// The files that this program can reach.
-    pub fn new(rt: &'r HostRuntime) -> Self {
+    pub fn new(rt: &'r HostRuntime) -> Self
+        ensures { result.rt.now ≡ rt.now }
+    {
         LedgerFiles { rt }
     }
 }
@@ -22,13 +26,13 @@ impl<'r> LedgerFiles<'r> {
 pub type FileLedgerStore = SqliteStore<FileStore<FileFrom<Unknown>>>;
 
 impl Ledgers<FileLedgerStore> for LedgerFiles<'_> {
-    // The system's own: nothing is said of it.
-    ghost opened = { λ files path result. Unit {0} };
+    // What is at the path is the system's own.
+    ghost opened = { λ old path result new. new ≡ old };
 
-    ghost closed = { λ files store. Unit {0} };
+    ghost closed = { λ old store new. new ≡ old };
 
     // A file that isn't there is made.
-    fn open(&self, path: &LedgerPath<'_>) -> Result<FileLedgerStore, NoStore> {
+    fn open(&mut self, path: &LedgerPath<'_>) -> Result<FileLedgerStore, NoStore> {
         match FileLedgerStore::open(self.rt, path.text(), Unknown) {
             Ok(store) => Ok(store),
             Err((why, _)) => Err(why),
@@ -36,7 +40,7 @@ impl Ledgers<FileLedgerStore> for LedgerFiles<'_> {
     }
 
     // Copies the log into the database file, and closes both. What was kept outlives a crash already, so nothing is lost where this fails.
-    fn close(&self, store: FileLedgerStore) {
+    fn close(&mut self, store: FileLedgerStore) {
         let _ = store.into_files();
     }
 }

@@ -24,7 +24,7 @@ pub use escpos_jobs::{
     check, draw, emulate, encode, loop_link, perform, play, render, send, status, task,
 };
 use escpos_probe::probe;
-use escpos_till_jobs::perform_till;
+use escpos_till_jobs::{NetworkLines, perform_till};
 use std::process::ExitCode;
 use std::{env, io};
 
@@ -72,7 +72,9 @@ fn perform_word<R: ByteIn, W: ByteOut>(
 {
     if is_till_word(word) {
         let task = till_task_of(rt.alloc(), words)?;
-        return Ok(perform_till(rt.alloc(), &LedgerFiles::new(rt), rt, task, input, output));
+        let mut ledgers = LedgerFiles::new(rt);
+        let mut lines = NetworkLines::new(rt);
+        return Ok(perform_till(rt.alloc(), &mut ledgers, &mut lines, task, input, output));
     }
     if is_probe_word(word) {
         let task = probe_task_of(rt.alloc(), words)?;

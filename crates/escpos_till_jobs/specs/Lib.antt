@@ -1,7 +1,8 @@
 pub mod Lines
 pub mod Opening
 pub mod Outcomes
+pub mod Outputs
 pub mod Delivering
 pub mod LinkLine
-pub mod WithStore
+pub mod Words
 pub mod Performing

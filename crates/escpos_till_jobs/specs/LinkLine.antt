@@ -3,7 +3,9 @@ use Rattle.std.specs.Prelude.{ℕ, Bool, ◌≡◌, ◌≤◌, ◌⊎◌, Option
 use Rattle.std.specs.Io.KnownBytes.{Appends, Consumes}
 use Rattle.escpos_host.specs.declared.send.SendFault.{SendFault}
 use Rattle.escpos_host.specs.declared.send.SendFault.TheVariants as fault
+use Rattle.escpos_jobs.specs.declared.address.Address.{Address}
 use Rattle.escpos_till.specs.Driver.{Breaks, Deed, Ends, Gives, HangsUp, Links, Misses, Puts}
+use Rattle.escpos_till_jobs.specs.declared.link_line.AtAddress.{AtAddress}
 use Rattle.escpos_till_jobs.specs.declared.link_line.Link.{Link}
 use Rattle.escpos_till_jobs.specs.declared.link_line.LinkLine.{LinkLine}
 
@@ -41,11 +43,12 @@ SinkSays s w why = ⊥
 abbrev pub PutPart : {W : Type 0} → Sink W → List ℕ → SendFault → W → W → Type 0
 PutPart s bytes why before after = (count : ℕ) × (count ≤ length bytes) × Appends (s.written before) (s.written after) (take count bytes) × SinkSays s after why
 
--- What each deed does with a link: with its source, or with its sink, and the other is as it was.
+-- What each deed does with a link: with its source, or with its sink, and the other is as it was. Where there is room, at least one byte comes, or the source
+-- has ended.
 abbrev pub LinkDid : {R W : Type 0} → Source R → Sink W → Link R W → Deed → Link R W → Type 0
 LinkDid from to old (Puts bytes) new = (new.reader ≡ old.reader) × Appends (to.written old.writer) (to.written new.writer) bytes
 LinkDid from to old (Breaks bytes why) new = (new.reader ≡ old.reader) × PutPart to bytes why old.writer new.writer
-LinkDid from to old (Gives bytes) new = (new.writer ≡ old.writer) × Consumes (from.to_come old.reader) (from.to_come new.reader) bytes
+LinkDid from to old (Gives room bytes) new = (new.writer ≡ old.writer) × Consumes (from.to_come old.reader) (from.to_come new.reader) bytes × (bytes ≡ [] → room ≡ 0)
 LinkDid from to old (Ends why) new = (new.writer ≡ old.writer) × Consumes (from.to_come old.reader) (from.to_come new.reader) [] × SourceSays from new.reader why
 LinkDid from to old deed new = ⊥
 
@@ -59,24 +62,42 @@ pub record WithLink {R W D : Type 0} (from : Source R) (to : Sink W) (old : Link
   pub done : LinkDid from to before deed after
 
 -- There is no link.
-abbrev pub HasNone : {R W D : Type 0} → LinkLine R W D → LinkLine R W D → Type 0
-HasNone old new = (old.link ≡ None) × (new ≡ old)
+abbrev pub LacksLink : {R W D : Type 0} → LinkLine R W D → LinkLine R W D → Type 0
+LacksLink old new = (old.link ≡ None) × (new ≡ old)
 
--- What each deed does. A deed of the store or of the owner isn't the line's.
-abbrev pub OverLink : {R W D : Type 0} → Source R → Sink W → (D → Option (Link R W) → D → Type 0) → LinkLine R W D → Deed → LinkLine R W D → Type 0
-OverLink from to dialled old Links new = (link : Link _ _) × dialled old.dialler (Some link) new.dialler × (new.link ≡ Some link)
-OverLink from to dialled old Misses new = dialled old.dialler None new.dialler × (new.link ≡ None)
-OverLink from to dialled old (Puts bytes) new = WithLink from to old (Puts bytes) new
-OverLink from to dialled old (Breaks bytes why) new = HasNone old new ⊎ WithLink from to old (Breaks bytes why) new
-OverLink from to dialled old (Gives bytes) new = WithLink from to old (Gives bytes) new
-OverLink from to dialled old (Ends why) new = HasNone old new ⊎ WithLink from to old (Ends why) new
-OverLink from to dialled old HangsUp new = (new.link ≡ None) × (new.dialler ≡ old.dialler)
-OverLink from to dialled old deed new = ⊥
+-- The link that was open is taken back by the dialler, which closes it.
+pub record TakenBack {R W D : Type 0} (closed : D → Link R W → D → Type 0) (old new : LinkLine R W D) : Type 0 where
+  pub link : Link R W
+  pub was : old.link ≡ Some link
+  pub none : new.link ≡ None
+  pub dialler : closed old.dialler link new.dialler
+
+-- A link is dialled; one that is open then is of no more use.
+pub record Dialled {R W D : Type 0} (dialled : D → Option (Link R W) → D → Type 0) (old : LinkLine R W D) (link : Option (Link R W)) (new : LinkLine R W D) : Type 0 where
+  pub dialler : dialled old.dialler link new.dialler
+  pub is : new.link ≡ link
+
+-- What each deed does; where there is no link, nothing is put, and nothing comes. A deed of the store or of the owner isn't the line's.
+abbrev pub OverLink : {R W D : Type 0} → Source R → Sink W → (D → Option (Link R W) → D → Type 0) → (D → Link R W → D → Type 0) → LinkLine R W D → Deed → LinkLine R W D → Type 0
+OverLink from to dialled closed old Links new = (link : Link _ _) × Dialled dialled old (Some link) new
+OverLink from to dialled closed old Misses new = Dialled dialled old None new
+OverLink from to dialled closed old (Puts bytes) new = WithLink from to old (Puts bytes) new
+OverLink from to dialled closed old (Breaks bytes why) new = (LacksLink old new × (why ≡ fault.WriteFault)) ⊎ WithLink from to old (Breaks bytes why) new
+OverLink from to dialled closed old (Gives room bytes) new = WithLink from to old (Gives room bytes) new
+OverLink from to dialled closed old (Ends why) new = (LacksLink old new × (why ≡ fault.Ended)) ⊎ WithLink from to old (Ends why) new
+OverLink from to dialled closed old HangsUp new = LacksLink old new ⊎ TakenBack closed old new
+OverLink from to dialled closed old deed new = ⊥
+
+-- The dialler dials this address over this network; if a number is given, with waits of at most so many seconds.
+pub record Dials {N : Type 0} (net : N) (address : Address) (wait : Option ℕ) (d : AtAddress N) : Type 0 where
+  pub to : d.address ≡ address
+  pub over : d.net.now ≡ net
+  pub within : d.wait ≡ wait
 
 -- This is all that can be done where there never is a link.
 abbrev pub HasNoLink : Deed → Type 0
 HasNoLink Misses = Unit {0}
-HasNoLink (Breaks bytes why) = Unit {0}
-HasNoLink (Ends why) = Unit {0}
+HasNoLink (Breaks bytes why) = why ≡ fault.WriteFault
+HasNoLink (Ends why) = why ≡ fault.Ended
 HasNoLink HangsUp = Unit {0}
 HasNoLink deed = ⊥

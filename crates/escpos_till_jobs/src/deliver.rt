@@ -4,8 +4,6 @@
 //! one receipt after another, and what it tells is printed.
 
 ghost use Rattle.std.specs.Prelude.{◌≡◌, ◌≢◌, ℕ, IfErr, OnOk, IsTrue};
-ghost use Rattle.std.specs.Io.KnownBytes.{Appends};
-ghost use Rattle.escpos_jobs.specs.Ending.{job_end};
 ghost use Rattle.escpos_till.specs.Driver.{Deliver, Serves};
 ghost use Rattle.escpos_till.specs.declared.machine.TillNote.TheVariants as note;
 ghost use Rattle.escpos_till.specs.Machine.{RefusesDeliver};
@@ -13,6 +11,7 @@ ghost use Rattle.escpos_till.specs.Surroundings.{Did};
 ghost use Rattle.escpos_till_jobs.specs.Delivering.{DeliversAndTells, RoundEnds, asked};
 ghost use Rattle.escpos_till_jobs.specs.Lines.{recorded_line};
 ghost use Rattle.escpos_till_jobs.specs.Outcomes.{Becomes};
+ghost use Rattle.escpos_till_jobs.specs.Outputs.{Took, output_of};
 ghost use Rattle.escpos_till_jobs.specs.declared.outcome.TheConstants.{MOST_DEEDS};
 
 use crate::outcome::{Outcome, follow, tell, tell_if_recorded};
@@ -45,8 +44,8 @@ pub fn deliver_waiting<S: Store, L: PrinterLine, W: ByteOut>(
     delivery: &Delivery<'_>,
     output: &mut W,
 ) -> Status
-    ensures delivers { DeliversAndTells (Did S.faithful S.holds S.leaves L.did) delivery.now machine.old around.old machine.new around.new
-        (job_end (W.written output.old) (W.written output.new) (W.failed output.new) result) }
+    ensures delivers { DeliversAndTells (Did S.faithful S.holds S.leaves S.says L.did) delivery.now machine.old around.old (output_of (W.written output.old) (W.failed output.old))
+        machine.new around.new (output_of (W.written output.new) (W.failed output.new)) result }
     ensures not_hidden { result ≢ Status.Device → ¬ IsTrue (W.failed output.old) → ¬ IsTrue (W.failed output.new) }
     ensures never_usage { result ≢ Status.Usage }
 {
@@ -65,11 +64,10 @@ fn deliver_next<S: Store, L: PrinterLine, W: ByteOut>(
     delivery: &Delivery<'_>,
     output: &mut W,
 ) -> Result<(), Status>
-    ensures recorded { OnOk result ((number : ℕ) × Serves (Did S.faithful S.holds S.leaves L.did) machine.old around.old (asked delivery.now) (note.Recorded number) MOST_DEEDS machine.new around.new
-        × Appends (W.written output.old) (W.written output.new) (recorded_line number)) }
-    ensures not_failed { OnOk result (¬ IsTrue (W.failed output.old) → ¬ IsTrue (W.failed output.new)) }
-    ensures ended { IfErr result (λ status. RoundEnds (Did S.faithful S.holds S.leaves L.did) delivery.now machine.old around.old machine.new around.new
-        (job_end (W.written output.old) (W.written output.new) (W.failed output.new) status)) }
+    ensures recorded { OnOk result ((number : ℕ) × Serves (Did S.faithful S.holds S.leaves S.says L.did) machine.old around.old (asked delivery.now) (note.Recorded number) MOST_DEEDS machine.new around.new
+        × Took (output_of (W.written output.old) (W.failed output.old)) (recorded_line number) (output_of (W.written output.new) (W.failed output.new))) }
+    ensures ended { IfErr result (λ status. RoundEnds (Did S.faithful S.holds S.leaves S.says L.did) delivery.now machine.old around.old (output_of (W.written output.old) (W.failed output.old))
+        machine.new around.new (output_of (W.written output.new) (W.failed output.new)) status) }
     ensures not_hidden { IfErr result (λ status. status ≢ Status.Device → ¬ IsTrue (W.failed output.old) → ¬ IsTrue (W.failed output.new)) }
     ensures never_usage { IfErr result (λ status. status ≢ Status.Usage) }
 {
@@ -85,7 +83,7 @@ fn delivered<S: Store, L: PrinterLine>(
     around: &mut Surroundings<S, L>,
     delivery: &Delivery<'_>,
 ) -> Outcome
-    ensures { Becomes (Did S.faithful S.holds S.leaves L.did) (RefusesDeliver machine.old delivery.now.openings) machine.old around.old (asked delivery.now) result machine.new around.new }
+    ensures { Becomes (Did S.faithful S.holds S.leaves S.says L.did) (RefusesDeliver machine.old delivery.now.openings) machine.old around.old (asked delivery.now) result machine.new around.new }
 {
     match machine.deliver(delivery.openings, delivery.copy.as_ref(), ANSWERS_LIMIT) {
         Ok(()) => {

@@ -5,12 +5,13 @@
 ghost use Rattle.std.specs.Prelude.{◌≡◌, ◌≤◌, length, take, Option, None, Some, IfErr, IfOk, OnOk, IsTrue};
 ghost use Rattle.escpos_till.specs.Driver.{Breaks, Ends, Gives, HangsUp, Links, Misses, Puts};
 ghost use Rattle.escpos_till_jobs.specs.declared.link_line.Link.{Link as Opened};
-ghost use Rattle.escpos_till_jobs.specs.LinkLine.{HasNoLink, LinkDid, OverLink, sink, source};
+ghost use Rattle.escpos_till_jobs.specs.LinkLine.{Dials, HasNoLink, LinkDid, OverLink, sink, source};
 
 use escpos_host::SendFault;
 use escpos_io::{ByteIn, ByteOut, Failed, Incoming, Outgoing, put_all};
 use escpos_jobs::address::Address;
 use escpos_jobs::printer_link::{LinkReader, LinkWriter, PrinterLink, Printers};
+use escpos_jobs::wait::Within;
 use escpos_till::PrinterLine;
 
 /// A link: a source of answers, and a sink.
@@ -37,7 +38,7 @@ impl<R: ByteIn, W: ByteOut> Link<R, W> {
     // Waits for bytes of answers. Their end is told as `Ended`.
     fn pull(&mut self, room: &mut [u8]) -> Result<usize, SendFault>
         ensures within { IfOk result (λ count. count ≤ length room.old) }
-        ensures gives { IfOk result (λ count. LinkDid (source R.to_come R.ended R.failed R.timed_out) (sink W.written W.failed W.timed_out) self.old (Gives (take count room.new)) self.new) }
+        ensures gives { IfOk result (λ count. LinkDid (source R.to_come R.ended R.failed R.timed_out) (sink W.written W.failed W.timed_out) self.old (Gives (length room.old) (take count room.new)) self.new) }
         ensures ends { IfErr result (λ why. LinkDid (source R.to_come R.ended R.failed R.timed_out) (sink W.written W.failed W.timed_out) self.old (Ends why) self.new) }
     {
         match self.reader.pull(room) {
@@ -53,9 +54,16 @@ pub trait Dial<R, W> {
     // It opened this link, or none, and then it is so.
     ghost dialled: { Self → Option (Opened R W) → Self → Type 0 };
 
+    // It closed this link, and then it is so.
+    ghost closed: { Self → Opened R W → Self → Type 0 };
+
     /// Opens a link; `None` if there is none.
     fn dial(&mut self) -> Option<Link<R, W>>
         ensures { dialled self.old result self.new };
+
+    /// Closes a link that it opened.
+    fn close(&mut self, link: Link<R, W>)
+        ensures { closed self.old link self.new };
 }
 
 /// A line over the links that are dialled.
@@ -82,7 +90,8 @@ impl<R: ByteIn + Drop, W: ByteOut + Drop, D: Dial<R, W>> PrinterLine for LinkLin
     ghost did = { OverLink
         (source R.to_come R.ended R.failed R.timed_out)
         (sink W.written W.failed W.timed_out)
-        D.dialled };
+        D.dialled
+        D.closed };
 
     fn connect(&mut self) -> bool {
         self.link = self.dialler.dial();
@@ -108,38 +117,54 @@ impl<R: ByteIn + Drop, W: ByteOut + Drop, D: Dial<R, W>> PrinterLine for LinkLin
     }
 
     fn hang_up(&mut self) {
-        self.link = None;
+        if let Some(link) = self.link.take() {
+            self.dialler.close(link);
+        }
     }
 }
 
 /// Dials a printer's address over a network, or opens its device file.
 #[derive(Drop)]
-pub struct AtAddress<'n, N: Printers> {
+pub struct AtAddress<'n, N> {
     net: &'n N,
     address: Address,
+    wait: Option<u32>,
 }
 
 impl<'n, N: Printers> AtAddress<'n, N> {
-    /// Dials this address.
-    pub fn new(net: &'n N, address: Address) -> Self
-        ensures { result.address ≡ address }
+    /// Dials this address. If `wait` is given, no wait over its links lasts longer than so many seconds.
+    pub fn new(net: &'n N, address: Address, wait: Option<u32>) -> Self
+        ensures { Dials net.now address wait result }
     {
-        AtAddress { net, address }
+        AtAddress { net, address, wait }
     }
 }
 
 impl<N: Printers> Dial<Incoming<LinkReader>, Outgoing<LinkWriter>> for AtAddress<'_, N> {
-    // The system's own: nothing is said of it.
-    ghost dialled = { λ old link new. Unit {0} };
+    // Which link it opens is the system's own; address, network and wait stay.
+    ghost dialled = { λ old link new. new ≡ old };
+
+    ghost closed = { λ old link new. new ≡ old };
 
     fn dial(&mut self) -> Option<Link<Incoming<LinkReader>, Outgoing<LinkWriter>>> {
-        match self.address.connect(self.net) {
+        let connected = match self.wait {
+            Some(seconds) => self.address.connect(&Within::new(self.net, seconds)),
+            None => self.address.connect(self.net),
+        };
+        match connected {
             Ok(PrinterLink { reader, writer }) => Some(Link {
                 reader: Incoming::new(reader),
                 writer: Outgoing::new(writer),
             }),
             Err(_) => None,
         }
+    }
+
+    // Both of its ways are closed.
+    fn close(&mut self, link: Link<Incoming<LinkReader>, Outgoing<LinkWriter>>)
+        ensures { self.new ≡ self.old }
+    {
+        drop(link);
     }
 }
 

@@ -33,7 +33,7 @@ pub fn list<S: Store, L: PrinterLine, W: ByteOut>(
     first: Option<u32>,
     output: &mut W,
 ) -> Status
-    ensures lists { RaisesAndLists (Did S.faithful S.holds S.leaves L.did) machine.old around.old first machine.new around.new
+    ensures lists { RaisesAndLists (Did S.faithful S.holds S.leaves S.says L.did) machine.old around.old first machine.new around.new
         (job_end (W.written output.old) (W.written output.new) (W.failed output.new) result) }
     ensures not_hidden { result ≢ Status.Device → ¬ IsTrue (W.failed output.old) → ¬ IsTrue (W.failed output.new) }
     ensures never_usage { result ≢ Status.Usage }
@@ -53,7 +53,7 @@ fn raised<S: Store, L: PrinterLine>(
     around: &mut Surroundings<S, L>,
     first: u32,
 ) -> Outcome
-    ensures { Becomes (Did S.faithful S.holds S.leaves L.did) (RefusesRaise machine.old first) machine.old around.old (Raise first) result machine.new around.new }
+    ensures { Becomes (Did S.faithful S.holds S.leaves S.says L.did) (RefusesRaise machine.old first) machine.old around.old (Raise first) result machine.new around.new }
 {
     match machine.raise(first) {
         Ok(()) => follow(machine, around),

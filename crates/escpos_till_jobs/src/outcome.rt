@@ -44,7 +44,7 @@ pub(crate) fn follow<S: Store, L: PrinterLine>(
     around: &mut Surroundings<S, L>,
 ) -> Outcome
     requires { Rests machine.old.stage → ⊥ }
-    ensures { Follows (Did S.faithful S.holds S.leaves L.did) machine.old around.old result machine.new around.new }
+    ensures { Follows (Did S.faithful S.holds S.leaves S.says L.did) machine.old around.old result machine.new around.new }
 {
     match drive(machine, around, MOST_DEEDS) {
         Some(note) => Outcome::Told(note),

@@ -53,7 +53,7 @@ pub fn queue_receipt<S: Store, L: PrinterLine, W: ByteOut>(
     content: ReceiptContent,
     output: &mut W,
 ) -> Status
-    ensures queues { BecomesAndTells (Did S.faithful S.holds S.leaves L.did) (RefusesAny machine.old) machine.old around.old (Queue content) machine.new around.new
+    ensures queues { BecomesAndTells (Did S.faithful S.holds S.leaves S.says L.did) (RefusesAny machine.old) machine.old around.old (Queue content) machine.new around.new
         (job_end (W.written output.old) (W.written output.new) (W.failed output.new) result) }
     ensures not_hidden { result ≢ Status.Device → ¬ IsTrue (W.failed output.old) → ¬ IsTrue (W.failed output.new) }
     ensures never_usage { result ≢ Status.Usage }
@@ -68,7 +68,7 @@ fn queued<S: Store, L: PrinterLine>(
     around: &mut Surroundings<S, L>,
     content: ReceiptContent,
 ) -> Outcome
-    ensures { Becomes (Did S.faithful S.holds S.leaves L.did) (RefusesAny machine.old) machine.old around.old (Queue content) result machine.new around.new }
+    ensures { Becomes (Did S.faithful S.holds S.leaves S.says L.did) (RefusesAny machine.old) machine.old around.old (Queue content) result machine.new around.new }
 {
     match machine.queue(content) {
         Ok(()) => follow(machine, around),

@@ -1,28 +1,33 @@
 -- Each task is done as it says.
-use Rattle.std.proofs.Common.{sym, ◌∙◌, ap, subst, inl, inr, Err}
+use Rattle.std.proofs.Common.{sym, ◌∙◌, ap, subst, inl, inr, refl, Err}
+use Rattle.escpos_till_jobs.specs.Outputs.{output_of}
 use Rattle.escpos_till_jobs.specs.Performing.{OfDeliver, OfDeliverWithin, OfList, OfQueue}
 use Rattle.escpos_till_jobs.proofs.Tasks.{refuses_for}
 use Rattle.escpos_till_jobs.proofs.perform.perform_till.Goals as goal
 
 pub returns-in-Ok-clause-queue : goal.returns-in-Ok-clause-queue
 returns-in-Ok-clause-queue g c =
-    subst (OfQueue _) (sym c.in-Queue.is) (inr (c.in-Ok.content, record { text = c.in-Ok.ensures.text; receipt = c.in-Ok.ensures.receipt }, c.queue_in.ensures.does))
+    subst (OfQueue _) (sym c.in-Queue.is)
+    (inr (c.in-Ok.content, record { text = c.in-Ok.ensures.text; receipt = c.in-Ok.ensures.receipt }, _, c.do_at.result.0, c.do_at.ensures.does))
 
 pub returns-in-Err-clause-queue : goal.returns-in-Err-clause-queue
 returns-in-Err-clause-queue g c =
     subst (OfQueue _) (sym c.in-Queue.is)
     (inl (
       c.in-Err.fault,
-      refuses_for c.in-Err.fault c.in-Queue.options _ _ _ (λ why same. c.read_content.ensures.refused why (c.in-Err.is ∙ ap Err same)) (λ same. c.read_content.ensures.too_long (c.in-Err.is ∙ ap Err same))
-          (λ same. c.read_content.ensures.device (c.in-Err.is ∙ ap Err same)) (λ same. c.read_content.ensures.bytes (c.in-Err.is ∙ ap Err same))
-          c.refuse_input.ensures.too_long c.refuse_input.ensures.refused c.refuse_input.ensures.memory (λ same. (c.refuse_input.ensures.device same).0),
+      refl,
+      refuses_for c.in-Err.fault c.in-Queue.options _ _ (output_of (g.W.ByteOut.written c.args.output.now) (g.W.ByteOut.failed c.args.output.now))
+          (output_of (g.W.ByteOut.written c.refuse_input.new.output) (g.W.ByteOut.failed c.refuse_input.new.output)) _ (λ why same. c.read_content.ensures.refused why (c.in-Err.is ∙ ap Err same))
+          (λ same. c.read_content.ensures.too_long (c.in-Err.is ∙ ap Err same)) (λ same. c.read_content.ensures.device (c.in-Err.is ∙ ap Err same)) (λ same. c.read_content.ensures.bytes (c.in-Err.is ∙ ap Err same))
+          c.refuse_input.ensures.too_long c.refuse_input.ensures.refused c.refuse_input.ensures.memory
+          (λ same. ((c.refuse_input.ensures.device same).0, ap (λ o. output_of (g.W.ByteOut.written o) (g.W.ByteOut.failed o)) (c.refuse_input.ensures.device same).1)),
     ))
 
 pub returns-in-Deliver-clause-deliver : goal.returns-in-Deliver-clause-deliver
-returns-in-Deliver-clause-deliver g c = subst (OfDeliver _) (sym c.in-Deliver.is) c.deliver_in.ensures.does
+returns-in-Deliver-clause-deliver g c = subst (OfDeliver _) (sym c.in-Deliver.is) c.deliver_at.ensures.does
 
 pub returns-in-DeliverWithin-clause-deliver_within : goal.returns-in-DeliverWithin-clause-deliver_within
-returns-in-DeliverWithin-clause-deliver_within g c = subst (OfDeliverWithin _) (sym c.in-DeliverWithin.is) c.deliver_in-in-DeliverWithin.ensures.does
+returns-in-DeliverWithin-clause-deliver_within g c = subst (OfDeliverWithin _) (sym c.in-DeliverWithin.is) c.deliver_at-in-DeliverWithin.ensures.does
 
 pub returns-in-List-clause-list : goal.returns-in-List-clause-list
-returns-in-List-clause-list g c = subst (OfList _) (sym c.in-List.is) c.list_in.ensures.does
+returns-in-List-clause-list g c = subst (OfList _) (sym c.in-List.is) (_, c.do_at-in-List.result.0, c.do_at-in-List.ensures.does)

@@ -1,7 +1,0 @@
--- The word was done with the machine of the ledger.
-use Rattle.std.proofs.Common.{inr}
-use Rattle.escpos_till_jobs.proofs.with_store.list_with.Goals as goal
-
-pub returns-in-Ok-clause-does : goal.returns-in-Ok-clause-does
-returns-in-Ok-clause-does g c =
-    inr (c.in-Ok.machine, c.list-status.new.machine, c.open_machine.new.store, c.in-Ok.ensures.opens, c.open_machine.ensures.was_faithful, (_, c.list-status.new.around.line, c.list-status.ensures.lists))
