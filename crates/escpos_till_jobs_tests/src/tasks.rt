@@ -4,9 +4,8 @@ use crate::support::tills::{Nobody, OneLedger, S, printer_address, store_of};
 use escpos_io::{MemoryIn, MemoryOut};
 use escpos_jobs::status::Status;
 use escpos_receipt::ReceiptOptions;
-use escpos_till_jobs::{Delivery, LedgerPath, TillTask, deliver_in, perform_till};
+use escpos_till_jobs::{Delivery, LedgerPath, NetworkLines, TillTask, perform_till};
 use std::alloc::Global;
-use std::cell::Cell;
 use std::process::Abort;
 
 // What is printed, and the status.
@@ -17,11 +16,33 @@ fn is_told(rt: &impl Abort, (put, status): (&[u8], Status), wanted: Told) {
     assert!(rt; status == wanted.1);
 }
 
+// What is asked of a ledger, and the input. Nobody is reached.
+fn performs(
+    rt: &impl Abort,
+    alloc: Global,
+    ledger: &mut OneLedger,
+    (task, text): (TillTask<'_>, &[u8]),
+    wanted: Told,
+) {
+    let mut room = [0; 64];
+    let mut input = MemoryIn::new(text, 7);
+    let mut output = MemoryOut::new(&mut room);
+    let status = perform_till(
+        alloc,
+        ledger,
+        &mut NetworkLines::new(&Nobody),
+        task,
+        &mut input,
+        &mut output,
+    );
+    is_told(rt, (output.written(), status), wanted);
+}
+
 // A receipt is taken into the ledger at a path.
 fn queues(
     rt: &impl Abort,
     alloc: Global,
-    ledger: &OneLedger,
+    ledger: &mut OneLedger,
     (path, text): (&str, &[u8]),
     wanted: Told,
 ) {
@@ -29,38 +50,39 @@ fn queues(
         ledger: LedgerPath::new(path),
         options: ReceiptOptions::usual(),
     };
-    let mut room = [0; 64];
-    let mut input = MemoryIn::new(text, 7);
-    let mut output = MemoryOut::new(&mut room);
-    let status = perform_till(alloc, ledger, &Nobody, task, &mut input, &mut output);
-    is_told(rt, (output.written(), status), wanted);
+    performs(rt, alloc, ledger, (task, text), wanted);
 }
 
 // The ledger at a path is listed.
-fn lists(rt: &impl Abort, alloc: Global, ledger: &OneLedger, path: &str, wanted: Told) {
+fn lists(rt: &impl Abort, alloc: Global, ledger: &mut OneLedger, path: &str, wanted: Told) {
     let task = TillTask::List {
         ledger: LedgerPath::new(path),
         first: None,
     };
-    let mut room = [0; 64];
-    let mut input = MemoryIn::new(b"", 7);
-    let mut output = MemoryOut::new(&mut room);
-    let status = perform_till(alloc, ledger, &Nobody, task, &mut input, &mut output);
-    is_told(rt, (output.written(), status), wanted);
+    performs(rt, alloc, ledger, (task, b""), wanted);
 }
 
-// The receipts that wait in the ledger at a path are delivered, where nobody is reached.
-fn delivers(rt: &impl Abort, alloc: Global, ledger: &OneLedger, path: &str, wanted: Told) {
-    let delivery = Delivery {
+fn delivery() -> Delivery<'static> {
+    Delivery {
         address: printer_address().into(),
         openings: 1,
         copy: None,
+    }
+}
+
+// The receipts that wait in the ledger at a path are delivered, with a wait and without.
+fn delivers(rt: &impl Abort, alloc: Global, ledger: &mut OneLedger, path: &str, wanted: Told) {
+    let task = TillTask::Deliver {
+        ledger: LedgerPath::new(path),
+        delivery: delivery(),
     };
-    let path = LedgerPath::new(path);
-    let mut room = [0; 64];
-    let mut output = MemoryOut::new(&mut room);
-    let status = deliver_in(alloc, ledger, &Nobody, &path, &delivery, &mut output);
-    is_told(rt, (output.written(), status), wanted);
+    performs(rt, alloc, ledger, (task, b""), wanted);
+    let task = TillTask::DeliverWithin {
+        ledger: LedgerPath::new(path),
+        delivery: delivery(),
+        wait: 1,
+    };
+    performs(rt, alloc, ledger, (task, b""), wanted);
 }
 
 const NO_LEDGER: Told = ("no ledger\n", Status::Device);
@@ -70,32 +92,32 @@ const IN_USE: Told = ("ledger in use\n", Status::Device);
 // At another path there is no ledger. A text that is no receipt is refused before one is opened.
 #[test]
 fn taken_and_listed(rt: HostRuntime) {
-    let ledger = OneLedger {
+    let mut ledger = OneLedger {
         path: "a",
-        store: Cell::new(Some(store_of(&rt, rt.alloc(), &[]))),
+        store: Some(store_of(&rt, rt.alloc(), &[])),
     };
     let refused = ("refused 3 TextLeft\n", Status::Refused);
     let no_receipt = b"[{\"text\":\"Hi\"}]".as_slice();
     let queued = ("queued 1\n", Status::Good);
-    queues(&rt, rt.alloc(), &ledger, ("a", S), queued);
-    queues(&rt, rt.alloc(), &ledger, ("b", no_receipt), refused);
-    queues(&rt, rt.alloc(), &ledger, ("b", S), NO_LEDGER);
-    lists(&rt, rt.alloc(), &ledger, "b", NO_LEDGER);
-    delivers(&rt, rt.alloc(), &ledger, "b", NO_LEDGER);
+    queues(&rt, rt.alloc(), &mut ledger, ("a", S), queued);
+    queues(&rt, rt.alloc(), &mut ledger, ("b", no_receipt), refused);
+    queues(&rt, rt.alloc(), &mut ledger, ("b", S), NO_LEDGER);
+    lists(&rt, rt.alloc(), &mut ledger, "b", NO_LEDGER);
+    delivers(&rt, rt.alloc(), &mut ledger, "b", NO_LEDGER);
     let no_link = ("waiting 1 no link\n", Status::Device);
-    delivers(&rt, rt.alloc(), &ledger, "a", no_link);
+    delivers(&rt, rt.alloc(), &mut ledger, "a", no_link);
     let listed = ("1 waiting\nnext 0\n", Status::Good);
-    lists(&rt, rt.alloc(), &ledger, "a", listed);
+    lists(&rt, rt.alloc(), &mut ledger, "a", listed);
 }
 
 // A ledger that is open is in use.
 #[test]
 fn in_use(rt: HostRuntime) {
-    let ledger = OneLedger {
+    let mut ledger = OneLedger {
         path: "a",
-        store: Cell::new(None),
+        store: None,
     };
-    queues(&rt, rt.alloc(), &ledger, ("a", S), IN_USE);
-    lists(&rt, rt.alloc(), &ledger, "a", IN_USE);
-    delivers(&rt, rt.alloc(), &ledger, "a", IN_USE);
+    queues(&rt, rt.alloc(), &mut ledger, ("a", S), IN_USE);
+    lists(&rt, rt.alloc(), &mut ledger, "a", IN_USE);
+    delivers(&rt, rt.alloc(), &mut ledger, "a", IN_USE);
 }

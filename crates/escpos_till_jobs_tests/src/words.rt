@@ -3,7 +3,7 @@
 //! Each word opens the ledger of the store that it is given, as in the program, and gives the store back.
 
 use crate::support::tills::{
-    A, Plain, Prepared, S, answered_link, line_over, listens, printer_address, store_of,
+    A, Plain, Prepared, S, answered_link, done_with, line_over, listens, printer_address, store_of,
 };
 use escpos_command::LineWidth;
 use escpos_io::{MemoryIn, MemoryOut};
@@ -16,8 +16,8 @@ use escpos_till::{
     CopyText, Entry, Failure, MemoryStore, NoStore, ReceiptContent, Surroundings, TillMachine,
 };
 use escpos_till_jobs::{
-    AtAddress, Delivery, LinkLine, NoLine, deliver_waiting, deliver_with, list, list_with,
-    open_machine, queue_receipt, queue_with, read_content, refuse_store,
+    AtAddress, Delivery, LinkLine, NoLine, Word, deliver_waiting, list, open_machine,
+    queue_receipt, read_content, refuse_store,
 };
 use std::alloc::Global;
 use std::net::SocketAddrV4;
@@ -48,7 +48,7 @@ fn queues_so(
     let mut room = [0; 64];
     let mut output = MemoryOut::new(&mut room);
     let (store, status) = match read_content(alloc, options, &mut MemoryIn::new(text, 7)) {
-        Ok(content) => queue_with(alloc, store, content, &mut output),
+        Ok(content) => done_with(alloc, (store, NoLine), Word::Queue(content), &mut output),
         Err(fault) => (store, refuse_input(fault, &mut output)),
     };
     is_told(rt, (output.written(), status), wanted);
@@ -74,7 +74,7 @@ fn lists(
 ) -> MemoryStore {
     let mut room = [0; 64];
     let mut output = MemoryOut::new(&mut room);
-    let (store, status) = list_with(alloc, store, first, &mut output);
+    let (store, status) = done_with(alloc, (store, NoLine), Word::List(first), &mut output);
     is_told(rt, (output.written(), status), wanted);
     store
 }
@@ -215,10 +215,10 @@ fn delivers<N: Printers>(
     wanted: Told,
 ) -> MemoryStore {
     let delivery = delivery_to(address);
-    let line = LinkLine::new(AtAddress::new(net, delivery.address));
+    let line = LinkLine::new(AtAddress::new(net, delivery.address, None));
     let mut room = [0; 64];
     let mut output = MemoryOut::new(&mut room);
-    let (store, status) = deliver_with(alloc, store, line, &delivery, &mut output);
+    let (store, status) = done_with(alloc, (store, line), Word::Deliver(delivery), &mut output);
     is_told(rt, (output.written(), status), wanted);
     store
 }
@@ -282,7 +282,7 @@ fn delivers_over_memory(
     let (mut sent, mut room) = ([0; 100], [0; 64]);
     let mut output = MemoryOut::new(&mut room);
     let line = line_over(answers, &mut sent);
-    let (store, status) = deliver_with(alloc, store, line, &delivery, &mut output);
+    let (store, status) = done_with(alloc, (store, line), Word::Deliver(delivery), &mut output);
     is_told(rt, (output.written(), status), wanted);
     is_put(rt, &sent, out);
     store
@@ -349,9 +349,14 @@ fn failed_output(rt: HostRuntime) {
     let mut room = [0; 64];
     let mut output = MemoryOut::failing(&mut room, 1);
     let content = receipt(&rt, rt.alloc());
-    let (store, status) = queue_with(rt.alloc(), new_store(rt.alloc()), content, &mut output);
+    let (store, status) = done_with(
+        rt.alloc(),
+        (new_store(rt.alloc()), NoLine),
+        Word::Queue(content),
+        &mut output,
+    );
     assert!(&rt; status == Status::Device);
-    let (store, status) = list_with(rt.alloc(), store, None, &mut output);
+    let (store, status) = done_with(rt.alloc(), (store, NoLine), Word::List(None), &mut output);
     assert!(&rt; status == Status::Device);
     let listed = ("1 waiting\nnext 0\n", Status::Good);
     let _store = lists(&rt, rt.alloc(), store, None, listed);

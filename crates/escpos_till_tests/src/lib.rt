@@ -6,7 +6,7 @@
 //! costs most.
 //!
 //! `till` is of the machine and its driver, over a store in memory; `model` of the simulated till; `store` of the store in SQLite, `long`
-//! of long ledgers in it, and `cut` of such whose files are cut off; `memory` lets each allocation of a call fail in turn. What they
+//! of long ledgers in it, and `cut` of such whose files are cut off; `wire_line` of a till over a line in memory; `memory` lets each allocation of a call fail in turn. What they
 //! share is in `support`.
 #![tactic(auto)]
 
@@ -24,3 +24,5 @@ mod store;
 mod support;
 #[cfg(test)]
 mod till;
+#[cfg(test)]
+mod wire_line;

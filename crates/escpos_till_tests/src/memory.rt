@@ -8,3 +8,4 @@ mod machine;
 mod model;
 mod store;
 mod till;
+mod wire_line;

@@ -2,7 +2,7 @@
 //!
 //! A word that is refused memory prints `memory` and nothing else, and gives the store back; then the word is given again.
 
-use crate::support::tills::{Nobody, OneLedger, S, line_over, printer_address};
+use crate::support::tills::{Nobody, OneLedger, S, done_with, line_over, printer_address};
 use escpos_io::{ByteIn, MemoryIn, MemoryOut};
 use escpos_jobs::ending::MEMORY;
 use escpos_jobs::input::InputFault;
@@ -13,11 +13,10 @@ use escpos_till::{
     Entry, Failure, MemoryStore, NoStore, ReceiptContent, ReceiptState, TillMachine,
 };
 use escpos_till_jobs::{
-    Delivery, LedgerPath, TillTask, deliver_in, deliver_with, list_with, open_machine,
-    perform_till, queue_with, read_content,
+    Delivery, LedgerPath, NetworkLines, NoLine, TillTask, Word, open_machine, perform_till,
+    read_content,
 };
 use std::alloc::Global;
-use std::cell::Cell;
 use std::process::Abort;
 
 // A word prints this. Answers no where memory is refused: then that alone is said.
@@ -94,7 +93,7 @@ fn queues(rt: &impl Abort, alloc: Global, store: MemoryStore) -> (MemoryStore, b
     let mut room = [0; 64];
     let mut output = MemoryOut::new(&mut room);
     let content = content_at_last(rt, alloc);
-    let (store, status) = queue_with(alloc, store, content, &mut output);
+    let (store, status) = done_with(alloc, (store, NoLine), Word::Queue(content), &mut output);
     let is = is_told(rt, (output.written(), status), b"queued 1\n");
     (store, is)
 }
@@ -120,7 +119,7 @@ fn queue_refused(rt: HostRuntime) {
 fn lists(rt: &impl Abort, alloc: Global, store: MemoryStore) -> (MemoryStore, bool) {
     let mut room = [0; 64];
     let mut output = MemoryOut::new(&mut room);
-    let (store, status) = list_with(alloc, store, Some(6), &mut output);
+    let (store, status) = done_with(alloc, (store, NoLine), Word::List(Some(6)), &mut output);
     let is = is_told(rt, (output.written(), status), b"1 waiting\nnext 6\n");
     (store, is)
 }
@@ -153,11 +152,10 @@ fn delivers(rt: &impl Abort, alloc: Global, store: MemoryStore) -> (MemoryStore,
         5 => b"\x37\x220005\x00\x37\x220006\x00".as_slice(),
         _ => b"\x37\x220007\x00\x37\x220008\x00".as_slice(),
     };
-    let delivery = delivery();
     let (mut sent, mut room) = ([0; 100], [0; 64]);
     let mut output = MemoryOut::new(&mut room);
     let line = line_over(answers, &mut sent);
-    let (store, status) = deliver_with(alloc, store, line, &delivery, &mut output);
+    let (store, status) = done_with(alloc, (store, line), Word::Deliver(delivery()), &mut output);
     let is = is_told(rt, (output.written(), status), b"recorded 1\n");
     (store, is)
 }
@@ -175,43 +173,62 @@ fn deliver_refused(rt: HostRuntime) {
     assert!(&rt; machine.states() == [ReceiptState::Recorded { place: 0 }].as_slice());
 }
 
-// S is taken into a ledger at a path.
-fn performs(rt: &impl Abort, alloc: Global, ledger: &OneLedger) -> bool {
-    let task = TillTask::Queue {
-        ledger: LedgerPath::new("a"),
-        options: ReceiptOptions::usual(),
-    };
+// What is asked of a ledger, where nobody is reached: what is printed, and the status.
+fn performs(
+    rt: &impl Abort,
+    alloc: Global,
+    ledger: &mut OneLedger,
+    task: TillTask<'_>,
+    (wanted, good): (&[u8], Status),
+) -> bool {
     let mut room = [0; 64];
     let mut input = MemoryIn::new(S, 7);
     let mut output = MemoryOut::new(&mut room);
-    let status = perform_till(alloc, ledger, &Nobody, task, &mut input, &mut output);
-    is_told(rt, (output.written(), status), b"queued 1\n")
-}
-
-// It waits, since nobody is reached.
-fn waits(rt: &impl Abort, alloc: Global, ledger: &OneLedger) -> bool {
-    let path = LedgerPath::new("a");
-    let mut room = [0; 64];
-    let mut output = MemoryOut::new(&mut room);
-    let status = deliver_in(alloc, ledger, &Nobody, &path, &delivery(), &mut output);
+    let mut lines = NetworkLines::new(&Nobody);
+    let status = perform_till(alloc, ledger, &mut lines, task, &mut input, &mut output);
     if status == Status::Memory {
         assert!(rt; output.written() == MEMORY);
         return false;
     }
-    assert!(rt; output.written() == b"waiting 1 no link\n".as_slice());
-    status == Status::Device
+    assert!(rt; output.written() == wanted);
+    assert!(rt; status == good);
+    true
+}
+
+// S is taken into a ledger at a path.
+fn takes(rt: &impl Abort, alloc: Global, ledger: &mut OneLedger) -> bool {
+    let task = TillTask::Queue {
+        ledger: LedgerPath::new("a"),
+        options: ReceiptOptions::usual(),
+    };
+    performs(rt, alloc, ledger, task, (b"queued 1\n", Status::Good))
+}
+
+// It waits, since nobody is reached.
+fn waits(rt: &impl Abort, alloc: Global, ledger: &mut OneLedger) -> bool {
+    let task = TillTask::Deliver {
+        ledger: LedgerPath::new("a"),
+        delivery: delivery(),
+    };
+    performs(
+        rt,
+        alloc,
+        ledger,
+        task,
+        (b"waiting 1 no link\n", Status::Device),
+    )
 }
 
 #[test]
 fn perform_refused(rt: HostRuntime) {
-    let ledger = OneLedger {
+    let mut ledger = OneLedger {
         path: "a",
-        store: Cell::new(Some(raised_store(&rt, rt.alloc()))),
+        store: Some(raised_store(&rt, rt.alloc())),
     };
-    if !performs(&rt, rt.alloc(), &ledger) {
-        assert!(&rt; performs(&rt, rt.alloc(), &ledger));
+    if !takes(&rt, rt.alloc(), &mut ledger) {
+        assert!(&rt; takes(&rt, rt.alloc(), &mut ledger));
     }
-    if !waits(&rt, rt.alloc(), &ledger) {
-        assert!(&rt; waits(&rt, rt.alloc(), &ledger));
+    if !waits(&rt, rt.alloc(), &mut ledger) {
+        assert!(&rt; waits(&rt, rt.alloc(), &mut ledger));
     }
 }

@@ -1,11 +1,15 @@
 //! Stores and ledgers in memory, links in memory and links of 127.0.0.1.
 
-use escpos_io::{MemoryIn, MemoryOut};
+ghost use Rattle.std.specs.Prelude.{◌≡◌};
+
+use escpos_io::{ByteOut, MemoryIn, MemoryOut};
 use escpos_jobs::printer_link::Printers;
-use escpos_till::{Content, Entry, Failure, MemoryStore, NoStore, ReceiptNumber};
-use escpos_till_jobs::{Dial, LedgerPath, Ledgers, Link, LinkLine};
+use escpos_jobs::status::Status;
+use escpos_till::{
+    Content, Entry, Failure, MemoryStore, NoStore, PrinterLine, ReceiptNumber, Surroundings,
+};
+use escpos_till_jobs::{Dial, LedgerPath, Ledgers, Link, LinkLine, Word, do_with};
 use std::alloc::Global;
-use std::cell::Cell;
 use std::io;
 use std::io::Write;
 use std::net::{Ipv4Addr, Net, Shutdown, SocketAddr, SocketAddrV4, TcpListener, TcpStream};
@@ -63,9 +67,29 @@ pub struct InMemory<'a> {
 impl<'a> Dial<MemoryIn<'a>, MemoryOut<'a>> for InMemory<'a> {
     ghost dialled = { λ old link new. Unit {0} };
 
+    ghost closed = { λ old link new. Unit {0} };
+
     fn dial(&mut self) -> Option<Link<MemoryIn<'a>, MemoryOut<'a>>> {
         self.link.take()
     }
+
+    fn close(&mut self, link: Link<MemoryIn<'a>, MemoryOut<'a>>)
+        ensures { self.new ≡ self.old }
+    {
+        drop(link);
+    }
+}
+
+// Does a word with the ledger of a store, over a line, and gives the store back.
+pub fn done_with<L: PrinterLine + Drop, W: ByteOut>(
+    alloc: Global,
+    (store, line): (MemoryStore, L),
+    word: Word<'_>,
+    output: &mut W,
+) -> (MemoryStore, Status) {
+    let mut around = Surroundings { store, line };
+    let status = do_with(alloc, &mut around, word, output);
+    (around.store, status)
 }
 
 // A line over one link, on which these answers come, seven bytes at a time. What is put goes to this room.
@@ -84,27 +108,27 @@ pub fn line_over<'a>(
 #[derive(Drop)]
 pub struct OneLedger {
     pub path: &'static str,
-    pub store: Cell<Option<MemoryStore>>,
+    pub store: Option<MemoryStore>,
 }
 
 impl Ledgers<MemoryStore> for OneLedger {
-    ghost opened = { λ ledgers path result. Unit {0} };
+    ghost opened = { λ old path result new. Unit {0} };
 
-    ghost closed = { λ ledgers store. Unit {0} };
+    ghost closed = { λ old store new. Unit {0} };
 
     // Until it is closed, it is in use.
-    fn open(&self, path: &LedgerPath<'_>) -> Result<MemoryStore, NoStore> {
+    fn open(&mut self, path: &LedgerPath<'_>) -> Result<MemoryStore, NoStore> {
         if path.text() != self.path {
             return Err(NoStore::NoLedger);
         }
-        match self.store.replace(None) {
+        match self.store.take() {
             Some(store) => Ok(store),
             None => Err(NoStore::InUse),
         }
     }
 
-    fn close(&self, store: MemoryStore) {
-        self.store.set(Some(store));
+    fn close(&mut self, store: MemoryStore) {
+        self.store = Some(store);
     }
 }
 
