@@ -340,17 +340,29 @@ ROWS = [
 # ---- against `emulate` ----
 
 
+def listens(process, port):
+    """Returns whether it listens at this port. A connection would count as a link, so the tables of the system say it."""
+    with open("/proc/net/tcp") as table:
+        socket_of = re.search(rf":{port:04X} 00000000:0000 0A \S+ \S+ \S+ +\d+ +\d+ (\d+)", table.read())
+    if not socket_of:
+        return False
+    with contextlib.suppress(OSError):
+        fds = f"/proc/{process.pid}/fd"
+        return f"socket:[{socket_of[1]}]" in [os.readlink(f"{fds}/{fd}") for fd in os.listdir(fds)]
+    return False
+
+
 @contextlib.contextmanager
 def emulate(program, links, printed):
-    """Runs `emulate` for so many links; its paper goes into a file."""
-    with socket.create_server(("127.0.0.1", 0)) as free:
-        port = free.getsockname()[1]
-    with open(printed, "wb") as out:
-        process = subprocess.Popen([program, "emulate", f"127.0.0.1:{port}", "--links", str(links)], stdout=out)
-    # (a connection would count as a link: so the table of the system says when it listens)
-    while not re.search(rf":{port:04X} 00000000:0000 0A", open("/proc/net/tcp").read()):
-        time.sleep(0.05)
-        assert process.poll() is None
+    """Runs `emulate` for so many links; its paper goes into a file. Where another row took the free port first, another port is tried."""
+    process = None
+    while process is None or process.poll() is not None:
+        with socket.create_server(("127.0.0.1", 0)) as free:
+            port = free.getsockname()[1]
+        with open(printed, "wb") as out:
+            process = subprocess.Popen([program, "emulate", f"127.0.0.1:{port}", "--links", str(links)], stdout=out)
+        while process.poll() is None and not listens(process, port):
+            time.sleep(0.05)
     try:
         yield port
         assert process.wait(60) == 0
