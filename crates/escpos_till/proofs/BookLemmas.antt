@@ -2,20 +2,20 @@
 use Rattle.std.proofs.Common.{ℕ, zero, suc, ◌≡◌, ◌≢◌, ◌+◌, ◌-◌, ◌<◌, ◌≤◌, inl, inr, Some, None, List, [], ◌∷◌, ◌++◌, length, get_or, set, refl, sym, ◌∙◌, ap, subst, length-append, length-set, arith}
 use Rattle.std.specs.Prelude.{MatchOption, Option, slice_get}
 use Rattle.std.specs.Option.{SomeIff}
-use Rattle.std.proofs.lemmas.Option.{get_or_from_slice_get, slice_get_read}
+use Rattle.std.proofs.lemmas.Option.{get_or_from_slice_get, same_Some, slice_get_read}
 use Rattle.escpos_till.specs.declared.book.Book.{Book}
 use Rattle.escpos_till.specs.declared.entry.Content.{Content}
 use Rattle.escpos_till.specs.declared.entry.Entry.{Entry}
-use Rattle.escpos_till.specs.declared.entry.Entry.TheVariants.{Queued, Tried, Recorded, Raised}
+use Rattle.escpos_till.specs.declared.entry.Entry.TheVariants.{Queued, Tried, Recorded, Raised, Cancelled}
 use Rattle.escpos_till.specs.declared.state.ReceiptState.{ReceiptState}
 use Rattle.escpos_till.specs.declared.state.ReceiptState.TheVariants as state
 use Rattle.escpos_till.specs.Book.{HasContents, IsBookOf}
-use Rattle.escpos_till.specs.Entries.{IsLedger, MayFollow, Waits, contents, recorded, states, times_tried, waiting}
+use Rattle.escpos_till.specs.Entries.{IsLedger, MayFollow, Waits, contents, recorded, state_of, states, taken, times_tried, waiting}
 use Rattle.escpos_till.specs.Entries.{states as states_of}
 use Rattle.escpos_till.specs.Delivers.{FirstWaits}
-use Rattle.escpos_till.specs.States.{IsFirstWaiting, tries_in}
+use Rattle.escpos_till.specs.States.{IsEnded, IsFirstWaiting, tries_in}
 use Rattle.escpos_till.proofs.StateLemmas.{first_after_queued, first_after_tried, get-set, get-snoc}
-use Rattle.escpos_till.proofs.EntryLemmas.{first_of_states, length-states, no_more, next_after_queued, next_after_raised, next_after_recorded, next_after_tried, recorded-count, recorded-same, recorded_states, states_after_queued, states_after_raised, tried_states, waiting_state, waits_by_state, within_states}
+use Rattle.escpos_till.proofs.EntryLemmas.{cancelled_states, count_states, first_of_states, length-states, no_more, next_after_cancelled, next_after_queued, next_after_raised, next_after_recorded, next_after_tried, recorded-count, recorded-same, recorded_states, states-get, states_after_queued, states_after_raised, tried_states, waiting_state, waits_by_state, within_states}
 
 -- ## Contents
 
@@ -25,6 +25,7 @@ contents-snoc (Queued c ∷ es) content = ap (λ rest. c ∷ rest) (contents-sno
 contents-snoc (Tried n next ∷ es) content = contents-snoc es content
 contents-snoc (Recorded n ∷ es) content = contents-snoc es content
 contents-snoc (Raised next ∷ es) content = contents-snoc es content
+contents-snoc (Cancelled n ∷ es) content = contents-snoc es content
 
 contents-tried : (es : List Entry) (n next : ℕ) → contents (es ++ Tried n next ∷ []) ≡ contents es
 contents-tried [] n next = refl
@@ -32,6 +33,7 @@ contents-tried (Queued c ∷ es) n next = ap (λ rest. c ∷ rest) (contents-tri
 contents-tried (Tried m other ∷ es) n next = contents-tried es n next
 contents-tried (Recorded m ∷ es) n next = contents-tried es n next
 contents-tried (Raised other ∷ es) n next = contents-tried es n next
+contents-tried (Cancelled m ∷ es) n next = contents-tried es n next
 
 contents-recorded : (es : List Entry) (n : ℕ) → contents (es ++ Recorded n ∷ []) ≡ contents es
 contents-recorded [] n = refl
@@ -39,6 +41,7 @@ contents-recorded (Queued c ∷ es) n = ap (λ rest. c ∷ rest) (contents-recor
 contents-recorded (Tried m other ∷ es) n = contents-recorded es n
 contents-recorded (Recorded m ∷ es) n = contents-recorded es n
 contents-recorded (Raised other ∷ es) n = contents-recorded es n
+contents-recorded (Cancelled m ∷ es) n = contents-recorded es n
 
 contents-raised : (es : List Entry) (next : ℕ) → contents (es ++ Raised next ∷ []) ≡ contents es
 contents-raised [] next = refl
@@ -46,6 +49,15 @@ contents-raised (Queued c ∷ es) next = ap (λ rest. c ∷ rest) (contents-rais
 contents-raised (Tried m other ∷ es) next = contents-raised es next
 contents-raised (Recorded m ∷ es) next = contents-raised es next
 contents-raised (Raised other ∷ es) next = contents-raised es next
+contents-raised (Cancelled m ∷ es) next = contents-raised es next
+
+contents-cancelled : (es : List Entry) (n : ℕ) → contents (es ++ Cancelled n ∷ []) ≡ contents es
+contents-cancelled [] n = refl
+contents-cancelled (Queued c ∷ es) n = ap (λ rest. c ∷ rest) (contents-cancelled es n)
+contents-cancelled (Tried m other ∷ es) n = contents-cancelled es n
+contents-cancelled (Recorded m ∷ es) n = contents-cancelled es n
+contents-cancelled (Raised other ∷ es) n = contents-cancelled es n
+contents-cancelled (Cancelled m ∷ es) n = contents-cancelled es n
 
 -- The same item after the list grew by one, or after another one was set.
 get-front : {X : Type 0} (xs : List X) (y x : X) (k : ℕ) → slice_get xs k ≡ Some x → slice_get (xs ++ y ∷ []) k ≡ Some x
@@ -100,22 +112,29 @@ contents_after_tried kept es n next waits has = record {
       ];
 }
 
-contents_after_recorded : (kept : List Content) (es : List Entry) (n : ℕ) (x : Content) → Waits es n → HasContents kept es → HasContents (set kept (n - 1) x) (es ++ Recorded n ∷ [])
-contents_after_recorded kept es n x waits has = record {
-  count = length-set kept (n - 1) x ∙ has.count ∙ ap length (sym (contents-recorded es n));
+waiting_is_no_end : (tried : ℕ) (end : ReceiptState) → IsEnded end → state.Waiting tried ≢ end
+waiting_is_no_end tried end is_end same = subst IsEnded (sym same) is_end
+
+-- A receipt waits no more after the entry, and stands so.
+contents_after_end : (kept : List Content) (es : List Entry) (e : Entry) (n : ℕ) (x : Content) (end : ReceiptState) → IsEnded end → contents (es ++ e ∷ []) ≡ contents es
+    → states_of (es ++ e ∷ []) ≡ set (states_of es) (n - 1) end → Waits es n → HasContents kept es → HasContents (set kept (n - 1) x) (es ++ e ∷ [])
+contents_after_end kept es e n x end is_end same_contents now waits has = record {
+  count = length-set kept (n - 1) x ∙ has.count ∙ ap length (sym same_contents);
   waiting = λ k tried c stands is.
-      let there : slice_get (contents es) k ≡ Some c = ap (λ cs. slice_get cs k) (sym (contents-recorded es n)) ∙ is in
-      let set_so : slice_get (set (states_of es) (n - 1) (state.Recorded (length (recorded es)))) k ≡ Some (state.Waiting tried) = ap (λ ss. slice_get ss k) (sym (recorded_states es n waits)) ∙ stands in
-      elim (get-set (states_of es) (n - 1) k (state.Recorded (length (recorded es))) (state.Waiting tried) set_so) [
-        | inl here ↦ absurd (let bad : state.Waiting tried ≡ state.Recorded (length (recorded es)) = here.1 in cc)
+      let there : slice_get (contents es) k ≡ Some c = ap (λ cs. slice_get cs k) (sym same_contents) ∙ is in
+      let set_so : slice_get (set (states_of es) (n - 1) end) k ≡ Some (state.Waiting tried) = ap (λ ss. slice_get ss k) (sym now) ∙ stands in
+      elim (get-set (states_of es) (n - 1) k end (state.Waiting tried) set_so) [
+        | inl here ↦ absurd (waiting_is_no_end tried end is_end here.1)
         | inr other ↦ get-other kept (n - 1) k x c
-            (λ same. let gone : Some (state.Waiting tried) ≡ Some (state.Recorded (length (recorded es))) =
-            sym set_so ∙ ap (slice_get (set (states_of es) (n - 1) (state.Recorded (length (recorded es))))) same
-            ∙ get-here (states_of es) (n - 1) (state.Recorded (length (recorded es))) (within_states es n waits) in
-            cc)
+            (λ same. let gone : Some (state.Waiting tried) ≡ Some end =
+            sym set_so ∙ ap (slice_get (set (states_of es) (n - 1) end)) same ∙ get-here (states_of es) (n - 1) end (within_states es n waits) in
+            waiting_is_no_end tried end is_end (same_Some (state.Waiting tried) end gone))
             (has.waiting k tried c other there)
       ];
 }
+
+contents_after_recorded : (kept : List Content) (es : List Entry) (n : ℕ) (x : Content) → Waits es n → HasContents kept es → HasContents (set kept (n - 1) x) (es ++ Recorded n ∷ [])
+contents_after_recorded kept es n x waits = contents_after_end kept es (Recorded n) n x (state.Recorded (length (recorded es))) tt (contents-recorded es n) (recorded_states es n waits) waits
 
 contents_after_raised : (kept : List Content) (es : List Entry) (next : ℕ) → HasContents kept es → HasContents kept (es ++ Raised next ∷ [])
 contents_after_raised kept es next has = record {
@@ -183,6 +202,24 @@ book_after_recorded s t es e n r sums follows kind same x kept states first reco
       count = one_more_entry s.count t.count es (Recorded n) count sums.count;
     })
 
+pub book_after_cancelled : (s t : Book) (es : List Entry) (e : Entry) (n r : ℕ) (x y : ReceiptState) → IsBookOf s es → MayFollow es e → e ≡ Cancelled n → r ≡ n
+    → x ≡ get_or s.states.items (r - 1) x → ((tried : ℕ) → x ≡ state.Waiting tried → y ≡ state.Cancelled tried)
+    → (c : Content) → t.contents.items ≡ set s.contents.items (r - 1) c → t.states.items ≡ set s.states.items (r - 1) y
+    → IsFirstWaiting t.states.items t.first_waiting → t.recorded ≡ s.recorded → t.next ≡ s.next → t.count ≡ s.count + 1 → IsBookOf t (es ++ e ∷ [])
+book_after_cancelled s t es e n r x y sums follows kind same is ends c kept states first recorded next count =
+    let waits : Waits es n = subst (MayFollow es) kind follows in
+    let end = ends (times_tried es n) (state_read s es n r x sums waits same is) in
+    subst (λ e. IsBookOf t (es ++ e ∷ [])) (sym kind) (record {
+      contents = subst (λ cs. HasContents cs (es ++ Cancelled n ∷ [])) (sym (kept ∙ ap (λ k. set s.contents.items (k - 1) c) same))
+          (contents_after_end s.contents.items es (Cancelled n) n c (state.Cancelled (times_tried es n)) tt (contents-cancelled es n) (cancelled_states es n waits) waits sums.contents);
+      states = states ∙ ap (set s.states.items (r - 1)) end ∙ ap (λ k. set s.states.items (k - 1) (state.Cancelled (times_tried es n))) same
+          ∙ ap (λ ss. set ss (n - 1) (state.Cancelled (times_tried es n))) sums.states ∙ sym (cancelled_states es n waits);
+      first_waiting = first;
+      recorded = recorded ∙ sums.recorded ∙ sym (recorded-same es (Cancelled n) refl);
+      next = next ∙ sums.next ∙ sym (next_after_cancelled es n);
+      count = one_more_entry s.count t.count es (Cancelled n) count sums.count;
+    })
+
 pub book_after_raised : (s t : Book) (es : List Entry) (e : Entry) (next : ℕ) → IsBookOf s es → e ≡ Raised next
     → t.contents.items ≡ s.contents.items → t.states.items ≡ s.states.items
     → t.first_waiting ≡ s.first_waiting → t.recorded ≡ s.recorded → t.next ≡ next → t.count ≡ s.count + 1 → IsBookOf t (es ++ e ∷ [])
@@ -203,12 +240,32 @@ tried_so s es n r (state.Waiting tried) sums from_one same within is =
     (ap (λ ss. slice_get ss (n - 1)) (sym sums.states) ∙ ap (λ k. slice_get s.states.items (k - 1)) (sym same) ∙ slice_get_read s.states.items (length s.states.items) (r - 1) (state.Waiting tried) refl within is)
 tried_so s es n r (state.Recorded place) sums from_one same within is =
     λ waits. let bad : state.Recorded place ≡ state.Waiting (times_tried es n) = state_read s es n r (state.Recorded place) sums waits same is in cc
+tried_so s es n r (state.Cancelled tried) sums from_one same within is =
+    λ waits. let bad : state.Cancelled tried ≡ state.Waiting (times_tried es n) = state_read s es n r (state.Cancelled tried) sums waits same is in cc
 
 pub tried_past : (s : Book) (es : List Entry) (n r : ℕ) → IsBookOf s es → r ≡ n → length s.states.items ≤ r - 1 → Waits es n → ⊥
 tried_past s es n r sums same past waits =
     let within = within_states es n waits in
     let count : length s.states.items ≡ length (states_of es) = ap length sums.states in
     omega (arith, within, count, past, same)
+
+-- A receipt stands as the state says that is read of it.
+pub stands_so : (s : Book) (es : List Entry) (n r : ℕ) (x : ReceiptState) → IsBookOf s es → 0 < n → r ≡ n → r - 1 < length s.states.items → x ≡ get_or s.states.items (r - 1) x → x ≡ state_of es n
+stands_so s es n r x sums from_one same within is =
+    let read = slice_get_read s.states.items (length s.states.items) (r - 1) x refl within is in
+    let got : slice_get (states_of es) (n - 1) ≡ Some x = ap (λ ss. slice_get ss (n - 1)) (sym sums.states) ∙ ap (λ k. slice_get s.states.items (k - 1)) (sym same) ∙ read in
+    let inside : n - 1 < length (contents es) = omega (arith, within, same, ap length sums.states, length-states es) in
+    let back : 1 + (n - 1) ≡ n = omega (arith, from_one) in
+    same_Some x (state_of es n) (sym got ∙ states-get es (n - 1) inside ∙ ap (λ k. Some (state_of es k)) back)
+
+pub past_all : (s : Book) (es : List Entry) (n r : ℕ) → IsBookOf s es → 0 < n → r ≡ n → length s.states.items ≤ r - 1 → length (taken es) < n
+past_all s es n r sums from_one same past = omega (arith, past, same, from_one, ap length sums.states, count_states es)
+
+pub waits_so : (s : Book) (es : List Entry) (n r tried : ℕ) (x : ReceiptState) → IsBookOf s es → 0 < n → r ≡ n → r - 1 < length s.states.items → x ≡ get_or s.states.items (r - 1) x
+    → Some x ≡ Some (state.Waiting tried) → Waits es n × (times_tried es n ≡ tried)
+waits_so s es n r tried x sums from_one same within is waiting =
+    let read = slice_get_read s.states.items (length s.states.items) (r - 1) x refl within is in
+    waits_by_state es n tried from_one (ap (λ ss. slice_get ss (n - 1)) (sym sums.states) ∙ ap (λ k. slice_get s.states.items (k - 1)) (sym same) ∙ read ∙ waiting)
 
 -- ## The first that waits
 

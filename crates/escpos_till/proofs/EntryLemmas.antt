@@ -1,6 +1,6 @@
 -- What one more entry does to what the entries say.
 use Rattle.std.proofs.Common.{ℕ, zero, suc, ◌≡◌, ◌≢◌, ◌+◌, ◌-◌, ◌<◌, ◌≤◌, ◌⊎◌, inl, inr, Bool, true, false, cond, Option, Some, None, List, [], ◌∷◌, ◌++◌, length, map, set, get_or, take, drop, refl, sym, ◌∙◌, ap, subst, append-nil, append_assoc, length-append, add-zero, add-one, zero-add, arith}
-use Rattle.std.specs.Prelude.{◌==◌, is_none, filter, slice_get}
+use Rattle.std.specs.Prelude.{◌==◌, ◌&&◌, is_none, filter, slice_get}
 use Rattle.std.specs.List.{filter_map, position_from}
 use Rattle.std.proofs.lemmas.Bool.Decides.{nat_tests}
 use Rattle.std.proofs.Math.Seq.{take-suc}
@@ -10,10 +10,10 @@ use Rattle.std.proofs.lemmas.List.Sums.{count_by-le-length, sum_by-append}
 use Rattle.std.proofs.lemmas.Option.{same_Some, slice_get_within}
 use Rattle.escpos_till.specs.declared.entry.Content.{Content}
 use Rattle.escpos_till.specs.declared.entry.Entry.{Entry}
-use Rattle.escpos_till.specs.declared.entry.Entry.TheVariants.{Queued, Tried, Recorded, Raised}
+use Rattle.escpos_till.specs.declared.entry.Entry.TheVariants.{Queued, Tried, Recorded, Raised, Cancelled}
 use Rattle.escpos_till.specs.declared.state.ReceiptState.TheVariants as state
 use Rattle.escpos_till.specs.Delivers.{FirstWaits}
-use Rattle.escpos_till.specs.Entries.{IsLedger, MayFollow, Taken, Waits, content_of, contents, is_try_of, last_or, next_free, next_of, numbered_from, place_of, record_of, recorded, state_by, state_of, states, taken, times_tried, waiting}
+use Rattle.escpos_till.specs.Entries.{IsLedger, MayFollow, Taken, Waits, cancel_of, cancel_place_of, cancelled, content_of, contents, is_open, is_try_of, last_or, next_free, next_of, numbered_from, place_of, record_of, recorded, state_by, state_of, states, taken, times_tried, waiting}
 
 -- ## Tests and places
 
@@ -89,6 +89,9 @@ contents-snoc es e = filter_map-append content_of es (e ∷ [])
 recorded-snoc : (es : List Entry) (e : Entry) → recorded (es ++ e ∷ []) ≡ recorded es ++ recorded (e ∷ [])
 recorded-snoc es e = filter_map-append record_of es (e ∷ [])
 
+cancelled-snoc : (es : List Entry) (e : Entry) → cancelled (es ++ e ∷ []) ≡ cancelled es ++ cancelled (e ∷ [])
+cancelled-snoc es e = filter_map-append cancel_of es (e ∷ [])
+
 same_contents : (es : List Entry) (e : Entry) → contents (e ∷ []) ≡ [] → contents (es ++ e ∷ []) ≡ contents es
 same_contents es e h = contents-snoc es e ∙ ap (λ more. contents es ++ more) h ∙ append-nil (contents es)
 
@@ -97,6 +100,12 @@ same_recorded es e h = recorded-snoc es e ∙ ap (λ more. recorded es ++ more) 
 
 same_place : (es : List Entry) (e : Entry) (n : ℕ) → recorded (e ∷ []) ≡ [] → place_of (es ++ e ∷ []) n ≡ place_of es n
 same_place es e n h = ap (position_from (λ m. m == n) 0) (same_recorded es e h)
+
+same_cancels : (es : List Entry) (e : Entry) → cancelled (e ∷ []) ≡ [] → cancelled (es ++ e ∷ []) ≡ cancelled es
+same_cancels es e h = cancelled-snoc es e ∙ ap (λ more. cancelled es ++ more) h ∙ append-nil (cancelled es)
+
+same_cancel : (es : List Entry) (e : Entry) (n : ℕ) → cancelled (e ∷ []) ≡ [] → cancel_place_of (es ++ e ∷ []) n ≡ cancel_place_of es n
+same_cancel es e n h = ap (position_from (λ m. m == n) 0) (same_cancels es e h)
 
 abbrev one_if : Bool → ℕ
 one_if b = cond b 1 0
@@ -135,6 +144,9 @@ next_after_queued es content = ap (last_or 0) (nexts-snoc es (Queued content) �
 
 pub next_after_recorded : (es : List Entry) (n : ℕ) → next_free (es ++ Recorded n ∷ []) ≡ next_free es
 next_after_recorded es n = ap (last_or 0) (nexts-snoc es (Recorded n) ∙ append-nil (filter_map next_of es))
+
+pub next_after_cancelled : (es : List Entry) (n : ℕ) → next_free (es ++ Cancelled n ∷ []) ≡ next_free es
+next_after_cancelled es n = ap (last_or 0) (nexts-snoc es (Cancelled n) ∙ append-nil (filter_map next_of es))
 
 -- ## Ledgers
 
@@ -177,7 +189,8 @@ first_follows before e es h = subst (λ front. MayFollow front e) (append-nil be
 
 -- In a ledger no entry is of a receipt that isn't taken.
 abbrev IsUnknown : List Entry → ℕ → Type 0
-IsUnknown es n = (times_tried es n ≡ 0) × ((i : ℕ) → position_from (λ m. m == n) i (recorded es) ≡ None)
+IsUnknown es n =
+    (times_tried es n ≡ 0) × ((i : ℕ) → position_from (λ m. m == n) i (recorded es) ≡ None) × ((i : ℕ) → position_from (λ m. m == n) i (cancelled es) ≡ None)
 
 below_count : (before es : List Entry) (m n : ℕ) → Waits before m → length (contents (before ++ es)) < n → m ≢ n
 below_count before es m n w few same =
@@ -186,34 +199,45 @@ below_count before es m n w few same =
     absurd (omega (arith, joined, within, few, same))
 
 unknown_in : (before es : List Entry) (n : ℕ) → Continues before es → length (contents (before ++ es)) < n → IsUnknown es n
-unknown_in before [] n h few = (refl, λ i. refl)
+unknown_in before [] n h few = (refl, λ i. refl, λ i. refl)
 unknown_in before (Queued content ∷ es) n h few =
     let rest = unknown_in (before ++ Queued content ∷ []) es n (continues_later before (Queued content) es h)
     (subst (λ front. length (contents front) < n) (sym (append_assoc before (Queued content ∷ []) es)) few) in
-    (omega (arith, rest.0), rest.1)
+    (omega (arith, rest.0), rest.1, rest.2)
 unknown_in before (Tried m next ∷ es) n h few =
     let rest = unknown_in (before ++ Tried m next ∷ []) es n (continues_later before (Tried m next) es h)
     (subst (λ front. length (contents front) < n) (sym (append_assoc before (Tried m next ∷ []) es)) few) in
     let other : (m == n) ≡ false = is_other m n (below_count before (Tried m next ∷ es) m n (first_follows before (Tried m next) es h).0 few) in
     let none : one_if (m == n) ≡ 0 = ap one_if other in
-    (omega (arith, times-cons es (Tried m next) n, rest.0, none), rest.1)
+    (omega (arith, times-cons es (Tried m next) n, rest.0, none), rest.1, rest.2)
 unknown_in before (Recorded m ∷ es) n h few =
     let rest = unknown_in (before ++ Recorded m ∷ []) es n (continues_later before (Recorded m) es h)
     (subst (λ front. length (contents front) < n) (sym (append_assoc before (Recorded m ∷ []) es)) few) in
     let other : (m == n) ≡ false = is_other m n (below_count before (Recorded m ∷ es) m n (first_follows before (Recorded m) es h).0 few) in
-    (omega (arith, rest.0), λ i. ap (λ b. cond b (Some i) (position_from (λ k. k == n) (i + 1) (recorded es))) other ∙ rest.1 (i + 1))
+    (omega (arith, rest.0), λ i. ap (λ b. cond b (Some i) (position_from (λ k. k == n) (i + 1) (recorded es))) other ∙ rest.1 (i + 1), rest.2)
 unknown_in before (Raised next ∷ es) n h few =
     let rest = unknown_in (before ++ Raised next ∷ []) es n (continues_later before (Raised next) es h)
     (subst (λ front. length (contents front) < n) (sym (append_assoc before (Raised next ∷ []) es)) few) in
-    (omega (arith, rest.0), rest.1)
+    (omega (arith, rest.0), rest.1, rest.2)
+unknown_in before (Cancelled m ∷ es) n h few =
+    let rest = unknown_in (before ++ Cancelled m ∷ []) es n (continues_later before (Cancelled m) es h)
+    (subst (λ front. length (contents front) < n) (sym (append_assoc before (Cancelled m ∷ []) es)) few) in
+    let other : (m == n) ≡ false = is_other m n (below_count before (Cancelled m ∷ es) m n (first_follows before (Cancelled m) es h) few) in
+    (omega (arith, rest.0), rest.1, λ i. ap (λ b. cond b (Some i) (position_from (λ k. k == n) (i + 1) (cancelled es))) other ∙ rest.2 (i + 1))
 
 unknown : (es : List Entry) (n : ℕ) → IsLedger es → length (contents es) < n → IsUnknown es n
 unknown es n ledger few = unknown_in [] es n ledger few
 
 -- ## States
 
-state_at : (es others : List Entry) (m n : ℕ) → place_of es m ≡ place_of others n → times_tried es m ≡ times_tried others n → state_of es m ≡ state_of others n
-state_at es others m n place times = ap (λ p. state_by p (times_tried es m)) place ∙ ap (state_by (place_of others n)) times
+state_at : (es others : List Entry) (m n : ℕ) → place_of es m ≡ place_of others n → cancel_place_of es m ≡ cancel_place_of others n → times_tried es m ≡ times_tried others n
+    → state_of es m ≡ state_of others n
+state_at es others m n place cancel times =
+    ap (λ p. state_by p (cancel_place_of es m) (times_tried es m)) place ∙ ap (λ p. state_by (place_of others n) p (times_tried es m)) cancel
+    ∙ ap (state_by (place_of others n) (cancel_place_of others n)) times
+
+state_waits : (es : List Entry) (n : ℕ) → place_of es n ≡ None → cancel_place_of es n ≡ None → state_of es n ≡ state.Waiting (times_tried es n)
+state_waits es n place cancel = ap (λ p. state_by p (cancel_place_of es n) (times_tried es n)) place ∙ ap (λ p. state_by None p (times_tried es n)) cancel
 
 pub states_after_queued : (es : List Entry) (content : Content) → IsLedger es → states (es ++ Queued content ∷ []) ≡ states es ++ state.Waiting 0 ∷ []
 states_after_queued es content ledger =
@@ -222,10 +246,11 @@ states_after_queued es content ledger =
     let new : ℕ = 1 + length (contents es) in
     let none = unknown es new ledger (omega arith) in
     let here : state_of more new ≡ state.Waiting 0 =
-    ap (λ p. state_by p (times_tried more new)) (same_place es e new refl ∙ none.1 0) ∙ ap state.Waiting (same_times es e new refl ∙ none.0) in
+    state_waits more new (same_place es e new refl ∙ none.1 0) (same_cancel es e new refl ∙ none.2 0) ∙ ap state.Waiting (same_times es e new refl ∙ none.0) in
     ap (λ cs. map (λ t. state_of more t.number) (numbered_from 1 cs)) (contents-snoc es e)
     ∙ numbered-snoc (state_of more) 1 (contents es) content
-    ∙ ap (λ front. front ++ state_of more new ∷ []) (numbered-same (state_of es) (state_of more) 1 (contents es) (λ k le. state_at more es k k (same_place es e k refl) (same_times es e k refl)))
+    ∙ ap (λ front. front ++ state_of more new ∷ [])
+    (numbered-same (state_of es) (state_of more) 1 (contents es) (λ k le. state_at more es k k (same_place es e k refl) (same_cancel es e k refl) (same_times es e k refl)))
     ∙ ap (λ s. states es ++ s ∷ []) here
 
 pub states_after_raised : (es : List Entry) (next : ℕ) → states (es ++ Raised next ∷ []) ≡ states es
@@ -233,19 +258,19 @@ states_after_raised es next =
     let e : Entry = Raised next in
     let more : List Entry = es ++ e ∷ [] in
     ap (λ cs. map (λ t. state_of more t.number) (numbered_from 1 cs)) (same_contents es e refl)
-    ∙ numbered-same (state_of es) (state_of more) 1 (contents es) (λ k le. state_at more es k k (same_place es e k refl) (same_times es e k refl))
+    ∙ numbered-same (state_of es) (state_of more) 1 (contents es) (λ k le. state_at more es k k (same_place es e k refl) (same_cancel es e k refl) (same_times es e k refl))
 
-pub states_after_tried : (es : List Entry) (d next : ℕ) → place_of es (1 + d) ≡ None → d < length (contents es)
+pub states_after_tried : (es : List Entry) (d next : ℕ) → place_of es (1 + d) ≡ None → cancel_place_of es (1 + d) ≡ None → d < length (contents es)
     → states (es ++ Tried (1 + d) next ∷ []) ≡ set (states es) d (state.Waiting (times_tried es (1 + d) + 1))
-states_after_tried es d next waits within =
+states_after_tried es d next waits uncancelled within =
     let n : ℕ = 1 + d in
     let e : Entry = Tried n next in
     let more : List Entry = es ++ e ∷ [] in
     let here : state_of more n ≡ state.Waiting (times_tried es n + 1) =
-    ap (λ p. state_by p (times_tried more n)) (same_place es e n refl ∙ waits) ∙ ap state.Waiting (one_more_time es e n (is_self n)) in
+    state_waits more n (same_place es e n refl ∙ waits) (same_cancel es e n refl ∙ uncancelled) ∙ ap state.Waiting (one_more_time es e n (is_self n)) in
     ap (λ cs. map (λ t. state_of more t.number) (numbered_from 1 cs)) (same_contents es e refl)
     ∙ numbered-set (state_of es) (state_of more) n 1 d (contents es)
-    (λ k other. state_at more es k k (same_place es e k refl) (same_times es e k (is_other n k (λ q. other (sym q))))) refl within
+    (λ k other. state_at more es k k (same_place es e k refl) (same_cancel es e k refl) (same_times es e k (is_other n k (λ q. other (sym q))))) refl within
     ∙ ap (set (states es) d) here
 
 pub states_after_recorded : (es : List Entry) (d : ℕ) → place_of es (1 + d) ≡ None → d < length (contents es)
@@ -256,11 +281,28 @@ states_after_recorded es d waits within =
     let more : List Entry = es ++ e ∷ [] in
     let place : place_of more n ≡ Some (length (recorded es)) =
     ap (position_from (λ m. m == n) 0) (recorded-snoc es e) ∙ position-hit (λ m. m == n) 0 (recorded es) n waits (is_self n) ∙ ap Some (zero-add (length (recorded es))) in
-    let here : state_of more n ≡ state.Recorded (length (recorded es)) = ap (λ p. state_by p (times_tried more n)) place in
+    let here : state_of more n ≡ state.Recorded (length (recorded es)) = ap (λ p. state_by p (cancel_place_of more n) (times_tried more n)) place in
     let other_place : (k : ℕ) → k ≢ n → place_of more k ≡ place_of es k = λ k other.
     ap (position_from (λ m. m == k) 0) (recorded-snoc es e) ∙ position-miss (λ m. m == k) 0 (recorded es) n (is_other n k (λ q. other (sym q))) in
     ap (λ cs. map (λ t. state_of more t.number) (numbered_from 1 cs)) (same_contents es e refl)
-    ∙ numbered-set (state_of es) (state_of more) n 1 d (contents es) (λ k other. state_at more es k k (other_place k other) (same_times es e k refl)) refl within
+    ∙ numbered-set (state_of es) (state_of more) n 1 d (contents es) (λ k other. state_at more es k k (other_place k other) (same_cancel es e k refl) (same_times es e k refl)) refl within
+    ∙ ap (set (states es) d) here
+
+pub states_after_cancelled : (es : List Entry) (d : ℕ) → place_of es (1 + d) ≡ None → cancel_place_of es (1 + d) ≡ None → d < length (contents es)
+    → states (es ++ Cancelled (1 + d) ∷ []) ≡ set (states es) d (state.Cancelled (times_tried es (1 + d)))
+states_after_cancelled es d waits uncancelled within =
+    let n : ℕ = 1 + d in
+    let e : Entry = Cancelled n in
+    let more : List Entry = es ++ e ∷ [] in
+    let place : cancel_place_of more n ≡ Some (length (cancelled es)) =
+    ap (position_from (λ m. m == n) 0) (cancelled-snoc es e) ∙ position-hit (λ m. m == n) 0 (cancelled es) n uncancelled (is_self n) ∙ ap Some (zero-add (length (cancelled es))) in
+    let here : state_of more n ≡ state.Cancelled (times_tried es n) =
+    ap (λ p. state_by p (cancel_place_of more n) (times_tried more n)) (same_place es e n refl ∙ waits) ∙ ap (λ p. state_by None p (times_tried more n)) place
+    ∙ ap state.Cancelled (same_times es e n refl) in
+    let other_place : (k : ℕ) → k ≢ n → cancel_place_of more k ≡ cancel_place_of es k = λ k other.
+    ap (position_from (λ m. m == k) 0) (cancelled-snoc es e) ∙ position-miss (λ m. m == k) 0 (cancelled es) n (is_other n k (λ q. other (sym q))) in
+    ap (λ cs. map (λ t. state_of more t.number) (numbered_from 1 cs)) (same_contents es e refl)
+    ∙ numbered-set (state_of es) (state_of more) n 1 d (contents es) (λ k other. state_at more es k k (same_place es e k refl) (other_place k other) (same_times es e k refl)) refl within
     ∙ ap (set (states es) d) here
 
 pub length-states : (es : List Entry) → length (states es) ≡ length (contents es)
@@ -282,13 +324,19 @@ pub tried_states : (es : List Entry) (n next : ℕ) → Waits es n → states (e
 tried_states es n next w =
     let e = one_after es n w in
     subst (λ k. states (es ++ Tried k next ∷ []) ≡ set (states es) (n - 1) (state.Waiting (times_tried es k + 1))) e
-    (states_after_tried es (n - 1) next (subst (λ k. place_of es k ≡ None) (sym e) w.open_still) (waits_within es n w))
+    (states_after_tried es (n - 1) next (subst (λ k. place_of es k ≡ None) (sym e) w.open_still) (subst (λ k. cancel_place_of es k ≡ None) (sym e) w.not_cancelled) (waits_within es n w))
 
 pub recorded_states : (es : List Entry) (n : ℕ) → Waits es n → states (es ++ Recorded n ∷ []) ≡ set (states es) (n - 1) (state.Recorded (length (recorded es)))
 recorded_states es n w =
     let e = one_after es n w in
     subst (λ k. states (es ++ Recorded k ∷ []) ≡ set (states es) (n - 1) (state.Recorded (length (recorded es)))) e
     (states_after_recorded es (n - 1) (subst (λ k. place_of es k ≡ None) (sym e) w.open_still) (waits_within es n w))
+
+pub cancelled_states : (es : List Entry) (n : ℕ) → Waits es n → states (es ++ Cancelled n ∷ []) ≡ set (states es) (n - 1) (state.Cancelled (times_tried es n))
+cancelled_states es n w =
+    let e = one_after es n w in
+    subst (λ k. states (es ++ Cancelled k ∷ []) ≡ set (states es) (n - 1) (state.Cancelled (times_tried es k))) e
+    (states_after_cancelled es (n - 1) (subst (λ k. place_of es k ≡ None) (sym e) w.open_still) (subst (λ k. cancel_place_of es k ≡ None) (sym e) w.not_cancelled) (waits_within es n w))
 
 pub recorded-count : (es : List Entry) (n : ℕ) → length (recorded (es ++ Recorded n ∷ [])) ≡ length (recorded es) + 1
 recorded-count es n = ap length (recorded-snoc es (Recorded n)) ∙ length-append (recorded es) (n ∷ [])
@@ -299,14 +347,15 @@ recorded-same es e h = ap length (same_recorded es e h)
 -- The state of a receipt that waits is how often it was tried.
 pub waiting_state : (es : List Entry) (n : ℕ) → Waits es n → slice_get (states es) (n - 1) ≡ Some (state.Waiting (times_tried es n))
 waiting_state es n w =
-    states-get es (n - 1) (waits_within es n w) ∙ ap (λ k. Some (state_of es k)) (one_after es n w) ∙ ap (λ p. Some (state_by p (times_tried es n))) w.open_still
+    states-get es (n - 1) (waits_within es n w) ∙ ap (λ k. Some (state_of es k)) (one_after es n w) ∙ ap Some (state_waits es n w.open_still w.not_cancelled)
 
 pub within_states : (es : List Entry) (n : ℕ) → Waits es n → n - 1 < length (states es)
 within_states es n w = subst (λ k. n - 1 < k) (sym (length-states es)) (waits_within es n w)
 
-by_place : (p : Option ℕ) (t tried : ℕ) → state_by p t ≡ state.Waiting tried → (p ≡ None) × (t ≡ tried)
-by_place None t tried h = (refl, cc)
-by_place (Some place) t tried h = absurd cc
+by_place : (p c : Option ℕ) (t tried : ℕ) → state_by p c t ≡ state.Waiting tried → (p ≡ None) × (c ≡ None) × (t ≡ tried)
+by_place None None t tried h = (refl, refl, cc)
+by_place None (Some place) t tried h = absurd cc
+by_place (Some place) c t tried h = absurd cc
 
 -- A receipt waits where its state says so.
 pub waits_by_state : (es : List Entry) (n tried : ℕ) → 0 < n → slice_get (states es) (n - 1) ≡ Some (state.Waiting tried) → Waits es n × (times_tried es n ≡ tried)
@@ -315,8 +364,9 @@ waits_by_state es n tried from_one h =
     let within : n - 1 < length (contents es) = subst (λ k. n - 1 < k) (length-states es) (slice_get_within (states es) (n - 1) (state.Waiting tried) h) in
     let got = states-get es (n - 1) within in
     let is : state_of es (1 + (n - 1)) ≡ state.Waiting tried = same_Some (state_of es (1 + (n - 1))) (state.Waiting tried) (sym got ∙ h) in
-    let parts = by_place (place_of es n) (times_tried es n) tried (ap (state_of es) (sym e) ∙ is) in
-    (record { from_one = from_one; taken = subst (λ k. n ≤ k) (sym (length-taken 1 (contents es))) (omega (arith, within, from_one)); open_still = parts.0 }, parts.1)
+    let parts = by_place (place_of es n) (cancel_place_of es n) (times_tried es n) tried (ap (state_of es) (sym e) ∙ is) in
+    let taken = subst (λ k. n ≤ k) (sym (length-taken 1 (contents es))) (omega (arith, within, from_one)) in
+    (record { from_one = from_one; taken = taken; open_still = parts.0; not_cancelled = parts.1 }, parts.2)
 
 pub few_tries : (es : List Entry) (n : ℕ) → times_tried es n ≤ length es
 few_tries es n = count_by-le-length (is_try_of n) es
@@ -327,6 +377,7 @@ few_records (Queued content ∷ es) = omega (arith, few_records es)
 few_records (Tried n next ∷ es) = omega (arith, few_records es)
 few_records (Recorded n ∷ es) = omega (arith, few_records es)
 few_records (Raised next ∷ es) = omega (arith, few_records es)
+few_records (Cancelled n ∷ es) = omega (arith, few_records es)
 
 pub count_states : (es : List Entry) → length (states es) ≡ length (taken es)
 count_states es = length-states es ∙ sym (length-taken 1 (contents es))
@@ -351,42 +402,46 @@ refused_at es i e inside is refused ledger = refused (ledger (take i es) e (drop
 -- ## The first that waits
 
 abbrev waits_in : List Entry → Taken → Bool
-waits_in es receipt = is_none (place_of es receipt.number)
+waits_in es receipt = is_open es receipt.number
 
-none_waits : (es : List Entry) (m : ℕ) (cs : List Content) → ((k : ℕ) → k < length cs → is_none (place_of es (m + k)) ≡ false) → filter (waits_in es) (numbered_from m cs) ≡ []
+none_waits : (es : List Entry) (m : ℕ) (cs : List Content) → ((k : ℕ) → k < length cs → is_open es (m + k) ≡ false) → filter (waits_in es) (numbered_from m cs) ≡ []
 none_waits es m [] h = refl
 none_waits es m (c ∷ cs) h =
-    let here : is_none (place_of es m) ≡ false = ap (λ k. is_none (place_of es k)) (sym (add-zero m)) ∙ h 0 (omega arith) in
-    let later = none_waits es (m + 1) cs (λ k l. let same : m + 1 + k ≡ m + suc k = omega arith in ap (λ n. is_none (place_of es n)) same ∙ h (suc k) (omega arith)) in
+    let here : is_open es m ≡ false = ap (λ k. is_open es k) (sym (add-zero m)) ∙ h 0 (omega arith) in
+    let later = none_waits es (m + 1) cs (λ k l. let same : m + 1 + k ≡ m + suc k = omega arith in ap (λ n. is_open es n) same ∙ h (suc k) (omega arith)) in
     ap (λ b. cond b (record { number = m; content = c } ∷ filter (waits_in es) (numbered_from (m + 1) cs)) (filter (waits_in es) (numbered_from (m + 1) cs))) here ∙ later
 
 first_waits : (es : List Entry) (m : ℕ) (cs : List Content) (at : ℕ) (c : Content) → slice_get cs at ≡ Some c
-    → ((k : ℕ) → k < at → is_none (place_of es (m + k)) ≡ false) → is_none (place_of es (m + at)) ≡ true
+    → ((k : ℕ) → k < at → is_open es (m + k) ≡ false) → is_open es (m + at) ≡ true
     → slice_get (filter (waits_in es) (numbered_from m cs)) 0 ≡ Some (record { number = m + at; content = c })
 first_waits es m [] at c got h w = absurd (let bad : None ≡ Some c = got in cc)
 first_waits es m (d ∷ cs) zero c got h w =
-    let here : is_none (place_of es m) ≡ true = ap (λ k. is_none (place_of es k)) (sym (add-zero m)) ∙ w in
+    let here : is_open es m ≡ true = ap (λ k. is_open es k) (sym (add-zero m)) ∙ w in
     let same : d ≡ c = same_Some d c got in
     ap (λ b. slice_get (cond b (record { number = m; content = d } ∷ filter (waits_in es) (numbered_from (m + 1) cs)) (filter (waits_in es) (numbered_from (m + 1) cs))) 0) here
     ∙ ap (λ n. Some (let t : Taken = record { number = n; content = d } in t)) (sym (add-zero m)) ∙ ap (λ x. Some (let t : Taken = record { number = m + 0; content = x } in t)) same
 first_waits es m (d ∷ cs) (suc at) c got h w =
-    let here : is_none (place_of es m) ≡ false = ap (λ k. is_none (place_of es k)) (sym (add-zero m)) ∙ h 0 (omega arith) in
-    let later = first_waits es (m + 1) cs at c got (λ k l. let same : m + 1 + k ≡ m + suc k = omega arith in ap (λ n. is_none (place_of es n)) same ∙ h (suc k) (omega arith))
-    (let same : m + 1 + at ≡ m + suc at = omega arith in ap (λ n. is_none (place_of es n)) same ∙ w) in
+    let here : is_open es m ≡ false = ap (λ k. is_open es k) (sym (add-zero m)) ∙ h 0 (omega arith) in
+    let later = first_waits es (m + 1) cs at c got (λ k l. let same : m + 1 + k ≡ m + suc k = omega arith in ap (λ n. is_open es n) same ∙ h (suc k) (omega arith))
+    (let same : m + 1 + at ≡ m + suc at = omega arith in ap (λ n. is_open es n) same ∙ w) in
     let same : m + 1 + at ≡ m + suc at = omega arith in
     ap (λ b. slice_get (cond b (record { number = m; content = d } ∷ filter (waits_in es) (numbered_from (m + 1) cs)) (filter (waits_in es) (numbered_from (m + 1) cs))) 0) here
     ∙ later ∙ ap (λ n. Some (let t : Taken = record { number = n; content = c } in t)) same
 
-recorded_by : (p : Option ℕ) (t : ℕ) → (state_by p t ≢ state.Waiting t) → is_none p ≡ false
-recorded_by None t other = absurd (other refl)
-recorded_by (Some place) t other = refl
+ended_by : (p c : Option ℕ) (t : ℕ) → (state_by p c t ≢ state.Waiting t) → (is_none p && is_none c) ≡ false
+ended_by None None t other = absurd (other refl)
+ended_by None (Some place) t other = refl
+ended_by (Some place) c t other = refl
 
-recorded_one : (es : List Entry) (k : ℕ) → k < length (contents es) → ((tried : ℕ) → slice_get (states es) k ≢ Some (state.Waiting tried)) → is_none (place_of es (1 + k)) ≡ false
-recorded_one es k l other = recorded_by (place_of es (1 + k)) (times_tried es (1 + k)) (λ e. other (times_tried es (1 + k)) (states-get es k l ∙ ap Some e))
+open_by : (p c : Option ℕ) → p ≡ None → c ≡ None → (is_none p && is_none c) ≡ true
+open_by p c place cancel = ap (λ o. is_none o && is_none c) place ∙ ap (λ o. is_none o) cancel
+
+ended_one : (es : List Entry) (k : ℕ) → k < length (contents es) → ((tried : ℕ) → slice_get (states es) k ≢ Some (state.Waiting tried)) → is_open es (1 + k) ≡ false
+ended_one es k l other = ended_by (place_of es (1 + k)) (cancel_place_of es (1 + k)) (times_tried es (1 + k)) (λ e. other (times_tried es (1 + k)) (states-get es k l ∙ ap Some e))
 
 -- No receipt waits where no state does.
 pub no_more : (es : List Entry) → ((k : ℕ) (tried : ℕ) → k < length (contents es) → slice_get (states es) k ≢ Some (state.Waiting tried)) → waiting es ≡ []
-no_more es h = none_waits es 1 (contents es) (λ k l. recorded_one es k l (λ tried. h k tried l))
+no_more es h = none_waits es 1 (contents es) (λ k l. ended_one es k l (λ tried. h k tried l))
 
 -- The first state that waits is that of the first receipt that waits.
 pub first_of_states : (es : List Entry) (at tried : ℕ) (content : Content) → slice_get (contents es) at ≡ Some content → slice_get (states es) at ≡ Some (state.Waiting tried)
@@ -396,10 +451,10 @@ first_of_states es at tried content got is h =
     let within = slice_get_within (contents es) at content got in
     let same : at + 1 ≡ 1 + at = omega arith in
     let so : state_of es (1 + at) ≡ state.Waiting tried = same_Some (state_of es (1 + at)) (state.Waiting tried) (sym (states-get es at within) ∙ is) in
-    let parts = by_place (place_of es (1 + at)) (times_tried es (1 + at)) tried so in
-    let none : is_none (place_of es (1 + at)) ≡ true = ap is_none parts.0 in
+    let parts = by_place (place_of es (1 + at)) (cancel_place_of es (1 + at)) (times_tried es (1 + at)) tried so in
+    let none : is_open es (1 + at) ≡ true = open_by (place_of es (1 + at)) (cancel_place_of es (1 + at)) parts.0 parts.1 in
     record {
-      first = first_waits es 1 (contents es) at content got (λ k l. recorded_one es k (omega (arith, within)) (λ t. h k t l)) none
+      first = first_waits es 1 (contents es) at content got (λ k l. ended_one es k (omega (arith, within)) (λ t. h k t l)) none
           ∙ ap (λ n. Some (let t : Taken = record { number = n; content = content } in t)) (sym same);
-      times = ap (times_tried es) same ∙ parts.1;
+      times = ap (times_tried es) same ∙ parts.2;
     }

@@ -67,11 +67,13 @@ fits_sent b es (entry.Tried n next) due first h s follows suits few opens =
 fits_sent b es (entry.Queued content) due first h s follows suits few opens = absurd suits
 fits_sent b es (entry.Recorded n) due first h s follows suits few opens = absurd suits
 fits_sent b es (entry.Raised next) due first h s follows suits few opens = absurd suits
+fits_sent b es (entry.Cancelled n) due first h s follows suits few opens = absurd suits
 
 pub fits_follows : (b b' : Book) (es : List Entry) (e : Entry) (next : Then) (before : HostView) (first : ℕ) (h : HostView) (s : Stage) → Fits b es (stage.Keeping e next)
     → Follows next before first b' h s → Fits b' (es ++ e ∷ []) s
 fits_follows b b' es e then.Queued before first h s fits so = subst (Fits b' (es ++ e ∷ [])) (sym so.3) tt
 fits_follows b b' es e then.Raised before first h s fits so = subst (Fits b' (es ++ e ∷ [])) (sym so.1) tt
+fits_follows b b' es e (then.Cancelled number tried) before first h s fits so = subst (Fits b' (es ++ e ∷ [])) (sym so.1) tt
 fits_follows b b' es e (then.Send due) before first h s fits so = fits_sent b' es e due first h s fits.0 fits.1 fits.2 so
 fits_follows b b' es e (then.Recorded number) before first h s fits so = subst (Fits b' (es ++ e ∷ [])) (sym so.1) tt
 
@@ -81,6 +83,7 @@ state_of_taken es (entry.Queued content) suits = some_state (es ++ entry.Queued 
 state_of_taken es (entry.Tried n next) suits = absurd suits
 state_of_taken es (entry.Recorded n) suits = absurd suits
 state_of_taken es (entry.Raised next) suits = absurd suits
+state_of_taken es (entry.Cancelled n) suits = absurd suits
 
 -- What came over a link, as it is told of the machine's parts.
 pub came_so : (talk : Talk) (now : Stage) (b inside : Book) (h host : HostView) (bytes : List ℕ) (consumed : ℕ) (e : HostEvent) (heard : HostView) (left : ℕ) (after : HostView) (s : Stage)

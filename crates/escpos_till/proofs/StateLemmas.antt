@@ -3,7 +3,7 @@ use Rattle.std.proofs.Common.{ℕ, zero, suc, ◌≡◌, ◌<◌, ◌≤◌, ◌
 use Rattle.std.specs.Prelude.{slice_get}
 use Rattle.escpos_till.specs.declared.state.ReceiptState.{ReceiptState}
 use Rattle.escpos_till.specs.declared.state.ReceiptState.TheVariants as state
-use Rattle.escpos_till.specs.States.{IsFirstWaiting, IsRecorded}
+use Rattle.escpos_till.specs.States.{IsFirstWaiting, IsEnded}
 
 pub get-set : {X : Type 0} (xs : List X) (i k : ℕ) (y s : X) → slice_get (set xs i y) k ≡ Some s → ((k ≡ i) × (s ≡ y) × (k < length xs)) ⊎ (slice_get xs k ≡ Some s)
 get-set [] i k y s h = inr h
@@ -24,11 +24,13 @@ get-snoc (y ∷ xs) x (suc k) s h = elim (get-snoc xs x k s h) [
   | inr last ↦ inr (ap suc last.0, last.1)
 ]
 
-waiting_is_not : (s : ReceiptState) (tried : ℕ) → s ≡ state.Waiting tried → IsRecorded s → ⊥
-waiting_is_not s tried e h = subst IsRecorded e h
+pub ended_unless : (s : ReceiptState) → ((tried : ℕ) → s ≡ state.Waiting tried → ⊥) → IsEnded s
+ended_unless (state.Waiting tried) other = absurd (other tried refl)
+ended_unless (state.Recorded place) other = tt
+ended_unless (state.Cancelled tried) other = tt
 
-recorded_is : (s : ReceiptState) (place : ℕ) → s ≡ state.Recorded place → IsRecorded s
-recorded_is s place e = subst IsRecorded (sym e) tt
+waiting_is_not : (s : ReceiptState) (tried : ℕ) → s ≡ state.Waiting tried → IsEnded s → ⊥
+waiting_is_not s tried e h = subst IsEnded e h
 
 pub first_after_queued : (ss : List ReceiptState) (at : ℕ) → IsFirstWaiting ss at → IsFirstWaiting (ss ++ state.Waiting 0 ∷ []) at
 first_after_queued ss at f = record {
@@ -56,8 +58,8 @@ first_after_tried ss at d old new was f = record {
   ];
 }
 
-pub passed_after_recorded : (ss : List ReceiptState) (at d place : ℕ) → IsFirstWaiting ss at → (k : ℕ) (s : ReceiptState) → k < at → slice_get (set ss d (state.Recorded place)) k ≡ Some s → IsRecorded s
-passed_after_recorded ss at d place f k s before h = elim (get-set ss d k (state.Recorded place) s h) [
-  | inl here ↦ recorded_is s place here.1
+pub passed_after_end : (ss : List ReceiptState) (at d : ℕ) (end : ReceiptState) → IsEnded end → IsFirstWaiting ss at → (k : ℕ) (s : ReceiptState) → k < at → slice_get (set ss d end) k ≡ Some s → IsEnded s
+passed_after_end ss at d end is_end f k s before h = elim (get-set ss d k end s h) [
+  | inl here ↦ subst IsEnded (sym here.1) is_end
   | inr other ↦ f.passed k s before other
 ]

@@ -10,7 +10,7 @@ use Rattle.escpos_till.specs.declared.machine.Talk.{Talk}
 use Rattle.escpos_till.specs.declared.machine.Then.{Then}
 use Rattle.escpos_till.specs.declared.machine.TillNote.{TillNote}
 use Rattle.escpos_till.specs.declared.store.StoreFault.{StoreFault}
-use Rattle.escpos_till.specs.Machine.{Came, Delivers, Ended, Kept, MachineView, Queues, Raises, SendsReceipt, Unsure, connected, hung_up, not_connected, put, told}
+use Rattle.escpos_till.specs.Machine.{Came, Cancels, Delivers, Ended, Kept, MachineView, Queues, Raises, SendsReceipt, Unsure, connected, hung_up, not_connected, put, told}
 
 -- ## One turn
 
@@ -119,6 +119,8 @@ pub data Call : Type 0 where
   Queue : Content → Call
   -- the next mark number is to be this
   Raise : ℕ → Call
+  -- the receipt with this number is to be cancelled
+  Cancel : ℕ → Call
   -- the first receipt that waits is to be delivered: with so many opening marks, at most so many bytes of answers, and perhaps a text for copies
   Deliver : ℕ → ℕ → Option (List ℕ) → Call
 
@@ -126,6 +128,7 @@ pub data Call : Type 0 where
 abbrev pub Calls : MachineView → Call → MachineView → Type 0
 Calls m (Queue content) asked = Queues m content asked
 Calls m (Raise first) asked = Raises m first asked
+Calls m (Cancel number) asked = Cancels m number asked
 Calls m (Deliver openings most copy) asked = Delivers m openings most copy asked × SendsReceipt asked.stage
 
 -- A call, and the run that follows, at whose end the owner is told this, with at most so many deeds.

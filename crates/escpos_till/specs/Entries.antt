@@ -1,5 +1,5 @@
 -- What a list of entries says, and which lists are ledgers. Each definition looks back at the whole list.
-use Rattle.std.specs.Prelude.{ℕ, ◌≡◌, ◌+◌, ◌<◌, ◌≤◌, Bool, false, ◌==◌, is_none, Option, Some, None, List, [], ◌∷◌, ◌++◌, length, map, filter, count_by}
+use Rattle.std.specs.Prelude.{ℕ, ◌≡◌, ◌+◌, ◌<◌, ◌≤◌, Bool, false, ◌==◌, ◌&&◌, is_none, Option, Some, None, List, [], ◌∷◌, ◌++◌, length, map, filter, count_by}
 use Rattle.std.specs.List.{filter_map, position_from}
 use Rattle.escpos_till.specs.declared.entry.Content.{Content}
 use Rattle.escpos_till.specs.declared.entry.Entry.{Entry}
@@ -15,6 +15,7 @@ next_of (entry.Queued content) = None
 next_of (entry.Tried number next) = Some next
 next_of (entry.Recorded number) = None
 next_of (entry.Raised next) = Some next
+next_of (entry.Cancelled number) = None
 
 -- The last of some numbers; this one if there are none.
 abbrev pub last_or : ℕ → List ℕ → ℕ
@@ -32,6 +33,7 @@ content_of (entry.Queued content) = Some content
 content_of (entry.Tried number next) = None
 content_of (entry.Recorded number) = None
 content_of (entry.Raised next) = None
+content_of (entry.Cancelled number) = None
 
 -- The contents of the receipts that were taken, in the order of taking.
 abbrev pub contents : List Entry → List Content
@@ -55,36 +57,62 @@ record_of (entry.Queued content) = None
 record_of (entry.Tried number next) = None
 record_of (entry.Recorded number) = Some number
 record_of (entry.Raised next) = None
+record_of (entry.Cancelled number) = None
 
 -- The numbers of the receipts that are recorded, in the order of recording.
 abbrev pub recorded : List Entry → List ℕ
 recorded = filter_map record_of
 
+-- The place of a number in a list, counted from 0.
+abbrev pub place_in : List ℕ → ℕ → Option ℕ
+place_in numbers number = position_from (λ n. n == number) 0 numbers
+
 -- The place of a receipt among those that are recorded, counted from 0.
 abbrev pub place_of : List Entry → ℕ → Option ℕ
-place_of entries number = position_from (λ n. n == number) 0 (recorded entries)
+place_of entries number = place_in (recorded entries) number
 
--- The receipts that wait: those that were taken and aren't recorded, in the order of taking.
+abbrev pub cancel_of : Entry → Option ℕ
+cancel_of (entry.Queued content) = None
+cancel_of (entry.Tried number next) = None
+cancel_of (entry.Recorded number) = None
+cancel_of (entry.Raised next) = None
+cancel_of (entry.Cancelled number) = Some number
+
+-- The numbers of the receipts that are cancelled, in the order of cancelling.
+abbrev pub cancelled : List Entry → List ℕ
+cancelled = filter_map cancel_of
+
+-- The place of a receipt among those that are cancelled, counted from 0.
+abbrev pub cancel_place_of : List Entry → ℕ → Option ℕ
+cancel_place_of entries number = place_in (cancelled entries) number
+
+-- A receipt is neither recorded nor cancelled.
+abbrev pub is_open : List Entry → ℕ → Bool
+is_open entries number = is_none (place_of entries number) && is_none (cancel_place_of entries number)
+
+-- The receipts that wait: those that were taken and are neither recorded nor cancelled, in the order of taking.
 abbrev pub waiting : List Entry → List Taken
-waiting entries = filter (λ receipt. is_none (place_of entries receipt.number)) (taken entries)
+waiting entries = filter (λ receipt. is_open entries receipt.number) (taken entries)
 
 abbrev pub is_try_of : ℕ → Entry → Bool
 is_try_of number (entry.Queued content) = false
 is_try_of number (entry.Tried n next) = n == number
 is_try_of number (entry.Recorded n) = false
 is_try_of number (entry.Raised next) = false
+is_try_of number (entry.Cancelled n) = false
 
 -- How often a receipt was sent, or was about to be.
 abbrev pub times_tried : List Entry → ℕ → ℕ
 times_tried entries number = count_by (is_try_of number) entries
 
-abbrev pub state_by : Option ℕ → ℕ → ReceiptState
-state_by (Some place) tried = state.Recorded place
-state_by None tried = state.Waiting tried
+abbrev pub state_by : Option ℕ → Option ℕ → ℕ → ReceiptState
+state_by (Some place) cancel tried = state.Recorded place
+state_by None (Some cancel) tried = state.Cancelled tried
+state_by None None tried = state.Waiting tried
 
 -- Where a receipt stands.
 abbrev pub state_of : List Entry → ℕ → ReceiptState
-state_of entries number = state_by (place_of entries number) (times_tried entries number)
+state_of entries number = state_by (place_of entries number) (cancel_place_of entries number) (times_tried entries number)
 
 -- Where the receipts stand, in the order of taking.
 abbrev pub states : List Entry → List ReceiptState
@@ -92,19 +120,21 @@ states entries = map (λ receipt. state_of entries receipt.number) (taken entrie
 
 -- ## Ledgers
 
--- The receipt with this number was taken, and isn't recorded.
+-- The receipt with this number was taken, and is neither recorded nor cancelled.
 pub record Waits (entries : List Entry) (number : ℕ) : Type 0 where
   pub from_one : 0 < number
   pub taken : number ≤ length (taken entries)
   pub open_still : place_of entries number ≡ None
+  pub not_cancelled : cancel_place_of entries number ≡ None
 
--- In a ledger the entry may come after these. Only a receipt that waits is tried; only one that was tried, and waits, is
--- recorded. The next mark number never falls, and each try raises it.
+-- In a ledger the entry may come after these. Only a receipt that waits is tried or cancelled; only one that was tried, and
+-- waits, is recorded. The next mark number never falls, and each try raises it.
 abbrev pub MayFollow : List Entry → Entry → Type 0
 MayFollow before (entry.Queued content) = Unit {0}
 MayFollow before (entry.Tried number next) = Waits before number × (next_free before < next)
 MayFollow before (entry.Recorded number) = Waits before number × (0 < times_tried before number)
 MayFollow before (entry.Raised next) = next_free before ≤ next
+MayFollow before (entry.Cancelled number) = Waits before number
 
 -- The entries are a ledger: each of them may come after those before it.
 abbrev pub IsLedger : List Entry → Type 0

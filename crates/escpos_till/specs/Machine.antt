@@ -28,11 +28,12 @@ use Rattle.escpos_till.specs.declared.machine.TillNote.{TillNote}
 use Rattle.escpos_till.specs.declared.machine.TillNote.TheVariants as note
 use Rattle.escpos_till.specs.declared.machine.TillRefusal.{TillRefusal}
 use Rattle.escpos_till.specs.declared.machine.TillRefusal.TheVariants as refusal
+use Rattle.escpos_till.specs.declared.state.ReceiptState.TheVariants as state
 use Rattle.escpos_till.specs.declared.store.StoreFault.{StoreFault}
 use Rattle.escpos_till.specs.Book.{HasRoom, IsBookOf, Notes}
 use Rattle.escpos_till.specs.Contents.{GivesReceipt, IsContentFault}
 use Rattle.escpos_till.specs.Delivers.{Due as IsDue, FirstWaits, fresh, marks_taken}
-use Rattle.escpos_till.specs.Entries.{IsLedger, MayFollow, Waits, next_free, times_tried, waiting}
+use Rattle.escpos_till.specs.Entries.{IsLedger, MayFollow, Waits, next_free, state_of, taken, times_tried, waiting}
 
 -- ## The model of a machine
 
@@ -62,6 +63,7 @@ Suits then.Queued (entry.Queued content) = Unit {0}
 Suits then.Raised (entry.Raised next) = Unit {0}
 Suits (then.Send due) (entry.Tried number next) = number ≡ due.number
 Suits (then.Recorded number) (entry.Recorded n) = n ≡ number
+Suits (then.Cancelled number tried) (entry.Cancelled n) = n ≡ number
 Suits next e = ⊥
 
 -- How many entries may follow that one before the machine is at rest.
@@ -133,6 +135,13 @@ pub record Raises (m : MachineView) (first : ℕ) (after : MachineView) : Type 0
   pub most : first ≤ last_first
   pub after_is : after ≡ at m (stage.Keeping (entry.Raised first) then.Raised)
 
+-- It is to keep that a receipt is cancelled, which waits and was tried so often.
+pub record Cancels (m : MachineView) (number : ℕ) (after : MachineView) : Type 0 where
+  pub rest : m.stage ≡ stage.AtRest
+  pub tried : ℕ
+  pub waits : (entries : List Entry) → IsBookOf m.book entries → Waits entries number × (times_tried entries number ≡ tried)
+  pub after_is : after ≡ at m (stage.Keeping (entry.Cancelled number) (then.Cancelled number tried))
+
 -- It is the first receipt that waits, and there are enough mark numbers for it.
 pub record IsNext (b : Book) (openings most : ℕ) (copy : Option (List ℕ)) (due : Due) : Type 0 where
   pub marks : due.openings ≡ openings
@@ -162,6 +171,15 @@ abbrev pub RefusesRaise : MachineView → ℕ → TillRefusal → Type 0
 RefusesRaise m first (refusal.MarkReused next) = (m.stage ≡ stage.AtRest) × (next ≡ m.book.next) × (first < next)
 RefusesRaise m first (refusal.MarkTooHigh last) = (m.stage ≡ stage.AtRest) × (m.book.next ≤ first) × (last ≡ last_first) × (last < first)
 RefusesRaise m first why = RefusesAny m why
+
+-- Why a receipt isn't cancelled: it was never taken; or it is recorded, or cancelled.
+abbrev pub RefusesCancel : MachineView → ℕ → TillRefusal → Type 0
+RefusesCancel m number (refusal.NotTaken n) = (m.stage ≡ stage.AtRest) × (n ≡ number) × ((entries : List Entry) → IsBookOf m.book entries → length (taken entries) < number)
+RefusesCancel m number (refusal.Recorded n) =
+    (m.stage ≡ stage.AtRest) × (n ≡ number) × ((entries : List Entry) → IsBookOf m.book entries → (place : ℕ) × (state_of entries number ≡ state.Recorded place))
+RefusesCancel m number (refusal.Cancelled n) =
+    (m.stage ≡ stage.AtRest) × (n ≡ number) × ((entries : List Entry) → IsBookOf m.book entries → (tried : ℕ) × (state_of entries number ≡ state.Cancelled tried))
+RefusesCancel m number why = RefusesAny m why
 
 -- Of the first receipt that waits, which has this number, this holds.
 abbrev pub OfFirst : Book → ℕ → (Content → Type 0) → Type 0
@@ -197,6 +215,7 @@ Opens due first h s =
 abbrev pub Follows : Then → HostView → ℕ → Book → HostView → Stage → Type 0
 Follows then.Queued before first b h s = (number : ℕ) × (number ≡ length b.states.items) × (h ≡ before) × (s ≡ stage.Telling (note.Queued number))
 Follows then.Raised before first b h s = (h ≡ before) × (s ≡ stage.Telling note.Raised)
+Follows (then.Cancelled number tried) before first b h s = (h ≡ before) × (s ≡ stage.Telling (note.Cancelled number tried))
 Follows (then.Send due) before first b h s = Opens due first h s
 Follows (then.Recorded number) before first b h s = Drops before h × (s ≡ stage.HangingUp (note.Recorded number))
 
@@ -209,6 +228,7 @@ Kept s m after = after ≡ m
 abbrev pub lost : Then → StoreFault → Stage
 lost then.Queued why = stage.Telling (note.NotKept why)
 lost then.Raised why = stage.Telling (note.NotKept why)
+lost (then.Cancelled number tried) why = stage.Telling (note.NotKept why)
 lost (then.Send due) why = stage.HangingUp (note.NotKept why)
 lost (then.Recorded number) why = stage.HangingUp (note.NotKept why)
 

@@ -11,13 +11,13 @@ pub record Appends {S : Type 0} (faithful : S → Type 0) (holds : S → List En
   pub kept : faithful new → (entries : List Entry) → holds old entries → holds new (entries ++ e ∷ [])
 
 -- The store says why it couldn't tell. If it has done what it was asked to, a crash leaves what it held, with the entry or without.
-pub record MayAppend {S : Type 0} (faithful : S → Type 0) (holds leaves : S → List Entry → Type 0) (says : S → StoreFault → Type 0) (old : S) (e : Entry) (why : StoreFault) (new : S) : Type 0 where
-  pub said : says new why
+pub record MayAppend {S : Type 0} (faithful : S → Type 0) (holds leaves : S → List Entry → Type 0) (says : S → List Entry → StoreFault → S → Type 0) (old : S) (e : Entry) (why : StoreFault) (new : S) : Type 0 where
+  pub said : says old (e ∷ []) why new
   pub was_faithful : faithful new → faithful old
   pub kept_or_not : faithful new → (entries left : List Entry) → holds old entries → leaves new left → (left ≡ entries) ⊎ (left ≡ entries ++ e ∷ [])
 
 -- This was done, and then it is so: by the store, or over the line, and the other is as it was. To tell the owner changes neither.
-unfoldable pub Did : {S L : Type 0} → (S → Type 0) → (S → List Entry → Type 0) → (S → List Entry → Type 0) → (S → StoreFault → Type 0) → (L → Deed → L → Type 0) → Surroundings S L → Deed → Surroundings S L → Type 0
+unfoldable pub Did : {S L : Type 0} → (S → Type 0) → (S → List Entry → Type 0) → (S → List Entry → Type 0) → (S → List Entry → StoreFault → S → Type 0) → (L → Deed → L → Type 0) → Surroundings S L → Deed → Surroundings S L → Type 0
 Did faithful holds leaves says did old (Keeps e) new = Appends faithful holds old.store e new.store × (new.line ≡ old.line)
 Did faithful holds leaves says did old (Loses e why) new = MayAppend faithful holds leaves says old.store e why new.store × (new.line ≡ old.line)
 Did faithful holds leaves says did old (Tells note) new = new ≡ old

@@ -7,15 +7,15 @@ ghost use Rattle.escpos_till.specs.declared.entry.Content.{Content};
 ghost use Rattle.escpos_till.specs.declared.entry.Entry.{Entry};
 ghost use Rattle.escpos_till.specs.declared.entry.Entry.TheVariants as entry_kind;
 ghost use Rattle.escpos_till.specs.declared.state.ReceiptState.{ReceiptState};
+ghost use Rattle.escpos_till.specs.declared.state.ReceiptState.TheVariants as state_kind;
 ghost use Rattle.escpos_till.specs.Contents.{content_with};
 ghost use Rattle.escpos_till.specs.Book.{HasRoom, IsBookOf, Notes};
-ghost use Rattle.escpos_till.specs.Entries.{IsLedger, MayFollow, Waits, times_tried, waiting};
+ghost use Rattle.escpos_till.specs.Entries.{IsLedger, MayFollow, Waits, state_of, taken, times_tried, waiting};
 ghost use Rattle.escpos_till.specs.Delivers.{FirstWaits};
-ghost use Rattle.escpos_till.specs.States.{IsRecorded};
 
 use crate::entry::{Content, Entry};
 use crate::number::ReceiptNumber;
-use crate::state::{ReceiptState, first_waiting_from, one_try_more, tries_in};
+use crate::state::{ReceiptState, first_waiting_from, once_cancelled, one_try_more, tries_in};
 use crate::waiting::WaitingReceipt;
 use std::alloc::{AllocError, Global};
 
@@ -33,7 +33,7 @@ pub(crate) enum NoBook {
 pub struct Book {
     /// Where the receipts stand.
     pub(crate) states: Vec<ReceiptState>,
-    /// The contents of those that wait; an empty one for each that is recorded.
+    /// The contents of those that wait; an empty one for each of the others.
     pub(crate) contents: Vec<Content>,
     /// The place of the first that waits; past the end if none does.
     pub(crate) first_waiting: usize,
@@ -90,7 +90,22 @@ impl Book {
         ReceiptNumber::new(self.states.len()).unwrap()
     }
 
-    /// How often a receipt was tried, if it waits; `None` if it was never taken, or is recorded.
+    /// Where a receipt stands; `None` if it was never taken.
+    pub(crate) fn state(&self, number: ReceiptNumber) -> Option<ReceiptState>
+        ensures stands { (entries : List Entry) → IsBookOf self.now entries → MatchOption result
+            (length (taken entries) < number) (λ state. state ≡ state_of entries number) }
+        ensures waits { (entries : List Entry) (tried : ℕ) → IsBookOf self.now entries → result ≡ Some (state_kind.Waiting tried)
+            → Waits entries number × (times_tried entries number ≡ tried) }
+    {
+        let place = number.get() - 1;
+        if place < self.states.len() {
+            Some(self.states[place])
+        } else {
+            None
+        }
+    }
+
+    /// How often a receipt was tried, if it waits; `None` if it was never taken, or waits no more.
     pub(crate) fn tried(&self, number: ReceiptNumber) -> Option<usize>
         ensures { (entries : List Entry) → IsBookOf self.now entries → MatchOption result
             (¬ Waits entries number) (λ tried. Waits entries number × (times_tried entries number ≡ tried)) }
@@ -112,6 +127,7 @@ impl Book {
             Entry::Tried { number, next } => self.tried(*number).is_some() && self.next < *next,
             Entry::Recorded { number } => matches!(self.tried(*number), Some(tried) if 0 < tried),
             Entry::Raised { next } => self.next <= *next,
+            Entry::Cancelled { number } => self.tried(*number).is_some(),
         }
     }
 
@@ -173,6 +189,7 @@ impl Book {
                 self.next = next;
                 self.count += 1;
             }
+            Entry::Cancelled { number } => self.note_cancelled(number),
         }
     }
 
@@ -187,6 +204,18 @@ impl Book {
         };
         self.contents[place] = Content::new(Vec::new(*self.contents.allocator()));
         self.recorded += 1;
+        self.first_waiting = first_waiting_from(&self.states, self.first_waiting);
+        self.count += 1;
+    }
+
+    // Takes into account that a receipt is cancelled.
+    fn note_cancelled(&mut self, number: ReceiptNumber)
+        requires follows { (entries : List Entry) × IsBookOf self.old entries × IsLedger entries × MayFollow entries (entry_kind.Cancelled number) × (length entries < 2 ^ 63) }
+        ensures { Notes self.old (entry_kind.Cancelled number) self.new }
+    {
+        let place = number.get() - 1;
+        self.states[place] = once_cancelled(self.states[place]);
+        self.contents[place] = Content::new(Vec::new(*self.contents.allocator()));
         self.first_waiting = first_waiting_from(&self.states, self.first_waiting);
         self.count += 1;
     }

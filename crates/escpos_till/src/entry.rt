@@ -107,6 +107,8 @@ pub enum Entry {
     Recorded { number: ReceiptNumber },
     /// The next mark number is this one, since those below it were used elsewhere.
     Raised { next: u32 },
+    /// The receipt is cancelled: it waits no more, and isn't sent again.
+    Cancelled { number: ReceiptNumber },
 }
 
 impl Entry {
@@ -124,6 +126,7 @@ impl Entry {
             }),
             Entry::Recorded { number } => Ok(Entry::Recorded { number: *number }),
             Entry::Raised { next } => Ok(Entry::Raised { next: *next }),
+            Entry::Cancelled { number } => Ok(Entry::Cancelled { number: *number }),
         }
     }
 }

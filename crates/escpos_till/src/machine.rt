@@ -5,7 +5,7 @@
 //! has the host of the link that it talks over. Whatever crashes, a new machine is made from the entries that are left.
 //!
 //!   Stage      | It asks for                | It is told           | Next
-//!   AtRest     | nothing                    | queue, raise         | Keeping an entry
+//!   AtRest     | nothing                    | queue, raise, cancel | Keeping an entry
 //!              |                            | deliver              | Connecting
 //!   Connecting | a link to the printer      | connected, or not    | Keeping that it is tried; Telling
 //!   Keeping    | an entry to be kept        | appended             | Telling; Talking; HangingUp
@@ -26,7 +26,7 @@ ghost use Rattle.escpos_till.specs.Book.{IsBookOf, Notes};
 ghost use Rattle.escpos_host.specs.Machine.{IsSound};
 ghost use Rattle.escpos_till.specs.Delivers.{fresh, marks_taken};
 ghost use Rattle.escpos_till.specs.declared.machine.Talk.{Talk};
-ghost use Rattle.escpos_till.specs.Machine.{Asks, Came, Delivers, Drops, Ended, Fits, Follows, GoesOn, IsNext, IsStarted, Kept, Opens, Queues, Raises, RefusesAny, RefusesDeliver, RefusesRaise, Rests, SameEntries, SendsReceipt, Submits, Turns, Unsure, connected, hung_up, lost, not_connected, put, told};
+ghost use Rattle.escpos_till.specs.Machine.{Asks, Came, Cancels, Delivers, Drops, Ended, Fits, Follows, GoesOn, IsNext, IsStarted, Kept, Opens, Queues, Raises, RefusesAny, RefusesCancel, RefusesDeliver, RefusesRaise, Rests, SameEntries, SendsReceipt, Submits, Turns, Unsure, connected, hung_up, lost, not_connected, put, told};
 
 use crate::book::{Book, NoBook};
 use crate::copy::CopyText;
@@ -63,6 +63,11 @@ pub enum TillNote {
     Queued(ReceiptNumber),
     /// The next mark number is raised.
     Raised,
+    /// The receipt is cancelled. It was tried this many times before: if that isn't 0, it may be on the paper.
+    Cancelled {
+        number: ReceiptNumber,
+        tried: usize,
+    },
     /// The receipt is printed, and recorded.
     Recorded(ReceiptNumber),
     /// There was no link. The receipt waits, and wasn't tried.
@@ -104,6 +109,12 @@ pub enum TillRefusal {
     MarkTooHigh {
         last: u32,
     },
+    /// No receipt with this number was taken.
+    NotTaken(ReceiptNumber),
+    /// The receipt with this number is recorded.
+    Recorded(ReceiptNumber),
+    /// The receipt with this number is cancelled already.
+    Cancelled(ReceiptNumber),
 }
 
 /// Why there is no machine.
@@ -165,6 +176,8 @@ pub enum Then {
     Queued,
     /// The next mark number is raised.
     Raised,
+    /// A receipt is cancelled that was tried so often.
+    Cancelled { number: ReceiptNumber, tried: usize },
     /// A receipt is sent.
     Send(Due),
     /// A receipt is recorded.
@@ -294,6 +307,30 @@ impl TillMachine {
         self.stage = Stage::Keeping {
             entry: Entry::Raised { next: first },
             then: Then::Raised,
+        };
+        Ok(())
+    }
+
+    /// Cancels a receipt that waits: that is to be kept. Then it waits no more.
+    ///
+    /// The errors are `Busy`, `Failed`, `Memory`, `NotTaken`, `Recorded` and `Cancelled`.
+    pub fn cancel(&mut self, number: ReceiptNumber) -> Result<(), TillRefusal>
+        ensures cancels { OnOk result (Cancels self.old number self.new) }
+        ensures refused { IfErr result (λ why. RefusesCancel self.old number why × (self.new ≡ self.old)) }
+    {
+        self.check_rest()?;
+        let tried = match self.book.state(number) {
+            Some(ReceiptState::Waiting { tried }) => tried,
+            Some(ReceiptState::Recorded { .. }) => return Err(TillRefusal::Recorded(number)),
+            Some(ReceiptState::Cancelled { .. }) => return Err(TillRefusal::Cancelled(number)),
+            None => return Err(TillRefusal::NotTaken(number)),
+        };
+        if self.book.count >= MOST_ENTRIES {
+            return Err(TillRefusal::Memory);
+        }
+        self.stage = Stage::Keeping {
+            entry: Entry::Cancelled { number },
+            then: Then::Cancelled { number, tried },
         };
         Ok(())
     }
@@ -513,7 +550,9 @@ fn lost(then: Then, why: StoreFault) -> Stage
     ensures { result ≡ lost then why }
 {
     match then {
-        Then::Queued | Then::Raised => Stage::Telling(TillNote::NotKept(why)),
+        Then::Queued | Then::Raised | Then::Cancelled { .. } => {
+            Stage::Telling(TillNote::NotKept(why))
+        }
         Then::Send(_) | Then::Recorded(_) => Stage::HangingUp(TillNote::NotKept(why)),
     }
 }
@@ -526,6 +565,7 @@ fn following(alloc: Global, book: &Book, host: &mut Host, first: u32, then: Then
     match then {
         Then::Queued => Stage::Telling(TillNote::Queued(book.last_number())),
         Then::Raised => Stage::Telling(TillNote::Raised),
+        Then::Cancelled { number, tried } => Stage::Telling(TillNote::Cancelled { number, tried }),
         Then::Send(due) => {
             *host = Host::new(alloc, first);
             opened(host, due)

@@ -82,7 +82,7 @@ impl Store for MemoryStore {
     ghost leaves = { λ s entries. s ≡ entries };
 
     // Whatever it was told to, and memory: the model knows of neither.
-    ghost says = { λ s why. Unit {0} };
+    ghost says = { λ s added why new. Unit {0} };
 
     fn append(&mut self, entry: &Entry) -> Result<(), StoreFault> {
         let failure = self.next_failure();

@@ -4,7 +4,7 @@
 
 ghost use Rattle.std.specs.Prelude.{◌≡◌, ℕ, ◌+◌, ◌^◌, ◌<◌, ◌≤◌, length, slice_get, Some};
 ghost use Rattle.escpos_till.specs.declared.state.ReceiptState.TheVariants as state_kind;
-ghost use Rattle.escpos_till.specs.States.{IsFirstWaiting, IsRecorded, tries_in};
+ghost use Rattle.escpos_till.specs.States.{IsFirstWaiting, IsEnded, tries_in};
 
 /// Where a receipt of a ledger stands.
 #[derive(Clone, Copy, Debug, PartialEq, Eq)]
@@ -13,16 +13,20 @@ pub enum ReceiptState {
     Waiting { tried: usize },
     /// It is printed: it is the record at this place, counted from 0.
     Recorded { place: usize },
+    /// It was cancelled while it waited. It was sent this many times before: if that isn't 0, it may be on the paper.
+    Cancelled { tried: usize },
 }
 
-// The first of these states that waits, of which those before this place are recorded; past the end if none does.
+// The first of these states that waits, of which those before this place wait no more; past the end if none does.
 pub(crate) fn first_waiting_from(states: &[ReceiptState], from: usize) -> usize
     requires within { from ≤ length states.now }
-    requires passed { (k : ℕ) (s : _) → k < from → slice_get states.now k ≡ Some s → IsRecorded s }
+    requires passed { (k : ℕ) (s : _) → k < from → slice_get states.now k ≡ Some s → IsEnded s }
     ensures { IsFirstWaiting states.now result }
 {
     let mut at = from;
-    while let Some(ReceiptState::Recorded { .. }) = states.get(at) {
+    while let Some(ReceiptState::Recorded { .. } | ReceiptState::Cancelled { .. }) = states.get(
+        at,
+    ) {
         at += 1;
     }
     at
@@ -35,7 +39,18 @@ pub(crate) fn one_try_more(state: ReceiptState) -> ReceiptState
 {
     match state {
         ReceiptState::Waiting { tried } => ReceiptState::Waiting { tried: tried + 1 },
-        ReceiptState::Recorded { .. } => unreachable!(),
+        ReceiptState::Recorded { .. } | ReceiptState::Cancelled { .. } => unreachable!(),
+    }
+}
+
+// The state of a receipt that waits, once it is cancelled.
+pub(crate) fn once_cancelled(state: ReceiptState) -> ReceiptState
+    requires { (tried : ℕ) × (state ≡ state_kind.Waiting tried) }
+    ensures { (tried : ℕ) → state ≡ state_kind.Waiting tried → result ≡ state_kind.Cancelled tried }
+{
+    match state {
+        ReceiptState::Waiting { tried } => ReceiptState::Cancelled { tried },
+        ReceiptState::Recorded { .. } | ReceiptState::Cancelled { .. } => unreachable!(),
     }
 }
 
@@ -45,6 +60,6 @@ pub(crate) fn tries_in(state: ReceiptState) -> Option<usize>
 {
     match state {
         ReceiptState::Waiting { tried } => Some(tried),
-        ReceiptState::Recorded { .. } => None,
+        ReceiptState::Recorded { .. } | ReceiptState::Cancelled { .. } => None,
     }
 }

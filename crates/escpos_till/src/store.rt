@@ -47,8 +47,9 @@ pub trait Store {
     // A crash at this moment may leave these entries.
     ghost leaves: { Self → List Entry → Type 0 };
 
-    // The store says that this is why its last call didn't do what it was asked to.
-    ghost says: { Self → Why → Type 0 };
+    // The store says why a call on it failed. From its state before the call to that after it these entries were to be added;
+    // none where they were to be read.
+    ghost says: { Self → List Entry → Why → Self → Type 0 };
 
     /// Adds an entry after those that are there. At `Ok` it would outlive a crash. At `Err` it may have been added or not.
     fn append(&mut self, entry: &Entry) -> Result<(), StoreFault>
@@ -57,7 +58,7 @@ pub trait Store {
             → holds self.new (entries ++ entry.now ∷ [])) }
         ensures kept_or_not { OnErr result (faithful self.new → (entries left : List Entry) → holds self.old entries
             → leaves self.new left → (left ≡ entries) ⊎ (left ≡ entries ++ entry.now ∷ [])) }
-        ensures says { IfErr result (λ why. says self.new why) };
+        ensures says { IfErr result (λ why. says self.old (entry.now ∷ []) why self.new) };
 
     /// The entries that the store holds, in order. They stay, whatever the result.
     fn entries(&mut self, alloc: Global) -> Result<Vec<Entry>, StoreFault>
@@ -65,7 +66,7 @@ pub trait Store {
         ensures read { IfOk result (λ read. faithful self.new → holds self.old read.items × holds self.new read.items) }
         ensures unread { OnErr result (faithful self.new → (entries left : List Entry) → holds self.old entries
             → leaves self.new left → left ≡ entries) }
-        ensures says { IfErr result (λ why. says self.new why) };
+        ensures says { IfErr result (λ why. says self.old [] why self.new) };
 
     // A store holds one list of entries.
     ghost one_list: { (s : Self) (entries others : List Entry) → faithful s → holds s entries → holds s others → entries ≡ others };

@@ -4,9 +4,9 @@ use Rattle.std.proofs.lemmas.Option.{slice_get_read}
 use Rattle.escpos_till.specs.Contents.{content_with}
 use Rattle.escpos_till.specs.Entries.{Waits}
 use Rattle.escpos_till.specs.Delivers.{FirstWaits}
-use Rattle.escpos_till.specs.States.{IsRecorded}
 use Rattle.escpos_till.specs.declared.state.ReceiptState.TheVariants as state
 use Rattle.escpos_till.proofs.BookLemmas.{contents_so, first_left, first_waits, none_left, number_is}
+use Rattle.escpos_till.proofs.StateLemmas.{ended_unless}
 use Rattle.escpos_till.proofs.book.Book.first_waiting.Goals as goal
 
 pub returns-then-place-len-clause-first : goal.returns-then-place-len-clause-first
@@ -16,7 +16,7 @@ pub unreachable-requires : goal.unreachable-requires
 unreachable-requires c =
     let (entries, book) = c.requires in
     let there = slice_get_read c.args.self.now.states.items (length c.args.self.now.states.items) c.args.self.now.first_waiting c.index.result.now refl (omega (arith, c.if-place-len.false, c.len.ensures)) c.index.ensures in
-    book.first_waiting.waits c.index.result.now there (subst IsRecorded (sym c.in_default.is) tt)
+    book.first_waiting.waits c.index.result.now there (ended_unless c.index.result.now c.in_default.not-Waiting)
 
 pub index-content-requires : goal.index-content-requires
 index-content-requires c =

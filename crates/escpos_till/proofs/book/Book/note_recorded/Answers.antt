@@ -2,9 +2,10 @@
 use Rattle.std.proofs.Common.{◌-◌, ◌∙◌, List, ap, slice_get, sym, subst, refl, arith}
 use Rattle.escpos_till.specs.States.{IsFirstWaiting}
 use Rattle.escpos_till.specs.declared.state.ReceiptState.{ReceiptState}
+use Rattle.escpos_till.specs.declared.state.ReceiptState.TheVariants as state
 use Rattle.escpos_till.proofs.EntryLemmas.{few_records}
 use Rattle.escpos_till.proofs.BookLemmas.{book_after_recorded, within_contents}
-use Rattle.escpos_till.proofs.StateLemmas.{passed_after_recorded}
+use Rattle.escpos_till.proofs.StateLemmas.{passed_after_end}
 use Rattle.escpos_till.proofs.book.Book.note_recorded.Goals as goal
 
 pub index_mut-requires-2 : goal.index_mut-requires-2
@@ -20,7 +21,7 @@ overflow_add-self c =
 pub first_waiting_from-self-requires-clause-passed :
     goal.first_waiting_from-self-requires-clause-passed
 first_waiting_from-self-requires-clause-passed c k s before is =
-    passed_after_recorded c.args.self.now.states.items c.args.self.now.first_waiting (c.get-place.result - 1) c.args.self.now.recorded c.requires.follows.1.first_waiting k s before
+    passed_after_end c.args.self.now.states.items c.args.self.now.first_waiting (c.get-place.result - 1) (state.Recorded c.args.self.now.recorded) tt c.requires.follows.1.first_waiting k s before
     (ap (λ (ss : List ReceiptState). slice_get ss k) (sym c.deref.ensures.value) ∙ is)
 
 pub returns : goal.returns
