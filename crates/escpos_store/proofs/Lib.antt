@@ -5,3 +5,4 @@ mod StatementLemmas
 mod OrderLemmas
 mod LeftLemmas
 mod MeasureLemmas
+mod FailingLemmas

@@ -42,21 +42,30 @@ same_content id c d h =
 
 same_entry : (id : ℕ) (x y : Entry) → row_of id x ≡ row_of id y → x ≡ y
 same_entry id (entry.Queued c) (entry.Queued d) h = ap entry.Queued (same_content id c d h)
-same_entry id (entry.Queued c) (entry.Tried n m) h = absurd (cc)
-same_entry id (entry.Queued c) (entry.Recorded n) h = absurd (cc)
-same_entry id (entry.Queued c) (entry.Raised m) h = absurd (cc)
-same_entry id (entry.Tried n m) (entry.Queued c) h = absurd (cc)
+same_entry id (entry.Queued c) (entry.Tried k l) h = absurd (cc)
+same_entry id (entry.Queued c) (entry.Recorded k) h = absurd (cc)
+same_entry id (entry.Queued c) (entry.Raised k) h = absurd (cc)
+same_entry id (entry.Queued c) (entry.Cancelled k) h = absurd (cc)
+same_entry id (entry.Tried n m) (entry.Queued d) h = absurd (cc)
 same_entry id (entry.Tried n m) (entry.Tried k l) h = cc
 same_entry id (entry.Tried n m) (entry.Recorded k) h = absurd (cc)
 same_entry id (entry.Tried n m) (entry.Raised k) h = absurd (cc)
-same_entry id (entry.Recorded n) (entry.Queued c) h = absurd (cc)
+same_entry id (entry.Tried n m) (entry.Cancelled k) h = absurd (cc)
+same_entry id (entry.Recorded n) (entry.Queued d) h = absurd (cc)
 same_entry id (entry.Recorded n) (entry.Tried k l) h = absurd (cc)
 same_entry id (entry.Recorded n) (entry.Recorded k) h = cc
 same_entry id (entry.Recorded n) (entry.Raised k) h = absurd (cc)
-same_entry id (entry.Raised n) (entry.Queued c) h = absurd (cc)
-same_entry id (entry.Raised n) (entry.Tried k l) h = absurd (cc)
-same_entry id (entry.Raised n) (entry.Recorded k) h = absurd (cc)
-same_entry id (entry.Raised n) (entry.Raised k) h = cc
+same_entry id (entry.Recorded n) (entry.Cancelled k) h = absurd (cc)
+same_entry id (entry.Raised m) (entry.Queued d) h = absurd (cc)
+same_entry id (entry.Raised m) (entry.Tried k l) h = absurd (cc)
+same_entry id (entry.Raised m) (entry.Recorded k) h = absurd (cc)
+same_entry id (entry.Raised m) (entry.Raised k) h = cc
+same_entry id (entry.Raised m) (entry.Cancelled k) h = absurd (cc)
+same_entry id (entry.Cancelled n) (entry.Queued d) h = absurd (cc)
+same_entry id (entry.Cancelled n) (entry.Tried k l) h = absurd (cc)
+same_entry id (entry.Cancelled n) (entry.Recorded k) h = absurd (cc)
+same_entry id (entry.Cancelled n) (entry.Raised k) h = absurd (cc)
+same_entry id (entry.Cancelled n) (entry.Cancelled k) h = cc
 
 abbrev pub has_id : ℕ → Row → Bool
 has_id id row = number_in (column row 0) == id

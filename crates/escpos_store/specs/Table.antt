@@ -64,6 +64,7 @@ kind_of (entry.Queued content) = 1
 kind_of (entry.Tried number next) = 2
 kind_of (entry.Recorded number) = 3
 kind_of (entry.Raised next) = 4
+kind_of (entry.Cancelled number) = 5
 
 -- The dots of a receipt's lines, but 0 for the usual 512, as in ledgers that know no other width. A line has 1 dot at least, so
 -- that 512 for none makes the numbers of all widths differ.
@@ -81,6 +82,7 @@ number_of (entry.Queued content) = width_number content.options.width
 number_of (entry.Tried number next) = number
 number_of (entry.Recorded number) = number
 number_of (entry.Raised next) = 0
+number_of (entry.Cancelled number) = number
 
 -- the mark number that is free afterwards; in an entry by which a receipt is taken its replacement, and 0 in an entry that has neither
 abbrev pub next_of : Entry → ℕ
@@ -88,6 +90,7 @@ next_of (entry.Queued content) = replacement_number content.options.replacement
 next_of (entry.Tried number next) = next
 next_of (entry.Recorded number) = 0
 next_of (entry.Raised next) = next
+next_of (entry.Cancelled number) = 0
 
 -- the receipt's text, and NULL in an entry that has none
 abbrev pub content_of : Entry → Value
@@ -95,6 +98,7 @@ content_of (entry.Queued content) = Bytes content.text
 content_of (entry.Tried number next) = Null
 content_of (entry.Recorded number) = Null
 content_of (entry.Raised next) = Null
+content_of (entry.Cancelled number) = Null
 
 -- the row of an entry: id, kind, number, next, content
 abbrev pub row_of : ℕ → Entry → Row
@@ -107,6 +111,7 @@ IsReal (entry.Queued content) = IsTrue (is_line_width content.options.width) × 
 IsReal (entry.Tried number next) = (0 < number) × (next < 2 ^ 32)
 IsReal (entry.Recorded number) = 0 < number
 IsReal (entry.Raised next) = next < 2 ^ 32
+IsReal (entry.Cancelled number) = 0 < number
 
 abbrev pub rows_from : ℕ → List Entry → List Row
 rows_from id [] = []

@@ -25,7 +25,7 @@ pub fn id(number: usize) -> Option<ValueRef<'static>>
     Some(ValueRef::Int(i64::try_from(number).ok()?))
 }
 
-/// The kind: 1 for Queued, 2 for Tried, 3 for Recorded, 4 for Raised.
+/// The kind: 1 for Queued, 2 for Tried, 3 for Recorded, 4 for Raised, 5 for Cancelled.
 pub fn kind(entry: &Entry) -> ValueRef<'static>
     ensures { owned result ≡ Int (pos (kind_of entry.now)) }
 {
@@ -34,6 +34,7 @@ pub fn kind(entry: &Entry) -> ValueRef<'static>
         Entry::Tried { .. } => 2,
         Entry::Recorded { .. } => 3,
         Entry::Raised { .. } => 4,
+        Entry::Cancelled { .. } => 5,
     })
 }
 
@@ -46,7 +47,8 @@ pub fn number(entry: &Entry) -> Option<ValueRef<'static>>
     let number = match entry {
         Entry::Queued { content } => width_number(content.options.width),
         Entry::Raised { .. } => 0,
-        Entry::Tried { number, .. } | Entry::Recorded { number } => number.get(),
+        Entry::Tried { number, .. } | Entry::Recorded { number } | Entry::Cancelled { number } =>
+            number.get(),
     };
     Some(ValueRef::Int(i64::try_from(number).ok()?))
 }
@@ -70,7 +72,7 @@ pub fn next(entry: &Entry) -> ValueRef<'static>
 {
     ValueRef::Int(match entry {
         Entry::Queued { content } => replacement_number(content.options.replacement),
-        Entry::Recorded { .. } => 0,
+        Entry::Recorded { .. } | Entry::Cancelled { .. } => 0,
         Entry::Tried { next, .. } | Entry::Raised { next } => i64::from(*next),
     })
 }
@@ -91,7 +93,10 @@ pub fn content(entry: &Entry) -> ValueRef<'_>
 {
     match entry {
         Entry::Queued { content } => ValueRef::Blob(content.bytes()),
-        Entry::Tried { .. } | Entry::Recorded { .. } | Entry::Raised { .. } => ValueRef::Null,
+        Entry::Tried { .. }
+        | Entry::Recorded { .. }
+        | Entry::Raised { .. }
+        | Entry::Cancelled { .. } => ValueRef::Null,
     }
 }
 
@@ -187,6 +192,9 @@ fn entry_without_content(kind: u64, number: u64, next: u64) -> Option<Entry>
         }),
         4 if number == 0 => Some(Entry::Raised {
             next: u32::try_from(next).ok()?,
+        }),
+        5 if next == 0 => Some(Entry::Cancelled {
+            number: receipt_number(number)?,
         }),
         _ => None,
     }
