@@ -1,16 +1,17 @@
--- In a ledger each receipt that was taken waits or is recorded, and none is both.
-use Rattle.std.proofs.Common.{ℕ, zero, suc, ◌≡◌, ◌≢◌, ◌+◌, ◌-◌, ◌<◌, ◌⊎◌, inl, inr, Bool, true, false, cond, Option, Some, None, List, [], ◌∷◌, ◌++◌, length, refl, sym, ◌∙◌, ap, subst, add-zero, arith}
-use Rattle.std.specs.Prelude.{◌==◌, is_none, slice_get}
+-- In a ledger each receipt that was taken waits, is recorded or is cancelled, and none is two of these.
+use Rattle.std.proofs.Common.{ℕ, zero, suc, ◌≡◌, ◌≢◌, ◌+◌, ◌-◌, ◌<◌, ◌⊎◌, inl, inr, Bool, true, false, cond, Option, Some, None, List, [], ◌∷◌, ◌++◌, length, refl, sym, ◌∙◌, ap, subst, add-zero, append_assoc, arith}
+use Rattle.std.specs.Prelude.{◌==◌, ◌&&◌, is_none, slice_get}
 use Rattle.std.specs.List.{cons_option, filter_map, position_from}
 use Rattle.std.proofs.lemmas.Bool.Decides.{nat_tests}
+use Rattle.std.proofs.lemmas.List.Sums.{sum_by-append}
 use Rattle.std.proofs.lemmas.Option.{same_Some}
 use Rattle.escpos_till.specs.declared.entry.Content.{Content}
 use Rattle.escpos_till.specs.declared.entry.Entry.{Entry}
-use Rattle.escpos_till.specs.declared.entry.Entry.TheVariants.{Queued, Tried, Recorded, Raised}
-use Rattle.escpos_till.specs.Entries.{IsLedger, MayFollow, Taken, Waits, contents, numbered_from, place_of, record_of, recorded, taken}
+use Rattle.escpos_till.specs.declared.entry.Entry.TheVariants.{Queued, Tried, Recorded, Raised, Cancelled}
+use Rattle.escpos_till.specs.Entries.{IsLedger, MayFollow, Taken, Waits, cancel_of, cancel_place_of, cancelled, contents, is_open, is_try_of, numbered_from, place_in, place_of, record_of, recorded, taken, times_tried, waiting}
 use Rattle.escpos_till.proofs.EntryLemmas.{length-taken}
-use Rattle.escpos_till_model.specs.Receipts.{Among, EachIsKept, IsTaken}
-use Rattle.escpos_till_model.proofs.EntryFacts.{among_filtered, among_first, among_later, filter_keeps, is_taken_grows}
+use Rattle.escpos_till_model.specs.Receipts.{Among, EachIsKept, IsAbout, IsEndOf, IsTaken}
+use Rattle.escpos_till_model.proofs.EntryFacts.{among_either, among_filtered, among_first, among_later, cancelled_append, filter_keeps, is_taken_grows, recorded_append}
 
 -- ## Places
 
@@ -41,13 +42,17 @@ place_given : (n k i : ℕ) (xs : List ℕ) → position_from (is_it n) i xs ≡
 place_given n k i [] e = absurd (let bad : None ≡ Some k = e in cc)
 place_given n k i (x ∷ xs) e = given_step n k i x xs (x == n) refl (place_given n k (i + 1) xs) e
 
-no_place : (entries : List Entry) (number : ℕ) → place_of entries number ≡ None → ¬ Among number (recorded entries)
-no_place entries number none (before, following, is) =
+no_place : (numbers : List ℕ) (number : ℕ) → place_in numbers number ≡ None → ¬ Among number numbers
+no_place numbers number none (before, following, is) =
     place_found number 0 before following (ap (position_from (is_it number) 0) (sym is) ∙ none)
 
-is_nothing : (o : Option ℕ) → is_none o ≡ true → o ≡ None
-is_nothing None e = refl
-is_nothing (Some n) e = absurd (let bad : false ≡ true = e in cc)
+both_nothing : (place cancel : Option ℕ) → (is_none place && is_none cancel) ≡ true → (place ≡ None) × (cancel ≡ None)
+both_nothing None None e = (refl, refl)
+both_nothing None (Some n) e = absurd (let bad : false ≡ true = e in cc)
+both_nothing (Some n) cancel e = absurd (let bad : false ≡ true = e in cc)
+
+open_by : (place cancel : Option ℕ) → place ≡ None → cancel ≡ None → (is_none place && is_none cancel) ≡ true
+open_by place cancel p c = ap (λ o. is_none o && is_none cancel) p ∙ ap (λ o. is_none o) c
 
 -- ## Where an entry stands that says something
 
@@ -86,13 +91,76 @@ records_it (Queued content) number is = absurd (let bad : None ≡ Some number =
 records_it (Tried n next) number is = absurd (let bad : None ≡ Some number = is in cc)
 records_it (Recorded n) number is = ap Recorded (same_Some n number is)
 records_it (Raised next) number is = absurd (let bad : None ≡ Some number = is in cc)
+records_it (Cancelled n) number is = absurd (let bad : None ≡ Some number = is in cc)
 
--- What is recorded waited before.
+cancels_it : (e : Entry) (number : ℕ) → cancel_of e ≡ Some number → e ≡ Cancelled number
+cancels_it (Queued content) number is = absurd (let bad : None ≡ Some number = is in cc)
+cancels_it (Tried n next) number is = absurd (let bad : None ≡ Some number = is in cc)
+cancels_it (Recorded n) number is = absurd (let bad : None ≡ Some number = is in cc)
+cancels_it (Raised next) number is = absurd (let bad : None ≡ Some number = is in cc)
+cancels_it (Cancelled n) number is = ap Cancelled (same_Some n number is)
+
+-- What is recorded waited before, and so did what is cancelled.
 waited : (entries pre post : List Entry) (e : Entry) (number : ℕ) → IsLedger entries → entries ≡ pre ++ e ∷ post → record_of e ≡ Some number → Waits pre number
 waited entries pre post e number ledger is says =
     let follows = ledger pre e post is in
     let same = records_it e number says in
     (subst (MayFollow pre) same follows).0
+
+waited_too : (entries pre post : List Entry) (e : Entry) (number : ℕ) → IsLedger entries → entries ≡ pre ++ e ∷ post → cancel_of e ≡ Some number → Waits pre number
+waited_too entries pre post e number ledger is says = subst (MayFollow pre) (cancels_it e number says) (ledger pre e post is)
+
+-- An entry about a receipt comes where it waits.
+waits_at : (before : List Entry) (e : Entry) (number : ℕ) → MayFollow before e → IsAbout number e → Waits before number
+waits_at before (Queued content) number follows about = absurd about
+waits_at before (Tried n next) number follows about = subst (Waits before) about follows.0
+waits_at before (Recorded n) number follows about = subst (Waits before) about follows.0
+waits_at before (Raised next) number follows about = absurd about
+waits_at before (Cancelled n) number follows about = subst (Waits before) about follows
+
+-- It waits no more after its end.
+ended_there : (before more : List Entry) (end : Entry) (number : ℕ) → IsEndOf number end → ¬ Waits (before ++ end ∷ more) number
+ended_there before more (Queued content) number ends waits = absurd ends
+ended_there before more (Tried n next) number ends waits = absurd ends
+ended_there before more (Recorded n) number ends waits =
+    no_place (recorded (before ++ Recorded n ∷ more)) number waits.open_still
+    (subst (λ k. Among k (recorded (before ++ Recorded n ∷ more))) ends (recorded before, recorded more, recorded_append before (Recorded n ∷ more)))
+ended_there before more (Raised next) number ends waits = absurd ends
+ended_there before more (Cancelled n) number ends waits =
+    no_place (cancelled (before ++ Cancelled n ∷ more)) number waits.not_cancelled
+    (subst (λ k. Among k (cancelled (before ++ Cancelled n ∷ more))) ends (cancelled before, cancelled more, cancelled_append before (Cancelled n ∷ more)))
+
+-- After its end no entry is about a receipt.
+pub none_after : (before following : List Entry) (number : ℕ) (end e : Entry) → IsLedger (before ++ end ∷ following) → IsEndOf number end → Among e following → ¬ IsAbout number e
+none_after before following number end e ledger ends (between, beyond, is) about =
+    let front : List Entry = before ++ end ∷ between in
+    let split : before ++ end ∷ following ≡ front ++ e ∷ beyond = ap (λ es. before ++ end ∷ es) is ∙ sym (append_assoc before (end ∷ between) (e ∷ beyond)) in
+    ended_there before between end number ends (waits_at front e number (ledger front e beyond split) about)
+
+-- ## How often a receipt was tried
+
+abbrev one_if : Bool → ℕ
+one_if b = cond b 1 0
+
+pub same_times : (entries : List Entry) (e : Entry) (number : ℕ) → is_try_of number e ≡ false → times_tried (entries ++ e ∷ []) number ≡ times_tried entries number
+same_times entries e number other =
+    let all = sum_by-append (λ x. cond (is_try_of number x) 1 0) entries (e ∷ []) in
+    let none : one_if (is_try_of number e) ≡ 0 = ap one_if other in
+    omega (arith, all, none)
+
+not_tried : (entries : List Entry) (number n : ℕ) (b : Bool) → (n == number) ≡ b → Waits entries n → Among number (cancelled entries) → b ≡ false
+not_tried entries number n true same waits among =
+    absurd (no_place (cancelled entries) n waits.not_cancelled (subst (λ k. Among k (cancelled entries)) (sym (are_same n number same)) among))
+not_tried entries number n false same waits among = refl
+
+-- A receipt that is cancelled is tried no more.
+pub times_stay : (entries : List Entry) (e : Entry) (number : ℕ) → MayFollow entries e → Among number (cancelled entries)
+    → times_tried (entries ++ e ∷ []) number ≡ times_tried entries number
+times_stay entries (Queued content) number follows among = same_times entries (Queued content) number refl
+times_stay entries (Tried n next) number follows among = same_times entries (Tried n next) number (not_tried entries number n (n == number) refl follows.0 among)
+times_stay entries (Recorded n) number follows among = same_times entries (Recorded n) number refl
+times_stay entries (Raised next) number follows among = same_times entries (Raised next) number refl
+times_stay entries (Cancelled n) number follows among = same_times entries (Cancelled n) number refl
 
 -- ## Receipts with their numbers
 
@@ -117,24 +185,56 @@ waits_taken entries number waits =
 
 -- ## The law
 
-either : (entries : List Entry) (receipt : Taken) (o : Option ℕ) → place_of entries receipt.number ≡ o → Among receipt (taken entries)
-    → Among receipt (Rattle.escpos_till.specs.Entries.waiting entries) ⊎ Among receipt.number (recorded entries)
-either entries receipt None is among =
-    inl (filter_keeps (λ (t : Taken). is_none (place_of entries t.number)) receipt (taken entries) (ap is_none is) among)
-either entries receipt (Some k) is among = inr (place_given receipt.number k 0 (recorded entries) is)
+one_of : (entries : List Entry) (receipt : Taken) (place cancel : Option ℕ) → place_of entries receipt.number ≡ place → cancel_place_of entries receipt.number ≡ cancel
+    → Among receipt (taken entries) → Among receipt (waiting entries) ⊎ (Among receipt.number (recorded entries) ⊎ Among receipt.number (cancelled entries))
+one_of entries receipt None None place cancel among =
+    inl (filter_keeps (λ (t : Taken). is_open entries t.number) receipt (taken entries)
+    (open_by (place_of entries receipt.number) (cancel_place_of entries receipt.number) place cancel) among)
+one_of entries receipt None (Some k) place cancel among = inr (inr (place_given receipt.number k 0 (cancelled entries) cancel))
+one_of entries receipt (Some k) other place cancel among = inr (inl (place_given receipt.number k 0 (recorded entries) place))
+
+-- What waits is neither recorded nor cancelled.
+still_open : (entries : List Entry) (receipt : Taken) → Among receipt (waiting entries) → (place_of entries receipt.number ≡ None) × (cancel_place_of entries receipt.number ≡ None)
+still_open entries receipt among =
+    both_nothing (place_of entries receipt.number) (cancel_place_of entries receipt.number)
+    (among_filtered (λ (t : Taken). is_open entries t.number) receipt (taken entries) among).1
+
+-- What is recorded isn't cancelled: neither before, where it waits, nor after.
+not_both : (entries : List Entry) (number : ℕ) → IsLedger entries → Among number (recorded entries) → ¬ Among number (cancelled entries)
+not_both entries number ledger (before, following, is) cancels =
+    let (pre, e, post, split, front, says) = split_at record_of entries before number following is in
+    let waits = waited entries pre post e number ledger split says in
+    let same : e ≡ Recorded number = records_it e number says in
+    let here : entries ≡ pre ++ Recorded number ∷ post = split ∙ ap (λ x. pre ++ x ∷ post) same in
+    let parts : cancelled entries ≡ cancelled pre ++ cancelled post = ap cancelled here ∙ cancelled_append pre (Recorded number ∷ post) in
+    elim (among_either number (cancelled pre) (cancelled post) (subst (λ ns. Among number ns) parts cancels)) [
+      | inl earlier ↦ no_place (cancelled pre) number waits.not_cancelled earlier
+      | inr (some, others, later) ↦
+          let (mid, x, beyond, at, those, cancels_here) = split_at cancel_of post some number others later in
+          let is_cancelled : x ≡ Cancelled number = cancels_it x number cancels_here in
+          none_after pre post number (Recorded number) x (subst IsLedger here ledger) refl (mid, beyond, at) (subst (IsAbout number) (sym is_cancelled) refl)
+    ]
 
 pub each_is_kept : (entries : List Entry) → IsLedger entries → EachIsKept entries
 each_is_kept entries ledger = record {
-  waits_or_recorded = λ receipt among. either entries receipt (place_of entries receipt.number) refl among;
-  not_both = λ receipt among. no_place entries receipt.number
-      (is_nothing _ (among_filtered (λ (t : Taken). is_none (place_of entries t.number)) receipt (taken entries) among).1);
+  waits_recorded_or_cancelled = λ receipt among. one_of entries receipt (place_of entries receipt.number) (cancel_place_of entries receipt.number) refl refl among;
+  waiting_not_recorded = λ receipt among. no_place (recorded entries) receipt.number (still_open entries receipt among).0;
+  waiting_not_cancelled = λ receipt among. no_place (cancelled entries) receipt.number (still_open entries receipt among).1;
+  recorded_not_cancelled = λ number among. not_both entries number ledger among;
   were_taken = λ number (before, following, is).
       let (pre, e, post, split, front, says) = split_at record_of entries before number following is in
       let (content, taken) = waits_taken pre number (waited entries pre post e number ledger split says) in
       (content, subst (λ es. IsTaken es number content) (sym split) (is_taken_grows pre (e ∷ post) number content taken));
+  cancelled_were_taken = λ number (before, following, is).
+      let (pre, e, post, split, front, says) = split_at cancel_of entries before number following is in
+      let (content, taken) = waits_taken pre number (waited_too entries pre post e number ledger split says) in
+      (content, subst (λ es. IsTaken es number content) (sym split) (is_taken_grows pre (e ∷ post) number content taken));
   once = λ number before following is among.
       let (pre, e, post, split, front, says) = split_at record_of entries before number following is in
-      no_place pre number (waited entries pre post e number ledger split says).open_still (subst (λ ns. Among number ns) (sym front) among);
+      no_place (recorded pre) number (waited entries pre post e number ledger split says).open_still (subst (λ ns. Among number ns) (sym front) among);
+  cancelled_once = λ number before following is among.
+      let (pre, e, post, split, front, says) = split_at cancel_of entries before number following is in
+      no_place (cancelled pre) number (waited_too entries pre post e number ledger split says).not_cancelled (subst (λ ns. Among number ns) (sym front) among);
 }
 
 -- ## What a machine delivers
@@ -143,12 +243,12 @@ none_there : (before following : List Taken) (x : Taken) → [] ≡ before ++ x 
 none_there [] following x is = absurd cc
 none_there (b ∷ bs) following x is = absurd cc
 
--- Where none waits, each that was taken is recorded.
-pub all_recorded : (entries : List Entry) → IsLedger entries → Rattle.escpos_till.specs.Entries.waiting entries ≡ [] → (receipt : Taken) → Among receipt (taken entries)
-    → Among receipt.number (recorded entries)
-all_recorded entries ledger none receipt among = elim ((each_is_kept entries ledger).waits_or_recorded receipt among) [
+-- Where none waits, each that was taken is recorded or cancelled.
+pub all_ended : (entries : List Entry) → IsLedger entries → waiting entries ≡ [] → (receipt : Taken) → Among receipt (taken entries)
+    → Among receipt.number (recorded entries) ⊎ Among receipt.number (cancelled entries)
+all_ended entries ledger none receipt among = elim ((each_is_kept entries ledger).waits_recorded_or_cancelled receipt among) [
   | inl (before, following, is) ↦ absurd (none_there before following receipt (sym none ∙ is))
-  | inr recorded ↦ recorded
+  | inr ended ↦ ended
 ]
 
 pub first_among : (xs : List Taken) (x : Taken) → slice_get xs 0 ≡ Some x → Among x xs

@@ -33,8 +33,8 @@ use Rattle.escpos_till.specs.declared.store.StoreFault.{StoreFault}
 use Rattle.escpos_till.specs.Delivers.{fresh, marks_taken}
 use Rattle.escpos_till.specs.Book.{IsBookOf}
 use Rattle.escpos_till.specs.Entries.{MayFollow, next_free}
-use Rattle.escpos_till.specs.Machine.{Came, Delivers, Ended, Follows, GoesOn, HearsOne, Kept, MachineView, Queues, Raises, SameEntries, Submits, Turns as Turned, Unsure, after_note, connected, hung_up, lost, not_connected, put, told}
-use Rattle.escpos_till.proofs.EntryLemmas.{next_after_queued, next_after_raised, next_after_recorded, next_after_tried}
+use Rattle.escpos_till.specs.Machine.{Came, Cancels, Delivers, Ended, Follows, GoesOn, HearsOne, Kept, MachineView, Queues, Raises, SameEntries, Submits, Turns as Turned, Unsure, after_note, connected, hung_up, lost, not_connected, put, told}
+use Rattle.escpos_till.proofs.EntryLemmas.{next_after_cancelled, next_after_queued, next_after_raised, next_after_recorded, next_after_tried}
 use Rattle.escpos_till_model.specs.declared.event.Happening.{Happening}
 use Rattle.escpos_till_model.specs.declared.event.Happening.TheVariants as event
 use Rattle.escpos_till_model.specs.Carried.{AreApart, Carried, Carries, HasOwnMarks, limit_of, link_at, link_by, link_of, links_after, numbers_from, out_of, with_put}
@@ -163,6 +163,7 @@ hung_so stage.Failed m after is = inl is
 pub note_quiet : (n : TillNote) → IsQuiet (after_note n)
 note_quiet (note.Queued number) = tt
 note_quiet note.Raised = tt
+note_quiet (note.Cancelled number tried) = tt
 note_quiet (note.Recorded number) = tt
 note_quiet (note.NoLink number) = tt
 note_quiet (note.Waiting number why) = tt
@@ -180,6 +181,7 @@ ended_so stage.Failed why m after is = inl is
 pub lost_quiet : (next : Then) (why : StoreFault) → IsQuiet (lost next why)
 lost_quiet then.Queued why = tt
 lost_quiet then.Raised why = tt
+lost_quiet (then.Cancelled number tried) why = tt
 lost_quiet (then.Send due) why = tt
 lost_quiet (then.Recorded number) why = tt
 
@@ -190,6 +192,7 @@ grows kept (entry.Queued content) follows = omega (arith, next_after_queued kept
 grows kept (entry.Tried number next) follows = omega (arith, next_after_tried kept number next, follows.1)
 grows kept (entry.Recorded number) follows = omega (arith, next_after_recorded kept number)
 grows kept (entry.Raised next) follows = omega (arith, next_after_raised kept next, follows)
+grows kept (entry.Cancelled number) follows = omega (arith, next_after_cancelled kept number)
 
 -- ## What goes on without a byte
 
@@ -211,6 +214,8 @@ pub kept_by : Ids → (next : Then) (low : ℕ) (links : List Carried) (kept : L
 kept_by ids then.Queued low links kept hand h m after e first may keeps (number, is, host, at) apart own =
     (apart_more low (next_free kept) (next_free (kept ++ e ∷ [])) links (grows kept e may) apart, own, quiet_on after.stage after.host links (subst IsQuiet (sym at) tt))
 kept_by ids then.Raised low links kept hand h m after e first may keeps (host, at) apart own =
+    (apart_more low (next_free kept) (next_free (kept ++ e ∷ [])) links (grows kept e may) apart, own, quiet_on after.stage after.host links (subst IsQuiet (sym at) tt))
+kept_by ids (then.Cancelled number tried) low links kept hand h m after e first may keeps (host, at) apart own =
     (apart_more low (next_free kept) (next_free (kept ++ e ∷ [])) links (grows kept e may) apart, own, quiet_on after.stage after.host links (subst IsQuiet (sym at) tt))
 kept_by ids (then.Recorded number) low links kept hand h m after e first may keeps (drops, at) apart own =
     (apart_more low (next_free kept) (next_free (kept ++ e ∷ [])) links (grows kept e may) apart, own, quiet_on after.stage after.host links (subst IsQuiet (sym at) tt))
@@ -492,6 +497,8 @@ step_carried ids (event.Queue content) w new low links known moves c =
     moved_on (λ m after. Queues m content after) w new w.told low links moves (λ m after queues. quietly links m after (subst IsQuiet (sym queues.keeps) tt)) c
 step_carried ids (event.Raise first) w new low links known moves c =
     moved_on (λ m after. Raises m first after) w new w.told low links moves (λ m after raises. quietly links m after (subst (λ k. IsQuiet k.stage) (sym raises.after_is) tt)) c
+step_carried ids (event.Cancel number) w new low links known moves c =
+    moved_on (λ m after. Cancels m number after) w new w.told low links moves (λ m after cancels. quietly links m after (subst (λ k. IsQuiet k.stage) (sym cancels.after_is) tt)) c
 step_carried ids (event.Deliver openings most copy) w new low links known (is_copy, moves) c =
     moved_on (λ m after. Delivers m openings most copy after × FitsLine after.stage) w new w.told low links moves
     (λ m after delivers. quietly links m after (subst (λ k. IsQuiet k.stage) (sym delivers.0.after_is) tt)) c

@@ -107,6 +107,7 @@ given_on ids (b ∷ bs) talk m after links at fits talks (counts, hears) = all_h
 same_link : (next : Then) (kept : List Entry) (hand : Option Hand) (h : HostView) (e : Entry) → IsToKeep kept hand h e next → link_for kept e ≡ link_of next e (next_free kept)
 same_link then.Queued kept hand h e (none, content, is) = ap (link_for kept) is
 same_link then.Raised kept hand h e (none, first, is) = ap (link_for kept) is
+same_link (then.Cancelled number tried) kept hand h e (none, is, times) = ap (link_for kept) is
 same_link (then.Send due) kept hand h e (none, sends, is) = ap (link_for kept) is ∙ sym (ap (λ x. link_of (then.Send due) x (next_free kept)) is)
 same_link (then.Recorded number) kept hand h e (held, hand_is, number_is, is, fewer, up) = ap (link_for kept) is
 

@@ -89,6 +89,7 @@ reach stage.AtRest w m a leads is shown = reach_at_rest w m a leads stage.AtRest
 reach (stage.Connecting due) w m a leads is shown = reach_at_rest w m a leads (stage.Connecting due) is tt shown
 reach (stage.Keeping e then.Queued) w m a leads is shown = reach_at_rest w m a leads (stage.Keeping e then.Queued) is tt shown
 reach (stage.Keeping e then.Raised) w m a leads is shown = reach_at_rest w m a leads (stage.Keeping e then.Raised) is tt shown
+reach (stage.Keeping e (then.Cancelled number tried)) w m a leads is shown = reach_at_rest w m a leads (stage.Keeping e (then.Cancelled number tried)) is tt shown
 reach (stage.Telling note) w m a leads is shown = reach_at_rest w m a leads (stage.Telling note) is tt shown
 reach stage.Failed w m a leads is shown = reach_at_rest w m a leads stage.Failed is tt shown
 
@@ -153,6 +154,7 @@ crash stage.AtRest w m a leads is shown = crash_at_rest w m a leads stage.AtRest
 crash (stage.Connecting due) w m a leads is shown = crash_at_rest w m a leads (stage.Connecting due) is tt shown
 crash (stage.Keeping e then.Queued) w m a leads is shown = crash_at_rest w m a leads (stage.Keeping e then.Queued) is tt shown
 crash (stage.Keeping e then.Raised) w m a leads is shown = crash_at_rest w m a leads (stage.Keeping e then.Raised) is tt shown
+crash (stage.Keeping e (then.Cancelled number tried)) w m a leads is shown = crash_at_rest w m a leads (stage.Keeping e (then.Cancelled number tried)) is tt shown
 crash (stage.Telling note) w m a leads is shown = crash_at_rest w m a leads (stage.Telling note) is tt shown
 crash stage.Failed w m a leads is shown = crash_at_rest w m a leads stage.Failed is tt shown
 
@@ -161,6 +163,7 @@ starts stage.AtRest h w near none down same = (down, same)
 starts (stage.Connecting due) h w near none down same = (down, same)
 starts (stage.Keeping e then.Queued) h w near none down same = (down, same)
 starts (stage.Keeping e then.Raised) h w near none down same = (down, same)
+starts (stage.Keeping e (then.Cancelled number tried)) h w near none down same = (down, same)
 starts (stage.Keeping e (then.Send due)) h w near none down same = absurd none
 starts (stage.Keeping e (then.Recorded number)) h w near none down same = absurd none
 starts (stage.Talking talk) h w near none down same = absurd none

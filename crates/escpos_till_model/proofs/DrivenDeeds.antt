@@ -100,6 +100,7 @@ kept_so : (next : Then) (m mid : MachineView) (w : World) (a : Around) (e : Entr
     → Follows next m.host m.book.next mid.book mid.host mid.stage → Leads w mid a
 kept_so then.Queued m mid w a e it notes (down, same) (number, is, host, at) = answered_down m mid w a it _ notes down host same at
 kept_so then.Raised m mid w a e it notes (down, same) (host, at) = answered_down m mid w a it _ notes down host same at
+kept_so (then.Cancelled number tried) m mid w a e it notes (down, same) (host, at) = answered_down m mid w a it _ notes down host same at
 kept_so (then.Send due) m mid w a e it notes (down, (events, goes)) (inl (host, at)) =
     answered_sent m mid w a it _ events notes down (subst (λ h. h.phase ≢ Down) (sym host) (λ bad. cc bad)) goes at
 kept_so (then.Send due) m mid w a e it notes (down, (events, goes)) (inr (why, refused, at)) =
@@ -110,6 +111,7 @@ lost_so : (next : Then) (why : StoreFault) (m mid : MachineView) (w : World) (a 
     → ShowsWire (stage.Keeping e next) m.host w.wire a.wire → Drops m.host mid.host → mid.stage ≡ lost next why → Leads w mid a
 lost_so then.Queued why m mid w a e it notes (down, same) drops at = answered_down m mid w a it _ notes down (drops.0 down) same at
 lost_so then.Raised why m mid w a e it notes (down, same) drops at = answered_down m mid w a it _ notes down (drops.0 down) same at
+lost_so (then.Cancelled number tried) why m mid w a e it notes (down, same) drops at = answered_down m mid w a it _ notes down (drops.0 down) same at
 lost_so (then.Send due) why m mid w a e it notes (down, (events, goes)) drops at = answered_unsent m mid w a it _ events notes down (gone m.host mid.host drops) goes at
 lost_so (then.Recorded number) why m mid w a e it notes (up, (dropped, same)) drops at = answered_off m mid w a it _ dropped notes up (gone m.host mid.host drops) same at
 
@@ -204,6 +206,7 @@ hangs_up m mid a w shows (note, is, mid_is) sound =
 noted_wire : (n : TillNote) (h : HostView) (w near : WireView) → h.phase ≡ Down → w ≡ near → ShowsWire (after_note n) h w near
 noted_wire (note_kind.Queued number) h w near down same = (down, same)
 noted_wire note_kind.Raised h w near down same = (down, same)
+noted_wire (note_kind.Cancelled number tried) h w near down same = (down, same)
 noted_wire (note_kind.Recorded number) h w near down same = (down, same)
 noted_wire (note_kind.NoLink number) h w near down same = (down, same)
 noted_wire (note_kind.Waiting number why) h w near down same = (down, same)

@@ -21,7 +21,7 @@ use Rattle.escpos_till_model.specs.Known.{BookMayLag}
 
 -- ## A store that has done what it was asked to had done so before
 
-faithful_before : {S L : Type 0} (faithful : S → Type 0) (holds leaves : S → List Entry → Type 0) (says : S → StoreFault → Type 0) (did : L → Deed → L → Type 0) (d : Deed) (old new : Surroundings S L)
+faithful_before : {S L : Type 0} (faithful : S → Type 0) (holds leaves : S → List Entry → Type 0) (says : S → List Entry → StoreFault → S → Type 0) (did : L → Deed → L → Type 0) (d : Deed) (old new : Surroundings S L)
     → Did faithful holds leaves says did old d new → faithful new.store → faithful old.store
 unfolding Did
 faithful_before faithful holds leaves says did (Keeps e) old new (appends, line) done = appends.was_faithful done
@@ -35,7 +35,7 @@ faithful_before faithful holds leaves says did (Gives room bytes) old new (so, s
 faithful_before faithful holds leaves says did (Ends why) old new (so, same) done = subst faithful same done
 faithful_before faithful holds leaves says did HangsUp old new (so, same) done = subst faithful same done
 
-pub was_faithful : {S L : Type 0} (faithful : S → Type 0) (holds leaves : S → List Entry → Type 0) (says : S → StoreFault → Type 0) (did : L → Deed → L → Type 0) (ds : List Deed) (m after : MachineView) (old new : Surroundings S L)
+pub was_faithful : {S L : Type 0} (faithful : S → Type 0) (holds leaves : S → List Entry → Type 0) (says : S → List Entry → StoreFault → S → Type 0) (did : L → Deed → L → Type 0) (ds : List Deed) (m after : MachineView) (old new : Surroundings S L)
     → DidAll (Did faithful holds leaves says did) m old ds after new → faithful new.store → faithful old.store
 was_faithful {S} {L} faithful holds leaves says did [] m after old new (is, same) done = subst (λ (k : Surroundings S L). faithful k.store) same done
 was_faithful faithful holds leaves says did (d ∷ ds) m after old new (mid, between, turns, sound, first, more) done =
@@ -62,6 +62,7 @@ ending_at s other is ending = subst IsEnding is ending
 after_note_ends : (n : TillNote) → IsEnding (after_note n)
 after_note_ends (note_kind.Queued number) = tt
 after_note_ends note_kind.Raised = tt
+after_note_ends (note_kind.Cancelled number tried) = tt
 after_note_ends (note_kind.Recorded number) = tt
 after_note_ends (note_kind.NoLink number) = tt
 after_note_ends (note_kind.Waiting number why) = tt
@@ -86,6 +87,7 @@ ends_on (Ends why) m mid ending (room, waits, ended) = absurd (ending_at m.stage
 lost_lags : (next : Then) (why : StoreFault) → BookMayLag (lost next why)
 lost_lags then.Queued why = tt
 lost_lags then.Raised why = tt
+lost_lags (then.Cancelled number tried) why = tt
 lost_lags (then.Send due) why = tt
 lost_lags (then.Recorded number) why = tt
 
@@ -105,6 +107,7 @@ hung_lags : (n : TillNote) → BookMayLag (stage.HangingUp n) → BookMayLag (st
 hung_lags (note_kind.NotKept why) lags = tt
 hung_lags (note_kind.Queued number) lags = absurd lags
 hung_lags note_kind.Raised lags = absurd lags
+hung_lags (note_kind.Cancelled number tried) lags = absurd lags
 hung_lags (note_kind.Recorded number) lags = absurd lags
 hung_lags (note_kind.NoLink number) lags = absurd lags
 hung_lags (note_kind.Waiting number why) lags = absurd lags
@@ -113,6 +116,7 @@ told_lags : (n : TillNote) → BookMayLag (stage.Telling n) → BookMayLag (afte
 told_lags (note_kind.NotKept why) lags = tt
 told_lags (note_kind.Queued number) lags = absurd lags
 told_lags note_kind.Raised lags = absurd lags
+told_lags (note_kind.Cancelled number tried) lags = absurd lags
 told_lags (note_kind.Recorded number) lags = absurd lags
 told_lags (note_kind.NoLink number) lags = absurd lags
 told_lags (note_kind.Waiting number why) lags = absurd lags
@@ -155,7 +159,7 @@ tells_first m mid after kept left w wire notes n ds turns sound more = (
 )
 
 -- A machine that has no more to keep leaves its store alone.
-ends_alone : {S L : Type 0} (faithful : S → Type 0) (holds leaves : S → List Entry → Type 0) (says : S → StoreFault → Type 0) (did : L → Deed → L → Type 0) (ds : List Deed) (m after : MachineView) (old new : Surroundings S L) → IsEnding m.stage
+ends_alone : {S L : Type 0} (faithful : S → Type 0) (holds leaves : S → List Entry → Type 0) (says : S → List Entry → StoreFault → S → Type 0) (did : L → Deed → L → Type 0) (ds : List Deed) (m after : MachineView) (old new : Surroundings S L) → IsEnding m.stage
     → DidAll (Did faithful holds leaves says did) m old ds after new → new.store ≡ old.store
 unfolding Did
 ends_alone {S} {L} faithful holds leaves says did [] m after old new ending (is, same) = ap (λ (k : Surroundings S L). k.store) same
@@ -227,7 +231,7 @@ over_line holds leaves s d ds m mid after kept w there wire notes none turns sou
       subst (λ ns. DidAll DoesInTime mid (around kept there notes) ds after (around entries wire (notes ++ ns))) (sym none) goes,
     )) ends
 
-goes_all : {S L : Type 0} (faithful : S → Type 0) (holds leaves : S → List Entry → Type 0) (says : S → StoreFault → Type 0) (did : L → Deed → L → Type 0) (ds : List Deed) (m after : MachineView) (old new : Surroundings S L) (kept : List Entry)
+goes_all : {S L : Type 0} (faithful : S → Type 0) (holds leaves : S → List Entry → Type 0) (says : S → List Entry → StoreFault → S → Type 0) (did : L → Deed → L → Type 0) (ds : List Deed) (m after : MachineView) (old new : Surroundings S L) (kept : List Entry)
     (w wire : WireView) (notes : List TillNote) → DidAll (Did faithful holds leaves says did) m old ds after new → faithful new.store → holds old.store kept → AllOnWire w ds wire
     → EndsWith holds leaves new.store after.stage (Goes m kept w notes ds after wire)
 unfolding Did
@@ -274,11 +278,11 @@ goes_all faithful holds leaves says did (HangsUp ∷ ds) m after old new kept w 
     (goes_all faithful holds leaves says did ds mid after between new kept there wire notes more done (subst (λ s. holds s kept) (sym same) held) rest)
 
 -- What a store holds outlives a crash, once more.
-abbrev pub Outlives : {S : Type 0} → (S → Type 0) → (S → List Entry → Type 0) → (S → List Entry → Type 0) → (S → StoreFault → Type 0) → Type 0
+abbrev pub Outlives : {S : Type 0} → (S → Type 0) → (S → List Entry → Type 0) → (S → List Entry → Type 0) → (S → List Entry → StoreFault → S → Type 0) → Type 0
 Outlives {S} faithful holds leaves says = (s : S) (entries left : List Entry) → faithful s → holds s entries → leaves s left → left ≡ entries
 
 -- With what a crash leaves.
-with_left : {S : Type 0} (faithful : S → Type 0) (holds leaves : S → List Entry → Type 0) (says : S → StoreFault → Type 0) (s : S) (last : Stage) (Holds : List Entry → Type 0) (left : List Entry) → Outlives faithful holds leaves says → faithful s
+with_left : {S : Type 0} (faithful : S → Type 0) (holds leaves : S → List Entry → Type 0) (says : S → List Entry → StoreFault → S → Type 0) (s : S) (last : Stage) (Holds : List Entry → Type 0) (left : List Entry) → Outlives faithful holds leaves says → faithful s
     → leaves s left → EndsWith holds leaves s last Holds → Holds left
 with_left faithful holds leaves says s last Holds left outlives done may (inl (entries, held, it)) = subst Holds (sym (outlives s entries left done held may)) it
 with_left faithful holds leaves says s last Holds left outlives done may (inr (lags, it)) = it left may
@@ -289,7 +293,7 @@ with_held : {S : Type 0} (holds leaves : S → List Entry → Type 0) (s : S) (l
 with_held holds leaves s last Holds never (inl it) = it
 with_held holds leaves s last Holds never (inr (lags, it)) = absurd (never lags)
 
-pub does_all : {S L : Type 0} (faithful : S → Type 0) (holds leaves : S → List Entry → Type 0) (says : S → StoreFault → Type 0) (did : L → Deed → L → Type 0) → Outlives faithful holds leaves says
+pub does_all : {S L : Type 0} (faithful : S → Type 0) (holds leaves : S → List Entry → Type 0) (says : S → List Entry → StoreFault → S → Type 0) (did : L → Deed → L → Type 0) → Outlives faithful holds leaves says
     → (ds : List Deed) (m after : MachineView) (old new : Surroundings S L) (kept left : List Entry) (w wire : WireView) (notes : List TillNote)
     → DidAll (Did faithful holds leaves says did) m old ds after new → IsFaithful faithful holds old.store kept new.store → leaves new.store left → AllOnWire w ds wire
     → DidAll DoesInTime m (around kept w notes) ds after (around left wire (notes ++ notes_of ds))
@@ -297,7 +301,7 @@ does_all faithful holds leaves says did outlives ds m after old new kept left w 
     with_left faithful holds leaves says new.store after.stage (Goes m kept w notes ds after wire) left outlives so.done may
     (goes_all faithful holds leaves says did ds m after old new kept w wire notes all so.done so.held on)
 
-pub holds_all : {S L : Type 0} (faithful : S → Type 0) (holds leaves : S → List Entry → Type 0) (says : S → StoreFault → Type 0) (did : L → Deed → L → Type 0) (ds : List Deed) (m after : MachineView) (old new : Surroundings S L) (kept : List Entry)
+pub holds_all : {S L : Type 0} (faithful : S → Type 0) (holds leaves : S → List Entry → Type 0) (says : S → List Entry → StoreFault → S → Type 0) (did : L → Deed → L → Type 0) (ds : List Deed) (m after : MachineView) (old new : Surroundings S L) (kept : List Entry)
     (w wire : WireView) (notes : List TillNote) → DidAll (Did faithful holds leaves says did) m old ds after new → IsFaithful faithful holds old.store kept new.store → (BookMayLag after.stage → ⊥) → AllOnWire w ds wire
     → (entries : List Entry) × holds new.store entries × DidAll DoesInTime m (around kept w notes) ds after (around entries wire (notes ++ notes_of ds))
 holds_all faithful holds leaves says did ds m after old new kept w wire notes all so never on =
@@ -305,7 +309,7 @@ holds_all faithful holds leaves says did ds m after old new kept w wire notes al
 
 -- ## A line that is like a wire
 
-pub fits_all : {S L : Type 0} (faithful : S → Type 0) (holds leaves : S → List Entry → Type 0) (says : S → StoreFault → Type 0) (did : L → Deed → L → Type 0) (fits : L → WireView → Type 0) → FitsWire did fits
+pub fits_all : {S L : Type 0} (faithful : S → Type 0) (holds leaves : S → List Entry → Type 0) (says : S → List Entry → StoreFault → S → Type 0) (did : L → Deed → L → Type 0) (fits : L → WireView → Type 0) → FitsWire did fits
     → (ds : List Deed) (m after : MachineView) (old new : Surroundings S L) (w : WireView) → DidAll (Did faithful holds leaves says did) m old ds after new → fits old.line w
     → (wire : WireView) × AllOnWire w ds wire × fits new.line wire
 unfolding Did
@@ -366,6 +370,7 @@ no_turn (Tells n) m mid rests (is, mid_is) = rests_so m.stage _ is rests
 after_note_rests : (n : TillNote) → Rests (after_note n)
 after_note_rests (note_kind.Queued number) = tt
 after_note_rests note_kind.Raised = tt
+after_note_rests (note_kind.Cancelled number tried) = tt
 after_note_rests (note_kind.Recorded number) = tt
 after_note_rests (note_kind.NoLink number) = tt
 after_note_rests (note_kind.Waiting number why) = tt
@@ -420,7 +425,7 @@ run_to m after kept entries w wire notes before n most few one all = record {
   turns = few;
 }
 
-pub does_to : {S L : Type 0} (faithful : S → Type 0) (holds leaves : S → List Entry → Type 0) (says : S → StoreFault → Type 0) (did : L → Deed → L → Type 0) → Outlives faithful holds leaves says
+pub does_to : {S L : Type 0} (faithful : S → Type 0) (holds leaves : S → List Entry → Type 0) (says : S → List Entry → StoreFault → S → Type 0) (did : L → Deed → L → Type 0) → Outlives faithful holds leaves says
     → (m after : MachineView) (old new : Surroundings S L) (n : TillNote) (most : ℕ) (ran : RanTo (Did faithful holds leaves says did) m old n most after new) (kept left : List Entry) (w wire : WireView) (notes : List TillNote)
     → IsFaithful faithful holds old.store kept new.store → leaves new.store left → AllOnWire w (ran.before ++ Tells n ∷ []) wire
     → RanTo DoesInTime m (around kept w notes) n most after (around left wire (notes ++ n ∷ []))
@@ -428,7 +433,7 @@ does_to faithful holds leaves says did outlives m after old new n most ran kept 
     run_to m after kept left w wire notes ran.before n most ran.turns (one_note (Did faithful holds leaves says did) ran.before n m after old new ran.did_all)
     (does_all faithful holds leaves says did outlives (ran.before ++ Tells n ∷ []) m after old new kept left w wire notes ran.did_all so may on)
 
-pub holds_to : {S L : Type 0} (faithful : S → Type 0) (holds leaves : S → List Entry → Type 0) (says : S → StoreFault → Type 0) (did : L → Deed → L → Type 0) (m after : MachineView) (old new : Surroundings S L) (n : TillNote) (most : ℕ)
+pub holds_to : {S L : Type 0} (faithful : S → Type 0) (holds leaves : S → List Entry → Type 0) (says : S → List Entry → StoreFault → S → Type 0) (did : L → Deed → L → Type 0) (m after : MachineView) (old new : Surroundings S L) (n : TillNote) (most : ℕ)
     (ran : RanTo (Did faithful holds leaves says did) m old n most after new) (kept : List Entry) (w wire : WireView) (notes : List TillNote) → IsFaithful faithful holds old.store kept new.store → (BookMayLag after.stage → ⊥)
     → AllOnWire w (ran.before ++ Tells n ∷ []) wire → (entries : List Entry) × holds new.store entries × RanTo DoesInTime m (around kept w notes) n most after (around entries wire (notes ++ n ∷ []))
 holds_to faithful holds leaves says did m after old new n most ran kept w wire notes so never on =

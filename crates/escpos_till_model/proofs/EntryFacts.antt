@@ -7,10 +7,10 @@ use Rattle.std.proofs.lemmas.Option.{same_Some}
 use Rattle.escpos_command.specs.declared.command.Command.{Command}
 use Rattle.escpos_till.specs.declared.entry.Content.{Content}
 use Rattle.escpos_till.specs.declared.entry.Entry.{Entry}
-use Rattle.escpos_till.specs.declared.entry.Entry.TheVariants.{Queued, Tried, Recorded, Raised}
-use Rattle.escpos_till.specs.Entries.{MayFollow, Taken, content_of, contents, next_free, numbered_from, record_of, recorded, taken}
+use Rattle.escpos_till.specs.declared.entry.Entry.TheVariants.{Queued, Tried, Recorded, Raised, Cancelled}
+use Rattle.escpos_till.specs.Entries.{MayFollow, Taken, cancel_of, cancelled, content_of, contents, next_free, numbered_from, record_of, recorded, taken}
 use Rattle.escpos_till.specs.Delivers.{FirstWaits}
-use Rattle.escpos_till.proofs.EntryLemmas.{next_after_queued, next_after_raised, next_after_recorded, next_after_tried}
+use Rattle.escpos_till.proofs.EntryLemmas.{next_after_cancelled, next_after_queued, next_after_raised, next_after_recorded, next_after_tried}
 use Rattle.escpos_till_model.specs.Receipts.{Among, AreReceipts, IsReceiptOf, IsTaken}
 
 -- ## What is among a list
@@ -42,6 +42,16 @@ among_last x y (z ∷ xs) among = elim (among_cons x z (xs ++ y ∷ []) among) [
   | inr more ↦ elim (among_last x y xs more) [
     | inl there ↦ inl (among_later x z xs there)
     | inr same ↦ inr same
+  ]
+]
+
+pub among_either : {X : Type 0} (x : X) (xs more : List X) → Among x (xs ++ more) → Among x xs ⊎ Among x more
+among_either x [] more among = inr among
+among_either x (y ∷ xs) more among = elim (among_cons x y (xs ++ more) among) [
+  | inl same ↦ inl (among_first x y xs same)
+  | inr later ↦ elim (among_either x xs more later) [
+    | inl there ↦ inl (among_later x y xs there)
+    | inr beyond ↦ inr beyond
   ]
 ]
 
@@ -121,6 +131,9 @@ zip_length R (x ∷ xs) (y ∷ ys) all = let more = zip_length R xs ys all.1 in 
 pub recorded_append : (es more : List Entry) → recorded (es ++ more) ≡ recorded es ++ recorded more
 recorded_append es more = filter_map-append record_of es more
 
+pub cancelled_append : (es more : List Entry) → cancelled (es ++ more) ≡ cancelled es ++ cancelled more
+cancelled_append es more = filter_map-append cancel_of es more
+
 pub recorded_same : (es : List Entry) (e : Entry) → record_of e ≡ None → recorded (es ++ e ∷ []) ≡ recorded es
 recorded_same es e none = recorded_append es (e ∷ []) ∙ ap (λ o. recorded es ++ cons_option o []) none ∙ append-nil (recorded es)
 
@@ -146,3 +159,4 @@ next_grows es (Queued content) follows = omega (arith, next_after_queued es cont
 next_grows es (Tried number next) follows = omega (arith, follows.1, next_after_tried es number next)
 next_grows es (Recorded number) follows = omega (arith, next_after_recorded es number)
 next_grows es (Raised next) follows = omega (arith, follows, next_after_raised es next)
+next_grows es (Cancelled number) follows = omega (arith, next_after_cancelled es number)

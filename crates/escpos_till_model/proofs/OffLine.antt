@@ -9,7 +9,7 @@ use Rattle.escpos_till.specs.declared.machine.Then.TheVariants as then
 use Rattle.escpos_till.specs.declared.machine.TillNote.{TillNote}
 use Rattle.escpos_till.specs.declared.machine.TillNote.TheVariants as note_kind
 use Rattle.escpos_till.specs.declared.store.StoreFault.{StoreFault}
-use Rattle.escpos_till.specs.Driver.{Breaks, Call, Calls, Deed, Deliver, DidAll, Ends, Gives, HangsUp, Keeps, Links, Loses, Misses, Puts, Queue, Raise, Tells, Turns}
+use Rattle.escpos_till.specs.Driver.{Breaks, Call, Calls, Cancel, Deed, Deliver, DidAll, Ends, Gives, HangsUp, Keeps, Links, Loses, Misses, Puts, Queue, Raise, Tells, Turns}
 use Rattle.escpos_till.specs.Machine.{Kept, MachineView, Unsure, after_note, lost, told}
 use Rattle.escpos_till_model.specs.Bridge.{AllOnWire, IsOffLine, IsOnLine}
 
@@ -18,6 +18,7 @@ abbrev IsQuiet : Stage → Type 0
 IsQuiet stage.AtRest = Unit {0}
 IsQuiet (stage.Keeping e then.Queued) = Unit {0}
 IsQuiet (stage.Keeping e then.Raised) = Unit {0}
+IsQuiet (stage.Keeping e (then.Cancelled number tried)) = Unit {0}
 IsQuiet (stage.Telling n) = Unit {0}
 IsQuiet stage.Failed = Unit {0}
 IsQuiet s = ⊥
@@ -31,6 +32,7 @@ quiet_as s other is quiet = subst IsQuiet (sym is) quiet
 note_quiet : (n : TillNote) → IsQuiet (after_note n)
 note_quiet (note_kind.Queued number) = tt
 note_quiet note_kind.Raised = tt
+note_quiet (note_kind.Cancelled number tried) = tt
 note_quiet (note_kind.Recorded number) = tt
 note_quiet (note_kind.NoLink number) = tt
 note_quiet (note_kind.Waiting number why) = tt
@@ -39,12 +41,14 @@ note_quiet (note_kind.NotKept why) = tt
 kept_quiet : (e : Entry) (next : Then) (m mid : MachineView) → IsQuiet (stage.Keeping e next) → Kept (stage.Keeping e next) m mid → IsQuiet mid.stage
 kept_quiet e then.Queued m mid quiet (notes, (number, count, host, is)) = quiet_as mid.stage (stage.Telling (note_kind.Queued number)) is tt
 kept_quiet e then.Raised m mid quiet (notes, (host, is)) = quiet_as mid.stage (stage.Telling note_kind.Raised) is tt
+kept_quiet e (then.Cancelled number tried) m mid quiet (notes, (host, is)) = quiet_as mid.stage (stage.Telling (note_kind.Cancelled number tried)) is tt
 kept_quiet e (then.Send due) m mid quiet kept = absurd quiet
 kept_quiet e (then.Recorded number) m mid quiet kept = absurd quiet
 
 lost_quiet : (e : Entry) (next : Then) (why : StoreFault) → IsQuiet (stage.Keeping e next) → IsQuiet (lost next why)
 lost_quiet e then.Queued why quiet = tt
 lost_quiet e then.Raised why quiet = tt
+lost_quiet e (then.Cancelled number tried) why quiet = tt
 lost_quiet e (then.Send due) why quiet = absurd quiet
 lost_quiet e (then.Recorded number) why quiet = absurd quiet
 
@@ -83,6 +87,7 @@ quiet_all did (d ∷ ds) m after old new w quiet (mid, between, turns, sound, fi
 asked_quiet : (call : Call) (m asked : MachineView) → IsOffLine call → Calls m call asked → IsQuiet asked.stage
 asked_quiet (Queue content) m asked off calls = quiet_as asked.stage _ calls.keeps tt
 asked_quiet (Raise first) m asked off calls = quiet_as asked.stage _ (ap (λ v. v.stage) calls.after_is) tt
+asked_quiet (Cancel number) m asked off calls = quiet_as asked.stage _ (ap (λ v. v.stage) calls.after_is) tt
 asked_quiet (Deliver openings most copy) m asked off calls = absurd off
 
 -- A wire stays as it is while such a call is served.

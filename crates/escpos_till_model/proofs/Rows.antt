@@ -81,7 +81,7 @@ pub record Leads {S L : Type 0} (holds : S → List Entry → Type 0) (fits : L 
   pub goes : GoesTo world after (around entries wire (world.told ++ told_of answered))
 
 -- One more call.
-leads_on : {S L : Type 0} (faithful : S → Type 0) (holds leaves : S → List Entry → Type 0) (says : S → StoreFault → Type 0) (did : L → Deed → L → Type 0) (fits : L → WireView → Type 0) → Fitting → EveryWorld → FitsWire did fits
+leads_on : {S L : Type 0} (faithful : S → Type 0) (holds leaves : S → List Entry → Type 0) (says : S → List Entry → StoreFault → S → Type 0) (did : L → Deed → L → Type 0) (fits : L → WireView → Type 0) → Fitting → EveryWorld → FitsWire did fits
     → (world : World) (before : List Answered) (mid : MachineView) (between : Surroundings S L) (last : Answered) (most : ℕ) (after : MachineView) (new : Surroundings S L) (all : List Answered)
     → Leads holds fits world before mid between → Serves (Did faithful holds leaves says did) mid between last.call last.note most after new → all ≡ before ++ last ∷ [] → MayCall last.call
     → after_note last.note ≡ stage.AtRest → faithful new.store → Leads holds fits world all after new
@@ -104,7 +104,7 @@ leads_on faithful holds leaves says did fits fitting every stays world before mi
       goes = subst (λ ns. GoesTo world after (around entries wire ns)) (told_last world.told before last all all_is) (goes_on world mid after _ entries wire last.note goes next);
     }
 
-pub row_leads : {S L : Type 0} (faithful : S → Type 0) (holds leaves : S → List Entry → Type 0) (says : S → StoreFault → Type 0) (did : L → Deed → L → Type 0) (fits : L → WireView → Type 0) → Fitting → EveryWorld → FitsWire did fits
+pub row_leads : {S L : Type 0} (faithful : S → Type 0) (holds leaves : S → List Entry → Type 0) (says : S → List Entry → StoreFault → S → Type 0) (did : L → Deed → L → Type 0) (fits : L → WireView → Type 0) → Fitting → EveryWorld → FitsWire did fits
     → (world : World) (most : ℕ) (m : MachineView) (old : Surroundings S L) (answered : List Answered) (after : MachineView) (new : Surroundings S L)
     → ServesAll (Did faithful holds leaves says did) most m old answered after new → HasCome world → IsAround m (around world.kept world.wire world.told) world → AreMade answered → faithful new.store
     → holds old.store world.kept → fits old.line world.wire → Leads holds fits world answered after new

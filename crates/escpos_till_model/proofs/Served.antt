@@ -8,8 +8,8 @@ use Rattle.escpos_link.specs.Trusted.{IsFitting}
 use Rattle.escpos_receipt.specs.Whole.{Whole}
 use Rattle.escpos_till.specs.declared.machine.TillNote.{TillNote}
 use Rattle.escpos_till.specs.Book.{IsBookOf}
-use Rattle.escpos_till.specs.Driver.{Call, Calls, Deliver, Queue, Raise, Ran, RanTo, Tells}
-use Rattle.escpos_till.specs.Machine.{Delivers, IsStarted, MachineView, Queues, Raises}
+use Rattle.escpos_till.specs.Driver.{Call, Calls, Cancel, Deliver, Queue, Raise, Ran, RanTo, Tells}
+use Rattle.escpos_till.specs.Machine.{Cancels, Delivers, IsStarted, MachineView, Queues, Raises}
 use Rattle.escpos_till_model.specs.Around.{Around, CrashesTo, DoesInTime, HasNoLink, IsAround, around}
 use Rattle.escpos_till_model.specs.Bridge.{GoesTo, MayCall}
 use Rattle.escpos_till_model.specs.Known.{IsHostOf, IsWorld}
@@ -28,16 +28,19 @@ Fitting = (receipt : List Command) → Whole receipt → AreCommands receipt →
 abbrev happening_of : Call → Happening
 happening_of (Queue content) = event.Queue content
 happening_of (Raise first) = event.Raise first
+happening_of (Cancel number) = event.Cancel number
 happening_of (Deliver openings most copy) = event.Deliver openings most copy
 
 asked_host : (call : Call) (m asked : MachineView) → Calls m call asked → asked.host ≡ m.host
 asked_host (Queue content) m asked calls = calls.host
 asked_host (Raise first) m asked calls = ap (λ v. v.host) calls.after_is
+asked_host (Cancel number) m asked calls = ap (λ v. v.host) calls.after_is
 asked_host (Deliver openings most copy) m asked calls = ap (λ v. v.host) calls.0.after_is
 
 asked_no_link : (call : Call) (m asked : MachineView) → Calls m call asked → HasNoLink asked.stage
 asked_no_link (Queue content) m asked calls = subst HasNoLink (sym calls.keeps) tt
 asked_no_link (Raise first) m asked calls = subst HasNoLink (sym (ap (λ v. v.stage) calls.after_is)) tt
+asked_no_link (Cancel number) m asked calls = subst HasNoLink (sym (ap (λ v. v.stage) calls.after_is)) tt
 asked_no_link (Deliver openings most copy) m asked calls = subst HasNoLink (sym (ap (λ v. v.stage) calls.0.after_is)) tt
 
 -- The call happens in the world, where nothing else changes.
@@ -45,6 +48,7 @@ called_so : Fitting → (call : Call) (w : World) (m asked : MachineView) → w.
     → Happens w (happening_of call) (running asked w.kept w.wire w.told)
 called_so fitting (Queue content) w m asked was calls may sound = called_in (λ k after. Queues k content after) w w m asked refl was calls sound (asked_host (Queue content) m asked calls)
 called_so fitting (Raise first) w m asked was calls may sound = called_in (λ k after. Raises k first after) w w m asked refl was calls sound (asked_host (Raise first) m asked calls)
+called_so fitting (Cancel number) w m asked was calls may sound = called_in (λ k after. Cancels k number after) w w m asked refl was calls sound (asked_host (Cancel number) m asked calls)
 called_so fitting (Deliver openings most copy) w m asked was calls is_copy sound = (
   is_copy,
   called_in (λ k after. Delivers k openings most copy after × FitsLine after.stage) w w m asked refl was (calls.0, fits_by fitting asked.stage calls.1) sound

@@ -147,6 +147,8 @@ later (stage.Keeping e then.Queued) m a w es after is shows (down, same) goes =
     later_with m a w es after after (stage.Keeping e then.Queued) is shows (later_same m a w es after same goes) (down, refl)
 later (stage.Keeping e then.Raised) m a w es after is shows (down, same) goes =
     later_with m a w es after after (stage.Keeping e then.Raised) is shows (later_same m a w es after same goes) (down, refl)
+later (stage.Keeping e (then.Cancelled number tried)) m a w es after is shows (down, same) goes =
+    later_with m a w es after after (stage.Keeping e (then.Cancelled number tried)) is shows (later_same m a w es after same goes) (down, refl)
 later (stage.Telling note) m a w es after is shows (down, same) goes = later_with m a w es after after (stage.Telling note) is shows (later_same m a w es after same goes) (down, refl)
 later stage.Failed m a w es after is shows (down, same) goes = later_with m a w es after after stage.Failed is shows (later_same m a w es after same goes) (down, refl)
 

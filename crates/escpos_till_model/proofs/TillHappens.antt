@@ -109,8 +109,10 @@ up_by kept hand h (stage.Connecting due) holds linked = absurd linked
 up_by kept hand h (stage.Keeping (entry.Queued content) next) holds linked = absurd linked
 up_by kept hand h (stage.Keeping (entry.Tried number limit) next) holds linked = absurd linked
 up_by kept hand h (stage.Keeping (entry.Raised first) next) holds linked = absurd linked
+up_by kept hand h (stage.Keeping (entry.Cancelled number) next) holds linked = absurd linked
 up_by kept hand h (stage.Keeping (entry.Recorded number) then.Queued) (follows, (none, content, is)) linked = absurd (cc is)
 up_by kept hand h (stage.Keeping (entry.Recorded number) then.Raised) (follows, (none, first, is)) linked = absurd (cc is)
+up_by kept hand h (stage.Keeping (entry.Recorded number) (then.Cancelled n tried)) (follows, (none, is, times)) linked = absurd (cc is)
 up_by kept hand h (stage.Keeping (entry.Recorded number) (then.Send due)) (follows, (none, send, is)) linked = absurd (cc is)
 up_by kept hand h (stage.Keeping (entry.Recorded number) (then.Recorded k)) (follows, (held, hand_is, same, is, more, up)) linked = up
 up_by kept hand h (stage.Talking talk) (held, hand_is, number, receipt, follows, records, up, reserved) linked = up
@@ -126,6 +128,7 @@ down_by kept hand h stage.AtRest k none linked = none_down kept hand h k none
 down_by kept hand h (stage.Connecting due) k (none, send) linked = none_down kept hand h k none
 down_by kept hand h (stage.Keeping e then.Queued) k (follows, (none, content, is)) linked = none_down kept hand h k none
 down_by kept hand h (stage.Keeping e then.Raised) k (follows, (none, first, is)) linked = none_down kept hand h k none
+down_by kept hand h (stage.Keeping e (then.Cancelled number tried)) k (follows, (none, is, times)) linked = none_down kept hand h k none
 down_by kept hand h (stage.Keeping e (then.Send due)) k (follows, (none, send, is)) linked = none_down kept hand h k none
 down_by kept hand h (stage.Keeping e (then.Recorded number)) k (follows, (held, hand_is, same, is, more, up)) linked =
     absurd (linked (subst (λ x. Linked (stage.Keeping x (then.Recorded number))) (sym is) tt))
@@ -141,6 +144,7 @@ linked_or_not (stage.Keeping (entry.Queued content) next) = inr (λ l. l)
 linked_or_not (stage.Keeping (entry.Tried number limit) next) = inr (λ l. l)
 linked_or_not (stage.Keeping (entry.Recorded number) next) = inl tt
 linked_or_not (stage.Keeping (entry.Raised first) next) = inr (λ l. l)
+linked_or_not (stage.Keeping (entry.Cancelled number) next) = inr (λ l. l)
 linked_or_not (stage.Talking talk) = inl tt
 linked_or_not (stage.HangingUp n) = inr (λ l. l)
 linked_or_not (stage.Telling n) = inr (λ l. l)
@@ -205,6 +209,9 @@ other_wired w m after wire e then.Queued hand h known was is (none, content, e_i
 other_wired w m after wire e then.Raised hand h known was is (none, first, e_is) other (host, now) gone stays =
     let free : Linked m.stage → ⊥ = λ l. subst (λ x. Linked (stage.Keeping x then.Raised)) e_is (subst Linked is l) in
     subst (λ v. Wired m.host after.host w.wire v) (sym (stays free)) (unwired m.host after.host w.wire host)
+other_wired w m after wire e (then.Cancelled number tried) hand h known was is (none, e_is, times) other (host, now) gone stays =
+    let free : Linked m.stage → ⊥ = λ l. subst (λ x. Linked (stage.Keeping x (then.Cancelled number tried))) e_is (subst Linked is l) in
+    subst (λ v. Wired m.host after.host w.wire v) (sym (stays free)) (unwired m.host after.host w.wire host)
 other_wired w m after wire e (then.Send due) hand h known was is (none, send, e_is) other so gone stays = absurd (other due.number _ e_is)
 other_wired w m after wire e (then.Recorded number) hand h known was is holds other (drops, now) gone stays = drops_wired w m after wire known was drops gone stays
 
@@ -234,6 +241,7 @@ by_next : (kept : List Entry) (hand : Option Hand) (h : HostView) (m after : Mac
     → IsToKeep kept hand h e next → Follows next m.host m.book.next after.book after.host after.stage → (due : Due) × Opens due m.book.next after.host after.stage
 by_next kept hand h m after e then.Queued number limit tried (none, content, is) so = absurd (let bad : entry.Queued content ≡ entry.Tried number limit = sym is ∙ tried in cc)
 by_next kept hand h m after e then.Raised number limit tried (none, first, is) so = absurd (let bad : entry.Raised first ≡ entry.Tried number limit = sym is ∙ tried in cc)
+by_next kept hand h m after e (then.Cancelled n often) number limit tried (none, is, times) so = absurd (let bad : entry.Cancelled n ≡ entry.Tried number limit = sym is ∙ tried in cc)
 by_next kept hand h m after e (then.Send due) number limit tried holds so = (due, so)
 by_next kept hand h m after e (then.Recorded n) number limit tried (held, hand_is, same, is, more, up) so =
     absurd (let bad : entry.Recorded n ≡ entry.Tried number limit = sym is ∙ tried in cc)

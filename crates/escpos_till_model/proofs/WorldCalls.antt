@@ -1,6 +1,6 @@
 -- What holds of every world holds after the calls of a machine, and after what it is told of its link.
 use Rattle.std.proofs.Common.{ℕ, ◌≡◌, ◌+◌, ◌++◌, ◌∙◌, ◌⊎◌, ◌<◌, ◌≤◌, inl, inr, Option, Some, None, List, [], ◌∷◌, length, refl, sym, ap, subst, arith}
-use Rattle.std.specs.Prelude.{Bool, true, false, is_none, nat_lt, if◌then◌else◌}
+use Rattle.std.specs.Prelude.{Bool, true, false, ◌&&◌, is_none, nat_lt, if◌then◌else◌}
 use Rattle.std.proofs.Math.Nat.{le-max_right}
 use Rattle.escpos_host.specs.declared.send.SendFault.{SendFault}
 use Rattle.escpos_command.specs.declared.command.Command.{Command}
@@ -14,7 +14,7 @@ use Rattle.escpos_till.specs.declared.entry.Entry.{Entry}
 use Rattle.escpos_till.specs.declared.machine.Stage.{Stage}
 use Rattle.escpos_till.specs.declared.machine.Stage.TheVariants as stage
 use Rattle.escpos_till.specs.Book.{IsBookOf}
-use Rattle.escpos_till.specs.Entries.{Taken, Waits, contents, next_free, numbered_from, place_of, taken, waiting}
+use Rattle.escpos_till.specs.Entries.{Taken, Waits, cancel_place_of, contents, is_open, next_free, numbered_from, place_of, taken, waiting}
 use Rattle.escpos_till.specs.declared.book.Book.{Book}
 use Rattle.escpos_till.specs.declared.entry.Entry.TheVariants as entry
 use Rattle.escpos_till.specs.declared.machine.Due.{Due}
@@ -26,7 +26,7 @@ use Rattle.escpos_till.specs.Copy.{copy_line, sent_of}
 use Rattle.escpos_till.specs.Delivers.{marks_taken}
 use Rattle.escpos_receipt.specs.Whole.{Whole}
 use Rattle.escpos_till.specs.Delivers.{FirstWaits}
-use Rattle.escpos_till.specs.Machine.{Delivers, Drops, Ended, IsNext, MachineView, Queues, Raises, SameEntries, after_note, at, connected, hung_up as machine_hung_up, lost, not_connected, told}
+use Rattle.escpos_till.specs.Machine.{Cancels, Delivers, Drops, Ended, IsNext, MachineView, Queues, Raises, SameEntries, after_note, at, connected, hung_up as machine_hung_up, lost, not_connected, told}
 use Rattle.escpos_till.proofs.EntryLemmas.{length-taken}
 use Rattle.escpos_till_model.proofs.EntryFacts.{among_cons, among_filtered, among_last, among_nothing, first_among, first_is_taken}
 use Rattle.escpos_till_model.proofs.Keeping.{gone_keeps}
@@ -132,6 +132,17 @@ raised w new first known moves =
     (λ live. subst (λ b. IsBookOf b w.kept) (sym (ap (λ m. m.book) is)) book)
     (subst (λ s. Holds w.kept p.hand (with_earlier p.earlier moves.m.host) s) (sym (ap (λ m. m.stage) is)) (least, (none, first, refl)))))
 
+pub cancels : (w new : World) (number : ℕ) → IsWorld w → Calls (λ m after. Cancels m number after) w new → IsWorld new
+cancels w new number known moves =
+    let p = parts w moves.m moves.was known in
+    let (book, none) = at_rest moves.m w.kept w.wire moves.goes.rest p in
+    let is = moves.goes.after_is in
+    let (waits, times) = moves.goes.waits w.kept book in
+    subst IsWorld (sym moves.is) (whole moves.after w.kept moves.wire w.told known.told
+    (same_host moves.m moves.after w.kept w.wire moves.wire p (ap (λ m. m.host) is) moves.sound moves.wired
+    (λ live. subst (λ b. IsBookOf b w.kept) (sym (ap (λ m. m.book) is)) book)
+    (subst (λ s. Holds w.kept p.hand (with_earlier p.earlier moves.m.host) s) (sym (ap (λ m. m.stage) is)) (waits, (none, refl, times)))))
+
 pub refused : (w new : World) → IsWorld w → Calls SameEntries w new → IsWorld new
 refused w new known moves =
     let p = parts w moves.m moves.was known in
@@ -164,16 +175,18 @@ numbered_bounds m (c ∷ cs) t among = elim (among_cons t (record { number = m; 
   | inr later ↦ let more = numbered_bounds (m + 1) cs t later in (omega (arith, more.0), omega (arith, more.1))
 ]
 
-pub none_if : (place : Option ℕ) → is_none place ≡ true → place ≡ None
-none_if None is = refl
-none_if (Some k) is = cc is
+pub open_if : (place cancel : Option ℕ) → (is_none place && is_none cancel) ≡ true → (place ≡ None) × (cancel ≡ None)
+open_if None None is = (refl, refl)
+open_if None (Some k) is = absurd (let bad : false ≡ true = is in cc)
+open_if (Some k) cancel is = absurd (let bad : false ≡ true = is in cc)
 
 pub first_waits : (es : List Entry) (number tried : ℕ) (content : Content) → FirstWaits es number content tried → Waits es number
 first_waits es number tried content first =
     let receipt : Taken = record { number = number; content = content } in
-    let (among, not_yet) = among_filtered (λ (r : Taken). is_none (place_of es r.number)) receipt (taken es) (first_among receipt (waiting es) first.first) in
+    let (among, still) = among_filtered (λ (r : Taken). is_open es r.number) receipt (taken es) (first_among receipt (waiting es) first.first) in
+    let (place, cancel) = open_if (place_of es number) (cancel_place_of es number) still in
     let bounds = numbered_bounds 1 (contents es) receipt among in
-    record { from_one = omega (arith, bounds.0); taken = omega (arith, bounds.1, length-taken 1 (contents es)); open_still = none_if (place_of es number) not_yet }
+    record { from_one = omega (arith, bounds.0); taken = omega (arith, bounds.1, length-taken 1 (contents es)); open_still = place; not_cancelled = cancel }
 
 pub to_send : (b : Book) (kept : List Entry) (openings most : ℕ) (copy : Option (List ℕ)) (due : Due) → IsBookOf b kept → IsCopy copy → IsNext b openings most copy due
     → IsFitting (event.Submit due.receipt) → IsToSend kept due
@@ -226,6 +239,7 @@ restaged m after kept w new s t is p same sound wired live holds =
 pub told_lag : (n : TillNote) → (BookMayLag (after_note n) → ⊥) → BookMayLag (stage.Telling n) → ⊥
 told_lag (note_kind.Queued number) live lost = lost
 told_lag note_kind.Raised live lost = lost
+told_lag (note_kind.Cancelled number tried) live lost = lost
 told_lag (note_kind.Recorded number) live lost = lost
 told_lag (note_kind.NoLink number) live lost = lost
 told_lag (note_kind.Waiting number why) live lost = lost
@@ -234,6 +248,7 @@ told_lag (note_kind.NotKept why) live lost = live tt
 pub told_holds : (n : TillNote) (kept : List Entry) (hand : Option Hand) (h : HostView) → hand ≡ None → Holds kept hand h (after_note n)
 told_holds (note_kind.Queued number) kept hand h none = none
 told_holds note_kind.Raised kept hand h none = none
+told_holds (note_kind.Cancelled number tried) kept hand h none = none
 told_holds (note_kind.Recorded number) kept hand h none = none
 told_holds (note_kind.NoLink number) kept hand h none = none
 told_holds (note_kind.Waiting number why) kept hand h none = none
@@ -248,6 +263,7 @@ told_parts m after kept w new n is p same sound wired =
 pub hung_lag : (n : TillNote) → (BookMayLag (stage.Telling n) → ⊥) → BookMayLag (stage.HangingUp n) → ⊥
 hung_lag (note_kind.Queued number) live lost = lost
 hung_lag note_kind.Raised live lost = lost
+hung_lag (note_kind.Cancelled number tried) live lost = lost
 hung_lag (note_kind.Recorded number) live lost = lost
 hung_lag (note_kind.NoLink number) live lost = lost
 hung_lag (note_kind.Waiting number why) live lost = lost

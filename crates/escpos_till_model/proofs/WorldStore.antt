@@ -26,7 +26,7 @@ use Rattle.escpos_till.specs.declared.entry.Content.{Content}
 use Rattle.escpos_till.specs.declared.entry.Entry.{Entry}
 use Rattle.escpos_till.specs.declared.machine.Stage.TheVariants as stage
 use Rattle.escpos_till.specs.Book.{IsBookOf}
-use Rattle.escpos_till.specs.Entries.{MayFollow, contents, next_free, numbered_from, record_of, recorded, states, taken}
+use Rattle.escpos_till.specs.Entries.{MayFollow, cancelled, contents, next_free, numbered_from, record_of, recorded, states, taken, times_tried}
 use Rattle.escpos_till.specs.declared.entry.Entry.TheVariants as entry
 use Rattle.escpos_till.specs.declared.machine.Due.{Due}
 use Rattle.escpos_till.specs.declared.machine.Talk.{Talk}
@@ -39,7 +39,8 @@ use Rattle.escpos_till.specs.Delivers.{fresh, marks_taken}
 use Rattle.escpos_till.specs.Machine.{Drops, Ended, Follows, Kept, MachineView, Opens, Unsure, lost, put}
 use Rattle.escpos_till.proofs.EntryLemmas.{count_states, next_after_tried, some_state}
 use Rattle.escpos_till.proofs.MachineLemmas.{waits_tried}
-use Rattle.escpos_till_model.proofs.EntryFacts.{among_more, recorded_append, recorded_same, taken_append, zip_length}
+use Rattle.escpos_till_model.proofs.Accounts.{same_times, times_stay}
+use Rattle.escpos_till_model.proofs.EntryFacts.{among_more, cancelled_append, recorded_append, recorded_same, taken_append, zip_length}
 use Rattle.escpos_till_model.proofs.GoesOn.{GoesOn, taken_on}
 use Rattle.escpos_till_model.proofs.Keeping.{entry_keeps, front_of, gone_keeps, linked_keeps, nudged_keeps, on_keeps, record_keeps, take_keeps}
 use Rattle.escpos_till_model.specs.Receipts.{Among, IsReceiptOf}
@@ -94,19 +95,23 @@ started laws w new known starts =
       holds = subst (λ s. Holds w.kept None (with_earlier known.keeps.receipts starts.m.host) s) (sym starts.started.stage) refl;
     }))
 
--- What was told is so with more entries.
-pub so_grows : (kept more : List Entry) (n : TillNote) → IsSo kept n → IsSo (kept ++ more) n
-so_grows kept more (note_kind.Queued number) (some, within) =
-    (some, omega (arith, within, ap length (taken_append kept more), length-append (taken kept) (numbered_from (1 + length (contents kept)) (contents more))))
-so_grows kept more note_kind.Raised so = so
-so_grows kept more (note_kind.Recorded number) so =
-    subst (λ ns. Among number ns) (sym (recorded_append kept more)) (among_more number (recorded kept) (recorded more) so)
-so_grows kept more (note_kind.NoLink number) so = so
-so_grows kept more (note_kind.Waiting number why) so = so
-so_grows kept more (note_kind.NotKept why) so = so
+-- What was told is so with one more entry.
+pub so_grows : (kept : List Entry) (e : Entry) (n : TillNote) → MayFollow kept e → IsSo kept n → IsSo (kept ++ e ∷ []) n
+so_grows kept e (note_kind.Queued number) follows (some, within) =
+    (some, omega (arith, within, ap length (taken_append kept (e ∷ [])), length-append (taken kept) (numbered_from (1 + length (contents kept)) (contents (e ∷ [])))))
+so_grows kept e note_kind.Raised follows so = so
+so_grows kept e (note_kind.Recorded number) follows so =
+    subst (λ ns. Among number ns) (sym (recorded_append kept (e ∷ []))) (among_more number (recorded kept) (recorded (e ∷ [])) so)
+so_grows kept e (note_kind.Cancelled number tried) follows (among, times) = (
+  subst (λ ns. Among number ns) (sym (cancelled_append kept (e ∷ []))) (among_more number (cancelled kept) (cancelled (e ∷ [])) among),
+  times_stay kept e number follows among ∙ times,
+)
+so_grows kept e (note_kind.NoLink number) follows so = so
+so_grows kept e (note_kind.Waiting number why) follows so = so
+so_grows kept e (note_kind.NotKept why) follows so = so
 
-pub so_later : (kept more : List Entry) (notes : List TillNote) → AreSo kept notes → AreSo (kept ++ more) notes
-so_later kept more notes so n among = so_grows kept more n (so n among)
+pub so_later : (kept : List Entry) (e : Entry) (notes : List TillNote) → MayFollow kept e → AreSo kept notes → AreSo (kept ++ e ∷ []) notes
+so_later kept e notes follows so n among = so_grows kept e n follows (so n among)
 
 -- ## On the wire, and off
 
@@ -287,12 +292,14 @@ breaks laws w new most fewer why known v =
 pub lost_lags : (next : Then) (why : StoreFault) → BookMayLag (lost next why)
 lost_lags then.Queued why = tt
 lost_lags then.Raised why = tt
+lost_lags (then.Cancelled number tried) why = tt
 lost_lags (then.Send due) why = tt
 lost_lags (then.Recorded number) why = tt
 
 pub lost_holds : (next : Then) (why : StoreFault) (kept : List Entry) (h : HostView) → Holds kept None h (lost next why)
 lost_holds then.Queued why kept h = (refl, tt)
 lost_holds then.Raised why kept h = (refl, tt)
+lost_holds (then.Cancelled number tried) why kept h = (refl, tt)
 lost_holds (then.Send due) why kept h = (refl, tt)
 lost_holds (then.Recorded number) why kept h = (refl, tt)
 
@@ -303,6 +310,9 @@ stored_keeps kept e then.Queued hand earlier h h' k follows (none, content, is) 
     subst (λ v. Keeps (kept ++ e ∷ []) None v) (sym (drops_hung earlier h h' drops))
     (gone_keeps (kept ++ e ∷ []) hand (with_earlier earlier h) (entry_keeps kept e hand (with_earlier earlier h) (ap record_of is) follows k))
 stored_keeps kept e then.Raised hand earlier h h' k follows (none, first, is) drops =
+    subst (λ v. Keeps (kept ++ e ∷ []) None v) (sym (drops_hung earlier h h' drops))
+    (gone_keeps (kept ++ e ∷ []) hand (with_earlier earlier h) (entry_keeps kept e hand (with_earlier earlier h) (ap record_of is) follows k))
+stored_keeps kept e (then.Cancelled number tried) hand earlier h h' k follows (none, is, times) drops =
     subst (λ v. Keeps (kept ++ e ∷ []) None v) (sym (drops_hung earlier h h' drops))
     (gone_keeps (kept ++ e ∷ []) hand (with_earlier earlier h) (entry_keeps kept e hand (with_earlier earlier h) (ap record_of is) follows k))
 stored_keeps kept e (then.Send due) hand earlier h h' k follows (none, send, tried) drops =
@@ -321,7 +331,7 @@ failed_with laws w new why known v =
     let (is, unsure) = moves.goes in
     let (drops, book, now) = subst (λ s. Unsure s why moves.m moves.after) is unsure in
     let (follows, to_keep) = subst (λ s. Holds w.kept p.hand (with_earlier p.earlier moves.m.host) s) is p.holds in
-    subst IsWorld (sym moves.is) (whole moves.after (w.kept ++ v.entry ∷ []) moves.wire w.told (so_later w.kept (v.entry ∷ []) w.told known.told) (record {
+    subst IsWorld (sym moves.is) (whole moves.after (w.kept ++ v.entry ∷ []) moves.wire w.told (so_later w.kept v.entry w.told follows known.told) (record {
       earlier = p.earlier;
       sound = moves.sound;
       right = drops_right laws p.earlier moves.m.host moves.after.host w.wire moves.wire p.sound drops moves.wired p.right;
@@ -491,6 +501,12 @@ queued_so b es before content number book is same =
 pub recorded_so : (kept : List Entry) (number : ℕ) → Among number (recorded (kept ++ entry.Recorded number ∷ []))
 recorded_so kept number = (recorded kept, [], recorded_append kept (entry.Recorded number ∷ []))
 
+pub cancelled_so : (kept : List Entry) (number tried : ℕ) → times_tried kept number ≡ tried → IsSo (kept ++ entry.Cancelled number ∷ []) (note_kind.Cancelled number tried)
+cancelled_so kept number tried times = (
+  (cancelled kept, [], cancelled_append kept (entry.Cancelled number ∷ [])),
+  same_times kept (entry.Cancelled number) number refl ∙ times,
+)
+
 pub kept_parts : LineLaws → (m after : MachineView) (kept : List Entry) (w new : WireView) (e : Entry) (next : Then) → (p : Parts m kept w) → IsBookOf m.book kept
     → MayFollow kept e → IsToKeep kept p.hand (with_earlier p.earlier m.host) e next → Follows next m.host m.book.next after.book after.host after.stage → IsBookOf after.book (kept ++ e ∷ [])
     → IsSound after.host → Wired m.host after.host w new → Parts after (kept ++ e ∷ []) new
@@ -501,6 +517,10 @@ kept_parts laws m after kept w new e then.Queued p book follows (none, content, 
 kept_parts laws m after kept w new e then.Raised p book follows (none, first, entry_is) (host, now) known sound wired =
     quietly_kept m after kept w new e p follows none (ap record_of entry_is) host sound wired known
     (subst (λ s. Holds (kept ++ e ∷ []) p.hand (with_earlier p.earlier m.host) s) (sym now) (none, tt))
+kept_parts laws m after kept w new e (then.Cancelled number tried) p book follows (none, entry_is, times) (host, now) known sound wired =
+    quietly_kept m after kept w new e p follows none (ap record_of entry_is) host sound wired known
+    (subst (λ s. Holds (kept ++ e ∷ []) p.hand (with_earlier p.earlier m.host) s) (sym now)
+    (none, subst (λ x. IsSo (kept ++ x ∷ []) (note_kind.Cancelled number tried)) (sym entry_is) (cancelled_so kept number tried times)))
 kept_parts laws m after kept w new e (then.Send due) p book follows to_keep opens known sound wired = sent_parts laws m after kept w new e due p book follows to_keep opens known sound wired
 kept_parts laws m after kept w new e (then.Recorded number) p book follows to_keep (drops, now) known sound wired = record {
   earlier = p.earlier;
@@ -521,5 +541,5 @@ kept_world laws w new known v =
     let (notes, so) = subst (λ s. Kept s moves.m moves.after) is kept_so in
     let (follows, to_keep) = subst (λ s. Holds w.kept p.hand (with_earlier p.earlier moves.m.host) s) is p.holds in
     let book : IsBookOf moves.m.book w.kept = p.book (λ lost. subst BookMayLag is lost) in
-    subst IsWorld (sym moves.is) (whole moves.after (w.kept ++ v.entry ∷ []) moves.wire w.told (so_later w.kept (v.entry ∷ []) w.told known.told)
+    subst IsWorld (sym moves.is) (whole moves.after (w.kept ++ v.entry ∷ []) moves.wire w.told (so_later w.kept v.entry w.told follows known.told)
     (kept_parts laws moves.m moves.after w.kept w.wire moves.wire v.entry v.next p book follows to_keep so (notes w.kept book p.keeps.ledger follows) moves.sound moves.wired))

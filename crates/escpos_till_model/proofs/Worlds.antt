@@ -20,10 +20,10 @@ use Rattle.escpos_till_model.specs.Receipts.{AreReceipts, Extends, IsReceiptOf, 
 use Rattle.escpos_till_model.specs.Known.{IsHostOf, IsMachineIn, IsWorld}
 use Rattle.escpos_till_model.specs.World.{Begins, Happens, Runs, World}
 use Rattle.escpos_till_model.specs.declared.event.Happening.{Happening}
-use Rattle.escpos_till_model.specs.declared.event.Happening.TheVariants.{Break, Connect, Crash, Deliver, End, FailWith, FailWithout, HangUp, Hear, Idle, Keep, Miss, OnWire, Put, Queue, Raise, Refuse, Start, Tell}
+use Rattle.escpos_till_model.specs.declared.event.Happening.TheVariants.{Break, Cancel, Connect, Crash, Deliver, End, FailWith, FailWithout, HangUp, Hear, Idle, Keep, Miss, OnWire, Put, Queue, Raise, Refuse, Start, Tell}
 use Rattle.escpos_till_model.proofs.LinesKept.{LineLaws, Right, none_given_up}
 use Rattle.escpos_till_model.proofs.EntryFacts.{among_nothing, zip_length}
-use Rattle.escpos_till_model.proofs.WorldCalls.{queued, raised, refused, delivers, told_world, hung_world, connected_world, missed_world, ended_world}
+use Rattle.escpos_till_model.proofs.WorldCalls.{cancels, queued, raised, refused, delivers, told_world, hung_world, connected_world, missed_world, ended_world}
 use Rattle.escpos_till_model.proofs.WorldStore.{started, on_wire, idled, crashed, puts, breaks, failed_with, failed_without, fresh_right, fresh_sound, kept_world}
 use Rattle.escpos_till_model.proofs.WorldHears.{hears}
 
@@ -33,6 +33,7 @@ pub whatever : LineLaws → (w new : World) (e : Happening) → IsWorld w → Ha
 whatever laws w new Start known happened = started laws w new known happened
 whatever laws w new (Queue content) known happened = queued w new content known happened
 whatever laws w new (Raise first) known happened = raised w new first known happened
+whatever laws w new (Cancel number) known happened = cancels w new number known happened
 whatever laws w new (Deliver openings most copy) known happened = delivers w new openings most copy known happened.0 happened.1
 whatever laws w new Refuse known happened = refused w new known happened
 whatever laws w new Keep known happened = kept_world laws w new known happened
@@ -73,6 +74,7 @@ pub entries_stay : (w new : World) (e : Happening) → Happens w e new → Exten
 entries_stay w new Start happened = same_entries w.kept new.kept (ap (λ v. v.kept) happened.is)
 entries_stay w new (Queue content) happened = same_entries w.kept new.kept (ap (λ v. v.kept) happened.is)
 entries_stay w new (Raise first) happened = same_entries w.kept new.kept (ap (λ v. v.kept) happened.is)
+entries_stay w new (Cancel number) happened = same_entries w.kept new.kept (ap (λ v. v.kept) happened.is)
 entries_stay w new (Deliver openings most copy) happened = same_entries w.kept new.kept (ap (λ v. v.kept) happened.1.is)
 entries_stay w new Refuse happened = same_entries w.kept new.kept (ap (λ v. v.kept) happened.is)
 entries_stay w new Keep happened = (happened.entry ∷ [], ap (λ v. v.kept) happened.moves.is)

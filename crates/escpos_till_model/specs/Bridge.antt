@@ -68,7 +68,7 @@ IsOffLine call = Unit {0}
 
 -- A driver has served a call of a till that is in this world, until its owner was told this note: over a line whose deeds a wire did, with a
 -- store that had the world's entries and has done what it was asked to. The wire is this one then.
-pub record IsServed {S L : Type 0} (faithful : S → Type 0) (holds leaves : S → List Entry → Type 0) (says : S → StoreFault → Type 0) (did : L → Deed → L → Type 0) (world : World) (m : MachineView) (old : Surroundings S L) (call : Call)
+pub record IsServed {S L : Type 0} (faithful : S → Type 0) (holds leaves : S → List Entry → Type 0) (says : S → List Entry → StoreFault → S → Type 0) (did : L → Deed → L → Type 0) (world : World) (m : MachineView) (old : Surroundings S L) (call : Call)
     (note : TillNote) (most : ℕ) (after : MachineView) (new : Surroundings S L) (wire : WireView) : Type 0 where
   pub come : HasCome world
   pub is : IsAround m (around world.kept world.wire world.told) world
@@ -78,7 +78,7 @@ pub record IsServed {S L : Type 0} (faithful : S → Type 0) (holds leaves : S �
   pub line : AllOnWire world.wire (serves.runs.before ++ Tells note ∷ []) wire
 
 -- The same, where its owner wasn't told anything within so many deeds.
-pub record IsGivenUp {S L : Type 0} (faithful : S → Type 0) (holds leaves : S → List Entry → Type 0) (says : S → StoreFault → Type 0) (did : L → Deed → L → Type 0) (world : World) (m : MachineView) (old : Surroundings S L) (call : Call)
+pub record IsGivenUp {S L : Type 0} (faithful : S → Type 0) (holds leaves : S → List Entry → Type 0) (says : S → List Entry → StoreFault → S → Type 0) (did : L → Deed → L → Type 0) (world : World) (m : MachineView) (old : Surroundings S L) (call : Call)
     (most : ℕ) (after : MachineView) (new : Surroundings S L) (wire : WireView) : Type 0 where
   pub come : HasCome world
   pub is : IsAround m (around world.kept world.wire world.told) world
@@ -100,7 +100,7 @@ told_of answered = map (λ a. a.note) answered
 
 -- A driver has served these calls of a till that is in this world, one after another: over a line that stays like a wire, and was like the
 -- world's at first, with a store that had the world's entries and has done what it was asked to.
-pub record AreServed {S L : Type 0} (faithful : S → Type 0) (holds leaves : S → List Entry → Type 0) (says : S → StoreFault → Type 0) (did : L → Deed → L → Type 0) (fits : L → WireView → Type 0) (world : World) (m : MachineView)
+pub record AreServed {S L : Type 0} (faithful : S → Type 0) (holds leaves : S → List Entry → Type 0) (says : S → List Entry → StoreFault → S → Type 0) (did : L → Deed → L → Type 0) (fits : L → WireView → Type 0) (world : World) (m : MachineView)
     (old : Surroundings S L) (answered : List Answered) (most : ℕ) (after : MachineView) (new : Surroundings S L) : Type 0 where
   pub come : HasCome world
   pub is : IsAround m (around world.kept world.wire world.told) world

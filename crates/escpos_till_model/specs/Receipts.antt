@@ -1,5 +1,5 @@
 -- What a till's owner wants to be sure of, said of the entries of his ledger and of the printer's paper: each receipt that
--- was taken waits or is recorded, and those that are recorded are on the paper.
+-- was taken waits, is recorded or is cancelled, and those that are recorded are on the paper.
 use Rattle.std.specs.Prelude.{ℕ, ◌≡◌, ◌⊎◌, List, ◌∷◌, ◌++◌}
 use Rattle.std.specs.List.{AllZip}
 use Rattle.escpos_command.specs.declared.command.Command.{Command}
@@ -7,9 +7,10 @@ use Rattle.escpos_paper.specs.declared.item.Item.{Item}
 use Rattle.escpos_receipt.specs.Whole.{Whole}
 use Rattle.escpos_till.specs.declared.entry.Content.{Content}
 use Rattle.escpos_till.specs.declared.entry.Entry.{Entry}
+use Rattle.escpos_till.specs.declared.entry.Entry.TheVariants as entry
 use Rattle.escpos_till.specs.Contents.{ContentDescribes}
 use Rattle.escpos_till.specs.Copy.{IsCopyText, copy_line}
-use Rattle.escpos_till.specs.Entries.{Taken, recorded, taken, waiting}
+use Rattle.escpos_till.specs.Entries.{Taken, cancelled, recorded, taken, waiting}
 use Rattle.escpos_link.specs.Stands.{Stands}
 
 -- ## Lists
@@ -58,9 +59,31 @@ pub record RecordedStand (width : ℕ) (entries : List Entry) (paper : List Item
   pub are : AreReceipts entries receipts
   pub stand : Stands width receipts paper
 
--- Each receipt that was taken waits or is recorded, and none is both; what is recorded was taken, and none is recorded twice.
+-- Each receipt that was taken waits, is recorded or is cancelled, and none is two of these; what is recorded or cancelled was
+-- taken, and none is recorded or cancelled twice.
 pub record EachIsKept (entries : List Entry) : Type 0 where
-  pub waits_or_recorded : (receipt : Taken) → Among receipt (taken entries) → Among receipt (waiting entries) ⊎ Among receipt.number (recorded entries)
-  pub not_both : (receipt : Taken) → Among receipt (waiting entries) → ¬ Among receipt.number (recorded entries)
+  pub waits_recorded_or_cancelled : (receipt : Taken) → Among receipt (taken entries)
+      → Among receipt (waiting entries) ⊎ (Among receipt.number (recorded entries) ⊎ Among receipt.number (cancelled entries))
+  pub waiting_not_recorded : (receipt : Taken) → Among receipt (waiting entries) → ¬ Among receipt.number (recorded entries)
+  pub waiting_not_cancelled : (receipt : Taken) → Among receipt (waiting entries) → ¬ Among receipt.number (cancelled entries)
+  pub recorded_not_cancelled : (number : ℕ) → Among number (recorded entries) → ¬ Among number (cancelled entries)
   pub were_taken : (number : ℕ) → Among number (recorded entries) → (content : Content) × IsTaken entries number content
+  pub cancelled_were_taken : (number : ℕ) → Among number (cancelled entries) → (content : Content) × IsTaken entries number content
   pub once : NoneTwice (recorded entries)
+  pub cancelled_once : NoneTwice (cancelled entries)
+
+-- By this entry the receipt with this number is tried, recorded or cancelled.
+abbrev pub IsAbout : ℕ → Entry → Type 0
+IsAbout number (entry.Queued content) = ⊥
+IsAbout number (entry.Tried n next) = n ≡ number
+IsAbout number (entry.Recorded n) = n ≡ number
+IsAbout number (entry.Raised next) = ⊥
+IsAbout number (entry.Cancelled n) = n ≡ number
+
+-- By this entry the receipt with this number is recorded or cancelled, and waits no more.
+abbrev pub IsEndOf : ℕ → Entry → Type 0
+IsEndOf number (entry.Queued content) = ⊥
+IsEndOf number (entry.Tried n next) = ⊥
+IsEndOf number (entry.Recorded n) = n ≡ number
+IsEndOf number (entry.Raised next) = ⊥
+IsEndOf number (entry.Cancelled n) = n ≡ number

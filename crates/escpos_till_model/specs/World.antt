@@ -27,8 +27,8 @@ use Rattle.escpos_till.specs.declared.machine.TillNote.{TillNote}
 use Rattle.escpos_till.specs.declared.machine.TillNote.TheVariants as note
 use Rattle.escpos_till.specs.Book.{IsBookOf}
 use Rattle.escpos_till.specs.Copy.{IsCopyText}
-use Rattle.escpos_till.specs.Entries.{IsLedger, next_free, recorded, taken}
-use Rattle.escpos_till.specs.Machine.{Came, Delivers, Ended, IsStarted, Kept, MachineView, Queues, Raises, SameEntries, Unsure, connected, hung_up, not_connected, put, told}
+use Rattle.escpos_till.specs.Entries.{IsLedger, cancelled, next_free, recorded, taken, times_tried}
+use Rattle.escpos_till.specs.Machine.{Came, Cancels, Delivers, Ended, IsStarted, Kept, MachineView, Queues, Raises, SameEntries, Unsure, connected, hung_up, not_connected, put, told}
 use Rattle.escpos_till_model.specs.Receipts.{Among, AreReceipts}
 use Rattle.escpos_till_model.specs.declared.event.Happening.{Happening}
 use Rattle.escpos_till_model.specs.declared.event.Happening.TheVariants as event
@@ -49,10 +49,11 @@ off w wire = record { machine = None; kept = w.kept; wire = wire; told = w.told 
 abbrev pub with_wire : World → WireView → World
 with_wire w wire = record { machine = w.machine; kept = w.kept; wire = wire; told = w.told }
 
--- What an owner is told of a receipt is so by these entries: it was taken, or it is recorded.
+-- What an owner is told of a receipt is so by these entries: it was taken, or it is recorded, or it is cancelled and was tried so often.
 abbrev pub IsSo : List Entry → TillNote → Type 0
 IsSo kept (note.Queued number) = (0 < number) × (number ≤ length (taken kept))
 IsSo kept (note.Recorded number) = Among number (recorded kept)
+IsSo kept (note.Cancelled number tried) = Among number (cancelled kept) × (times_tried kept number ≡ tried)
 IsSo kept n = Unit {0}
 
 -- A world may begin so: the till is off, and its store has a ledger, an old one or a new one. The wire is what is left of a line once its
@@ -199,6 +200,7 @@ abbrev pub Happens : World → Happening → World → Type 0
 Happens w event.Start new = Starts w new
 Happens w (event.Queue content) new = Calls (λ m after. Queues m content after) w new
 Happens w (event.Raise first) new = Calls (λ m after. Raises m first after) w new
+Happens w (event.Cancel number) new = Calls (λ m after. Cancels m number after) w new
 Happens w (event.Deliver openings most copy) new = IsCopy copy × Calls (λ m after. Delivers m openings most copy after × FitsLine after.stage) w new
 Happens w event.Refuse new = Calls SameEntries w new
 Happens w event.Keep new = Stores (λ m after. Kept m.stage m after) with_entry w new

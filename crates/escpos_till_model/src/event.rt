@@ -2,7 +2,7 @@
 
 use escpos_host::SendFault;
 use escpos_link::Event;
-use escpos_till::{ReceiptContent, StoreFault, Text, TillRefusal};
+use escpos_till::{ReceiptContent, ReceiptNumber, StoreFault, Text, TillRefusal};
 
 /// What may happen. `specs/World.antt` says what it does.
 #[derive(Debug, Drop)]
@@ -13,6 +13,8 @@ pub enum Happening {
     Queue(ReceiptContent),
     /// The machine raises the next mark number to this one.
     Raise(u32),
+    /// The machine cancels the receipt with this number, which waits.
+    Cancel(ReceiptNumber),
     /// The machine delivers the first receipt that waits, over a link with so many opening marks, on which at most `most` bytes of answers
     /// are read. `copy` is the text of a line that is put before a receipt that was tried before.
     Deliver {

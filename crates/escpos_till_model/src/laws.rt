@@ -1,7 +1,7 @@
 //! Proof only: the laws of a ledger's receipts, of a till in the world, and of what a driver did on a real store and a real line. The contract
 //! of each function is the law; when run, it does nothing.
 
-ghost use Rattle.std.specs.Prelude.{ℕ, ◌≡◌, ◌<◌, ◌≤◌, Option, List, [], ◌∷◌, ◌++◌, None, length};
+ghost use Rattle.std.specs.Prelude.{ℕ, ◌≡◌, ◌<◌, ◌≤◌, ◌⊎◌, Option, List, [], ◌∷◌, ◌++◌, None, length};
 ghost use Rattle.escpos_link.specs.Line.{IsLine, LineView};
 ghost use Rattle.escpos_link.specs.Trusted.{IsTrusted};
 ghost use Rattle.escpos_link.specs.Wire.{WireView, given_up, wire_of};
@@ -13,7 +13,7 @@ ghost use Rattle.escpos_till.specs.declared.machine.TillNote.{TillNote};
 ghost use Rattle.escpos_till.specs.declared.machine.TillNote.TheVariants as note;
 ghost use Rattle.escpos_till.specs.declared.machine.TillRefusal.TheVariants as refusal;
 ghost use Rattle.escpos_till.specs.declared.surroundings.Surroundings.{Surroundings};
-ghost use Rattle.escpos_till.specs.Entries.{IsLedger, Taken, next_free, recorded, taken, waiting};
+ghost use Rattle.escpos_till.specs.Entries.{IsLedger, Taken, cancelled, next_free, recorded, taken, times_tried, waiting};
 ghost use Rattle.escpos_host.specs.Machine.{IsSound};
 ghost use Rattle.escpos_till.specs.Book.{IsBookOf};
 ghost use Rattle.escpos_till.specs.Driver.{Answered, Call, Ran, RanTo, Serves, Tells};
@@ -23,7 +23,7 @@ ghost use Rattle.escpos_till_model.specs.Around.{Around, CrashesTo, DoesInTime, 
 ghost use Rattle.escpos_till_model.specs.Bridge.{AllOnWire, AreServed, EndsIn, FitsWire, GoesTo, IsFaithful, IsGivenUp, IsOffLine, IsServed, notes_of, told_of};
 ghost use Rattle.std.specs.List.{AllByRecursion};
 ghost use Rattle.escpos_till_model.specs.Carried.{AreApart, Carried, Carries, HasOwnMarks, UsesMarksOnce};
-ghost use Rattle.escpos_till_model.specs.Receipts.{Among, EachIsKept, Extends, RecordedStand};
+ghost use Rattle.escpos_till_model.specs.Receipts.{Among, EachIsKept, Extends, IsAbout, IsEndOf, RecordedStand};
 ghost use Rattle.escpos_till_model.specs.declared.event.Happening.{Happening};
 ghost use Rattle.escpos_till_model.specs.Known.{BookMayLag, IsWorld};
 ghost use Rattle.escpos_till_model.specs.World.{Begins, HasCome, Runs, World, off};
@@ -31,20 +31,23 @@ ghost use Rattle.escpos_till_model.specs.World.{Begins, HasCome, Runs, World, of
 use crate::wire_line::{SameWire, WireLine};
 use escpos_till::{PrinterLine, Store};
 
-/// In every ledger each receipt that was taken waits or is recorded, and none is both; what is recorded was taken, and none is
-/// recorded twice. What waits is what a machine delivers: where it says that nothing waits, each receipt that was taken is recorded, and what it
-/// delivers otherwise is one that waits.
+/// In every ledger each receipt that was taken waits, is recorded or is cancelled, and none is two of these; what is recorded or cancelled was
+/// taken, and none is recorded or cancelled twice. After a receipt is recorded or cancelled no entry tries, records or cancels it. What waits is
+/// what a machine delivers: where it says that nothing waits, each receipt that was taken is recorded or cancelled, and what it delivers
+/// otherwise is one that waits.
 pub fn each_is_kept()
     ensures kept { (entries : List Entry) → IsLedger entries → EachIsKept entries }
+    ensures ended { (before following : List Entry) (number : ℕ) (end e : Entry) → IsLedger (before ++ end ∷ following) → IsEndOf number end → Among e following → ¬ IsAbout number e }
     ensures nothing_waits { (m : MachineView) (entries : List Entry) (openings : ℕ) → IsLedger entries → IsBookOf m.book entries → RefusesDeliver m openings refusal.NothingWaits
-        → (receipt : Taken) → Among receipt (taken entries) → Among receipt.number (recorded entries) }
+        → (receipt : Taken) → Among receipt (taken entries) → Among receipt.number (recorded entries) ⊎ Among receipt.number (cancelled entries) }
     ensures delivers { (m asked : MachineView) (entries : List Entry) (openings most : ℕ) (copy : Option (List ℕ)) → IsBookOf m.book entries → (it : Delivers m openings most copy asked)
         → (content : Content) × Among (record { number = it.due.number; content = content }) (waiting entries) }
 {}
 
 /// The till in the world: over every list of happenings what is recorded in its ledger stands on its printer's paper, each receipt that was
-/// taken waits or is recorded, and an entry that was kept is kept. Whoever was told that a receipt is queued or recorded may rely on it: it
-/// was taken, or it is recorded. A world whose till is off by then may begin again.
+/// taken waits, is recorded or is cancelled, and an entry that was kept is kept. Whoever was told that a receipt is queued, recorded or
+/// cancelled may rely on it: it was taken, or it is recorded; or it is cancelled, and was tried so often, and no entry tries it later. So no
+/// entry ever tries a receipt that he was told is cancelled and was tried 0 times. A world whose till is off by then may begin again.
 ///
 /// It may begin with whatever printer a line has left, and with links that were given up: with a ledger that knows what that line's host
 /// has recorded, or with one that has raised the next mark number to one that is above all that were used.
@@ -56,6 +59,8 @@ pub fn what_is_recorded_stands()
         → (0 < number) × (number ≤ length (taken after.kept)) }
     ensures recorded { (w after : World) (happenings : List Happening) (number : ℕ) → Begins w → Runs w happenings after → Among (note.Recorded number) after.told
         → Among number (recorded after.kept) }
+    ensures cancelled { (w after : World) (happenings : List Happening) (number tried : ℕ) → Begins w → Runs w happenings after → Among (note.Cancelled number tried) after.told
+        → Among number (cancelled after.kept) × (times_tried after.kept number ≡ tried) }
     ensures extends { (w after : World) (happenings : List Happening) → Runs w happenings after → Extends w.kept after.kept }
     ensures width { (w after : World) (happenings : List Happening) → Begins w → Runs w happenings after
         → after.wire.printer.sheet.line_dots ≡ w.wire.printer.sheet.line_dots }
@@ -84,8 +89,8 @@ pub fn marks_are_used_once()
 
 /// A driver's run is a run of the world: whatever a driver did, in the order in which it did it, and whatever happened at the printer's end
 /// meanwhile, some happenings lead to a world with the same entries, the same notes and the same printer. So what is recorded stands on the
-/// paper at each moment of a driver's run, and what its owner was told to be queued or recorded is. Where it ends in the middle, some
-/// happenings lead to what the next machine finds.
+/// paper at each moment of a driver's run, and what its owner was told to be queued, recorded or cancelled is; what is cancelled was tried as
+/// often as he was told, and no entry tries it later. Where it ends in the middle, some happenings lead to what the next machine finds.
 pub fn a_driven_till_is_in_the_world()
     ensures reaches { (m after : MachineView) (a new : Around) (w : World) → IsAround m a w → Ran DoesInTime m a after new → Reaches w after new }
     ensures crashes { (m after : MachineView) (a new : Around) (w : World) → IsAround m a w → Ran DoesInTime m a after new → CrashesTo w after new }
@@ -98,6 +103,8 @@ pub fn a_driven_till_is_in_the_world()
         → Ran DoesInTime m a after new → Among (note.Queued number) new.told → (0 < number) × (number ≤ length (taken new.kept)) }
     ensures recorded { (first w : World) (happenings : List Happening) (m after : MachineView) (a new : Around) (number : ℕ) → Begins first → Runs first happenings w → IsAround m a w
         → Ran DoesInTime m a after new → Among (note.Recorded number) new.told → Among number (recorded new.kept) }
+    ensures cancelled { (first w : World) (happenings : List Happening) (m after : MachineView) (a new : Around) (number tried : ℕ) → Begins first → Runs first happenings w → IsAround m a w
+        → Ran DoesInTime m a after new → Among (note.Cancelled number tried) new.told → Among number (cancelled new.kept) × (times_tried new.kept number ≡ tried) }
 {
     what_is_recorded_stands();
 }
@@ -140,7 +147,8 @@ pub fn a_line_in_memory_is_like_its_wire()
 
 /// A call of a till's machine that a driver has served, in a world that has come of one that began: happenings lead to a world around the
 /// machine as it is then, whose store has what it holds, or what a crash may leave now, and whose owner was told the note. So the next call may
-/// follow, or a crash; what is recorded stands on the paper, each receipt that was taken is kept, and the note is so.
+/// follow, or a crash; what is recorded stands on the paper, each receipt that was taken is kept, and the note is so: a receipt that it says
+/// is cancelled is, and was tried so often, and no entry tries it later.
 pub fn a_served_till_is_in_the_world<S: Store, L: PrinterLine>()
     ensures served { (world : World) (m after : MachineView) (old new : Surroundings S L) (call : Call) (note : TillNote) (most : ℕ) (wire : WireView) → IsServed S.faithful S.holds S.leaves S.says L.did world m old call note most after new wire
         → after_note note ≡ stage.AtRest → (entries : List Entry) × S.holds new.store entries × (after.stage ≡ stage.AtRest) × GoesTo world after (around entries wire (world.told ++ note ∷ [])) }
@@ -160,6 +168,8 @@ pub fn a_served_till_is_in_the_world<S: Store, L: PrinterLine>()
         → IsServed S.faithful S.holds S.leaves S.says L.did world m old call (note.Queued number) most after new wire → S.leaves new.store left → (0 < number) × (number ≤ length (taken left)) }
     ensures recorded { (world : World) (m after : MachineView) (old new : Surroundings S L) (call : Call) (number most : ℕ) (wire : WireView) (left : List Entry)
         → IsServed S.faithful S.holds S.leaves S.says L.did world m old call (note.Recorded number) most after new wire → S.leaves new.store left → Among number (recorded left) }
+    ensures cancelled { (world : World) (m after : MachineView) (old new : Surroundings S L) (call : Call) (number tried most : ℕ) (wire : WireView) (left : List Entry)
+        → IsServed S.faithful S.holds S.leaves S.says L.did world m old call (note.Cancelled number tried) most after new wire → S.leaves new.store left → Among number (cancelled left) × (times_tried left number ≡ tried) }
 {
     escpos_link::laws::fitting();
     every_world();
@@ -169,7 +179,7 @@ pub fn a_served_till_is_in_the_world<S: Store, L: PrinterLine>()
 /// Calls of a till's machine that a driver has served one after another, in a world that has come of one that began, over a line that stays like
 /// the world's wire: happenings lead to a world around the machine as it is then, with the entries that the store holds then and a wire that the
 /// line is like. So the next call may follow, or a crash; what is recorded stands on that wire's paper, each receipt that was taken is kept, and
-/// all that the owner was told is so.
+/// all that the owner was told is so: a receipt that he was told is cancelled is, and was tried so often, and no entry tries it later.
 pub fn a_row_of_calls_is_in_the_world<S: Store, L: PrinterLine, W: LikeWire<L>>()
     ensures served { (world : World) (m after : MachineView) (old new : Surroundings S L) (answered : List Answered) (most : ℕ) → AreServed S.faithful S.holds S.leaves S.says L.did W.fits world m old answered most after new
         → (entries : List Entry) × (wire : WireView) × S.holds new.store entries × W.fits new.line wire × GoesTo world after (around entries wire (world.told ++ told_of answered)) }
@@ -187,6 +197,9 @@ pub fn a_row_of_calls_is_in_the_world<S: Store, L: PrinterLine, W: LikeWire<L>>(
     ensures recorded { (world : World) (m after : MachineView) (old new : Surroundings S L) (answered : List Answered) (number most : ℕ) (left : List Entry)
         → AreServed S.faithful S.holds S.leaves S.says L.did W.fits world m old answered most after new → S.leaves new.store left → Among (note.Recorded number) (told_of answered)
         → Among number (recorded left) }
+    ensures cancelled { (world : World) (m after : MachineView) (old new : Surroundings S L) (answered : List Answered) (number tried most : ℕ) (left : List Entry)
+        → AreServed S.faithful S.holds S.leaves S.says L.did W.fits world m old answered most after new → S.leaves new.store left → Among (note.Cancelled number tried) (told_of answered)
+        → Among number (cancelled left) × (times_tried left number ≡ tried) }
 {
     escpos_link::laws::fitting();
     every_world();

@@ -21,7 +21,8 @@ use escpos_host::SendFault;
 use escpos_link::{Event, Wire};
 use escpos_printer::Condition;
 use escpos_till::{
-    Action, CopyText, Entry, NoMachine, ReceiptContent, StoreFault, Text, TillMachine, TillNote,
+    Action, CopyText, Entry, NoMachine, ReceiptContent, ReceiptNumber, StoreFault, Text,
+    TillMachine, TillNote,
 };
 use std::alloc::{AllocError, Global};
 use std::marker::Model;
@@ -54,6 +55,7 @@ impl TillParts {
             Happening::Start => self.start(alloc),
             Happening::Queue(receipt) => self.queue(receipt),
             Happening::Raise(first) => self.raise(first),
+            Happening::Cancel(number) => self.cancel(number),
             Happening::Deliver {
                 openings,
                 most,
@@ -125,6 +127,23 @@ impl TillParts {
             return Err(NotPossible::SwitchedOff);
         };
         if let Err(why) = machine.raise(first) {
+            // Proof only: its host is sound.
+            machine.is_sound();
+            return Err(NotPossible::Machine(why));
+        }
+        // Proof only: its host is sound.
+        machine.is_sound();
+        Ok(())
+    }
+
+    fn cancel(&mut self, number: ReceiptNumber) -> Result<(), NotPossible>
+        ensures happened { OnOk result (Happens self.old (event.Cancel number) self.new) }
+        ensures refused { IfErr result (λ why. Instead why (event.Cancel number) self.old self.new) }
+    {
+        let Some(machine) = &mut self.machine else {
+            return Err(NotPossible::SwitchedOff);
+        };
+        if let Err(why) = machine.cancel(number) {
             // Proof only: its host is sound.
             machine.is_sound();
             return Err(NotPossible::Machine(why));

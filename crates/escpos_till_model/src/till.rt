@@ -3,7 +3,7 @@
 ghost use Rattle.std.specs.Prelude.{ℕ, ◌≡◌, ◌<◌, ◌≤◌, [], length, None, option_map, IfOk, IfErr, OnOk};
 ghost use Rattle.escpos_paper.specs.Page.{SheetIs};
 ghost use Rattle.escpos_till.specs.declared.machine.TillNote.TheVariants as note;
-ghost use Rattle.escpos_till.specs.Entries.{recorded, taken};
+ghost use Rattle.escpos_till.specs.Entries.{cancelled, recorded, taken, times_tried};
 ghost use Rattle.escpos_till_model.specs.Instead.{Instead, Ran};
 ghost use Rattle.escpos_till_model.specs.Known.{IsWorld};
 ghost use Rattle.escpos_till_model.specs.Receipts.{Among, EachIsKept, Extends, RecordedStand};
@@ -22,7 +22,7 @@ use std::collections::VecDeque;
 use std::marker::Model;
 
 /// A till with its store, its printer and the wire between them. Whatever happens, what its ledger has as recorded stands on the paper,
-/// whole and in the order of recording, and each receipt that was taken waits or is recorded.
+/// whole and in the order of recording, and each receipt that was taken waits, is recorded or is cancelled.
 #[derive(Drop)]
 pub struct Till {
     parts: TillParts,
@@ -76,7 +76,7 @@ impl Till {
     /// Lets them happen, in order; where one doesn't, the next one follows.
     pub fn run(&mut self, events: Vec<Happening>)
         ensures ran { Ran self.old events.items self.new }
-        // What the store had it has; what is recorded stands on the paper; each receipt that was taken waits or is recorded.
+        // What the store had it has; what is recorded stands on the paper; each receipt that was taken waits, is recorded or is cancelled.
         ensures extends { Extends self.old.kept self.new.kept }
         ensures stands { RecordedStand self.new.wire.printer.sheet.line_dots self.new.kept self.new.wire.printer.sheet.items }
         ensures kept { EachIsKept self.new.kept }
@@ -107,9 +107,11 @@ impl Till {
     /// What its owner was told, the oldest first. Allocates nothing.
     pub fn told(&self) -> &[TillNote]
         ensures told { result.now ≡ self.now.told }
-        // A receipt that he was told is taken is, and one that he was told is recorded is.
+        // A receipt that he was told is taken is; so is one that he was told is recorded, or cancelled. What is cancelled was tried so
+        // often, and no entry tries it later.
         ensures queued { (number : ℕ) → Among (note.Queued number) self.now.told → (0 < number) × (number ≤ length (taken self.now.kept)) }
         ensures recorded { (number : ℕ) → Among (note.Recorded number) self.now.told → Among number (recorded self.now.kept) }
+        ensures cancelled { (number tried : ℕ) → Among (note.Cancelled number tried) self.now.told → Among number (cancelled self.now.kept) × (times_tried self.now.kept number ≡ tried) }
     {
         // Proof only: what is promised holds.
         self.is_sound();
@@ -133,14 +135,15 @@ impl Till {
         self.parts.wire.paper()
     }
 
-    /// Proof only: gives the caller these facts: what is recorded stands on the paper, each receipt that was taken waits or is recorded,
-    /// and what its owner was told is so.
+    /// Proof only: gives the caller these facts: what is recorded stands on the paper, each receipt that was taken waits, is recorded or is
+    /// cancelled, and what its owner was told is so. What he was told is cancelled was tried so often, and no entry tries it later.
     pub fn is_sound(&self)
         ensures come { HasCome self.now }
         ensures stands { RecordedStand self.now.wire.printer.sheet.line_dots self.now.kept self.now.wire.printer.sheet.items }
         ensures kept { EachIsKept self.now.kept }
         ensures queued { (number : ℕ) → Among (note.Queued number) self.now.told → (0 < number) × (number ≤ length (taken self.now.kept)) }
         ensures recorded { (number : ℕ) → Among (note.Recorded number) self.now.told → Among number (recorded self.now.kept) }
+        ensures cancelled { (number tried : ℕ) → Among (note.Cancelled number tried) self.now.told → Among number (cancelled self.now.kept) × (times_tried self.now.kept number ≡ tried) }
     {
         // Proof only: what is promised holds of every run.
         what_is_recorded_stands();

@@ -6,7 +6,7 @@ use Rattle.escpos_till.specs.declared.machine.TillNote.TheVariants as note
 use Rattle.escpos_till_model.specs.Around.{Around, Reaches}
 use Rattle.escpos_till_model.specs.Receipts.{Among, EachIsKept, Extends, RecordedStand}
 use Rattle.escpos_till_model.specs.declared.event.Happening.{Happening}
-use Rattle.escpos_till_model.specs.World.{Runs, World}
+use Rattle.escpos_till_model.specs.World.{IsSo, Runs, World}
 use Rattle.escpos_till_model.proofs.Driven.{crashed, driven}
 use Rattle.escpos_till_model.proofs.Shown.{runs_more}
 use Rattle.escpos_till_model.proofs.laws.a_driven_till_is_in_the_world.Goals as goal
@@ -57,3 +57,10 @@ returns-clause-recorded c = λ first w happenings m after a new number begins ru
     subst (λ kept. Among number (recorded kept)) reaches.kept
     (c.what_is_recorded_stands.ensures.recorded first reaches.now (all_of w happenings after new reaches) number begins (all_run first w happenings after new runs reaches)
     (subst (Among (note.Recorded number)) (sym reaches.told) among))
+
+pub returns-clause-cancelled : goal.returns-clause-cancelled
+returns-clause-cancelled c = λ first w happenings m after a new number tried begins runs around ran among.
+    let reaches = driven m after a new w around ran in
+    subst (λ kept. IsSo kept (note.Cancelled number tried)) reaches.kept
+    (c.what_is_recorded_stands.ensures.cancelled first reaches.now (all_of w happenings after new reaches) number tried begins (all_run first w happenings after new runs reaches)
+    (subst (Among (note.Cancelled number tried)) (sym reaches.told) among))

@@ -6,6 +6,7 @@ use Rattle.escpos_till_model.specs.Around.{around}
 use Rattle.escpos_till_model.specs.Bridge.{GoesTo, told_of}
 use Rattle.escpos_till_model.specs.Receipts.{Among, EachIsKept, Extends, RecordedStand}
 use Rattle.escpos_till_model.proofs.Rows.{among_later, row_leads}
+use Rattle.escpos_till_model.specs.World.{IsSo}
 use Rattle.escpos_till_model.proofs.Worlds.{entries_last}
 use Rattle.escpos_till_model.proofs.laws.a_row_of_calls_is_in_the_world.Goals as goal
 
@@ -51,3 +52,10 @@ returns-clause-recorded g c = λ world m after old new answered number most left
     let told : Among (note.Recorded number) goes.now.told = subst (λ a. Among (note.Recorded number) a.told) goes.is.surrounds (among_later (note.Recorded number) world.told (told_of answered) among) in
     subst (λ a. Among number (recorded a.kept)) (sym goes.is.surrounds)
     (c.what_is_recorded_stands.ensures.recorded goes.come.first goes.now goes.come.happenings number goes.come.begins goes.come.runs told)
+
+pub returns-clause-cancelled : goal.returns-clause-cancelled
+returns-clause-cancelled g c = λ world m after old new answered number tried most left it may among.
+    let (wire, like, goes) = returns-clause-may_leave g c world m after old new answered most left it may in
+    let told : Among (note.Cancelled number tried) goes.now.told = subst (λ a. Among (note.Cancelled number tried) a.told) goes.is.surrounds (among_later (note.Cancelled number tried) world.told (told_of answered) among) in
+    subst (λ a. IsSo a.kept (note.Cancelled number tried)) (sym goes.is.surrounds)
+    (c.what_is_recorded_stands.ensures.cancelled goes.come.first goes.now goes.come.happenings number tried goes.come.begins goes.come.runs told)

@@ -7,7 +7,7 @@ use Rattle.escpos_till.specs.Entries.{recorded, taken}
 use Rattle.escpos_till.specs.Driver.{Ran, Tells}
 use Rattle.escpos_till_model.specs.Around.{DoesInTime, around}
 use Rattle.escpos_till_model.specs.Bridge.{notes_of}
-use Rattle.escpos_till_model.specs.World.{Runs, off}
+use Rattle.escpos_till_model.specs.World.{IsSo, Runs, off}
 use Rattle.escpos_till_model.specs.declared.event.Happening.TheVariants as event
 use Rattle.escpos_till_model.specs.Known.{BookMayLag}
 use Rattle.escpos_till_model.specs.Receipts.{Among, EachIsKept, Extends, RecordedStand}
@@ -86,3 +86,10 @@ returns-clause-recorded g c = λ world m after old new call number most wire lef
     let among : Among (note.Recorded number) goes.now.told = subst (λ a. Among (note.Recorded number) a.told) goes.is.surrounds (world.told, [], refl) in
     subst (λ a. Among number (recorded a.kept)) (sym goes.is.surrounds)
     (c.what_is_recorded_stands.ensures.recorded goes.come.first goes.now goes.come.happenings number goes.come.begins goes.come.runs among)
+
+pub returns-clause-cancelled : goal.returns-clause-cancelled
+returns-clause-cancelled g c = λ world m after old new call number tried most wire left it may.
+    let goes = returns-clause-may_leave g c world m after old new call (note.Cancelled number tried) most wire left it may in
+    let among : Among (note.Cancelled number tried) goes.now.told = subst (λ a. Among (note.Cancelled number tried) a.told) goes.is.surrounds (world.told, [], refl) in
+    subst (λ a. IsSo a.kept (note.Cancelled number tried)) (sym goes.is.surrounds)
+    (c.what_is_recorded_stands.ensures.cancelled goes.come.first goes.now goes.come.happenings number tried goes.come.begins goes.come.runs among)

@@ -32,6 +32,11 @@ returns-clause-recorded c = λ w after happenings number begins runs among.
     let laws : LineLaws = record { trust = c.trust.ensures; every = c.every_line.ensures.kept; turn = c.in_turn.ensures } in
     (known laws w after happenings begins runs).told (note.Recorded number) among
 
+pub returns-clause-cancelled : goal.returns-clause-cancelled
+returns-clause-cancelled c = λ w after happenings number tried begins runs among.
+    let laws : LineLaws = record { trust = c.trust.ensures; every = c.every_line.ensures.kept; turn = c.in_turn.ensures } in
+    (known laws w after happenings begins runs).told (note.Cancelled number tried) among
+
 pub returns-clause-extends : goal.returns-clause-extends
 returns-clause-extends c = entries_last
 
