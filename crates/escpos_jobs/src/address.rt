@@ -160,11 +160,13 @@ fn device(text: &str) -> Option<Address>
     }
 }
 
-// What follows the first colon of a device file's text.
-fn path_of(text: &str) -> &str {
+// What follows the first colon of a device file's text: its path.
+fn path_of(text: &str) -> &str
+    ensures { result.now ≡ after_colon text.now }
+{
     match text.split_once(':') {
         Some((_, path)) => path,
-        None => text,
+        None => "",
     }
 }
 

@@ -27,6 +27,7 @@ usage: escpos_cli check [--raw] < STREAM
        escpos_cli queue LEDGER [--width D] [--replace C] < RECEIPT
        escpos_cli deliver LEDGER ADDRESS [--openings N] [--copy TEXT]
                                          [--wait S]
+       escpos_cli cancel LEDGER N
        escpos_cli ledger LEDGER [--first F]
        escpos_cli completions bash|zsh|fish
        escpos_cli help
@@ -502,12 +503,23 @@ line `memory` says that the program ran out of memory.
           $ escpos_cli deliver shop.ledger 127.0.0.1:9100 --wait 30
           recorded 1
 
+  escpos_cli cancel LEDGER N
+      Takes receipt N back: it waits no more, and isn't sent again. `cancelled
+      N` says so; if it was sent before, ` tried K` ends that line, since it may
+      be on paper. One that waits no more gives `refused Recorded N` or `refused
+      Cancelled N`, and one that was never taken `refused NotTaken N`. If the
+      ledger can't be used, the line is that of `ledger`.
+
+          $ escpos_cli cancel shop.ledger 2
+          cancelled 2
+
   escpos_cli ledger LEDGER [--first F]
       Lists the receipts, a line each: `N waiting`; `N tried K`, sent K times
-      and not known to be printed; or `N recorded R`, R its place among those
-      recorded, from 0. The last line is `next M`, the next mark number. With
-      --first it is raised to F first, for a printer that another till has used
-      before; an F below it gives the one line `refused MarkReused M`.
+      and not known to be printed; `N recorded R`, R its place among those
+      recorded, from 0; or `N cancelled`, and ` tried K` if it was sent. The
+      last line is `next M`, the next mark number. With --first it is raised to
+      F first, for a printer that another till has used before; an F below it
+      gives the one line `refused MarkReused M`.
 
           $ escpos_cli ledger shop.ledger
           1 recorded 0
@@ -515,7 +527,7 @@ line `memory` says that the program ran out of memory.
 
       If another process has the ledger open, the one line is `ledger in use`;
       if LEDGER is another kind of file, or damaged, `no ledger`; and if a read
-      or a write failed, `ledger failed`. So it is for `queue` and `deliver`.
+      or a write failed, `ledger failed`. So it is for the others.
 
   escpos_cli completions bash|zsh|fish
       Prints a script that completes the words of escpos_cli in that shell.
