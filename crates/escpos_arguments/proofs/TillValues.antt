@@ -13,7 +13,7 @@ use Rattle.escpos_jobs.specs.declared.address.Address.{Address}
 use Rattle.escpos_jobs.specs.declared.task.NoTask.{NoTask}
 use Rattle.escpos_till_jobs.specs.declared.deliver.Delivery.{Delivery}
 use Rattle.escpos_till_jobs.specs.declared.task.TillTask.{TillTask}
-use Rattle.escpos_till_jobs.specs.declared.task.TillTask.TheVariants.{Queue, Deliver, DeliverWithin, List as listing}
+use Rattle.escpos_till_jobs.specs.declared.task.TillTask.TheVariants.{Queue, Deliver, DeliverWithin, Cancel, List as listing}
 
 -- An address that is asked for is taken.
 pub taken_address : (rows : List Row) (task : TillTask) (r : Result Address NoTask) (why : NoTask) → AsksTillBy (codes "deliver") rows task → r ≡ Err why
@@ -25,6 +25,7 @@ taken_address rows (Deliver ledger d) r why asks is taken =
 taken_address rows (DeliverWithin ledger d wait) r why asks is taken =
     let (name, path, address, openings, copy, is_wait) = asks in
     no_error r d.address why (taken d.address address) is
+taken_address rows (Cancel ledger number) r why asks is taken = let bad = asks.0 in absurd cc
 taken_address rows (listing ledger first) r why asks is taken = let bad = asks.0 in absurd cc
 
 -- A wait that is asked for is taken.
@@ -38,6 +39,7 @@ taken_wait rows (DeliverWithin ledger d wait) r why asks range is taken =
     let (name, path, address, openings, copy, is_wait) = asks in
     let (low, high, fits, in_range) = range in
     no_error r (Some wait) why (taken (Some wait) (number_in _ wait is_wait) in_range) is
+taken_wait rows (Cancel ledger number) r why asks range is taken = let bad = asks.0 in absurd cc
 taken_wait rows (listing ledger first) r why asks range is taken = let bad = asks.0 in absurd cc
 
 -- The task with the values that were read.
@@ -72,4 +74,5 @@ taken_task rows (DeliverWithin path d given) ledger a n copy wait asks range l b
     let (low, high, fits, in_range) = range in
     same_delivery ledger path a n copy wait (Some given) d (l path is_path) (b d.address address) (m d.openings openings low high) (k d.copy is_copy fits)
     (w (Some given) (number_in _ given is_wait) in_range)
+taken_task rows (Cancel path number) ledger a n copy wait asks range l b m k w = let bad = asks.0 in absurd cc
 taken_task rows (listing path first) ledger a n copy wait asks range l b m k w = let bad = asks.0 in absurd cc

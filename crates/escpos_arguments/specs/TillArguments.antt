@@ -1,4 +1,4 @@
--- The arguments of a till's words, `queue`, `deliver` and `ledger`, and what they ask for.
+-- The arguments of a till's words, `queue`, `deliver`, `cancel` and `ledger`, and what they ask for.
 use Rattle.std.specs.Prelude.{◌≡◌, ◌<◌, ◌≤◌, List, [], ◌∷◌, Option, Some, None, IfSome, IsSomeAnd, codes, true, false}
 use Rattle.clap.specs.Words.{App, Row, Rule, Shape, Text, first_of, new_app, new_rule, one_of, with_rule, with_subcommand}
 use Rattle.clap.specs.Simple.{on_top}
@@ -10,13 +10,13 @@ use Rattle.escpos_arguments.specs.ClapAnswers.{IsNumber, IsNumberIn}
 use Rattle.escpos_jobs.specs.Address.{IsAddress}
 use Rattle.escpos_till.specs.Copy.{IsCopyText}
 use Rattle.escpos_till_jobs.specs.declared.task.TillTask.{TillTask}
-use Rattle.escpos_till_jobs.specs.declared.task.TillTask.TheVariants.{Queue, Deliver, DeliverWithin, List as listing}
+use Rattle.escpos_till_jobs.specs.declared.task.TillTask.TheVariants.{Queue, Deliver, DeliverWithin, Cancel, List as listing}
 
 -- ---- what the arguments ask for
 
 -- the words that a till uses
 abbrev pub till_names : List Text
-till_names = codes "queue" ∷ codes "deliver" ∷ codes "ledger" ∷ []
+till_names = codes "queue" ∷ codes "deliver" ∷ codes "cancel" ∷ codes "ledger" ∷ []
 
 -- this name, with the values that were given after it, asks for the task
 abbrev pub AsksTillBy : Text → List Row → TillTask → Type 0
@@ -33,6 +33,9 @@ AsksTillBy name rows (DeliverWithin ledger delivery wait) = (name ≡ codes "del
     × IsNumberOr OPENINGS (one_of (codes "openings") rows) delivery.openings
     × (first_of (codes "copy") rows ≡ delivery.copy)
     × IsSomeAnd (one_of (codes "wait") rows) (λ text. IsNumber text wait)
+AsksTillBy name rows (Cancel ledger number) = (name ≡ codes "cancel")
+    × (first_of (codes "ledger") rows ≡ Some ledger)
+    × IsSomeAnd (one_of (codes "number") rows) (λ text. IsNumber text number)
 AsksTillBy name rows (listing ledger first) = (name ≡ codes "ledger")
     × (first_of (codes "ledger") rows ≡ Some ledger)
     × IsNumberIn (one_of (codes "first") rows) first
@@ -46,6 +49,7 @@ abbrev pub IsTillInRange : TillTask → Type 0
 IsTillInRange (Queue ledger options) = IsOptions options
 IsTillInRange (Deliver ledger delivery) = (1 ≤ delivery.openings) × (delivery.openings ≤ MOST_OPENINGS) × IfSome delivery.copy IsCopyText
 IsTillInRange (DeliverWithin ledger delivery wait) = (1 ≤ delivery.openings) × (delivery.openings ≤ MOST_OPENINGS) × IfSome delivery.copy IsCopyText × IsWait wait
+IsTillInRange (Cancel ledger number) = 0 < number
 IsTillInRange (listing ledger first) = IfSome first (λ n. n < mark_count)
 
 -- ---- the till's arguments, as `clap` reads them
@@ -53,6 +57,10 @@ IsTillInRange (listing ledger first) = IfSome first (λ n. n < mark_count)
 -- the path of a ledger
 abbrev pub ledger_rule : Rule
 ledger_rule = record (new_rule (codes "ledger")) { required = true; action = Some Set }
+
+-- the number of a receipt
+abbrev pub number_rule : Rule
+number_rule = record (new_rule (codes "number")) { required = true; action = Some Set }
 
 -- what may follow `queue`
 abbrev pub queue_words : Shape
@@ -62,6 +70,10 @@ queue_words = (with_rule (with_rule (with_rule (new_app (codes "queue")) ledger_
 abbrev pub deliver_words : Shape
 deliver_words = (with_rule (with_rule (with_rule (with_rule (with_rule (new_app (codes "deliver")) ledger_rule) address_rule)
     (option_rule (codes "openings") false)) (option_rule (codes "copy") false)) (option_rule (codes "wait") false)).top
+
+-- what may follow `cancel`
+abbrev pub cancel_words : Shape
+cancel_words = (with_rule (with_rule (new_app (codes "cancel")) ledger_rule) number_rule).top
 
 -- what may follow `ledger`
 abbrev pub ledger_words : Shape
@@ -75,4 +87,4 @@ till_words =
       disable_help_subcommand = true;
       subcommand_required = true;
     }) (new_app (codes "escpos_cli")) in
-    with_subcommand (with_subcommand (with_subcommand top queue_words) deliver_words) ledger_words
+    with_subcommand (with_subcommand (with_subcommand (with_subcommand top queue_words) deliver_words) cancel_words) ledger_words

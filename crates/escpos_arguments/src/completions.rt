@@ -74,7 +74,7 @@ _escpos_cli() {
     local word=${COMP_WORDS[COMP_CWORD]} given=
     if [ \"$COMP_CWORD\" = 1 ]; then
         given='check render draw encode image play emulate send status probe
-            loop queue deliver ledger completions help
+            loop queue deliver cancel ledger completions help
             --help --version'
     else
         case ${COMP_WORDS[1]} in
@@ -90,6 +90,7 @@ _escpos_cli() {
         loop) given='--width --help' ;;
         queue) given='--width --replace --help' ;;
         deliver) given='--openings --copy --wait --help' ;;
+        cancel) given='--help' ;;
         ledger) given='--first --help' ;;
         completions) given='bash zsh fish' ;;
         esac
@@ -117,6 +118,7 @@ if (( CURRENT == 2 )); then
         'loop:Print a receipt over a link of its own'
         'queue:Take a receipt into a ledger'
         'deliver:Print the receipts that wait'
+        'cancel:Take back a receipt that waits'
         'ledger:List the receipts'
         'completions:Print a script for a shell'
         'help:Print the help'
@@ -137,6 +139,7 @@ status | probe) compadd -- --wait --help ;;
 loop) compadd -- --width --help ;;
 queue) compadd -- --width --replace --help ;;
 deliver) compadd -- --openings --copy --wait --help ;;
+cancel) compadd -- --help ;;
 ledger) compadd -- --first --help ;;
 completions) compadd bash zsh fish ;;
 esac
@@ -158,6 +161,7 @@ complete -c escpos_cli -f -n __fish_use_subcommand -a probe -d 'Ask what a print
 complete -c escpos_cli -f -n __fish_use_subcommand -a loop -d 'Print a receipt over a link of its own'
 complete -c escpos_cli -f -n __fish_use_subcommand -a queue -d 'Take a receipt into a ledger'
 complete -c escpos_cli -f -n __fish_use_subcommand -a deliver -d 'Print the receipts that wait'
+complete -c escpos_cli -f -n __fish_use_subcommand -a cancel -d 'Take back a receipt that waits'
 complete -c escpos_cli -f -n __fish_use_subcommand -a ledger -d 'List the receipts'
 complete -c escpos_cli -f -n __fish_use_subcommand -a completions -d 'Print a script for a shell'
 complete -c escpos_cli -f -n __fish_use_subcommand -a help -d 'Print the help'

@@ -1,12 +1,12 @@
-//! The arguments of a till's words, `queue`, `deliver` and `ledger`: which task they ask for.
+//! The arguments of a till's words, `queue`, `deliver`, `cancel` and `ledger`: which task they ask for.
 
 ghost use Rattle.std.specs.Prelude.{◌≡◌, ◌≢◌, ◌⊎◌, ◌≤◌, ◌<◌, ℕ, Err, None, Ok, Option, Some, [], ◌∷◌, Contains, IfErr, IfOk, IfSome, IsSomeAnd, IsTrue, codes, false, map, ◌↔◌};
 ghost use Rattle.clap.specs.Words.{HasKind, IsAmong, Text, app_of, fault_of, first_of, found_of, kind_of, one_of, rows_of, rule_of, subcommand_of, subcommand_rows_of};
 ghost use Rattle.escpos_command.specs.Digits.{mark_count};
 ghost use Rattle.escpos_till.specs.Copy.{IsCopyText};
 ghost use Rattle.escpos_till_jobs.specs.declared.task.TillTask.{TillTask};
-ghost use Rattle.escpos_arguments.specs.ClapAnswers.{IsNumberIn};
-ghost use Rattle.escpos_arguments.specs.TillArguments.{AsksTill, AsksTillBy, IsTillInRange, deliver_words, ledger_rule, ledger_words, queue_words, till_names, till_words};
+ghost use Rattle.escpos_arguments.specs.ClapAnswers.{IsNumber, IsNumberIn};
+ghost use Rattle.escpos_arguments.specs.TillArguments.{AsksTill, AsksTillBy, IsTillInRange, cancel_words, deliver_words, ledger_rule, ledger_words, number_rule, queue_words, till_names, till_words};
 
 use crate::arguments::{
     MOST_OPENINGS, OPENINGS, address, address_of, count_of, no_task, number_given, option,
@@ -17,7 +17,7 @@ use clap::error::ErrorKind;
 use clap::{Arg, ArgAction, ArgMatches, Command};
 use escpos_command::MarkId;
 use escpos_jobs::task::NoTask;
-use escpos_till::CopyText;
+use escpos_till::{CopyText, ReceiptNumber};
 use escpos_till_jobs::{Delivery, LedgerPath, TillTask};
 use std::alloc::{AllocError, Global};
 use std::convert::AsStr;
@@ -26,7 +26,7 @@ use std::convert::AsStr;
 pub fn is_till_word(word: &str) -> bool
     ensures { IsTrue result ↔ Contains till_names word.now }
 {
-    matches!(word, "queue" | "deliver" | "ledger")
+    matches!(word, "queue" | "deliver" | "cancel" | "ledger")
 }
 
 /// The task that a till's arguments ask for. The program's own name isn't among them.
@@ -63,6 +63,7 @@ fn till_task_asked<'a>(name: &str, given: &ArgMatches<'a>) -> Result<TillTask<'a
     match name {
         "queue" => queue_asked(given),
         "deliver" => deliver_asked(given),
+        "cancel" => cancel_asked(given),
         "ledger" => ledger_asked(given),
         _ => Err(NoTask::Usage),
     }
@@ -108,6 +109,19 @@ fn deliver_asked<'a>(given: &ArgMatches<'a>) -> Result<TillTask<'a>, NoTask>
     }
 }
 
+// The task of `cancel` with the arguments that follow it.
+fn cancel_asked<'a>(given: &ArgMatches<'a>) -> Result<TillTask<'a>, NoTask>
+    ensures asks { IfOk result (AsksTillBy (codes "cancel") (rows_of (found_of given.now))) }
+    ensures ranges { IfOk result IsTillInRange }
+    ensures taken { (task : TillTask) → AsksTillBy (codes "cancel") (rows_of (found_of given.now)) task → IsTillInRange task
+        → result ≡ Ok task }
+    ensures usage { IfErr result (λ why. why ≡ NoTask.Usage) }
+{
+    let ledger = ledger_path(given)?;
+    let number = receipt_number_of(given)?;
+    Ok(TillTask::Cancel { ledger, number })
+}
+
 // The task of `ledger` with the arguments that follow it.
 fn ledger_asked<'a>(given: &ArgMatches<'a>) -> Result<TillTask<'a>, NoTask>
     ensures asks { IfOk result (AsksTillBy (codes "ledger") (rows_of (found_of given.now))) }
@@ -150,6 +164,21 @@ fn copy_given<'a>(given: &ArgMatches<'a>) -> Result<Option<CopyText<'a>>, NoTask
     }
 }
 
+// The number of the receipt, if a receipt may have it.
+fn receipt_number_of(given: &ArgMatches) -> Result<ReceiptNumber, NoTask>
+    ensures read { IfOk result (λ number. IsSomeAnd (one_of (codes "number") (rows_of (found_of given.now))) (λ text. IsNumber text number)) }
+    ensures range { IfOk result (λ number. 0 < number) }
+    ensures taken { (number : ℕ) → IsSomeAnd (one_of (codes "number") (rows_of (found_of given.now))) (λ text. IsNumber text number) → 0 < number
+        → result ≡ Ok number }
+    ensures usage { IfErr result (λ why. why ≡ NoTask.Usage) }
+{
+    let number = number_given(given, "number")?.ok_or(NoTask::Usage)?;
+    match ReceiptNumber::new(number as usize) {
+        Some(number) => Ok(number),
+        None => Err(NoTask::Usage),
+    }
+}
+
 // The number that the next mark number is raised to, if it is given, and a mark may have it.
 fn first_given(given: &ArgMatches) -> Result<Option<u32>, NoTask>
     ensures read { IfOk result (IsNumberIn (one_of (codes "first") (rows_of (found_of given.now)))) }
@@ -187,6 +216,7 @@ fn till_command<'a>(alloc: Global) -> Result<Command<'a>, AllocError>
 {
     let queue = queue_command(alloc)?;
     let deliver = deliver_command(alloc)?;
+    let cancel = cancel_command(alloc)?;
     let ledger = ledger_command(alloc)?;
     let command = Command::new(alloc, "escpos_cli")
         .no_binary_name(true)
@@ -194,6 +224,7 @@ fn till_command<'a>(alloc: Global) -> Result<Command<'a>, AllocError>
         .subcommand_required(true)
         .subcommand(queue)?
         .subcommand(deliver)?
+        .subcommand(cancel)?
         .subcommand(ledger)?;
     Ok(command)
 }
@@ -222,6 +253,16 @@ fn deliver_command<'a>(alloc: Global) -> Result<Command<'a>, AllocError>
     Ok(command)
 }
 
+// The subcommand `cancel` with its arguments.
+fn cancel_command<'a>(alloc: Global) -> Result<Command<'a>, AllocError>
+    ensures shape { IfOk result (λ command. (app_of command).top ≡ cancel_words) }
+{
+    let command = Command::new(alloc, "cancel")
+        .arg(ledger_argument(alloc))?
+        .arg(number_argument(alloc))?;
+    Ok(command)
+}
+
 // The subcommand `ledger` with its arguments.
 fn ledger_command<'a>(alloc: Global) -> Result<Command<'a>, AllocError>
     ensures shape { IfOk result (λ command. (app_of command).top ≡ ledger_words) }
@@ -238,6 +279,16 @@ fn ledger_argument<'a>(alloc: Global) -> Arg<'a>
     ensures local { result.global ≡ false }
 {
     Arg::new(alloc, "ledger")
+        .required(true)
+        .action(ArgAction::Set)
+}
+
+// The number of a receipt: a required argument without a name of its own before it.
+fn number_argument<'a>(alloc: Global) -> Arg<'a>
+    ensures rule { rule_of result ≡ number_rule }
+    ensures local { result.global ≡ false }
+{
+    Arg::new(alloc, "number")
         .required(true)
         .action(ArgAction::Set)
 }

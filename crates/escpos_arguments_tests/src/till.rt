@@ -63,7 +63,7 @@ fn deliveries_that_wait(rt: HostRuntime) {
     }
 }
 
-const ASKED: [(&'static [&'static str], Result<Plain<'static>, NoTask>); 13] = [
+const ASKED: [(&'static [&'static str], Result<Plain<'static>, NoTask>); 19] = [
     (&["queue", "till"], Ok(Plain::Queue("till", 512, None))),
     (
         &["queue", "a/till.db"],
@@ -85,6 +85,13 @@ const ASKED: [(&'static [&'static str], Result<Plain<'static>, NoTask>); 13] = [
         &["queue", "--replace", " ", "till"],
         Ok(Plain::Queue("till", 512, Some(' '))),
     ),
+    (&["cancel", "till", "1"], Ok(Plain::Cancel("till", 1))),
+    (&["cancel", "2", "3"], Ok(Plain::Cancel("2", 3))),
+    (&["cancel", "till", "+007"], Ok(Plain::Cancel("till", 7))),
+    (
+        &["cancel", "till", "4294967295"],
+        Ok(Plain::Cancel("till", 4_294_967_295)),
+    ),
     (&["ledger", "till"], Ok(Plain::List("till", None))),
     (
         &["ledger", "till", "--first", "0"],
@@ -96,12 +103,14 @@ const ASKED: [(&'static [&'static str], Result<Plain<'static>, NoTask>); 13] = [
     ),
     (&["queue", "--help"], Err(NoTask::Help)),
     (&["deliver", "-h"], Err(NoTask::Help)),
+    (&["cancel", "--help"], Err(NoTask::Help)),
+    (&["cancel", "till", "1", "-h"], Err(NoTask::Help)),
     (&["ledger", "till", "--help"], Err(NoTask::Help)),
     (&["--help"], Err(NoTask::Help)),
 ];
 
 // Words that ask for nothing.
-const USAGE: [&'static [&'static str]; 33] = [
+const USAGE: [&'static [&'static str]; 45] = [
     &[],
     &["check"],
     &["queue"],
@@ -131,6 +140,18 @@ const USAGE: [&'static [&'static str]; 33] = [
     &["deliver", "till", ADDRESS, "--wait", "3601"],
     &["deliver", "till", ADDRESS, "--wait", "1", "--wait", "1"],
     &["ledger", "till", "--wait", "1"],
+    &["cancel"],
+    &["cancel", "till"],
+    &["cancel", "till", ""],
+    &["cancel", "till", "0"],
+    &["cancel", "till", "-1"],
+    &["cancel", "till", "1.0"],
+    &["cancel", "till", "one"],
+    &["cancel", "till", "4294967296"],
+    &["cancel", "1", "till"],
+    &["cancel", "till", "1", "2"],
+    &["cancel", "till", "--number", "1"],
+    &["cancel", "till", "1", "--first", "1"],
     &["ledger"],
     &["ledger", "till", "--first", "1679616"],
     &["ledger", "till", "--first", "-1"],
@@ -149,10 +170,10 @@ fn words_of_a_till(rt: HostRuntime) {
 
 #[test]
 fn till_words(rt: HostRuntime) {
-    for word in ["queue", "deliver", "ledger"] {
+    for word in ["queue", "deliver", "cancel", "ledger"] {
         assert!(&rt; is_till_word(word));
     }
-    for word in ["", "check", "help", "Queue", "queue ", "ledge"] {
+    for word in ["", "check", "help", "Queue", "queue ", "cancelled", "ledge"] {
         assert!(&rt; !is_till_word(word));
     }
 }

@@ -3,3 +3,4 @@ pub mod LinkLines
 pub mod Outcomes
 pub mod Rounds
 pub mod Tasks
+mod RefusalLines

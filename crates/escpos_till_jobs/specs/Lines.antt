@@ -1,4 +1,4 @@
--- The lines that `queue`, `deliver` and `ledger` print, and the exit statuses that go with them.
+-- The lines that `queue`, `deliver`, `cancel` and `ledger` print, and the exit statuses that go with them.
 use Rattle.std.specs.Prelude.{ℕ, ◌==◌, if◌then◌else◌, ◌+◌, List, [], ◌∷◌, ◌++◌, codes, decimal}
 use Rattle.escpos_command.specs.declared.bytes.TheConstants.{LF}
 use Rattle.escpos_host.specs.Refusals.{fault_name}
@@ -51,6 +51,11 @@ queued_line = number_line (codes "queued ")
 abbrev pub recorded_line : ℕ → List ℕ
 recorded_line = number_line (codes "recorded ")
 
+-- The receipt was tried so often before it was cancelled.
+abbrev pub cancelled_line : ℕ → ℕ → List ℕ
+cancelled_line number tried =
+    if tried == 0 then number_line (codes "cancelled ") number else codes "cancelled " ++ decimal number ++ codes " tried " ++ decimal tried ++ LF ∷ []
+
 abbrev pub waiting_line : ℕ → List ℕ → List ℕ
 waiting_line number why = codes "waiting " ++ decimal number ++ codes " " ++ why ++ LF ∷ []
 
@@ -64,6 +69,9 @@ refusal_text (refusal.NoReceipt number why) = waiting_line number (json_name why
 refusal_text (refusal.MarksUsedUp number) = waiting_line number (codes "MarksUsedUp")
 refusal_text (refusal.MarkReused next) = number_line (codes "refused MarkReused ") next
 refusal_text (refusal.MarkTooHigh last) = number_line (codes "refused MarkTooHigh ") last
+refusal_text (refusal.NotTaken number) = number_line (codes "refused NotTaken ") number
+refusal_text (refusal.Recorded number) = number_line (codes "refused Recorded ") number
+refusal_text (refusal.Cancelled number) = number_line (codes "refused Cancelled ") number
 
 abbrev pub refusal_status : TillRefusal → Status
 refusal_status refusal.Busy = Device
@@ -74,11 +82,15 @@ refusal_status (refusal.NoReceipt number why) = Refused
 refusal_status (refusal.MarksUsedUp number) = Refused
 refusal_status (refusal.MarkReused next) = Refused
 refusal_status (refusal.MarkTooHigh last) = Refused
+refusal_status (refusal.NotTaken number) = Refused
+refusal_status (refusal.Recorded number) = Refused
+refusal_status (refusal.Cancelled number) = Refused
 
 -- What a machine's owner is told. That the next mark number is raised gives no line.
 abbrev pub note_line : TillNote → List ℕ
 note_line (note.Queued number) = queued_line number
 note_line note.Raised = []
+note_line (note.Cancelled number tried) = cancelled_line number tried
 note_line (note.Recorded number) = recorded_line number
 note_line (note.NoLink number) = waiting_line number (codes "no link")
 note_line (note.Waiting number why) = if is_memory_fault why then memory_line else waiting_line number (fault_name why)
@@ -88,6 +100,7 @@ note_line (note.NotKept store.Failed) = failed_line
 abbrev pub note_status : TillNote → Status
 note_status (note.Queued number) = Good
 note_status note.Raised = Good
+note_status (note.Cancelled number tried) = Good
 note_status (note.Recorded number) = Good
 note_status (note.NoLink number) = Device
 note_status (note.Waiting number why) = status_of_fault why
@@ -110,6 +123,7 @@ outcome_status outcome.GivenUp = Device
 abbrev pub state_text : ReceiptState → List ℕ
 state_text (state.Waiting tried) = if tried == 0 then codes " waiting\n" else codes " tried " ++ decimal tried ++ LF ∷ []
 state_text (state.Recorded place) = codes " recorded " ++ decimal place ++ LF ∷ []
+state_text (state.Cancelled tried) = if tried == 0 then codes " cancelled\n" else codes " cancelled tried " ++ decimal tried ++ LF ∷ []
 
 abbrev pub state_line : ℕ → ReceiptState → List ℕ
 state_line number s = decimal number ++ state_text s

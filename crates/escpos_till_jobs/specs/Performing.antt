@@ -60,6 +60,9 @@ abbrev pub DeliversAt : {F S P L : Type 0} → Place F S → Way P L → (L → 
 DeliversAt {F} {S} {P} {L} p by did wait ledgers lines before after lines_after end status path delivery =
     (line new : L) × (mid : P) × by.made lines delivery.address wait line mid × InLedger p did path (word.Deliver delivery) ledgers line before after new end status × by.ended mid new lines_after
 
+abbrev pub CancelsAt : {F S L : Type 0} → Place F S → (L → Deed → L → Type 0) → F → Output → F → Output → Status → List ℕ → ℕ → Type 0
+CancelsAt {F} {S} {L} p did ledgers before after end status path number = (line new : L) × InLedger p did path (word.Cancel number) ledgers line before after new end status
+
 abbrev pub ListsAt : {F S L : Type 0} → Place F S → (L → Deed → L → Type 0) → F → Output → F → Output → Status → List ℕ → Option ℕ → Type 0
 ListsAt {F} {S} {L} p did ledgers before after end status path first = (line new : L) × InLedger p did path (word.List first) ledgers line before after new end status
 
@@ -77,6 +80,10 @@ OfDeliver Holds t = Unit {0}
 abbrev pub OfDeliverWithin : (List ℕ → Delivery → ℕ → Type 0) → TillTask → Type 0
 OfDeliverWithin Holds (task.DeliverWithin path delivery wait) = Holds path delivery wait
 OfDeliverWithin Holds t = Unit {0}
+
+abbrev pub OfCancel : (List ℕ → ℕ → Type 0) → TillTask → Type 0
+OfCancel Holds (task.Cancel path number) = Holds path number
+OfCancel Holds t = Unit {0}
 
 abbrev pub OfList : (List ℕ → Option ℕ → Type 0) → TillTask → Type 0
 OfList Holds (task.List path first) = Holds path first

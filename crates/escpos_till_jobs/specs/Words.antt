@@ -1,5 +1,5 @@
 -- What a word does with a store, and with a ledger at a path.
-use Rattle.std.specs.Prelude.{ℕ, ◌≡◌, ◌≢◌, ◌⊎◌, List, Result, Ok, Err}
+use Rattle.std.specs.Prelude.{ℕ, ◌≡◌, ◌≢◌, ◌⊎◌, List, [], Result, Ok, Err}
 use Rattle.escpos_jobs.specs.declared.status.Status.{Status}
 use Rattle.escpos_jobs.specs.Ending.{Tells}
 use Rattle.escpos_till.specs.declared.entry.Entry.{Entry}
@@ -8,9 +8,9 @@ use Rattle.escpos_till.specs.declared.store.NoStore.TheVariants as none
 use Rattle.escpos_till.specs.declared.store.StoreFault.{StoreFault}
 use Rattle.escpos_till.specs.declared.store.StoreFault.TheVariants as store
 use Rattle.escpos_till.specs.declared.surroundings.Surroundings.{Surroundings}
-use Rattle.escpos_till.specs.Driver.{Deed, Queue}
+use Rattle.escpos_till.specs.Driver.{Cancel, Deed, Queue}
 use Rattle.escpos_till.specs.Entries.{IsLedger}
-use Rattle.escpos_till.specs.Machine.{MachineView, RefusesAny}
+use Rattle.escpos_till.specs.Machine.{MachineView, RefusesAny, RefusesCancel}
 use Rattle.escpos_till.specs.Surroundings.{Did}
 use Rattle.escpos_till_jobs.specs.declared.word.Word.{Word}
 use Rattle.escpos_till_jobs.specs.declared.word.Word.TheVariants as word
@@ -22,10 +22,11 @@ use Rattle.escpos_till_jobs.specs.Outputs.{Output, ended}
 
 -- ## With a machine
 
--- A receipt is taken, the receipts that wait are delivered, or all are listed.
+-- A receipt is taken, the receipts that wait are delivered, one is cancelled, or all are listed.
 abbrev pub WordDoes : {D : Type 0} → (D → Deed → D → Type 0) → Word → MachineView → D → Output → MachineView → D → Output → Status → Type 0
 WordDoes did (word.Queue content) m old before after new end status = BecomesAndTells did (RefusesAny m) m old (Queue content) after new (ended before end status)
 WordDoes did (word.Deliver delivery) m old before after new end status = DeliversAndTells did delivery m old before after new end status
+WordDoes did (word.Cancel number) m old before after new end status = BecomesAndTells did (RefusesCancel m number) m old (Cancel number) after new (ended before end status)
 WordDoes did (word.List first) m old before after new end status = RaisesAndLists did m old first after new (ended before end status)
 
 -- ## With a store
@@ -34,15 +35,15 @@ abbrev pub around : {S L : Type 0} → S → L → Surroundings S L
 around store line = record { store = store; line = line }
 
 -- There is no ledger for this reason, and the store has what it had.
-pub record NoLedgerIn {S : Type 0} (faithful : S → Type 0) (holds leaves : S → List Entry → Type 0) (says : S → StoreFault → Type 0) (old : S) (why : NoStore) (new : S) : Type 0 where
+pub record NoLedgerIn {S : Type 0} (faithful : S → Type 0) (holds leaves : S → List Entry → Type 0) (says : S → List Entry → StoreFault → S → Type 0) (old : S) (why : NoStore) (new : S) : Type 0 where
   pub was_faithful : faithful new → faithful old
   pub no_ledger : why ≡ none.NoLedger → faithful new → (entries : List Entry) → holds old entries → ¬ IsLedger entries
-  pub failed : why ≡ none.Failed → says new store.Failed
+  pub failed : why ≡ none.Failed → says old [] store.Failed new
   pub keeps : faithful new → (entries left : List Entry) → holds old entries → leaves new left → left ≡ entries
   pub never_in_use : why ≢ none.InUse
 
 -- The ledger is opened, and then the word is done with its machine and what surrounds it; or there is none, the line says why, and nothing is done over the line.
-abbrev pub DoesWith : {S L : Type 0} → (S → Type 0) → (S → List Entry → Type 0) → (S → List Entry → Type 0) → (S → StoreFault → Type 0) → (L → Deed → L → Type 0) → Word
+abbrev pub DoesWith : {S L : Type 0} → (S → Type 0) → (S → List Entry → Type 0) → (S → List Entry → Type 0) → (S → List Entry → StoreFault → S → Type 0) → (L → Deed → L → Type 0) → Word
     → Surroundings S L → Output → Surroundings S L → Output → Status → Type 0
 DoesWith {S} faithful holds leaves says did w old before new end status =
     ((why : NoStore) × NoLedgerIn faithful holds leaves says old.store why new.store × (new.line ≡ old.line) × Tells (ended before end status) (no_store_line why) (no_store_status why))
@@ -58,9 +59,9 @@ pub record Place (F S : Type 0) : Type 1 where
   pub faithful : S → Type 0
   pub holds : S → List Entry → Type 0
   pub leaves : S → List Entry → Type 0
-  pub says : S → StoreFault → Type 0
+  pub says : S → List Entry → StoreFault → S → Type 0
 
-abbrev pub place : {F S : Type 0} → (F → List ℕ → Result S NoStore → F → Type 0) → (F → S → F → Type 0) → (S → Type 0) → (S → List Entry → Type 0) → (S → List Entry → Type 0) → (S → StoreFault → Type 0) → Place F S
+abbrev pub place : {F S : Type 0} → (F → List ℕ → Result S NoStore → F → Type 0) → (F → S → F → Type 0) → (S → Type 0) → (S → List Entry → Type 0) → (S → List Entry → Type 0) → (S → List Entry → StoreFault → S → Type 0) → Place F S
 place opened closed faithful holds leaves says = record { opened = opened; closed = closed; faithful = faithful; holds = holds; leaves = leaves; says = says }
 
 -- The store at the path is opened, the word is done with it, and it is closed; or there is none, and the line says why. No other is opened or closed.

@@ -1,11 +1,12 @@
-//! What the words `queue`, `deliver` and `ledger` do with a till's ledger, over any store, line, source and sink.
+//! What the words `queue`, `deliver`, `cancel` and `ledger` do with a till's ledger, over any store, line, source and sink.
 //!
 //! Each makes calls of a till's machine, has the driver of escpos_till do what it asks for, and prints what came of that.
 //! `opening` makes the machine of a store's ledger, or says why there is none. `queue` takes a receipt, `deliver` sends those that
-//! wait, and `listing` lists where each stands. `outcome` has the lines, `link_line` the line to a printer, and `lines` makes it. `word` does one
+//! wait, `cancel` takes one back that waits, and `listing` lists where each stands. `outcome` has the lines, `link_line` the line to a printer, and `lines` makes it. `word` does one
 //! of these words with a store, `perform` with the ledger at a path, and `task` has what may be asked for. A ledger's file is left to the program.
 #![tactic(auto)]
 
+mod cancel;
 mod deliver;
 pub mod laws;
 mod lines;
@@ -18,6 +19,7 @@ mod queue;
 mod task;
 mod word;
 
+pub use cancel::cancel_receipt;
 pub use deliver::{Delivery, deliver_waiting};
 pub use lines::{Lines, NetworkLine, NetworkLines};
 pub use link_line::{AtAddress, Dial, Link, LinkLine, NoLine};

@@ -144,7 +144,7 @@ fn put_state<W: ByteOut>(
 
 // Appends where a receipt stands, and the end of the line.
 fn append_state(gather: &mut Gather, state: ReceiptState)
-    requires { length gather.old.kept + 31 ≤ GATHERED_BYTES }
+    requires { length gather.old.kept + 38 ≤ GATHERED_BYTES }
     ensures kept { gather.new.kept ≡ gather.old.kept ++ state_text state }
     ensures same_count { gather.new.written ≡ gather.old.written }
 {
@@ -152,13 +152,17 @@ fn append_state(gather: &mut Gather, state: ReceiptState)
         ReceiptState::Waiting { tried } if tried == 0 => gather.extend(b" waiting\n"),
         ReceiptState::Waiting { tried } => append_with_number(gather, b" tried ", tried),
         ReceiptState::Recorded { place } => append_with_number(gather, b" recorded ", place),
+        ReceiptState::Cancelled { tried } if tried == 0 => gather.extend(b" cancelled\n"),
+        ReceiptState::Cancelled { tried } => {
+            append_with_number(gather, b" cancelled tried ", tried)
+        }
     }
 }
 
 // Appends a word, a number and the end of the line.
 fn append_with_number(gather: &mut Gather, word: &[u8], number: usize)
-    requires short { length word.now ≤ 10 }
-    requires room { length gather.old.kept + 31 ≤ GATHERED_BYTES }
+    requires short { length word.now ≤ 17 }
+    requires room { length gather.old.kept + 38 ≤ GATHERED_BYTES }
     ensures kept { gather.new.kept ≡ gather.old.kept ++ word.now ++ decimal number ++ LF ∷ [] }
     ensures same_count { gather.new.written ≡ gather.old.written }
 {

@@ -1,6 +1,6 @@
 //! Opening a ledger, and what is printed if there is none.
 
-ghost use Rattle.std.specs.Prelude.{◌≡◌, ◌≢◌, Err, List, IfErr, IfOk, OnErr, IsErrOf, IsTrue};
+ghost use Rattle.std.specs.Prelude.{◌≡◌, ◌≢◌, Err, List, [], IfErr, IfOk, OnErr, IsErrOf, IsTrue};
 ghost use Rattle.escpos_jobs.specs.Ending.{Tells, job_end};
 ghost use Rattle.escpos_till.specs.declared.entry.Entry.{Entry};
 ghost use Rattle.escpos_till.specs.Entries.{IsLedger};
@@ -22,7 +22,7 @@ pub fn open_machine<S: Store>(alloc: Global, store: &mut S) -> Result<TillMachin
     ensures opens { IfOk result (λ machine. Opens S.faithful S.holds store.old machine store.new) }
     ensures was_faithful { S.faithful store.new → S.faithful store.old }
     ensures no_ledger { IsErrOf result NoStore.NoLedger → S.faithful store.new → (entries : List Entry) → S.holds store.old entries → ¬ IsLedger entries }
-    ensures failed { IsErrOf result NoStore.Failed → S.says store.new StoreFault.Failed }
+    ensures failed { IsErrOf result NoStore.Failed → S.says store.old [] StoreFault.Failed store.new }
     ensures left { OnErr result (S.faithful store.new → (entries left : List Entry) → S.holds store.old entries → S.leaves store.new left → left ≡ entries) }
     ensures never_in_use { IfErr result (λ why. why ≢ NoStore.InUse) }
 {

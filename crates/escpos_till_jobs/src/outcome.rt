@@ -6,7 +6,7 @@ ghost use Rattle.escpos_jobs.specs.Ending.{Tells, job_end};
 ghost use Rattle.escpos_till.specs.Driver.{RanFor, RanTo};
 ghost use Rattle.escpos_till.specs.Machine.{Rests};
 ghost use Rattle.escpos_till.specs.Surroundings.{Did};
-ghost use Rattle.escpos_till_jobs.specs.Lines.{note_line, note_status, number_line, outcome_line, outcome_status, recorded_line, refusal_status, refusal_text, waiting_line};
+ghost use Rattle.escpos_till_jobs.specs.Lines.{cancelled_line, note_line, note_status, number_line, outcome_line, outcome_status, recorded_line, refusal_status, refusal_text, waiting_line};
 ghost use Rattle.escpos_till_jobs.specs.Outcomes.{Follows, NoteEnds};
 
 use escpos_command::LF;
@@ -96,6 +96,15 @@ fn tell_refusal<W: ByteOut>(why: TillRefusal, output: &mut W) -> Status
             Status::Refused,
             output,
         ),
+        TillRefusal::NotTaken(number) => {
+            tell_number(b"refused NotTaken ", number.get(), Status::Refused, output)
+        }
+        TillRefusal::Recorded(number) => {
+            tell_number(b"refused Recorded ", number.get(), Status::Refused, output)
+        }
+        TillRefusal::Cancelled(number) => {
+            tell_number(b"refused Cancelled ", number.get(), Status::Refused, output)
+        }
     }
 }
 
@@ -108,12 +117,36 @@ fn tell_note<W: ByteOut>(note: TillNote, output: &mut W) -> Status
     match note {
         TillNote::Queued(number) => tell_number(b"queued ", number.get(), Status::Good, output),
         TillNote::Raised => tell_text(b"", output, Status::Good),
+        TillNote::Cancelled { number, tried } => tell_cancelled(number.get(), tried, output),
         TillNote::Recorded(number) => {
             tell_number(b"recorded ", number.get(), Status::Good, output)
         }
         TillNote::NoLink(number) => tell_waiting(number.get(), b"no link", Status::Device, output),
         TillNote::Waiting { number, why } => tell_fault(number.get(), why, output),
         TillNote::NotKept(fault) => tell_not_kept(fault, output),
+    }
+}
+
+// Prints that a receipt is cancelled, and how often it was tried before.
+fn tell_cancelled<W: ByteOut>(number: usize, tried: usize, output: &mut W) -> Status
+    ensures tells { Tells (job_end (W.written output.old) (W.written output.new) (W.failed output.new) result) (cancelled_line number tried) Status.Good }
+    ensures not_hidden { result ≢ Status.Device → ¬ IsTrue (W.failed output.old) → ¬ IsTrue (W.failed output.new) }
+    ensures never_usage { result ≢ Status.Usage }
+{
+    if tried == 0 {
+        return tell_number(b"cancelled ", number, Status::Good, output);
+    }
+    // Proof only: appended bytes count as given.
+    laws::given_in_place();
+    let mut gather = Gather::new();
+    gather.extend(b"cancelled ");
+    append_number(&mut gather, number);
+    gather.extend(b" tried ");
+    append_number(&mut gather, tried);
+    gather.push(LF);
+    match gather.flush(output) {
+        Ok(()) => Status::Good,
+        Err(_) => Status::Device,
     }
 }
 

@@ -6,7 +6,7 @@ ghost use Rattle.std.specs.Prelude.{◌≡◌, ◌≢◌, ◌+◌, ◌≤◌, �
 ghost use Rattle.escpos_jobs.specs.declared.input.TheConstants.{INPUT_LIMIT};
 ghost use Rattle.escpos_till.specs.declared.store.NoStore.{NoStore as WhyNone};
 ghost use Rattle.escpos_till_jobs.specs.Outputs.{output_of};
-ghost use Rattle.escpos_till_jobs.specs.Performing.{DeliversAt, ListsAt, OfDeliver, OfDeliverWithin, OfList, OfQueue, QueuesAt, UnlessDeliver, UnlessQueue, way};
+ghost use Rattle.escpos_till_jobs.specs.Performing.{CancelsAt, DeliversAt, ListsAt, OfCancel, OfDeliver, OfDeliverWithin, OfList, OfQueue, QueuesAt, UnlessDeliver, UnlessQueue, way};
 ghost use Rattle.escpos_till_jobs.specs.Words.{InLedger, place};
 
 use crate::deliver::Delivery;
@@ -64,6 +64,8 @@ pub fn perform_till<
         ledgers.old lines.old (output_of (W.written output.old) (W.failed output.old)) ledgers.new lines.new (output_of (W.written output.new) (W.failed output.new)) result) task.entry }
     ensures deliver_within { OfDeliverWithin (λ path delivery wait. DeliversAt (place F.opened F.closed S.faithful S.holds S.leaves S.says) (way P.made P.ended) L.did (Some wait)
         ledgers.old lines.old (output_of (W.written output.old) (W.failed output.old)) ledgers.new lines.new (output_of (W.written output.new) (W.failed output.new)) result path delivery) task.entry }
+    ensures cancel { OfCancel (CancelsAt (place F.opened F.closed S.faithful S.holds S.leaves S.says) ⟦<NoLine as PrinterLine>⟧.did
+        ledgers.old (output_of (W.written output.old) (W.failed output.old)) ledgers.new (output_of (W.written output.new) (W.failed output.new)) result) task.entry }
     ensures list { OfList (ListsAt (place F.opened F.closed S.faithful S.holds S.leaves S.says) ⟦<NoLine as PrinterLine>⟧.did
         ledgers.old (output_of (W.written output.old) (W.failed output.old)) ledgers.new (output_of (W.written output.new) (W.failed output.new)) result) task.entry }
     ensures no_line { UnlessDeliver (lines.new ≡ lines.old) task.entry }
@@ -96,6 +98,17 @@ pub fn perform_till<
             delivery,
             wait,
         } => deliver_at(alloc, ledgers, lines, &ledger, delivery, Some(wait), output),
+        TillTask::Cancel { ledger, number } => {
+            do_at(
+                alloc,
+                ledgers,
+                &ledger,
+                NoLine,
+                Word::Cancel(number),
+                output,
+            )
+            .1
+        }
         TillTask::List { ledger, first } => {
             do_at(alloc, ledgers, &ledger, NoLine, Word::List(first), output).1
         }

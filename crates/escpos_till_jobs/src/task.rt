@@ -4,6 +4,7 @@ ghost use Rattle.std.specs.Prelude.{◌≡◌};
 
 use crate::deliver::Delivery;
 use escpos_receipt::ReceiptOptions;
+use escpos_till::ReceiptNumber;
 use std::marker::Model;
 
 /// The path of a ledger's file. The model is the list of its bytes.
@@ -54,6 +55,11 @@ pub enum TillTask<'a> {
         ledger: LedgerPath<'a>,
         delivery: Delivery<'a>,
         wait: u32,
+    },
+    /// Cancel the receipt of this ledger that has this number.
+    Cancel {
+        ledger: LedgerPath<'a>,
+        number: ReceiptNumber,
     },
     /// List where the receipts of this ledger stand, once its next mark number was raised to `first`, if that is given.
     List {

@@ -5,13 +5,14 @@ ghost use Rattle.escpos_till.specs.Surroundings.{Did};
 ghost use Rattle.escpos_till_jobs.specs.Outputs.{output_of};
 ghost use Rattle.escpos_till_jobs.specs.Words.{DoesWith, WordDoes};
 
+use crate::cancel::cancel_receipt;
 use crate::deliver::{Delivery, deliver_waiting};
 use crate::listing::list;
 use crate::opening::{open_machine, refuse_store};
 use crate::queue::queue_receipt;
 use escpos_io::ByteOut;
 use escpos_jobs::status::Status;
-use escpos_till::{PrinterLine, ReceiptContent, Store, Surroundings, TillMachine};
+use escpos_till::{PrinterLine, ReceiptContent, ReceiptNumber, Store, Surroundings, TillMachine};
 use std::alloc::Global;
 
 /// What is done with a ledger.
@@ -21,6 +22,8 @@ pub enum Word<'a> {
     Queue(ReceiptContent),
     /// The receipts that wait are delivered, as by `deliver_waiting`.
     Deliver(Delivery<'a>),
+    /// The receipt with this number is cancelled, as by `cancel_receipt`.
+    Cancel(ReceiptNumber),
     /// It is listed where the receipts stand, as by `list`; first the next mark number is raised to this one, if one is given.
     List(Option<u32>),
 }
@@ -40,6 +43,7 @@ pub fn do_word<S: Store, L: PrinterLine, W: ByteOut>(
     match word {
         Word::Queue(content) => queue_receipt(machine, around, content, output),
         Word::Deliver(delivery) => deliver_waiting(machine, around, &delivery, output),
+        Word::Cancel(number) => cancel_receipt(machine, around, number, output),
         Word::List(first) => list(machine, around, first, output),
     }
 }

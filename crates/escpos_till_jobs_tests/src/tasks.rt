@@ -1,20 +1,14 @@
 //! What a till asks for, done with a ledger at a path: it is opened and closed again.
 
-use crate::support::tills::{Nobody, OneLedger, S, printer_address, store_of};
+use crate::support::tills::{
+    Nobody, OneLedger, S, Told, delivery_to, is_told, number, printer_address, store_of,
+};
 use escpos_io::{MemoryIn, MemoryOut};
 use escpos_jobs::status::Status;
 use escpos_receipt::ReceiptOptions;
-use escpos_till_jobs::{Delivery, LedgerPath, NetworkLines, TillTask, perform_till};
+use escpos_till_jobs::{LedgerPath, NetworkLines, TillTask, perform_till};
 use std::alloc::Global;
 use std::process::Abort;
-
-// What is printed, and the status.
-type Told = (&'static str, Status);
-
-fn is_told(rt: &impl Abort, (put, status): (&[u8], Status), wanted: Told) {
-    assert!(rt; put == wanted.0.as_bytes());
-    assert!(rt; status == wanted.1);
-}
 
 // What is asked of a ledger, and the input. Nobody is reached.
 fn performs(
@@ -62,24 +56,25 @@ fn lists(rt: &impl Abort, alloc: Global, ledger: &mut OneLedger, path: &str, wan
     performs(rt, alloc, ledger, (task, b""), wanted);
 }
 
-fn delivery() -> Delivery<'static> {
-    Delivery {
-        address: printer_address().into(),
-        openings: 1,
-        copy: None,
-    }
+// The first receipt of the ledger at a path is cancelled.
+fn cancels(rt: &impl Abort, alloc: Global, ledger: &mut OneLedger, path: &str, wanted: Told) {
+    let task = TillTask::Cancel {
+        ledger: LedgerPath::new(path),
+        number: number(rt, 1),
+    };
+    performs(rt, alloc, ledger, (task, b""), wanted);
 }
 
 // The receipts that wait in the ledger at a path are delivered, with a wait and without.
 fn delivers(rt: &impl Abort, alloc: Global, ledger: &mut OneLedger, path: &str, wanted: Told) {
     let task = TillTask::Deliver {
         ledger: LedgerPath::new(path),
-        delivery: delivery(),
+        delivery: delivery_to(printer_address()),
     };
     performs(rt, alloc, ledger, (task, b""), wanted);
     let task = TillTask::DeliverWithin {
         ledger: LedgerPath::new(path),
-        delivery: delivery(),
+        delivery: delivery_to(printer_address()),
         wait: 1,
     };
     performs(rt, alloc, ledger, (task, b""), wanted);
@@ -103,10 +98,15 @@ fn taken_and_listed(rt: HostRuntime) {
     queues(&rt, rt.alloc(), &mut ledger, ("b", no_receipt), refused);
     queues(&rt, rt.alloc(), &mut ledger, ("b", S), NO_LEDGER);
     lists(&rt, rt.alloc(), &mut ledger, "b", NO_LEDGER);
+    cancels(&rt, rt.alloc(), &mut ledger, "b", NO_LEDGER);
     delivers(&rt, rt.alloc(), &mut ledger, "b", NO_LEDGER);
     let no_link = ("waiting 1 no link\n", Status::Device);
     delivers(&rt, rt.alloc(), &mut ledger, "a", no_link);
     let listed = ("1 waiting\nnext 0\n", Status::Good);
+    lists(&rt, rt.alloc(), &mut ledger, "a", listed);
+    let cancelled = ("cancelled 1\n", Status::Good);
+    cancels(&rt, rt.alloc(), &mut ledger, "a", cancelled);
+    let listed = ("1 cancelled\nnext 0\n", Status::Good);
     lists(&rt, rt.alloc(), &mut ledger, "a", listed);
 }
 
@@ -119,5 +119,6 @@ fn in_use(rt: HostRuntime) {
     };
     queues(&rt, rt.alloc(), &mut ledger, ("a", S), IN_USE);
     lists(&rt, rt.alloc(), &mut ledger, "a", IN_USE);
+    cancels(&rt, rt.alloc(), &mut ledger, "a", IN_USE);
     delivers(&rt, rt.alloc(), &mut ledger, "a", IN_USE);
 }

@@ -3,7 +3,8 @@
 //! Each word opens the ledger of the store that it is given, as in the program, and gives the store back.
 
 use crate::support::tills::{
-    A, Plain, Prepared, S, answered_link, done_with, line_over, listens, printer_address, store_of,
+    A, FAILED, Plain, Prepared, S, Told, answered_link, delivery_to, done_with, is_told, line_over,
+    listens, number, printer_address, receipt, store_of,
 };
 use escpos_command::LineWidth;
 use escpos_io::{MemoryIn, MemoryOut};
@@ -12,26 +13,11 @@ use escpos_jobs::receipt_input::refuse_input;
 use escpos_jobs::status::Status;
 use escpos_receipt::ReceiptOptions;
 use escpos_text::Replacement;
-use escpos_till::{
-    CopyText, Entry, Failure, MemoryStore, NoStore, ReceiptContent, Surroundings, TillMachine,
-};
-use escpos_till_jobs::{
-    AtAddress, Delivery, LinkLine, NoLine, Word, deliver_waiting, list, open_machine,
-    queue_receipt, read_content, refuse_store,
-};
+use escpos_till::{CopyText, Entry, Failure, MemoryStore, NoStore};
+use escpos_till_jobs::{AtAddress, Delivery, LinkLine, NoLine, Word, read_content, refuse_store};
 use std::alloc::Global;
 use std::net::SocketAddrV4;
 use std::process::Abort;
-
-// What is printed, and the status.
-type Told = (&'static str, Status);
-
-const FAILED: Told = ("ledger failed\n", Status::Device);
-
-fn is_told(rt: &impl Abort, (put, status): (&[u8], Status), wanted: Told) {
-    assert!(rt; put == wanted.0.as_bytes());
-    assert!(rt; status == wanted.1);
-}
 
 fn new_store(alloc: Global) -> MemoryStore {
     MemoryStore::new(alloc, Vec::new(alloc), Failure::Never)
@@ -124,87 +110,77 @@ fn raised_and_listed(rt: HostRuntime) {
     }
 }
 
-// A machine over a store in memory, with no line.
-type Around = Surroundings<MemoryStore, NoLine>;
-
-fn receipt(rt: &impl Abort, alloc: Global) -> ReceiptContent {
-    match read_content(alloc, &ReceiptOptions::usual(), &mut MemoryIn::new(S, 7)) {
-        Ok(content) => content,
-        Err(_) => panic!(rt; "no receipt"),
-    }
-}
-
-fn machine_queues(
+// The receipt with this number is cancelled, or isn't.
+fn cancels(
     rt: &impl Abort,
     alloc: Global,
-    machine: &mut TillMachine,
-    around: &mut Around,
+    store: MemoryStore,
+    at: usize,
     wanted: Told,
-) {
+) -> MemoryStore {
     let mut room = [0; 64];
     let mut output = MemoryOut::new(&mut room);
-    let status = queue_receipt(machine, around, receipt(rt, alloc), &mut output);
+    let word = Word::Cancel(number(rt, at));
+    let (store, status) = done_with(alloc, (store, NoLine), word, &mut output);
     is_told(rt, (output.written(), status), wanted);
+    store
 }
 
-fn machine_lists(
-    rt: &impl Abort,
-    machine: &mut TillMachine,
-    around: &mut Around,
-    first: Option<u32>,
-    wanted: Told,
-) {
-    let mut room = [0; 64];
-    let mut output = MemoryOut::new(&mut room);
-    let status = list(machine, around, first, &mut output);
-    is_told(rt, (output.written(), status), wanted);
-}
+// The first is recorded, the second tried, the third waits, and the fourth was cancelled after it was tried. There is no fifth.
+const FOUR: [Plain; 9] = [
+    Plain::Taken,
+    Plain::Taken,
+    Plain::Tried(1, 2),
+    Plain::Recorded(1),
+    Plain::Tried(2, 4),
+    Plain::Taken,
+    Plain::Taken,
+    Plain::Tried(4, 6),
+    Plain::Cancelled(4),
+];
 
-fn machine_delivers(rt: &impl Abort, machine: &mut TillMachine, around: &mut Around, wanted: Told) {
-    let mut room = [0; 64];
-    let mut output = MemoryOut::new(&mut room);
-    let status = deliver_waiting(
-        machine,
-        around,
-        &delivery_to(printer_address()),
-        &mut output,
-    );
-    is_told(rt, (output.written(), status), wanted);
-}
+const CANCELS: [(usize, Told); 8] = [
+    (1, ("refused Recorded 1\n", Status::Refused)),
+    (2, ("cancelled 2 tried 1\n", Status::Good)),
+    (2, ("refused Cancelled 2\n", Status::Refused)),
+    (3, ("cancelled 3\n", Status::Good)),
+    (3, ("refused Cancelled 3\n", Status::Refused)),
+    (4, ("refused Cancelled 4\n", Status::Refused)),
+    (5, ("refused NotTaken 5\n", Status::Refused)),
+    (
+        18_446_744_073_709_551_615,
+        ("refused NotTaken 18446744073709551615\n", Status::Refused),
+    ),
+];
 
-// The store fails at the second receipt: so do the words after it, but for the list of what the machine knows.
-fn fails(rt: &impl Abort, alloc: Global, machine: &mut TillMachine, around: &mut Around) {
-    machine_queues(rt, alloc, machine, around, ("queued 1\n", Status::Good));
-    machine_queues(rt, alloc, machine, around, FAILED);
-    machine_queues(rt, alloc, machine, around, FAILED);
-    machine_lists(rt, machine, around, Some(9), FAILED);
-    machine_delivers(rt, machine, around, FAILED);
-    let known = ("1 waiting\nnext 0\n", Status::Good);
-    machine_lists(rt, machine, around, None, known);
+// Only a receipt that waits is cancelled; the next mark number is as it was.
+#[test]
+fn cancelled(rt: HostRuntime) {
+    let mut store = store_of(&rt, rt.alloc(), &FOUR);
+    for (at, told) in CANCELS {
+        store = cancels(&rt, rt.alloc(), store, at, told);
+    }
+    assert!(&rt; store.after_crash().len() == 11);
 }
 
 #[test]
-fn failed(rt: HostRuntime) {
-    let failure = Failure::BeforeKeeping { calls: 1 };
-    let mut store = MemoryStore::new(rt.alloc(), Vec::new(rt.alloc()), failure);
-    match open_machine(rt.alloc(), &mut store) {
-        Ok(machine) => {
-            let mut machine = machine;
-            let line = NoLine;
-            let mut around = Surroundings { store, line };
-            fails(&rt, rt.alloc(), &mut machine, &mut around);
-        }
-        Err(_) => panic!(&rt; "no ledger"),
-    }
-}
-
-// Each receipt is sent to this address, with one opening mark.
-fn delivery_to(address: SocketAddrV4) -> Delivery<'static> {
-    Delivery {
-        address: address.into(),
-        openings: 1,
-        copy: None,
-    }
+fn cancelled_and_listed(rt: HostRuntime) {
+    let cancelled = ("cancelled 1\n", Status::Good);
+    let store = store_of(&rt, rt.alloc(), &[Plain::Taken, Plain::Taken]);
+    let store = cancels(&rt, rt.alloc(), store, 1, cancelled);
+    let listed = ("1 cancelled\n2 waiting\nnext 0\n", Status::Good);
+    let _store = lists(&rt, rt.alloc(), store, None, listed);
+    let twice = [
+        Plain::Taken,
+        Plain::Tried(1, 2),
+        Plain::Tried(1, 4),
+        Plain::Taken,
+    ];
+    let cancelled = ("cancelled 1 tried 2\n", Status::Good);
+    let store = store_of(&rt, rt.alloc(), &twice);
+    let store = cancels(&rt, rt.alloc(), store, 1, cancelled);
+    let listed = ("1 cancelled tried 2\n2 waiting\nnext 4\n", Status::Good);
+    let _store = lists(&rt, rt.alloc(), store, None, listed);
 }
 
 fn delivers<N: Printers>(
@@ -326,6 +302,23 @@ fn sent_with_options(rt: HostRuntime) {
     let _store = delivers_over_memory(&rt, rt.alloc(), store, (answers, out), told);
 }
 
+// The first receipt is cancelled: the second is the one that is sent. Once none waits, nothing is.
+#[test]
+fn next_sent_after_a_cancel(rt: HostRuntime) {
+    let store = new_store(rt.alloc());
+    let store = queues(&rt, rt.alloc(), store, S, ("queued 1\n", Status::Good));
+    let store = queues(&rt, rt.alloc(), store, A, ("queued 2\n", Status::Good));
+    let store = cancels(&rt, rt.alloc(), store, 1, ("cancelled 1\n", Status::Good));
+    let out = b"\x1D(H\x06\x00000000\x1D(H\x06\x00000001\x1B@A\n\x1D(H\x06\x00000002";
+    let answers = b"\x37\x220000\x00\x37\x220001\x00\x37\x220002\x00";
+    let told = ("recorded 2\n", Status::Good);
+    let store = delivers_over_memory(&rt, rt.alloc(), store, (answers, out), told);
+    let none = (b"".as_slice(), b"".as_slice());
+    let store = delivers_over_memory(&rt, rt.alloc(), store, none, ("", Status::Good));
+    let listed = ("1 cancelled\n2 recorded 0\nnext 3\n", Status::Good);
+    let _store = lists(&rt, rt.alloc(), store, None, listed);
+}
+
 // However often a receipt was tried, it is sent once more.
 #[test]
 fn sent_after_twelve_tries(rt: HostRuntime) {
@@ -385,6 +378,7 @@ fn damaged(rt: HostRuntime) {
     let store = store_of(&rt, rt.alloc(), &[Plain::Recorded(1)]);
     let store = lists(&rt, rt.alloc(), store, None, no_ledger);
     let store = queues(&rt, rt.alloc(), store, S, no_ledger);
+    let store = cancels(&rt, rt.alloc(), store, 1, no_ledger);
     let nothing = (b"".as_slice(), b"".as_slice());
     let store = delivers_over_memory(&rt, rt.alloc(), store, nothing, no_ledger);
     assert!(&rt; store.after_crash().len() == 1);

@@ -16,12 +16,13 @@ pub fn asks_for(rt: &impl Abort, alloc: Global, words: &[&str], asked: Result<Ta
 
 // A task with its ledger's path: the dots of a line, and what is printed in place of a character that no code table has; the
 // printer's address, how many opening marks, and whether there is a text for copies, with how many seconds a wait may last, if
-// that is given; or the number that the next mark number is raised to.
+// that is given; the number of a receipt; or the number that the next mark number is raised to.
 #[derive(Clone, Copy, PartialEq)]
 pub enum Plain<'a> {
     Queue(&'a str, u16, Option<char>),
     Deliver(&'a str, Option<SocketAddrV4>, u32, bool),
     Within(&'a str, Option<SocketAddrV4>, u32, bool, u32),
+    Cancel(&'a str, usize),
     List(&'a str, Option<u32>),
 }
 
@@ -64,6 +65,7 @@ fn plain_of<'a>(task: TillTask<'a>) -> Plain<'a> {
             delivery.copy.is_some(),
             wait,
         ),
+        TillTask::Cancel { ledger, number } => Plain::Cancel(ledger.text(), number.get()),
         TillTask::List { ledger, first } => Plain::List(ledger.text(), first),
     }
 }

@@ -2,7 +2,9 @@
 //!
 //! A word that is refused memory prints `memory` and nothing else, and gives the store back; then the word is given again.
 
-use crate::support::tills::{Nobody, OneLedger, S, done_with, line_over, printer_address};
+use crate::support::tills::{
+    Nobody, OneLedger, S, delivery_to, done_with, line_over, number, printer_address,
+};
 use escpos_io::{ByteIn, MemoryIn, MemoryOut};
 use escpos_jobs::ending::MEMORY;
 use escpos_jobs::input::InputFault;
@@ -13,8 +15,7 @@ use escpos_till::{
     Entry, Failure, MemoryStore, NoStore, ReceiptContent, ReceiptState, TillMachine,
 };
 use escpos_till_jobs::{
-    Delivery, LedgerPath, NetworkLines, NoLine, TillTask, Word, open_machine, perform_till,
-    read_content,
+    LedgerPath, NetworkLines, NoLine, TillTask, Word, open_machine, perform_till, read_content,
 };
 use std::alloc::Global;
 use std::process::Abort;
@@ -137,12 +138,26 @@ fn list_refused(rt: HostRuntime) {
     stands(&rt, rt.alloc(), &mut store, waiting, 6);
 }
 
-fn delivery() -> Delivery<'static> {
-    Delivery {
-        address: printer_address().into(),
-        openings: 1,
-        copy: None,
+fn cancels(rt: &impl Abort, alloc: Global, store: MemoryStore) -> (MemoryStore, bool) {
+    let mut room = [0; 64];
+    let mut output = MemoryOut::new(&mut room);
+    let word = Word::Cancel(number(rt, 1));
+    let (store, status) = done_with(alloc, (store, NoLine), word, &mut output);
+    let is = is_told(rt, (output.written(), status), b"cancelled 1\n");
+    (store, is)
+}
+
+#[test]
+fn cancel_refused(rt: HostRuntime) {
+    let (cancelled, is) = cancels(&rt, rt.alloc(), queued_at_last(&rt, rt.alloc()));
+    let mut store = cancelled;
+    if !is {
+        let (cancelled, is) = cancels(&rt, rt.alloc(), store);
+        assert!(&rt; is);
+        store = cancelled;
     }
+    let cancelled = ReceiptState::Cancelled { tried: 0 };
+    stands(&rt, rt.alloc(), &mut store, cancelled, 5);
 }
 
 // Delivers the receipt over a link on which the ledger's next two marks are answered.
@@ -155,7 +170,8 @@ fn delivers(rt: &impl Abort, alloc: Global, store: MemoryStore) -> (MemoryStore,
     let (mut sent, mut room) = ([0; 100], [0; 64]);
     let mut output = MemoryOut::new(&mut room);
     let line = line_over(answers, &mut sent);
-    let (store, status) = done_with(alloc, (store, line), Word::Deliver(delivery()), &mut output);
+    let delivery = delivery_to(printer_address());
+    let (store, status) = done_with(alloc, (store, line), Word::Deliver(delivery), &mut output);
     let is = is_told(rt, (output.written(), status), b"recorded 1\n");
     (store, is)
 }
@@ -208,7 +224,7 @@ fn takes(rt: &impl Abort, alloc: Global, ledger: &mut OneLedger) -> bool {
 fn waits(rt: &impl Abort, alloc: Global, ledger: &mut OneLedger) -> bool {
     let task = TillTask::Deliver {
         ledger: LedgerPath::new("a"),
-        delivery: delivery(),
+        delivery: delivery_to(printer_address()),
     };
     performs(
         rt,

@@ -1,14 +1,18 @@
-//! Stores and ledgers in memory, links in memory and links of 127.0.0.1.
+//! Stores and ledgers in memory, links in memory and links of 127.0.0.1; what is asked of a till, and what it tells.
 
 ghost use Rattle.std.specs.Prelude.{◌≡◌};
 
 use escpos_io::{ByteOut, MemoryIn, MemoryOut};
 use escpos_jobs::printer_link::Printers;
 use escpos_jobs::status::Status;
+use escpos_receipt::ReceiptOptions;
 use escpos_till::{
-    Content, Entry, Failure, MemoryStore, NoStore, PrinterLine, ReceiptNumber, Surroundings,
+    Content, Entry, Failure, MemoryStore, NoStore, PrinterLine, ReceiptContent, ReceiptNumber,
+    Surroundings,
 };
-use escpos_till_jobs::{Dial, LedgerPath, Ledgers, Link, LinkLine, Word, do_with};
+use escpos_till_jobs::{
+    Delivery, Dial, LedgerPath, Ledgers, Link, LinkLine, Word, do_with, read_content,
+};
 use std::alloc::Global;
 use std::io;
 use std::io::Write;
@@ -20,16 +24,45 @@ pub const S: &[u8] = b"[{\"line\":\"Hi\"}]";
 
 pub const A: &[u8] = b"[{\"line\":\"A\"}]";
 
-// An entry of a ledger: S is taken; it is tried, and this is the next number; it is recorded; the next number is raised.
+// What is printed, and the status.
+pub type Told = (&'static str, Status);
+
+pub const FAILED: Told = ("ledger failed\n", Status::Device);
+
+pub fn is_told(rt: &impl Abort, (put, status): (&[u8], Status), wanted: Told) {
+    assert!(rt; put == wanted.0.as_bytes());
+    assert!(rt; status == wanted.1);
+}
+
+// S as it is read.
+pub fn receipt(rt: &impl Abort, alloc: Global) -> ReceiptContent {
+    match read_content(alloc, &ReceiptOptions::usual(), &mut MemoryIn::new(S, 7)) {
+        Ok(content) => content,
+        Err(_) => panic!(rt; "no receipt"),
+    }
+}
+
+// Each receipt is sent to this address, with one opening mark.
+pub fn delivery_to(address: SocketAddrV4) -> Delivery<'static> {
+    Delivery {
+        address: address.into(),
+        openings: 1,
+        copy: None,
+    }
+}
+
+// An entry of a ledger: S is taken; it is tried, and this is the next number; it is recorded; the next number is raised; it is
+// cancelled.
 #[derive(Clone, Copy)]
 pub enum Plain {
     Taken,
     Tried(usize, u32),
     Recorded(usize),
     Raised(u32),
+    Cancelled(usize),
 }
 
-fn number(rt: &impl Abort, number: usize) -> ReceiptNumber {
+pub fn number(rt: &impl Abort, number: usize) -> ReceiptNumber {
     ReceiptNumber::new(number).expect(rt, "a number")
 }
 
@@ -46,6 +79,9 @@ fn entry(rt: &impl Abort, alloc: Global, plain: Plain) -> Entry {
             number: number(rt, at),
         },
         Plain::Raised(next) => Entry::Raised { next },
+        Plain::Cancelled(at) => Entry::Cancelled {
+            number: number(rt, at),
+        },
     }
 }
 

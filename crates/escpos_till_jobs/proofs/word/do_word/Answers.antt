@@ -17,6 +17,12 @@ returns-in-Deliver-clause-does g c =
     (output_of (g.W.ByteOut.written c.args.output.now) (g.W.ByteOut.failed c.args.output.now)) c.deliver_waiting.new.machine c.deliver_waiting.new.around
     (output_of (g.W.ByteOut.written c.deliver_waiting.new.output) (g.W.ByteOut.failed c.deliver_waiting.new.output)) c.deliver_waiting.result) (sym c.in-Deliver.is) c.deliver_waiting.ensures.delivers
 
+pub returns-in-Cancel-clause-does : goal.returns-in-Cancel-clause-does
+returns-in-Cancel-clause-does g c =
+    subst (λ w. WordDoes (Did g.S.Store.faithful g.S.Store.holds g.S.Store.leaves g.S.Store.says g.L.PrinterLine.did) w c.args.machine.now c.args.around.now
+    (output_of (g.W.ByteOut.written c.args.output.now) (g.W.ByteOut.failed c.args.output.now)) c.cancel_receipt.new.machine c.cancel_receipt.new.around
+    (output_of (g.W.ByteOut.written c.cancel_receipt.new.output) (g.W.ByteOut.failed c.cancel_receipt.new.output)) c.cancel_receipt.result) (sym c.in-Cancel.is) c.cancel_receipt.ensures.cancels
+
 pub returns-in-List-clause-does : goal.returns-in-List-clause-does
 returns-in-List-clause-does g c =
     subst (λ w. WordDoes (Did g.S.Store.faithful g.S.Store.holds g.S.Store.leaves g.S.Store.says g.L.PrinterLine.did) w c.args.machine.now c.args.around.now
