@@ -50,6 +50,7 @@ int escpos_till_open(kolatennis_till *till, const uint8_t *lines, size_t len, ui
 void escpos_till_free(kolatennis_till *till);
 int escpos_till_queue(kolatennis_till *till, const kolatennis_options *options, const uint8_t *json, size_t json_len, till_told *told);
 int escpos_till_raise(kolatennis_till *till, uint32_t first, till_told *told);
+int escpos_till_cancel(kolatennis_till *till, size_t number, till_told *told);
 int escpos_till_deliver(kolatennis_till *till, uint32_t openings, const uint8_t *copy, size_t copy_len, uint32_t most, till_told *told);
 int escpos_till_asks(kolatennis_till *till, kolatennis_asked *asked);
 int escpos_till_append(kolatennis_till *till, uint8_t *out, size_t capacity, size_t *written);
@@ -127,6 +128,9 @@ const char *kolatennis_error_name(uint32_t reason) {
         case KOLATENNIS_TILL_NOTHING_WAITS: return "NothingWaits";
         case KOLATENNIS_TILL_MARK_REUSED: return "MarkReused";
         case KOLATENNIS_TILL_MARK_TOO_HIGH: return "MarkTooHigh";
+        case KOLATENNIS_TILL_NOT_TAKEN: return "NotTaken";
+        case KOLATENNIS_TILL_RECORDED: return "Recorded";
+        case KOLATENNIS_TILL_CANCELLED: return "Cancelled";
         case KOLATENNIS_TILL_BAD_COPY: return "BadCopy";
         case KOLATENNIS_TILL_DAMAGED: return "Damaged";
         case KOLATENNIS_LINK_ENDED: return "Ended";
@@ -366,6 +370,13 @@ int kolatennis_till_raise(kolatennis_till *till, uint32_t first, uint32_t *reaso
     int status = till ? escpos_till_raise(till, first, &told) : BAD_ARGUMENT;
     TELL(reason, till_reason(&told));
     TELL(next, told.next);
+    return status;
+}
+
+int kolatennis_till_cancel(kolatennis_till *till, size_t number, uint32_t *reason) {
+    till_told told = NOTHING_TOLD;
+    int status = till ? escpos_till_cancel(till, number, &told) : BAD_ARGUMENT;
+    TELL(reason, till_reason(&told));
     return status;
 }
 

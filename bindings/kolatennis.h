@@ -100,7 +100,10 @@ enum kolatennis_till_reason {
     KOLATENNIS_TILL_MARK_REUSED = 706,   /* the mark number is lower than the next one */
     KOLATENNIS_TILL_BAD_COPY = 707,      /* the text of a copy isn't 1 to 42 characters, each 20 to 7E (hexadecimal) */
     KOLATENNIS_TILL_DAMAGED = 708,       /* a line is no entry, or one that may not come after those before it */
-    KOLATENNIS_TILL_MARK_TOO_HIGH = 709  /* the mark number leaves fewer than a try takes */
+    KOLATENNIS_TILL_MARK_TOO_HIGH = 709, /* the mark number leaves fewer than a try takes */
+    KOLATENNIS_TILL_NOT_TAKEN = 710,     /* no receipt has this number */
+    KOLATENNIS_TILL_RECORDED = 711,      /* the receipt is recorded */
+    KOLATENNIS_TILL_CANCELLED = 712      /* the receipt is cancelled already */
 };
 
 /* Why a link ended; its owner may say the first four. */
@@ -277,8 +280,8 @@ KOLATENNIS_API int kolatennis_printer_tear_off(kolatennis_printer *printer);
 /* ---- A till with one printer ----
  *
  * All that a till does with a printer, but for I/O: it takes receipts, delivers them one at a time, and knows which are printed. It
- * asks for one thing at a time. Its owner calls kolatennis_till_queue, _raise or _deliver, and then, until it asks for nothing, does
- * what kolatennis_till_asks says, and says what came of it:
+ * asks for one thing at a time. Its owner calls kolatennis_till_queue, _raise, _cancel or _deliver, and then, until it asks for
+ * nothing, does what kolatennis_till_asks says, and says what came of it:
  *
  *   ASK_APPEND   keep the line that _append gives after those before it, so that it outlives a crash; then call _appended
  *   ASK_CONNECT  open a link to the printer; then call _connected
@@ -325,7 +328,8 @@ enum kolatennis_note {
     KOLATENNIS_NOTE_RECORDED = 903, /* the receipt is printed, and recorded */
     KOLATENNIS_NOTE_NO_LINK = 904,  /* there was no link. The receipt waits, and nothing of it was sent this time */
     KOLATENNIS_NOTE_WAITING = 905,  /* the receipt waits. It may be printed or not: `fault` is a LINK or HOST reason, or STATUS_MEMORY */
-    KOLATENNIS_NOTE_NOT_KEPT = 906  /* it isn't known whether the entry is kept. The till has failed */
+    KOLATENNIS_NOTE_NOT_KEPT = 906, /* it isn't known whether the entry is kept. The till has failed */
+    KOLATENNIS_NOTE_CANCELLED = 907 /* the receipt is cancelled */
 };
 
 /* What a till asks for. */
@@ -340,7 +344,8 @@ typedef struct {
 enum kolatennis_stands {
     KOLATENNIS_STANDS_UNKNOWN = 1100, /* no receipt has this number */
     KOLATENNIS_STANDS_WAITING = 1101, /* it waits, and was tried `count` times: if that isn't 0, it may be on the paper */
-    KOLATENNIS_STANDS_RECORDED = 1102 /* it is printed; `count` were recorded before it */
+    KOLATENNIS_STANDS_RECORDED = 1102, /* it is printed; `count` were recorded before it */
+    KOLATENNIS_STANDS_CANCELLED = 1103 /* it was cancelled, and tried `count` times before: if that isn't 0, it may be on the paper */
 };
 
 /* Makes a till: a new one, or one of the entries that were kept, given as their lines, one after another. At 1 `reason` is
@@ -358,6 +363,10 @@ KOLATENNIS_API int kolatennis_till_queue(kolatennis_till *till, const kolatennis
 /* Raises the number of the next mark to `first`, where those below it were used elsewhere. At 1 `reason` is TILL_BUSY, TILL_FAILED;
  * TILL_MARK_REUSED, and then `next` the next number; or TILL_MARK_TOO_HIGH, and then `next` the last that leaves enough for a try. */
 KOLATENNIS_API int kolatennis_till_raise(kolatennis_till *till, uint32_t first, uint32_t *reason, uint32_t *next);
+
+/* Cancels a receipt that waits: it isn't sent again. At 1 `reason` is TILL_BUSY, TILL_FAILED, TILL_NOT_TAKEN, TILL_RECORDED or
+ * TILL_CANCELLED. */
+KOLATENNIS_API int kolatennis_till_cancel(kolatennis_till *till, size_t number, uint32_t *reason);
 
 /* Delivers the first receipt that waits. A printer may still wait for the rest of a command that an older link cut off, and takes the
  * first opening marks for that: so put out a few. `copy` is a line that is printed before a receipt that was tried before, 1 to 42

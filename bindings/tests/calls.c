@@ -702,6 +702,16 @@ static void takes_a_receipt(void) {
     IS(CALL(kolatennis_till_raise(&till, 35, &reason, &next)) == KOLATENNIS_STATUS_REFUSED && reason == KOLATENNIS_TILL_MARK_REUSED && next == 36);
     IS(CALL(kolatennis_till_raise(&till, 1679615, &reason, &next)) == KOLATENNIS_STATUS_REFUSED && reason == KOLATENNIS_TILL_MARK_TOO_HIGH && next == 1679614);
     knows(&till, 2, 36, KOLATENNIS_STANDS_WAITING, 0);
+    /* a receipt that waits is cancelled, once */
+    IS(CALL(kolatennis_till_cancel(&till, 0, &reason)) == KOLATENNIS_STATUS_REFUSED && reason == KOLATENNIS_TILL_NOT_TAKEN);
+    IS(CALL(kolatennis_till_cancel(&till, 3, &reason)) == KOLATENNIS_STATUS_REFUSED && reason == KOLATENNIS_TILL_NOT_TAKEN);
+    IS(CALL(kolatennis_till_cancel(&till, 1, &reason)) == KOLATENNIS_STATUS_GOOD && reason == 0);
+    IS(CALL(kolatennis_till_cancel(&till, 2, &reason)) == KOLATENNIS_STATUS_REFUSED && reason == KOLATENNIS_TILL_BUSY);
+    APPENDS(&till, "cancelled 0000000000000001\n");
+    NOTES(&till, CANCELLED, 1, 0);
+    IS(CALL(kolatennis_till_cancel(&till, 1, &reason)) == KOLATENNIS_STATUS_REFUSED && reason == KOLATENNIS_TILL_CANCELLED);
+    uint32_t stands = 77;
+    IS(CALL(kolatennis_till_state(&till, 1, &stands, &at)) == KOLATENNIS_STATUS_GOOD && stands == KOLATENNIS_STANDS_CANCELLED && at == 0);
     /* an entry that may not be kept */
     IS(queues(&till, HI_RECEIPT, &reason, &at) == KOLATENNIS_STATUS_GOOD);
     IS(kolatennis_till_appended(&till, false) == KOLATENNIS_STATUS_GOOD);
@@ -838,6 +848,8 @@ static void holds_no_till(void) {
     IS(delivers(&till, "", &reason, &at) == KOLATENNIS_STATUS_EMPTY && reason == 0 && at == KOLATENNIS_NO_PLACE);
     reason = 77;
     IS(kolatennis_till_raise(&till, 1, &reason, &number) == KOLATENNIS_STATUS_EMPTY && reason == 0 && number == 0);
+    reason = 77;
+    IS(kolatennis_till_cancel(&till, 1, &reason) == KOLATENNIS_STATUS_EMPTY && reason == 0);
     IS(kolatennis_till_asks(&till, &asked) == KOLATENNIS_STATUS_EMPTY && asked.ask == KOLATENNIS_ASK_NOTHING && asked.note == KOLATENNIS_NOTE_NONE && asked.fault == 0 && asked.number == 0);
     blank();
     IS(kolatennis_till_append(&till, buffer, CAPACITY, &count) == KOLATENNIS_STATUS_EMPTY && count == 0 && is_blank(0));

@@ -123,6 +123,7 @@ class Errors(unittest.TestCase):
             (kolatennis.NotNow, lambda: kolatennis.Till(b"raised 00000005\n").raise_mark(4)),
             (kolatennis.Damaged, lambda: kolatennis.Till(b"x")),
             (kolatennis.OutOfRange, lambda: kolatennis.Till().raise_mark(2**32)),
+            (kolatennis.OutOfRange, lambda: kolatennis.Till().cancel(-1)),
             (kolatennis.OutOfRange, lambda: kolatennis.Till().link_ended("BadAnswer")),
             (kolatennis.Closed, lambda: closed.next_mark),
             (kolatennis.Closed, lambda: closed.hear(b"\x12")),
@@ -154,6 +155,23 @@ class Tills(unittest.TestCase):
         again = kolatennis.Till(keeps(till))
         self.assertEqual(again.state(1), kolatennis.Standing("waiting", 0))
         self.assertEqual((again.state(0), again.state(2)), (kolatennis.Standing("unknown", 0),) * 2)
+
+    def test_a_receipt_that_waits_can_be_cancelled(self):
+        till, lines = kolatennis.Till(), b""
+        for receipt in ("one", "two"):
+            till.queue([{"line": receipt}])
+            lines += keeps(till)
+        till.cancel(1)
+        self.assertEqual(till.asks, kolatennis.Asked("append"))
+        lines += keeps(till)
+        self.assertTrue(lines.endswith(b"cancelled 0000000000000001\n"))
+        for same in (till, kolatennis.Till(lines)):
+            self.assertEqual(same.state(1), kolatennis.Standing("cancelled", 0))
+            self.assertEqual(same.state(2), kolatennis.Standing("waiting", 0))
+            for number, reason in ((1, "Cancelled"), (3, "NotTaken"), (0, "NotTaken")):
+                with self.assertRaises(kolatennis.NotNow) as raised:
+                    same.cancel(number)
+                self.assertEqual(raised.exception.reason, reason)
 
     def test_it_fails_where_an_entry_may_not_be_kept(self):
         till = kolatennis.Till()

@@ -55,7 +55,7 @@ static void has_names(void) {
         known++;
         for (uint32_t other = 0; other < one; other++) IS(strcmp(kolatennis_error_name(one), kolatennis_error_name(other)));
     }
-    IS(known == 7 + 10 + 5 + 5 + 6 + 7);
+    IS(known == 7 + 10 + 5 + 5 + 6 + 10);
     IS(!strcmp(kolatennis_error_name(KOLATENNIS_RECEIPT_TEXT_LEFT), "TextLeft"));
     IS(!strcmp(kolatennis_error_name(UINT32_MAX), "unknown") && !strcmp(kolatennis_error_name(KOLATENNIS_EVENT_OPENED), "unknown"));
 }
@@ -128,7 +128,7 @@ static void takes_null_of_a_till(void) {
     kolatennis_till till;
     memset(&till, 0xA5, sizeof till);
     IS(kolatennis_till_new(&till) == GOOD && kolatennis_till_queue(&till, NULL, HI, NULL, NULL) == GOOD);
-    IS(kolatennis_till_queue(&till, NULL, NULL, 0, NULL, NULL) == REFUSED && kolatennis_till_raise(&till, 1, NULL, NULL) == REFUSED);
+    IS(kolatennis_till_queue(&till, NULL, NULL, 0, NULL, NULL) == REFUSED && kolatennis_till_raise(&till, 1, NULL, NULL) == REFUSED && kolatennis_till_cancel(&till, 1, NULL) == REFUSED);
     IS(kolatennis_till_asks(&till, NULL) == GOOD && kolatennis_till_append(&till, NULL, 0, NULL) == SHORT);
     reset();
     IS(kolatennis_till_append(&till, buffer, sizeof buffer, NULL) == GOOD && !memcmp(buffer, "queued 020000", 13));
@@ -189,6 +189,8 @@ static void refuses_null(void) {
     IS(kolatennis_till_queue(NULL, NULL, HI, &reason, &at) == BAD && reason == 0 && at == KOLATENNIS_NO_PLACE && kolatennis_till_queue(&till, NULL, NULL, 1, NULL, NULL) == BAD);
     reset();
     IS(kolatennis_till_deliver(NULL, 1, NULL, 0, 9, &reason, &at) == BAD && reason == 0 && at == KOLATENNIS_NO_PLACE && kolatennis_till_deliver(&till, 1, NULL, 1, 9, NULL, NULL) == BAD);
+    reset();
+    IS(kolatennis_till_cancel(NULL, 1, &reason) == BAD && reason == 0);
     reset();
     IS(kolatennis_till_raise(NULL, 1, &reason, &event) == BAD && reason == 0 && event == 0 && kolatennis_till_came(NULL, HI, &count) == BAD && count == 0);
     reset();

@@ -35,15 +35,17 @@ STOPS: Dict[int, str] = {600: "all", 601: "answers full", 602: "offline", 603: "
 #: Why a till takes no call, by number.
 TILL_REASONS: Dict[int, str] = {
     701: "Busy", 702: "Failed", 703: "NothingWaits", 706: "MarkReused", 707: "BadCopy", 708: "Damaged",
-    709: "MarkTooHigh",
+    709: "MarkTooHigh", 710: "NotTaken", 711: "Recorded", 712: "Cancelled",
 }
 #: What a till asks for, by number.
 ASKS: Dict[int, str] = {800: "nothing", 801: "append", 802: "connect", 803: "put", 804: "wait", 805: "hang up", 806: "tell"}
 #: What a till tells its owner, by number.
-NOTES: Dict[int, str] = {900: "none", 901: "queued", 902: "raised", 903: "recorded", 904: "no link", 905: "waiting", 906: "not kept"}
+NOTES: Dict[int, str] = {
+    900: "none", 901: "queued", 902: "raised", 903: "recorded", 904: "no link", 905: "waiting", 906: "not kept", 907: "cancelled",
+}
 #: Why a link ended, by number.
 LINK_REASONS: Dict[int, str] = {
     1001: "Ended", 1002: "ReadFault", 1003: "WriteFault", 1004: "TimedOut", 1005: "TooManyAnswers", 1006: "BadAnswer",
 }
 #: Where a receipt of a till stands, by number.
-STANDS: Dict[int, str] = {1100: "unknown", 1101: "waiting", 1102: "recorded"}
+STANDS: Dict[int, str] = {1100: "unknown", 1101: "waiting", 1102: "recorded", 1103: "cancelled"}

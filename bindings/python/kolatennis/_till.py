@@ -25,8 +25,8 @@ class Asked(NamedTuple):
 
 
 class Standing(NamedTuple):
-    """Where a receipt stands: a name of STANDS; how often it was tried if it waits, and how many were recorded before it if it is
-    recorded."""
+    """Where a receipt stands: a name of STANDS; how often it was tried if it waits or is cancelled, and how many were recorded before it
+    if it is recorded."""
 
     kind: str
     count: int
@@ -39,7 +39,7 @@ class Till(_Held):
     file. `lines` is those that were kept, one after another in order; none for a till that is new. No line is ever changed or removed.
     Half a last line was never said to be kept: cut it off. One process at a time may have the entries.
 
-    It asks for one thing at a time. After `queue`, `raise_mark` or `deliver` its owner does what each of `steps` asks for:
+    It asks for one thing at a time. After `queue`, `raise_mark`, `cancel` or `deliver` its owner does what each of `steps` asks for:
 
         append     keep `line()` after those before it, so that it outlives a crash; then `appended(True)`
         connect    open a link to the printer; then `connected(True)`, or `connected(False)` if there is none
@@ -117,6 +117,19 @@ class Till(_Held):
         reason, next_mark = ctypes.c_uint32(), ctypes.c_uint32()
         told = (in_range(first, _MOST, "first"), ctypes.byref(reason), ctypes.byref(next_mark))
         if self._do(library.kolatennis_till_raise, *told) == Status.REFUSED:
+            raise NotNow(TILL_REASONS[reason.value])
+
+    def cancel(self, number: int) -> None:
+        """Cancels a receipt that waits: it isn't sent again. Raises NotNow where it was never taken, is recorded or is cancelled already.
+
+        >>> Till().cancel(1)
+        Traceback (most recent call last):
+        ...
+        kolatennis.NotNow: NotTaken
+        """
+        reason = ctypes.c_uint32()
+        told = (in_range(number, NO_PLACE, "number"), ctypes.byref(reason))
+        if self._do(library.kolatennis_till_cancel, *told) == Status.REFUSED:
             raise NotNow(TILL_REASONS[reason.value])
 
     def deliver(self, openings: int = 3, copy: Union[str, Bytes] = b"", most: int = 65536) -> None:

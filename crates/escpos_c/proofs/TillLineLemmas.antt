@@ -11,7 +11,7 @@ use Rattle.escpos_command.specs.LineWidths.{is_line_width}
 use Rattle.escpos_text.specs.Replacements.{is_replacement}
 use Rattle.escpos_till.specs.declared.entry.Entry.{Entry}
 use Rattle.escpos_till.specs.declared.entry.Entry.TheVariants as entry
-use Rattle.escpos_c.specs.TillLines.{IsReal, bytes_in, entry_in, fields, if_ok, kind_in, line_of, mark_in, number_in, queued_in, queued_of, raised_of, recorded_of, replacement_byte, replacement_in, tried_in, tried_of, width_in, word}
+use Rattle.escpos_c.specs.TillLines.{IsReal, bytes_in, cancelled_of, entry_in, fields, if_ok, kind_in, line_of, mark_in, number_in, queued_in, queued_of, raised_of, recorded_of, replacement_byte, replacement_in, tried_in, tried_of, width_in, word}
 
 -- ## The fields are bytes
 
@@ -68,6 +68,7 @@ fields_are_bytes (entry.Queued content) real =
 fields_are_bytes (entry.Tried number next) real = high_bytes 8 number (to_be_bytes w32 next) (high_bytes 4 next [] none_more)
 fields_are_bytes (entry.Recorded number) real = high_bytes 8 number [] none_more
 fields_are_bytes (entry.Raised next) real = high_bytes 4 next [] none_more
+fields_are_bytes (entry.Cancelled number) real = high_bytes 8 number [] none_more
 
 pub read_back : (e : Entry) → IsReal e → entry_in (line_of e) ≡ Some e
 read_back (entry.Queued content) real =
@@ -86,6 +87,9 @@ read_back (entry.Recorded number) real =
 read_back (entry.Raised next) real =
     let e = entry.Raised next in
     ap (kind_in (λ bytes. raised_of (mark_in bytes))) (bytes_back (fields e) (fields_are_bytes e real)) ∙ ap raised_of (mark_back next real)
+read_back (entry.Cancelled number) real =
+    let e = entry.Cancelled number in
+    ap (kind_in (λ bytes. cancelled_of (number_in bytes))) (bytes_back (fields e) (fields_are_bytes e real)) ∙ ap cancelled_of (number_back number real.0 real.1)
 
 -- ## No LF
 
@@ -121,6 +125,7 @@ word_no_lf (entry.Queued content) = refl
 word_no_lf (entry.Tried number next) = refl
 word_no_lf (entry.Recorded number) = refl
 word_no_lf (entry.Raised next) = refl
+word_no_lf (entry.Cancelled number) = refl
 
 -- The line of an entry has no LF but its end.
 pub line_no_lf : (e : Entry) → IsReal e → no_lf (line_of e) ≡ true

@@ -12,14 +12,14 @@ use Rattle.escpos_till.specs.declared.machine.TillRefusal.{TillRefusal}
 use Rattle.escpos_till.specs.declared.store.StoreFault.TheVariants as store
 use Rattle.escpos_till.specs.Contents.{content_with}
 use Rattle.escpos_till.specs.Copy.{IsCopyText}
-use Rattle.escpos_till.specs.Machine.{Asks, Delivers, Ended, Kept, MachineView, Queues, Raises, RefusesAny, RefusesDeliver, RefusesRaise, SameEntries, Unsure, connected, not_connected, put, told}
+use Rattle.escpos_till.specs.Machine.{Asks, Cancels, Delivers, Ended, Kept, MachineView, Queues, Raises, RefusesAny, RefusesCancel, RefusesDeliver, RefusesRaise, SameEntries, Unsure, connected, not_connected, put, told}
 use Rattle.escpos_c.specs.declared.call_status.CallStatus.{CallStatus}
 use Rattle.escpos_c.specs.declared.call_status.CallStatus.TheVariants as call
 use Rattle.escpos_c.specs.declared.refusal.TheConstants.{BAD_OPTIONS, NO_REASON, NO_PLACE}
 use Rattle.escpos_c.specs.declared.till_core.TillCore.{TillCore}
 use Rattle.escpos_c.specs.declared.till_numbers.Asked.{Asked}
 use Rattle.escpos_c.specs.declared.till_numbers.Told.{Told}
-use Rattle.escpos_c.specs.declared.till_numbers.TheConstants.{BAD_COPY, DAMAGED}
+use Rattle.escpos_c.specs.declared.till_numbers.TheConstants.{BAD_COPY, DAMAGED, NOT_TAKEN}
 use Rattle.escpos_c.specs.Buffer.{Given, GivesNone}
 use Rattle.escpos_c.specs.EncodeCalls.{GivesReceipt, IsRefusal}
 use Rattle.escpos_c.specs.Status.{number_of_status}
@@ -70,6 +70,12 @@ QueuesTextWith (Some options) json status told old new = QueuesText options json
 
 abbrev pub RaisesTo : ℕ → ℤ → Told → TillCore → TillCore → Type 0
 RaisesTo first = TillCalled (λ m after. Raises m first after) (λ m why. RefusesRaise m first why) Same
+
+-- The receipt with this number is cancelled, or the machine refuses to; or the number is 0, which no receipt has, and the machine isn't asked.
+abbrev pub CancelsNumber : ℕ → ℤ → Told → TillCore → TillCore → Type 0
+CancelsNumber number status told old new =
+    TillCalled (λ m after. Cancels m number after) (λ m why. RefusesCancel m number why) Same status told old new
+    ⊎ ((number ≡ 0) × (status ≡ pos 1) × (told ≡ refused_for NOT_TAKEN) × (new ≡ old))
 
 -- No bytes are no text of a copy.
 abbrev pub copy_of : List ℕ → Option (List ℕ)

@@ -24,11 +24,15 @@ recorded_word = codes "recorded "
 abbrev pub raised_word : List ℕ
 raised_word = codes "raised "
 
+abbrev pub cancelled_word : List ℕ
+cancelled_word = codes "cancelled "
+
 abbrev pub word : Entry → List ℕ
 word (entry.Queued content) = queued_word
 word (entry.Tried number next) = tried_word
 word (entry.Recorded number) = recorded_word
 word (entry.Raised next) = raised_word
+word (entry.Cancelled number) = cancelled_word
 
 -- The replacement of a receipt's options, and 0 where there is none.
 abbrev pub replacement_byte : Option ℕ → ℕ
@@ -42,6 +46,7 @@ fields (entry.Queued content) = to_be_bytes w16 content.options.width ++ replace
 fields (entry.Tried number next) = to_be_bytes w64 number ++ to_be_bytes w32 next
 fields (entry.Recorded number) = to_be_bytes w64 number
 fields (entry.Raised next) = to_be_bytes w32 next
+fields (entry.Cancelled number) = to_be_bytes w64 number
 
 -- The line of an entry, without its end.
 abbrev pub line_of : Entry → List ℕ
@@ -102,21 +107,26 @@ abbrev pub raised_of : Option ℕ → Option Entry
 raised_of None = None
 raised_of (Some next) = Some (entry.Raised next)
 
+abbrev pub cancelled_of : Option ℕ → Option Entry
+cancelled_of None = None
+cancelled_of (Some number) = Some (entry.Cancelled number)
+
 abbrev pub kind_in : (List ℕ → Option Entry) → Option (List ℕ) → Option Entry
 kind_in read None = None
 kind_in read (Some bytes) = read bytes
 
 -- The digits that stand after one of the words; the first word that fits counts.
-abbrev pub digits_in : Option (List ℕ) → Option (List ℕ) → Option (List ℕ) → Option (List ℕ) → Option Entry
-digits_in (Some digits) _ _ _ = kind_in queued_in (bytes_in digits)
-digits_in None (Some digits) _ _ = kind_in tried_in (bytes_in digits)
-digits_in None None (Some digits) _ = kind_in (λ bytes. recorded_of (number_in bytes)) (bytes_in digits)
-digits_in None None None (Some digits) = kind_in (λ bytes. raised_of (mark_in bytes)) (bytes_in digits)
-digits_in None None None None = None
+abbrev pub digits_in : Option (List ℕ) → Option (List ℕ) → Option (List ℕ) → Option (List ℕ) → Option (List ℕ) → Option Entry
+digits_in (Some digits) _ _ _ _ = kind_in queued_in (bytes_in digits)
+digits_in None (Some digits) _ _ _ = kind_in tried_in (bytes_in digits)
+digits_in None None (Some digits) _ _ = kind_in (λ bytes. recorded_of (number_in bytes)) (bytes_in digits)
+digits_in None None None (Some digits) _ = kind_in (λ bytes. raised_of (mark_in bytes)) (bytes_in digits)
+digits_in None None None None (Some digits) = kind_in (λ bytes. cancelled_of (number_in bytes)) (bytes_in digits)
+digits_in None None None None None = None
 
 -- The entry that a line, without its end, is.
 abbrev pub entry_in : List ℕ → Option Entry
-entry_in line = digits_in (after queued_word line) (after tried_word line) (after recorded_word line) (after raised_word line)
+entry_in line = digits_in (after queued_word line) (after tried_word line) (after recorded_word line) (after raised_word line) (after cancelled_word line)
 
 -- ## Entries that there are
 
@@ -127,3 +137,4 @@ IsReal (entry.Queued content) =
 IsReal (entry.Tried number next) = (0 < number) × (number < 2 ^ 64) × (next < 2 ^ 32)
 IsReal (entry.Recorded number) = (0 < number) × (number < 2 ^ 64)
 IsReal (entry.Raised next) = next < 2 ^ 32
+IsReal (entry.Cancelled number) = (0 < number) × (number < 2 ^ 64)

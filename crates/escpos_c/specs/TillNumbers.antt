@@ -20,6 +20,7 @@ use Rattle.escpos_c.specs.declared.refusal.TheConstants.{NO_REASON, NO_PLACE}
 use Rattle.escpos_c.specs.declared.till_numbers.Asked.{Asked}
 use Rattle.escpos_c.specs.declared.till_numbers.Standing.{Standing}
 use Rattle.escpos_c.specs.declared.till_numbers.Told.{Told}
+use Rattle.escpos_c.specs.declared.till_numbers.TheConstants.{NOT_TAKEN}
 use Rattle.escpos_c.specs.EncodeCalls.{place_number}
 
 -- ## What it asks for
@@ -52,6 +53,7 @@ note_asked (note.Recorded number) = telling 3 NO_REASON number
 note_asked (note.NoLink number) = telling 4 NO_REASON number
 note_asked (note.Waiting number why) = telling 5 (fault_number why) number
 note_asked (note.NotKept why) = telling 6 (store_number why) 0
+note_asked (note.Cancelled number tried) = telling 7 NO_REASON number
 
 abbrev pub asked_of : Action → Asked
 asked_of action.Nothing = only 0
@@ -89,6 +91,9 @@ told_of (refusal.NoReceipt number why) = record { reason = 4; fault = json_numbe
 told_of (refusal.MarksUsedUp number) = refused_for 5
 told_of (refusal.MarkReused next) = record { reason = 6; fault = NO_REASON; at = NO_PLACE; next = next }
 told_of (refusal.MarkTooHigh last) = record { reason = 9; fault = NO_REASON; at = NO_PLACE; next = last }
+told_of (refusal.NotTaken number) = refused_for NOT_TAKEN
+told_of (refusal.Recorded number) = refused_for 11
+told_of (refusal.Cancelled number) = refused_for 12
 
 abbrev pub till_status : TillRefusal → CallStatus
 till_status refusal.Memory = call.Memory
@@ -100,6 +105,7 @@ abbrev pub standing_at : Option ReceiptState → Standing
 standing_at None = record { kind = 0; number = 0 }
 standing_at (Some (state.Waiting tried)) = record { kind = 1; number = tried }
 standing_at (Some (state.Recorded place)) = record { kind = 2; number = place }
+standing_at (Some (state.Cancelled tried)) = record { kind = 3; number = tried }
 
 -- Where the receipt of this number stands, if there is one: receipts are numbered from 1.
 abbrev pub standing_of : List ReceiptState → ℕ → Standing

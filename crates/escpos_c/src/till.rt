@@ -8,7 +8,7 @@ ghost use Rattle.escpos_till.specs.Machine.{Came, hung_up, told};
 ghost use Rattle.escpos_c.specs.declared.refusal.TheConstants.{NO_REASON};
 ghost use Rattle.escpos_c.specs.Given.{receipt_options};
 ghost use Rattle.escpos_c.specs.Handles.{OnHandle};
-ghost use Rattle.escpos_c.specs.TillCalls.{DeliversCopy, GivesEntry, Opens, QueuesTextWith, RaisesTo, TakesAppended, TakesConnected, TakesEnd, TakesOutOf, TellsAsk};
+ghost use Rattle.escpos_c.specs.TillCalls.{CancelsNumber, DeliversCopy, GivesEntry, Opens, QueuesTextWith, RaisesTo, TakesAppended, TakesConnected, TakesEnd, TakesOutOf, TellsAsk};
 ghost use Rattle.escpos_c.specs.TillTexts.{IsDamagedAt, IsMachineOf};
 ghost use Rattle.escpos_c.specs.TillNumbers.{nothing_told, only, standing_at, standing_of};
 
@@ -104,6 +104,25 @@ pub extern "C" fn escpos_till_raise(
         return empty(told);
     };
     let (status, why) = core.raise(first);
+    till.put(alloc, core);
+    *told = why;
+    status.number()
+}
+
+/// Cancels the receipt with this number, which waits: that is to be kept.
+#[unsafe(no_mangle)]
+pub extern "C" fn escpos_till_cancel(
+    alloc: Global,
+    till: &mut TillHandle,
+    number: usize,
+    told: &mut Told,
+) -> i32
+    ensures { OnHandle till.old.value till.new.value (CancelsNumber number result told.new) ((result ≡ pos 2) × (told.new ≡ nothing_told)) }
+{
+    let Some(mut core) = till.take(alloc) else {
+        return empty(told);
+    };
+    let (status, why) = core.cancel(number);
     till.put(alloc, core);
     *told = why;
     status.number()

@@ -10,7 +10,7 @@ ghost use Rattle.escpos_till.specs.Machine.{Queues, RefusesAny, SameEntries};
 ghost use Rattle.escpos_c.specs.EncodeCalls.{GivesReceipt};
 ghost use Rattle.escpos_c.specs.Reasons.{IsReason};
 ghost use Rattle.escpos_c.specs.Status.{number_of_status};
-ghost use Rattle.escpos_c.specs.TillCalls.{DeliversCopy, GivesEntry, GivesLine, QueuesText, QueuesTextWith, RaisesTo, TakesAppended, TakesEnd, TellsAsk};
+ghost use Rattle.escpos_c.specs.TillCalls.{CancelsNumber, DeliversCopy, GivesEntry, GivesLine, QueuesText, QueuesTextWith, RaisesTo, TakesAppended, TakesEnd, TellsAsk};
 ghost use Rattle.escpos_c.specs.TillNumbers.{standing_of};
 
 use crate::buffer::give;
@@ -19,11 +19,13 @@ use crate::no_receipt::{NoReceipt, no_receipt};
 use crate::refusal::Refusal;
 use crate::till_lines::line_of;
 use crate::till_numbers::{
-    Asked, BAD_COPY, Standing, Told, ended, fault_of, note_asked, standing_of,
+    Asked, BAD_COPY, NOT_TAKEN, Standing, Told, ended, fault_of, note_asked, standing_of,
 };
 use escpos_jobs::input::INPUT_LIMIT;
 use escpos_receipt::ReceiptOptions;
-use escpos_till::{Action, CopyText, Entry, ReceiptContent, StoreFault, TillMachine, TillRefusal};
+use escpos_till::{
+    Action, CopyText, Entry, ReceiptContent, ReceiptNumber, StoreFault, TillMachine, TillRefusal,
+};
 use std::alloc::Global;
 
 /// The machine of a till with one printer.
@@ -85,6 +87,16 @@ impl TillCore {
         ensures { RaisesTo first (number_of_status result.0) result.1 self.old self.new }
     {
         ended(self.machine.raise(first))
+    }
+
+    /// Cancels a receipt that waits, as `TillMachine::cancel` does. No receipt has the number 0.
+    pub fn cancel(&mut self, number: usize) -> (CallStatus, Told)
+        ensures { CancelsNumber number (number_of_status result.0) result.1 self.old self.new }
+    {
+        match ReceiptNumber::new(number) {
+            Some(number) => ended(self.machine.cancel(number)),
+            None => (CallStatus::Refused, Told::reason(NOT_TAKEN)),
+        }
     }
 
     /// Delivers the first receipt that waits, as `TillMachine::deliver` does. An empty text of a copy is none.

@@ -7,11 +7,12 @@
 //!   tried     | the receipt's number in 16 digits, the next mark number in 8
 //!   recorded  | the receipt's number in 16 digits
 //!   raised    | the next mark number in 8 digits
+//!   cancelled | the receipt's number in 16 digits
 
 ghost use Rattle.std.specs.Prelude.{◌≡◌, ◌++◌, [], ◌∷◌, Option, Some, None, option_map, IfOk, OnOk, IsErrOf};
 ghost use Rattle.std.specs.Int.{w16, w32, w64, to_be_bytes};
 ghost use Rattle.escpos_till.specs.declared.entry.Entry.{Entry as EntryValue};
-ghost use Rattle.escpos_c.specs.TillLines.{IsReal, after, bytes_in, ended_line, entry_in, fields, line_of, mark_in, number_in, queued_in, raised_of, recorded_of, replacement_byte, replacement_in, tried_in, width_in, word};
+ghost use Rattle.escpos_c.specs.TillLines.{IsReal, after, bytes_in, cancelled_of, ended_line, entry_in, fields, line_of, mark_in, number_in, queued_in, raised_of, recorded_of, replacement_byte, replacement_in, tried_in, width_in, word};
 
 use escpos_command::{LF, LineWidth};
 use escpos_receipt::ReceiptOptions;
@@ -51,6 +52,7 @@ fn word(entry: &Entry) -> &'static [u8]
         Entry::Tried { .. } => b"tried ",
         Entry::Recorded { .. } => b"recorded ",
         Entry::Raised { .. } => b"raised ",
+        Entry::Cancelled { .. } => b"cancelled ",
     }
 }
 
@@ -69,7 +71,9 @@ fn fields(alloc: Global, entry: &Entry) -> Result<Vec<u8>, AllocError>
             bytes.extend_from_slice(&number.get().to_be_bytes())?;
             bytes.extend_from_slice(&next.to_be_bytes())?;
         }
-        Entry::Recorded { number } => bytes.extend_from_slice(&number.get().to_be_bytes())?,
+        Entry::Recorded { number } | Entry::Cancelled { number } => {
+            bytes.extend_from_slice(&number.get().to_be_bytes())?
+        }
         Entry::Raised { next } => bytes.extend_from_slice(&next.to_be_bytes())?,
     }
     Ok(bytes)
@@ -101,6 +105,9 @@ pub fn entry_in(alloc: Global, line: &[u8]) -> Result<Entry, NoEntry>
     }
     if let Some(digits) = after(b"raised ", line) {
         return raised_in(&bytes_in(alloc, digits)?).ok_or(NoEntry::Damaged);
+    }
+    if let Some(digits) = after(b"cancelled ", line) {
+        return cancelled_in(&bytes_in(alloc, digits)?).ok_or(NoEntry::Damaged);
     }
     Err(NoEntry::Damaged)
 }
@@ -199,6 +206,16 @@ fn raised_in(bytes: &[u8]) -> Option<Entry>
 {
     match mark_in(bytes) {
         Some(next) => Some(Entry::Raised { next }),
+        None => None,
+    }
+}
+
+// The entry by which a receipt is cancelled, from its fields.
+fn cancelled_in(bytes: &[u8]) -> Option<Entry>
+    ensures { result ≡ cancelled_of (number_in bytes.now) }
+{
+    match number_in(bytes) {
+        Some(number) => Some(Entry::Cancelled { number }),
         None => None,
     }
 }

@@ -15,9 +15,14 @@ pub const BAD_COPY: u32 = 7;
 /// The reason of entries that are no ledger.
 pub const DAMAGED: u32 = 8;
 
+/// The reason of a number that no receipt has.
+pub const NOT_TAKEN: u32 = 10;
+
 const _: () = prove!(BAD_COPY == 7);
 
 const _: () = prove!(DAMAGED == 8);
+
+const _: () = prove!(NOT_TAKEN == 10);
 
 /// What a till asks for, as C sees it.
 #[repr(C)]
@@ -26,7 +31,7 @@ pub struct Asked {
     /// 0 nothing, 1 an entry to be kept, 2 a link, 3 bytes to be put, 4 answers, 5 the link to be given up, 6 its owner to be told.
     pub ask: u32,
     /// At 6 what its owner is to be told: 1 a receipt is taken, 2 the next mark number is raised, 3 a receipt is recorded, 4 there
-    /// was no link, 5 a receipt isn't known to be printed, 6 an entry may not be kept; otherwise 0.
+    /// was no link, 5 a receipt isn't known to be printed, 6 an entry may not be kept, 7 a receipt is cancelled; otherwise 0.
     pub note: u32,
     /// At the notes 5 and 6 why; otherwise 0.
     pub fault: u32,
@@ -52,9 +57,9 @@ pub struct Told {
 #[repr(C)]
 #[derive(Clone, Copy, Debug, PartialEq, Eq)]
 pub struct Standing {
-    /// 0 there is none of this number, 1 it waits, 2 it is recorded.
+    /// 0 there is none of this number, 1 it waits, 2 it is recorded, 3 it is cancelled.
     pub kind: u32,
-    /// How often it was tried, or its place among the records, counted from 0.
+    /// How often it was tried; of one that is recorded its place among the records, counted from 0.
     pub number: usize,
 }
 
@@ -95,6 +100,7 @@ pub fn note_asked(note: TillNote) -> Asked
         TillNote::NoLink(number) => telling(4, NO_REASON, number.get()),
         TillNote::Waiting { number, why } => telling(5, fault_number(why), number.get()),
         TillNote::NotKept(why) => telling(6, store_number(why), 0),
+        TillNote::Cancelled { number, .. } => telling(7, NO_REASON, number.get()),
     }
 }
 
@@ -234,6 +240,9 @@ fn refused(why: TillRefusal) -> (CallStatus, Told)
         TillRefusal::MarksUsedUp { .. } => (CallStatus::Refused, Told::reason(5)),
         TillRefusal::MarkReused { next } => (CallStatus::Refused, Told::number(6, next)),
         TillRefusal::MarkTooHigh { last } => (CallStatus::Refused, Told::number(9, last)),
+        TillRefusal::NotTaken(_) => (CallStatus::Refused, Told::reason(NOT_TAKEN)),
+        TillRefusal::Recorded(_) => (CallStatus::Refused, Told::reason(11)),
+        TillRefusal::Cancelled(_) => (CallStatus::Refused, Told::reason(12)),
     }
 }
 
@@ -262,6 +271,10 @@ pub fn standing_of(states: &[ReceiptState], number: usize) -> Standing
         Some(ReceiptState::Recorded { place }) => Standing {
             kind: 2,
             number: *place,
+        },
+        Some(ReceiptState::Cancelled { tried }) => Standing {
+            kind: 3,
+            number: *tried,
         },
     }
 }
