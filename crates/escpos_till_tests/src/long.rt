@@ -10,7 +10,7 @@ use std::process::Abort;
 
 // What a test adds as its entry of this number, from 1 on: the kinds take turns, and each entry says its number.
 fn entry_at(rt: &impl Abort, alloc: Global, at: u32) -> Entry {
-    match at % 4 {
+    match at % 5 {
         0 => Entry::Raised { next: at },
         1 => Entry::Queued {
             content: Content::new(at.to_be_bytes().to_vec(alloc).expect(rt, "memory")),
@@ -19,7 +19,10 @@ fn entry_at(rt: &impl Abort, alloc: Global, at: u32) -> Entry {
             number: number(rt, at as usize),
             next: at,
         },
-        _ => Entry::Recorded {
+        3 => Entry::Recorded {
+            number: number(rt, at as usize),
+        },
+        _ => Entry::Cancelled {
             number: number(rt, at as usize),
         },
     }
@@ -28,10 +31,11 @@ fn entry_at(rt: &impl Abort, alloc: Global, at: u32) -> Entry {
 // Whether it is that entry.
 fn is_entry_at(entry: &Entry, at: u32) -> bool {
     match entry {
-        Entry::Queued { content } => at % 4 == 1 && content.bytes() == at.to_be_bytes().as_slice(),
-        Entry::Tried { number, next } => at % 4 == 2 && number.get() == at as usize && *next == at,
-        Entry::Recorded { number } => at % 4 == 3 && number.get() == at as usize,
-        Entry::Raised { next } => at % 4 == 0 && *next == at,
+        Entry::Queued { content } => at % 5 == 1 && content.bytes() == at.to_be_bytes().as_slice(),
+        Entry::Tried { number, next } => at % 5 == 2 && number.get() == at as usize && *next == at,
+        Entry::Recorded { number } => at % 5 == 3 && number.get() == at as usize,
+        Entry::Raised { next } => at % 5 == 0 && *next == at,
+        Entry::Cancelled { number } => at % 5 == 4 && number.get() == at as usize,
     }
 }
 

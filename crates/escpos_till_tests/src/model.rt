@@ -214,6 +214,49 @@ fn links_end(rt: HostRuntime) {
     prints(&rt, &till, ONCE);
 }
 
+// S is tried and cancelled: it isn't sent again, and the answer that comes then counts for nothing.
+#[test]
+fn cancelled(rt: HostRuntime) {
+    let (alloc, first) = (rt.alloc(), number(&rt, 1));
+    let mut till = till_at_last(&rt, alloc);
+    for at in 0..13 {
+        all_happen(&rt, alloc, &mut till, &[whole(at)]);
+    }
+    all_happen(
+        &rt,
+        alloc,
+        &mut till,
+        &[Plain::End, Plain::HangUp, Plain::Tell],
+    );
+    all_happen(
+        &rt,
+        alloc,
+        &mut till,
+        &[Plain::Cancel, Plain::Keep, Plain::Tell],
+    );
+    let note = TillNote::Cancelled {
+        number: first,
+        tried: 1,
+    };
+    was_told(&rt, &till, note);
+    is_refused(
+        &rt,
+        alloc,
+        &mut till,
+        Plain::Deliver,
+        NotPossible::Machine(TillRefusal::NothingWaits),
+    );
+    is_refused(
+        &rt,
+        alloc,
+        &mut till,
+        Plain::Cancel,
+        NotPossible::Machine(TillRefusal::Cancelled(first)),
+    );
+    stand(&rt, &till, &[ReceiptState::Cancelled { tried: 1 }]);
+    prints(&rt, &till, ONCE);
+}
+
 fn is_refused(rt: &impl Abort, alloc: Global, till: &mut Till, plain: Plain, why: NotPossible) {
     assert!(rt; happens(rt, alloc, till, plain) == Err(why));
 }

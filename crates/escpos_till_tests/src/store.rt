@@ -35,6 +35,7 @@ fn entries_of(rt: &impl Abort, alloc: Global) -> Vec<Entry> {
     let _ = entries.push(Entry::Tried { number, next: 4 });
     let _ = entries.push(Entry::Recorded { number });
     let _ = entries.push(Entry::Raised { next: u32::MAX });
+    let _ = entries.push(Entry::Cancelled { number });
     let _ = entries.push(Entry::Queued { content: empty });
     for (dots, replacement) in [
         (576, None),
@@ -62,6 +63,9 @@ fn are_alike(rt: &impl Abort, entry: &Entry, wanted: &Entry) {
             assert!(rt; *number == *n);
         }
         (Entry::Raised { next }, Entry::Raised { next: m }) => assert!(rt; *next == *m),
+        (Entry::Cancelled { number }, Entry::Cancelled { number: n }) => {
+            assert!(rt; *number == *n);
+        }
         _ => panic!(rt; "another kind of entry"),
     }
 }

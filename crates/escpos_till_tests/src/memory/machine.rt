@@ -1,6 +1,6 @@
 //! The calls of a till's machine, where memory is refused.
 
-use crate::support::tills::{bytes_at_last, receipt_at_last};
+use crate::support::tills::{bytes_at_last, number, receipt_at_last};
 use escpos_till::{Action, Content, Entry, NoMachine, ReceiptState, TillMachine, TillRefusal};
 use std::alloc::Global;
 use std::process::Abort;
@@ -55,6 +55,17 @@ fn machine_refused(rt: HostRuntime) {
         Action::HangUp => machine.hung_up(),
         _ => panic!(&rt; "no link"),
     }
+}
+
+// A receipt that waits is cancelled.
+#[test]
+fn cancel_refused(rt: HostRuntime) {
+    let mut machine = opened_at_last(&rt, rt.alloc(), &[]);
+    takes_at_last(&rt, rt.alloc(), &mut machine);
+    assert!(&rt; machine.cancel(number(&rt, 1)) == Ok(()));
+    machine.appended(Ok(()));
+    machine.told();
+    assert!(&rt; machine.states() == [ReceiptState::Cancelled { tried: 0 }].as_slice());
 }
 
 // The same entries, copied into a machine.

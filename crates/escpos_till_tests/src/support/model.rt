@@ -1,5 +1,6 @@
 //! What happens to a till in the world where everything may fail.
 
+use crate::support::tills::number;
 use escpos_command::LineWidth;
 use escpos_host::SendFault;
 use escpos_link::Event;
@@ -24,6 +25,7 @@ pub enum Plain {
     Start,
     Queue,
     Raise,
+    Cancel,
     Deliver,
     Refuse,
     Keep,
@@ -112,6 +114,7 @@ pub fn happening(rt: &impl Abort, alloc: Global, plain: Plain) -> Happening {
         Plain::Start => Happening::Start,
         Plain::Queue => Happening::Queue(content(rt, alloc)),
         Plain::Raise => Happening::Raise(5),
+        Plain::Cancel => Happening::Cancel(number(rt, 1)),
         Plain::Deliver => Happening::Deliver {
             openings: 1,
             most: 99,

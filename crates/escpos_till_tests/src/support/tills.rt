@@ -239,6 +239,7 @@ pub fn refuses_all(rt: &impl Abort, alloc: Global, till: &mut DrivenTill) {
         Err((why, _receipt)) => assert!(rt; why == TillRefusal::Failed),
     }
     assert!(rt; till.machine.raise(9) == Err(TillRefusal::Failed));
+    assert!(rt; till.machine.cancel(number(rt, 1)) == Err(TillRefusal::Failed));
     assert!(rt; till.machine.deliver(1, None, 100) == Err(TillRefusal::Failed));
     assert!(rt; drives(till, 1_000) == None);
 }

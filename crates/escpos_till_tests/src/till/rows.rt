@@ -3,7 +3,7 @@
 //! A test makes the till and lends it to checks.
 
 use crate::support::tills::{
-    ANSWERS_01, Answers, DrivenTill, drives, has_sent, new_till, nothing_waits, number,
+    ANSWERS_01, ANSWERS_23, Answers, DrivenTill, drives, has_sent, new_till, nothing_waits, number,
     opened_again, queues, refuses_all, stands, starts, takes, tells,
 };
 use escpos_host::SendFault;
@@ -21,6 +21,11 @@ const UNTRIED: ReceiptState = ReceiptState::Waiting { tried: 0 };
 const ONCE: ReceiptState = ReceiptState::Waiting { tried: 1 };
 
 const TWICE: ReceiptState = ReceiptState::Waiting { tried: 2 };
+
+// Cancelled before it was tried, and after one try.
+const GONE: ReceiptState = ReceiptState::Cancelled { tried: 0 };
+
+const DROPPED: ReceiptState = ReceiptState::Cancelled { tried: 1 };
 
 const FIRST: ReceiptState = ReceiptState::Recorded { place: 0 };
 
@@ -76,6 +81,66 @@ fn two_receipts(rt: HostRuntime) {
     let mut till = new_till(&rt, rt.alloc(), Failure::Never);
     takes_two(&rt, rt.alloc(), &mut till);
     records_both(&rt, &mut till);
+}
+
+fn cancels(rt: &impl Abort, till: &mut DrivenTill, at: usize, tried: usize) {
+    let number = number(rt, at);
+    assert!(rt; till.machine.cancel(number) == Ok(()));
+    tells(rt, till, TillNote::Cancelled { number, tried });
+}
+
+// What waits no more isn't cancelled, and neither is what was never taken.
+fn cancels_none(rt: &impl Abort, till: &mut DrivenTill, recorded: usize, cancelled: usize) {
+    let (recorded, cancelled, none) = (number(rt, recorded), number(rt, cancelled), number(rt, 4));
+    assert!(rt; till.machine.cancel(recorded) == Err(TillRefusal::Recorded(recorded)));
+    assert!(rt; till.machine.cancel(cancelled) == Err(TillRefusal::Cancelled(cancelled)));
+    assert!(rt; till.machine.cancel(none) == Err(TillRefusal::NotTaken(none)));
+}
+
+// Of three receipts the first is tried and cancelled, the second is delivered next, and the third is cancelled before it was tried.
+fn cancels_two(rt: &impl Abort, alloc: Global, till: &mut DrivenTill) {
+    for at in 1..=3 {
+        takes(rt, alloc, till, S.0, at);
+    }
+    tries_in_vain(rt, till, 1, (1, b"0000"));
+    cancels(rt, till, 1, 1);
+    cancels(rt, till, 3, 0);
+    stands(rt, till, &[DROPPED, UNTRIED, GONE], 2);
+    tries(rt, till, 1, ANSWERS_23);
+    assert!(rt; till.machine.cancel(number(rt, 2)) == Err(TillRefusal::Busy));
+    tells(rt, till, TillNote::Recorded(number(rt, 2)));
+    stands(rt, till, &[DROPPED, FIRST, GONE], 4);
+    cancels_none(rt, till, 2, 1);
+    nothing_waits(rt, till);
+}
+
+#[test]
+fn cancelled(rt: HostRuntime) {
+    let mut till = new_till(&rt, rt.alloc(), Failure::Never);
+    cancels_two(&rt, rt.alloc(), &mut till);
+    let mut again = opened_again(&rt, rt.alloc(), till);
+    stands(&rt, &again, &[DROPPED, FIRST, GONE], 4);
+    cancels_none(&rt, &mut again, 2, 3);
+    takes(&rt, rt.alloc(), &mut again, S.0, 4);
+    stands(&rt, &again, &[DROPPED, FIRST, GONE, UNTRIED], 4);
+}
+
+// Where the store fails as a receipt is to be cancelled, the machine fails, and the receipt is cancelled or waits.
+#[test]
+fn cancelled_or_not(rt: HostRuntime) {
+    let kept = [
+        (Failure::BeforeKeeping { calls: 1 }, UNTRIED),
+        (Failure::AfterKeeping { calls: 1 }, GONE),
+    ];
+    for (failure, state) in kept {
+        let mut till = new_till(&rt, rt.alloc(), failure);
+        takes(&rt, rt.alloc(), &mut till, S.0, 1);
+        assert!(&rt; till.machine.cancel(number(&rt, 1)) == Ok(()));
+        tells(&rt, &mut till, TillNote::NotKept(StoreFault::Failed));
+        refuses_all(&rt, rt.alloc(), &mut till);
+        let again = opened_again(&rt, rt.alloc(), till);
+        stands(&rt, &again, &[state], 0);
+    }
 }
 
 fn raises(rt: &impl Abort, till: &mut DrivenTill, first: u32) {
@@ -150,18 +215,21 @@ fn store_fails_later(rt: HostRuntime) {
     goes_on(&rt, rt.alloc(), failure, &[UNTRIED, UNTRIED]);
 }
 
-// An entry of a ledger: a receipt is taken; it is tried, and this is the next number; it is recorded; the next number is raised.
+// An entry of a ledger: a receipt is taken; it is tried, and this is the next number; it is recorded; the next number is raised; it is
+// cancelled.
 #[derive(Clone, Copy)]
 enum Plain {
     Taken,
     Tried(usize, u32),
     Recorded(usize),
     Raised(u32),
+    Cancelled(usize),
 }
 
 // Entries that are no ledger, and would be one without the last of them: a receipt is recorded, or tried, that was never taken, or is
-// recorded; one is recorded untried, or twice; the next number stays at a try, or falls.
-const NO_LEDGERS: [&[Plain]; 10] = [
+// recorded; one is recorded untried, or twice; the next number stays at a try, or falls; one is cancelled that was never taken, or waits
+// no more; one is tried or recorded that is cancelled.
+const NO_LEDGERS: [&[Plain]; 15] = [
     &[Plain::Recorded(1)],
     &[Plain::Tried(1, 9)],
     &[Plain::Taken, Plain::Tried(2, 2)],
@@ -187,6 +255,21 @@ const NO_LEDGERS: [&[Plain]; 10] = [
         Plain::Raised(5),
         Plain::Raised(4),
     ],
+    &[Plain::Taken, Plain::Cancelled(2)],
+    &[Plain::Taken, Plain::Cancelled(1), Plain::Cancelled(1)],
+    &[
+        Plain::Taken,
+        Plain::Tried(1, 2),
+        Plain::Recorded(1),
+        Plain::Cancelled(1),
+    ],
+    &[Plain::Taken, Plain::Cancelled(1), Plain::Tried(1, 2)],
+    &[
+        Plain::Taken,
+        Plain::Tried(1, 2),
+        Plain::Cancelled(1),
+        Plain::Recorded(1),
+    ],
 ];
 
 fn entry(rt: &impl Abort, alloc: Global, plain: Plain) -> Entry {
@@ -202,6 +285,9 @@ fn entry(rt: &impl Abort, alloc: Global, plain: Plain) -> Entry {
             number: number(rt, at),
         },
         Plain::Raised(next) => Entry::Raised { next },
+        Plain::Cancelled(at) => Entry::Cancelled {
+            number: number(rt, at),
+        },
     }
 }
 
