@@ -230,6 +230,7 @@ fn help_on_each_word(rt: HostRuntime) {
         "loop",
         "queue",
         "deliver",
+        "cancel",
         "ledger",
         "completions",
         "help",
