@@ -1,0 +1,92 @@
+-- The byte that a command begins with.
+use Rattle.std.proofs.Common.{◌≡◌, ◌≢◌, ◌≤◌, ◌⊎◌, ℕ, IsTrue, List, [], ◌∷◌, ◌++◌, refl, sym, ◌∙◌, ap, subst, append-nil, arith}
+use Rattle.std.proofs.lemmas.Bool.Decides.{nat_tests}
+use Rattle.std.proofs.lemmas.Grind.{flat_map-append}
+use Rattle.escpos_command.specs.declared.bytes.TheConstants.{LF, CR, DLE, ESC, GS}
+use Rattle.escpos_command.specs.declared.command.Command.{Command}
+use Rattle.escpos_command.specs.declared.command.Command.TheVariants as kind
+use Rattle.escpos_command.specs.CommandTable.{IsCommand, row, spell}
+use Rattle.escpos_command.specs.Parameters.{is_character}
+use Rattle.escpos_real_time.specs.RealTime.{HoldsRealTime}
+use Rattle.escpos_real_time.proofs.Holding.{IsStart, held_by_part}
+
+-- The bytes begin with one that no real-time command has after its first.
+pub record Starts (bytes : List ℕ) : Type 0 where
+  pub first : ℕ
+  pub others : List ℕ
+  pub split : bytes ≡ first ∷ others
+  pub is_start : IsStart first
+
+starts : (b : ℕ) (bytes : List ℕ) → IsStart b → Starts (b ∷ bytes)
+starts b bytes s = record { first = b; others = bytes; split = refl; is_start = s }
+
+start : (b : ℕ) → 9 ≤ b → b ≢ 20 → IsStart b
+start b large other = (large, other)
+
+character_start : (b : ℕ) → IsTrue (is_character b) → IsStart b
+character_start b h =
+    let large : 32 ≤ b = search (arith, nat_tests) in
+    (omega (arith, large), λ e. omega (arith, large, e))
+
+esc : IsStart ESC
+esc = (omega arith, λ e. omega (arith, e))
+
+gs : IsStart GS
+gs = (omega arith, λ e. omega (arith, e))
+
+pub character_starts : (b : ℕ) → 32 ≤ b → Starts (b ∷ [])
+character_starts b large = starts b [] (omega (arith, large), λ e. omega (arith, large, e))
+
+pub line_feed_starts : Starts (row kind.LineFeed)
+line_feed_starts = starts LF [] (omega arith, λ e. omega (arith, e))
+
+pub escape_starts : (bytes : List ℕ) → Starts (ESC ∷ bytes)
+escape_starts bytes = starts ESC bytes esc
+
+pub command_starts : (c : Command) → IsCommand c → Starts (row c)
+command_starts (kind.Char b) h = starts b _ (character_start b h)
+command_starts kind.LineFeed h = starts LF _ (omega arith, λ e. omega (arith, e))
+command_starts kind.Return h = starts CR _ (omega arith, λ e. omega (arith, e))
+command_starts kind.Init h = starts ESC _ esc
+command_starts (kind.Mode n) h = starts ESC _ esc
+command_starts (kind.Emphasis n) h = starts ESC _ esc
+command_starts (kind.DoubleStrike n) h = starts ESC _ esc
+command_starts (kind.Underline n) h = starts ESC _ esc
+command_starts (kind.Font n) h = starts ESC _ esc
+command_starts (kind.Table n) h = starts ESC _ esc
+command_starts (kind.CharacterSet n) h = starts ESC _ esc
+command_starts (kind.Reverse n) h = starts GS _ gs
+command_starts (kind.Smoothing n) h = starts GS _ gs
+command_starts (kind.UpsideDown n) h = starts ESC _ esc
+command_starts (kind.Align n) h = starts ESC _ esc
+command_starts (kind.LineSpacing n) h = starts ESC _ esc
+command_starts kind.DefaultSpacing h = starts ESC _ esc
+command_starts (kind.FeedLines n) h = starts ESC _ esc
+command_starts (kind.FeedUnits n) h = starts ESC _ esc
+command_starts (kind.Pulse pulse) h = starts ESC _ esc
+command_starts (kind.Size n) h = starts GS _ gs
+command_starts (kind.BarHeight n) h = starts GS _ gs
+command_starts (kind.BarWidth n) h = starts GS _ gs
+command_starts (kind.HriPlace n) h = starts GS _ gs
+command_starts (kind.HriFont n) h = starts GS _ gs
+command_starts (kind.Bars bars) h = starts GS _ gs
+command_starts (kind.Raster raster) h = starts GS _ gs
+command_starts (kind.QrModel n) h = starts GS _ gs
+command_starts (kind.QrSize n) h = starts GS _ gs
+command_starts (kind.QrLevel n) h = starts GS _ gs
+command_starts (kind.QrStore stored) h = starts GS _ gs
+command_starts kind.QrPrint h = starts GS _ gs
+command_starts (kind.Cut cut) h = starts GS _ gs
+command_starts (kind.AutomaticStatus n) h = starts GS _ gs
+command_starts (kind.Status n) h = starts DLE _ (omega arith, λ e. omega (arith, e))
+command_starts (kind.Mark id) h = starts GS _ gs
+
+by_start : (some bytes : List ℕ) → Starts bytes → HoldsRealTime (some ++ bytes) → HoldsRealTime some ⊎ HoldsRealTime bytes
+by_start some bytes s h =
+    subst (λ l. HoldsRealTime some ⊎ HoldsRealTime l) (sym s.split) (held_by_part some s.first s.others s.is_start (subst (λ l. HoldsRealTime (some ++ l)) s.split h))
+
+pub spelled-snoc : (cs : List Command) (c : Command) → spell (cs ++ c ∷ []) ≡ spell cs ++ row c
+spelled-snoc cs c = flat_map-append row cs (c ∷ []) ∙ ap (λ l. spell cs ++ l) (append-nil (row c))
+
+pub held_by_one : (cs : List Command) (c : Command) → Starts (row c) → HoldsRealTime (spell (cs ++ c ∷ [])) → HoldsRealTime (spell cs) ⊎ HoldsRealTime (row c)
+held_by_one cs c s h = by_start (spell cs) (row c) s (subst HoldsRealTime (spelled-snoc cs c) h)

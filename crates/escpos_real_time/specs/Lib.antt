@@ -1,0 +1,2 @@
+pub mod RealTime
+pub mod Scan
