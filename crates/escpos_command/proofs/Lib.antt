@@ -8,8 +8,9 @@ pub mod TableTree
 pub mod Readings
 pub mod Profiles
 pub mod SecondProfile
+pub mod ThirdProfile
 pub mod FirstProfile
-pub mod Ids
+pub mod Fours
 pub mod Copied
 pub mod Resynchronisation
 pub mod AnswerReadings

@@ -41,7 +41,7 @@ after_escape has New letter after h below new = record {
   new = new;
 }
 
-after_group : (has : Command → Bool) (New : List ℕ → ℕ → Type 0) (letter : ℕ) (after : List ℕ) → has (kind.BarWidth 2) ≡ true
+pub after_group : (has : Command → Bool) (New : List ℕ → ℕ → Type 0) (letter : ℕ) (after : List ℕ) → has (kind.BarWidth 2) ≡ true
     → ((w : List ℕ) (c : Command) → walk grammar (GS ∷ letter ∷ w) ≡ leaf c → has c ≡ false) → New (GS ∷ []) letter → Parts has New (GS ∷ letter ∷ after)
 after_group has New letter after h below new = record {
   before = GS ∷ [];
@@ -134,6 +134,8 @@ later_parts has New e (kind.Reverse n) h =
     after_group has New 0x42 (n ∷ []) e.bar_width (one_below has is_byte kind.Reverse (λ m. e.lacks (kind.Reverse m) refl)) (e.new _ _ (after_gs refl refl))
 later_parts has New e (kind.Smoothing n) h =
     after_group has New 0x62 (n ∷ []) e.bar_width (one_below has is_byte kind.Smoothing (λ m. e.lacks (kind.Smoothing m) refl)) (e.new _ _ (after_gs refl refl))
+later_parts has New e (kind.AutomaticStatus n) h =
+    after_group has New 0x61 (n ∷ []) e.bar_width (one_below has is_byte kind.AutomaticStatus (λ m. e.lacks (kind.AutomaticStatus m) refl)) (e.new _ _ (after_gs refl refl))
 later_parts has New e (kind.QrModel n) h = after_bracket_k has New _ e
 later_parts has New e (kind.QrSize n) h = after_bracket_k has New _ e
 later_parts has New e (kind.QrLevel n) h = after_bracket_k has New _ e
@@ -216,9 +218,12 @@ escape_letters b h =
 group_letters : (b : ℕ) → is_new_after_gs b ≡ true → IsTakenNow (GS ∷ b ∷ [])
 unfolding not_after later_parts after_escape after_group
 group_letters b h =
-    elim (either (b == 0x42) (b == 0x62) h) [
+    elim (either (b == 0x42 || b == 0x61) (b == 0x62) h) [
       | inr e ↦ after_group_now b 0x62 e (taken_there (kind.Smoothing 0) refl refl (GS ∷ []) 0x62 (0 ∷ []) refl (not_after (kind.Smoothing 0) refl).none)
-      | inl e ↦ after_group_now b 0x42 e (taken_there (kind.Reverse 0) refl refl (GS ∷ []) 0x42 (0 ∷ []) refl (not_after (kind.Reverse 0) refl).none)
+      | inl i ↦ elim (either (b == 0x42) (b == 0x61) i) [
+        | inr e ↦ after_group_now b 0x61 e (taken_there (kind.AutomaticStatus 0) refl refl (GS ∷ []) 0x61 (0 ∷ []) refl (not_after (kind.AutomaticStatus 0) refl).none)
+        | inl e ↦ after_group_now b 0x42 e (taken_there (kind.Reverse 0) refl refl (GS ∷ []) 0x42 (0 ∷ []) refl (not_after (kind.Reverse 0) refl).none)
+      ]
     ]
 
 after_rest : (rest others : List ℕ) (b : ℕ) → rest ≡ others → IsTakenNow (others ++ b ∷ []) → Viable (rest ++ b ∷ []) × (ViableIn in_second_profile (rest ++ b ∷ []) → ⊥)

@@ -90,6 +90,7 @@ leads (kind.QrStore stored) h = leads_store stored h
 leads kind.QrPrint h = refl
 leads (kind.Cut c) h =
     ap (walk (cut c.0)) (append-nil (option_to_list c.1 ++ []) ∙ append-nil (option_to_list c.1)) ∙ leads_cut c.0 c.1 h
+leads (kind.AutomaticStatus n) h = walk-one is_byte kind.AutomaticStatus n h
 leads (kind.Status n) h = walk-one is_status_kind kind.Status n h
 leads (kind.Mark id) h = ap (walk (counted 4 (λ _. is_mark_byte) kind.Mark [])) (append-nil (id ++ []) ∙ append-nil id) ∙ leads_mark id h
 
@@ -128,7 +129,7 @@ good_after_esc =
 
 good_after_gs : (b : ℕ) → Good (GS ∷ b ∷ []) (branch after_gs none b)
 good_after_gs =
-    good_branch (GS ∷ []) after_gs none (good_one (GS ∷ 0x21 ∷ []) is_size kind.Size 0 refl (λ n h. at_row (kind.Size n) h), (((0x48, tt), good_after_bracket), (good_one (GS ∷ 0x42 ∷ []) is_byte kind.Reverse 0 refl (λ n h. at_row (kind.Reverse n) h), (good_one (GS ∷ 0x48 ∷ []) is_one_of_four kind.HriPlace 0 refl (λ n h. at_row (kind.HriPlace n) h), (((0, tt), good_cut), (good_one (GS ∷ 0x62 ∷ []) is_byte kind.Smoothing 0 refl (λ n h. at_row (kind.Smoothing n) h), (good_one (GS ∷ 0x66 ∷ []) is_one_of_two kind.HriFont 0 refl (λ n h. at_row (kind.HriFont n) h), (good_one (GS ∷ 0x68 ∷ []) is_bar_height kind.BarHeight 1 refl (λ n h. at_row (kind.BarHeight n) h), (((65, tt), good_barcodes), (good_raster, (good_one (GS ∷ 0x77 ∷ []) is_bar_width kind.BarWidth 2 refl (λ n h. at_row (kind.BarWidth n) h), tt)))))))))))
+    good_branch (GS ∷ []) after_gs none (good_one (GS ∷ 0x21 ∷ []) is_size kind.Size 0 refl (λ n h. at_row (kind.Size n) h), (((0x48, tt), good_after_bracket), (good_one (GS ∷ 0x42 ∷ []) is_byte kind.Reverse 0 refl (λ n h. at_row (kind.Reverse n) h), (good_one (GS ∷ 0x48 ∷ []) is_one_of_four kind.HriPlace 0 refl (λ n h. at_row (kind.HriPlace n) h), (((0, tt), good_cut), (good_one (GS ∷ 0x61 ∷ []) is_byte kind.AutomaticStatus 0 refl (λ n h. at_row (kind.AutomaticStatus n) h), (good_one (GS ∷ 0x62 ∷ []) is_byte kind.Smoothing 0 refl (λ n h. at_row (kind.Smoothing n) h), (good_one (GS ∷ 0x66 ∷ []) is_one_of_two kind.HriFont 0 refl (λ n h. at_row (kind.HriFont n) h), (good_one (GS ∷ 0x68 ∷ []) is_bar_height kind.BarHeight 1 refl (λ n h. at_row (kind.BarHeight n) h), (((65, tt), good_barcodes), (good_raster, (good_one (GS ∷ 0x77 ∷ []) is_bar_width kind.BarWidth 2 refl (λ n h. at_row (kind.BarWidth n) h), tt))))))))))))
     (λ _. tt)
 
 good_after_dle : (b : ℕ) → Good (DLE ∷ b ∷ []) (branch after_dle none b)

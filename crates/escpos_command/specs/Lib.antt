@@ -10,6 +10,7 @@ pub mod Places
 pub mod Grammar
 pub mod Tree
 pub mod Profiles
+pub mod ThirdProfile
 pub mod SecondProfile
 pub mod FirstProfile
 pub mod Laws
@@ -18,4 +19,5 @@ pub mod Text
 pub mod Copied
 pub mod Chars
 pub mod Marks
+pub mod Blocks
 pub mod Answers

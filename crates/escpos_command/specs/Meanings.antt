@@ -1,5 +1,5 @@
 -- What the bytes of parameters mean.
-use Rattle.std.specs.Prelude.{ℕ, ◌==◌, ◌+◌, ◌-◌, ◌/◌, ◌%◌, ◌^◌, ◌||◌, Bool, if◌then◌else◌}
+use Rattle.std.specs.Prelude.{ℕ, ◌==◌, ◌+◌, ◌-◌, ◌/◌, ◌%◌, ◌^◌, ◌||◌, not, Bool, if◌then◌else◌}
 use Rattle.escpos_command.specs.declared.parameter.choices.FontFace.{FontFace}
 use Rattle.escpos_command.specs.declared.parameter.choices.FontFace.TheVariants.{A, B}
 use Rattle.escpos_command.specs.declared.parameter.choices.Alignment.{Alignment}
@@ -54,6 +54,10 @@ size_height n = n % 8 + 1
 -- A cut leaves one point where its mode is 1, 49 or 66.
 abbrev pub leaves_a_point : ℕ → Bool
 leaves_a_point m = m == 1 || m == 49 || m == 66
+
+-- GS a lets the printer tell its condition unasked, by any bit.
+abbrev pub reports : ℕ → Bool
+reports n = not (n == 0)
 
 -- The model of a QR code is sent as its digit.
 abbrev pub model_number : ℕ → ℕ

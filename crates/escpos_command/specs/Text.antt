@@ -40,6 +40,7 @@ ends_text (kind.QrSize n) = false
 ends_text (kind.QrLevel n) = false
 ends_text (kind.QrStore stored) = false
 ends_text kind.QrPrint = true
+ends_text (kind.AutomaticStatus n) = false
 ends_text (kind.Status n) = false
 ends_text (kind.Mark id) = false
 

@@ -218,6 +218,7 @@ after_gs =
     ∷ (0x42, one is_byte kind.Reverse)
     ∷ (0x48, one is_one_of_four kind.HriPlace)
     ∷ (0x56, node cut)
+    ∷ (0x61, one is_byte kind.AutomaticStatus)
     ∷ (0x62, one is_byte kind.Smoothing)
     ∷ (0x66, one is_one_of_two kind.HriFont)
     ∷ (0x68, one is_bar_height kind.BarHeight)

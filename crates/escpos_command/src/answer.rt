@@ -1,11 +1,12 @@
-//! What a printer answers: a status byte, or that everything before a mark is done.
+//! What a printer answers: a status byte, that everything before a mark is done, or unasked what its condition is.
 //!
-//! The bytes are this project's own choice. The first one shows which answer it is: bit 0 is clear in a status byte and set
-//! in 37. `specs/Answers.antt` defines which answers a list of such bytes holds.
+//! The first byte shows which answer it is: 37 has bit 0 set, a status byte has bit 0 clear and bit 1 set, and in the first
+//! byte of a block both are clear. `specs/Answers.antt` defines which answers a list of such bytes holds.
 
-ghost use Rattle.std.specs.Prelude.{◌≡◌, IsTrue};
-ghost use Rattle.escpos_command.specs.Answers.{answer_bytes, is_answer, AnswerSpells};
+ghost use Rattle.std.specs.Prelude.{◌≡◌, IsTrue, length};
+ghost use Rattle.escpos_command.specs.Answers.{answer_bytes, answer_length, is_answer, AnswerSpells};
 
+use crate::automatic_status::AutomaticStatus;
 use crate::mark::MarkId;
 use arrayvec::ArrayVec;
 
@@ -16,12 +17,16 @@ pub enum Answer {
     Status(u8),
     /// Everything before the mark with this id is done. (Reference: GS ( H.)
     Mark(MarkId),
+    /// The condition of the printer, sent unasked. (Reference: GS a.)
+    Condition(AutomaticStatus),
 }
 
 impl Answer {
-    /// The bytes that go to the host: a status byte as it is, and 37 22, the id and 00 for a mark. Allocates nothing.
+    /// The bytes that go to the host: a status byte as it is; 37 22, the id and 00 for a mark; and the four bytes of a block.
+    /// Allocates nothing.
     pub fn bytes(self) -> ArrayVec<u8, 7>
         ensures bytes { result.items ≡ answer_bytes self }
+        ensures length { length result.items ≡ answer_length self }
         ensures spelled { IsTrue (is_answer self) → AnswerSpells self result.items }
     {
         let mut bytes = ArrayVec::new();
@@ -32,6 +37,7 @@ impl Answer {
                 bytes.try_extend_from_slice(&id.bytes()).unwrap();
                 bytes.push(0);
             }
+            Answer::Condition(status) => bytes.try_extend_from_slice(&status.bytes()).unwrap(),
         }
         bytes
     }

@@ -13,8 +13,8 @@ use crate::bytes::{CR, DLE, EOT, ESC, GS, LF};
 use crate::mark::MarkId;
 use crate::parameter::{
     Align, BarHeight, BarWidth, Character, CharacterSet, Cut, Emphasis, FeedLines, FeedUnits, Font,
-    HriFont, HriPlace, LineSpacing, Mode, Pulse, QrLevel, QrModel, QrSize, Size, StatusKind,
-    Switch, Table, Underline,
+    HriFont, HriPlace, LineSpacing, Mode, Pulse, QrLevel, QrModel, QrSize, Reporting, Size,
+    StatusKind, Switch, Table, Underline,
 };
 use crate::qr::QrData;
 use crate::raster::Raster;
@@ -89,6 +89,8 @@ pub enum Command {
     QrPrint,
     /// GS V: cuts the paper. (Reference: GS V.)
     Cut(Cut),
+    /// GS a: sets whether the printer tells its condition unasked. (Reference: GS a.)
+    AutomaticStatus(Reporting),
     /// DLE EOT: asks for a status byte. (Reference: DLE EOT.)
     Status(StatusKind),
     /// GS ( H, function 48: asks for an answer with this id once everything before it is done.
@@ -167,6 +169,7 @@ impl Command {
                 None => with(&[GS, b'V'], cut.mode()),
                 Some(feed) => with_all(&[GS, b'V'], &[cut.mode(), feed]),
             },
+            Command::AutomaticStatus(reporting) => with(&[GS, b'a'], reporting.byte()),
             Command::Status(kind) => with(&[DLE, EOT], kind.byte()),
             Command::Mark(id) => mark(*id),
         }

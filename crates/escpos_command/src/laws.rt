@@ -11,9 +11,10 @@ ghost use Rattle.escpos_command.specs.Digits.{mark_count, mark_of};
 ghost use Rattle.escpos_command.specs.Tree.{Tree, dead, leaf, node, walk, grammar};
 ghost use Rattle.escpos_command.specs.Profiles.{ViableIn, ReadsIn, FaultAtIn, IsReadIn, IsRefusedIn};
 ghost use Rattle.escpos_command.specs.FirstProfile.{in_first_profile, IsNew};
+ghost use Rattle.escpos_command.specs.ThirdProfile.{in_third_profile, IsLetterOfStatus};
 ghost use Rattle.escpos_command.specs.SecondProfile.{in_second_profile, IsNewLetter};
 ghost use Rattle.escpos_command.specs.Marks.{IsMarkOrNone};
-ghost use Rattle.escpos_command.specs.Answers.{AnswerSpells, Hears};
+ghost use Rattle.escpos_command.specs.Answers.{AnswerSpells, Hears, kind_of, kind_by};
 ghost use Rattle.escpos_command.specs.declared.answer.Answer.{Answer};
 ghost use Rattle.escpos_command.specs.declared.command.Command.TheVariants as kind;
 ghost use Rattle.escpos_command.specs.Laws.{longest_spelling, IsRead, IsRefused};
@@ -63,8 +64,8 @@ pub fn first_profile()
         FaultAtIn in_first_profile bs cs rest k why → FaultAt bs cs rest k why ⊎ IsNew rest (slice_index bs k) }
 {}
 
-/// The second profile, which had no double strike, white on black, lines upside down, smoothing, line spacing and character
-/// sets: it reads or refuses each byte list; what it read is read so by the whole table; and where it refused a byte, that byte
+/// The second profile, which had no double strike, white on black, lines upside down, smoothing, line spacing, character sets,
+/// QR codes and automatic status: it reads or refuses each byte list; what it read is read so by the whole table; and where it refused a byte, that byte
 /// is refused for the same reason, unless it is the letter of one of these, which is taken now and wasn't then.
 pub fn second_profile()
     ensures read_or_refused { (bs : List ℕ) → IsReadIn in_second_profile bs ⊎ IsRefusedIn in_second_profile bs }
@@ -73,6 +74,18 @@ pub fn second_profile()
         FaultAtIn in_second_profile bs cs rest k why → FaultAt bs cs rest k why ⊎ IsNewLetter rest (slice_index bs k) }
     ensures new { (rest : List ℕ) (b : ℕ) → IsNewLetter rest b →
         Viable (rest ++ b ∷ []) × (ViableIn in_second_profile (rest ++ b ∷ []) → ⊥) }
+{}
+
+/// The third profile, which had no automatic status: it reads or refuses each byte list; what it read is read so by the whole
+/// table; and where it refused a byte, that byte is refused for the same reason, unless it is the letter of GS a, which is taken
+/// now and wasn't then.
+pub fn third_profile()
+    ensures read_or_refused { (bs : List ℕ) → IsReadIn in_third_profile bs ⊎ IsRefusedIn in_third_profile bs }
+    ensures read { (bs : List ℕ) (cs : List Command) (rest : List ℕ) → ReadsIn in_third_profile bs cs rest → Reads bs cs rest }
+    ensures refused { (bs : List ℕ) (cs : List Command) (rest : List ℕ) (k : ℕ) (why : FaultReason) →
+        FaultAtIn in_third_profile bs cs rest k why → FaultAt bs cs rest k why ⊎ IsLetterOfStatus rest (slice_index bs k) }
+    ensures new { (rest : List ℕ) (b : ℕ) → IsLetterOfStatus rest b →
+        Viable (rest ++ b ∷ []) × (ViableIn in_third_profile (rest ++ b ∷ []) → ⊥) }
 {}
 
 /// Mark numbers: each has an id of its own.
@@ -88,12 +101,14 @@ pub fn resynchronisation()
         → row (kind.Mark id) ≡ q ++ more → Reads (half ++ q) cs rest → IsMarkOrNone half more id cs }
 {}
 
-/// Answers: each has its own bytes, no answer begins another, and a list of bytes is heard in at most one way. A hearing
-/// goes on where it stopped. Where bytes are whole answers and are cut anywhere, the first part gives the first of these
+/// Answers: each has its own bytes, no answer begins another, and a list of bytes is heard in at most one way. The first
+/// byte tells the kind of an answer, so answers of two kinds share no prefix. A hearing goes on where it stopped. Where bytes are whole answers and are cut anywhere, the first part gives the first of these
 /// answers, and the others follow from there.
 pub fn answers()
     ensures one_answer { (a b : Answer) (bs : List ℕ) → AnswerSpells a bs → AnswerSpells b bs → a ≡ b }
     ensures no_prefix { (a b : Answer) (bs more : List ℕ) → AnswerSpells a bs → AnswerSpells b (bs ++ more) → more ≡ [] }
+    ensures first_byte { (a : Answer) (first : ℕ) (more : List ℕ) → AnswerSpells a (first ∷ more) → kind_of a ≡ kind_by first }
+    ensures one_kind { (a b : Answer) (bs x y : List ℕ) → bs ≢ [] → AnswerSpells a (bs ++ x) → AnswerSpells b (bs ++ y) → kind_of a ≡ kind_of b }
     ensures one_hearing { (bs : List ℕ) (some others : List Answer) (x y : List ℕ) → Hears bs some x → Hears bs others y → (some ≡ others) × (x ≡ y) }
     ensures joined { (a b : List ℕ) (some others : List Answer) (r s : List ℕ) → Hears a some r → Hears (r ++ b) others s → Hears (a ++ b) (some ++ others) s }
     ensures cut { (a b : List ℕ) (all some : List Answer) (r : List ℕ) → Hears (a ++ b) all [] → Hears a some r

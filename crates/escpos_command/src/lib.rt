@@ -2,14 +2,15 @@
 //!
 //! `command` has the commands and `parameter` their parameters; `mark` has the ids of marks, `bars` barcodes, `raster`
 //! rasters and `qr` the data of QR codes, whose bytes are a `content`. `bytes` has the control bytes, `chars` makes commands of a text. `spelling` gives
-//! the bytes of a command, and `writing` puts those of a list. `answer` has what a printer answers, and `fault` why a byte
-//! is refused. `line_width` has how wide a line is, which no command says.
+//! the bytes of a command, and `writing` puts those of a list. `answer` has what a printer answers, `automatic_status` what it
+//! says unasked, and `fault` why a byte is refused. `line_width` has how wide a line is, which no command says.
 //!
 //! `specs/CommandTable.antt` is the command table, `specs/Grammar.antt` defines what a byte list says by that table alone,
 //! and `laws` has what follows from it. The crate above reads bytes.
 #![tactic(auto)]
 
 mod answer;
+mod automatic_status;
 mod bars;
 mod bytes;
 mod chars;
@@ -26,6 +27,7 @@ mod spelling;
 mod writing;
 
 pub use answer::Answer;
+pub use automatic_status::{AutomaticStatus, begins_block, continues_block};
 pub use bars::{BarFault, Bars, Form, Symbology, is_codabar, is_codabar_end, is_code39, is_digit};
 pub use bytes::{CR, DLE, EOT, ESC, GS, LF};
 pub use chars::{CharsFault, chars_of};
@@ -37,7 +39,7 @@ pub use mark::{MarkId, is_mark_byte};
 pub use parameter::{
     Align, Alignment, BarHeight, BarWidth, Character, CharacterSet, Correction, Cut, Emphasis,
     FeedLines, FeedUnits, Font, FontFace, HriFont, HriPlace, HriPosition, LineSpacing, Mode, Pulse,
-    QrLevel, QrModel, QrSize, Scale, Size, StatusKind, Switch, Table, Underline,
+    QrLevel, QrModel, QrSize, Reporting, Scale, Size, StatusKind, Switch, Table, Underline,
 };
 pub use qr::{MOST_QR_DATA, QrData};
 pub use raster::{HIGHEST, Raster, RasterFault, WIDEST, is_height, is_scale, is_width};

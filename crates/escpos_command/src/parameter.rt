@@ -13,8 +13,8 @@ mod switch;
 mod text;
 
 pub use barcode::{BarHeight, BarWidth, HriFont, HriPlace};
-pub use choices::{Alignment, Correction, FontFace, HriPosition, Scale, choice, scale_of};
-pub use line::{Align, Cut, FeedLines, FeedUnits, LineSpacing, Pulse, StatusKind};
+pub use choices::{Alignment, Correction, FontFace, HriPosition, Scale, choice, has_bit, scale_of};
+pub use line::{Align, Cut, FeedLines, FeedUnits, LineSpacing, Pulse, Reporting, StatusKind};
 pub use qr::{QrLevel, QrModel, QrSize};
 pub use switch::Switch;
 pub use text::{Character, CharacterSet, Emphasis, Font, Mode, Size, Table, Underline};

@@ -228,6 +228,7 @@ some_ahead (kind.QrSize x) e = absurd cc
 some_ahead (kind.QrLevel x) e = absurd cc
 some_ahead (kind.QrStore x) e = absurd cc
 some_ahead kind.QrPrint e = absurd cc
+some_ahead (kind.AutomaticStatus x) e = absurd cc
 some_ahead (kind.Status x) e = absurd cc
 some_ahead (kind.Mark x) e = absurd cc
 

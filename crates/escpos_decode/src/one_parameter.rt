@@ -6,8 +6,8 @@ ghost use Rattle.escpos_decode.specs.OneParameter.{parameter_prefix, parameter_a
 
 use escpos_command::{
     Align, BarHeight, BarWidth, CharacterSet, Command, Emphasis, FeedLines, FeedUnits, Font,
-    HriFont, HriPlace, LineSpacing, Mode, QrLevel, QrSize, Size, StatusKind, Switch, Table,
-    Underline,
+    HriFont, HriPlace, LineSpacing, Mode, QrLevel, QrSize, Reporting, Size, StatusKind, Switch,
+    Table, Underline,
 };
 
 /// A letter with one parameter byte, named after its command. (EOT after DLE is one too, and so are two functions of QR codes.)
@@ -28,6 +28,7 @@ pub enum OneParameter {
     Size,
     Reverse,
     HriPlace,
+    AutomaticStatus,
     Smoothing,
     HriFont,
     BarHeight,
@@ -58,6 +59,7 @@ impl OneParameter {
             OneParameter::Size => Size::new(byte).map(Command::Size),
             OneParameter::Reverse => Switch::new(byte).map(Command::Reverse),
             OneParameter::HriPlace => HriPlace::new(byte).map(Command::HriPlace),
+            OneParameter::AutomaticStatus => Reporting::new(byte).map(Command::AutomaticStatus),
             OneParameter::Smoothing => Switch::new(byte).map(Command::Smoothing),
             OneParameter::HriFont => HriFont::new(byte).map(Command::HriFont),
             OneParameter::BarHeight => BarHeight::new(byte).map(Command::BarHeight),

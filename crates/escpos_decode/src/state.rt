@@ -427,6 +427,7 @@ fn after_gs(byte: u8) -> Next
         b'B' => Next::To(State::Parameter(OneParameter::Reverse)),
         b'H' => Next::To(State::Parameter(OneParameter::HriPlace)),
         b'V' => Next::To(State::CutMode),
+        b'a' => Next::To(State::Parameter(OneParameter::AutomaticStatus)),
         b'b' => Next::To(State::Parameter(OneParameter::Smoothing)),
         b'f' => Next::To(State::Parameter(OneParameter::HriFont)),
         b'h' => Next::To(State::Parameter(OneParameter::BarHeight)),

@@ -71,6 +71,7 @@ prints_first w before (kind.BarWidth n) h = tt
 prints_first w before (kind.HriPlace n) h = tt
 prints_first w before (kind.HriFont n) h = tt
 prints_first w before (kind.Pulse pulse) h = absurd cc
+prints_first w before (kind.AutomaticStatus n) h = absurd cc
 prints_first w before (kind.Status n) h = tt
 prints_first w before (kind.Mark id) h = tt
 

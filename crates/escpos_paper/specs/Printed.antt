@@ -86,6 +86,7 @@ prints width before (kind.BarWidth n) = []
 prints width before (kind.HriPlace n) = []
 prints width before (kind.HriFont n) = []
 prints width before (kind.Pulse pulse) = []
+prints width before (kind.AutomaticStatus n) = []
 prints width before (kind.Status n) = []
 prints width before (kind.Mark id) = []
 

@@ -39,8 +39,8 @@ pub fn raster_item(align: Alignment, raster: Raster) -> Item
     }
 }
 
-// The check digit that the content of a barcode lacks.
-fn added_digit(bars: &Bars) -> Option<u8>
+/// The check digit that the content of a barcode lacks, which a printer adds to it. Allocates nothing.
+pub fn added_digit(bars: &Bars) -> Option<u8>
     ensures { result ≡ added_digit bars.now.symbology bars.now.content }
 {
     let content = bars.content();

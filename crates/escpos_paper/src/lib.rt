@@ -24,6 +24,7 @@ mod style;
 mod text;
 mod write;
 
+pub use barcode::added_digit;
 pub use cell::{Cell, Cells, LINE_CELLS};
 pub use content::{CONTENT_BYTES, Content, DOT_BYTES, Dots, QrContent};
 pub use digits::{all_digits, check_digit};

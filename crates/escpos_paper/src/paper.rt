@@ -154,6 +154,7 @@ impl Paper {
             Command::Return
             | Command::Smoothing(_)
             | Command::Pulse(_)
+            | Command::AutomaticStatus(_)
             | Command::Status(_)
             | Command::Mark(_) => {}
         }

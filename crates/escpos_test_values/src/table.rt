@@ -1,7 +1,7 @@
 //! The command table, a spelling for each row.
 
 // A spelling of each row of the command table, with a barcode of each symbology in each form.
-const SPELLINGS: [&[u8]; 49] = [
+const SPELLINGS: [&[u8]; 50] = [
     b"A",
     b"\x0A",
     b"\x0D",
@@ -26,6 +26,7 @@ const SPELLINGS: [&[u8]; 49] = [
     b"\x1DH\x02",
     b"\x1DV\x01",
     b"\x1DV\x42\x00",
+    b"\x1Da\x0E",
     b"\x1Db\x01",
     b"\x1Df\x30",
     b"\x1Dh\x01",

@@ -1,9 +1,9 @@
-//! Parameters of commands that act on a line or on the paper.
+//! Parameters of commands that act on a line or on the paper, and of those that the printer answers.
 
 ghost use Rattle.std.specs.Prelude.{◌≡◌, ℕ, IsTrue, Some, None};
 ghost use Rattle.std.specs.Option.{SomeIff};
 ghost use Rattle.escpos_command.specs.Parameters.{is_byte, is_one_of_three, is_cut, is_pulse, is_status_kind};
-ghost use Rattle.escpos_command.specs.Meanings.{choice, alignment_of, leaves_a_point};
+ghost use Rattle.escpos_command.specs.Meanings.{choice, alignment_of, leaves_a_point, reports};
 
 use super::choices::{Alignment, alignment_of, choice};
 use std::marker::Model;
@@ -275,6 +275,54 @@ impl Cut {
         ensures { result ≡ leaves_a_point self.0 }
     {
         matches!(self.mode, 1 | 49 | 66)
+    }
+}
+
+/// Whether the printer tells its condition unasked: 0 not, any other number at each change. (Reference: GS a, whose bits choose
+/// between changes; here any bit chooses all.)
+#[derive(Clone, Copy, Debug, PartialEq, Eq)]
+pub struct Reporting {
+    byte: u8,
+}
+
+impl Model for Reporting {
+    ghost Value = { ℕ };
+
+    ghost view = { λ p. p.byte };
+
+    ghost invariant = { λ p. IsTrue (is_byte p.byte) };
+
+    ghost inverse = { λ n. record { byte = n } };
+}
+
+impl Reporting {
+    /// The setting of a printer that was just switched on: 0, not.
+    pub fn off() -> Self
+        ensures { result ≡ 0 }
+    {
+        Reporting { byte: 0 }
+    }
+
+    /// The setting of this byte. Every byte is one.
+    pub fn new(byte: u8) -> Option<Self>
+        ensures { SomeIff result (IsTrue (is_byte byte)) byte }
+    {
+        Some(Reporting { byte })
+    }
+
+    /// The byte as sent.
+    pub fn byte(self) -> u8
+        ensures kept { result ≡ self }
+        ensures range { IsTrue (is_byte result) }
+    {
+        self.byte
+    }
+
+    /// Whether the printer tells its condition: any bit is set.
+    pub fn is_on(self) -> bool
+        ensures { result ≡ reports self }
+    {
+        self.byte != 0
     }
 }
 

@@ -2,9 +2,9 @@
 
 use crate::support::commands::{characters, spell_from, spelled_len, write_to};
 use escpos_command::{
-    BarFault, Bars, Character, CharsFault, Command, Correction, FaultReason, FeedLines, Form,
-    LONGEST_SPELLING, MOST_QR_DATA, MarkId, QrData, QrLevel, QrModel, QrSize, Raster, RasterFault,
-    Scale, Symbology,
+    Answer, AutomaticStatus, BarFault, Bars, Character, CharsFault, Command, Correction,
+    FaultReason, FeedLines, Form, LONGEST_SPELLING, MOST_QR_DATA, MarkId, QrData, QrLevel, QrModel,
+    QrSize, Raster, RasterFault, Reporting, Scale, Symbology,
 };
 use escpos_io::{Device, MemoryOut, Outgoing};
 use escpos_test_values::{FIVE, MARK_35, bytes_of, five_commands_of, spell_to};
@@ -74,6 +74,60 @@ fn mark_35(rt: HostRuntime) {
     assert!(rt; parts.prefix == &MARK_35[..7]);
     assert!(rt; parts.parameters.as_slice() == &MARK_35[7..]);
     spell(&rt, rt.alloc(), &[mark], &MARK_35);
+}
+
+// The bytes of a block: whether they are one, and whether they say that the printer is offline, its cover open, its paper near
+// its end or ended.
+const BLOCKS: [([u8; 4], Option<[bool; 4]>); 12] = [
+    ([0x10, 0x00, 0x00, 0x00], Some([false, false, false, false])),
+    ([0x38, 0x00, 0x00, 0x00], Some([true, true, false, false])),
+    ([0x18, 0x00, 0x0F, 0x00], Some([true, false, true, true])),
+    ([0x10, 0x00, 0x03, 0x00], Some([false, false, true, false])),
+    ([0x10, 0x00, 0x08, 0x00], Some([false, false, false, true])),
+    ([0x7C, 0x6F, 0x6F, 0x6F], Some([true, true, true, true])),
+    ([0x12, 0x00, 0x00, 0x00], None),
+    ([0x11, 0x00, 0x00, 0x00], None),
+    ([0x00, 0x00, 0x00, 0x00], None),
+    ([0x90, 0x00, 0x00, 0x00], None),
+    ([0x10, 0x10, 0x00, 0x00], None),
+    ([0x10, 0x00, 0x00, 0x80], None),
+];
+
+// A block with these bytes, and what it says.
+fn says(rt: &impl Abort, block: &AutomaticStatus, bytes: [u8; 4], wanted: [bool; 4]) {
+    let [offline, cover_open, near_end, paper_end] = wanted;
+    assert!(rt; block.bytes() == bytes);
+    assert!(rt; block.is_offline() == offline);
+    assert!(rt; block.is_cover_open() == cover_open);
+    assert!(rt; block.is_near_end() == near_end);
+    assert!(rt; block.is_paper_end() == paper_end);
+    assert!(rt; Answer::Condition(*block).bytes().as_slice() == bytes.as_slice());
+}
+
+#[test]
+fn blocks_of_automatic_status(rt: HostRuntime) {
+    for (bytes, wanted) in BLOCKS {
+        match (AutomaticStatus::new(bytes), wanted) {
+            (Some(block), Some(wanted)) => says(&rt, &block, bytes, wanted),
+            (None, None) => {}
+            _ => assert!(&rt; false, "a block or none"),
+        }
+    }
+}
+
+#[test]
+fn reporting(rt: HostRuntime) {
+    assert!(rt; !Reporting::off().is_on());
+    for (byte, is_on) in [(0x00, false), (0x01, true), (0x0E, true), (0x80, true)] {
+        let reporting = Reporting::new(byte).expect(&rt, "reporting");
+        assert!(rt; reporting.is_on() == is_on);
+        spell(
+            &rt,
+            rt.alloc(),
+            &[Command::AutomaticStatus(reporting)],
+            &[0x1D, 0x61, byte],
+        );
+    }
 }
 
 #[test]

@@ -7,7 +7,7 @@ use crate::support::comparison::agrees;
 use crate::support::decoders::{BAD, decodes, holds, push_half, reads, refuses_last, steps_to};
 use escpos_command::{
     Align, Character, CharacterSet, Command, Cut, FaultReason, FeedUnits, LineSpacing, MarkId,
-    Pulse, Size, Switch,
+    Pulse, Reporting, Size, Switch,
 };
 use escpos_decode::{DecodeFault, Decoder, End, Step};
 use escpos_test_values::{FIVE, MARK_35, five_commands_of};
@@ -186,6 +186,18 @@ fn switches(rt: HostRuntime) {
         Command::UpsideDown(upside_down),
         Command::Smoothing(smoothing),
     ];
+    let end = End::Read { half: 0 };
+    decodes(&rt, rt.alloc(), &[&bytes], &commands, end);
+    agrees(&rt, rt.alloc(), &bytes);
+}
+
+// GS a takes every byte, and keeps it as sent.
+#[test]
+fn automatic_status(rt: HostRuntime) {
+    let bytes = [0x1D, 0x61, 0x00, 0x1D, 0x61, 0xFF];
+    let off = Reporting::new(0x00).expect(&rt, "reporting");
+    let on = Reporting::new(0xFF).expect(&rt, "reporting");
+    let commands = [Command::AutomaticStatus(off), Command::AutomaticStatus(on)];
     let end = End::Read { half: 0 };
     decodes(&rt, rt.alloc(), &[&bytes], &commands, end);
     agrees(&rt, rt.alloc(), &bytes);

@@ -6,8 +6,8 @@
 use escpos_command::{
     Align, BarHeight, BarWidth, Bars, CR, Character, CharacterSet, Command, Cut, DLE, EOT, ESC,
     Emphasis, FaultReason, FeedLines, FeedUnits, Font, Form, GS, HriFont, HriPlace, LF,
-    LineSpacing, MarkId, Mode, Pulse, QrData, QrLevel, QrModel, QrSize, Raster, Size, StatusKind,
-    Switch, Symbology, Table, Underline,
+    LineSpacing, MarkId, Mode, Pulse, QrData, QrLevel, QrModel, QrSize, Raster, Reporting, Size,
+    StatusKind, Switch, Symbology, Table, Underline,
 };
 use std::alloc::Global;
 use std::process::Abort;
@@ -97,6 +97,7 @@ fn spelled_by_group(rt: &impl Abort, rest: &[u8]) -> Option<Command> {
         )),
         [b'V', m @ (0 | 1 | 48 | 49)] => Command::Cut(Cut::new(*m).expect(rt, "a parameter")),
         [b'V', m @ (65 | 66), n] => Command::Cut(Cut::with_feed(*m, *n).expect(rt, "a parameter")),
+        [b'a', n] => Command::AutomaticStatus(Reporting::new(*n).expect(rt, "a parameter")),
         [b'b', n] => Command::Smoothing(Switch::new(*n).expect(rt, "a parameter")),
         [b'f', n @ (0 | 1 | 48 | 49)] => Command::HriFont(HriFont::new(*n).expect(
             rt,
@@ -187,7 +188,7 @@ fn begins_after_escape(rest: &[u8]) -> bool {
 fn begins_after_group(rest: &[u8]) -> bool {
     match rest {
         [] => true,
-        [b'!' | b'(' | b'B' | b'H' | b'V' | b'b' | b'f' | b'h' | b'k' | b'v' | b'w'] => true,
+        [b'!' | b'(' | b'B' | b'H' | b'V' | b'a' | b'b' | b'f' | b'h' | b'k' | b'v' | b'w'] => true,
         [b'(', b'H'] => true,
         [b'(', b'H', 6] => true,
         [b'(', b'H', 6, 0] => true,
