@@ -8,7 +8,6 @@ use Rattle.std.proofs.lemmas.List.{take-append-le}
 use Rattle.std.proofs.lemmas.Bool.Decides.{nat_tests}
 use Rattle.std.proofs.lemmas.Grind.{flat_map-append}
 use Rattle.escpos_command.specs.declared.answer.Answer.{Answer}
-use Rattle.escpos_command.specs.declared.answer.Answer.TheVariants as answer
 use Rattle.escpos_command.specs.Answers.{answer_bytes, spell_answers}
 use Rattle.escpos_printer.specs.Serves.{AllOut, CutOff, sent, after_byte}
 
@@ -50,10 +49,6 @@ out_all w0 w all now n o e =
       count = o.count ∙ ap (λ v. length (spell_answers v)) (sym same);
       none = e;
     }
-
-pub answer_begins : (a : Answer) → 0 < length (answer_bytes a)
-answer_begins (answer.Status b) = omega arith
-answer_begins (answer.Mark id) = omega arith
 
 -- The bytes of the answers before a place, and of the one there.
 pub one_more_answer : (answers : List Answer) (i : ℕ) (a : Answer) → slice_get answers i ≡ Some a

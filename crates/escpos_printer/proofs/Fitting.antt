@@ -1,14 +1,16 @@
 -- A printer answers with answers that a host knows.
 use Rattle.std.proofs.Common.{ℕ, ◌+◌, ◌==◌, Bool, true, false, List, [], ◌∷◌, ◌++◌, refl, IsTrue}
-use Rattle.std.specs.Prelude.{if◌then◌else◌}
+use Rattle.std.specs.Prelude.{if◌then◌else◌, ◌||◌}
 use Rattle.std.specs.List.{AllByRecursion}
 use Rattle.escpos_command.specs.declared.answer.Answer.{Answer}
 use Rattle.escpos_command.specs.declared.command.Command.{Command}
 use Rattle.escpos_command.specs.declared.command.Command.TheVariants as kind
 use Rattle.escpos_command.specs.Answers.{is_answer, is_status_byte}
+use Rattle.escpos_command.specs.Blocks.{is_block}
+use Rattle.escpos_command.specs.Meanings.{reports}
 use Rattle.escpos_command.specs.CommandTable.{AreCommands, IsCommand}
 use Rattle.escpos_printer.specs.declared.condition.Condition.{Condition}
-use Rattle.escpos_printer.specs.Replies.{is_offline, replies, reply, status, where_set}
+use Rattle.escpos_printer.specs.Replies.{condition_block, is_offline, replies, reply, status, where_set}
 
 abbrev AreAnswers : List Answer → Type 0
 AreAnswers answers = AllByRecursion (λ a. IsTrue (is_answer a)) answers
@@ -39,9 +41,29 @@ status_fits n c =
     either (n == 1) _ _ (first_kind (is_offline c))
     (either (n == 2) _ _ (second_kind c.cover_open c.paper_end) (either (n == 4) _ _ (fourth_kind c.near_end c.paper_end) refl))
 
+-- The block of each condition.
+each_block : (cover near end : Bool)
+    → IsTrue (is_block ((0x10 + where_set (cover || end) 0x08 + where_set cover 0x20) ∷ 0x00 ∷ (where_set near 0x03 + where_set end 0x0C) ∷ 0x00 ∷ []))
+each_block true true true = refl
+each_block true true false = refl
+each_block true false true = refl
+each_block true false false = refl
+each_block false true true = refl
+each_block false true false = refl
+each_block false false true = refl
+each_block false false false = refl
+
+pub block_fits : (c : Condition) → IsTrue (is_block (condition_block c))
+block_fits c = each_block c.cover_open c.near_end c.paper_end
+
+where_on : (on : Bool) (answers : List Answer) → AreAnswers answers → AreAnswers (if on then answers else [])
+where_on true answers h = h
+where_on false answers h = tt
+
 reply_fits : (condition : Condition) (c : Command) → IsCommand c → AreAnswers (reply condition c)
 reply_fits condition (kind.Status n) h = (status_fits n condition, tt)
 reply_fits condition (kind.Mark id) h = (h, tt)
+reply_fits condition (kind.AutomaticStatus n) h = where_on (reports n) _ (block_fits condition, tt)
 reply_fits condition _ h = tt
 
 all_append : (some others : List Answer) → AreAnswers some → AreAnswers others → AreAnswers (some ++ others)

@@ -19,7 +19,7 @@ use Rattle.escpos_printer.proofs.Serving.{carries_on, passed_of}
 -- What held of a link at its limit, without the limit.
 unended : (p q : PrinterView) (bytes : List ℕ) (a b : Option (List ℕ)) (c n : ℕ) → IsCarried p bytes (sent a b) (record { consumed = c; written = n; end = Some TooLong }) q
     → IsCarried p bytes (sent a b) (record { consumed = c; written = n; end = None }) q
-unended p q bytes a b c n h = record { commands = h.commands; taken = h.taken; within = h.within; ran = h.ran; answers = h.answers; cause = h.cause; leaves = h.leaves }
+unended p q bytes a b c n h = record { commands = h.commands; taken = h.taken; within = h.within; ran = h.ran; out = h.out; parts = h.parts; answers = h.answers; cause = h.cause; leaves = h.leaves }
 
 pub in_parts : JoinLaw → (p q t : PrinterView) (came left rest before between after : Option (List ℕ)) (most further : ℕ) (first more : Served)
     → Serves p (link came left before between) most first q → first.end ≡ TooLong → Serves q (link left rest between after) further more t
@@ -59,6 +59,7 @@ ran_under law gone p q bytes cs width kept before is r = record {
       law others gone p.sheet q.sheet kept before cs (subst (λ v. SheetIs v p.sheet kept before) same is)
       (r.page others kept before (subst (λ v. SheetIs v p.sheet kept before) same is)) above more h;
   condition = r.condition;
+  automatic = r.automatic;
   passes = r.passes;
 }
 
@@ -97,6 +98,8 @@ serves_under law gone p q l most served width kept cs is h =
         taken = under gone c.taken;
         within = c.within;
         ran = ran_under law gone p c.taken _ c.commands width kept cs is c.ran;
+        out = c.out;
+        parts = c.parts;
         answers = c.answers;
         cause = cause_under (Some served.end) gone c.taken h.bytes served.consumed c.cause;
         leaves = left_under (Some served.end) gone c.taken q h.bytes served.consumed c.leaves;

@@ -4,21 +4,22 @@ use Rattle.std.specs.Prelude.{slice_index}
 use Rattle.std.proofs.Math.Seq.{take-add, take-length, take-append-add, get_or-append_seam}
 use Rattle.std.proofs.lemmas.List.{take-take, get_or-drop, get_or-take, get_or-append-add, take-append-le}
 use Rattle.std.proofs.lemmas.Grind.{flat_map-append}
-use Rattle.std.specs.Io.KnownBytes.{Appends, Consumes}
+use Rattle.std.specs.Io.KnownBytes.{Consumes}
 use Rattle.std.proofs.KnownBytes.{Appends-nil, Consumes-nil, Consumes-trans}
 use Rattle.escpos_command.specs.declared.answer.Answer.{Answer}
 use Rattle.escpos_command.specs.declared.command.Command.{Command}
 use Rattle.escpos_command.specs.declared.fault.FaultReason.{FaultReason}
 use Rattle.escpos_paper.specs.Page.{Sheet}
 use Rattle.escpos_printer.specs.declared.condition.Condition.{Condition}
-use Rattle.escpos_command.specs.Answers.{spell_answers}
 use Rattle.escpos_command.specs.Grammar.{Viable, Half, Reads, FaultAt}
 use Rattle.escpos_printer.specs.declared.printer.FeedStop.{FeedStop}
 use Rattle.escpos_printer.specs.declared.printer.FeedStop.TheVariants as stop
 use Rattle.escpos_printer.specs.declared.serve.LinkEnd.{LinkEnd}
 use Rattle.escpos_printer.specs.declared.serve.LinkEnd.TheVariants.{Ended, TooLong, Fault, Offline, ReadFault, WriteFault, Memory}
 use Rattle.escpos_printer.specs.declared.serve.Carried.{Carried}
+use Rattle.escpos_printer.specs.Blocks.{MayWait, PutInParts, others, with_one_block}
 use Rattle.escpos_printer.specs.Replies.{reply, replies}
+use Rattle.escpos_printer.proofs.OneBlock.{none_more, one_part, parts_on}
 use Rattle.escpos_printer.specs.Feeds.{PrinterView, Ran, Took, Feeds, HasCause, IsLeft, left_half}
 use Rattle.escpos_printer.specs.Serves.{Sent, sent, AllOut, CutOff, AnswersGo, EndsBy, IsLeftBy, IsCarried, Serves, link}
 use Rattle.escpos_printer.specs.ServeSteps.{IsWithinPiece, end_of}
@@ -27,62 +28,72 @@ use Rattle.escpos_printer.proofs.AnswerBytes.{all_on, cut_on}
 
 -- The same printer with these answers waiting.
 abbrev pub waits : PrinterView → List Answer → PrinterView
-waits p answers = record { sheet = p.sheet; half = p.half; waiting = answers; condition = p.condition }
+waits p answers = record { sheet = p.sheet; half = p.half; waiting = answers; condition = p.condition; automatic = p.automatic }
 
 -- These bytes ran, and all answers to them and before them went out.
 pub record Passed (p : PrinterView) (bytes : List ℕ) (a b : Option (List ℕ)) (written : ℕ) (q : PrinterView) : Type 0 where
   pub commands : List Command
   pub ran : Ran p bytes commands q
-  pub out : AllOut (sent a b) (p.waiting ++ replies p.condition commands) written q.waiting
+  pub answers : List Answer
+  pub parts : PutInParts (p.waiting ++ replies p.condition commands) answers
+  pub out : AllOut (sent a b) answers written q.waiting
 
 pub passed_none : (p : PrinterView) (a : Option (List ℕ)) → (p.half ≡ []) ⊎ Half p.half → p.waiting ≡ [] → Passed p [] a a 0 p
 passed_none p a left none =
-    let nothing : p.waiting ++ [] ≡ [] = append-nil p.waiting ∙ none in
     record {
       commands = [];
       ran = ran_none p left;
-      out = record {
-        out = subst (λ xs. Appends a a (spell_answers xs)) (sym nothing) (Appends-nil a);
-        count = ap (λ xs. length (spell_answers xs)) (sym nothing);
-        none = none;
-      };
+      answers = [];
+      parts = record { parts = []; whole = append-nil p.waiting ∙ none; put = refl };
+      out = record { out = Appends-nil a; count = refl; none = none };
     }
 
 ran_waits : (p q : PrinterView) (bytes : List ℕ) (cs : List Command) (answers : List Answer) → Ran p bytes cs q → Ran p bytes cs (waits q answers)
-ran_waits p q bytes cs answers r = record { reads = r.reads; page = r.page; condition = r.condition; passes = r.passes }
+ran_waits p q bytes cs answers r = record { reads = r.reads; page = r.page; condition = r.condition; automatic = r.automatic; passes = r.passes }
 
 -- More bytes were taken, from a printer in which no answer waited: the answers to them.
-new_answers : (p m t : PrinterView) (x y : List ℕ) (cs ds : List Command) → Ran p x cs m → m.waiting ≡ [] → Took m y ds t → t.waiting ≡ replies p.condition ds
-new_answers p m t x y cs ds r none k = k.answers ∙ ap (λ v. v ++ replies m.condition ds) none ∙ ap (λ v. replies v ds) r.condition
+new_answers : (p m t : PrinterView) (x y : List ℕ) (cs ds : List Command) → Ran p x cs m → m.waiting ≡ [] → Took m y ds t → t.waiting ≡ with_one_block (replies p.condition ds)
+new_answers p m t x y cs ds r none k =
+    k.answers ∙ ap (λ v. with_one_block (v ++ replies m.condition ds)) none ∙ ap (λ v. with_one_block (replies v ds)) r.condition
 
 joined_answers : (p : PrinterView) (cs ds : List Command) → (p.waiting ++ replies p.condition cs) ++ replies p.condition ds ≡ p.waiting ++ replies p.condition (cs ++ ds)
 joined_answers p cs ds =
     append_assoc p.waiting (replies p.condition cs) (replies p.condition ds) ∙ ap (λ v. p.waiting ++ v) (sym (flat_map-append (reply p.condition) cs ds))
+
+-- The answers to more commands, in further parts.
+joined_parts : (p : PrinterView) (cs ds : List Command) (some more : List Answer) → PutInParts (p.waiting ++ replies p.condition cs) some → PutInParts (replies p.condition ds) more
+    → PutInParts (p.waiting ++ replies p.condition (cs ++ ds)) (some ++ more)
+joined_parts p cs ds some more h k =
+    subst (λ v. PutInParts v (some ++ more)) (joined_answers p cs ds) (parts_on (p.waiting ++ replies p.condition cs) (replies p.condition ds) some more h k)
 
 pub passed_on : JoinLaw → (p m t : PrinterView) (x y : List ℕ) (a b c : Option (List ℕ)) (n k : ℕ) (w : List Answer) (ds : List Command) → Passed p x a b n m → Took m y ds t
     → AllOut (sent b c) t.waiting k w → Passed p (x ++ y) a c (n + k) (waits t w)
 passed_on join p m t x y a b c n k w ds o took out = record {
   commands = o.commands ++ ds;
   ran = ran_waits p t (x ++ y) (o.commands ++ ds) w (ran_on join p m t x y o.commands ds o.ran took.ran);
-  out = subst (λ v. AllOut (sent a c) v (n + k) w) (joined_answers p o.commands ds)
-      (all_on a b c (p.waiting ++ replies p.condition o.commands) (replies p.condition ds) m.waiting w n k o.out
-      (subst (λ v. AllOut (sent b c) v k w) (new_answers p m t x y o.commands ds o.ran o.out.none took) out));
+  answers = o.answers ++ with_one_block (replies p.condition ds);
+  parts = joined_parts p o.commands ds o.answers (with_one_block (replies p.condition ds)) o.parts (one_part (replies p.condition ds));
+  out = all_on a b c o.answers (with_one_block (replies p.condition ds)) m.waiting w n k o.out
+      (subst (λ v. AllOut (sent b c) v k w) (new_answers p m t x y o.commands ds o.ran o.out.none took) out);
 }
 
 -- The same where the sink failed.
 pub record Broke (p : PrinterView) (bytes : List ℕ) (a b : Option (List ℕ)) (written : ℕ) (q : PrinterView) : Type 0 where
   pub commands : List Command
   pub ran : Ran p bytes commands q
-  pub out : CutOff (sent a b) (p.waiting ++ replies p.condition commands) written q.waiting
+  pub answers : List Answer
+  pub parts : PutInParts (p.waiting ++ replies p.condition commands) answers
+  pub out : CutOff (sent a b) answers written q.waiting
 
 pub broke_on : JoinLaw → (p m t : PrinterView) (x y : List ℕ) (a b c : Option (List ℕ)) (n k : ℕ) (w : List Answer) (ds : List Command) → Passed p x a b n m → Took m y ds t
     → CutOff (sent b c) t.waiting k w → Broke p (x ++ y) a c (n + k) (waits t w)
 broke_on join p m t x y a b c n k w ds o took out = record {
   commands = o.commands ++ ds;
   ran = ran_waits p t (x ++ y) (o.commands ++ ds) w (ran_on join p m t x y o.commands ds o.ran took.ran);
-  out = subst (λ v. CutOff (sent a c) v (n + k) w) (joined_answers p o.commands ds)
-      (cut_on a b c (p.waiting ++ replies p.condition o.commands) (replies p.condition ds) m.waiting w n k o.out
-      (subst (λ v. CutOff (sent b c) v k w) (new_answers p m t x y o.commands ds o.ran o.out.none took) out));
+  answers = o.answers ++ with_one_block (replies p.condition ds);
+  parts = joined_parts p o.commands ds o.answers (with_one_block (replies p.condition ds)) o.parts (one_part (replies p.condition ds));
+  out = cut_on a b c o.answers (with_one_block (replies p.condition ds)) m.waiting w n k o.out
+      (subst (λ v. CutOff (sent b c) v k w) (new_answers p m t x y o.commands ds o.ran o.out.none took) out);
 }
 
 -- ## A piece of a piece
@@ -125,34 +136,39 @@ pub some_taken : (m q : PrinterView) (piece : List ℕ) (c k : ℕ)
     → (m.half ≡ []) ⊎ Half m.half → m.waiting ≡ [] → FedAt m piece c k stop.AnswersFull q → 0 < k
 some_taken m q piece c zero one left none f =
     let same = (one (m.half ++ []) f.commands [] f.taken.half m.half f.took.ran.reads (record { commands = tt; whole = append-nil m.half; rest_is = left })).0 in
-    let nothing : f.taken.waiting ≡ [] = f.took.answers ∙ ap (λ v. m.waiting ++ replies m.condition v) same ∙ append-nil m.waiting ∙ none in
+    let nothing : f.taken.waiting ≡ [] =
+    f.took.answers ∙ ap (λ v. with_one_block (m.waiting ++ replies m.condition v)) same ∙ ap with_one_block (append-nil m.waiting ∙ none) in
     elim f.cause [
       | inl all ↦ let e = all.0 in absurd cc
-      | inr byte ↦ let full = byte.1.4 in let empty = ap length nothing in absurd (omega (arith, full, empty))
+      | inr byte ↦ let full = byte.1.4 in let empty = ap (λ v. length (others v)) nothing in absurd (omega (arith, full, empty))
     ]
 some_taken m q piece c (suc k) one left none f = omega arith
 
 -- ## What is left of the printer
 
-same_view : (r : PrinterView) (s : Sheet) (h : List ℕ) (c : Condition) → r.sheet ≡ s → r.half ≡ h → r.condition ≡ c → r ≡ record { sheet = s; half = h; waiting = r.waiting; condition = c }
-same_view r s h c e f g =
-    ap (λ v. record { sheet = v; half = r.half; waiting = r.waiting; condition = r.condition }) e
-    ∙ ap (λ v. record { sheet = s; half = v; waiting = r.waiting; condition = r.condition }) f
-    ∙ ap (λ v. record { sheet = s; half = h; waiting = r.waiting; condition = v }) g
+same_view : (r : PrinterView) (s : Sheet) (h : List ℕ) (c : Condition) (n : ℕ) → r.sheet ≡ s → r.half ≡ h → r.condition ≡ c → r.automatic ≡ n
+    → r ≡ record { sheet = s; half = h; waiting = r.waiting; condition = c; automatic = n }
+same_view r s h c n e f g k =
+    ap (λ v. record { sheet = v; half = r.half; waiting = r.waiting; condition = r.condition; automatic = r.automatic }) e
+    ∙ ap (λ v. record { sheet = s; half = v; waiting = r.waiting; condition = r.condition; automatic = r.automatic }) f
+    ∙ ap (λ v. record { sheet = s; half = h; waiting = r.waiting; condition = v; automatic = r.automatic }) g
+    ∙ ap (λ v. record { sheet = s; half = h; waiting = r.waiting; condition = c; automatic = v }) k
 
 -- The printer after its answers went out, or some of them.
 pub record Answered (q r : PrinterView) : Type 0 where
   pub sheet : r.sheet ≡ q.sheet
   pub half : r.half ≡ q.half
   pub condition : r.condition ≡ q.condition
+  pub automatic : r.automatic ≡ q.automatic
 
 after_stop : (t q r : PrinterView) (why : FeedStop) → IsLeft why t q → Answered q r
-    → r ≡ record { sheet = t.sheet; half = left_half why t.half; waiting = r.waiting; condition = t.condition }
+    → r ≡ record { sheet = t.sheet; half = left_half why t.half; waiting = r.waiting; condition = t.condition; automatic = t.automatic }
 after_stop t q r why left same =
-    same_view r t.sheet (left_half why t.half) t.condition
+    same_view r t.sheet (left_half why t.half) t.condition t.automatic
     (same.sheet ∙ ap (λ (v : PrinterView). v.sheet) left)
     (same.half ∙ ap (λ (v : PrinterView). v.half) left)
     (same.condition ∙ ap (λ (v : PrinterView). v.condition) left)
+    (same.automatic ∙ ap (λ (v : PrinterView). v.automatic) left)
 
 whole_front : (piece : List ℕ) (c k : ℕ) → take c piece ++ take k (drop c piece) ≡ take (c + k) piece
 whole_front piece c k = sym (take-add c k piece)
@@ -179,7 +195,7 @@ ends_by t piece at stop.Offline w ne none (inl all) = let e = all.0 in absurd cc
 ends_by t piece at stop.Offline w ne none (inr byte) = byte
 ends_by t piece at stop.Memory w ne none (inl all) = let e = all.0 in absurd cc
 ends_by t piece at stop.Memory w ne none (inr byte) =
-    (byte.0, (byte.1.0, λ c s. ((byte.1.1 c s).0, λ answered. let e = ap length none in omega (arith, e)), byte.1.2))
+    (byte.0, (byte.1.0, λ c s. ((byte.1.1 c s).0, λ answered. let e = ap (λ v. length (others v)) none in omega (arith, e)), byte.1.2))
 
 answers_go : (why : FeedStop) (s : Sent) (answers : List Answer) (written : ℕ) (w : List Answer) → AllOut s answers written w → AnswersGo (end_of why) s answers written w
 answers_go stop.All s answers written w o = o
@@ -189,7 +205,7 @@ answers_go stop.Offline s answers written w o = o
 answers_go stop.Memory s answers written w o = o
 
 left_by : (t r : PrinterView) (piece : List ℕ) (at : ℕ) (why : FeedStop)
-    → r ≡ record { sheet = t.sheet; half = left_half why t.half; waiting = r.waiting; condition = t.condition } → IsLeftBy (end_of why) (waits t r.waiting) piece at r
+    → r ≡ record { sheet = t.sheet; half = left_half why t.half; waiting = r.waiting; condition = t.condition; automatic = t.automatic } → IsLeftBy (end_of why) (waits t r.waiting) piece at r
 left_by t r piece at stop.All e = e
 left_by t r piece at stop.AnswersFull e = e
 left_by t r piece at (stop.Fault place why) e = e
@@ -207,7 +223,9 @@ carried join p m q r piece a b e c k n count why ne o f out same =
       taken = waits f.taken r.waiting;
       within = f.within;
       ran = subst (λ v. Ran p v on.commands (waits f.taken r.waiting)) (whole_front piece c k) on.ran;
-      answers = answers_go why (sent a e) (p.waiting ++ replies p.condition on.commands) (n + count) r.waiting on.out;
+      out = on.answers;
+      parts = on.parts;
+      answers = answers_go why (sent a e) on.answers (n + count) r.waiting on.out;
       cause = ends_by f.taken piece (c + k) why r.waiting ne out.none f.cause;
       leaves = left_by f.taken r piece (c + k) why (after_stop f.taken q r why f.leaves same);
     }
@@ -218,7 +236,7 @@ refused half b why f v = f.refused (subst (λ x. Viable (half ++ x ∷ [])) (sym
 
 left_broken : (t r : PrinterView) (piece : List ℕ) (at : ℕ) (why : FeedStop)
     → ((why ≡ stop.All) × (at ≡ length piece)) ⊎ ((at < length piece) × HasCause why t (slice_index piece at))
-    → r ≡ record { sheet = t.sheet; half = left_half why t.half; waiting = r.waiting; condition = t.condition } → IsLeftBy (Some WriteFault) (waits t r.waiting) piece at r
+    → r ≡ record { sheet = t.sheet; half = left_half why t.half; waiting = r.waiting; condition = t.condition; automatic = t.automatic } → IsLeftBy (Some WriteFault) (waits t r.waiting) piece at r
 left_broken t r piece at stop.All cause e = inl e
 left_broken t r piece at stop.AnswersFull cause e = inl e
 left_broken t r piece at (stop.Fault place why) (inl all) e = let h = all.0 in absurd cc
@@ -237,6 +255,8 @@ broken join p m q r piece a b e c k n count why o f out same =
       taken = waits f.taken r.waiting;
       within = f.within;
       ran = subst (λ v. Ran p v on.commands (waits f.taken r.waiting)) (whole_front piece c k) on.ran;
+      out = on.answers;
+      parts = on.parts;
       answers = on.out;
       cause = tt;
       leaves = left_broken f.taken r piece (c + k) why f.cause (after_stop f.taken q r why f.leaves same);
@@ -253,27 +273,22 @@ no_write_fault stop.Memory e = absurd cc
 -- ## A piece after pieces
 
 -- What is carried after bytes that passed.
-all_after : (p m : PrinterView) (cs ds : List Command) (a b c : Option (List ℕ)) (n k : ℕ) (w : List Answer) → AllOut (sent a b) (p.waiting ++ replies p.condition cs) n m.waiting
-    → m.condition ≡ p.condition → AllOut (sent b c) (m.waiting ++ replies m.condition ds) k w → AllOut (sent a c) (p.waiting ++ replies p.condition (cs ++ ds)) (n + k) w
-all_after p m cs ds a b c n k w o e h =
-    subst (λ v. AllOut (sent a c) v (n + k) w) (joined_answers p cs ds)
-    (all_on a b c (p.waiting ++ replies p.condition cs) (replies p.condition ds) m.waiting w n k o
-    (subst (λ v. AllOut (sent b c) v k w) (ap (λ v. v ++ replies m.condition ds) o.none ∙ ap (λ v. replies v ds) e) h))
+answers_on : (end : Option LinkEnd) (a b c : Option (List ℕ)) (some more gone : List Answer) (n k : ℕ) (w : List Answer) → AllOut (sent a b) some n gone
+    → AnswersGo end (sent b c) more k w → AnswersGo end (sent a c) (some ++ more) (n + k) w
+answers_on (Some WriteFault) a b c some more gone n k w o h = cut_on a b c some more gone w n k o h
+answers_on None a b c some more gone n k w o h = all_on a b c some more gone w n k o h
+answers_on (Some Ended) a b c some more gone n k w o h = all_on a b c some more gone w n k o h
+answers_on (Some TooLong) a b c some more gone n k w o h = all_on a b c some more gone w n k o h
+answers_on (Some ReadFault) a b c some more gone n k w o h = all_on a b c some more gone w n k o h
+answers_on (Some (Fault why)) a b c some more gone n k w o h = all_on a b c some more gone w n k o h
+answers_on (Some Offline) a b c some more gone n k w o h = all_on a b c some more gone w n k o h
+answers_on (Some Memory) a b c some more gone n k w o h = all_on a b c some more gone w n k o h
 
-answers_on : (p m : PrinterView) (cs ds : List Command) (end : Option LinkEnd) (a b c : Option (List ℕ)) (n k : ℕ) (w : List Answer)
-    → AllOut (sent a b) (p.waiting ++ replies p.condition cs) n m.waiting → m.condition ≡ p.condition → AnswersGo end (sent b c) (m.waiting ++ replies m.condition ds) k w
-    → AnswersGo end (sent a c) (p.waiting ++ replies p.condition (cs ++ ds)) (n + k) w
-answers_on p m cs ds (Some WriteFault) a b c n k w o e h =
-    subst (λ v. CutOff (sent a c) v (n + k) w) (joined_answers p cs ds)
-    (cut_on a b c (p.waiting ++ replies p.condition cs) (replies p.condition ds) m.waiting w n k o
-    (subst (λ v. CutOff (sent b c) v k w) (ap (λ v. v ++ replies m.condition ds) o.none ∙ ap (λ v. replies v ds) e) h))
-answers_on p m cs ds None a b c n k w o e h = all_after p m cs ds a b c n k w o e h
-answers_on p m cs ds (Some Ended) a b c n k w o e h = all_after p m cs ds a b c n k w o e h
-answers_on p m cs ds (Some TooLong) a b c n k w o e h = all_after p m cs ds a b c n k w o e h
-answers_on p m cs ds (Some ReadFault) a b c n k w o e h = all_after p m cs ds a b c n k w o e h
-answers_on p m cs ds (Some (Fault why)) a b c n k w o e h = all_after p m cs ds a b c n k w o e h
-answers_on p m cs ds (Some Offline) a b c n k w o e h = all_after p m cs ds a b c n k w o e h
-answers_on p m cs ds (Some Memory) a b c n k w o e h = all_after p m cs ds a b c n k w o e h
+-- No answer waited when more commands came.
+parts_after : (p m : PrinterView) (ds : List Command) (more : List Answer) → m.waiting ≡ [] → m.condition ≡ p.condition
+    → PutInParts (m.waiting ++ replies m.condition ds) more → PutInParts (replies p.condition ds) more
+parts_after p m ds more none same h =
+    subst (λ v. PutInParts v more) (ap (λ v. v ++ replies m.condition ds) none ∙ ap (λ v. replies v ds) same) h
 
 longer : (x y : List ℕ) (k : ℕ) → k < length y → length x + k < length (x ++ y)
 longer x y k h = let e = length-append x y in omega (arith, e, h)
@@ -313,7 +328,9 @@ carries_on join p m q x y a b c n more o h = record {
   within = let e = length-append x y in let few = h.within in omega (arith, e, few);
   ran = subst (λ v. Ran p v (o.commands ++ h.commands) h.taken) (sym (take-append-add x y more.consumed))
       (ran_on join p m h.taken x (take more.consumed y) o.commands h.commands o.ran h.ran);
-  answers = answers_on p m o.commands h.commands more.end a b c n more.written h.taken.waiting o.out o.ran.condition h.answers;
+  out = o.answers ++ h.out;
+  parts = joined_parts p o.commands h.commands o.answers h.out o.parts (parts_after p m h.commands h.out o.out.none o.ran.condition h.parts);
+  answers = answers_on more.end a b c o.answers h.out m.waiting n more.written h.taken.waiting o.out h.answers;
   cause = cause_on more.end h.taken x y more.consumed h.cause;
   leaves = left_on more.end h.taken q x y more.consumed h.leaves;
 }
@@ -322,7 +339,9 @@ pub passed_of : (p q : PrinterView) (bytes : List ℕ) (a b : Option (List ℕ))
 passed_of p q bytes a b c n h = record {
   commands = h.commands;
   ran = subst (λ v. Ran p bytes h.commands v) (sym h.leaves) (subst (λ v. Ran p v h.commands h.taken) (ap (λ k. take k bytes) h.cause ∙ take-length bytes) h.ran);
-  out = subst (λ (v : PrinterView). AllOut (sent a b) (p.waiting ++ replies p.condition h.commands) n v.waiting) (sym h.leaves) h.answers;
+  answers = h.out;
+  parts = h.parts;
+  out = subst (λ (v : PrinterView). AllOut (sent a b) h.out n v.waiting) (sym h.leaves) h.answers;
 }
 
 -- The bytes have ended, or no more are read.
@@ -347,7 +366,9 @@ carries_end p q bytes a b c n end clean o e = record {
   taken = q;
   within = omega (arith, e);
   ran = subst (λ v. Ran p v o.commands q) (sym (ap (λ k. take k bytes) e ∙ take-length bytes)) o.ran;
-  answers = clean.answers (sent a b) (p.waiting ++ replies p.condition o.commands) n q.waiting o.out;
+  out = o.answers;
+  parts = o.parts;
+  answers = clean.answers (sent a b) o.answers n q.waiting o.out;
   cause = clean.cause q bytes c e;
   leaves = clean.leaves q bytes c;
 }
@@ -361,16 +382,23 @@ pub record Reading (p : PrinterView) (r0 r a b : Option (List ℕ)) (read writte
   pub count : read ≡ length bytes
   pub passed : Passed p bytes a b written q
 
+-- Answers that may wait are a part.
+waiting_part : (xs : List Answer) → MayWait xs → PutInParts (xs ++ []) xs
+waiting_part xs h = subst (λ v. PutInParts (xs ++ []) v) (sym (none_more xs h)) (one_part (xs ++ []))
+
 -- No byte was read yet, and the answers that waited went out.
-pub reading_none : (p q : PrinterView) (r a b : Option (List ℕ)) (n : ℕ) → (p.half ≡ []) ⊎ Half p.half → AllOut (sent a b) p.waiting n q.waiting → Answered p q → Reading p r r a b 0 n q
-reading_none p q r a b n left out same = record {
+pub reading_none : (p q : PrinterView) (r a b : Option (List ℕ)) (n : ℕ) → (p.half ≡ []) ⊎ Half p.half → MayWait p.waiting → AllOut (sent a b) p.waiting n q.waiting
+    → Answered p q → Reading p r r a b 0 n q
+reading_none p q r a b n left room out same = record {
   bytes = [];
   came = Consumes-nil r;
   count = refl;
   passed = record {
     commands = [];
-    ran = subst (λ v. Ran p [] [] v) (sym (same_view q p.sheet p.half p.condition same.sheet same.half same.condition)) (ran_waits p p [] [] q.waiting (ran_none p left));
-    out = subst (λ v. AllOut (sent a b) v n q.waiting) (sym (append-nil p.waiting)) out;
+    ran = subst (λ v. Ran p [] [] v) (sym (same_view q p.sheet p.half p.condition p.automatic same.sheet same.half same.condition same.automatic)) (ran_waits p p [] [] q.waiting (ran_none p left));
+    answers = p.waiting;
+    parts = waiting_part p.waiting room;
+    out = out;
   };
 }
 
@@ -418,9 +446,9 @@ serves_clean p q r0 r r1 a b most read n end clean h came few long early = recor
 }
 
 -- The writer failed before any byte was read.
-pub serves_cut : (p q : PrinterView) (r a b : Option (List ℕ)) (most n : ℕ) → (p.half ≡ []) ⊎ Half p.half → CutOff (sent a b) p.waiting n q.waiting → Answered p q
+pub serves_cut : (p q : PrinterView) (r a b : Option (List ℕ)) (most n : ℕ) → (p.half ≡ []) ⊎ Half p.half → MayWait p.waiting → CutOff (sent a b) p.waiting n q.waiting → Answered p q
     → Serves p (link r r a b) most (record { read = 0; consumed = 0; written = n; end = WriteFault }) q
-serves_cut p q r a b most n left out same = record {
+serves_cut p q r a b most n left room out same = record {
   bytes = [];
   came = Consumes-nil r;
   read = refl;
@@ -429,8 +457,10 @@ serves_cut p q r a b most n left out same = record {
     commands = [];
     taken = q;
     within = omega arith;
-    ran = subst (λ v. Ran p [] [] v) (sym (same_view q p.sheet p.half p.condition same.sheet same.half same.condition)) (ran_waits p p [] [] q.waiting (ran_none p left));
-    answers = subst (λ v. CutOff (sent a b) v n q.waiting) (sym (append-nil p.waiting)) out;
+    ran = subst (λ v. Ran p [] [] v) (sym (same_view q p.sheet p.half p.condition p.automatic same.sheet same.half same.condition same.automatic)) (ran_waits p p [] [] q.waiting (ran_none p left));
+    out = p.waiting;
+    parts = waiting_part p.waiting room;
+    answers = out;
     cause = tt;
     leaves = inl refl;
   };

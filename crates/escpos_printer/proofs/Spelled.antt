@@ -12,7 +12,9 @@ use Rattle.escpos_command.specs.Grammar.{FaultAt, Reads}
 use Rattle.escpos_command.specs.Laws.{IsRead, IsRefused}
 use Rattle.escpos_printer.specs.declared.printer.FeedStop.{FeedStop}
 use Rattle.escpos_printer.specs.declared.printer.FeedStop.TheVariants as stop
-use Rattle.escpos_printer.specs.Feeds.{Feeds, HasCause, IsAnswered, IsLeft, PassesOffline, PrinterView, Took, is_status, most_waiting}
+use Rattle.escpos_printer.specs.Feeds.{Feeds, HasCause, IsAnswered, IsLeft, PassesOffline, PrinterView, Took, is_status}
+use Rattle.escpos_printer.specs.Blocks.{most_waiting, others, with_one_block}
+use Rattle.escpos_printer.proofs.OneBlock.{others-append, same_others}
 use Rattle.escpos_printer.specs.ReadyFor.{IsReadyFor}
 use Rattle.escpos_printer.specs.Replies.{is_offline, replies, reply}
 
@@ -92,13 +94,18 @@ not_offline g p cs half byte some c ready s spelled offline other =
     let bad : true ≡ false = sym (passes.0 offline) ∙ other in absurd cc
 
 not_full : Grammar → (p : PrinterView) (cs : List Command) (half : List ℕ) (byte : ℕ) (some : List Command) (c : Command) (waiting : List Answer) → IsReadyFor p cs
-    → Stuck p cs half byte some → waiting ≡ p.waiting ++ replies p.condition some → Spells c (half ++ byte ∷ []) → IsAnswered p.condition c → length waiting ≡ most_waiting → ⊥
+    → Stuck p cs half byte some → waiting ≡ with_one_block (p.waiting ++ replies p.condition some) → Spells c (half ++ byte ∷ []) → IsAnswered p.condition c → length (others waiting) ≡ most_waiting → ⊥
 not_full g p cs half byte some c waiting ready s waits spelled answered full =
     let split = first_other g p cs half byte some c s spelled in
     let d = p.condition in
-    let all : replies d cs ≡ replies d some ++ replies d (c ∷ split.0) = ap (replies d) split.1 ∙ flat_map-append (reply d) some (c ∷ split.0) in
-    let one : replies d (c ∷ split.0) ≡ replies d (c ∷ []) ++ replies d split.0 = flat_map-append (reply d) (c ∷ []) split.0 in
-    absurd (omega (arith, ready.room, full, answered, ap length waits, ap length all, ap length one, length-append p.waiting (replies d cs), length-append p.waiting (replies d some), length-append (replies d some) (replies d (c ∷ split.0)), length-append (replies d (c ∷ [])) (replies d split.0)))
+    let all : others (replies d cs) ≡ others (replies d some) ++ others (replies d (c ∷ split.0)) =
+    ap (λ v. others (replies d v)) split.1 ∙ ap others (flat_map-append (reply d) some (c ∷ split.0)) ∙ others-append (replies d some) (replies d (c ∷ split.0)) in
+    let one : others (replies d (c ∷ split.0)) ≡ others (replies d (c ∷ [])) ++ others (replies d split.0) =
+    ap others (flat_map-append (reply d) (c ∷ []) split.0) ∙ others-append (replies d (c ∷ [])) (replies d split.0) in
+    let now : others waiting ≡ others p.waiting ++ others (replies d some) =
+    ap others waits ∙ same_others (p.waiting ++ replies d some) ∙ others-append p.waiting (replies d some) in
+    let wanted = others-append p.waiting (replies d cs) in
+    absurd (omega (arith, ready.room, full, answered, ap length now, ap length wanted, ap length all, ap length one, length-append (others p.waiting) (others (replies d cs)), length-append (others p.waiting) (others (replies d some)), length-append (others (replies d some)) (others (replies d (c ∷ split.0))), length-append (others (replies d (c ∷ []))) (others (replies d split.0))))
 
 no_cause : Grammar → (p q : PrinterView) (cs : List Command) (k : ℕ) (why given : FeedStop) → IsReadyFor p cs → k < length (spell cs) → (f : Feeds p (spell cs) k given q)
     → HasCause why f.taken (slice_index (spell cs) k) → why ≡ stop.Memory

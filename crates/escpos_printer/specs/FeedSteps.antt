@@ -5,8 +5,8 @@ use Rattle.escpos_decode.specs.declared.decoder.Ahead.TheVariants as ahead
 use Rattle.escpos_printer.specs.declared.printer.FeedStop.{FeedStop}
 use Rattle.escpos_printer.specs.declared.printer.FeedStop.TheVariants.{AnswersFull, Offline}
 
--- Why this command may not be completed now. Offline only status requests are completed; while 16 answers wait, no command
--- that is answered.
+-- Why this command may not be completed now. Offline only status requests are completed; while 16 answers wait, besides a block,
+-- no status request and no mark.
 abbrev pub obstacle : Ahead → Bool → Bool → Option FeedStop
 obstacle ahead.Nothing offline full = None
 obstacle ahead.Status offline full = if full then Some AnswersFull else None

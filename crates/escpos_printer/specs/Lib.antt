@@ -1,3 +1,4 @@
+pub mod Blocks
 pub mod Replies
 pub mod Feeds
 pub mod Serves

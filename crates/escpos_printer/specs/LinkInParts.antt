@@ -7,7 +7,7 @@ use Rattle.escpos_printer.specs.Feeds.{PrinterView}
 
 -- A printer with these items above its own on the paper.
 abbrev pub under : List Item → PrinterView → PrinterView
-under gone printer = record { sheet = below gone printer.sheet; half = printer.half; waiting = printer.waiting; condition = printer.condition }
+under gone printer = record { sheet = below gone printer.sheet; half = printer.half; waiting = printer.waiting; condition = printer.condition; automatic = printer.automatic }
 
 -- How far a link was served whose first part and whose second part were served this far.
 abbrev pub in_all : Served → Served → Served

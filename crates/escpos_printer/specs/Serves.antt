@@ -13,6 +13,7 @@ use Rattle.escpos_printer.specs.declared.serve.LinkEnd.TheVariants.{Ended, TooLo
 use Rattle.escpos_printer.specs.declared.serve.Carried.{Carried}
 use Rattle.escpos_printer.specs.declared.serve.Served.{Served}
 use Rattle.escpos_printer.specs.Feeds.{PrinterView, Ran, HasCause}
+use Rattle.escpos_printer.specs.Blocks.{PutInParts}
 use Rattle.escpos_printer.specs.Replies.{replies}
 
 -- The answers after the one that holds byte `at` of the bytes of all of them, counted from 0; none if no answer holds it.
@@ -56,7 +57,7 @@ EndsBy end taken bytes consumed = consumed ≡ length bytes
 
 -- The printer with no half command.
 abbrev pub dropped : PrinterView → PrinterView
-dropped printer = record { sheet = printer.sheet; half = []; waiting = printer.waiting; condition = printer.condition }
+dropped printer = record { sheet = printer.sheet; half = []; waiting = printer.waiting; condition = printer.condition; automatic = printer.automatic }
 
 -- What is left of the printer: a fault drops the half command. Where the writer failed, the half command may have been
 -- dropped too, if no command continues with the next byte.
@@ -66,13 +67,15 @@ IsLeftBy (Some WriteFault) taken bytes consumed after =
     (after ≡ taken) ⊎ ((after ≡ dropped taken) × (consumed < length bytes) × (Viable (taken.half ++ slice_index bytes consumed ∷ []) → ⊥))
 IsLeftBy end taken bytes consumed after = after ≡ taken
 
--- What a printer made of bytes that came, and how far its answers went out.
+-- What a printer made of bytes that came, and how far its answers went out: in parts, of which the last may still wait.
 pub record IsCarried (before : PrinterView) (bytes : List ℕ) (s : Sent) (carried : Carried) (after : PrinterView) : Type 0 where
   pub commands : List Command
   pub taken : PrinterView
   pub within : carried.consumed ≤ length bytes
   pub ran : Ran before (take carried.consumed bytes) commands taken
-  pub answers : AnswersGo carried.end s (before.waiting ++ replies before.condition commands) carried.written taken.waiting
+  pub out : List Answer
+  pub parts : PutInParts (before.waiting ++ replies before.condition commands) out
+  pub answers : AnswersGo carried.end s out carried.written taken.waiting
   pub cause : EndsBy carried.end taken bytes carried.consumed
   pub leaves : IsLeftBy carried.end taken bytes carried.consumed after
 

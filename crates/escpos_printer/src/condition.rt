@@ -2,9 +2,9 @@
 
 ghost use Rattle.std.specs.Prelude.{◌≡◌, option_to_list, IsTrue};
 ghost use Rattle.escpos_command.specs.Answers.{is_status_byte};
-ghost use Rattle.escpos_printer.specs.Replies.{is_offline, where_set, status, reply};
+ghost use Rattle.escpos_printer.specs.Replies.{condition_block, differs, is_change, is_offline, where_set, status, reply};
 
-use escpos_command::{Answer, Command, StatusKind};
+use escpos_command::{Answer, AutomaticStatus, Command, StatusKind};
 
 /// What the sensors of a printer say. (Reference: DLE EOT.)
 #[derive(Clone, Copy, Debug, PartialEq, Eq)]
@@ -38,16 +38,49 @@ impl Condition {
         }
     }
 
-    /// The answer to a command: a status byte to a status request, its id to a mark, and none to all others.
+    /// The block of automatic status that tells this condition. (Reference: GS a.)
+    pub fn automatic_status(self) -> AutomaticStatus
+        ensures { result ≡ condition_block self }
+    {
+        let first = 0x10 + where_set(self.is_offline(), 0x08) + where_set(self.cover_open, 0x20);
+        let third = where_set(self.near_end, 0x03) + where_set(self.paper_end, 0x0C);
+        AutomaticStatus::new([first, 0x00, third, 0x00]).unwrap()
+    }
+
+    /// Whether the sensors say something else at the other time.
+    pub fn is_change(self, other: Condition) -> bool
+        ensures { result ≡ is_change self other }
+    {
+        differs(self.cover_open, other.cover_open)
+            || differs(self.near_end, other.near_end)
+            || differs(self.paper_end, other.paper_end)
+    }
+
+    /// The answer to a command: a status byte to a status request, its id to a mark, and the block of this condition to GS a
+    /// that switches automatic status on. There is none to all others.
     pub fn reply(self, command: &Command) -> Option<Answer>
         ensures { option_to_list result ≡ reply self command.now }
     {
         match command {
             Command::Status(kind) => Some(Answer::Status(self.status(*kind))),
             Command::Mark(id) => Some(Answer::Mark(*id)),
+            Command::AutomaticStatus(reporting) => {
+                if reporting.is_on() {
+                    Some(Answer::Condition(self.automatic_status()))
+                } else {
+                    None
+                }
+            }
             _ => None,
         }
     }
+}
+
+// Whether one of two is set and the other isn't.
+fn differs(a: bool, b: bool) -> bool
+    ensures { result ≡ differs a b }
+{
+    if a { !b } else { b }
 }
 
 // These bits if they are set, otherwise 0.

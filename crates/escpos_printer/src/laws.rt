@@ -2,8 +2,9 @@
 //! proved with this crate, and another crate cites it by calling the function. The calls in the bodies cite laws of the
 //! crates below.
 
-ghost use Rattle.std.specs.Prelude.{ℕ, ◌≡◌, ◌+◌, ◌⊎◌, List, [], IsTrue, Option, length};
+ghost use Rattle.std.specs.Prelude.{ℕ, ◌≡◌, ◌≤◌, ◌+◌, ◌⊎◌, List, [], ◌++◌, IsTrue, Option, length};
 ghost use Rattle.std.specs.List.{AllByRecursion};
+ghost use Rattle.escpos_command.specs.declared.answer.Answer.{Answer};
 ghost use Rattle.escpos_command.specs.Answers.{is_answer};
 ghost use Rattle.escpos_command.specs.CommandTable.{AreCommands, spell};
 ghost use Rattle.escpos_command.specs.declared.command.Command.{Command};
@@ -13,7 +14,8 @@ ghost use Rattle.escpos_printer.specs.Feeds.{Feeds, PrinterView, Took};
 ghost use Rattle.escpos_printer.specs.ReadyFor.{IsReadyFor};
 ghost use Rattle.escpos_printer.specs.LinkInParts.{in_all, under};
 ghost use Rattle.escpos_printer.specs.Serves.{LinkView, Serves, link};
-ghost use Rattle.escpos_printer.specs.Replies.{replies};
+ghost use Rattle.escpos_printer.specs.Blocks.{PutInParts, blocks, others, with_one_block};
+ghost use Rattle.escpos_printer.specs.Replies.{after_change, replies};
 ghost use Rattle.escpos_printer.specs.declared.condition.Condition.{Condition};
 ghost use Rattle.escpos_printer.specs.declared.printer.FeedStop.{FeedStop};
 ghost use Rattle.escpos_printer.specs.declared.printer.FeedStop.TheVariants as stop;
@@ -23,9 +25,35 @@ ghost use Rattle.escpos_printer.specs.declared.serve.Served.{Served};
 use escpos_command::laws;
 
 /// Replies: a printer answers commands, whatever its sensors say, with answers that a host knows: a status byte has the
-/// bits of one, and a mark the id that it was sent with.
+/// bits of one, a mark the id that it was sent with, and a block four bytes of one.
 pub fn replies()
     ensures { (condition : Condition) (cs : List Command) → AreCommands cs → AllByRecursion (λ a. IsTrue (is_answer a)) (replies condition cs) }
+{}
+
+/// One block: answers in which the newest block stands in the place of the first keep all other answers, in order; they have at
+/// most one block; and nothing else of answers that have at most one changes. It doesn't matter whether that is done once or as
+/// often as answers come.
+pub fn one_block()
+    ensures others { (answers : List Answer) → others (with_one_block answers) ≡ others answers }
+    ensures few { (answers : List Answer) → length (blocks (with_one_block answers)) ≤ 1 }
+    ensures unchanged { (answers : List Answer) → length (blocks answers) ≤ 1 → with_one_block answers ≡ answers }
+    ensures once_more { (answers more : List Answer) → with_one_block (with_one_block answers ++ more) ≡ with_one_block (answers ++ more) }
+    ensures known { (answers : List Answer) → AllByRecursion (λ a. IsTrue (is_answer a)) answers
+        → AllByRecursion (λ a. IsTrue (is_answer a)) (with_one_block answers) }
+{}
+
+/// Parts: answers that went out in parts, one block in each, have all other answers, in order.
+pub fn answers_in_parts()
+    ensures others { (all out : List Answer) → PutInParts all out → others out ≡ others all }
+    ensures known { (all out : List Answer) → PutInParts all out → AllByRecursion (λ a. IsTrue (is_answer a)) all
+        → AllByRecursion (λ a. IsTrue (is_answer a)) out }
+{}
+
+/// Change: what waits once the sensors say something new are the same other answers, and answers that a host knows.
+pub fn change()
+    ensures others { (automatic : ℕ) (old new : Condition) (waiting : List Answer) → others (after_change automatic old new waiting) ≡ others waiting }
+    ensures known { (automatic : ℕ) (old new : Condition) (waiting : List Answer) → AllByRecursion (λ a. IsTrue (is_answer a)) waiting
+        → AllByRecursion (λ a. IsTrue (is_answer a)) (after_change automatic old new waiting) }
 {}
 
 /// Whole commands: a printer that is fed commands that it can take now takes all of them, unless an allocation fails.

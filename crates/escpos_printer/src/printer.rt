@@ -12,42 +12,41 @@ ghost use Rattle.escpos_decode.specs.Push.{IsRest};
 ghost use Rattle.escpos_paper.specs.declared.item.Item.{Item};
 ghost use Rattle.escpos_paper.specs.Page.{SheetIs};
 ghost use Rattle.escpos_paper.specs.Torn.{bare};
-ghost use Rattle.escpos_printer.specs.Replies.{is_offline, reply};
-ghost use Rattle.escpos_printer.specs.Feeds.{Feeds, Took, HasCause, IsPlace, IsLeft, most_waiting};
+ghost use Rattle.escpos_printer.specs.Blocks.{MayWait, most_waiting};
+ghost use Rattle.escpos_printer.specs.Replies.{after_change, automatic_after, is_offline};
+ghost use Rattle.escpos_printer.specs.Feeds.{Feeds, Took, HasCause, IsPlace, IsLeft};
 ghost use Rattle.escpos_printer.specs.FeedSteps.{is_command, obstacle};
 
 use crate::condition::Condition;
+use crate::waiting::{MOST_WAITING, is_full, put_change, put_reply};
 use arrayvec::ArrayVec;
 use circular_buffer::HeapCircularBuffer;
-use escpos_command::{Answer, Command, FaultReason, LineWidth};
+use escpos_command::{Answer, Command, FaultReason, LineWidth, Reporting};
 use escpos_decode::{Ahead, DecodeFault, Decoder, Step};
 use escpos_paper::{Item, MOST_ITEMS, Page};
 use std::alloc::{AllocError, Global};
 use std::marker::Model;
 
-/// The most answers that wait in a printer.
-pub const MOST_WAITING: usize = 16;
+// The most bytes of the answers that wait: an answer has at most 7, and a block 4.
+const MOST_ANSWER_BYTES: usize = 116;
 
-const _: () = prove!(MOST_WAITING == 16);
+const _: () = prove!(MOST_ANSWER_BYTES == 116);
 
-// The most bytes of the answers that wait: an answer has at most 7.
-const MOST_ANSWER_BYTES: usize = 112;
-
-const _: () = prove!(MOST_ANSWER_BYTES == 112);
-
-/// A printer: its page, the half command, the answers that wait, and what its sensors say.
+/// A printer: its page, the half command, the answers that wait, what its sensors say, and whether it tells that unasked.
 #[derive(Drop)]
 pub struct Printer {
     page: Page,
     decoder: Decoder,
     waiting: HeapCircularBuffer<Answer>,
     condition: Condition,
+    reporting: Reporting,
 }
 
 impl Model for Printer {
-    ghost use Rattle.std.specs.Prelude.{◌≡◌, ◌≤◌, length};
+    ghost use Rattle.std.specs.Prelude.{◌≡◌, ◌+◌};
     ghost use Rattle.escpos_decode.specs.Push.{IsRest};
-    ghost use Rattle.escpos_printer.specs.Feeds.{PrinterView, most_waiting};
+    ghost use Rattle.escpos_printer.specs.Blocks.{MayWait, most_waiting};
+    ghost use Rattle.escpos_printer.specs.Feeds.{PrinterView};
 
     ghost Value = { PrinterView };
 
@@ -56,10 +55,11 @@ impl Model for Printer {
       half = p.decoder;
       waiting = p.waiting.items;
       condition = p.condition;
+      automatic = p.reporting;
     } };
 
-    // A printer holds nothing or a half command, and at most 16 answers wait.
-    ghost invariant = { λ p. IsRest p.decoder × (p.waiting.capacity ≡ most_waiting) × (length p.waiting.items ≤ most_waiting) };
+    // A printer holds nothing or a half command, and at most 16 answers and a block wait.
+    ghost invariant = { λ p. IsRest p.decoder × (p.waiting.capacity ≡ most_waiting + 1) × MayWait p.waiting.items };
 }
 
 /// Why feeding a piece ended.
@@ -67,7 +67,7 @@ impl Model for Printer {
 pub enum FeedStop {
     /// The piece has ended: all its bytes were taken.
     All,
-    /// The next byte would complete a status request or a mark, and 16 answers wait.
+    /// The next byte would complete a status request or a mark, and 16 answers wait, besides a block.
     AnswersFull,
     /// The next byte would complete a command other than a status request, and the printer is offline.
     Offline,
@@ -88,20 +88,22 @@ pub struct Fed {
 }
 
 impl Printer {
-    /// A printer with nothing on its paper, switched on in this condition, that prints lines of this width. Allocates room for
-    /// 16 answers and nothing else; fails only if that does.
+    /// A printer with nothing on its paper, switched on in this condition, that prints lines of this width. Automatic status is
+    /// off. Allocates room for 17 answers and nothing else; fails only if that does.
     pub fn new(alloc: Global, condition: Condition, width: LineWidth) -> Result<Self, AllocError>
         ensures sheet { IfOk result (λ printer. SheetIs width printer.sheet [] []) }
         ensures half { IfOk result (λ printer. printer.half ≡ []) }
         ensures waiting { IfOk result (λ printer. printer.waiting ≡ []) }
         ensures condition { IfOk result (λ printer. printer.condition ≡ condition) }
+        ensures automatic { IfOk result (λ printer. printer.automatic ≡ 0) }
     {
-        let waiting = HeapCircularBuffer::with_capacity(alloc, MOST_WAITING)?;
+        let waiting = HeapCircularBuffer::with_capacity(alloc, MOST_WAITING + 1)?;
         Ok(Printer {
             page: Page::new(alloc, width),
             decoder: Decoder::new(alloc),
             waiting,
             condition,
+            reporting: Reporting::off(),
         })
     }
 
@@ -112,7 +114,7 @@ impl Printer {
     pub fn feed(&mut self, piece: &[u8]) -> Fed
         ensures { Feeds self.old piece.now result.consumed result.stop self.new }
     {
-        // Proof only: the half command is nothing or the start of a spelling, and at most 16 answers wait.
+        // Proof only: the half command is nothing or the start of a spelling, and no more answers wait than may.
         self.is_sound();
         let mut consumed = 0;
         while consumed < piece.len() {
@@ -134,7 +136,7 @@ impl Printer {
         ensures stopped { IfErr result (λ stop. HasCause stop self.old byte × IsPlace stop at × IsLeft stop self.old self.new) }
     {
         let ahead = self.decoder.would_complete(byte);
-        if let Some(stop) = obstacle(ahead, self.condition.is_offline(), self.waiting.is_full()) {
+        if let Some(stop) = obstacle(ahead, self.condition.is_offline(), is_full(&self.waiting)) {
             return Err(stop);
         }
         if make_room(&mut self.page, ahead).is_err() {
@@ -144,6 +146,7 @@ impl Printer {
             Ok(Step::More) => Ok(()),
             Ok(Step::Done(command)) => {
                 put_reply(&mut self.waiting, self.condition, &command);
+                self.reporting = reporting_after(self.reporting, &command);
                 self.page.apply(command).unwrap();
                 Ok(())
             }
@@ -161,10 +164,10 @@ impl Printer {
         self.decoder.push_dots(bytes)
     }
 
-    // Proof only: gives the caller these facts: the printer holds nothing or a half command, and at most 16 answers wait.
+    // Proof only: gives the caller these facts: the printer holds nothing or a half command, and no more answers wait than may.
     pub(crate) fn is_sound(&self)
         ensures rest { IsRest self.now.half }
-        ensures room { length self.now.waiting ≤ most_waiting }
+        ensures room { MayWait self.now.waiting }
     {
         // Proof only: the contracts of these calls, and the printer's invariant.
         let _ = self.decoder.pending_len();
@@ -174,7 +177,7 @@ impl Printer {
     /// Returns the answer that has waited longest. Allocates nothing.
     pub fn take_answer(&mut self) -> Option<Answer>
         ensures answer { result ≡ slice_get self.old.waiting 0 }
-        ensures left { self.new ≡ record { sheet = self.old.sheet; half = self.old.half; waiting = drop 1 self.old.waiting; condition = self.old.condition } }
+        ensures left { self.new ≡ record { sheet = self.old.sheet; half = self.old.half; waiting = drop 1 self.old.waiting; condition = self.old.condition; automatic = self.old.automatic } }
     {
         self.waiting.pop_front()
     }
@@ -183,6 +186,8 @@ impl Printer {
     pub(crate) fn answer_bytes(&self) -> ArrayVec<u8, MOST_ANSWER_BYTES>
         ensures { result.items ≡ spell_answers self.now.waiting }
     {
+        // Proof only: at most 16 answers wait, and a block.
+        self.is_sound();
         let mut bytes = ArrayVec::new();
         for at in 0..self.waiting.len() {
             let answer = self.waiting_at(at).bytes();
@@ -199,18 +204,20 @@ impl Printer {
         *self.waiting.get(at).unwrap()
     }
 
-    /// The number of answers that wait, at most 16. Allocates nothing.
+    /// The number of answers that wait, at most 16 and a block. Allocates nothing.
     pub fn waiting(&self) -> usize
         ensures value { result ≡ length self.now.waiting }
-        ensures most { result ≤ most_waiting }
+        ensures most { result ≤ most_waiting + 1 }
     {
         self.waiting.len()
     }
 
-    /// Sets what the sensors say. Allocates nothing.
+    /// Sets what the sensors say. If they said something else, and automatic status is on, the block of the condition waits: in
+    /// the place of a block that waits, otherwise after all answers. Allocates nothing.
     pub fn set_condition(&mut self, condition: Condition)
-        ensures { self.new ≡ record { sheet = self.old.sheet; half = self.old.half; waiting = self.old.waiting; condition = condition } }
+        ensures { self.new ≡ record { sheet = self.old.sheet; half = self.old.half; waiting = after_change self.old.automatic self.old.condition condition self.old.waiting; condition = condition; automatic = self.old.automatic } }
     {
+        put_change(&mut self.waiting, self.reporting, self.condition, condition);
         self.condition = condition;
     }
 
@@ -229,21 +236,24 @@ impl Printer {
     }
 
     /// Switches the printer off and on: the half command, the answers that wait and the line are dropped, and the styles
-    /// are those of power-on. What is printed stays, and so do the condition and the width of a line. Allocates nothing.
+    /// are those of power-on; automatic status is off. What is printed stays, and so do the condition and the width of a line.
+    /// Allocates nothing.
     pub fn restart(&mut self)
         ensures sheet { SheetIs self.old.sheet.line_dots self.new.sheet self.old.sheet.items [] }
         ensures half { self.new.half ≡ [] }
         ensures waiting { self.new.waiting ≡ [] }
         ensures condition { self.new.condition ≡ self.old.condition }
+        ensures automatic { self.new.automatic ≡ 0 }
     {
         self.page.restart();
         self.decoder.clear();
         self.waiting.clear();
+        self.reporting = Reporting::off();
     }
 
     /// Drops what is printed on the paper, and leaves everything else as it is. Allocates nothing.
     pub fn tear_off(&mut self)
-        ensures { self.new ≡ record { sheet = bare self.old.sheet; half = self.old.half; waiting = self.old.waiting; condition = self.old.condition } }
+        ensures { self.new ≡ record { sheet = bare self.old.sheet; half = self.old.half; waiting = self.old.waiting; condition = self.old.condition; automatic = self.old.automatic } }
     {
         self.page.tear_off();
     }
@@ -288,14 +298,13 @@ fn make_room(page: &mut Page, ahead: Ahead) -> Result<(), AllocError>
     }
 }
 
-// Puts the answer to a command, if there is one, after those that wait.
-fn put_reply(waiting: &mut HeapCircularBuffer<Answer>, condition: Condition, command: &Command)
-    requires { length waiting.old.items + length (reply condition command.now) ≤ waiting.old.capacity }
-    ensures items { waiting.new.items ≡ waiting.old.items ++ reply condition command.now }
-    ensures capacity { waiting.new.capacity ≡ waiting.old.capacity }
+// The setting of automatic status after a command.
+fn reporting_after(reporting: Reporting, command: &Command) -> Reporting
+    ensures { result ≡ automatic_after reporting (command.now ∷ []) }
 {
-    if let Some(answer) = condition.reply(command) {
-        waiting.push_back(answer);
+    match command {
+        Command::AutomaticStatus(setting) => *setting,
+        _ => reporting,
     }
 }
 

@@ -4,7 +4,6 @@
 //! answers that wait are written before each read, and before the link ends.
 
 ghost use Rattle.std.specs.Prelude.{◌≡◌, ◌≢◌, ◌≤◌, ◌*◌, ◌+◌, [], length, Some, IsTrue, IfOk, IfErr, OnOk, OnErr};
-ghost use Rattle.escpos_printer.specs.Feeds.{most_waiting};
 ghost use Rattle.escpos_printer.specs.Serves.{Serves, AllOut, CutOff, IsCarried, after_byte, link, sent};
 ghost use Rattle.escpos_printer.specs.ServeSteps.{IsWithinPiece, end_of};
 ghost use Rattle.escpos_printer.specs.declared.serve.LinkEnd.{LinkEnd};
@@ -115,10 +114,10 @@ pub fn serve_link<R: ByteIn, W: ByteOut>(
     ensures reader_well { ¬ IsTrue (R.failed reader.old) → result.end ≢ LinkEnd.ReadFault → ¬ IsTrue (R.failed reader.new) }
     ensures writer_well { ¬ IsTrue (W.failed writer.old) → result.end ≢ LinkEnd.WriteFault → ¬ IsTrue (W.failed writer.new) }
     ensures pulls { R.pull_count reader.new ≤ R.pull_count reader.old + max_bytes + 1 }
-    // Each byte completes at most one command, and up to 16 answers may have waited before the first.
-    ensures few { result.written ≤ 112 + 224 * result.read }
+    // Each byte completes at most one command, and up to 17 answers may have waited before the first.
+    ensures few { result.written ≤ 116 + 232 * result.read }
 {
-    // Proof only: at most 16 answers wait.
+    // Proof only: no more answers wait than may.
     printer.is_sound();
     let most = max_bytes as usize;
     let mut piece = [0; PIECE_BYTES];
@@ -156,9 +155,9 @@ pub fn serve_link<R: ByteIn, W: ByteOut>(
 fn put_answers<W: ByteOut>(printer: &mut Printer, writer: &mut W) -> Result<usize, usize>
     ensures all { IfOk result (λ n. AllOut (sent (W.written writer.old) (W.written writer.new)) printer.old.waiting n printer.new.waiting) }
     ensures some { IfErr result (λ n. CutOff (sent (W.written writer.old) (W.written writer.new)) printer.old.waiting n printer.new.waiting) }
-    ensures same { (printer.new.sheet ≡ printer.old.sheet) × (printer.new.half ≡ printer.old.half) × (printer.new.condition ≡ printer.old.condition) }
-    ensures few { IfOk result (λ n. n ≤ 112) }
-    ensures few_err { IfErr result (λ n. n ≤ 112) }
+    ensures same { (printer.new.sheet ≡ printer.old.sheet) × (printer.new.half ≡ printer.old.half) × (printer.new.condition ≡ printer.old.condition) × (printer.new.automatic ≡ printer.old.automatic) }
+    ensures few { IfOk result (λ n. n ≤ 116) }
+    ensures few_err { IfErr result (λ n. n ≤ 116) }
     ensures failed { OnErr result (IsTrue (W.failed writer.new)) }
     ensures not_failed { OnOk result (¬ IsTrue (W.failed writer.old) → ¬ IsTrue (W.failed writer.new)) }
 {
@@ -179,7 +178,7 @@ fn put_answers<W: ByteOut>(printer: &mut Printer, writer: &mut W) -> Result<usiz
 // Drops the answers up to the one that holds byte `at` of the bytes of all that wait, counted from 0.
 fn drop_through(printer: &mut Printer, at: usize)
     ensures later { printer.new.waiting ≡ after_byte printer.old.waiting at }
-    ensures same { (printer.new.sheet ≡ printer.old.sheet) × (printer.new.half ≡ printer.old.half) × (printer.new.condition ≡ printer.old.condition) }
+    ensures same { (printer.new.sheet ≡ printer.old.sheet) × (printer.new.half ≡ printer.old.half) × (printer.new.condition ≡ printer.old.condition) × (printer.new.automatic ≡ printer.old.automatic) }
 {
     let mut at = at;
     while let Some(answer) = printer.take_answer() {
@@ -196,7 +195,7 @@ fn serve_piece<W: ByteOut>(printer: &mut Printer, writer: &mut W, piece: &[u8]) 
     requires none { printer.old.waiting ≡ [] }
     requires short { length piece.now ≤ 512 }
     ensures carried { IsCarried printer.old piece.now (sent (W.written writer.old) (W.written writer.new)) result printer.new }
-    ensures few { result.written ≤ 112 * (result.consumed + 1) }
+    ensures few { result.written ≤ 116 * (result.consumed + 1) }
     ensures end { IsWithinPiece result.end }
     ensures failed { result.end ≡ Some LinkEnd.WriteFault → IsTrue (W.failed writer.new) }
     ensures not_failed { ¬ IsTrue (W.failed writer.old) → result.end ≢ Some LinkEnd.WriteFault → ¬ IsTrue (W.failed writer.new) }

@@ -63,7 +63,7 @@ const MARK_AND_A: &[u8] = b"\x1D(H\x06\x00000000A";
 #[test]
 fn serve_links(rt: HostRuntime) {
     let why = FaultReason::UnknownCommand;
-    let rows: [(Condition, (&[u8], u32, usize), (Served, &[u8])); 6] = [
+    let rows: [(Condition, (&[u8], u32, usize), (Served, &[u8])); 8] = [
         (
             ONLINE,
             (MARK_AND_A, 100, 100),
@@ -78,6 +78,16 @@ fn serve_links(rt: HostRuntime) {
             ONLINE,
             (MARK_AND_A, 100, 3),
             (how_served(12, 12, 3, LinkEnd::WriteFault), b"\x37\x220"),
+        ),
+        (
+            ONLINE,
+            (b"\x1Da\x0EA", 100, 100),
+            (how_served(4, 4, 4, LinkEnd::Ended), b"\x10\x00\x00\x00"),
+        ),
+        (
+            OPEN,
+            (b"\x1Da\x0EA", 100, 100),
+            (how_served(4, 2, 0, LinkEnd::Offline), b""),
         ),
         (
             OPEN,
@@ -119,6 +129,28 @@ fn serves_after_too_long(rt: &impl Abort, printer: &mut Printer) {
 fn a_link_after_one_that_is_too_long(rt: HostRuntime) {
     let mut printer = new_printer(&rt, rt.alloc(), ONLINE);
     serves_after_too_long(&rt, &mut printer);
+}
+
+// Two blocks that wait at once are one, and where the first went out before the second they are two.
+fn serves_blocks(rt: &impl Abort, printer: &mut Printer, most: usize, wanted: (Served, &[u8])) {
+    let mut reader = MemoryIn::new(b"\x1Da\x01\x10\x04\x01\x1Da\x01", most);
+    serves(rt, printer, &mut reader, &mut [0; 16], 100, wanted);
+}
+
+#[test]
+fn blocks_over_a_link(rt: HostRuntime) {
+    let one = (
+        how_served(9, 9, 5, LinkEnd::Ended),
+        b"\x10\x00\x00\x00\x12".as_slice(),
+    );
+    let two = (
+        how_served(9, 9, 9, LinkEnd::Ended),
+        b"\x10\x00\x00\x00\x12\x10\x00\x00\x00".as_slice(),
+    );
+    for (most, wanted) in [(100, one), (1, two)] {
+        let mut printer = new_printer(&rt, rt.alloc(), ONLINE);
+        serves_blocks(&rt, &mut printer, most, wanted);
+    }
 }
 
 #[test]

@@ -35,7 +35,7 @@ fn empty_pieces_in_feed(rt: HostRuntime) {
         is_fed_byte_by_byte(&rt, &mut printer, spelling);
     }
     assert!(&rt; printer.items().len() == whole.items().len());
-    assert!(&rt; printer.waiting() == 2);
+    assert!(&rt; printer.waiting() == 3);
 }
 
 // Offline, with a half command; and online, with sixteen answers waiting.

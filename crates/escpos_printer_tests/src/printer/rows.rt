@@ -7,7 +7,7 @@ use crate::support::printers::{
     NEAR_END, ONLINE, OPEN, RECEIPT, REQUESTS, answers, answers_no_more, feed, feed_all, mark,
     new_printer, printer_at_last, push_bytes, push_mark,
 };
-use escpos_command::{Answer, FaultReason};
+use escpos_command::{Answer, AutomaticStatus, FaultReason};
 use escpos_paper::{Cell, Item};
 use escpos_printer::{Condition, Fed, FeedStop, Printer};
 use escpos_test_values::{marks, unlike};
@@ -152,6 +152,169 @@ fn sixteen_waiting(rt: HostRuntime) {
     let last = bytes.get(186..).expect(&rt, "last");
     let mut printer = new_printer(&rt, rt.alloc(), ONLINE);
     seventeenth_waits(&rt, &mut printer, &bytes, last);
+}
+
+// Cover open, near end and paper ended, in each combination, and the block that tells it.
+const BLOCKS: [([bool; 3], [u8; 4]); 8] = [
+    ([false, false, false], [0x10, 0x00, 0x00, 0x00]),
+    ([true, false, false], [0x38, 0x00, 0x00, 0x00]),
+    ([false, true, false], [0x10, 0x00, 0x03, 0x00]),
+    ([true, true, false], [0x38, 0x00, 0x03, 0x00]),
+    ([false, false, true], [0x18, 0x00, 0x0C, 0x00]),
+    ([true, false, true], [0x38, 0x00, 0x0C, 0x00]),
+    ([false, true, true], [0x18, 0x00, 0x0F, 0x00]),
+    ([true, true, true], [0x38, 0x00, 0x0F, 0x00]),
+];
+
+fn condition_of([cover_open, near_end, paper_end]: [bool; 3]) -> Condition {
+    Condition {
+        cover_open,
+        near_end,
+        paper_end,
+    }
+}
+
+// Takes an answer, which is the block with these bytes.
+fn answers_a_block(rt: &impl Abort, printer: &mut Printer, bytes: [u8; 4]) {
+    let block = AutomaticStatus::new(bytes).expect(rt, "a block");
+    answers(rt, printer, Answer::Condition(block));
+}
+
+// Switched on online, the printer tells each condition once it changes, and not where it stays.
+fn tells_each_condition(rt: &impl Abort, printer: &mut Printer) {
+    let [(_, online), ..] = BLOCKS;
+    feed_all(rt, printer, b"\x1Da\x0E");
+    answers_a_block(rt, printer, online);
+    answers_no_more(rt, printer);
+    for (sensors, bytes) in BLOCKS {
+        if sensors != [false, false, false] {
+            printer.set_condition(condition_of(sensors));
+            answers_a_block(rt, printer, bytes);
+        }
+        printer.set_condition(condition_of(sensors));
+        answers_no_more(rt, printer);
+    }
+}
+
+#[test]
+fn automatic_status(rt: HostRuntime) {
+    let mut printer = new_printer(&rt, rt.alloc(), ONLINE);
+    tells_each_condition(&rt, &mut printer);
+}
+
+// A condition that changes twice before an answer is taken: one block, the newer, where the first stood.
+fn tells_the_newest(rt: &impl Abort, printer: &mut Printer, one: &[u8], two: &[u8]) {
+    feed_all(rt, printer, one);
+    feed_all(rt, printer, b"\x1Da\x01");
+    feed_all(rt, printer, two);
+    printer.set_condition(NEAR_END);
+    printer.set_condition(OPEN);
+    assert!(rt; printer.waiting() == 3);
+    answers(rt, printer, mark(rt, 0));
+    answers_a_block(rt, printer, [0x38, 0x00, 0x00, 0x00]);
+    answers(rt, printer, mark(rt, 1));
+    answers_no_more(rt, printer);
+}
+
+#[test]
+fn one_block_waits(rt: HostRuntime) {
+    let one = marks(rt.alloc(), &[0]).expect(&rt, "marks");
+    let two = marks(rt.alloc(), &[1]).expect(&rt, "marks");
+    let mut printer = new_printer(&rt, rt.alloc(), ONLINE);
+    tells_the_newest(&rt, &mut printer, &one, &two);
+}
+
+// n = 0 and a restart switch automatic status off, and ESC @ doesn't. A block that waits stays, but not at a restart.
+fn is_switched_off(rt: &impl Abort, printer: &mut Printer) {
+    feed_all(rt, printer, b"\x1Da\x01\x1Da\x00");
+    printer.set_condition(NEAR_END);
+    answers_a_block(rt, printer, [0x10, 0x00, 0x00, 0x00]);
+    answers_no_more(rt, printer);
+    feed_all(rt, printer, b"\x1Da\xFF\x1B@");
+    answers_a_block(rt, printer, [0x10, 0x00, 0x03, 0x00]);
+    printer.set_condition(ONLINE);
+    assert!(rt; printer.waiting() == 1);
+    printer.restart();
+    assert!(rt; printer.waiting() == 0);
+    printer.set_condition(NEAR_END);
+    answers_no_more(rt, printer);
+}
+
+#[test]
+fn automatic_status_off(rt: HostRuntime) {
+    let mut printer = new_printer(&rt, rt.alloc(), ONLINE);
+    is_switched_off(&rt, &mut printer);
+}
+
+// While 16 marks wait, GS a is taken, as often as it comes, and no further mark is.
+fn seventeen_wait(rt: &impl Abort, printer: &mut Printer, marks: &[u8], more: &[u8]) {
+    feed_all(rt, printer, marks);
+    assert!(rt; printer.waiting() == 16);
+    feed_all(rt, printer, b"\x1Da\x01\x1Da\x02");
+    assert!(rt; printer.waiting() == 17);
+    feed(rt, printer, more, 10, FeedStop::AnswersFull);
+    printer.set_condition(NEAR_END);
+    assert!(rt; printer.waiting() == 17);
+    for number in 0..16 {
+        answers(rt, printer, mark(rt, number));
+    }
+    answers_a_block(rt, printer, [0x10, 0x00, 0x03, 0x00]);
+    answers_no_more(rt, printer);
+}
+
+#[test]
+fn sixteen_and_a_block(rt: HostRuntime) {
+    let numbers = [0, 1, 2, 3, 4, 5, 6, 7, 8, 9, 10, 11, 12, 13, 14, 15];
+    let sixteen = marks(rt.alloc(), &numbers).expect(&rt, "marks");
+    let more = marks(rt.alloc(), &[16]).expect(&rt, "marks");
+    let mut printer = new_printer(&rt, rt.alloc(), ONLINE);
+    seventeen_wait(&rt, &mut printer, &sixteen, &more);
+}
+
+// Fifteen marks and a block before them: one more answer has room, and then none.
+fn a_block_takes_no_room(rt: &impl Abort, printer: &mut Printer, marks: &[u8]) {
+    feed_all(rt, printer, b"\x1Da\x01");
+    feed_all(rt, printer, marks);
+    assert!(rt; printer.waiting() == 16);
+    feed(
+        rt,
+        printer,
+        b"\x10\x04\x01\x10\x04\x01",
+        5,
+        FeedStop::AnswersFull,
+    );
+    assert!(rt; printer.waiting() == 17);
+    answers_a_block(rt, printer, [0x10, 0x00, 0x00, 0x00]);
+    feed(rt, printer, b"\x01", 0, FeedStop::AnswersFull);
+    answers(rt, printer, mark(rt, 0));
+    feed_all(rt, printer, b"\x01");
+    assert!(rt; printer.waiting() == 16);
+}
+
+#[test]
+fn fifteen_and_a_block(rt: HostRuntime) {
+    let numbers = [0, 1, 2, 3, 4, 5, 6, 7, 8, 9, 10, 11, 12, 13, 14];
+    let fifteen = marks(rt.alloc(), &numbers).expect(&rt, "marks");
+    let mut printer = new_printer(&rt, rt.alloc(), ONLINE);
+    a_block_takes_no_room(&rt, &mut printer, &fifteen);
+}
+
+// GS a isn't taken while the printer is offline; switched on before, it tells that it is offline.
+fn offline_takes_no_gs_a(rt: &impl Abort, printer: &mut Printer) {
+    feed(rt, printer, b"\x1Da\x01", 2, FeedStop::Offline);
+    answers_no_more(rt, printer);
+    printer.set_condition(ONLINE);
+    answers_no_more(rt, printer);
+    feed_all(rt, printer, b"\x01");
+    answers_a_block(rt, printer, [0x10, 0x00, 0x00, 0x00]);
+    printer.set_condition(OPEN);
+    answers_a_block(rt, printer, [0x38, 0x00, 0x00, 0x00]);
+}
+
+#[test]
+fn automatic_status_offline(rt: HostRuntime) {
+    let mut printer = new_printer(&rt, rt.alloc(), OPEN);
+    offline_takes_no_gs_a(&rt, &mut printer);
 }
 
 fn keeps_a_half_command(rt: &impl Abort, printer: &mut Printer) {

@@ -9,6 +9,7 @@ invariant-loop-answer l = record {
   sheet : l.printer.sheet ≡ l.fn.printer.sheet;
   half : l.printer.half ≡ l.fn.printer.half;
   condition : l.printer.condition ≡ l.fn.printer.condition;
+  automatic : l.printer.automatic ≡ l.fn.printer.automatic;
 }
 
 abbrev pub decreases-loop-answer : goal.decreases-loop-answer

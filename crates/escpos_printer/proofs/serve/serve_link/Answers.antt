@@ -6,14 +6,14 @@ use Rattle.escpos_printer.proofs.serve.serve_link.Goals as goal
 pub returns-in-Err-clause-served : goal.returns-in-Err-clause-served
 returns-in-Err-clause-served g c =
     rw c.all_taken.ensures (
-    serves_cut c.args.printer.now c.put_answers.new.printer _ _ _ c.args.max_bytes c.in-Err.written c.is_sound.ensures.rest c.in-Err.ensures.some
-    (record { sheet = c.in-Err.ensures.same.0; half = c.in-Err.ensures.same.1; condition = c.in-Err.ensures.same.2 }))
+    serves_cut c.args.printer.now c.put_answers.new.printer _ _ _ c.args.max_bytes c.in-Err.written c.is_sound.ensures.rest c.is_sound.ensures.room c.in-Err.ensures.some
+    (record { sheet = c.in-Err.ensures.same.0; half = c.in-Err.ensures.same.1; condition = c.in-Err.ensures.same.2; automatic = c.in-Err.ensures.same.3 }))
 
 pub loop-read-init : goal.loop-read-init
 loop-read-init g c = record {
   reading =
-      reading_none c.args.printer.now c.put_answers.new.printer _ _ _ c.in-Ok.count c.is_sound.ensures.rest c.in-Ok.ensures.all
-      (record { sheet = c.in-Ok.ensures.same.0; half = c.in-Ok.ensures.same.1; condition = c.in-Ok.ensures.same.2 });
+      reading_none c.args.printer.now c.put_answers.new.printer _ _ _ c.in-Ok.count c.is_sound.ensures.rest c.is_sound.ensures.room c.in-Ok.ensures.all
+      (record { sheet = c.in-Ok.ensures.same.0; half = c.in-Ok.ensures.same.1; condition = c.in-Ok.ensures.same.2; automatic = c.in-Ok.ensures.same.3 });
   most = refl;
   within = omega arith;
   few = c.in-Ok.ensures.few;

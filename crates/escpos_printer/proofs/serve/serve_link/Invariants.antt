@@ -10,7 +10,7 @@ invariant-loop-read g l = record {
       l.printer;
   most : l.most ≡ l.fn.max_bytes;
   within : l.read ≤ l.most;
-  few : l.written ≤ 112 + 224 * l.read;
+  few : l.written ≤ 116 + 232 * l.read;
   room : length l.piece ≡ 512;
   pulls : g.R.ByteIn.pull_count l.reader ≤ g.R.ByteIn.pull_count l.fn.reader + l.read;
   reader_well : ¬ IsTrue (g.R.ByteIn.failed l.fn.reader) → ¬ IsTrue (g.R.ByteIn.failed l.reader);

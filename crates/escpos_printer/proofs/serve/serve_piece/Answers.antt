@@ -21,7 +21,7 @@ returns-in-Err-clause-carried g c =
     c.loop-count.consumed c.feed-fed.result.consumed c.loop-count.written c.in-Err.count c.feed-fed.result.stop c.loop-count.invariant.passed
     (fed_at c.loop-count.printer c.feed-fed.new.self c.args.piece.now c.loop-count.consumed c.feed-fed.result.consumed c.feed-fed.result.stop c.loop-count.invariant.inside c.feed-fed.ensures)
     c.in-Err.ensures.some
-    (record { sheet = c.in-Err.ensures.same.0; half = c.in-Err.ensures.same.1; condition = c.in-Err.ensures.same.2 })
+    (record { sheet = c.in-Err.ensures.same.0; half = c.in-Err.ensures.same.1; condition = c.in-Err.ensures.same.2; automatic = c.in-Err.ensures.same.3 })
 
 -- the bytes that were taken before the answers were too many
 full : (g : given.Over) (c : goal.In-AnswersFull g) → FedAt c.loop-count.printer c.args.piece.now c.loop-count.consumed c.feed-fed.result.consumed stop.AnswersFull c.feed-fed.new.self
@@ -48,7 +48,7 @@ loop-count-preserved g c =
       passed =
           go_on joined c.args.printer.now c.loop-count.printer c.feed-fed.new.self c.put_answers.new.printer c.args.piece.now _ _ _
           c.loop-count.consumed c.feed-fed.result.consumed c.loop-count.written c.in-Ok.count c.loop-count.invariant.passed fed c.in-Ok.ensures.all
-          (record { sheet = c.in-Ok.ensures.same.0; half = c.in-Ok.ensures.same.1; condition = c.in-Ok.ensures.same.2 });
+          (record { sheet = c.in-Ok.ensures.same.0; half = c.in-Ok.ensures.same.1; condition = c.in-Ok.ensures.same.2; automatic = c.in-Ok.ensures.same.3 });
       few = omega (arith, more, before, count);
       not_failed = λ well. c.in-Ok.ensures.not_failed (c.loop-count.invariant.not_failed well);
     }
@@ -66,7 +66,7 @@ returns-in-loop-count g c =
           c.loop-count.consumed c.feed-fed.result.consumed c.loop-count.written c.in-Ok.count c.feed-fed.result.stop c.in_default.not-AnswersFull c.loop-count.invariant.passed
           (fed_at c.loop-count.printer c.feed-fed.new.self c.args.piece.now c.loop-count.consumed c.feed-fed.result.consumed c.feed-fed.result.stop c.loop-count.invariant.inside c.feed-fed.ensures)
           c.in-Ok.ensures.all
-          (record { sheet = c.in-Ok.ensures.same.0; half = c.in-Ok.ensures.same.1; condition = c.in-Ok.ensures.same.2 }));
+          (record { sheet = c.in-Ok.ensures.same.0; half = c.in-Ok.ensures.same.1; condition = c.in-Ok.ensures.same.2; automatic = c.in-Ok.ensures.same.3 }));
       few = omega (arith, before, count);
       end = subst (λ v. IsWithinPiece v) (sym c.end_of.ensures) (within_piece c.feed-fed.result.stop);
       failed = λ e. absurd (no_write_fault c.feed-fed.result.stop (sym c.end_of.ensures ∙ e));

@@ -7,7 +7,7 @@ abbrev pub invariant-loop-count : goal.invariant-loop-count
 invariant-loop-count g l = record {
   inside : l.consumed ≤ length l.piece;
   passed : Passed l.fn.printer (take l.consumed l.piece) (g.W.ByteOut.written l.fn.writer) (g.W.ByteOut.written l.writer) l.written l.printer;
-  few : l.written ≤ 112 * l.consumed;
+  few : l.written ≤ 116 * l.consumed;
   not_failed : ¬ IsTrue (g.W.ByteOut.failed l.fn.writer) → ¬ IsTrue (g.W.ByteOut.failed l.writer);
 }
 

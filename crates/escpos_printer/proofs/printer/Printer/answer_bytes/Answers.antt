@@ -1,7 +1,8 @@
--- The bytes of one more answer, at most seven.
-use Rattle.std.proofs.Common.{◌≡◌, ◌++◌, length, take, ap, sym, ◌∙◌, arith, length-append}
+-- The bytes of one more answer, at most seven, or four of a block.
+use Rattle.std.proofs.Common.{◌≡◌, ◌+◌, ◌++◌, length, take, ap, sym, ◌∙◌, arith, length-append}
 use Rattle.escpos_command.specs.Answers.{spell_answers}
 use Rattle.escpos_printer.proofs.AnswerBytes.{one_more_answer}
+use Rattle.escpos_printer.proofs.OneBlock.{bytes_more, few_bytes}
 use Rattle.escpos_printer.proofs.printer.Printer.answer_bytes.Goals as goal
 
 pub loop-at-preserved : goal.loop-at-preserved
@@ -14,7 +15,17 @@ loop-at-preserved c =
     record {
       spelled = grown ∙ ap (λ bs. bs ++ c.as_slice.result.now) c.loop-at.invariant.spelled ∙ ap (λ bs. spell_answers (take i answers) ++ bs) here ∙ sym more;
       few =
-          let long = ap length grown in
-          let fits = c.as_slice.ensures.fits in
-          let few = c.loop-at.invariant.few in omega (arith, long, fits, few, length-append c.loop-at.bytes.items c.as_slice.result.now);
+          let long = ap length grown ∙ length-append c.loop-at.bytes.items c.as_slice.result.now in
+          let one = ap length c.as_slice.ensures.value ∙ c.bytes-answer.ensures.length in
+          let few = bytes_more answers i (length c.loop-at.bytes.items) c.waiting_at.result c.waiting_at.ensures c.loop-at.invariant.few in
+          omega (arith, long, one, few);
     }
+
+pub unwrap-requires : goal.unwrap-requires
+unwrap-requires c =
+    let answers = c.args.self.now.waiting in
+    let i = c.loop-at.at in
+    let one = ap length c.as_slice.ensures.value ∙ c.bytes-answer.ensures.length in
+    let few = bytes_more answers i (length c.loop-at.bytes.items) c.waiting_at.result c.waiting_at.ensures c.loop-at.invariant.few in
+    let most = few_bytes answers (i + 1) _ c.is_sound.ensures.room few in
+    c.try_extend_from_slice.ensures.variant.1 (omega (arith, one, most))

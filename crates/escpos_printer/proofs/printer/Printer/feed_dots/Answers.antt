@@ -14,6 +14,6 @@ pub returns-clause-taken : goal.returns-clause-taken
 returns-clause-taken c =
     subst
     (λ (v : PrinterView). Took v (take c.push_dots.result c.args.bytes.now) []
-    (record { sheet = c.self.inside.page.sheet; half = c.push_dots.new.self; waiting = c.self.inside.waiting.items; condition = c.self.inside.condition }))
+    (record { sheet = c.self.inside.page.sheet; half = c.push_dots.new.self; waiting = c.self.inside.waiting.items; condition = c.self.inside.condition; automatic = c.self.inside.reporting }))
     c.self.view_is
     (run_taken _ (take c.push_dots.result c.args.bytes.now) c.push_dots.new.self c.self.invariant.0 c.self.invariant.2 c.push_dots.ensures.stream)
