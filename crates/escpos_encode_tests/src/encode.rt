@@ -106,6 +106,181 @@ const ENCODED: [Row; 16] = [
     ),
 ];
 
+// Texts whose bytes hold a real-time command, and why they give no receipt; and such as hold none.
+const REAL_TIME: [Row; 19] = [
+    // raster_opens_the_drawer
+    (
+        b"[{\"raster\":{\"scale\":\"normal\",\"x\":5,\"y\":1,\"dots\":\"1014010001\"}}]",
+        b"refused 9 RealTime 0\n",
+        Status::Refused,
+    ),
+    // raster_drops_what_waits
+    (
+        b"[{\"line\":\"Hi\"},{\"raster\":{\"scale\":\"normal\",\"x\":5,\"y\":2,\"dots\":\"10140801031401060208\"}}]",
+        b"refused 9 RealTime 3\n",
+        Status::Refused,
+    ),
+    // the first and the last of each kind, and their neighbours
+    (
+        b"[{\"raster\":{\"scale\":\"normal\",\"x\":3,\"y\":1,\"dots\":\"100400\"}}]",
+        b"1d76300003000100100400\n",
+        Status::Good,
+    ),
+    (
+        b"[{\"raster\":{\"scale\":\"normal\",\"x\":3,\"y\":1,\"dots\":\"100401\"}}]",
+        b"refused 9 RealTime 0\n",
+        Status::Refused,
+    ),
+    (
+        b"[{\"raster\":{\"scale\":\"normal\",\"x\":3,\"y\":1,\"dots\":\"100408\"}}]",
+        b"refused 9 RealTime 0\n",
+        Status::Refused,
+    ),
+    (
+        b"[{\"raster\":{\"scale\":\"normal\",\"x\":3,\"y\":1,\"dots\":\"100409\"}}]",
+        b"1d76300003000100100409\n",
+        Status::Good,
+    ),
+    (
+        b"[{\"raster\":{\"scale\":\"normal\",\"x\":3,\"y\":1,\"dots\":\"100500\"}}]",
+        b"refused 9 RealTime 0\n",
+        Status::Refused,
+    ),
+    (
+        b"[{\"raster\":{\"scale\":\"normal\",\"x\":3,\"y\":1,\"dots\":\"100502\"}}]",
+        b"refused 9 RealTime 0\n",
+        Status::Refused,
+    ),
+    (
+        b"[{\"raster\":{\"scale\":\"normal\",\"x\":3,\"y\":1,\"dots\":\"100503\"}}]",
+        b"1d76300003000100100503\n",
+        Status::Good,
+    ),
+    (
+        b"[{\"raster\":{\"scale\":\"normal\",\"x\":3,\"y\":1,\"dots\":\"101400\"}}]",
+        b"1d76300003000100101400\n",
+        Status::Good,
+    ),
+    (
+        b"[{\"raster\":{\"scale\":\"normal\",\"x\":3,\"y\":1,\"dots\":\"101403\"}}]",
+        b"refused 9 RealTime 0\n",
+        Status::Refused,
+    ),
+    (
+        b"[{\"raster\":{\"scale\":\"normal\",\"x\":4,\"y\":1,\"dots\":\"10140405\"}}]",
+        b"1d7630000400010010140405\n",
+        Status::Good,
+    ),
+    (
+        b"[{\"raster\":{\"scale\":\"normal\",\"x\":3,\"y\":1,\"dots\":\"101406\"}}]",
+        b"refused 9 RealTime 0\n",
+        Status::Refused,
+    ),
+    (
+        b"[{\"raster\":{\"scale\":\"normal\",\"x\":3,\"y\":1,\"dots\":\"101409\"}}]",
+        b"1d76300003000100101409\n",
+        Status::Good,
+    ),
+    // the data of a QR code, whose store is the third of its commands, and the content of a barcode
+    (
+        b"[{\"qr\":{\"content\":\"\\u0010\\u0004\\u0001\",\"size\":3,\"level\":\"L\"}}]",
+        b"refused 9 RealTime 2\n",
+        Status::Refused,
+    ),
+    (
+        b"[{\"bars\":{\"kind\":\"code128\",\"content\":\"{A\\u0010\\u0014\\u0001\"}}]",
+        b"refused 9 RealTime 0\n",
+        Status::Refused,
+    ),
+    // parameters that look like one, but for the command after them
+    (
+        b"[{\"pulse\":{\"pin\":0,\"on\":16,\"off\":4}},{\"feed\":1}]",
+        b"1b700010041b6401\n",
+        Status::Good,
+    ),
+    // a text in the line comes first, and text that is left last
+    (
+        b"[{\"text\":\"A\"},{\"raster\":{\"scale\":\"normal\",\"x\":3,\"y\":1,\"dots\":\"101401\"}}]",
+        b"refused 4 MidLine 1\n",
+        Status::Refused,
+    ),
+    (
+        b"[{\"raster\":{\"scale\":\"normal\",\"x\":3,\"y\":1,\"dots\":\"101401\"}},{\"text\":\"A\"}]",
+        b"refused 9 RealTime 0\n",
+        Status::Refused,
+    ),
+];
+
+#[test]
+fn real_time_commands_in_encode(rt: HostRuntime) {
+    assert!(&rt; performs_rows(rt.alloc(), Task::Encode, &REAL_TIME, &[1, 4096]));
+}
+
+// Texts with codes that a printer leaves out on a line of 512 dots, and such as fit.
+const LEFT_OUT: [Row; 10] = [
+    // version 4 has 33 modules, of 16 dots each
+    (
+        b"[{\"qr\":{\"content\":\"aaaaaaaaaaaaaaaaaaaaaaaaaaaaaaaaaaaaaaaaaaaaaaaaaaaaaa\",\"size\":16,\"level\":\"L\"}}]",
+        b"refused 10 NotPrintable 3\n",
+        Status::Refused,
+    ),
+    // code128_without_data, a byte that its set hasn't, and a shift before nothing
+    (
+        b"[{\"line\":\"Hi\"},{\"bars\":{\"kind\":\"code128\",\"content\":\"{B\"}}]",
+        b"refused 10 NotPrintable 3\n",
+        Status::Refused,
+    ),
+    (
+        b"[{\"bars\":{\"kind\":\"code128\",\"content\":\"{Aa\"}}]",
+        b"refused 10 NotPrintable 0\n",
+        Status::Refused,
+    ),
+    (
+        b"[{\"bars\":{\"kind\":\"code128\",\"content\":\"{BA{S\"}}]",
+        b"refused 10 NotPrintable 0\n",
+        Status::Refused,
+    ),
+    // CODE39 has no asterisk within
+    (
+        b"[{\"bars\":{\"kind\":\"code39\",\"content\":\"A*B\"}}]",
+        b"refused 10 NotPrintable 0\n",
+        Status::Refused,
+    ),
+    // five characters of 90 dots and two more, and again where modules are of 2 dots
+    (
+        b"[{\"bar_width\":6},{\"bars\":{\"kind\":\"code39\",\"content\":\"ABCDE\"}}]",
+        b"refused 10 NotPrintable 1\n",
+        Status::Refused,
+    ),
+    (
+        b"[{\"bar_width\":6},{\"bar_width\":2},{\"bars\":{\"kind\":\"code39\",\"content\":\"ABCDE\"}}]",
+        b"1d77061d77021d6b45054142434445\n",
+        Status::Good,
+    ),
+    // a wrong check digit is drawn as it is sent
+    (
+        b"[{\"bars\":{\"kind\":\"ean8\",\"content\":\"55123450\"}}]",
+        b"1d6b44083535313233343530\n",
+        Status::Good,
+    ),
+    // what is no receipt is no receipt first
+    (
+        b"[{\"bars\":{\"kind\":\"code128\",\"content\":\"{B\"}},{\"text\":\"A\"}]",
+        b"refused 3 TextLeft\n",
+        Status::Refused,
+    ),
+    (
+        b"[{\"bars\":{\"kind\":\"code128\",\"content\":\"{B\"}},{\"raster\":{\"scale\":\"normal\",\"x\":3,\"y\":1,\"dots\":\"101401\"}}]",
+        b"refused 9 RealTime 1\n",
+        Status::Refused,
+    ),
+];
+
+#[test]
+fn codes_that_are_left_out_in_encode(rt: HostRuntime) {
+    assert!(&rt; performs_rows(rt.alloc(), Task::Encode, &LEFT_OUT, &[1, 4096]));
+}
+
 // Texts that give no receipt, and why.
 const REFUSED_TEXTS: [Row; 48] = [
     // receipt_refusals

@@ -51,7 +51,7 @@ const CODE128: [&str; 3] = [
 
 const ENTRIES: [&str; 3] = ["[", "{\"feed\":1},", "{\"feed\":1}]"];
 
-// A barcode of each symbology, at its shortest and its longest content.
+// A barcode of each symbology, at its shortest content and at the longest that fits on a line.
 const BARCODES: [Long; 14] = [
     (11, UPCA, ["1d6b410b", "30", "\n"]),
     (12, UPCA, ["1d6b410c", "30", "\n"]),
@@ -60,13 +60,28 @@ const BARCODES: [Long; 14] = [
     (7, EAN8, ["1d6b4407", "30", "\n"]),
     (8, EAN8, ["1d6b4408", "30", "\n"]),
     (1, CODE39, ["1d6b4501", "5a", "\n"]),
-    (255, CODE39, ["1d6b45ff", "5a", "\n"]),
+    (9, CODE39, ["1d6b4509", "5a", "\n"]),
     (1, ITF, ["1d6b4602", "3132", "\n"]),
-    (127, ITF, ["1d6b46fe", "3132", "\n"]),
+    (9, ITF, ["1d6b4612", "3132", "\n"]),
     (0, CODABAR, ["1d6b470241", "31", "64\n"]),
-    (253, CODABAR, ["1d6b47ff41", "31", "64\n"]),
-    (0, CODE128, ["1d6b49027b42", "61", "\n"]),
-    (253, CODE128, ["1d6b49ff7b42", "61", "\n"]),
+    (12, CODABAR, ["1d6b470e41", "31", "64\n"]),
+    (1, CODE128, ["1d6b49037b42", "61", "\n"]),
+    (12, CODE128, ["1d6b490e7b42", "61", "\n"]),
+];
+
+const NOT_PRINTABLE: [&str; 3] = ["refused 10 NotPrintable 0\n", "", ""];
+
+// The shortest that don't fit, the longest, and CODE128 without data.
+const WIDE_BARCODES: [Long; 9] = [
+    (10, CODE39, NOT_PRINTABLE),
+    (255, CODE39, NOT_PRINTABLE),
+    (10, ITF, NOT_PRINTABLE),
+    (127, ITF, NOT_PRINTABLE),
+    (13, CODABAR, NOT_PRINTABLE),
+    (253, CODABAR, NOT_PRINTABLE),
+    (13, CODE128, NOT_PRINTABLE),
+    (253, CODE128, NOT_PRINTABLE),
+    (0, CODE128, NOT_PRINTABLE),
 ];
 
 // The largest raster.
@@ -80,12 +95,46 @@ const PICTURE: Long = (
     ["1d7630008000ff0f", "5a", "\n"],
 );
 
-// Each barcode, at its shortest and at its longest.
+// Each barcode, at its shortest, and at the longest that fits.
 #[test]
 fn barcodes_have_memory(rt: HostRuntime) {
     for row in &BARCODES {
         encodes_long(&rt, rt.alloc(), *row, Status::Good);
     }
+}
+
+// What a printer would leave out is refused.
+#[test]
+fn barcodes_that_do_not_fit(rt: HostRuntime) {
+    for row in &WIDE_BARCODES {
+        encodes_long(&rt, rt.alloc(), *row, Status::Refused);
+    }
+}
+
+const TALL: [&str; 3] = [
+    "[{\"raster\":{\"scale\":\"normal\",\"x\":1,\"y\":1040,\"dots\":\"",
+    "01",
+    "\"}}]",
+];
+
+const TALL_AND_SAFE: [&str; 3] = [
+    "[{\"raster\":{\"scale\":\"normal\",\"x\":1,\"y\":1040,\"dots\":\"",
+    "11",
+    "\"}}]",
+];
+
+// The two bytes of the height, 10 04, and the first dots may be a real-time command.
+#[test]
+fn a_height_begins_a_real_time_command(rt: HostRuntime) {
+    let refused = ["refused 9 RealTime 0\n", "", ""];
+    encodes_long(&rt, rt.alloc(), (1_040, TALL, refused), Status::Refused);
+    let encoded = ["1d76300001001004", "11", "\n"];
+    encodes_long(
+        &rt,
+        rt.alloc(),
+        (1_040, TALL_AND_SAFE, encoded),
+        Status::Good,
+    );
 }
 
 #[test]

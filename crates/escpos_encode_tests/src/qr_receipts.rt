@@ -233,38 +233,53 @@ type Long = (usize, &'static str, [&'static str; 3], Status);
 
 const TOO_LONG: [&str; 3] = ["refused 6 BadShape 0\n", "", ""];
 
-const CONTENTS: [Long; 5] = [
+const NOT_PRINTABLE: [&str; 3] = ["refused 10 NotPrintable 3\n", "", ""];
+
+const CONTENTS: [Long; 8] = [
     (
         7089,
+        "1",
+        [
+            "1d286b03003143021d286b03003145301d286bb41b315030",
+            "31",
+            "1d286b0300315130\n",
+        ],
+        Status::Good,
+    ),
+    (7090, "1", TOO_LONG, Status::Refused),
+    (
+        2953,
         "a",
         [
-            "1d286b03003143031d286b03003145301d286bb41b315030",
+            "1d286b03003143021d286b03003145301d286b8c0b315030",
             "61",
             "1d286b0300315130\n",
         ],
         Status::Good,
     ),
-    (7090, "a", TOO_LONG, Status::Refused),
+    (2954, "a", NOT_PRINTABLE, Status::Refused),
     (
-        3544,
+        1476,
         "\u{e9}",
         [
-            "1d286b03003143031d286b03003145301d286bb31b315030",
+            "1d286b03003143021d286b03003145301d286b8b0b315030",
             "c3a9",
             "1d286b0300315130\n",
         ],
         Status::Good,
     ),
+    (3544, "\u{e9}", NOT_PRINTABLE, Status::Refused),
     (3545, "\u{e9}", TOO_LONG, Status::Refused),
     (1_000_000, "a", TOO_LONG, Status::Refused),
 ];
 
-// A content has 7,089 bytes at most, which aren't as many characters where some take two.
+// A content has 7,089 bytes at most, which aren't as many characters where some take two, and no QR code holds more than 2,953
+// that aren't all digits or alphanumeric.
 #[test]
 fn the_longest_contents_in_encode(rt: HostRuntime) {
     for (count, part, line, status) in CONTENTS {
         let text = [
-            "[{\"qr\":{\"size\":3,\"level\":\"L\",\"content\":\"",
+            "[{\"qr\":{\"size\":2,\"level\":\"L\",\"content\":\"",
             part,
             "\"}}]",
         ];

@@ -11,3 +11,4 @@ pub mod BitmapRows
 pub mod Means
 pub mod PlainFormats
 pub mod PlainBitmaps
+pub mod Blackened

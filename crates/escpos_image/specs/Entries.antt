@@ -4,6 +4,7 @@ use Rattle.std.specs.List.{range_with_len}
 use Rattle.hex.specs.Hex.{encode_lower}
 use Rattle.escpos_command.specs.declared.raster.TheConstants.{HIGHEST}
 use Rattle.escpos_image.specs.DotRows.{DotRows}
+use Rattle.escpos_image.specs.Blackening.{safe_dots}
 use Rattle.escpos_image.specs.Packing.{row_bytes, packed_rows}
 
 -- How many bands so many rows make.
@@ -20,10 +21,13 @@ raster_entry x y dots =
     codes "{\"raster\":{\"scale\":\"normal\",\"x\":" ++ decimal x ++ codes ",\"y\":" ++ decimal y ++ codes ",\"dots\":\""
     ++ encode_lower dots ++ codes "\"}}"
 
+-- The dots of band b.
+abbrev pub band_dots : DotRows → ℕ → List ℕ
+band_dots p b = safe_dots (band_rows p.height b) (packed_rows p (b * HIGHEST) (band_rows p.height b))
+
 -- The entry of band b.
 abbrev pub band_entry : DotRows → ℕ → List ℕ
-band_entry p b =
-    raster_entry (row_bytes p.width) (band_rows p.height b) (packed_rows p (b * HIGHEST) (band_rows p.height b))
+band_entry p b = raster_entry (row_bytes p.width) (band_rows p.height b) (band_dots p b)
 
 -- A comma comes between two entries, and each has a line.
 abbrev pub line_end : ℕ → ℕ → List ℕ

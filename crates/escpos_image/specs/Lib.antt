@@ -9,6 +9,7 @@ pub mod DotRows
 pub mod Diffusion
 pub mod Shading
 pub mod Packing
+pub mod Blackening
 pub mod Entries
 pub mod Whole
 pub mod Format

@@ -3,6 +3,7 @@
 ghost use Rattle.std.specs.Prelude.{◌≡◌, ◌+◌, ◌*◌, ◌≤◌, ◌<◌, ◌++◌, length, OnOk, IfOk, decimal};
 ghost use Rattle.escpos_image.specs.Entries.{band_count, band_rows, raster_entry, line_end, entry_line, entries_text};
 
+use crate::blackening::blacken;
 use crate::dots::DotPicture;
 use crate::header::GREATEST;
 use crate::packing::{packed_rows, row_bytes};
@@ -12,7 +13,8 @@ use std::alloc::{AllocError, Global};
 
 impl DotPicture {
     /// The picture as entries of a receipt's text in JSON, each a raster of at most 4,095 rows, in order: an entry a line, with a
-    /// comma after each but the last.
+    /// comma after each but the last. In a byte that would end a real-time command, which a printer would carry out, one white dot is
+    /// black.
     ///
     /// A receipt takes them if the picture is at most 1,024 dots wide. Fails only if an allocation does.
     #[tactic(auto, unfolding(crate::specs::Entries::entries_text))]
@@ -39,7 +41,8 @@ fn put_entry(
     ensures { OnOk result (text.new.items ≡ text.old.items ++ entry_line picture.now b) }
 {
     let rows = band_rows(picture.height(), b);
-    let dots = packed_rows(alloc, picture, b * usize::from(HIGHEST), rows)?;
+    let mut dots = packed_rows(alloc, picture, b * usize::from(HIGHEST), rows)?;
+    blacken(rows, &mut dots);
     put_raster(
         alloc,
         row_bytes(picture.width()),

@@ -1,9 +1,13 @@
 //! Proof only: what follows from the definitions. The contract of each function is the law; when run, they do nothing. A law is proved
 //! with this crate, and another crate cites it by calling the function.
 
-ghost use Rattle.std.specs.Prelude.{◌≡◌, ◌≤◌, ◌<◌, ◌+◌, ◌*◌, ◌-◌, ◌/◌, ◌%◌, ◌++◌, ℕ, Bool, List, true, false, Some, Ok, All, length, map, nat_lt, replicate, flat_map, slice_index, slice_index_or};
+ghost use Rattle.std.specs.Prelude.{◌≡◌, ◌⊎◌, ◌≤◌, ◌<◌, ◌+◌, ◌*◌, ◌-◌, ◌/◌, ◌%◌, ◌++◌, ℕ, Bool, List, true, false, Some, Ok, All, length, map, nat_lt, replicate, flat_map, slice_index, slice_index_or};
 ghost use Rattle.std.specs.List.{range_with_len};
-ghost use Rattle.escpos_command.specs.Rasters.{widest, highest};
+ghost use Rattle.escpos_command.specs.Rasters.{picture, widest, highest};
+ghost use Rattle.escpos_command.specs.CommandTable.{row};
+ghost use Rattle.escpos_command.specs.declared.command.Command.TheVariants.{Raster};
+ghost use Rattle.escpos_real_time.specs.RealTime.{HoldsRealTime};
+ghost use Rattle.escpos_image.specs.Blackening.{safe_dots};
 ghost use Rattle.escpos_image.specs.Grays.{Grays, IsGrays, grays_of};
 ghost use Rattle.escpos_image.specs.DotRows.{DotRows, IsDotRows};
 ghost use Rattle.escpos_image.specs.Format.{IsPlain, IsPlainBitmap, IsRaw, IsRawBitmap, Colour, IsColour, three_samples, two_bytes, colour_gray, dot_gray};
@@ -12,7 +16,7 @@ ghost use Rattle.escpos_image.specs.Samples.{bit_of, gray};
 ghost use Rattle.escpos_image.specs.Scaling.{edge, scaled};
 ghost use Rattle.escpos_image.specs.Shading.{shaded, diffused};
 ghost use Rattle.escpos_image.specs.Packing.{bit, packed_byte, row_bytes, packed_rows};
-ghost use Rattle.escpos_image.specs.Entries.{band_count, band_rows};
+ghost use Rattle.escpos_image.specs.Entries.{band_count, band_dots, band_rows};
 
 use crate::samples::WHITE;
 use escpos_command::HIGHEST;
@@ -94,4 +98,14 @@ pub fn rasters_have_their_size()
     ensures whole { (p : DotRows) (first rows : ℕ) → length (packed_rows p first rows) ≡ row_bytes p.width * rows }
     ensures some { (width : ℕ) → 1 ≤ width → 1 ≤ row_bytes width }
     ensures most { (width : ℕ) → width ≤ 1024 → row_bytes width ≤ widest }
+{}
+
+/// No real-time command: the raster of a band holds none in its bytes. Its dots are those of the picture, as many, but that some
+/// bytes of at most 8 have the dot of value 16 too.
+pub fn rasters_hold_no_real_time()
+    ensures none { (p : DotRows) (b : ℕ) → p.width ≤ 1024
+        → HoldsRealTime (row (Raster (picture 0 (row_bytes p.width) (band_rows p.height b) (band_dots p b)))) → ⊥ }
+    ensures same_count { (rows : ℕ) (dots : List ℕ) → length (safe_dots rows dots) ≡ length dots }
+    ensures blackened { (rows : ℕ) (dots : List ℕ) (k : ℕ) → (slice_index_or (safe_dots rows dots) k 0 ≡ slice_index_or dots k 0)
+        ⊎ ((slice_index_or dots k 0 ≤ 8) × (slice_index_or (safe_dots rows dots) k 0 ≡ slice_index_or dots k 0 + 16)) }
 {}

@@ -5,7 +5,7 @@
 //!
 //! `scan` finds numbers and the gaps before them, `header` reads what comes before the samples, `samples` reads a dot, and `picture`
 //! all of them. `scaling` makes a picture smaller, `dots` makes it black and white, by a threshold or by `diffusion`, `packing` puts
-//! eight dots into a byte, and `entries` writes the rasters. `fault` has what is refused. `laws` has what follows from the definitions:
+//! eight dots into a byte, `blackening` keeps real-time commands out of the bytes, and `entries` writes the rasters. `fault` has what is refused. `laws` has what follows from the definitions:
 //! raw pictures are read as their formats say, boxes leave no place out, bands no row.
 //!
 //! Of the definitions begin with `image_text` of `specs/Whole.antt`, the whole way. `picture_of` of `specs/Pictures.antt` is the reader,
@@ -13,6 +13,7 @@
 //! `specs/Shading.antt` and `entries_text` of `specs/Entries.antt`. `proofs/Worked.antt` shows small pictures.
 #![tactic(auto)]
 
+mod blackening;
 mod diffusion;
 mod dots;
 mod entries;

@@ -119,6 +119,16 @@ fn entries_of_a_picture(rt: HostRuntime) -> Result<(), Fail> {
     let text = text.map_err(|_| "refused")?;
     let wanted = b"{\"raster\":{\"scale\":\"normal\",\"x\":2,\"y\":2,\"dots\":\"80804000\"}}\n";
     assert_eq!(rt; text.as_slice(), wanted.as_slice());
+    // a real-time command in the dots: its last byte gets one more black dot
+    let text = image_entries(
+        rt.alloc(),
+        b"P4 24 1\n\x10\x14\x01",
+        LineWidth::usual(),
+        None,
+    );
+    let text = text.map_err(|_| "refused")?;
+    let wanted = b"{\"raster\":{\"scale\":\"normal\",\"x\":3,\"y\":1,\"dots\":\"101411\"}}\n";
+    assert_eq!(rt; text.as_slice(), wanted.as_slice());
     let error = image_entries(rt.alloc(), b"P1 2 2 1 0 1", LineWidth::usual(), None).err();
     assert_eq!(rt;
         error,

@@ -1,14 +1,13 @@
 -- What one more command does: whether there is text in the line then, and whether each command may follow those before it.
-use Rattle.std.proofs.Common.{◌≡◌, ◌+◌, ◌<◌, ℕ, List, [], ◌∷◌, ◌++◌, ◌⊎◌, inl, inr, refl, sym, ◌∙◌, ap, subst, append_assoc, append-nil, arith, take, drop, get_or, Bool, true, false, cond, IsTrue}
+use Rattle.std.proofs.Common.{◌≡◌, ◌+◌, ◌<◌, ℕ, List, [], ◌∷◌, ◌++◌, ◌⊎◌, inl, inr, refl, sym, ◌∙◌, ap, subst, append_assoc, append-nil, arith, take, drop, get_or, Bool, true, false, cond}
 use Rattle.std.specs.Prelude.{◌||◌, ◌&&◌, ◌==◌, not, length}
 use Rattle.std.proofs.lemmas.List.{length-take-le}
 use Rattle.escpos_command.specs.declared.command.Command.{Command}
 use Rattle.escpos_command.specs.declared.command.Command.TheVariants.{Char, LineFeed, QrPrint, Table}
 use Rattle.escpos_command.specs.Text.{text, ends_line, ends_text, characters}
 use Rattle.escpos_command.proofs.Lines.{text-snoc}
-use Rattle.escpos_receipt.specs.declared.receipt.ReceiptFault.TheVariants as fault
 use Rattle.escpos_receipt.specs.SpelledText.{AreOfLines, text_left}
-use Rattle.escpos_receipt.specs.Whole.{EachMayFollow, IsReceiptFault, MayFollow, StandsFirst, has_text, is_forbidden, is_nonempty, needs_empty_line}
+use Rattle.escpos_receipt.specs.Whole.{EachMayFollow, HoldNoRealTime, MayFollow, StandsFirst, has_text, is_nonempty}
 use Rattle.escpos_receipt.proofs.Prefixes.{split_at}
 
 -- ## Text
@@ -44,7 +43,7 @@ after_none cs c f h t = sym (has_text-snoc cs c f ∙ ap (λ b. b || has_text cs
 -- ## Places
 
 -- A place in a list with one more element is the last, or one of the list.
-split_snoc : {X : Type 0} (xs before : List X) (x y : X) (following : List X) → xs ++ x ∷ [] ≡ before ++ y ∷ following
+pub split_snoc : {X : Type 0} (xs before : List X) (x y : X) (following : List X) → xs ++ x ∷ [] ≡ before ++ y ∷ following
     → ((before ≡ xs) × (y ≡ x)) ⊎ ((more : List X) × (xs ≡ before ++ y ∷ more))
 split_snoc [] [] x y following e = inl (refl, cc)
 split_snoc (z ∷ xs) [] x y following e =
@@ -125,16 +124,13 @@ text_goes cs (LineFeed ∷ ts) t =
     ∙ ap (λ v. text_left v ts) (line_flag cs)
 text_goes cs (c ∷ ts) t = absurd t
 
--- A command in a list, where each command before it may follow those before it.
-pub stands_at : (cs : List Command) (i : ℕ) (c : Command) → i < length cs → c ≡ get_or cs i c → EachMayFollow (take i cs) → StandsFirst cs i (take i cs) c
-stands_at cs i c inside is each =
-    record { following = drop (i + 1) cs; split = split_at cs i c inside is; place = length-take-le i cs (omega (arith, inside)); in_place = each }
-
--- Such a command may be one that no receipt has, or one that needs an empty line where there is text.
-pub forbidden_at : (cs : List Command) (i : ℕ) (c : Command) → i < length cs → c ≡ get_or cs i c → EachMayFollow (take i cs) → IsTrue (is_forbidden c)
-    → IsReceiptFault (fault.Forbidden i) cs
-forbidden_at cs i c inside is each forbidden = (take i cs, c, stands_at cs i c inside is each, forbidden)
-
-pub mid_line_at : (cs : List Command) (i : ℕ) (c : Command) → i < length cs → c ≡ get_or cs i c → EachMayFollow (take i cs) → IsTrue (needs_empty_line c)
-    → IsTrue (has_text (take i cs)) → IsReceiptFault (fault.MidLine i) cs
-mid_line_at cs i c inside is each needs text = (take i cs, c, stands_at cs i c inside is each, needs, text)
+-- A command in a list, where each command before it may follow those before it, and they hold no real-time command.
+pub stands_at : (cs : List Command) (i : ℕ) (c : Command) → i < length cs → c ≡ get_or cs i c → EachMayFollow (take i cs) → HoldNoRealTime (take i cs)
+    → StandsFirst cs i (take i cs) c
+stands_at cs i c inside is each quiet = record {
+  following = drop (i + 1) cs;
+  split = split_at cs i c inside is;
+  place = length-take-le i cs (omega (arith, inside));
+  in_place = each;
+  no_real_time = quiet;
+}

@@ -1,4 +1,7 @@
 pub mod Following
+pub mod RealTimes
+pub mod Refused
+pub mod Printables
 pub mod Prefixes
 pub mod ValueViews
 pub mod Meanings

@@ -120,6 +120,7 @@ refused_array options (fault.ControlByte at) entries refused = refused
 refused_array options (fault.NoCharacter at c) entries refused = refused
 refused_array options fault.NotJson entries refused = refused
 refused_array options (fault.NotWhole why) entries refused = absurd refused
+refused_array options (fault.NotPrintable at) entries refused = absurd refused
 
 -- What they give is what their text describes.
 pub describes : (options : ReceiptOptions) (bytes : List ℕ) (d : Data) (vs : List Value) (cs : List Command) → IsJson bytes d → d ≡ array (items_view vs)
@@ -134,3 +135,4 @@ of_array options (fault.ControlByte at) bytes d vs json is refused = (map view v
 of_array options (fault.NoCharacter at c) bytes d vs json is refused = (map view vs, subst (IsJson bytes) is json, refused)
 of_array options fault.NotJson bytes d vs json is refused = absurd refused
 of_array options (fault.NotWhole why) bytes d vs json is (cs, give, because) = (cs, describes options bytes d vs cs json is give, because)
+of_array options (fault.NotPrintable at) bytes d vs json is (cs, give, whole, because) = (cs, describes options bytes d vs cs json is give, whole, because)

@@ -12,7 +12,8 @@ use Rattle.escpos_receipt.specs.declared.json.JsonFault.TheVariants as fault
 use Rattle.escpos_receipt.specs.declared.options.ReceiptOptions.{ReceiptOptions}
 use Rattle.escpos_receipt.specs.Options.{usual_options}
 use Rattle.escpos_receipt.specs.Entries.{in_force, meaning}
-use Rattle.escpos_receipt.specs.Whole.{IsReceiptFault}
+use Rattle.escpos_receipt.specs.Printable.{IsFirstLeftOut}
+use Rattle.escpos_receipt.specs.Whole.{IsReceiptFault, Whole}
 
 -- Entries that come after these, which give the commands `before`, give the commands `cs`: one entry's commands after another's.
 abbrev pub Follow : ReceiptOptions → List Data → List Command → List Data → List Command → Type 0
@@ -61,6 +62,7 @@ IsRefusedEntry options _ entries = ⊥
 -- Why entries give no receipt.
 abbrev pub IsRefusedArray : ReceiptOptions → JsonFault → List Data → Type 0
 IsRefusedArray options (fault.NotWhole why) entries = (cs : List Command) × Give options entries cs × IsReceiptFault why cs
+IsRefusedArray options (fault.NotPrintable at) entries = (cs : List Command) × Give options entries cs × Whole cs × IsFirstLeftOut options.width cs at
 IsRefusedArray options because entries = IsRefusedEntry options because entries
 
 -- The bytes are JSON, but not an array.
@@ -78,6 +80,7 @@ IsFaultWith options (fault.BadShape at) bytes = HasRefusedEntry options (fault.B
 IsFaultWith options (fault.ControlByte at) bytes = HasRefusedEntry options (fault.ControlByte at) bytes
 IsFaultWith options (fault.NoCharacter at c) bytes = HasRefusedEntry options (fault.NoCharacter at c) bytes
 IsFaultWith options (fault.NotWhole why) bytes = (cs : List Command) × DescribesWith options bytes cs × IsReceiptFault why cs
+IsFaultWith options (fault.NotPrintable at) bytes = (cs : List Command) × DescribesWith options bytes cs × Whole cs × IsFirstLeftOut options.width cs at
 
 -- The same, with the options that hold where none are given.
 abbrev pub IsJsonFault : JsonFault → List ℕ → Type 0

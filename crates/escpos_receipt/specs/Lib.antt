@@ -5,6 +5,8 @@ pub mod SpelledText
 pub mod Options
 pub mod Refusals
 pub mod Whole
+pub mod Printable
+pub mod CodeSteps
 pub mod EntryErrors
 pub mod EntryCommands
 pub mod ReadBack

@@ -2,7 +2,9 @@
 use Rattle.std.specs.Prelude.{ℕ, ◌≡◌, ◌≢◌, Bool, true, false, IsTrue, List, [], ◌∷◌, ◌++◌, length}
 use Rattle.escpos_command.specs.declared.command.Command.{Command}
 use Rattle.escpos_command.specs.declared.command.Command.TheVariants as kind
+use Rattle.escpos_command.specs.CommandTable.{row, spell}
 use Rattle.escpos_command.specs.Text.{text}
+use Rattle.escpos_real_time.specs.RealTime.{HoldsRealTime}
 use Rattle.escpos_receipt.specs.declared.receipt.ReceiptFault.{ReceiptFault}
 use Rattle.escpos_receipt.specs.declared.receipt.ReceiptFault.TheVariants as fault
 
@@ -42,6 +44,7 @@ is_forbidden (kind.QrLevel n) = false
 is_forbidden (kind.QrStore stored) = false
 is_forbidden kind.QrPrint = false
 is_forbidden (kind.Cut cut) = false
+is_forbidden (kind.AutomaticStatus n) = true
 is_forbidden (kind.Status n) = true
 is_forbidden (kind.Mark id) = true
 
@@ -80,6 +83,7 @@ needs_empty_line (kind.QrLevel n) = false
 needs_empty_line (kind.QrStore stored) = false
 needs_empty_line kind.QrPrint = true
 needs_empty_line (kind.Cut cut) = true
+needs_empty_line (kind.AutomaticStatus n) = false
 needs_empty_line (kind.Status n) = false
 needs_empty_line (kind.Mark id) = false
 
@@ -100,18 +104,25 @@ pub record MayFollow (before : List Command) (c : Command) : Type 0 where
 abbrev pub EachMayFollow : List Command → Type 0
 EachMayFollow cs = (before : List Command) (c : Command) (following : List Command) → cs ≡ before ++ c ∷ following → MayFollow before c
 
+-- No real-time command stands in the bytes of these commands: a printer would carry it out, although it is data of a command.
+unfoldable pub HoldNoRealTime : List Command → Type 0
+HoldNoRealTime cs = HoldsRealTime (spell cs) → ⊥
+
 -- The commands are a receipt.
 pub record Whole (cs : List Command) : Type 0 where
   pub nonempty : cs ≢ []
   pub in_place : EachMayFollow cs
+  pub no_real_time : HoldNoRealTime cs
   pub no_text_left : has_text cs ≡ false
 
--- The command at this place, counted from 0, is this one, and those before it may each stand where they do.
+-- The command at this place, counted from 0, is this one, and those before it may each stand where they do and hold no real-time
+-- command.
 pub record StandsFirst (cs : List Command) (at : ℕ) (before : List Command) (c : Command) : Type 0 where
   pub following : List Command
   pub split : cs ≡ before ++ c ∷ following
   pub place : length before ≡ at
   pub in_place : EachMayFollow before
+  pub no_real_time : HoldNoRealTime before
 
 -- The first reason for which the commands aren't a receipt.
 abbrev pub IsReceiptFault : ReceiptFault → List Command → Type 0
@@ -119,4 +130,6 @@ IsReceiptFault fault.Empty cs = cs ≡ []
 IsReceiptFault (fault.Forbidden at) cs = (before : List Command) × (c : Command) × StandsFirst cs at before c × IsTrue (is_forbidden c)
 IsReceiptFault (fault.MidLine at) cs =
     (before : List Command) × (c : Command) × StandsFirst cs at before c × IsTrue (needs_empty_line c) × IsTrue (has_text before)
-IsReceiptFault fault.TextLeft cs = (cs ≢ []) × EachMayFollow cs × IsTrue (has_text cs)
+IsReceiptFault (fault.RealTime at) cs =
+    (before : List Command) × (c : Command) × StandsFirst cs at before c × MayFollow before c × HoldsRealTime (row c)
+IsReceiptFault fault.TextLeft cs = (cs ≢ []) × EachMayFollow cs × HoldNoRealTime cs × IsTrue (has_text cs)

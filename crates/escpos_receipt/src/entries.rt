@@ -3,10 +3,12 @@
 ghost use Rattle.std.specs.Prelude.{◌≡◌, ◌↔◌, None, List, [], ◌++◌, ◌≢◌, IfSome, IsTrue, flat_map};
 ghost use Rattle.escpos_command.specs.declared.command.Command.{Command};
 ghost use Rattle.escpos_receipt.specs.EntryCommands.{commands_in};
-ghost use Rattle.escpos_receipt.specs.Whole.{EachMayFollow, Whole, has_text};
+ghost use Rattle.escpos_receipt.specs.Whole.{EachMayFollow, HoldNoRealTime, Whole, has_text};
 
 use crate::entry::Entry;
 use crate::receipt::{has_text_after, is_forbidden, needs_empty_line};
+use escpos_command::laws;
+use escpos_real_time::holds_real_time;
 
 /// Whether the commands of these entries are a receipt. If they aren't, `Receipt::new` says why.
 pub fn are_whole(entries: &[Entry<'_>]) -> bool
@@ -29,8 +31,9 @@ pub fn are_whole(entries: &[Entry<'_>]) -> bool
 fn text_after(had_text: bool, entry: &Entry<'_>) -> Option<bool>
     ensures follows { IfSome result (λ more_text. (before : List Command) → EachMayFollow before → had_text ≡ has_text before →
         EachMayFollow (before ++ commands_in entry.now) × (more_text ≡ has_text (before ++ commands_in entry.now))) }
+    ensures no_real_time { IfSome result (λ _. (before : List Command) → HoldNoRealTime before → HoldNoRealTime (before ++ commands_in entry.now)) }
     ensures refused { result ≡ None → (before following : List Command) → had_text ≡ has_text before →
-        ¬ EachMayFollow (before ++ (commands_in entry.now ++ following)) }
+        EachMayFollow (before ++ (commands_in entry.now ++ following)) → ¬ HoldNoRealTime (before ++ (commands_in entry.now ++ following)) }
 {
     match entry {
         Entry::Text(text) => {
@@ -44,7 +47,12 @@ fn text_after(had_text: bool, entry: &Entry<'_>) -> Option<bool>
             Some(false)
         }
         Entry::Command(command) => {
+            // Proof only: the command is in range.
+            laws::in_range(command);
             if is_forbidden(command) || had_text && needs_empty_line(command) {
+                return None;
+            }
+            if holds_real_time(command) {
                 return None;
             }
             Some(has_text_after(had_text, command))

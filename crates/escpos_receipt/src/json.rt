@@ -14,9 +14,11 @@ ghost use Rattle.escpos_receipt.specs.Entries.{in_force, meaning};
 ghost use Rattle.escpos_receipt.specs.EntryCommands.{force_after};
 ghost use Rattle.escpos_receipt.specs.EntryErrors.{error_at};
 ghost use Rattle.escpos_receipt.specs.Options.{usual_options};
+ghost use Rattle.escpos_receipt.specs.Printable.{IsPrintable};
 ghost use Rattle.escpos_receipt.specs.ReadBack.{PrintsAsWritten};
 ghost use Rattle.escpos_receipt.specs.Whole.{Whole};
 
+use crate::codes::are_printable;
 use crate::entries::are_whole;
 use crate::entry::{Entry, EntryFault, Meaning, read_entry};
 use crate::in_force::InForce;
@@ -29,10 +31,10 @@ use std::alloc::{AllocError, Global};
 use std::marker::Model;
 
 /// Why a text gives no receipt: the first reason that applies. 5 comes first; then, at the first entry that is refused, 6,
-/// 7 or 8, with its place, counted from 0; then why its commands aren't a receipt, 1 to 4.
+/// 7 or 8, with its place, counted from 0; then why its commands aren't a receipt, 1 to 4 or 9; then 10.
 #[derive(Clone, Copy, Debug, PartialEq, Eq)]
 pub enum JsonFault {
-    /// 1 to 4: the commands that the text describes aren't a receipt.
+    /// 1 to 4, or 9: the commands that the text describes aren't a receipt.
     NotWhole(ReceiptFault),
     /// 5: it isn't JSON in UTF-8, or it nests deeper than 127.
     NotJson,
@@ -43,6 +45,9 @@ pub enum JsonFault {
     ControlByte { at: usize },
     /// 8: the text of the entry at this place has this character, which no code table of the choice has.
     NoCharacter { at: usize, character: char },
+    /// 10: a printer with lines of the width that the options have leaves out the barcode or the QR code of the command at this
+    /// place: it is wider than the line, or there is none with this content.
+    NotPrintable { at: usize },
 }
 
 impl JsonFault {
@@ -58,13 +63,14 @@ impl JsonFault {
             JsonFault::BadShape { .. } => 6,
             JsonFault::ControlByte { .. } => 7,
             JsonFault::NoCharacter { .. } => 8,
+            JsonFault::NotPrintable { .. } => 10,
         }
     }
 
     /// The name that programs print.
     pub fn name(self) -> &'static str
         ensures value { result.now ≡ json_name self }
-        ensures short { length result.now ≤ 11 }
+        ensures short { length result.now ≤ 12 }
     {
         match self {
             JsonFault::NotWhole(fault) => fault.name(),
@@ -72,11 +78,12 @@ impl JsonFault {
             JsonFault::BadShape { .. } => "BadShape",
             JsonFault::ControlByte { .. } => "ControlByte",
             JsonFault::NoCharacter { .. } => "NoCharacter",
+            JsonFault::NotPrintable { .. } => "NotPrintable",
         }
     }
 
-    /// The place of the entry that is refused, or of the command that can't stand where it does, counted from 0; `None` for
-    /// the other faults.
+    /// The place of the entry that is refused, or of the command that can't stand where it does or isn't printed, counted from 0;
+    /// `None` for the other faults.
     pub fn place(self) -> Option<usize>
         ensures { result ≡ json_place self }
     {
@@ -84,7 +91,8 @@ impl JsonFault {
             JsonFault::NotWhole(fault) => fault.place(),
             JsonFault::BadShape { at }
             | JsonFault::ControlByte { at }
-            | JsonFault::NoCharacter { at, .. } => Some(at),
+            | JsonFault::NoCharacter { at, .. }
+            | JsonFault::NotPrintable { at } => Some(at),
             JsonFault::NotJson => None,
         }
     }
@@ -174,6 +182,7 @@ impl ReceiptText {
     ) -> Result<Vec<Entry<'_>>, JsonError>
         ensures commands { IfOk result (λ given. (text : List ℕ) → IsValueOf text self.now → DescribesWith options.now text (flat_map commands_in given.items)) }
         ensures whole { IfOk result (λ given. Whole (flat_map commands_in given.items)) }
+        ensures printable { IfOk result (λ given. IsPrintable options.now.width (flat_map commands_in given.items)) }
         ensures refused { (fault : JsonFault) → IsErrOf result (JsonError.Refused fault) → (text : List ℕ) → IsValueOf text self.now
             → IsFaultWith options.now fault text }
     {
@@ -184,6 +193,7 @@ impl ReceiptText {
     pub fn receipt(&self, alloc: Global, options: &ReceiptOptions) -> Result<Receipt, JsonError>
         ensures receipt { IfOk result (λ receipt. (text : List ℕ) → IsValueOf text self.now → DescribesWith options.now text receipt) }
         ensures whole { IfOk result (λ receipt. Whole receipt) }
+        ensures printable { IfOk result (λ receipt. IsPrintable options.now.width receipt) }
         ensures refused { (fault : JsonFault) → IsErrOf result (JsonError.Refused fault) → (text : List ℕ) → IsValueOf text self.now
             → IsFaultWith options.now fault text }
     {
@@ -195,6 +205,7 @@ impl Receipt {
     /// The receipt that a text in JSON describes: an array of objects with one member each, as docs/PROFILE.md has them.
     pub fn from_json(alloc: Global, text: &[u8]) -> Result<Self, JsonError>
         ensures receipt { IfOk result (λ receipt. Describes text.now receipt × Whole receipt) }
+        ensures printable { IfOk result (λ receipt. IsPrintable usual_options.width receipt) }
         ensures as_written { IfOk result (λ receipt. PrintsAsWritten usual_options text.now receipt) }
         ensures refused { (fault : JsonFault) → IsErrOf result (JsonError.Refused fault) → IsJsonFault fault text.now }
     {
@@ -208,6 +219,7 @@ impl Receipt {
         text: &[u8],
     ) -> Result<Self, JsonError>
         ensures receipt { IfOk result (λ receipt. DescribesWith options.now text.now receipt × Whole receipt) }
+        ensures printable { IfOk result (λ receipt. IsPrintable options.now.width receipt) }
         ensures as_written { IfOk result (λ receipt. PrintsAsWritten options.now text.now receipt) }
         ensures refused { (fault : JsonFault) → IsErrOf result (JsonError.Refused fault) → IsFaultWith options.now fault text.now }
     {
@@ -242,7 +254,7 @@ fn values_of(value: &Value) -> Result<&[Value], JsonError>
     }
 }
 
-// What the values give as entries, if that is a receipt.
+// What the values give as entries, if that is a receipt of which no code is left out.
 fn whole_entries<'a>(
     alloc: Global,
     options: &ReceiptOptions,
@@ -250,6 +262,7 @@ fn whole_entries<'a>(
 ) -> Result<Vec<Entry<'a>>, JsonError>
     ensures commands { IfOk result (λ given. Give options.now (map view values.now) (flat_map commands_in given.items)) }
     ensures whole { IfOk result (λ given. Whole (flat_map commands_in given.items)) }
+    ensures printable { IfOk result (λ given. IsPrintable options.now.width (flat_map commands_in given.items)) }
     ensures refused { (fault : JsonFault) → IsErrOf result (JsonError.Refused fault) → IsRefusedArray options.now fault (map view values.now) }
 {
     match entries_if_whole(alloc, options, values) {
@@ -263,7 +276,7 @@ fn whole_entries<'a>(
     }
 }
 
-// The same; `None` if it is no receipt. Then the entries are dropped before anyone asks why.
+// The same; `None` if it is no such receipt. Then the entries are dropped before anyone asks why.
 fn entries_if_whole<'a>(
     alloc: Global,
     options: &ReceiptOptions,
@@ -271,11 +284,13 @@ fn entries_if_whole<'a>(
 ) -> Result<Option<Vec<Entry<'a>>>, JsonError>
     ensures commands { IfOk result (λ given. IfSome given (λ given. Give options.now (map view values.now) (flat_map commands_in given.items))) }
     ensures whole { IfOk result (λ given. IfSome given (λ given. Whole (flat_map commands_in given.items))) }
-    ensures none { IfOk result (λ given. given ≡ None → (commands : List Command) × Give options.now (map view values.now) commands × ¬ Whole commands) }
+    ensures printable { IfOk result (λ given. IfSome given (λ given. IsPrintable options.now.width (flat_map commands_in given.items))) }
+    ensures none { IfOk result (λ given. given ≡ None → (commands : List Command) × Give options.now (map view values.now) commands
+        × (Whole commands → ¬ IsPrintable options.now.width commands)) }
     ensures refused { (fault : JsonFault) → IsErrOf result (JsonError.Refused fault) → IsRefusedEntry options.now fault (map view values.now) }
 {
     let entries = read_entries(alloc, options, values)?;
-    Ok(if are_whole(&entries) {
+    Ok(if are_whole(&entries) && are_printable(options.width, &entries) {
         Some(entries)
     } else {
         None
@@ -289,6 +304,7 @@ fn receipt_of(
     values: &[Value],
 ) -> Result<Receipt, JsonError>
     ensures commands { IfOk result (λ receipt. Give options.now (map view values.now) receipt × Whole receipt) }
+    ensures printable { IfOk result (λ receipt. IsPrintable options.now.width receipt) }
     ensures refused { (fault : JsonFault) → IsErrOf result (JsonError.Refused fault) → IsRefusedArray options.now fault (map view values.now) }
 {
     let commands = match read_commands(alloc, options, values) {
@@ -296,7 +312,10 @@ fn receipt_of(
         Err(error) => return Err(error),
     };
     match Receipt::new(commands) {
-        Ok(receipt) => Ok(receipt),
+        Ok(receipt) => match receipt.not_printable(options.width) {
+            None => Ok(receipt),
+            Some(at) => Err(JsonError::Refused(JsonFault::NotPrintable { at })),
+        },
         Err((fault, _)) => Err(JsonError::Refused(JsonFault::NotWhole(fault))),
     }
 }

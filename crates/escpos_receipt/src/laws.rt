@@ -3,9 +3,18 @@
 
 ghost use Rattle.std.specs.Prelude.{ℕ, List};
 ghost use Rattle.escpos_command.specs.declared.command.Command.{Command};
+ghost use Rattle.escpos_command.specs.CommandTable.{spell};
+ghost use Rattle.escpos_real_time.specs.RealTime.{HoldsRealTime};
 ghost use Rattle.escpos_receipt.specs.declared.options.ReceiptOptions.{ReceiptOptions};
 ghost use Rattle.escpos_receipt.specs.Describes.{DescribesWith};
 ghost use Rattle.escpos_receipt.specs.ReadBack.{PrintsAsWritten};
+ghost use Rattle.escpos_receipt.specs.Whole.{Whole};
+
+/// No real-time command: nothing that a receipt sends is one, nor holds one, so a printer does for it what its commands say and
+/// nothing else.
+pub fn no_real_time()
+    ensures { (cs : List Command) → Whole cs → HoldsRealTime (spell cs) → ⊥ }
+{}
 
 /// What is printed reads as what was written: the cells that a receipt prints for a string of its text, read by the character set
 /// and the code table of each, are the characters of the string's composed form, one after another; or what stands for one that no

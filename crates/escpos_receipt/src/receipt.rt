@@ -6,13 +6,16 @@ ghost use Rattle.std.specs.Prelude.{◌≡◌, ◌≤◌, List, [], ◌∷◌, �
 ghost use Rattle.escpos_command.specs.CommandTable.{AreCommands};
 ghost use Rattle.escpos_command.specs.Text.{characters, ends_text};
 ghost use Rattle.escpos_receipt.specs.Whole.{MayFollow, Whole, IsReceiptFault, has_text, is_forbidden, needs_empty_line, is_nonempty};
+ghost use Rattle.escpos_receipt.specs.Printable.{IsFirstLeftOut, IsPrintable};
 ghost use Rattle.escpos_command.specs.declared.command.Command.{Command};
 
-use escpos_command::{Command, laws};
+use crate::codes::first_left_out;
+use escpos_command::{Command, LineWidth, laws};
+use escpos_real_time::holds_real_time;
 use std::marker::Model;
 
 /// Why commands aren't a receipt: the first reason that applies. 1 comes first; then, at the first command that can't stand
-/// in its place, 2 or 4; then 3.
+/// in its place, 2, 4 or 9, in this order; then 3.
 #[derive(Clone, Copy, Debug, PartialEq, Eq)]
 pub enum ReceiptFault {
     /// 1: there is no command.
@@ -23,6 +26,9 @@ pub enum ReceiptFault {
     TextLeft,
     /// 4: the command at this place is a barcode, a raster, a QR code or a cut, with text in the line before it.
     MidLine { at: usize },
+    /// 9: in the bytes of the command at this place stands a real-time command (DLE EOT, DLE ENQ or DLE DC4), which a printer would
+    /// carry out.
+    RealTime { at: usize },
 }
 
 impl ReceiptFault {
@@ -37,6 +43,7 @@ impl ReceiptFault {
             ReceiptFault::Forbidden { .. } => 2,
             ReceiptFault::TextLeft => 3,
             ReceiptFault::MidLine { .. } => 4,
+            ReceiptFault::RealTime { .. } => 9,
         }
     }
 
@@ -50,6 +57,7 @@ impl ReceiptFault {
             ReceiptFault::Forbidden { .. } => "Forbidden",
             ReceiptFault::TextLeft => "TextLeft",
             ReceiptFault::MidLine { .. } => "MidLine",
+            ReceiptFault::RealTime { .. } => "RealTime",
         }
     }
 
@@ -58,14 +66,17 @@ impl ReceiptFault {
         ensures { result ≡ receipt_place self }
     {
         match self {
-            ReceiptFault::Forbidden { at } | ReceiptFault::MidLine { at } => Some(at),
+            ReceiptFault::Forbidden { at }
+            | ReceiptFault::MidLine { at }
+            | ReceiptFault::RealTime { at } => Some(at),
             ReceiptFault::Empty | ReceiptFault::TextLeft => None,
         }
     }
 }
 
 /// The commands of a receipt, one or more. There is no Init, status request or mark among them; no barcode, raster, QR code
-/// or cut comes while there is text in the line; and at the end the line is empty. (Profile.)
+/// or cut comes while there is text in the line; no real-time command stands in their bytes; and at the end the line is empty.
+/// (Profile.)
 #[derive(Debug, Drop)]
 pub struct Receipt {
     commands: Vec<Command>,
@@ -108,6 +119,14 @@ impl Receipt {
     {
         self.commands.as_slice()
     }
+
+    /// The place of the first command, counted from 0, whose barcode or QR code a printer with lines of this width leaves out:
+    /// one that has no bars or no version, or is wider than the line. `None` where all are printed. Allocates nothing.
+    pub fn not_printable(&self, width: LineWidth) -> Option<usize>
+        ensures { MatchOption result (IsPrintable width self.now) (λ at. IsFirstLeftOut width self.now at) }
+    {
+        first_left_out(width, self.commands.as_slice())
+    }
 }
 
 // The first reason for which these commands aren't a receipt.
@@ -126,6 +145,9 @@ fn fault_of(commands: &[Command]) -> Option<ReceiptFault>
         }
         if has_text && needs_empty_line(command) {
             return Some(ReceiptFault::MidLine { at });
+        }
+        if holds_real_time(command) {
+            return Some(ReceiptFault::RealTime { at });
         }
         has_text = has_text_after(has_text, command);
     }
@@ -148,7 +170,7 @@ pub fn is_forbidden(command: &Command) -> bool
 {
     matches!(
         command,
-        Command::Init | Command::Status(_) | Command::Mark(_)
+        Command::Init | Command::AutomaticStatus(_) | Command::Status(_) | Command::Mark(_)
     )
 }
 

@@ -3,13 +3,17 @@
 use escpos_receipt::{JsonFault, ReceiptFault};
 
 // Reasons that differ: in their kind, in the place alone, or in the reason inside.
-const FAULTS: [JsonFault; 14] = [
+const FAULTS: [JsonFault; 18] = [
     JsonFault::NotWhole(ReceiptFault::Empty),
     JsonFault::NotWhole(ReceiptFault::TextLeft),
     JsonFault::NotWhole(ReceiptFault::MidLine { at: 1 }),
     JsonFault::NotWhole(ReceiptFault::MidLine { at: 2 }),
+    JsonFault::NotWhole(ReceiptFault::RealTime { at: 1 }),
+    JsonFault::NotWhole(ReceiptFault::RealTime { at: 2 }),
     JsonFault::NotWhole(ReceiptFault::Forbidden { at: 1 }),
     JsonFault::NotWhole(ReceiptFault::Forbidden { at: 2 }),
+    JsonFault::NotPrintable { at: 1 },
+    JsonFault::NotPrintable { at: 2 },
     JsonFault::NotJson,
     JsonFault::BadShape { at: 1 },
     JsonFault::BadShape { at: 2 },

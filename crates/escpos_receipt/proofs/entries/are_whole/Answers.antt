@@ -2,15 +2,16 @@ use Rattle.std.proofs.Common.{◌≡◌, ◌+◌, [], ◌∷◌, ◌++◌, take,
 use Rattle.std.specs.List.{flat_map}
 use Rattle.std.proofs.lemmas.Grind.{flat_map-append}
 use Rattle.escpos_receipt.specs.EntryCommands.{commands_in}
-use Rattle.escpos_receipt.specs.Whole.{EachMayFollow, has_text}
+use Rattle.escpos_receipt.specs.Whole.{EachMayFollow, HoldNoRealTime, has_text}
 use Rattle.escpos_receipt.proofs.Following.{none_follows}
+use Rattle.escpos_receipt.proofs.RealTimes.{none_held}
 use Rattle.escpos_receipt.proofs.MoreEntries.{one_more_entry}
 use Rattle.escpos_receipt.proofs.Prefixes.{all_of, both_empty, empty_by, one_longer, split_at}
 use Rattle.escpos_receipt.proofs.entries.are_whole.Goals as goal
 use Rattle.escpos_receipt.proofs.entries.are_whole.Goals.{then-has_commands, else-has_commands}
 
 pub loop-entry-init : goal.loop-entry-init
-loop-entry-init c = record { each = none_follows; flag = refl; some = λ e. cc; none = λ e. refl }
+loop-entry-init c = record { each = none_follows; quiet = none_held; flag = refl; some = λ e. cc; none = λ e. refl }
 
 pub loop-entry-preserved : goal.loop-entry-preserved
 loop-entry-preserved c =
@@ -23,6 +24,7 @@ loop-entry-preserved c =
     let after = c.in-Some.ensures.follows before c.loop-entry.invariant.each c.loop-entry.invariant.flag in
     record {
       each = subst EachMayFollow (sym longer) after.0;
+      quiet = subst HoldNoRealTime (sym longer) (c.in-Some.ensures.no_real_time before c.loop-entry.invariant.quiet);
       flag = after.1 ∙ ap has_text (sym longer);
       some = λ has none.
           let parts = both_empty before (commands_in entry) (sym longer ∙ none) in
@@ -47,7 +49,8 @@ returns-in-None c =
     let entry = c.entry-item.result in
     let split = ap (flat_map commands_in) (split_at entries i entry c.loop-entry-test.true c.entry-item.is) ∙ flat_map-append commands_in (take i entries) (entry ∷ drop (i + 1) entries) in (
       λ e. cc,
-      λ whole. absurd (c.in-None.ensures.refused refl (flat_map commands_in (take i entries)) (flat_map commands_in (drop (i + 1) entries)) c.loop-entry.invariant.flag (subst EachMayFollow split whole.in_place)),
+      λ whole. absurd (c.in-None.ensures.refused refl (flat_map commands_in (take i entries)) (flat_map commands_in (drop (i + 1) entries)) c.loop-entry.invariant.flag (subst EachMayFollow split whole.in_place)
+          (subst HoldNoRealTime split whole.no_real_time)),
     )
 
 pub returns-else-has_commands-2 : goal.returns-else-has_commands-2
