@@ -15,21 +15,27 @@ some_shifted : (n : ℕ) (e : HostEvent) → e ≢ event.None → shifted n e �
 some_shifted n event.None some = some
 some_shifted n event.Opened some = some
 some_shifted n (event.Recorded number) some = λ is. cc is
+some_shifted n (event.Late id) some = some
 some_shifted n (event.Status byte) some = some
+some_shifted n (event.Condition block) some = some
 some_shifted n (event.BadAnswer at) some = some
 
 taken_shifted : (n : ℕ) (e : HostEvent) (at : ℕ) → taken_at e at ≡ taken_at (shifted n e) at
 taken_shifted n event.None at = refl
 taken_shifted n event.Opened at = refl
 taken_shifted n (event.Recorded number) at = refl
+taken_shifted n (event.Late id) at = refl
 taken_shifted n (event.Status byte) at = refl
+taken_shifted n (event.Condition block) at = refl
 taken_shifted n (event.BadAnswer place) at = refl
 
 pub ends_shifted : (n : ℕ) (e : HostEvent) → EndsLink e ↔ EndsLink (shifted n e)
 ends_shifted n event.None = (λ ends. ends, λ ends. ends)
 ends_shifted n event.Opened = (λ ends. ends, λ ends. ends)
 ends_shifted n (event.Recorded number) = (λ ends. ends, λ ends. ends)
+ends_shifted n (event.Late id) = (λ ends. ends, λ ends. ends)
 ends_shifted n (event.Status byte) = (λ ends. ends, λ ends. ends)
+ends_shifted n (event.Condition block) = (λ ends. ends, λ ends. ends)
 ends_shifted n (event.BadAnswer place) = (λ ends. ends, λ ends. ends)
 
 pub last_shifted : (n : ℕ) (events : List HostEvent) → last_of (map (shifted n) events) ≡ shifted n (last_of events)
@@ -52,7 +58,9 @@ earlier_turns earlier h after a at (event.Recorded number) (p, ps, phase, is, is
   ap (with_earlier earlier) same
       ∙ ap (λ (rs : List (List Command)). record { phase = Open ps; out = h.out; half = h.half; next = h.next; records = rs; left = h.left }) (sym (append_assoc earlier h.records (p.receipt ∷ []))),
 )
+earlier_turns earlier h after a at (event.Late id) (first, phase, is, other, same) = (first, phase, is, other, ap (with_earlier earlier) same)
 earlier_turns earlier h after a at (event.Status byte) (is, same) = (is, ap (with_earlier earlier) same)
+earlier_turns earlier h after a at (event.Condition block) (is, same) = (is, ap (with_earlier earlier) same)
 earlier_turns earlier h after a at (event.BadAnswer place) (p, ps, id, phase, is, other, closing, here, same) =
     (p, ps, id, phase, is, other, closing, here, ap (with_earlier earlier) same)
 
@@ -61,7 +69,9 @@ earlier_grows : (earlier : List (List Command)) (n : ℕ) (h after : HostView) (
 earlier_grows earlier n h after byte event.None (same, half) = (ap (with_earlier earlier) same, half)
 earlier_grows earlier n h after byte event.Opened grows = grows
 earlier_grows earlier n h after byte (event.Recorded number) grows = grows
+earlier_grows earlier n h after byte (event.Late id) grows = grows
 earlier_grows earlier n h after byte (event.Status b) grows = grows
+earlier_grows earlier n h after byte (event.Condition block) grows = grows
 earlier_grows earlier n h after byte (event.BadAnswer place) grows = grows
 
 earlier_misfits : (earlier : List (List Command)) (n : ℕ) (h after : HostView) (byte at : ℕ) (e : HostEvent) → Misfits h byte at e after
@@ -69,7 +79,9 @@ earlier_misfits : (earlier : List (List Command)) (n : ℕ) (h after : HostView)
 earlier_misfits earlier n h after byte at event.None misfit = misfit
 earlier_misfits earlier n h after byte at event.Opened misfit = misfit
 earlier_misfits earlier n h after byte at (event.Recorded number) misfit = misfit
+earlier_misfits earlier n h after byte at (event.Late id) misfit = misfit
 earlier_misfits earlier n h after byte at (event.Status b) misfit = misfit
+earlier_misfits earlier n h after byte at (event.Condition block) misfit = misfit
 earlier_misfits earlier n h after byte at (event.BadAnswer place) (here, bad, same) = (here, bad, ap (with_earlier earlier) same)
 
 earlier_byte : (earlier : List (List Command)) (h after : HostView) (byte at : ℕ) (e : HostEvent) → HearsByte h byte at e after

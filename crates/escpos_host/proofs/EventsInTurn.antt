@@ -42,7 +42,11 @@ turned h after a at event.Opened up half (first, id, phase, is, opening, same) =
     inr (λ ends. ends, λ is_down. let bad : Open [] ≡ Down = sym (ap (λ (v : HostView). v.phase) same) ∙ is_down in cc, ap (λ (v : HostView). v.half) same ∙ half)
 turned h after a at (event.Recorded number) up half (p, ps, phase, is, place, same) =
     inr (λ ends. ends, λ is_down. let bad : Open ps ≡ Down = sym (ap (λ (v : HostView). v.phase) same) ∙ is_down in cc, ap (λ (v : HostView). v.half) same ∙ half)
+turned h after a at (event.Late id) up half (first, phase, is, other, same) =
+    inr (λ ends. ends, λ is_down. up (sym (ap (λ (v : HostView). v.phase) same) ∙ is_down), ap (λ (v : HostView). v.half) same ∙ half)
 turned h after a at (event.Status byte) up half (is, same) =
+    inr (λ ends. ends, λ is_down. up (sym (ap (λ (v : HostView). v.phase) same) ∙ is_down), ap (λ (v : HostView). v.half) same ∙ half)
+turned h after a at (event.Condition block) up half (is, same) =
     inr (λ ends. ends, λ is_down. up (sym (ap (λ (v : HostView). v.phase) same) ∙ is_down), ap (λ (v : HostView). v.half) same ∙ half)
 turned h after a at (event.BadAnswer place) up half (p, ps, id, phase, is, other, closing, here, same) = inl (tt, off_by h after same)
 
@@ -74,7 +78,9 @@ pub counted : (e : HostEvent) (at : ℕ) → (EndsLink e → ⊥) → taken_at e
 counted event.None at on = refl
 counted event.Opened at on = refl
 counted (event.Recorded number) at on = refl
+counted (event.Late id) at on = refl
 counted (event.Status byte) at on = refl
+counted (event.Condition block) at on = refl
 counted (event.BadAnswer place) at on = absurd (on tt)
 
 -- A byte that continues a half answer brings no event; one that fits none ends the link.
@@ -82,14 +88,18 @@ pub no_growth : (h after : HostView) (byte : ℕ) (e : HostEvent) → e ≢ even
 no_growth h after byte event.None some grows = some refl
 no_growth h after byte event.Opened some grows = grows
 no_growth h after byte (event.Recorded number) some grows = grows
+no_growth h after byte (event.Late id) some grows = grows
 no_growth h after byte (event.Status b) some grows = grows
+no_growth h after byte (event.Condition block) some grows = grows
 no_growth h after byte (event.BadAnswer place) some grows = grows
 
 misfit_ends : (h after : HostView) (byte at : ℕ) (e : HostEvent) → Misfits h byte at e after → EndsLink e × Off after
 misfit_ends h after byte at event.None misfit = absurd misfit
 misfit_ends h after byte at event.Opened misfit = absurd misfit
 misfit_ends h after byte at (event.Recorded number) misfit = absurd misfit
+misfit_ends h after byte at (event.Late id) misfit = absurd misfit
 misfit_ends h after byte at (event.Status b) misfit = absurd misfit
+misfit_ends h after byte at (event.Condition block) misfit = absurd misfit
 misfit_ends h after byte at (event.BadAnswer place) (here, bad, same) = (tt, off_by h after same)
 
 -- An answer that brought an event.

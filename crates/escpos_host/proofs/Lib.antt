@@ -4,6 +4,7 @@ pub mod Views
 pub mod MarkAnswers
 pub mod Passing
 pub mod Said
+pub mod NoRealTime
 pub mod Waiting
 pub mod Dialling
 pub mod Sending

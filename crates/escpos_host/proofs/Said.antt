@@ -107,7 +107,9 @@ says_turned h after a at event.Opened out said up talks (first, id, is_first, is
     (record { says = says_opened h.phase h.next said (subst IsOpening (sym is_first) tt) talks.says; whole = talks.whole })
 says_turned h after a at (event.Recorded number) out said up talks (p, ps, is_open, is_mark, is_number, same) =
     subst (λ v. Talks v out said) (sym same) (record { says = says_recorded h.phase h.next said p ps is_open talks.says; whole = talks.whole })
+says_turned h after a at (event.Late id) out said up talks (first, phase, is, other, same) = subst (λ v. Talks v out said) (sym same) talks
 says_turned h after a at (event.Status byte) out said up talks turns = subst (λ v. Talks v out said) (sym turns.1) talks
+says_turned h after a at (event.Condition block) out said up talks turns = subst (λ v. Talks v out said) (sym turns.1) talks
 says_turned h after a at (event.BadAnswer place) out said up talks (p, ps, id, is_open, is_mark, other, later, is_place, same) =
     absurd (up (ap (λ (v : HostView). v.phase) same))
 
@@ -115,12 +117,16 @@ says_byte : (h after : HostView) (byte at : ℕ) (e : HostEvent) (out : List ℕ
 says_byte h after byte at event.None out said up talks (inl grows) = subst (λ v. Talks v out said) (sym grows.0) (record { says = talks.says; whole = talks.whole })
 says_byte h after byte at event.Opened out said up talks (inl grows) = absurd grows
 says_byte h after byte at (event.Recorded number) out said up talks (inl grows) = absurd grows
+says_byte h after byte at (event.Late id) out said up talks (inl grows) = absurd grows
 says_byte h after byte at (event.Status b) out said up talks (inl grows) = absurd grows
+says_byte h after byte at (event.Condition block) out said up talks (inl grows) = absurd grows
 says_byte h after byte at (event.BadAnswer place) out said up talks (inl grows) = absurd grows
 says_byte h after byte at event.None out said up talks (inr (inl misfit)) = absurd misfit
 says_byte h after byte at event.Opened out said up talks (inr (inl misfit)) = absurd misfit
 says_byte h after byte at (event.Recorded number) out said up talks (inr (inl misfit)) = absurd misfit
+says_byte h after byte at (event.Late id) out said up talks (inr (inl misfit)) = absurd misfit
 says_byte h after byte at (event.Status b) out said up talks (inr (inl misfit)) = absurd misfit
+says_byte h after byte at (event.Condition block) out said up talks (inr (inl misfit)) = absurd misfit
 says_byte h after byte at (event.BadAnswer place) out said up talks (inr (inl misfit)) = absurd (up (ap (λ (v : HostView). v.phase) misfit.2))
 says_byte h after byte at e out said up talks (inr (inr (a, spelled, turns))) =
     says_turned (with_half h []) after a at e out said up (record { says = talks.says; whole = talks.whole }) turns

@@ -34,6 +34,7 @@ hoping c half = with_out (sending c half) []
 
 no_opening : (c : Call) (a : Answer) → IsOverlooked (Opening c.before.next) (c.before.next + c.openings) a → IsToOpening c a → ⊥
 no_opening c (answer.Status b) h is = is
+no_opening c (answer.Condition block) h is = is
 no_opening c (answer.Mark id) h is = h is
 
 no_openings : (c : Call) (answers : List Answer) → AllByRecursion (IsOverlooked (Opening c.before.next) (c.before.next + c.openings)) answers
@@ -46,6 +47,7 @@ unopened c bytes half o = record { answers = o.answers; hears = o.hears; each = 
 
 no_closing : (c : Call) (next : ℕ) (a : Answer) → IsOverlooked (Open (record { receipt = c.receipt; mark = closing c } ∷ [])) next a → IsToClosing c a → ⊥
 no_closing c next (answer.Status b) h is = is
+no_closing c next (answer.Condition block) h is = is
 no_closing c next (answer.Mark id) h is = h (inl is)
 
 no_closings : (c : Call) (next : ℕ) (answers : List Answer) → AllByRecursion (IsOverlooked (Open (record { receipt = c.receipt; mark = closing c } ∷ [])) next) answers
@@ -237,7 +239,9 @@ head_of d (p ∷ ps) = p
 stopped_asking : (c : Call) (after : HostView) (half : List ℕ) (byte place : ℕ) (e : HostEvent) → IsStop e → e ≢ event.Opened → HearsByte (with_half (asking c) half) byte place e after
     → (ViableAnswer (half ++ byte ∷ []) → ⊥) × (after ≡ gone_down (asking c))
 stopped_asking c after half byte place event.None stop other heard = absurd stop
+stopped_asking c after half byte place (event.Late id) stop other heard = absurd stop
 stopped_asking c after half byte place (event.Status b) stop other heard = absurd stop
+stopped_asking c after half byte place (event.Condition block) stop other heard = absurd stop
 stopped_asking c after half byte place event.Opened stop other heard = absurd (other refl)
 stopped_asking c after half byte place (event.Recorded number) stop other (inl grows) = absurd grows
 stopped_asking c after half byte place (event.Recorded number) stop other (inr (inl misfit)) = absurd misfit
@@ -249,7 +253,9 @@ stopped_asking c after half byte place (event.BadAnswer at) stop other heard = m
 stopped_ready : (c : Call) (h after : HostView) (half : List ℕ) (byte place : ℕ) (e : HostEvent) → h ≡ ready c [] → IsStop e → HearsByte (with_half h half) byte place e after
     → (ViableAnswer (half ++ byte ∷ []) → ⊥) × (after ≡ gone_down (asking c))
 stopped_ready c h after half byte place event.None same stop heard = absurd stop
+stopped_ready c h after half byte place (event.Late id) same stop heard = absurd stop
 stopped_ready c h after half byte place (event.Status b) same stop heard = absurd stop
+stopped_ready c h after half byte place (event.Condition block) same stop heard = absurd stop
 stopped_ready c h after half byte place event.Opened same stop (inl grows) = absurd grows
 stopped_ready c h after half byte place event.Opened same stop (inr (inl misfit)) = absurd misfit
 stopped_ready c h after half byte place event.Opened same stop (inr (inr (a, spelled, (first, id, is_first, is_mark, is_opening, gone)))) =
@@ -264,7 +270,9 @@ stopped_ready c h after half byte place (event.BadAnswer at) same stop heard = m
 stopped_hoping : (c : Call) (after : HostView) (early_half half : List ℕ) (byte place : ℕ) (e : HostEvent) → IsStop e → ((number : ℕ) → e ≢ event.Recorded number)
     → HearsByte (with_half (hoping c early_half) half) byte place e after → (ViableAnswer (half ++ byte ∷ []) → ⊥) × (after ≡ gone_down (hoping c early_half))
 stopped_hoping c after early_half half byte place event.None stop other heard = absurd stop
+stopped_hoping c after early_half half byte place (event.Late id) stop other heard = absurd stop
 stopped_hoping c after early_half half byte place (event.Status b) stop other heard = absurd stop
+stopped_hoping c after early_half half byte place (event.Condition block) stop other heard = absurd stop
 stopped_hoping c after early_half half byte place event.Opened stop other (inl grows) = absurd grows
 stopped_hoping c after early_half half byte place event.Opened stop other (inr (inl misfit)) = absurd misfit
 stopped_hoping c after early_half half byte place event.Opened stop other (inr (inr (a, spelled, (first, id, is_first, is_mark, is_opening, gone)))) = absurd (cc is_first)

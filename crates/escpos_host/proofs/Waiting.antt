@@ -8,19 +8,32 @@ use Rattle.std.proofs.Math.Seq.{take-add, take-length}
 use Rattle.std.proofs.lemmas.List.{take-take, get_or-drop, get_or-take, take_more, drop-take, take-append-le}
 use Rattle.escpos_command.specs.declared.answer.Answer.{Answer}
 use Rattle.escpos_command.specs.declared.answer.Answer.TheVariants as answer
-use Rattle.escpos_command.specs.Answers.{HalfAnswer, Hears}
+use Rattle.escpos_command.specs.Answers.{AnswerSpells, HalfAnswer, Hears}
 use Rattle.escpos_host.specs.declared.host.HostEvent.{HostEvent}
 use Rattle.escpos_host.specs.declared.host.HostEvent.TheVariants as event
-use Rattle.escpos_host.specs.Awaits.{Brought, HearsOut, IsOverlooked, IsStop, Overlooked}
-use Rattle.escpos_host.specs.Heard.{HearsByte, Ignores, IsHeard, Passed, taken_at, with_half}
-use Rattle.escpos_host.specs.Machine.{HostView, Phase}
+use Rattle.escpos_host.specs.Awaits.{Brought, HearsOut, IsOverlooked, IsOverlookedEvent, IsStop, Overlooked}
+use Rattle.escpos_host.specs.Heard.{HearsByte, Ignores, IsHeard, Passed, Turns, taken_at, with_half}
+use Rattle.escpos_host.specs.Machine.{Down, HostView, Open, Opening, Phase}
 use Rattle.escpos_receipt.proofs.Prefixes.{all_joined}
 use Rattle.escpos_host.proofs.Passing.{Joined, none_passed, whole_heard}
+
+-- The byte that brings such an event is taken.
+taken_one : (e : HostEvent) (at : ℕ) → IsOverlookedEvent e → taken_at e at ≡ at + 1
+taken_one event.None at over = absurd over
+taken_one event.Opened at over = absurd over
+taken_one (event.Recorded number) at over = absurd over
+taken_one (event.Late id) at over = refl
+taken_one (event.Status byte) at over = refl
+taken_one (event.Condition block) at over = refl
+taken_one (event.BadAnswer place) at over = absurd over
 
 -- What is ignored is overlooked.
 ignored_one : (phase : Phase) (next : ℕ) (a : Answer) → Ignores phase next a → IsOverlooked phase next a
 ignored_one phase next (answer.Status b) h = absurd h
-ignored_one phase next (answer.Mark id) h = h
+ignored_one phase next (answer.Condition block) h = absurd h
+ignored_one Down next (answer.Mark id) h = absurd h
+ignored_one (Opening first) next (answer.Mark id) h = absurd h
+ignored_one (Open flight) next (answer.Mark id) h = h
 
 ignored_all : (phase : Phase) (next : ℕ) (answers : List Answer) → AllByRecursion (Ignores phase next) answers → AllByRecursion (IsOverlooked phase next) answers
 ignored_all phase next [] h = h
@@ -40,27 +53,57 @@ overlooked_on joined h x y half later p q = record {
 pub overlooked_none : (h : HostView) → (h.half ≡ []) ⊎ HalfAnswer h.half → Overlooked h [] h.half
 overlooked_none h sound = overlooked_of h [] h.half (none_passed h sound)
 
--- A status is overlooked.
+-- An event that leaves the host as it is.
 pub record Told (h : HostView) (bytes : List ℕ) (consumed : ℕ) (after : HostView) : Type 0 where
   pub some : 0 < consumed
   pub within : consumed ≤ length bytes
   pub overlooked : Overlooked h (take consumed bytes) after.half
   pub same : after ≡ with_half h after.half
 
-pub told : Joined → (h after : HostView) (bytes : List ℕ) (consumed byte : ℕ) → IsHeard h bytes consumed (event.Status byte) after → Told h bytes consumed after
-told joined h after bytes consumed byte (inl all) = let e = all.0 in absurd cc
-told joined h after bytes consumed byte (inr (at, half, inside, is, count, passed, inl grows)) = absurd grows
-told joined h after bytes consumed byte (inr (at, half, inside, is, count, passed, inr (inl misfit))) = absurd misfit
-told joined h after bytes consumed byte (inr (at, half, inside, is, count, passed, inr (inr (a, spelled, turns)))) =
-    let shown : after.half ≡ [] = ap (λ (v : HostView). v.half) turns.1 in
+-- The answer that brings such an event is overlooked.
+turns_same : (h after : HostView) (a : Answer) (at : ℕ) (e : HostEvent) → IsOverlookedEvent e → Turns h a at e after → IsOverlooked h.phase h.next a × (after ≡ h)
+turns_same h after a at event.None over turns = absurd over
+turns_same h after a at event.Opened over turns = absurd over
+turns_same h after a at (event.Recorded number) over turns = absurd over
+turns_same h after a at (event.Late id) over (first, phase, is, other, same) =
+    (subst (λ p. IsOverlooked p h.next a) (sym phase) (subst (IsOverlooked (Opening first) h.next) (sym is) other), same)
+turns_same h after a at (event.Status byte) over (is, same) = (subst (IsOverlooked h.phase h.next) (sym is) tt, same)
+turns_same h after a at (event.Condition block) over (is, same) = (subst (IsOverlooked h.phase h.next) (sym is) tt, same)
+turns_same h after a at (event.BadAnswer place) over turns = absurd over
+
+-- It comes with a whole answer.
+by_answer : (h after : HostView) (byte at : ℕ) (e : HostEvent) → IsOverlookedEvent e → HearsByte h byte at e after
+    → (a : Answer) × AnswerSpells a (h.half ++ byte ∷ []) × Turns (with_half h []) a at e after
+by_answer h after byte at event.None over heard = absurd over
+by_answer h after byte at event.Opened over heard = absurd over
+by_answer h after byte at (event.Recorded number) over heard = absurd over
+by_answer h after byte at (event.Late id) over (inl grows) = absurd grows
+by_answer h after byte at (event.Late id) over (inr (inl misfit)) = absurd misfit
+by_answer h after byte at (event.Late id) over (inr (inr whole)) = whole
+by_answer h after byte at (event.Status b) over (inl grows) = absurd grows
+by_answer h after byte at (event.Condition block) over (inl grows) = absurd grows
+by_answer h after byte at (event.Status b) over (inr (inl misfit)) = absurd misfit
+by_answer h after byte at (event.Condition block) over (inr (inl misfit)) = absurd misfit
+by_answer h after byte at (event.Status b) over (inr (inr whole)) = whole
+by_answer h after byte at (event.Condition block) over (inr (inr whole)) = whole
+by_answer h after byte at (event.BadAnswer place) over heard = absurd over
+
+pub told : Joined → (h after : HostView) (bytes : List ℕ) (consumed : ℕ) (e : HostEvent) → IsOverlookedEvent e → IsHeard h bytes consumed e after → Told h bytes consumed after
+told joined h after bytes consumed e over (inl (none, all, passed, left)) = absurd (subst IsOverlookedEvent none over)
+told joined h after bytes consumed e over (inr (at, half, inside, is, count, passed, heard)) =
     let next = slice_index bytes at in
-    let whole : Overlooked (with_half h half) (next ∷ []) [] = record { answers = a ∷ []; hears = whole_heard (half ++ next ∷ []) a spelled; each = (subst (IsOverlooked h.phase h.next) (sym turns.0) tt, tt) } in
+    let brought = by_answer (with_half h half) after next at e over heard in
+    let turned = turns_same (with_half h []) after brought.0 at e over brought.2 in
+    let shown : after.half ≡ [] = ap (λ (v : HostView). v.half) turned.1 in
+    let whole : Overlooked (with_half h half) (next ∷ []) [] =
+    record { answers = brought.0 ∷ []; hears = whole_heard (half ++ next ∷ []) brought.0 brought.1; each = (turned.0, tt) } in
+    let one = taken_one e at over in
     record {
-      some = omega (arith, count);
-      within = omega (arith, count, inside);
-      overlooked = subst (λ n. Overlooked h (take n bytes) after.half) (sym count) (subst (λ v. Overlooked h (take (at + 1) bytes) v) (sym shown)
+      some = omega (arith, count, one);
+      within = omega (arith, count, one, inside);
+      overlooked = subst (λ n. Overlooked h (take n bytes) after.half) (sym (count ∙ one)) (subst (λ v. Overlooked h (take (at + 1) bytes) v) (sym shown)
           (subst (λ bs. Overlooked h bs []) (sym (take_more bytes at 0 inside)) (overlooked_on joined h (take at bytes) (next ∷ []) half [] (overlooked_of h (take at bytes) half passed) whole)));
-      same = turns.1 ∙ ap (with_half h) (sym shown);
+      same = turned.1 ∙ ap (with_half h) (sym shown);
     }
 
 -- These bytes were read and brought nothing.
@@ -84,12 +127,12 @@ front_on bytes taken count h few = ap (λ v. take taken bytes ++ v) (take-take c
 byte_in_rest : (bytes : List ℕ) (taken at : ℕ) → at < length bytes - taken → slice_index (take (length bytes - taken) (drop taken bytes)) at ≡ slice_index bytes (taken + at)
 byte_in_rest bytes taken at inside = get_or-take (length bytes - taken) (drop taken bytes) at 0 inside ∙ get_or-drop taken bytes at 0
 
--- A status in the rest of a piece whose first bytes are overlooked.
-pub told_on : Joined → (h m after : HostView) (bytes : List ℕ) (taken consumed byte : ℕ) → taken ≤ length bytes → Overlooked h (take taken bytes) m.half → m ≡ with_half h m.half
-    → IsHeard m (take (length bytes - taken) (drop taken bytes)) consumed (event.Status byte) after
+-- Such an event in the rest of a piece whose first bytes are overlooked.
+pub told_on : Joined → (h m after : HostView) (bytes : List ℕ) (taken consumed : ℕ) (e : HostEvent) → IsOverlookedEvent e → taken ≤ length bytes
+    → Overlooked h (take taken bytes) m.half → m ≡ with_half h m.half → IsHeard m (take (length bytes - taken) (drop taken bytes)) consumed e after
     → (taken + consumed ≤ length bytes) × Overlooked h (take (taken + consumed) bytes) after.half × (after ≡ with_half h after.half) × (0 < consumed)
-told_on joined h m after bytes taken consumed byte inside front same heard =
-    let t = told joined m after (take (length bytes - taken) (drop taken bytes)) consumed byte heard in
+told_on joined h m after bytes taken consumed e over inside front same heard =
+    let t = told joined m after (take (length bytes - taken) (drop taken bytes)) consumed e over heard in
     let whole = rest_length bytes taken inside in
     let within = t.within in
     let few : consumed ≤ length bytes - taken = omega (arith, whole, within) in (
@@ -101,23 +144,27 @@ told_on joined h m after bytes taken consumed byte inside front same heard =
       t.some,
     )
 
-is_stop : (e : HostEvent) → e ≢ event.None → ((byte : ℕ) → e ≢ event.Status byte) → IsStop e
+is_stop : (e : HostEvent) → e ≢ event.None → (IsOverlookedEvent e → ⊥) → IsStop e
 is_stop event.None some other = absurd (some refl)
-is_stop (event.Status byte) some other = absurd (other byte refl)
+is_stop (event.Late id) some other = absurd (other tt)
+is_stop (event.Status byte) some other = absurd (other tt)
+is_stop (event.Condition block) some other = absurd (other tt)
 is_stop event.Opened some other = tt
 is_stop (event.Recorded number) some other = tt
 is_stop (event.BadAnswer at) some other = tt
 
 taken_later : (e : HostEvent) (taken at : ℕ) → taken + taken_at e at ≡ taken_at e (taken + at)
 taken_later event.None taken at = omega arith
+taken_later (event.Late id) taken at = omega arith
 taken_later (event.Status byte) taken at = omega arith
+taken_later (event.Condition block) taken at = omega arith
 taken_later event.Opened taken at = omega arith
 taken_later (event.Recorded number) taken at = omega arith
 taken_later (event.BadAnswer place) taken at = refl
 
 -- Another event, or none, in the rest of a piece whose first bytes are overlooked.
 pub hears_out : Joined → (h m after : HostView) (bytes : List ℕ) (taken consumed : ℕ) (e : HostEvent) → taken ≤ length bytes → Overlooked h (take taken bytes) m.half → m ≡ with_half h m.half
-    → ((byte : ℕ) → e ≢ event.Status byte) → IsHeard m (take (length bytes - taken) (drop taken bytes)) consumed e after → HearsOut h bytes (taken + consumed) e after
+    → (IsOverlookedEvent e → ⊥) → IsHeard m (take (length bytes - taken) (drop taken bytes)) consumed e after → HearsOut h bytes (taken + consumed) e after
 hears_out joined h m after bytes taken consumed e inside front same other (inl (none, count, passed, left)) =
     let whole = rest_length bytes taken inside in
     let all : taken + consumed ≡ length bytes = omega (arith, whole, count, inside) in
@@ -165,14 +212,18 @@ split_at y at h = sym (take-append-drop at y) ∙ ap (λ v. take at y ++ v) (dro
 
 heard_all : (e : HostEvent) (at : ℕ) → IsStop e → ((place : ℕ) → e ≢ event.BadAnswer place) → taken_at e at ≡ at + 1
 heard_all event.None at stop good = absurd stop
+heard_all (event.Late id) at stop good = absurd stop
 heard_all (event.Status byte) at stop good = absurd stop
+heard_all (event.Condition block) at stop good = absurd stop
 heard_all event.Opened at stop good = refl
 heard_all (event.Recorded number) at stop good = refl
 heard_all (event.BadAnswer place) at stop good = absurd (good place refl)
 
 heard_few : (e : HostEvent) (at : ℕ) → taken_at e at ≤ at + 1
 heard_few event.None at = omega arith
+heard_few (event.Late id) at = omega arith
 heard_few (event.Status byte) at = omega arith
+heard_few (event.Condition block) at = omega arith
 heard_few event.Opened at = omega arith
 heard_few (event.Recorded number) at = omega arith
 heard_few (event.BadAnswer place) at = omega arith

@@ -90,7 +90,9 @@ by_byte laws h after a half byte at consumed e none known some place count (inl 
 by_byte laws h after a half byte at consumed event.None none known some place count (inr (inl misfit)) = absurd misfit
 by_byte laws h after a half byte at consumed event.Opened none known some place count (inr (inl misfit)) = absurd misfit
 by_byte laws h after a half byte at consumed (event.Recorded n) none known some place count (inr (inl misfit)) = absurd misfit
+by_byte laws h after a half byte at consumed (event.Late id) none known some place count (inr (inl misfit)) = absurd misfit
 by_byte laws h after a half byte at consumed (event.Status b) none known some place count (inr (inl misfit)) = absurd misfit
+by_byte laws h after a half byte at consumed (event.Condition block) none known some place count (inr (inl misfit)) = absurd misfit
 by_byte laws h after a half byte at consumed (event.BadAnswer p) none known some place count (inr (inl (here, bad, same))) =
     absurd (bad (a, place.rest, record { in_range = known; in_table = sym place.split }))
 by_byte laws h after a half byte at consumed e none known some place count (inr (inr (b, spelled, turns))) =

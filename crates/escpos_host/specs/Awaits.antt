@@ -1,5 +1,5 @@
--- What the parts of `send_link` do, for a host that has a link: hearing answers up to an event that isn't a status, reading
--- them until there is one, and putting out what the host has to say. Only private clauses, invariants and proofs use these
+-- What the parts of `send_link` do, for a host that has a link: hearing answers up to an event that isn't overlooked,
+-- reading them until there is one, and putting out what the host has to say. Only private clauses, invariants and proofs use these
 -- definitions.
 use Rattle.std.specs.Prelude.{ℕ, ◌≡◌, ◌≢◌, ◌+◌, ◌<◌, ◌≤◌, ◌-◌, ◌⊎◌, List, [], ◌∷◌, ◌++◌, length, take, drop, slice_index, Option}
 use Rattle.std.specs.List.{AllByRecursion}
@@ -16,7 +16,7 @@ use Rattle.escpos_host.specs.declared.host.HostEvent.TheVariants as event
 use Rattle.escpos_host.specs.declared.send.Awaited.{Awaited}
 use Rattle.escpos_host.specs.declared.send.SendFault.{SendFault}
 use Rattle.escpos_host.specs.declared.send.SendFault.TheVariants as fault
-use Rattle.escpos_host.specs.Heard.{HearsByte, IgnoresMark, taken_at, with_half}
+use Rattle.escpos_host.specs.Heard.{HearsByte, IsClosing, IsOpeningMark, taken_at, with_half}
 use Rattle.escpos_host.specs.Machine.{HostView, Phase, Down, Open, Opening, gone_down}
 use Rattle.escpos_host.specs.Says.{marks_from}
 use Rattle.escpos_host.specs.Sends.{Call, Closed, Fails, Opened, closing, given_up, most_in_piece, opening_bytes, receipt_bytes, recorded_by}
@@ -44,10 +44,17 @@ RefusesOpening _ h openings after = ⊥
 
 -- ## Hearing
 
--- An answer that leaves the host as it is: one that it ignores, or a status.
+-- The mark with this id is none of those whose answers a host in this phase waits for.
+abbrev pub IsOtherMark : Phase → ℕ → List ℕ → Type 0
+IsOtherMark Down next id = ⊥
+IsOtherMark (Opening first) next id = IsOpeningMark first next id → ⊥
+IsOtherMark (Open flight) next id = IsClosing flight id → ⊥
+
+-- An answer that leaves the host as it is: to another mark, a status or a condition.
 abbrev pub IsOverlooked : Phase → ℕ → Answer → Type 0
 IsOverlooked phase next (answer.Status b) = Unit {0}
-IsOverlooked phase next (answer.Mark id) = IgnoresMark phase next id
+IsOverlooked phase next (answer.Condition block) = Unit {0}
+IsOverlooked phase next (answer.Mark id) = IsOtherMark phase next id
 
 -- These bytes were read as such answers, and this half answer.
 pub record Overlooked (h : HostView) (bytes half : List ℕ) : Type 0 where
@@ -55,10 +62,19 @@ pub record Overlooked (h : HostView) (bytes half : List ℕ) : Type 0 where
   pub hears : Hears (h.half ++ bytes) answers half
   pub each : AllByRecursion (IsOverlooked h.phase h.next) answers
 
--- An event that isn't a status.
+-- An event that a call overlooks: a status, a condition, or the answer to a mark of an older link.
+abbrev pub IsOverlookedEvent : HostEvent → Type 0
+IsOverlookedEvent (event.Late id) = Unit {0}
+IsOverlookedEvent (event.Status byte) = Unit {0}
+IsOverlookedEvent (event.Condition block) = Unit {0}
+IsOverlookedEvent _ = ⊥
+
+-- An event that isn't overlooked.
 abbrev pub IsStop : HostEvent → Type 0
 IsStop event.None = ⊥
+IsStop (event.Late id) = ⊥
 IsStop (event.Status byte) = ⊥
+IsStop (event.Condition block) = ⊥
 IsStop _ = Unit {0}
 
 -- What hearing a piece up to such an event does.

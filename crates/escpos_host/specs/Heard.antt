@@ -18,14 +18,15 @@ abbrev pub IsClosing : List InFlight → List ℕ → Type 0
 IsClosing [] id = ⊥
 IsClosing (p ∷ ps) id = (p.mark ≡ id) ⊎ IsClosing ps id
 
--- The answer to the mark with this id is one that a host in this phase ignores.
+-- The answer to the mark with this id is one that a host in this phase ignores. Before an opening mark is answered it ignores none.
 abbrev pub IgnoresMark : Phase → ℕ → List ℕ → Type 0
 IgnoresMark Down next id = ⊥
-IgnoresMark (Opening first) next id = IsOpeningMark first next id → ⊥
+IgnoresMark (Opening first) next id = ⊥
 IgnoresMark (Open flight) next id = IsClosing flight id → ⊥
 
 abbrev pub Ignores : Phase → ℕ → Answer → Type 0
 Ignores phase next (answer.Status b) = ⊥
+Ignores phase next (answer.Condition block) = ⊥
 Ignores phase next (answer.Mark id) = IgnoresMark phase next id
 
 -- The host with another half answer.
@@ -47,7 +48,9 @@ Turns h a at event.Opened after =
     (first : ℕ) × (id : List ℕ) × (h.phase ≡ Opening first) × (a ≡ answer.Mark id) × IsOpeningMark first h.next id × (after ≡ opened h)
 Turns h a at (event.Recorded number) after =
     (p : InFlight) × (ps : List InFlight) × (h.phase ≡ Open (p ∷ ps)) × (a ≡ answer.Mark p.mark) × (number ≡ length h.records) × (after ≡ recorded h p ps)
+Turns h a at (event.Late id) after = (first : ℕ) × (h.phase ≡ Opening first) × (a ≡ answer.Mark id) × (IsOpeningMark first h.next id → ⊥) × (after ≡ h)
 Turns h a at (event.Status byte) after = (a ≡ answer.Status byte) × (after ≡ h)
+Turns h a at (event.Condition block) after = (a ≡ answer.Condition block) × (after ≡ h)
 Turns h a at (event.BadAnswer place) after =
     (p : InFlight) × (ps : List InFlight) × (id : List ℕ) × (h.phase ≡ Open (p ∷ ps)) × (a ≡ answer.Mark id) × (p.mark ≢ id) × IsClosing ps id × (place ≡ at) × (after ≡ gone_down h)
 

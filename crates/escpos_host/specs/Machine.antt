@@ -17,7 +17,8 @@
 --   Sending   | refused | refused | Sending | refused | to the oldest closing mark: recorded, and Ready or Sending;
 --             |         |         |         |         | to a later one: Down
 --
--- An answer to any other mark is ignored. A status byte is an event in every state but Down. `link_down`, and a byte that
+-- An answer to any other mark is ignored; but while the host is Opening it is an event, since a mark of an older link may
+-- be answered late. A status byte and a block of automatic status are events in every state but Down. `link_down`, and a byte that
 -- fits no answer, lead to Down; what was in flight then is left.
 use Rattle.std.specs.Prelude.{ℕ, ◌≡◌, ◌≢◌, ◌⊎◌, ◌+◌, ◌<◌, ◌≤◌, List, [], ◌∷◌, ◌++◌, length, drop, map}
 use Rattle.escpos_command.specs.declared.command.Command.{Command}

@@ -48,6 +48,14 @@ SaysIn (Open flight) next said =
 abbrev pub Says : HostView → List Command → Type 0
 Says h said = SaysIn h.phase h.next said
 
+-- A status request is the only real-time command that a host puts.
+abbrev pub IsRequest : Command → Type 0
+IsRequest (kind.Status n) = Unit {0}
+IsRequest _ = ⊥
+
+abbrev pub HasNoRequest : List Command → Type 0
+HasNoRequest said = AllByRecursion (λ c. IsRequest c → ⊥) said
+
 -- The host has said this on its link, and of its bytes these were taken out; the others are still to be taken out.
 pub record Talks (h : HostView) (out : List ℕ) (said : List Command) : Type 0 where
   pub says : Says h said

@@ -49,10 +49,12 @@ receipt_bytes c = spell (framed (record { receipt = c.receipt; mark = closing c 
 
 abbrev pub IsToOpening : Call → Answer → Type 0
 IsToOpening c (answer.Status b) = ⊥
+IsToOpening c (answer.Condition block) = ⊥
 IsToOpening c (answer.Mark id) = IsOpeningMark c.before.next (c.before.next + c.openings) id
 
 abbrev pub IsToClosing : Call → Answer → Type 0
 IsToClosing c (answer.Status b) = ⊥
+IsToClosing c (answer.Condition block) = ⊥
 IsToClosing c (answer.Mark id) = closing c ≡ id
 
 -- None of the answers is to an opening mark.

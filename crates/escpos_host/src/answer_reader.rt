@@ -2,13 +2,17 @@
 //!
 //! Between answers it holds nothing, within an answer the bytes so far. What an answer means is left to the host.
 
-ghost use Rattle.std.specs.Prelude.{◌≡◌, ◌≢◌, ◌⊎◌, [], ◌∷◌, ◌++◌, length, Ok, Err, Some, None, MatchOption};
+ghost use Rattle.std.specs.Prelude.{◌≡◌, ◌≢◌, ◌⊎◌, [], ◌∷◌, ◌++◌, length, true, Ok, Err, Some, None, IsTrue, MatchOption};
+ghost use Rattle.std.specs.Option.{SomeIff};
 ghost use Rattle.escpos_command.specs.declared.answer.Answer.{Answer};
 ghost use Rattle.escpos_command.specs.Answers.{is_status_byte, AnswerSpells, HalfAnswer, ViableAnswer};
-ghost use Rattle.escpos_host.specs.AnswerReader.{goes_on, IsFront};
+ghost use Rattle.escpos_command.specs.Blocks.{is_block};
+ghost use Rattle.escpos_host.specs.AnswerReader.{goes_on, mark_goes_on, IsFront};
 
 use arrayvec::ArrayVec;
-use escpos_command::{Answer, MarkId, is_mark_byte};
+use escpos_command::{
+    Answer, AutomaticStatus, MarkId, begins_block, continues_block, is_mark_byte,
+};
 use std::marker::Model;
 
 /// A byte that continues no answer.
@@ -29,7 +33,7 @@ impl Model for AnswerReader {
 
     ghost view = { λ r. r.bytes.items };
 
-    // A reader holds nothing, or a prefix of a mark's answer.
+    // A reader holds nothing, or a prefix of a mark's answer or of a block.
     ghost invariant = { λ r. IsFront r.bytes.items };
 }
 
@@ -57,10 +61,10 @@ impl AnswerReader {
             self.bytes.clear();
             return Err(NoAnswer);
         }
-        match mark_in(self.bytes.as_slice()) {
-            Some(id) => {
+        match whole_with(self.bytes.as_slice(), byte) {
+            Some(answer) => {
                 self.bytes.clear();
-                Ok(Some(Answer::Mark(id)))
+                Ok(Some(answer))
             }
             None => {
                 self.bytes.push(byte);
@@ -85,20 +89,55 @@ impl AnswerReader {
     }
 }
 
-// Whether the byte continues the answer to a mark after these bytes of it.
+// Whether the byte continues an answer after these bytes of it, which are none or those of a longer one than a status.
 fn goes_on(half: &[u8], byte: u8) -> bool
     ensures { result ≡ goes_on half.now byte }
 {
     match half {
-        [] => byte == 0x37,
-        [_] => byte == 0x22,
-        [_, _, id @ ..] => {
+        [] => byte == 0x37 || begins_block(byte),
+        [0x37, rest @ ..] => mark_goes_on(rest, byte),
+        _ => continues_block(byte),
+    }
+}
+
+// Whether the byte continues the answer to a mark after 37 and these bytes.
+fn mark_goes_on(rest: &[u8], byte: u8) -> bool
+    ensures { result ≡ mark_goes_on rest.now byte }
+{
+    match rest {
+        [] => byte == 0x22,
+        [_, id @ ..] => {
             if id.len() == 4 {
                 byte == 0x00
             } else {
                 is_mark_byte(byte)
             }
         }
+    }
+}
+
+// The answer that the byte makes whole, if it does.
+fn whole_with(half: &[u8], byte: u8) -> Option<Answer>
+    requires front { IsFront half.now }
+    requires on { goes_on half.now byte ≡ true }
+    ensures { MatchOption result (IsFront (half.now ++ byte ∷ [])) (λ answer. AnswerSpells answer (half.now ++ byte ∷ [])) }
+{
+    match block_with(half, byte) {
+        Some(block) => Some(Answer::Condition(block)),
+        None => match mark_in(half) {
+            Some(id) => Some(Answer::Mark(id)),
+            None => None,
+        },
+    }
+}
+
+// The block of these bytes and the byte after them, if they are one.
+fn block_with(half: &[u8], byte: u8) -> Option<AutomaticStatus>
+    ensures { SomeIff result (IsTrue (is_block (half.now ++ byte ∷ []))) (half.now ++ byte ∷ []) }
+{
+    match half {
+        [first, second, third] => AutomaticStatus::new([*first, *second, *third, byte]),
+        _ => None,
     }
 }
 

@@ -13,7 +13,7 @@ ghost use Rattle.escpos_host.specs.Machine.{HostView, InFlight, Down, Opening, O
 use crate::answer_reader::{AnswerReader, NoAnswer};
 use crate::outbox::{Out, OutPart};
 use arrayvec::ArrayVec;
-use escpos_command::{Answer, MarkId, StatusKind, laws};
+use escpos_command::{Answer, AutomaticStatus, MarkId, StatusKind, laws};
 use escpos_receipt::Receipt;
 use std::alloc::Global;
 use std::marker::Model;
@@ -91,8 +91,13 @@ pub enum HostEvent {
     Opened,
     /// The oldest receipt in flight is printed: it is the record with this number, counted from 0.
     Recorded(usize),
+    /// No opening mark of this link is answered yet, and a mark with this id is, which the link didn't put out: an older link
+    /// did, and everything that it put before that mark is done.
+    Late(MarkId),
     /// The printer sent this status byte. (Reference: DLE EOT.)
     Status(u8),
+    /// The printer sent unasked what its condition is. (Reference: GS a.)
+    Condition(AutomaticStatus),
     /// The byte at this place fits no answer, or it is the last one of an answer to a later closing mark. The link is given
     /// up.
     BadAnswer { at: usize },
@@ -362,6 +367,7 @@ impl Host {
     {
         match answer {
             Answer::Status(byte) => HostEvent::Status(byte),
+            Answer::Condition(block) => HostEvent::Condition(block),
             Answer::Mark(id) => self.hear_mark(id, at),
         }
     }
@@ -376,8 +382,9 @@ impl Host {
                 self.stage = Stage::Open;
                 HostEvent::Opened
             }
+            Stage::Opening { .. } => HostEvent::Late(id),
             Stage::Open => self.hear_closing(id, at),
-            _ => HostEvent::None,
+            Stage::Down => HostEvent::None,
         }
     }
 

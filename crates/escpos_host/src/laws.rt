@@ -7,18 +7,21 @@ ghost use Rattle.escpos_command.specs.declared.command.Command.{Command};
 ghost use Rattle.escpos_command.specs.declared.command.Command.TheVariants as kind;
 ghost use Rattle.escpos_command.specs.declared.answer.Answer.{Answer};
 ghost use Rattle.escpos_command.specs.Answers.{AreWholeAnswers, answer_bytes, is_answer};
+ghost use Rattle.escpos_command.specs.CommandTable.{AreCommands, spell};
 ghost use Rattle.escpos_command.specs.Parameters.{is_status_kind};
 ghost use Rattle.escpos_host.specs.declared.host.HostEvent.{HostEvent};
 ghost use Rattle.escpos_host.specs.Earlier.{shifted, with_earlier};
 ghost use Rattle.escpos_host.specs.Heard.{EndsLink, GoesOn, HearsAll, IsHeard, IsOff, Turns, last_of};
 ghost use Rattle.escpos_host.specs.Machine.{HasMark, HostView, InFlight, IsOpening, IsSound, Down, Open, asked, gone_down, handed_out, linked, next_mark, nudged, submitted, taken_out};
-ghost use Rattle.escpos_host.specs.Says.{Talks};
+ghost use Rattle.escpos_host.specs.Says.{HasNoRequest, Talks};
+ghost use Rattle.escpos_real_time.specs.RealTime.{HoldsRealTime};
 ghost use Rattle.escpos_receipt.specs.Whole.{Whole};
 
 /// What a host says: suppose that it has said these commands on its link, of whose bytes some were taken out and the others
 /// are still to be. This holds again after each call that leaves the link up, with what the call puts out added, and also
 /// after what the host hears. What it has said is: first opening marks; then, once one of them is answered, status requests
-/// and receipts, each receipt with Init before it and its closing mark after it; and last the receipts that are in flight.
+/// and receipts, each receipt with Init before it and its closing mark after it; and last the receipts that are in flight. And no
+/// real-time command stands anywhere in it, but its own requests.
 pub fn says()
     ensures linked { (h : HostView) → HasMark h → Talks (linked h) [] (next_mark h ∷ []) }
     ensures nudged { (h : HostView) (out : List ℕ) (said : List Command) → IsOpening h.phase → HasMark h → Talks h out said
@@ -31,7 +34,11 @@ pub fn says()
     ensures heard { (h after : HostView) (out : List ℕ) (said : List Command) (bytes : List ℕ) (consumed : ℕ) (event : HostEvent) → after.phase ≢ Down
         → IsHeard h bytes consumed event after → Talks h out said → Talks after out said }
     ensures handed_out { (h : HostView) (out : List ℕ) (said : List Command) → Talks h out said → Talks (handed_out h) out said }
-{}
+    ensures no_real_time { (h : HostView) (out : List ℕ) (said before middle following : List Command) → Talks h out said → AreCommands said
+        → said ≡ before ++ (middle ++ following) → HasNoRequest middle → HoldsRealTime (spell middle) → ⊥ }
+{
+    escpos_command::laws::mark_numbers();
+}
 
 /// Whole answers: suppose that a host's half answer, a piece that it hears and the bytes after that are whole answers
 /// together. Then it hears the whole piece, and what is left of it and the bytes after it are whole answers; or an event

@@ -3,11 +3,11 @@
 //! What is said on the link, and what an answer means, is left to the host. This module decides when bytes are put and when
 //! answers are read. `specs/Sends.antt` defines the results.
 
-ghost use Rattle.std.specs.Prelude.{◌≡◌, ◌≢◌, ◌⊎◌, ◌+◌, ◌<◌, ◌≤◌, max, ℕ, List, [], length, IsTrue, IsErrOf, IfOk, IfErr, OnOk, OnErr};
+ghost use Rattle.std.specs.Prelude.{◌≡◌, ◌≢◌, ◌↔◌, ◌⊎◌, ◌+◌, ◌<◌, ◌≤◌, max, ℕ, List, [], length, IsTrue, IsErrOf, IfOk, IfErr, OnOk, OnErr};
 ghost use Rattle.std.specs.Io.KnownBytes.{Appends, Consumes};
 ghost use Rattle.escpos_command.specs.Digits.{mark_count};
 ghost use Rattle.escpos_host.specs.declared.send.SendFault.{SendFault};
-ghost use Rattle.escpos_host.specs.Awaits.{Brought, Closes, HearsOut, IsBreak, IsSilence, Lost, Opens, RefusesOpening, Silent, Stops, dialled, sending, with_out};
+ghost use Rattle.escpos_host.specs.Awaits.{Brought, Closes, HearsOut, IsBreak, IsOverlookedEvent, IsSilence, Lost, Opens, RefusesOpening, Silent, Stops, dialled, sending, with_out};
 ghost use Rattle.escpos_host.specs.Machine.{Down};
 ghost use Rattle.escpos_host.specs.Sends.{Call, HasMarks, IsCut, Opened, Sends, Why, most_in_piece, opening_bytes};
 
@@ -87,7 +87,7 @@ pub enum Sent {
     NotRecorded { why: SendFault, receipt: Receipt },
 }
 
-// An event that isn't a status.
+// An event that isn't overlooked.
 #[derive(Clone, Copy)]
 struct Awaited {
     event: HostEvent,
@@ -282,7 +282,7 @@ fn put_out<W: ByteOut>(host: &mut Host, writer: &mut W) -> Result<(), SendFault>
     Ok(())
 }
 
-// Reads answers until one of them brings an event that isn't a status.
+// Reads answers until one of them brings an event that isn't overlooked.
 fn await_event<R: ByteIn>(
     host: &mut Host,
     reader: &mut R,
@@ -329,7 +329,7 @@ fn await_event<R: ByteIn>(
     Err(SendFault::TooLong)
 }
 
-// Hears bytes up to the first event that isn't a status.
+// Hears bytes up to the first event that isn't overlooked.
 fn hear(host: &mut Host, bytes: &[u8]) -> Heard
     requires { host.old.phase ≢ Down }
     ensures { HearsOut host.old bytes.now result.consumed result.event host.new }
@@ -340,7 +340,7 @@ fn hear(host: &mut Host, bytes: &[u8]) -> Heard
     loop {
         let heard = host.heard(&bytes[taken..]);
         taken += heard.consumed;
-        if let HostEvent::Status(_) = heard.event {
+        if is_overlooked(heard.event) {
             continue;
         }
         return Heard {
@@ -348,4 +348,14 @@ fn hear(host: &mut Host, bytes: &[u8]) -> Heard
             event: heard.event,
         };
     }
+}
+
+// Whether an event is overlooked: a status, a condition, or the answer to a mark of an older link.
+fn is_overlooked(event: HostEvent) -> bool
+    ensures { IsTrue result ↔ IsOverlookedEvent event }
+{
+    matches!(
+        event,
+        HostEvent::Late(_) | HostEvent::Status(_) | HostEvent::Condition(_)
+    )
 }

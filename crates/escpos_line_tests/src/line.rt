@@ -1,3 +1,4 @@
 //! The simulated line by its calls. escpos_jobs_tests has the line by scripts, in `play`.
 
+mod blocks;
 mod rows;

@@ -1,7 +1,7 @@
 //! Receipts as values: what is handed back, and the reasons for which there is none, compared, copied and printed.
 
 use crate::support::texts::is_shown_as;
-use escpos_command::{Character, Command, Switch};
+use escpos_command::{Character, Command, LineWidth, Switch};
 use escpos_host::{JsonError, JsonFault, Receipt, ReceiptFault};
 use escpos_receipt::{ReceiptOptions, ReceiptText};
 use escpos_test_receipts::faults;
@@ -65,6 +65,44 @@ fn entries_are_whole(rt: HostRuntime) {
         assert!(rt; json.entries(rt.alloc(), &usual).is_ok() == *whole);
         assert!(rt; json.receipt(rt.alloc(), &usual).is_ok() == *whole);
     }
+}
+
+// A QR code of 33 modules of 16 dots, 528 in all, after a line.
+const WIDE_CODE: &[u8] =
+    b"[{\"line\":\"Hi\"},{\"qr\":{\"content\":\"aaaaaaaaaaaaaaaaaaaaaaaaaaaaaaaaaaaaaaaaaaaaaaaaaaaaaa\",\"size\":16,\"level\":\"L\"}}]";
+
+// Why a text gives no receipt for lines of this width.
+fn fault_at(rt: &impl Abort, alloc: Global, text: &[u8], dots: u16) -> Option<JsonError> {
+    let options = ReceiptOptions {
+        width: LineWidth::new(dots).expect(rt, "a width"),
+        replacement: None,
+    };
+    let json = ReceiptText::new(alloc, text).expect(rt, "JSON");
+    let fault = json.receipt(alloc, &options).err();
+    assert!(rt; json.entries(alloc, &options).err() == fault);
+    fault
+}
+
+// A code that is wider than the line of the options is refused, at the place of its print.
+#[test]
+fn codes_fit_on_the_line_of_the_options(rt: HostRuntime) {
+    let refused = Some(JsonError::Refused(JsonFault::NotPrintable { at: 6 }));
+    assert!(rt; fault_at(&rt, rt.alloc(), WIDE_CODE, 512) == refused);
+    assert!(rt; fault_at(&rt, rt.alloc(), WIDE_CODE, 527) == refused);
+    assert!(rt; fault_at(&rt, rt.alloc(), WIDE_CODE, 528).is_none());
+    assert!(rt; fault_at(&rt, rt.alloc(), WIDE_CODE, 576).is_none());
+}
+
+// A receipt says of any width what it leaves out.
+#[test]
+fn receipts_tell_what_is_left_out(rt: HostRuntime) {
+    let options = ReceiptOptions {
+        width: LineWidth::new(576).expect(&rt, "a width"),
+        replacement: None,
+    };
+    let receipt = Receipt::from_json_with(rt.alloc(), &options, WIDE_CODE).expect(&rt, "a receipt");
+    assert!(rt; receipt.not_printable(options.width).is_none());
+    assert!(rt; receipt.not_printable(LineWidth::usual()) == Some(6));
 }
 
 // A reason equals the one of the table at its place, and no other.

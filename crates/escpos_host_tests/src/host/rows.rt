@@ -4,8 +4,8 @@
 //! of it.
 
 use crate::support::hosts::{
-    ANSWER_0, ANSWER_1, ANSWER_2, ANSWER_5, ANSWER_6, hears, kind, leaves_no_more, links_up, opens,
-    puts_out, records_two, stands, submits, submits_two,
+    ANSWER_0, ANSWER_1, ANSWER_2, ANSWER_5, ANSWER_6, gives_up, hears, kind, leaves_no_more,
+    links_up, mark, opens, puts_out, records_two, stands, submits, submits_two,
 };
 use crate::support::texts::is_shown_as;
 use escpos_host::{Heard, Host, HostError, HostEvent, HostState};
@@ -60,15 +60,6 @@ fn hears_a_status(rt: &impl Abort, alloc: Global, host: &mut Host) {
     submits(rt, alloc, host, S);
     hears(rt, host, ANSWER_0, 7, HostEvent::None);
     stands(rt, host, HostState::Sending);
-}
-
-// While the link opens, this piece fits no answer at this place. The link is given up.
-fn gives_up(rt: &impl Abort, host: &mut Host, piece: &[u8], at: usize) {
-    links_up(rt, host);
-    hears(rt, host, piece, at, HostEvent::BadAnswer { at });
-    stands(rt, host, HostState::Down);
-    assert!(rt; host.ask(kind(rt, 1)) == Err(HostError::NotReady));
-    assert!(rt; host.nudge() == Err(HostError::NotReady));
 }
 
 fn hears_in_two_pieces(rt: &impl Abort, host: &mut Host) {
@@ -136,16 +127,16 @@ fn left_receipt(rt: HostRuntime) {
     drops_a_receipt(&rt, rt.alloc(), &mut host);
 }
 
-fn ignores_a_mark(rt: &impl Abort, host: &mut Host) {
+fn hears_of_a_mark(rt: &impl Abort, host: &mut Host) {
     links_up(rt, host);
-    hears(rt, host, ANSWER_1, 7, HostEvent::None);
+    hears(rt, host, ANSWER_1, 7, HostEvent::Late(mark(rt, *b"0001")));
     stands(rt, host, HostState::Opening);
 }
 
 #[test]
 fn foreign_mark(rt: HostRuntime) {
     let mut host = Host::new(rt.alloc(), 0);
-    ignores_a_mark(&rt, &mut host);
+    hears_of_a_mark(&rt, &mut host);
 }
 
 // A receipt is recorded before any of its bytes is taken out.
@@ -194,7 +185,7 @@ fn hears_badly(rt: &impl Abort, alloc: Global, host: &mut Host, piece: &[u8], at
 
 #[test]
 fn bad_answers(rt: HostRuntime) {
-    let rows: [(&[u8], usize); 3] = [(b"\x38", 0), (b"\x37\x22\x1F", 2), (b"\x37\x220000\x01", 6)];
+    let rows: [(&[u8], usize); 3] = [(b"\x39", 0), (b"\x37\x22\x1F", 2), (b"\x37\x220000\x01", 6)];
     for (piece, at) in rows {
         let mut host = Host::new(rt.alloc(), 0);
         hears_badly(&rt, rt.alloc(), &mut host, piece, at);

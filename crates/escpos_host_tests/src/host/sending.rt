@@ -22,6 +22,10 @@ const MARKS: &[u8] = b"\x1D(H\x06\x00000000\x1D(H\x06\x00000001\x1D(H\x06\x00000
 // The answers to the marks 0 and 3.
 const ANSWERS: &[u8] = b"\x37\x220000\x00\x37\x220003\x00";
 
+// The same, each after a block, an answer to a mark that isn't of this link, and a status byte.
+const OVERLOOKED: &[u8] =
+    b"\x14\x00\x00\x0F\x37\x22000A\x00\x12\x37\x220000\x00\x18\x00\x0C\x0F\x37\x22000A\x00\x12\x37\x220003\x00";
+
 // A receipt and its line, how many opening marks it has, and how many bytes of answers may be read.
 type Order<'a> = ((&'a [u8], &'a [u8]), u32, u32);
 
@@ -83,7 +87,11 @@ fn sends_over(rt: &impl Abort, alloc: Global, host: &mut Host, link: Link, wante
 #[test]
 pub fn send_link(rt: HostRuntime) {
     assert!(&rt; WRITTEN.len() == 49);
-    for (answers, wanted) in [(ANSWERS, RECORDED), (b"", (Err(SendFault::Ended), 33, 3))] {
+    for (answers, wanted) in [
+        (ANSWERS, RECORDED),
+        (OVERLOOKED, RECORDED),
+        (b"", (Err(SendFault::Ended), 33, 3)),
+    ] {
         let mut host = Host::new(rt.alloc(), 0);
         let link = (answers, 7, NEVER, NEVER);
         sends_over(&rt, rt.alloc(), &mut host, link, wanted);
@@ -211,15 +219,15 @@ const BAD_AFTER: Wanted = (Err(SendFault::BadAnswer), 49, 4);
 // Answers, how many bytes of them a read gives, and what is to come of them.
 const ODD_ANSWERS: [(&[u8], usize, Wanted); 9] = [
     // a byte that fits no answer: before any answer, after the opening one in its piece, and after the receipt was put out
-    (b"\x38", 64, BAD_BEFORE),
-    (b"\x37\x220000\x00\x38", 64, BAD_BEFORE),
-    (b"\x37\x220000\x00\x38", 7, BAD_AFTER),
+    (b"\x39", 64, BAD_BEFORE),
+    (b"\x37\x220000\x00\x39", 64, BAD_BEFORE),
+    (b"\x37\x220000\x00\x39", 7, BAD_AFTER),
     (b"\x37\x220000\x00\x37\x220003\x01", 7, BAD_AFTER),
     // the same in an answer that began in the piece of the opening one
-    (b"\x37\x220000\x00\x37\x38", 9, BAD_BEFORE),
-    (b"\x37\x220000\x00\x37\x38", 8, BAD_AFTER),
+    (b"\x37\x220000\x00\x37\x39", 9, BAD_BEFORE),
+    (b"\x37\x220000\x00\x37\x39", 8, BAD_AFTER),
     // what follows the closing answer in its piece is dropped
-    (b"\x12\x37\x220000\x00\x37\x220003\x00\x38", 8, RECORDED),
+    (b"\x12\x37\x220000\x00\x37\x220003\x00\x39", 8, RECORDED),
     // status bytes are passed over
     (b"\x12\x37\x220000\x00\x12\x37\x220003\x00\x12", 8, RECORDED),
     (b"\x12\x37\x220000\x00\x12\x37\x220003\x00\x12", 9, RECORDED),

@@ -1,7 +1,7 @@
 //! A host by its calls: answers to its marks, and what it puts out.
 
-use escpos_command::StatusKind;
-use escpos_host::{Heard, Host, HostEvent, HostState, Receipt, Sent, send_link};
+use escpos_command::{MarkId, StatusKind};
+use escpos_host::{Heard, Host, HostError, HostEvent, HostState, Receipt, Sent, send_link};
 use escpos_io::{MemoryIn, MemoryOut};
 use escpos_test_receipts::{A, B, have_lines, read_receipt};
 use std::alloc::Global;
@@ -80,6 +80,20 @@ pub fn puts_out(rt: &impl Abort, host: &mut Host, wanted: &[u8]) {
 
 pub fn kind(rt: &impl Abort, number: u8) -> StatusKind {
     StatusKind::new(number).expect(rt, "a kind of status")
+}
+
+// The mark with this id.
+pub fn mark(rt: &impl Abort, id: [u8; 4]) -> MarkId {
+    MarkId::new(id).expect(rt, "an id")
+}
+
+// While the link opens, this piece fits no answer at this place. The link is given up.
+pub fn gives_up(rt: &impl Abort, host: &mut Host, piece: &[u8], at: usize) {
+    links_up(rt, host);
+    hears(rt, host, piece, at, HostEvent::BadAnswer { at });
+    stands(rt, host, HostState::Down);
+    assert!(rt; host.ask(kind(rt, 1)) == Err(HostError::NotReady));
+    assert!(rt; host.nudge() == Err(HostError::NotReady));
 }
 
 // A host has recorded S and is ready, or it is down and has nothing of it.

@@ -4,7 +4,7 @@ use crate::support::lines::{
     ON, ONLINE, Plain, Sight, event_of, goes_over, happen, note_of_feed, note_of_hearing,
     opens_line, prints_items, sight_of, tells, tells_all,
 };
-use escpos_command::LineWidth;
+use escpos_command::{LineWidth, MarkId};
 use escpos_host::{HostEvent, HostState};
 use escpos_link::{Event, Handed, Note, Refusal, Sim};
 use escpos_printer::Condition;
@@ -117,7 +117,7 @@ fn host_resumes(rt: HostRuntime) {
     has(&rt, &sim, sight, &[], THRICE);
 }
 
-// The events of row lost_answer, and what is told of each.
+// The events of row lost_answer, and what is told of each: on the second link the answer for S comes late.
 const LOST_ANSWER: [Plain; 22] = [
     Plain::LinkUp,
     Plain::Move(11),
@@ -143,7 +143,8 @@ const LOST_ANSWER: [Plain; 22] = [
     Plain::Answer(7),
 ];
 
-fn notes_of_lost_answer() -> [Note; 22] {
+fn notes_of_lost_answer(rt: &impl Abort) -> [Note; 22] {
+    let closing = MarkId::of_number(1).expect(rt, "a mark");
     [
         Note::Done,
         Note::Moved(11),
@@ -157,7 +158,7 @@ fn notes_of_lost_answer() -> [Note; 22] {
         Note::Done,
         Note::Done,
         ON,
-        note_of_hearing(7, HostEvent::None),
+        note_of_hearing(7, HostEvent::Late(closing)),
         Note::Moved(11),
         note_of_feed(11),
         ON,
@@ -171,7 +172,7 @@ fn notes_of_lost_answer() -> [Note; 22] {
 }
 
 fn steps_with_lost_answer(rt: &impl Abort, alloc: Global, sim: &mut Sim) {
-    for (plain, note) in LOST_ANSWER.iter().zip(&notes_of_lost_answer()) {
+    for (plain, note) in LOST_ANSWER.iter().zip(&notes_of_lost_answer(rt)) {
         tells(rt, sim, event_of(rt, alloc, *plain), *note);
     }
 }

@@ -5,6 +5,7 @@ use Rattle.escpos_command.specs.Digits.{mark_of}
 use Rattle.escpos_command.specs.declared.command.Command.TheVariants as kind
 use Rattle.escpos_host.specs.Machine.{next_mark}
 use Rattle.escpos_host.proofs.Said.{more_said, one_more_said, says_asked, says_heard, says_linked, says_nudged, says_submitted}
+use Rattle.escpos_host.proofs.NoRealTime.{between_requests}
 use Rattle.escpos_host.proofs.laws.says.Goals as goal
 
 pub returns-clause-linked : goal.returns-clause-linked
@@ -39,3 +40,6 @@ returns-clause-heard c = λ h after out said bytes consumed e up heard talks. sa
 
 pub returns-clause-handed_out : goal.returns-clause-handed_out
 returns-clause-handed_out c = λ h out said talks. record { says = talks.says; whole = talks.whole }
+
+pub returns-clause-no_real_time : goal.returns-clause-no_real_time
+returns-clause-no_real_time c = between_requests c.mark_numbers.ensures.ids

@@ -1,7 +1,7 @@
 -- How the first wait of a call ends.
 use Rattle.std.proofs.Common.{[], sym, ◌∙◌, ap, subst, inl}
 use Rattle.std.specs.Io.KnownBytes.{Appends}
-use Rattle.escpos_host.specs.Awaits.{Brought, Silent, Stops, with_out}
+use Rattle.escpos_host.specs.Awaits.{Brought, Silent, with_out}
 use Rattle.escpos_host.specs.Machine.{HostView, gone_down}
 use Rattle.escpos_host.specs.Sends.{IsCut}
 use Rattle.escpos_host.proofs.Sending.{bad_behind, bad_first, cut_first, gone_behind, gone_first, if_err, lost_up, opens_all, silent_first}

@@ -1,9 +1,9 @@
 -- How the second wait of a call ends.
-use Rattle.std.proofs.Common.{◌+◌, [], sym, ◌∙◌, ap, subst, inl}
+use Rattle.std.proofs.Common.{[], sym, ◌∙◌, ap, subst, inl}
 use Rattle.std.specs.Io.KnownBytes.{Appends}
-use Rattle.escpos_host.specs.Awaits.{Brought, Silent, Stops, with_out}
+use Rattle.escpos_host.specs.Awaits.{Brought, Silent, with_out}
 use Rattle.escpos_host.specs.Machine.{HostView, gone_down}
-use Rattle.escpos_host.specs.Sends.{IsCut, opening_bytes}
+use Rattle.escpos_host.specs.Sends.{IsCut}
 use Rattle.escpos_host.proofs.Sending.{bad_second, closes_all, cut_second, gone_second, if_err, lost_up, silent_second}
 use Rattle.escpos_host.proofs.Dialling.{on_err}
 use Rattle.escpos_command.proofs.AnswerReadings.{joined}

@@ -5,13 +5,13 @@ use Rattle.escpos_host.specs.Machine.{Down}
 use Rattle.escpos_host.proofs.send.hear.Given as goal
 
 -- what was heard so far was overlooked, and changed nothing but the half answer
-abbrev pub invariant-loop : goal.invariant-loop
-invariant-loop l = record {
+abbrev pub invariant-loop-heard : goal.invariant-loop-heard
+invariant-loop-heard l = record {
   up : l.fn.host.phase ≢ Down;
   inside : l.taken ≤ length l.bytes;
   overlooked : Overlooked l.fn.host (take l.taken l.bytes) l.host.half;
   same : l.host ≡ with_half l.fn.host l.host.half;
 }
 
-abbrev pub decreases-loop : goal.decreases-loop
-decreases-loop l = length l.bytes - l.taken
+abbrev pub decreases-loop-heard : goal.decreases-loop-heard
+decreases-loop-heard l = length l.bytes - l.taken

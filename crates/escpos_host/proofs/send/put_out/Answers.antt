@@ -3,7 +3,7 @@ use Rattle.std.proofs.Common.{◌≡◌, ◌≤◌, ◌++◌, length, length-tak
 use Rattle.std.specs.Io.KnownBytes.{Appends}
 use Rattle.escpos_host.specs.Awaits.{with_out}
 use Rattle.escpos_host.specs.Machine.{HostView, taken_out}
-use Rattle.escpos_host.proofs.Dialling.{copied_front, is_none, is_some, on_err, put_cut, put_more}
+use Rattle.escpos_host.proofs.Dialling.{copied_front, is_none, is_some, put_cut, put_more}
 use Rattle.escpos_host.proofs.send.put_out.Given as given
 use Rattle.escpos_host.proofs.send.put_out.Goals as goal
 

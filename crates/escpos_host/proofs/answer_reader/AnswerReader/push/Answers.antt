@@ -1,8 +1,8 @@
 -- What came before is a prefix of a mark's answer: a byte continues it, or continues no answer.
 use Rattle.std.proofs.Common.{◌≡◌, ◌∙◌, ◌==◌, [], ◌∷◌, ◌++◌, length, true, false, sym, ap, subst}
 use Rattle.escpos_command.specs.Answers.{HalfAnswer, ViableAnswer}
-use Rattle.escpos_host.specs.AnswerReader.{goes_on}
-use Rattle.escpos_host.proofs.AnswerFronts.{goes_on_half, not_viable}
+use Rattle.escpos_host.specs.AnswerReader.{IsFront, goes_on}
+use Rattle.escpos_host.proofs.AnswerFronts.{longer_half, not_viable}
 use Rattle.escpos_host.proofs.answer_reader.AnswerReader.push.Goals as goal
 use Rattle.escpos_host.proofs.answer_reader.AnswerReader.push.Goals.{else-is_empty-via-then-is_empty+else-is_status_byte, else-is_empty-via-else-is_empty}
 
@@ -21,10 +21,8 @@ returns-then-not-goes_on-clause-refused c = λ e.
 
 pub returns-in-None-clause-half : goal.returns-in-None-clause-half
 returns-in-None-clause-half c = λ e.
-    let h = c.self.inside.bytes.items in
     let b = c.args.byte in
-    let on : goes_on h b ≡ true = ap (λ s. goes_on s b) (sym c.as_slice.ensures.value) ∙ sym c.goes_on.ensures ∙ c.if-not-goes_on.false in
-    let longer = goes_on_half h b c.self.invariant on (λ six. c.in-None.ensures (ap length c.as_slice-2.ensures.value ∙ six)) in (
+    let front = subst (λ s. IsFront (s ++ b ∷ [])) c.as_slice-2.ensures.value c.in-None.ensures in (
       c.push.ensures.items ∙ ap (λ s. s ++ b ∷ []) c.self.view_is,
-      subst HalfAnswer (sym c.push.ensures.items) longer,
+      subst HalfAnswer (sym c.push.ensures.items) (longer_half c.self.inside.bytes.items b front),
     )
