@@ -38,6 +38,9 @@ no_mark id b e = cc e
 no_status : (id : List ℕ) (b : ℕ) → answer.Status b ≡ answer.Mark id → ⊥
 no_status id b e = cc e
 
+no_block : (id block : List ℕ) → answer.Condition block ≡ answer.Mark id → ⊥
+no_block id block e = cc e
+
 open_up : (flight : List InFlight) → Open flight ≡ Down → ⊥
 open_up flight e = cc e
 
@@ -87,7 +90,11 @@ mark_told P h after id at (event.Recorded n) up (inr (q, qs, flight, mark, holds
       holds = subst (λ (v : HostView). P v.records (flight_of v.phase)) (sym same)
           (subst (λ v. P (h.records ++ p.receipt ∷ []) v) (tail_same q p qs ps both) (subst (λ (v : InFlight). P (h.records ++ v.receipt ∷ []) qs) one holds));
     }
+mark_told P h after id at (event.Late late) up (inl (stale, holds)) (first, opening, is, other, same) = unchanged P h after (event.Late late) (λ ends. ends) up same holds
+mark_told P h after id at (event.Late late) up (inr (q, ps, flight, mark, holds)) (first, opening, is, other, same) =
+    absurd (cons_nil q ps (sym (ap flight_of opening) ∙ flight))
 mark_told P h after id at (event.Status b) up popped (is, same) = absurd (no_mark id b is)
+mark_told P h after id at (event.Condition block) up popped (is, same) = absurd (no_block id block (sym is))
 mark_told P h after id at (event.BadAnswer place) up (inl (stale, holds)) (p, ps, other, sending, is, not_first, later, here, same) =
     absurd (stale (subst (λ v. IsClosing (flight_of v) id) (sym sending) (inr (subst (IsClosing ps) (sym (same_mark id other is)) later))))
 mark_told P h after id at (event.BadAnswer place) up (inr (q, qs, flight, mark, holds)) (p, ps, other, sending, is, not_first, later, here, same) =
@@ -100,8 +107,19 @@ status_told : (h after : HostView) (b at : ℕ) (e : HostEvent) → Turns h (ans
 status_told h after b at event.None (ignored, same) = absurd ignored
 status_told h after b at event.Opened (first, id, opening, is, one, same) = absurd (no_status id b is)
 status_told h after b at (event.Recorded n) (p, ps, sending, is, number, same) = absurd (no_status p.mark b is)
+status_told h after b at (event.Late id) (first, opening, is, other, same) = absurd (no_status id b is)
 status_told h after b at (event.Status c) (is, same) = (λ ends. ends, same)
+status_told h after b at (event.Condition block) (is, same) = (λ ends. ends, same)
 status_told h after b at (event.BadAnswer place) (p, ps, id, sending, is, not_first, later, here, same) = absurd (no_status id b is)
+
+block_told : (h after : HostView) (block : List ℕ) (at : ℕ) (e : HostEvent) → Turns h (answer.Condition block) at e after → (EndsLink e → ⊥) × (after ≡ h)
+block_told h after block at event.None (ignored, same) = absurd ignored
+block_told h after block at event.Opened (first, id, opening, is, one, same) = absurd (no_block id block is)
+block_told h after block at (event.Recorded n) (p, ps, sending, is, number, same) = absurd (no_block p.mark block is)
+block_told h after block at (event.Late id) (first, opening, is, other, same) = absurd (no_block id block is)
+block_told h after block at (event.Status c) (is, same) = (λ ends. ends, same)
+block_told h after block at (event.Condition other) (is, same) = (λ ends. ends, same)
+block_told h after block at (event.BadAnswer place) (p, ps, id, sending, is, not_first, later, here, same) = absurd (no_block id block is)
 
 first_is : (a b : ℕ) → Opening a ≡ Opening b → a ≡ b
 first_is a b e = cc e
@@ -116,7 +134,9 @@ older_told of h after id first at event.Opened opening known (also, other, phase
     let begun : also ≡ first = first_is also first (sym phase ∙ opening) in
     absurd (not_opening of first h.next id known (subst (λ v. IsOpeningMark v h.next id) begun (subst (IsOpeningMark also h.next) (sym (same_mark id other is)) one)))
 older_told of h after id first at (event.Recorded n) opening known (p, ps, sending, is, number, same) = absurd (not_open first h.phase (p ∷ ps) opening sending)
+older_told of h after id first at (event.Late late) opening known (also, phase, is, other, same) = (λ ends. ends, same)
 older_told of h after id first at (event.Status b) opening known (is, same) = absurd (no_mark id b is)
+older_told of h after id first at (event.Condition block) opening known (is, same) = (λ ends. ends, same)
 older_told of h after id first at (event.BadAnswer place) opening known (p, ps, other, sending, is, not_first, later, here, same) =
     absurd (not_open first h.phase (p ∷ ps) opening sending)
 
@@ -188,5 +208,7 @@ pub turn_way : (width : ℕ) → OfNumbers → (sheet : Sheet) (half : List ℕ)
     → Turns h a at e after → Turned (InWay width sheet half ended live waiting) h after others e
 turn_way width of sheet half ended live waiting h after (answer.Status b) others at e up w turns =
     let t = status_told h after b at e turns in stays width sheet half ended live waiting h after others e t.0 up t.1 w
+turn_way width of sheet half ended live waiting h after (answer.Condition block) others at e up w turns =
+    let t = block_told h after block at e turns in stays width sheet half ended live waiting h after others e t.0 up t.1 w
 turn_way width of sheet half ended live waiting h after (answer.Mark id) others at e up w turns =
     mark_way width of sheet half ended live waiting h after id others at e up w turns

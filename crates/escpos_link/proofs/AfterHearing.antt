@@ -32,6 +32,8 @@ heard_line_is event.None l consumed host on = refl
 heard_line_is event.Opened l consumed host on = refl
 heard_line_is (event.Recorded n) l consumed host on = refl
 heard_line_is (event.Status b) l consumed host on = refl
+heard_line_is (event.Condition block) l consumed host on = refl
+heard_line_is (event.Late id) l consumed host on = refl
 heard_line_is (event.BadAnswer at) l consumed host on = absurd (on tt)
 
 pub off_line_is : (e : HostEvent) (l : LineView) (consumed : ℕ) (host : HostView) → EndsLink e → heard_to e l consumed host ≡ off_link (with_host l host)
@@ -39,6 +41,8 @@ off_line_is event.None l consumed host ends = absurd ends
 off_line_is event.Opened l consumed host ends = absurd ends
 off_line_is (event.Recorded n) l consumed host ends = absurd ends
 off_line_is (event.Status b) l consumed host ends = absurd ends
+off_line_is (event.Condition block) l consumed host ends = absurd ends
+off_line_is (event.Late id) l consumed host ends = absurd ends
 off_line_is (event.BadAnswer at) l consumed host ends = refl
 
 pub drop-nil : (k : ℕ) (xs : List ℕ) → xs ≡ [] → drop k xs ≡ xs

@@ -141,7 +141,7 @@ asked_way width below paper phase out next records sheet half ended (Some bytes)
 asked_way width below paper phase out next records sheet half ended (Some bytes) pending n is ok (inr w) = absurd (not_opening phase w.first [] is w.opening)
 
 -- Bytes leave the host.
-kept_bytes : (bytes out : List ℕ) (n : ℕ) → bytes ++ out ≡ (bytes ++ take n out) ++ drop n out
+pub kept_bytes : (bytes out : List ℕ) (n : ℕ) → bytes ++ out ≡ (bytes ++ take n out) ++ drop n out
 kept_bytes bytes out n = ap (λ v. bytes ++ v) (sym (take-append-drop n out)) ∙ sym (append_assoc bytes (take n out) (drop n out))
 
 pub moved_way : (width : ℕ) (phase : Phase) (out : List ℕ) (next : ℕ) (records : List (List Command)) (sheet : Sheet) (half : List ℕ) (ended : List (List ℕ))

@@ -12,6 +12,7 @@
 use Rattle.std.proofs.Common.{◌≡◌, ◌≢◌, ◌⊎◌, ◌+◌, inl, inr, ℕ, List, [], ◌∷◌, ◌++◌, refl, sym, ◌∙◌, ap, subst, append-nil, append_assoc, map, IsTrue, length}
 use Rattle.std.proofs.lemmas.Grind.{flat_map-append}
 use Rattle.std.specs.Prelude.{option_to_list}
+use Rattle.std.specs.List.{AllByRecursion}
 use Rattle.escpos_command.specs.declared.command.Command.{Command}
 use Rattle.escpos_command.specs.declared.command.Command.TheVariants as kind
 use Rattle.escpos_command.specs.declared.fault.FaultReason.{FaultReason}
@@ -20,7 +21,7 @@ use Rattle.escpos_command.specs.Grammar.{FaultAt, Half, Reads}
 use Rattle.escpos_command.specs.Laws.{IsRead, IsRefused}
 use Rattle.escpos_command.specs.Marks.{IsMarkOrNone, mark_id, marks}
 use Rattle.escpos_command.specs.Parameters.{is_mark_id}
-use Rattle.escpos_link.specs.Trusted.{IsRest, Known}
+use Rattle.escpos_link.specs.Trusted.{IsKnown, IsRest}
 use Rattle.escpos_link.proofs.Numbers.{OfNumbers}
 
 -- What the layers below say of readings.
@@ -46,12 +47,16 @@ pub marks_of : (ids : List (List ℕ)) → marks (map kind.Mark ids) ≡ ids
 marks_of [] = refl
 marks_of (id ∷ ids) = ap (λ v. id ∷ v) (marks_of ids)
 
-pub id_of_known : OfNumbers → (b : ℕ) (id : List ℕ) (ids : List (List ℕ)) → Known b (id ∷ ids) → IsTrue (is_mark_id id)
-id_of_known of b id ids ((n, less, few, is), more) = subst (λ v. IsTrue (is_mark_id v)) is (of.ids n few)
+-- What is said of ids holds of ids of marks alone.
+abbrev pub OfIds : (List ℕ → Type 0) → Type 0
+OfIds K = (id : List ℕ) → K id → IsTrue (is_mark_id id)
 
-pub commands_of : OfNumbers → (b : ℕ) (ids : List (List ℕ)) → Known b ids → AreCommands (map kind.Mark ids)
-commands_of of b [] k = tt
-commands_of of b (id ∷ ids) k = (id_of_known of b id ids k, commands_of of b ids k.1)
+pub known_ids : OfNumbers → (b : ℕ) → OfIds (IsKnown b)
+known_ids of b id (n, less, few, is) = subst (λ v. IsTrue (is_mark_id v)) is (of.ids n few)
+
+pub commands_of : (K : List ℕ → Type 0) → OfIds K → (ids : List (List ℕ)) → AllByRecursion K ids → AreCommands (map kind.Mark ids)
+commands_of K of [] k = tt
+commands_of K of (id ∷ ids) k = (of id k.0, commands_of K of ids k.1)
 
 pub reads_all : (cs : List Command) → AreCommands cs → Reads (spell cs) cs []
 reads_all cs are = record { commands = are; whole = sym (append-nil (spell cs)); rest_is = inl refl }
@@ -120,10 +125,10 @@ nothing_last (x ∷ a) b e = absurd cc
 -- ## Marks after whatever stood before them
 
 -- What is left when marks were put after a half command, and a part of them was delivered and read so: no mark was read; or
--- what is left of it, and what is still to come, are commands, whose marks are known together with those that were read.
-abbrev pub MayTurn : ℕ → List ℕ → List Command → List ℕ → Type 0
-MayTurn b later cs next =
-    (marks cs ≡ []) ⊎ ((others : List Command) × Reads (next ++ later) others [] × Known b (marks cs ++ marks others))
+-- what is left of it, and what is still to come, are commands, whose marks have such ids together with those that were read.
+abbrev pub MayTurn : (List ℕ → Type 0) → List ℕ → List Command → List ℕ → Type 0
+MayTurn K later cs next =
+    (marks cs ≡ []) ⊎ ((others : List Command) × Reads (next ++ later) others [] × AllByRecursion K (marks cs ++ marks others))
 
 row_begins : (id : List ℕ) → row (kind.Mark id) ≡ [] → ⊥
 row_begins id e = cc
@@ -136,64 +141,64 @@ none_left below h id cs next ok none r =
     (below.one_reading (row (kind.Mark id)) cs (kind.Mark id ∷ []) next [] (subst (λ v. Reads (v ++ row (kind.Mark id)) cs next) none r) one).1
 
 -- A mark was read: the marks after it are read too, as far as they came.
-turned : OfReadings → OfNumbers → (b : ℕ) (id : List ℕ) (ids : List (List ℕ)) (q later : List ℕ) (some cs : List Command) (next : List ℕ) → Known b (id ∷ ids)
-    → some ≡ kind.Mark id ∷ [] → q ++ later ≡ spell (map kind.Mark ids) → Reads q cs next → MayTurn b later (some ++ cs) next
-turned below of b id ids q later some cs next known is spelled reads =
+turned : OfReadings → (K : List ℕ → Type 0) → OfIds K → (id : List ℕ) (ids : List (List ℕ)) (q later : List ℕ) (some cs : List Command) (next : List ℕ) → AllByRecursion K (id ∷ ids)
+    → some ≡ kind.Mark id ∷ [] → q ++ later ≡ spell (map kind.Mark ids) → Reads q cs next → MayTurn K later (some ++ cs) next
+turned below K of id ids q later some cs next known is spelled reads =
     let c = below.cut q later (map kind.Mark ids) cs next
-    (subst (λ v. Reads v (map kind.Mark ids) []) (sym spelled) (reads_all (map kind.Mark ids) (commands_of of b ids known.1))) reads in
+    (subst (λ v. Reads v (map kind.Mark ids) []) (sym spelled) (reads_all (map kind.Mark ids) (commands_of K of ids known.1))) reads in
     let same : marks (some ++ cs) ++ marks c.0 ≡ id ∷ ids =
     ap (λ v. marks (v ++ cs) ++ marks c.0) is ∙ ap (λ v. id ∷ v) (sym (marks_append cs c.0) ∙ ap marks (sym c.1) ∙ marks_of ids) in
-    inr (c.0, c.2, subst (Known b) (sym same) known)
+    inr (c.0, c.2, subst (AllByRecursion K) (sym same) known)
 
 -- A prefix of the first mark came, perhaps all of it.
-front_came : OfReadings → OfNumbers → (b : ℕ) (id : List ℕ) (ids : List (List ℕ)) (h q y later : List ℕ) (cs : List Command) (next : List ℕ) → IsRest h
-    → Known b (id ∷ ids) → row (kind.Mark id) ≡ q ++ y → later ≡ y ++ spell (map kind.Mark ids) → Reads (h ++ q) cs next → MayTurn b later cs next
-front_came below of b id ids h [] y later cs next rest known is after reads = inl (ap marks (none_read below h [] cs next rest refl reads))
-front_came below of b id ids h (x ∷ q) y later cs next rest known is after reads =
-    let ok = id_of_known of b id ids known in
+front_came : OfReadings → (K : List ℕ → Type 0) → OfIds K → (id : List ℕ) (ids : List (List ℕ)) (h q y later : List ℕ) (cs : List Command) (next : List ℕ) → IsRest h
+    → AllByRecursion K (id ∷ ids) → row (kind.Mark id) ≡ q ++ y → later ≡ y ++ spell (map kind.Mark ids) → Reads (h ++ q) cs next → MayTurn K later cs next
+front_came below K of id ids h [] y later cs next rest known is after reads = inl (ap marks (none_read below h [] cs next rest refl reads))
+front_came below K of id ids h (x ∷ q) y later cs next rest known is after reads =
+    let ok = of id known.0 in
     elim ((below.resynchronisation h (x ∷ q) y id cs next rest ok (λ e. cc e) is reads).none_else) [
       | inl none ↦ inl none
       | inr (first, whole, one) ↦
           let all : row (kind.Mark id) ≡ x ∷ q = is ∙ ap (λ v. (x ∷ q) ++ v) whole ∙ append-nil (x ∷ q) in
           let left = none_left below h id cs next ok first (subst (λ v. Reads (h ++ v) cs next) (sym all) reads) in
           let nothing : Reads [] [] next = subst (λ v. Reads [] [] v) (sym left) (record { commands = tt; whole = refl; rest_is = inl refl }) in
-          subst (λ v. MayTurn b later v next) (append-nil cs)
-          (turned below of b id ids [] later cs [] next known one (after ∙ ap (λ v. v ++ spell (map kind.Mark ids)) whole) nothing)
+          subst (λ v. MayTurn K later v next) (append-nil cs)
+          (turned below K of id ids [] later cs [] next known one (after ∙ ap (λ v. v ++ spell (map kind.Mark ids)) whole) nothing)
     ]
 
 -- What holds for these marks, whatever stood before them.
-abbrev Behind : ℕ → List (List ℕ) → Type 0
-Behind b ids = (h q later : List ℕ) (cs : List Command) (next : List ℕ) → IsRest h → q ++ later ≡ spell (map kind.Mark ids) → Reads (h ++ q) cs next
-    → MayTurn b later cs next
+abbrev Behind : (List ℕ → Type 0) → List (List ℕ) → Type 0
+Behind K ids = (h q later : List ℕ) (cs : List Command) (next : List ℕ) → IsRest h → q ++ later ≡ spell (map kind.Mark ids) → Reads (h ++ q) cs next
+    → MayTurn K later cs next
 
 -- All of the first mark came, and more.
-all_came : OfReadings → OfNumbers → (b : ℕ) (id : List ℕ) (ids : List (List ℕ)) (h q y later : List ℕ) (cs : List Command) (next : List ℕ) → IsRest h
-    → Known b (id ∷ ids) → q ≡ row (kind.Mark id) ++ y → spell (map kind.Mark ids) ≡ y ++ later → IsCut (h ++ row (kind.Mark id)) y cs next
-    → Behind b ids → MayTurn b later cs next
-all_came below of b id ids h q y later cs next rest known is after c behind =
-    let ok = id_of_known of b id ids known in
+all_came : OfReadings → (K : List ℕ → Type 0) → OfIds K → (id : List ℕ) (ids : List (List ℕ)) (h q y later : List ℕ) (cs : List Command) (next : List ℕ) → IsRest h
+    → AllByRecursion K (id ∷ ids) → q ≡ row (kind.Mark id) ++ y → spell (map kind.Mark ids) ≡ y ++ later → IsCut (h ++ row (kind.Mark id)) y cs next
+    → Behind K ids → MayTurn K later cs next
+all_came below K of id ids h q y later cs next rest known is after c behind =
+    let ok = of id known.0 in
     let one = below.resynchronisation h (row (kind.Mark id)) [] id c.some c.mid rest ok (row_begins id) (sym (append-nil (row (kind.Mark id)))) c.reads in
-    subst (λ v. MayTurn b later v next) (sym c.all)
+    subst (λ v. MayTurn K later v next) (sym c.all)
     (elim one.none_else [
       | inl none ↦ elim (behind c.mid y later c.others next c.reads.rest_is (sym after) c.goes) [
         | inl also ↦ inl (marks_append c.some c.others ∙ ap (λ v. v ++ marks c.others) none ∙ also)
         | inr (others, goes, ks) ↦
-            inr (others, goes, subst (λ v. Known b (v ++ marks others)) (sym (marks_append c.some c.others ∙ ap (λ v. v ++ marks c.others) none)) ks)
+            inr (others, goes, subst (λ v. AllByRecursion K (v ++ marks others)) (sym (marks_append c.some c.others ∙ ap (λ v. v ++ marks c.others) none)) ks)
       ]
       | inr (first, whole, mark) ↦
           let left = none_left below h id c.some c.mid ok first c.reads in
-          turned below of b id ids y later c.some c.others next known mark (sym after) (subst (λ v. Reads (v ++ y) c.others next) left c.goes)
+          turned below K of id ids y later c.some c.others next known mark (sym after) (subst (λ v. Reads (v ++ y) c.others next) left c.goes)
     ])
 
-pub may_turn : OfReadings → OfNumbers → (b : ℕ) (ids : List (List ℕ)) → Known b ids → Behind b ids
-may_turn below of b [] known h q later cs next rest spelled reads =
+pub may_turn : OfReadings → (K : List ℕ → Type 0) → OfIds K → (ids : List (List ℕ)) → AllByRecursion K ids → Behind K ids
+may_turn below K of [] known h q later cs next rest spelled reads =
     inl (ap marks (none_read below h q cs next rest (nothing_first q later spelled) reads))
-may_turn below of b (id ∷ ids) known h q later cs next rest spelled reads =
+may_turn below K of (id ∷ ids) known h q later cs next rest spelled reads =
     elim (fronts q later (row (kind.Mark id)) (spell (map kind.Mark ids)) spelled) [
-      | inl (y, is, after) ↦ front_came below of b id ids h q y later cs next rest known is after reads
+      | inl (y, is, after) ↦ front_came below K of id ids h q y later cs next rest known is after reads
       | inr (y, is, after) ↦
           let whole = subst (λ v. Reads v cs next) (ap (λ v. h ++ v) is ∙ sym (append_assoc h (row (kind.Mark id)) y)) reads in
-          all_came below of b id ids h q y later cs next rest known is after
+          all_came below K of id ids h q y later cs next rest known is after
           (cut_reading below (h ++ row (kind.Mark id)) y cs next whole (below.read_or_refused (h ++ row (kind.Mark id))))
-          (λ mid more still others last left spelling goes. may_turn below of b ids known.1 mid more still others last left spelling goes)
+          (λ mid more still others last left spelling goes. may_turn below K of ids known.1 mid more still others last left spelling goes)
     ]

@@ -46,6 +46,8 @@ told_on heard.None consumed on = refl
 told_on heard.Opened consumed on = refl
 told_on (heard.Recorded number) consumed on = refl
 told_on (heard.Status byte) consumed on = refl
+told_on (heard.Condition block) consumed on = refl
+told_on (heard.Late id) consumed on = refl
 told_on (heard.BadAnswer at) consumed on = absurd (on tt)
 
 pub told_bad : (e : HostEvent) (consumed : ℕ) → EndsLink e → (at : ℕ) × (note.Heard consumed (told_at e consumed) ≡ note.Heard consumed (heard.BadAnswer at))
@@ -53,6 +55,8 @@ told_bad heard.None consumed ends = absurd ends
 told_bad heard.Opened consumed ends = absurd ends
 told_bad (heard.Recorded number) consumed ends = absurd ends
 told_bad (heard.Status byte) consumed ends = absurd ends
+told_bad (heard.Condition block) consumed ends = absurd ends
+told_bad (heard.Late id) consumed ends = absurd ends
 told_bad (heard.BadAnswer at) consumed ends = (consumed, refl)
 
 pub heard_on : (h after : HostView) (w : WireView) (most consumed : ℕ) (events : List HostEvent) → HearsAll h (take most w.coming) events consumed after → (EndsLink (last_of events) → ⊥)

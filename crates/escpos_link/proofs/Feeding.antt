@@ -9,8 +9,8 @@ use Rattle.escpos_paper.specs.Printed.{printed}
 use Rattle.escpos_host.specs.Machine.{Phase, Down, Opening}
 use Rattle.escpos_link.specs.EventTable.{ended_fed, first_of, live_fed}
 use Rattle.escpos_link.specs.Stands.{Stands}
-use Rattle.escpos_link.specs.Trusted.{Course, IsRest, Known, Newest, Owed, ServedLink, Way, flight_of}
-use Rattle.escpos_link.proofs.Aligning.{OfReadings, none_read}
+use Rattle.escpos_link.specs.Trusted.{Course, IsKnown, IsRest, Known, Newest, Owed, ServedLink, Way, flight_of}
+use Rattle.escpos_link.proofs.Aligning.{OfReadings, known_ids, none_read}
 use Rattle.escpos_link.proofs.Claiming.{OfPaper, course_run, more_printed, rested}
 use Rattle.escpos_link.proofs.Leaving.{items_are}
 use Rattle.escpos_link.proofs.Links.{StillOrTurned, served_on, unread_on}
@@ -27,7 +27,7 @@ none_taken : (n : ℕ) (xs : List ℕ) → xs ≡ [] → take n xs ≡ []
 none_taken zero xs none = refl
 none_taken (suc n) xs none = ap (take (suc n)) none
 
-none_fed : (k n : ℕ) (xs : List ℕ) → xs ≡ [] → take k (take n xs) ≡ []
+pub none_fed : (k n : ℕ) (xs : List ℕ) → xs ≡ [] → take k (take n xs) ≡ []
 none_fed k n xs none = none_taken k (take n xs) (none_taken n xs none)
 
 -- What the printer read, and what it has on its paper then.
@@ -39,7 +39,7 @@ pub record Read (width : ℕ) (sheet after : Sheet) (half rest bytes : List ℕ)
   pub was : IsRest half
   pub reads : Reads (half ++ bytes) cs rest
 
-still_stands : (width : ℕ) → OfPaper → (records : List (List Command)) (sheet after : Sheet) (half rest bytes : List ℕ) (cs : List Command) → Read width sheet after half rest bytes cs
+pub still_stands : (width : ℕ) → OfPaper → (records : List (List Command)) (sheet after : Sheet) (half rest bytes : List ℕ) (cs : List Command) → Read width sheet after half rest bytes cs
     → Stands width records sheet.items → Stands width records after.items
 still_stands width paper records sheet after half rest bytes cs r s =
     subst (Stands width records) (sym (items_are width after r.kept (r.ran ++ cs) (r.page r.kept r.ran r.before)))
@@ -56,7 +56,7 @@ none_pending pending cs none = ap (λ v. pending ++ marks v) none ∙ append-nil
 -- A mark of the live link may be run.
 turns_way : (width : ℕ) → OfReadings → OfNumbers → OfPaper → (phase : Phase) (out : List ℕ) (next first : ℕ) (records : List (List Command)) (sheet after : Sheet)
     (half rest bytes left : List ℕ) (pending : List (List ℕ)) (cs : List Command) → phase ≡ Opening first → first ≤ next → Stands width records sheet.items
-    → Known first pending → Read width sheet after half rest bytes cs → StillOrTurned next rest (left ++ out) cs
+    → Known first pending → Read width sheet after half rest bytes cs → StillOrTurned (IsKnown next) rest (left ++ out) cs
     → Way width phase out next records after rest [] (Some left) (pending ++ marks cs)
 turns_way width below of paper phase out next first records sheet after half rest bytes left pending cs opening within stands known r (inl (none, u)) = inr (record {
   first = first;
@@ -125,7 +125,7 @@ fed_way width below of paper phase out next records sheet after half rest [] (So
     let piece = take k (take n bytes) in
     let all : bytes ++ out ≡ piece ++ (drop k bytes ++ out) = ap (λ v. v ++ out) (sym (fed_split k n bytes few)) ∙ append_assoc piece (drop k bytes) out in
     turns_way width below of paper phase out next w.first records sheet after half rest piece (drop k bytes) pending cs w.opening w.within w.stands w.known r
-    (unread_on below of next half piece (drop k bytes ++ out) rest cs (subst (Newest next half []) all w.newest) r.reads)
+    (unread_on below (IsKnown next) (known_ids of next) half piece (drop k bytes ++ out) rest cs (subst (Newest next half []) all w.newest) r.reads)
 fed_way width below of paper phase out next records sheet after half rest (bytes ∷ others) None pending k n cs few r (inl w) = absurd (cc w.only)
 fed_way width below of paper phase out next records sheet after half rest (bytes ∷ others) None pending k n cs few r (inr w) =
     let piece = take k (take n bytes) in

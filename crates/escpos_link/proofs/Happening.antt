@@ -63,7 +63,8 @@ kept below event.PrinterRestart l after n sound i (printer, done, restart, same)
 kept below event.HostDrops l after n sound i (done, same) = subst IsLine (sym same) (drop_kept l i sound)
 kept below (event.HostRestart f) l after n sound i (done, least, same) = subst IsLine (sym same) (off_link_kept l (restarted l.host f) i refl refl)
 kept below (event.SetCondition condition) l after n sound i (done, same) =
-    subst IsLine (sym same) (with_printer_kept l (conditioned l.printer condition) i i.fitting)
+    subst IsLine (sym same)
+    (with_printer_kept l (conditioned l.printer condition) i (below.fitting.change l.printer.automatic l.printer.condition condition l.printer.waiting i.fitting))
 
 -- A refusal leaves the line as it was, or as after fewer bytes.
 pub left_kept : Below → (e : Event) (l after : LineView) → IsSound l.host → IsLine l → Leaves e l after → IsLine after

@@ -44,6 +44,8 @@ on_goes event.None other ends = ends
 on_goes event.Opened other ends = ends
 on_goes (event.Recorded n) other ends = ends
 on_goes (event.Status b) other ends = ends
+on_goes (event.Condition block) other ends = ends
+on_goes (event.Late id) other ends = ends
 on_goes (event.BadAnswer at) other ends = other at refl
 
 -- One more event.
@@ -75,6 +77,8 @@ told_same event.None consumed on = refl
 told_same event.Opened consumed on = refl
 told_same (event.Recorded n) consumed on = refl
 told_same (event.Status b) consumed on = refl
+told_same (event.Condition block) consumed on = refl
+told_same (event.Late id) consumed on = refl
 told_same (event.BadAnswer at) consumed on = absurd (on tt)
 
 -- The rest of the piece passed.
@@ -101,6 +105,8 @@ told_ends event.None consumed at bad = cc bad
 told_ends event.Opened consumed at bad = cc bad
 told_ends (event.Recorded n) consumed at bad = cc bad
 told_ends (event.Status b) consumed at bad = cc bad
+told_ends (event.Condition block) consumed at bad = cc bad
+told_ends (event.Late id) consumed at bad = cc bad
 told_ends (event.BadAnswer place) consumed at bad = tt
 
 pub ends_told : (e : HostEvent) (consumed : ℕ) → EndsLink e → (at : ℕ) × (told_at e consumed ≡ event.BadAnswer at)
@@ -108,4 +114,6 @@ ends_told event.None consumed ends = absurd ends
 ends_told event.Opened consumed ends = absurd ends
 ends_told (event.Recorded n) consumed ends = absurd ends
 ends_told (event.Status b) consumed ends = absurd ends
+ends_told (event.Condition block) consumed ends = absurd ends
+ends_told (event.Late id) consumed ends = absurd ends
 ends_told (event.BadAnswer place) consumed ends = (consumed, refl)

@@ -10,7 +10,8 @@ use Rattle.escpos_printer.specs.declared.condition.Condition.{Condition}
 use Rattle.escpos_printer.specs.declared.printer.FeedStop.{FeedStop}
 use Rattle.escpos_printer.specs.declared.printer.FeedStop.TheVariants as stop
 use Rattle.escpos_printer.specs.Feeds.{PrinterView, Feeds}
-use Rattle.escpos_printer.specs.Replies.{replies}
+use Rattle.escpos_printer.specs.Blocks.{with_one_block}
+use Rattle.escpos_printer.specs.Replies.{after_change, replies}
 use Rattle.escpos_host.specs.Machine.{HostView, IsSound, Phase, Down, Opening, Open}
 use Rattle.escpos_link.specs.EventTable.{answers_left, delivered, ended_fed, hung_up, left_by, live_fed, live_left, moved, off_link, on_its_way, linked_up, with_host, with_printer, without_first}
 use Rattle.escpos_link.specs.Line.{IsLine, LineView}
@@ -137,9 +138,11 @@ left_by_kept stop.Offline l i = i
 left_by_kept (stop.Fault at why) l i = without_first_kept l i
 left_by_kept stop.Memory l i = i
 
--- Answers to commands are answers that a host knows.
-abbrev pub Fitting : Type 0
-Fitting = (condition : Condition) (cs : List Command) → AreCommands cs → AreAnswers (replies condition cs)
+-- Answers to commands are answers that a host knows, and so is what waits of answers, and once the sensors say something new.
+pub record Fitting : Type 0 where
+  pub replies : (condition : Condition) (cs : List Command) → AreCommands cs → AreAnswers (replies condition cs)
+  pub one_block : (answers : List Answer) → AreAnswers answers → AreAnswers (with_one_block answers)
+  pub change : (automatic : ℕ) (old new : Condition) (waiting : List Answer) → AreAnswers waiting → AreAnswers (after_change automatic old new waiting)
 
 all_append : (some others : List Answer) → AreAnswers some → AreAnswers others → AreAnswers (some ++ others)
 all_append [] others h k = k
@@ -148,8 +151,10 @@ all_append (a ∷ some) others h k = (h.0, all_append some others h.1 k)
 pub fed_answers : Fitting → (before after : PrinterView) (piece : List ℕ) (k : ℕ) (why : FeedStop) → AreAnswers before.waiting → Feeds before piece k why after
     → AreAnswers after.waiting
 fed_answers fitting before after piece k why answers f =
-    let same : after.waiting ≡ before.waiting ++ replies before.condition f.commands = ap (λ (p : PrinterView). p.waiting) f.leaves ∙ f.took.answers in
-    subst AreAnswers (sym same) (all_append before.waiting (replies before.condition f.commands) answers (fitting before.condition f.commands f.took.ran.reads.commands))
+    let same : after.waiting ≡ with_one_block (before.waiting ++ replies before.condition f.commands) = ap (λ (p : PrinterView). p.waiting) f.leaves ∙ f.took.answers in
+    subst AreAnswers (sym same)
+    (fitting.one_block (before.waiting ++ replies before.condition f.commands)
+    (all_append before.waiting (replies before.condition f.commands) answers (fitting.replies before.condition f.commands f.took.ran.reads.commands)))
 
 -- ## Answers on their way
 

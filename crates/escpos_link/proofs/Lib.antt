@@ -17,4 +17,7 @@ pub mod AfterPutting
 pub mod Feeding
 pub mod AfterAnswers
 pub mod Trusting
+pub mod Promises
+pub mod Promising
+pub mod PromisedEvents
 pub mod AtTheEnd

@@ -7,25 +7,25 @@ use Rattle.escpos_command.specs.declared.command.Command.TheVariants as kind
 use Rattle.escpos_command.specs.CommandTable.{AreCommands, row, spell}
 use Rattle.escpos_command.specs.Grammar.{Reads}
 use Rattle.escpos_command.specs.Marks.{marks}
-use Rattle.escpos_link.specs.Trusted.{Fresh, GivenUp, IsKnown, IsRest, Known, Late, Newest, ServedLink, Unread}
-use Rattle.escpos_link.proofs.Aligning.{OfReadings, marks_append, may_turn, reads_all}
-use Rattle.escpos_link.proofs.Numbers.{OfNumbers, known_back, known_front, known_join, known_more}
+use Rattle.escpos_link.specs.Trusted.{Fresh, FreshOf, GivenUp, IsKnown, IsRest, Known, Late, LateOf, Newest, ServedLink, Unread, UnreadOf}
+use Rattle.escpos_link.proofs.Aligning.{OfIds, OfReadings, known_ids, marks_append, may_turn, reads_all}
+use Rattle.escpos_link.proofs.Numbers.{OfNumbers, known_back, known_front, known_more}
 
 -- ## A part is delivered
 
-abbrev pub StillOrTurned : ℕ → List ℕ → List ℕ → List Command → Type 0
-StillOrTurned b next stream cs =
-    ((marks cs ≡ []) × Unread b next stream) ⊎ ((others : List Command) × Reads (next ++ stream) others [] × Known b (marks cs ++ marks others))
+abbrev pub StillOrTurned : (List ℕ → Type 0) → List ℕ → List ℕ → List Command → Type 0
+StillOrTurned K next stream cs =
+    ((marks cs ≡ []) × UnreadOf K next stream) ⊎ ((others : List Command) × Reads (next ++ stream) others [] × AllByRecursion K (marks cs ++ marks others))
 
-pub unread_on : OfReadings → OfNumbers → (b : ℕ) (half piece stream next : List ℕ) (cs : List Command) → Unread b half (piece ++ stream) → Reads (half ++ piece) cs next
-    → StillOrTurned b next stream cs
-unread_on below of b half piece stream next cs u reads =
+pub unread_on : OfReadings → (K : List ℕ → Type 0) → OfIds K → (half piece stream next : List ℕ) (cs : List Command) → UnreadOf K half (piece ++ stream) → Reads (half ++ piece) cs next
+    → StillOrTurned K next stream cs
+unread_on below K of half piece stream next cs u reads =
     let all = u.delivered ++ piece in
     let spelled : all ++ stream ≡ spell (map kind.Mark u.ids) = append_assoc u.delivered piece stream ∙ u.spelled in
     let whole = subst (λ v. Reads v (u.commands ++ cs) next) (append_assoc u.older u.delivered piece)
     (below.reading (u.older ++ u.delivered) piece u.commands cs half next u.reads reads) in
     let both : marks (u.commands ++ cs) ≡ marks cs = marks_append u.commands cs ∙ ap (λ v. v ++ marks cs) u.no_mark in
-    elim (may_turn below of b u.ids u.known u.older all stream (u.commands ++ cs) next u.pending spelled whole) [
+    elim (may_turn below K of u.ids u.known u.older all stream (u.commands ++ cs) next u.pending spelled whole) [
       | inl none ↦ inl (
         sym both ∙ none,
         record {
@@ -40,10 +40,10 @@ unread_on below of b half piece stream next cs u reads =
           no_mark = none;
         },
       )
-      | inr (others, goes, known) ↦ inr (others, goes, subst (λ v. Known b (v ++ marks others)) both known)
+      | inr (others, goes, known) ↦ inr (others, goes, subst (λ v. AllByRecursion K (v ++ marks others)) both known)
     ]
 
-served_unread : OfReadings → OfNumbers → (b : ℕ) (half piece bytes more next : List ℕ) (cs : List Command) → StillOrTurned b next (bytes ++ more) cs
+served_unread : OfReadings → OfNumbers → (b : ℕ) (half piece bytes more next : List ℕ) (cs : List Command) → StillOrTurned (IsKnown b) next (bytes ++ more) cs
     → ServedLink b next bytes × Known b (marks cs)
 served_unread below of b half piece bytes more next cs (inl (none, u)) = ((more, inl u), subst (Known b) (sym none) tt)
 served_unread below of b half piece bytes more next cs (inr (others, goes, known)) =
@@ -53,7 +53,7 @@ pub served_on : OfReadings → OfNumbers → (b : ℕ) (half piece bytes next : 
     → ServedLink b next bytes × Known b (marks cs)
 served_on below of b half piece bytes next cs (more, inl u) reads =
     served_unread below of b half piece bytes more next cs
-    (unread_on below of b half piece (bytes ++ more) next cs (subst (Unread b half) (append_assoc piece bytes more) u) reads)
+    (unread_on below (IsKnown b) (known_ids of b) half piece (bytes ++ more) next cs (subst (Unread b half) (append_assoc piece bytes more) u) reads)
 served_on below of b half piece bytes next cs (more, inr i) reads =
     let all : half ++ ((piece ++ bytes) ++ more) ≡ (half ++ piece) ++ (bytes ++ more) =
     ap (λ v. half ++ v) (append_assoc piece bytes more) ∙ sym (append_assoc half piece (bytes ++ more)) in
@@ -63,8 +63,8 @@ served_on below of b half piece bytes next cs (more, inr i) reads =
 
 -- ## The printer comes to a link
 
-pub fresh_unread : (b : ℕ) (half stream : List ℕ) → IsRest half → Fresh b stream → Unread b half stream
-fresh_unread b half stream rest (ids, known, is) = record {
+pub fresh_unread : (K : List ℕ → Type 0) (half stream : List ℕ) → IsRest half → FreshOf K stream → UnreadOf K half stream
+fresh_unread K half stream rest (ids, known, is) = record {
   older = half;
   delivered = [];
   ids = ids;
@@ -78,10 +78,10 @@ fresh_unread b half stream rest (ids, known, is) = record {
 
 pub given_next : (b : ℕ) (half : List ℕ) (others : List (List ℕ)) → IsRest half → AllByRecursion (Late b) others → GivenUp b half others
 given_next b half [] rest late = tt
-given_next b half (bytes ∷ others) rest ((more, fresh), late) = ((more, inl (fresh_unread b half (bytes ++ more) rest fresh)), late)
+given_next b half (bytes ∷ others) rest ((more, fresh), late) = ((more, inl (fresh_unread (IsKnown b) half (bytes ++ more) rest fresh)), late)
 
 pub newest_next : (b : ℕ) (half : List ℕ) (others : List (List ℕ)) (stream : List ℕ) → IsRest half → Fresh b stream → Newest b half others stream
-newest_next b half [] stream rest fresh = fresh_unread b half stream rest fresh
+newest_next b half [] stream rest fresh = fresh_unread (IsKnown b) half stream rest fresh
 newest_next b half (bytes ∷ others) stream rest fresh = fresh
 
 -- ## A greater bound
@@ -117,15 +117,15 @@ given_more b c half (bytes ∷ others) more (served, late) = (served_more b c ha
 
 -- ## The host gives a link up
 
-late_add : (b : ℕ) (others : List (List ℕ)) (bytes : List ℕ) → AllByRecursion (Late b) others → Late b bytes → AllByRecursion (Late b) (others ++ bytes ∷ [])
-late_add b [] bytes late one = (one, tt)
-late_add b (x ∷ others) bytes late one = (late.0, late_add b others bytes late.1 one)
+pub late_add : (K : List ℕ → Type 0) (others : List (List ℕ)) (bytes : List ℕ) → AllByRecursion (LateOf K) others → LateOf K bytes → AllByRecursion (LateOf K) (others ++ bytes ∷ [])
+late_add K [] bytes late one = (one, tt)
+late_add K (x ∷ others) bytes late one = (late.0, late_add K others bytes late.1 one)
 
 pub given_add : (first b : ℕ) (half : List ℕ) (ended : List (List ℕ)) (bytes out : List ℕ) → first ≤ b → GivenUp first half ended → Newest b half ended (bytes ++ out)
     → GivenUp b half (ended ++ bytes ∷ [])
 given_add first b half [] bytes out more given newest = ((out, inl newest), tt)
 given_add first b half (x ∷ others) bytes out more (served, late) newest =
-    (served_more first b half x more served, late_add b others bytes (late_more first b others more late) (out, newest))
+    (served_more first b half x more served, late_add (IsKnown b) others bytes (late_more first b others more late) (out, newest))
 
 -- ## One more mark
 
@@ -134,24 +134,30 @@ spell_add [] id = sym (append-nil (row (kind.Mark id)))
 spell_add (x ∷ ids) id =
     append_assoc (row (kind.Mark x)) (spell (map kind.Mark ids)) (row (kind.Mark id)) ∙ ap (λ v. row (kind.Mark x) ++ v) (spell_add ids id)
 
-known_add : (b c : ℕ) (ids : List (List ℕ)) (id : List ℕ) → b ≤ c → IsKnown c id → Known b ids → Known c (ids ++ id ∷ [])
-known_add b c ids id more one known = known_join c ids (id ∷ []) (known_more b c ids more known) (one, tt)
+all_add : (K : List ℕ → Type 0) (ids : List (List ℕ)) (id : List ℕ) → K id → AllByRecursion K ids → AllByRecursion K (ids ++ id ∷ [])
+all_add K [] id one all = (one, tt)
+all_add K (x ∷ ids) id one all = (all.0, all_add K ids id one all.1)
 
-pub newest_add : (b c : ℕ) (half : List ℕ) (ended : List (List ℕ)) (stream id : List ℕ) → b ≤ c → IsKnown c id → Newest b half ended stream
-    → Newest c half ended (stream ++ row (kind.Mark id))
-newest_add b c half [] stream id more one u = record {
+pub unread_add : (K : List ℕ → Type 0) (half stream id : List ℕ) → K id → UnreadOf K half stream → UnreadOf K half (stream ++ row (kind.Mark id))
+unread_add K half stream id one u = record {
   older = u.older;
   delivered = u.delivered;
   ids = u.ids ++ id ∷ [];
   commands = u.commands;
   pending = u.pending;
-  known = known_add b c u.ids id more one u.known;
+  known = all_add K u.ids id one u.known;
   spelled = sym (append_assoc u.delivered stream (row (kind.Mark id))) ∙ ap (λ v. v ++ row (kind.Mark id)) u.spelled ∙ spell_add u.ids id;
   reads = u.reads;
   no_mark = u.no_mark;
 }
-newest_add b c half (bytes ∷ others) stream id more one (ids, known, is) =
-    (ids ++ id ∷ [], known_add b c ids id more one known, ap (λ v. v ++ row (kind.Mark id)) is ∙ spell_add ids id)
+
+pub fresh_add : (K : List ℕ → Type 0) (stream id : List ℕ) → K id → FreshOf K stream → FreshOf K (stream ++ row (kind.Mark id))
+fresh_add K stream id one (ids, known, is) = (ids ++ id ∷ [], all_add K ids id one known, ap (λ v. v ++ row (kind.Mark id)) is ∙ spell_add ids id)
+
+pub newest_add : (b c : ℕ) (half : List ℕ) (ended : List (List ℕ)) (stream id : List ℕ) → b ≤ c → IsKnown c id → Newest b half ended stream
+    → Newest c half ended (stream ++ row (kind.Mark id))
+newest_add b c half [] stream id more one u = unread_add (IsKnown c) half stream id one (unread_more b c half stream more u)
+newest_add b c half (bytes ∷ others) stream id more one fresh = fresh_add (IsKnown c) stream id one (fresh_more b c stream more fresh)
 
 pub newest_first : (c : ℕ) (half : List ℕ) (ended : List (List ℕ)) (id : List ℕ) → IsRest half → IsKnown c id → Newest c half ended (row (kind.Mark id))
 newest_first c half ended id rest one = newest_next c half ended (row (kind.Mark id)) rest (id ∷ [], (one, tt), sym (append-nil (row (kind.Mark id))))

@@ -180,6 +180,8 @@ after_hearing l after k consumed told host events hears is_told other same =
     no_end event.Opened is ends = ends
     no_end (event.Recorded n) is ends = ends
     no_end (event.Status b) is ends = ends
+    no_end (event.Condition block) is ends = ends
+    no_end (event.Late id) is ends = ends
     no_end (event.BadAnswer at) is ends = other consumed is
 
 pub after_bad_answer : (l after : LineView) (k consumed at : ℕ) (told : HostEvent) (host : HostView) (events : List HostEvent) → HearsAll l.host (take k l.coming) events consumed host

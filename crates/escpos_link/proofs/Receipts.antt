@@ -1,5 +1,5 @@
 -- A receipt that goes over a line on which nothing is under way: the line once it is open, and once the receipt is recorded.
-use Rattle.std.proofs.Common.{◌≡◌, ◌≢◌, ◌⊎◌, ◌<◌, ◌≤◌, ◌+◌, inl, inr, ℕ, List, [], ◌∷◌, ◌++◌, true, false, length, refl, sym, ◌∙◌, ap, subst, append-nil, append_assoc, length-append, arith, Option, Some, None}
+use Rattle.std.proofs.Common.{◌≡◌, ◌≢◌, ◌⊎◌, ◌<◌, ◌≤◌, ◌+◌, inl, inr, ℕ, List, [], ◌∷◌, ◌++◌, true, false, length, refl, sym, ◌∙◌, ap, subst, append-nil, append_assoc, arith, Option, Some, None}
 use Rattle.std.specs.List.{AllByRecursion}
 use Rattle.std.proofs.lemmas.Grind.{flat_map-append}
 use Rattle.escpos_command.specs.declared.answer.Answer.TheVariants as answer
@@ -13,6 +13,7 @@ use Rattle.escpos_paper.specs.Page.{Sheet, SheetIs}
 use Rattle.escpos_paper.specs.Printed.{printed}
 use Rattle.escpos_printer.specs.declared.condition.Condition.{Condition}
 use Rattle.escpos_printer.specs.Feeds.{PassesOffline, PrinterView, Took}
+use Rattle.escpos_printer.specs.Blocks.{most_waiting, others}
 use Rattle.escpos_printer.specs.ReadyFor.{IsReadyFor}
 use Rattle.escpos_printer.specs.Replies.{is_offline, replies, reply}
 use Rattle.escpos_host.specs.declared.host.HostEvent.TheVariants as heard
@@ -40,6 +41,7 @@ online_passes condition (c ∷ cs) online = (λ offline. let bad : true ≡ fals
 unanswered : (condition : Condition) (c : Command) → is_forbidden c ≡ false → reply condition c ≡ []
 unanswered condition (kind.Status n) allowed = let bad : true ≡ false = allowed in absurd cc
 unanswered condition (kind.Mark id) allowed = let bad : true ≡ false = allowed in absurd cc
+unanswered condition (kind.AutomaticStatus n) allowed = let bad : true ≡ false = allowed in absurd cc
 unanswered condition _ allowed = refl
 
 later_follow : (c : Command) (cs : List Command) → ((before : List Command) (d : Command) (following : List Command) → c ∷ cs ≡ before ++ d ∷ following → is_forbidden d ≡ false)
@@ -75,7 +77,7 @@ mark_ready laws p n few half none online = record {
   none = half;
   commands = (laws.ids n few, tt);
   passes = online_passes p.condition (kind.Mark (mark_of n) ∷ []) online;
-  room = omega (arith, ap length none, length-append p.waiting (answer.Mark (mark_of n) ∷ []));
+  room = subst (λ waiting. length (others (waiting ++ answer.Mark (mark_of n) ∷ [])) ≤ most_waiting) (sym none) (omega arith);
 }
 
 opening_loaded : Laws → (h : HostView) (p : PrinterView) → h.next < mark_count → p.half ≡ [] → p.waiting ≡ [] → is_offline p.condition ≡ false
@@ -94,10 +96,15 @@ opening_loaded laws h p few half none online = record {
 }
 
 opening_expects : (h : HostView) → h.next < mark_count → Expects (emptied (linked h)) (mark_of h.next) (opened_host (emptied (linked h)))
-opening_expects h few at heard.None after (ignores, same) = absurd (ignores (h.next, omega arith, omega arith, few, refl))
+opening_expects h few at heard.None after (ignores, same) = absurd ignores
 opening_expects h few at heard.Opened after (first, id, phase, is, opening, same) = (λ ends. ends, same)
 opening_expects h few at (heard.Recorded n) after (p, ps, phase, is, number, same) = let bad : Opening h.next ≡ Open (p ∷ ps) = phase in absurd cc
+opening_expects h few at (heard.Late id) after (first, phase, is, other, same) =
+    let begun : h.next ≡ first = cc phase in
+    let one : mark_of h.next ≡ id = cc is in
+    absurd (other (h.next, omega (arith, begun), omega arith, few, one))
 opening_expects h few at (heard.Status b) after (is, same) = let bad : answer.Mark (mark_of h.next) ≡ answer.Status b = is in absurd cc
+opening_expects h few at (heard.Condition block) after (is, same) = let bad : answer.Mark (mark_of h.next) ≡ answer.Condition block = is in absurd cc
 opening_expects h few at (heard.BadAnswer place) after (p, ps, id, phase, is, other, closing, here, same) = let bad : Opening h.next ≡ Open (p ∷ ps) = phase in absurd cc
 
 -- A printer from which the answers were taken, otherwise as it was but for what it took.
@@ -164,7 +171,8 @@ sent_ready laws p receipt n few whole known half none online = record {
   none = half;
   commands = (refl, all_joined IsCommand receipt (kind.Mark (mark_of n) ∷ []) known (laws.ids n few, tt));
   passes = online_passes p.condition (sent_with receipt (mark_of n)) online;
-  room = omega (arith, ap length none, length-append p.waiting (replies p.condition (sent_with receipt (mark_of n))), ap length (sent_replies p.condition receipt (mark_of n) whole));
+  room = subst (λ waiting. length (others (waiting ++ replies p.condition (sent_with receipt (mark_of n)))) ≤ most_waiting) (sym none)
+      (subst (λ answers. length (others answers) ≤ most_waiting) (sym (sent_replies p.condition receipt (mark_of n) whole)) (omega arith));
 }
 
 sent_loaded : Laws → (h : HostView) (p : PrinterView) (receipt : List Command) → h.next < mark_count → Whole receipt → AreCommands receipt → h.out ≡ [] → h.half ≡ []
@@ -197,7 +205,9 @@ sent_expects h receipt at (heard.Recorded n) after (p, ps, phase, is, number, sa
     let one : p ≡ in_flight h receipt = cc flight in
     let others : ps ≡ [] = cc flight in
     (λ ends. ends, same ∙ ap (λ q. recorded (emptied (submitted h [] receipt)) q ps) one ∙ ap (λ qs. recorded (emptied (submitted h [] receipt)) (in_flight h receipt) qs) others)
+sent_expects h receipt at (heard.Late id) after (first, phase, is, other, same) = let bad : Open (in_flight h receipt ∷ []) ≡ Opening first = phase in absurd cc
 sent_expects h receipt at (heard.Status b) after (is, same) = let bad : answer.Mark (mark_of h.next) ≡ answer.Status b = is in absurd cc
+sent_expects h receipt at (heard.Condition block) after (is, same) = let bad : answer.Mark (mark_of h.next) ≡ answer.Condition block = is in absurd cc
 sent_expects h receipt at (heard.BadAnswer place) after (p, ps, id, phase, is, other, closing, here, same) =
     let flight : Open (in_flight h receipt ∷ []) ≡ Open (p ∷ ps) = phase in
     let others : ps ≡ [] = cc flight in

@@ -10,6 +10,7 @@ use Rattle.escpos_printer.specs.declared.printer.FeedStop.{FeedStop}
 use Rattle.escpos_printer.specs.declared.printer.FeedStop.TheVariants as stop
 use Rattle.escpos_printer.specs.Feeds.{Feeds, PrinterView, Took}
 use Rattle.escpos_printer.specs.ReadyFor.{IsReadyFor}
+use Rattle.escpos_printer.specs.Blocks.{with_one_block}
 use Rattle.escpos_printer.specs.Replies.{replies}
 use Rattle.escpos_host.specs.declared.host.HostEvent.{HostEvent}
 use Rattle.escpos_host.specs.Heard.{EndsLink, HearsAll, Turns, last_of}
@@ -86,7 +87,7 @@ fed_all laws l m cs id printer k why loaded feeds memory same =
         line = same ∙ fed_line (emptied l.host) printer (spell cs) k why all count;
         took = took;
         half = half;
-        waits = took.answers ∙ ap (λ v. v ++ replies l.printer.condition cs) loaded.none ∙ loaded.reply;
+        waits = took.answers ∙ ap with_one_block (ap (λ v. v ++ replies l.printer.condition cs) loaded.none ∙ loaded.reply);
       }
     ]
 

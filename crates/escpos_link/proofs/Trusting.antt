@@ -1,22 +1,26 @@
 -- What lets records be trusted holds for a line after each event, and after each refusal; and no answer ends the host's
 -- link.
 use Rattle.std.proofs.Common.{◌≡◌, ◌≢◌, ◌≤◌, inl, inr, ℕ, List, [], ◌∷◌, ◌++◌, length, take, drop, Option, Some, None, refl, sym, ◌∙◌, ap, subst, arith, append-nil, append_assoc, take-append-drop, IsTrue}
+use Rattle.std.specs.Prelude.{Bool, true, false, ◌&&◌, if◌then◌else◌}
 use Rattle.std.proofs.lemmas.Grind.{flat_map-append}
 use Rattle.std.specs.List.{AllByRecursion}
 use Rattle.escpos_command.specs.declared.answer.Answer.{Answer}
+use Rattle.escpos_command.specs.declared.answer.Answer.TheVariants as answer
 use Rattle.escpos_command.specs.declared.command.Command.{Command}
 use Rattle.escpos_command.specs.declared.command.Command.TheVariants as kind
 use Rattle.escpos_command.specs.Answers.{Hears, answer_bytes, is_answer, spell_answers}
 use Rattle.escpos_command.specs.CommandTable.{AreCommands}
 use Rattle.escpos_command.specs.Digits.{mark_of}
 use Rattle.escpos_command.specs.Marks.{marks}
+use Rattle.escpos_command.specs.Meanings.{reports}
 use Rattle.escpos_paper.specs.declared.item.Item.{Item}
 use Rattle.escpos_paper.specs.Page.{Sheet, SheetIs}
 use Rattle.escpos_printer.specs.declared.condition.Condition.{Condition}
 use Rattle.escpos_printer.specs.declared.printer.FeedStop.{FeedStop}
 use Rattle.escpos_printer.specs.declared.printer.FeedStop.TheVariants as stop
 use Rattle.escpos_printer.specs.Feeds.{Feeds, PrinterView, Took, left_half}
-use Rattle.escpos_printer.specs.Replies.{replies, reply}
+use Rattle.escpos_printer.specs.Blocks.{others, with_one_block}
+use Rattle.escpos_printer.specs.Replies.{after_change, condition_block, is_change, replies, reply}
 use Rattle.escpos_host.specs.declared.host.HostEvent.{HostEvent}
 use Rattle.escpos_host.specs.declared.host.HostEvent.TheVariants as heard
 use Rattle.escpos_host.specs.Heard.{EndsLink, HearsAll, last_of}
@@ -55,14 +59,14 @@ abbrev pub WayOf : ℕ → LineView → List Answer → Type 0
 WayOf width l answers =
     Way width l.host.phase l.host.out l.host.next l.host.records l.printer.sheet l.printer.half l.ended l.live (answered_marks (answers ++ l.printer.waiting))
 
-marks_join : (some others : List Answer) → answered_marks (some ++ others) ≡ answered_marks some ++ answered_marks others
+pub marks_join : (some others : List Answer) → answered_marks (some ++ others) ≡ answered_marks some ++ answered_marks others
 marks_join some others = flat_map-append answered some others
 
-none_heard : Hears [] [] []
+pub none_heard : Hears [] [] []
 none_heard = record { in_range = tt; whole = refl; rest_is = inl refl }
 
 -- The width is that of the line's printer.
-width_is : (width : ℕ) (l : LineView) → Trusted width l → l.printer.sheet.line_dots ≡ width
+pub width_is : (width : ℕ) (l : LineView) → Trusted width l → l.printer.sheet.line_dots ≡ width
 width_is width l t = ap (λ (s : Sheet). s.line_dots) t.reached.2
 
 -- So where a line is still trusted for the width of before, it is for its own, which is the same.
@@ -112,7 +116,7 @@ nudged_trusted width laws l is few t =
     put_trusted width l (nudged l.host) t refl
     (nudged_way width laws.readings laws.numbers laws.paper l.host.phase l.host.out l.host.next l.host.records l.printer.sheet l.printer.half l.ended l.live _ is few t.way)
 
-are_join : (some others : List Command) → AreCommands some → AreCommands others → AreCommands (some ++ others)
+pub are_join : (some others : List Command) → AreCommands some → AreCommands others → AreCommands (some ++ others)
 are_join [] others a b = b
 are_join (c ∷ some) others a b = (a.0, are_join some others a.1 b)
 
@@ -193,17 +197,57 @@ restarted_trusted width laws l printer r t =
     (marks_join t.answers l.printer.waiting
     ∙ ap (λ v. answered_marks v ++ answered_marks l.printer.waiting) (sym (append-nil t.answers) ∙ ap (λ v. t.answers ++ v) (sym r.waiting)))
 
+-- Blocks have no mark: the marks are those of the answers that wait, and those of before the sensors said something new.
+other_marks : (answers : List Answer) → answered_marks (others answers) ≡ answered_marks answers
+other_marks [] = refl
+other_marks (answer.Status b ∷ answers) = other_marks answers
+other_marks (answer.Mark id ∷ answers) = ap (λ v. id ∷ v) (other_marks answers)
+other_marks (answer.Condition block ∷ answers) = other_marks answers
+
+block_marks : (answers : List Answer) → answered_marks (with_one_block answers) ≡ answered_marks answers
+block_marks [] = refl
+block_marks (answer.Status b ∷ answers) = block_marks answers
+block_marks (answer.Mark id ∷ answers) = ap (λ v. id ∷ v) (block_marks answers)
+block_marks (answer.Condition block ∷ answers) = other_marks answers
+
+told_marks : (b : Bool) (block : List ℕ) (waiting : List Answer)
+    → answered_marks (if b then with_one_block (waiting ++ answer.Condition block ∷ []) else waiting) ≡ answered_marks waiting
+told_marks true block waiting = block_marks (waiting ++ answer.Condition block ∷ []) ∙ marks_join waiting (answer.Condition block ∷ []) ∙ append-nil (answered_marks waiting)
+told_marks false block waiting = refl
+
+pub changed_marks : (answers : List Answer) (automatic : ℕ) (old new : Condition) (waiting : List Answer)
+    → answered_marks (answers ++ waiting) ≡ answered_marks (answers ++ after_change automatic old new waiting)
+changed_marks answers automatic old new waiting =
+    marks_join answers waiting ∙ ap (λ v. answered_marks answers ++ v) (sym (told_marks (reports automatic && is_change old new) (condition_block new) waiting))
+    ∙ sym (marks_join answers (after_change automatic old new waiting))
+
+no_mark : (b : Bool) (block : List ℕ) → answered_marks (if b then answer.Condition block ∷ [] else []) ≡ []
+no_mark true block = refl
+no_mark false block = refl
+
 -- The marks that a printer answers are those that it ran.
 one_answered : (condition : Condition) (c : Command) → answered_marks (reply condition c) ≡ marks (c ∷ [])
 one_answered condition (kind.Status n) = refl
 one_answered condition (kind.Mark id) = refl
+one_answered condition (kind.AutomaticStatus n) = no_mark (reports n) (condition_block condition)
 one_answered condition c = refl
 
-answered_replies : (condition : Condition) (cs : List Command) → answered_marks (replies condition cs) ≡ marks cs
+pub answered_replies : (condition : Condition) (cs : List Command) → answered_marks (replies condition cs) ≡ marks cs
 answered_replies condition [] = refl
 answered_replies condition (c ∷ cs) =
     marks_join (reply condition c) (replies condition cs) ∙ ap (λ v. v ++ answered_marks (replies condition cs)) (one_answered condition c)
     ∙ ap (λ v. marks (c ∷ []) ++ v) (answered_replies condition cs) ∙ sym (marks_append (c ∷ []) cs)
+
+-- The marks that are answered once the printer took bytes.
+pub grown : (answers : List Answer) (before after : PrinterView) (bytes : List ℕ) (cs : List Command) → Took before bytes cs after
+    → answered_marks (answers ++ before.waiting) ++ marks cs ≡ answered_marks (answers ++ after.waiting)
+grown answers before after bytes cs took =
+    ap (λ v. answered_marks (answers ++ before.waiting) ++ v) (sym (answered_replies before.condition cs))
+    ∙ sym (marks_join (answers ++ before.waiting) (replies before.condition cs))
+    ∙ ap answered_marks (append_assoc answers before.waiting (replies before.condition cs))
+    ∙ marks_join answers (before.waiting ++ replies before.condition cs)
+    ∙ ap (λ v. answered_marks answers ++ v) (sym (block_marks (before.waiting ++ replies before.condition cs)) ∙ ap answered_marks (sym took.answers))
+    ∙ sym (marks_join answers after.waiting)
 
 -- Bytes of the first link reached the printer, which took all of them.
 taken_trusted : (width : ℕ) → Laws → (l : LineView) (k n : ℕ) (cs : List Command) (printer : PrinterView) → k ≤ length (take n (first_link l))
@@ -212,29 +256,28 @@ taken_trusted width laws l k n cs printer few took t =
     let ran = took.ran in
     let read : Read width l.printer.sheet printer.sheet l.printer.half printer.half (take k (take n (first_link l))) cs =
     record { kept = t.reached.0; ran = t.reached.1; before = t.reached.2; page = ran.page width; was = t.half; reads = ran.reads } in
-    let grown : answered_marks (t.answers ++ l.printer.waiting) ++ marks cs ≡ answered_marks (t.answers ++ printer.waiting) =
-    ap (λ v. answered_marks (t.answers ++ l.printer.waiting) ++ v) (sym (answered_replies l.printer.condition cs))
-    ∙ sym (marks_join (t.answers ++ l.printer.waiting) (replies l.printer.condition cs))
-    ∙ ap answered_marks (append_assoc t.answers l.printer.waiting (replies l.printer.condition cs) ∙ ap (λ v. t.answers ++ v) (sym took.answers)) in
     record {
       answers = t.answers;
       hears = t.hears;
       half = ran.reads.rest_is;
       reached = (t.reached.0, t.reached.1 ++ cs, ran.page width t.reached.0 t.reached.1 t.reached.2);
-      way = subst (Way width l.host.phase l.host.out l.host.next l.host.records printer.sheet printer.half (ended_fed l.ended k) (live_fed l.ended l.live k)) grown
+      way = subst (Way width l.host.phase l.host.out l.host.next l.host.records printer.sheet printer.half (ended_fed l.ended k) (live_fed l.ended l.live k)) (grown t.answers l.printer printer _ cs took)
           (fed_way width laws.readings laws.numbers laws.paper l.host.phase l.host.out l.host.next l.host.records l.printer.sheet printer.sheet l.printer.half printer.half
           l.ended l.live _ k n cs few read t.way);
     }
 
--- What a stop leaves of that.
+-- What a stop leaves of a printer.
+abbrev pub stopped : FeedStop → PrinterView → PrinterView
+stopped why taken = record { sheet = taken.sheet; half = left_half why taken.half; waiting = taken.waiting; condition = taken.condition; automatic = taken.automatic }
+
 stopped_trusted : (width : ℕ) → Laws → (l : LineView) (k : ℕ) (why : FeedStop) (taken : PrinterView) → Trusted width (delivered l k taken)
-    → Trusted width (left_by why (delivered l k (record { sheet = taken.sheet; half = left_half why taken.half; waiting = taken.waiting; condition = taken.condition })))
+    → Trusted width (left_by why (delivered l k (stopped why taken)))
 stopped_trusted width laws l k stop.All taken t = record { answers = t.answers; hears = t.hears; half = t.half; reached = t.reached; way = t.way }
 stopped_trusted width laws l k stop.AnswersFull taken t = record { answers = t.answers; hears = t.hears; half = t.half; reached = t.reached; way = t.way }
 stopped_trusted width laws l k stop.Offline taken t = record { answers = t.answers; hears = t.hears; half = t.half; reached = t.reached; way = t.way }
 stopped_trusted width laws l k stop.Memory taken t = record { answers = t.answers; hears = t.hears; half = t.half; reached = t.reached; way = t.way }
 stopped_trusted width laws l k (stop.Fault at why) taken t =
-    left_trusted width laws (delivered l k taken) (record { sheet = taken.sheet; half = []; waiting = taken.waiting; condition = taken.condition }) t.reached.0 t.reached.1 t.reached.2
+    left_trusted width laws (delivered l k taken) (stopped (stop.Fault at why) taken) t.reached.0 t.reached.1 t.reached.2
     refl (inl refl) t [] (sym (append-nil _))
 
 fed_trusted : (width : ℕ) → Laws → (l : LineView) (k n : ℕ) (why : FeedStop) (printer : PrinterView) → Feeds l.printer (take n (first_link l)) k why printer → Trusted width l
@@ -360,7 +403,14 @@ trusted width laws event.HostDrops l after n fits sound i (done, same) t = subst
 trusted width laws (event.HostRestart f) l after n fits sound i (done, least, same) t =
     subst (Trusted width) (sym same) (off_trusted width laws l (restarted l.host f) [] refl refl (sym (append-nil l.host.records)) least t)
 trusted width laws (event.SetCondition condition) l after n fits sound i (done, same) t =
-    subst (Trusted width) (sym same) (record { answers = t.answers; hears = t.hears; half = t.half; reached = t.reached; way = t.way })
+    subst (Trusted width) (sym same) (record {
+      answers = t.answers;
+      hears = t.hears;
+      half = t.half;
+      reached = t.reached;
+      way = subst (Way width l.host.phase l.host.out l.host.next l.host.records l.printer.sheet l.printer.half l.ended l.live)
+          (changed_marks t.answers l.printer.automatic l.printer.condition condition l.printer.waiting) t.way;
+    })
 
 -- A refusal leaves the line as it was, or as after fewer bytes.
 pub leaves_trusted : (width : ℕ) → Laws → (e : Event) (l after : LineView) → IsSound l.host → IsLine l → Leaves e l after → Trusted width l → Trusted width after
@@ -385,6 +435,8 @@ told_ends heard.None consumed at is = absurd (cc is)
 told_ends heard.Opened consumed at is = absurd (cc is)
 told_ends (heard.Recorded n) consumed at is = absurd (cc is)
 told_ends (heard.Status b) consumed at is = absurd (cc is)
+told_ends (heard.Condition block) consumed at is = absurd (cc is)
+told_ends (heard.Late id) consumed at is = absurd (cc is)
 told_ends (heard.BadAnswer place) consumed at is = tt
 
 last_told : (c d : ℕ) (e f : HostEvent) → note.Heard c e ≡ note.Heard d f → e ≡ f

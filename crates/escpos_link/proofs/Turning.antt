@@ -8,6 +8,7 @@ use Rattle.std.proofs.lemmas.List.{take_more}
 use Rattle.escpos_command.specs.declared.answer.Answer.{Answer}
 use Rattle.escpos_command.specs.declared.answer.Answer.TheVariants as answer
 use Rattle.escpos_command.specs.declared.command.Command.{Command}
+use Rattle.escpos_command.specs.Blocks.{is_block}
 use Rattle.escpos_command.specs.Answers.{AnswerSpells, HalfAnswer, Hears, ViableAnswer, answer_bytes, is_answer, spell_answers}
 use Rattle.escpos_host.specs.declared.host.HostEvent.{HostEvent}
 use Rattle.escpos_host.specs.declared.host.HostEvent.TheVariants as event
@@ -45,13 +46,18 @@ pub record Goes (P : Holding) (h : HostView) (bytes : List ℕ) : Type 0 where
 
 -- ## Bytes of answers fit
 
-no_bytes : (a : Answer) (w : List ℕ) → answer_bytes a ++ w ≡ [] → ⊥
-no_bytes (answer.Status b) w e = cc e
-no_bytes (answer.Mark id) w e = cc e
+no_block : (block w : List ℕ) → IsTrue (is_block block) → block ++ w ≡ [] → ⊥
+no_block [] w known e = cc known
+no_block (b ∷ block) w known e = cc e
+
+pub no_bytes : (a : Answer) (w : List ℕ) → IsTrue (is_answer a) → answer_bytes a ++ w ≡ [] → ⊥
+no_bytes (answer.Status b) w known e = cc e
+no_bytes (answer.Mark id) w known e = cc e
+no_bytes (answer.Condition block) w known e = no_block block w known e
 
 -- No answer begins what is left of an answer.
 not_begun : OfAnswers → (half : List ℕ) (a : Answer) (w : List ℕ) → (half ≡ []) ⊎ HalfAnswer half → IsTrue (is_answer a) → half ≡ answer_bytes a ++ w → ⊥
-not_begun below half a w (inl none) ok is = no_bytes a w (sym is ∙ none)
+not_begun below half a w (inl none) ok is = no_bytes a w ok (sym is ∙ none)
 not_begun below half a w (inr h) ok is =
     let v = h.viable in
     let long = subst (AnswerSpells v.0) (ap (λ xs. xs ++ v.1) is ∙ append_assoc (answer_bytes a) w v.1) v.2 in
@@ -120,6 +126,8 @@ no_growth h after byte event.None some grows = some refl
 no_growth h after byte event.Opened some grows = grows
 no_growth h after byte (event.Recorded number) some grows = grows
 no_growth h after byte (event.Status b) some grows = grows
+no_growth h after byte (event.Condition block) some grows = grows
+no_growth h after byte (event.Late id) some grows = grows
 no_growth h after byte (event.BadAnswer place) some grows = grows
 
 no_misfit : (h after : HostView) (byte at : ℕ) (e : HostEvent) → ViableAnswer (h.half ++ byte ∷ []) → Misfits h byte at e after → ⊥
@@ -127,6 +135,8 @@ no_misfit h after byte at event.None viable misfit = misfit
 no_misfit h after byte at event.Opened viable misfit = misfit
 no_misfit h after byte at (event.Recorded number) viable misfit = misfit
 no_misfit h after byte at (event.Status b) viable misfit = misfit
+no_misfit h after byte at (event.Condition block) viable misfit = misfit
+no_misfit h after byte at (event.Late id) viable misfit = misfit
 no_misfit h after byte at (event.BadAnswer place) viable (here, bad, same) = bad viable
 
 counted : (e : HostEvent) (at : ℕ) → (EndsLink e → ⊥) → taken_at e at ≡ at + 1
@@ -134,6 +144,8 @@ counted event.None at on = refl
 counted event.Opened at on = refl
 counted (event.Recorded number) at on = refl
 counted (event.Status byte) at on = refl
+counted (event.Condition block) at on = refl
+counted (event.Late id) at on = refl
 counted (event.BadAnswer place) at on = absurd (on tt)
 
 pub record After (P : Holding) (next : HostView) (bytes more : List ℕ) (count : ℕ) (e : HostEvent) : Type 0 where
@@ -173,7 +185,7 @@ by_byte P below turner h next bytes more half at e others up within some rest ho
 by_byte P below turner h next bytes more half at e others up within some rest holds hears (inr (inr (a, spelled, turns))) =
     by_answer P below turner h next bytes more half at e a others up within holds hears spelled turns
 
-one_heard : (P : Holding) → OfAnswers → Turner P → (h next : HostView) (bytes more : List ℕ) (count : ℕ) (e : HostEvent) → e ≢ event.None
+pub one_heard : (P : Holding) → OfAnswers → Turner P → (h next : HostView) (bytes more : List ℕ) (count : ℕ) (e : HostEvent) → e ≢ event.None
     → Goes P h (bytes ++ more) → IsHeard h bytes count e next → After P next bytes more count e
 one_heard P below turner h next bytes more count e some g (inl (none, all, passed, same)) = absurd (some none)
 one_heard P below turner h next bytes more count e some g (inr (at, half, within, also, is_count, passed, heard)) =
@@ -188,6 +200,46 @@ one_heard P below turner h next bytes more count e some g (inr (at, half, within
     let holds = passed_by P turner h passed.ignored c.0 g.up passed.each (subst (P h.phase h.out h.next h.records) c.1 g.holds) in
     subst (λ k. After P next bytes more k e) (sym is_count)
     (by_byte P below turner h next bytes more half at e c.0 g.up within some passed.hears.rest_is holds c.2 heard)
+
+-- The answer that brought an event, those before it, which are ignored, and those after it.
+pub record ByOne (P : Holding) (h next : HostView) (bytes : List ℕ) (e : HostEvent) (g : Goes P h bytes) : Type 0 where
+  pub before : List Answer
+  pub answer : Answer
+  pub others : List Answer
+  pub split : g.answers ≡ before ++ answer ∷ others
+  pub at : ℕ
+  pub half : List ℕ
+  pub turns : Turns (with_half (with_half h half) []) answer at e next
+
+pub by_one : (P : Holding) → OfAnswers → (h next : HostView) (bytes more : List ℕ) (count : ℕ) (e : HostEvent) → e ≢ event.None → (g : Goes P h (bytes ++ more))
+    → IsHeard h bytes count e next → ByOne P h next (bytes ++ more) e g
+by_one P below h next bytes more count e some g (inl (none, all, passed, same)) = absurd (some none)
+by_one P below h next bytes more count e some g (inr (at, half, within, also, is_count, passed, heard)) =
+    let front = take at bytes in
+    let b = slice_index bytes at in
+    let back = drop (at + 1) bytes in
+    let split : h.half ++ (bytes ++ more) ≡ (h.half ++ front) ++ (b ∷ (back ++ more)) =
+    ap (λ v. h.half ++ (v ++ more)) (around bytes at within)
+    ∙ ap (λ v. h.half ++ v) (append_assoc (front ++ b ∷ []) back more ∙ append_assoc front (b ∷ []) (back ++ more))
+    ∙ sym (append_assoc h.half front (b ∷ (back ++ more))) in
+    let c = below.cut (h.half ++ front) (b ∷ (back ++ more)) g.answers passed.ignored half (subst (λ v. Hears v g.answers []) split g.hears) passed.hears in
+    elim heard [
+      | inl grows ↦ absurd (no_growth (with_half h half) next b e some grows)
+      | inr (inl misfit) ↦ absurd (no_misfit (with_half h half) next b at e (fits below half b (back ++ more) c.0 passed.hears.rest_is c.2) misfit)
+      | inr (inr (a, spelled, turns)) ↦
+          let one : Hears (half ++ b ∷ []) (a ∷ []) [] =
+          record { in_range = (spelled.in_range, tt); whole = spelled.in_table ∙ sym (append-nil (spell_answers (a ∷ [])) ∙ append-nil (answer_bytes a)); rest_is = inl refl } in
+          let d = below.cut (half ++ b ∷ []) (back ++ more) c.0 (a ∷ []) [] (subst (λ v. Hears v c.0 []) (sym (append_assoc half (b ∷ []) (back ++ more))) c.2) one in
+          record {
+            before = passed.ignored;
+            answer = a;
+            others = d.0;
+            split = c.1 ∙ ap (λ v. passed.ignored ++ v) d.1;
+            at = at;
+            half = half;
+            turns = turns;
+          }
+    ]
 
 -- ## Event after event
 

@@ -32,6 +32,7 @@ use Rattle.escpos_printer.specs.declared.condition.Condition.{Condition}
 use Rattle.escpos_printer.specs.declared.printer.Fed.{Fed}
 use Rattle.escpos_printer.specs.declared.printer.FeedStop.{FeedStop}
 use Rattle.escpos_printer.specs.declared.printer.FeedStop.TheVariants as stop
+use Rattle.escpos_printer.specs.Replies.{after_change}
 use Rattle.escpos_printer.specs.Feeds.{PrinterView, Feeds}
 use Rattle.escpos_host.specs.declared.host.HostError.{HostError}
 use Rattle.escpos_host.specs.declared.host.HostEvent.{HostEvent}
@@ -114,7 +115,7 @@ off_link l = record { host = l.host; printer = l.printer; ended = l.ended ++ opt
 
 -- The first answer left the printer, and these are the others.
 abbrev pub answers_left : PrinterView → List Answer → PrinterView
-answers_left p answers = record { sheet = p.sheet; half = p.half; waiting = answers; condition = p.condition }
+answers_left p answers = record { sheet = p.sheet; half = p.half; waiting = answers; condition = p.condition; automatic = p.automatic }
 
 -- An answer is on its way to the host.
 abbrev pub on_its_way : LineView → Answer → List Answer → LineView
@@ -138,15 +139,23 @@ abbrev pub told_at : HostEvent → ℕ → HostEvent
 told_at (heard.BadAnswer at) consumed = heard.BadAnswer consumed
 told_at e consumed = e
 
--- The printer was switched off and on.
+-- The printer was switched off and on: automatic status is off then.
 pub record Restarted (before after : PrinterView) : Type 0 where
   pub sheet : SheetIs before.sheet.line_dots after.sheet before.sheet.items []
   pub half : after.half ≡ []
   pub waiting : after.waiting ≡ []
   pub condition : after.condition ≡ before.condition
+  pub automatic : after.automatic ≡ 0
 
+-- The printer's sensors say this. If that is new, and automatic status is on, a block of it waits.
 abbrev pub conditioned : PrinterView → Condition → PrinterView
-conditioned p condition = record { sheet = p.sheet; half = p.half; waiting = p.waiting; condition = condition }
+conditioned p condition = record {
+  sheet = p.sheet;
+  half = p.half;
+  waiting = after_change p.automatic p.condition condition p.waiting;
+  condition = condition;
+  automatic = p.automatic;
+}
 
 -- The host has given its link up, if it had one.
 abbrev pub hung_up : Phase → HostView → HostView

@@ -7,5 +7,6 @@ pub mod Straight
 pub mod Resumed
 pub mod Stands
 pub mod Trusted
+pub mod Promised
 pub mod MoveSteps
 pub mod LowerLaws

@@ -48,6 +48,7 @@ use Rattle.escpos_link.specs.Steps.{IsInTurn}
 abbrev pub answered : Answer → List (List ℕ)
 answered (answer.Status b) = []
 answered (answer.Mark id) = id ∷ []
+answered (answer.Condition block) = []
 
 abbrev pub answered_marks : List Answer → List (List ℕ)
 answered_marks answers = flat_map answered answers
@@ -134,18 +135,21 @@ pub record Owed (width : ℕ) (records : List (List Command)) (flight : List InF
 abbrev pub IsRest : List ℕ → Type 0
 IsRest half = (half ≡ []) ⊎ Half half
 
--- No mark of the link was run: only marks were put on it, and what was delivered of them was read after an older half
--- command as commands without a mark.
-pub record Unread (bound : ℕ) (half stream : List ℕ) : Type 0 where
+-- No mark of the link was run: only marks with such ids were put on it, and what was delivered of them was read after an
+-- older half command as commands without a mark.
+pub record UnreadOf (K : List ℕ → Type 0) (half stream : List ℕ) : Type 0 where
   pub older : List ℕ
   pub delivered : List ℕ
   pub ids : List (List ℕ)
   pub commands : List Command
   pub pending : IsRest older
-  pub known : Known bound ids
+  pub known : AllByRecursion K ids
   pub spelled : delivered ++ stream ≡ spell (map kind.Mark ids)
   pub reads : Reads (older ++ delivered) commands half
   pub no_mark : marks commands ≡ []
+
+abbrev pub Unread : ℕ → List ℕ → List ℕ → Type 0
+Unread bound half stream = UnreadOf (IsKnown bound) half stream
 
 -- The printer reads what was put: its half command and what is to come are commands.
 pub record InStep (bound : ℕ) (half stream : List ℕ) : Type 0 where
@@ -153,17 +157,23 @@ pub record InStep (bound : ℕ) (half stream : List ℕ) : Type 0 where
   pub aligned : Reads (half ++ stream) due []
   pub known : Known bound (marks due)
 
--- Marks alone, of which nothing was delivered.
+-- Marks alone, with such ids, of which nothing was delivered.
+abbrev pub FreshOf : (List ℕ → Type 0) → List ℕ → Type 0
+FreshOf K stream = (ids : List (List ℕ)) × AllByRecursion K ids × (stream ≡ spell (map kind.Mark ids))
+
 abbrev pub Fresh : ℕ → List ℕ → Type 0
-Fresh bound stream = (ids : List (List ℕ)) × Known bound ids × (stream ≡ spell (map kind.Mark ids))
+Fresh bound stream = FreshOf (IsKnown bound) stream
 
 -- A link that was given up holds a prefix of what would have been put on it: the one that the printer serves, and a later
 -- one.
 abbrev pub ServedLink : ℕ → List ℕ → List ℕ → Type 0
 ServedLink bound half bytes = (more : List ℕ) × (Unread bound half (bytes ++ more) ⊎ InStep bound half (bytes ++ more))
 
+abbrev pub LateOf : (List ℕ → Type 0) → List ℕ → Type 0
+LateOf K bytes = (more : List ℕ) × FreshOf K (bytes ++ more)
+
 abbrev pub Late : ℕ → List ℕ → Type 0
-Late bound bytes = (more : List ℕ) × Fresh bound (bytes ++ more)
+Late bound bytes = LateOf (IsKnown bound) bytes
 
 -- The links that were given up; and the live one, where nothing of it was run.
 abbrev pub GivenUp : ℕ → List ℕ → List (List ℕ) → Type 0

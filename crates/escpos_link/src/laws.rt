@@ -16,6 +16,7 @@ ghost use Rattle.escpos_link.specs.declared.event.Note.TheVariants as note;
 ghost use Rattle.escpos_link.specs.EventTable.{After, Leaves, restarted, told_at};
 ghost use Rattle.escpos_link.specs.Line.{IsLine, LineView};
 ghost use Rattle.escpos_link.specs.LowerLaws.{Laws};
+ghost use Rattle.escpos_link.specs.Promised.{Promising};
 ghost use Rattle.escpos_link.specs.Resumed.{resumed, resumed_host};
 ghost use Rattle.escpos_link.specs.Trusted.{IsFitting, IsTrusted, StillTrusted, Trusting};
 ghost use Rattle.escpos_link.specs.Wire.{WireView, given_up, heard_from, line_of, with_bytes, with_link};
@@ -24,6 +25,19 @@ ghost use Rattle.escpos_link.specs.Wire.{WireView, given_up, heard_from, line_of
 /// and after any refusal, and if its host goes on with fewer records; and the host hears no answer there that ends its link.
 pub fn trust()
     ensures { Trusting }
+{
+    escpos_command::laws::one_reading();
+    escpos_command::laws::joined_readings();
+    escpos_command::laws::resynchronisation();
+    escpos_command::laws::mark_numbers();
+    escpos_command::laws::answers();
+    escpos_paper::laws::initialisation();
+    escpos_paper::laws::paper_grows();
+}
+
+/// Promises: if a closing mark is answered, however late, its receipt stands on the paper after all that are recorded.
+pub fn promise()
+    ensures { Promising }
 {
     escpos_command::laws::one_reading();
     escpos_command::laws::joined_readings();
@@ -43,6 +57,8 @@ pub fn every_line()
 {
     escpos_command::laws::answers();
     escpos_printer::laws::replies();
+    escpos_printer::laws::one_block();
+    escpos_printer::laws::change();
     escpos_host::laws::whole_answers();
 }
 

@@ -228,10 +228,11 @@ impl Line {
         ensures { After (Event.Answer most) self.old result self.new }
     {
         let (consumed, last) = hear_all(&mut self.host, self.wire.front(most));
-        match last {
-            HostEvent::BadAnswer { .. } => self.wire.hang_up(),
-            _ => self.wire.heard(consumed),
+        if let HostEvent::BadAnswer { .. } = last {
+            self.wire.hang_up();
+            return Note::Heard { consumed, last };
         }
+        self.wire.heard(consumed);
         Note::Heard { consumed, last }
     }
 

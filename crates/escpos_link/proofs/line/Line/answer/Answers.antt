@@ -14,8 +14,8 @@ returns-in-BadAnswer c =
     subst (λ l. After (event.Answer c.args.most) l (note.Heard c.hear_all-consumed.result.0 c.hear_all-consumed.result.1) (line_of c.hear_all-consumed.new.host c.hang_up.new.self)) c.self.view_is
     (after_bad_answer _ (line_of c.hear_all-consumed.new.host c.hang_up.new.self) c.args.most c.hear_all-consumed.result.0 c.in-BadAnswer.at c.hear_all-consumed.result.1 c.hear_all-consumed.new.host e.0 hears e.2 c.in-BadAnswer.is (ap (line_of c.hear_all-consumed.new.host) c.hang_up.ensures))
 
-pub returns-in_default : goal.returns-in_default
-returns-in_default c =
+pub returns : goal.returns
+returns c =
     let e = c.hear_all-consumed.ensures.heard in
     let hears = subst (λ bs. HearsAll c.self.inside.host bs e.0 c.hear_all-consumed.result.0 c.hear_all-consumed.new.host) c.front.ensures e.1 in
     heard_seen _ _ _ c.args.most c.hear_all-consumed.result.0 c.hear_all-consumed.result.1 c.hear_all-consumed.new.host e.0 c.self.view_is hears e.2

@@ -1,0 +1,129 @@
+-- What an answer proves, however late it comes: a promise that stands from event to event.
+--
+-- When a host's link is cut, the printer may still print the receipt that was in flight, and answer its closing mark; and
+-- that answer may come on a later link. No two marks of a host have one id, so it shows which receipt is on the paper. A
+-- *promise* is a receipt and the id of its closing mark: if the mark is answered, then the receipt stands on the paper after
+-- all that are recorded. It is made before the mark is put out, when it says nothing yet; it holds for the receipt in flight,
+-- because the printer reads what the host puts; and it stays, whatever happens, as long as no other receipt is recorded:
+-- marks that come after it have other ids, and nothing takes an item from the paper.
+--
+-- `Promising`, at the end, is the law: the contract of the function `promise`.
+use Rattle.std.specs.Prelude.{ℕ, ◌≡◌, ◌≢◌, ◌<◌, ◌≤◌, ◌⊎◌, List, [], ◌∷◌, ◌++◌, Option, Some, None, IsTrue}
+use Rattle.std.specs.List.{AllByRecursion}
+use Rattle.escpos_command.specs.declared.answer.Answer.{Answer}
+use Rattle.escpos_command.specs.declared.command.Command.{Command}
+use Rattle.escpos_command.specs.Answers.{Hears}
+use Rattle.escpos_command.specs.Digits.{mark_count, mark_of}
+use Rattle.escpos_command.specs.Grammar.{Reads}
+use Rattle.escpos_command.specs.Marks.{marks}
+use Rattle.escpos_command.specs.Parameters.{is_mark_id}
+use Rattle.escpos_paper.specs.declared.item.Item.{Item}
+use Rattle.escpos_paper.specs.Page.{Sheet, SheetIs}
+use Rattle.escpos_paper.specs.Printed.{printed}
+use Rattle.escpos_host.specs.declared.host.HostEvent.TheVariants as heard
+use Rattle.escpos_host.specs.Machine.{HostView, InFlight, IsSound, Down, Open}
+use Rattle.escpos_link.specs.declared.event.Event.{Event}
+use Rattle.escpos_link.specs.declared.event.Event.TheVariants as event
+use Rattle.escpos_link.specs.declared.event.Note.{Note}
+use Rattle.escpos_link.specs.declared.event.Note.TheVariants as note
+use Rattle.escpos_link.specs.EventTable.{After, Leaves, off_link, with_host}
+use Rattle.escpos_link.specs.Line.{IsLine, LineView}
+use Rattle.escpos_link.specs.Stands.{Stands}
+use Rattle.escpos_link.specs.Trusted.{FreshOf, IsFitting, IsTrusted, LateOf, UnreadOf, answered_marks, flight_of}
+use Rattle.escpos_link.specs.Wire.{WireView, given_up, line_of, with_link}
+
+-- It is one of these.
+abbrev pub IsIn : List ℕ → List (List ℕ) → Type 0
+IsIn id [] = ⊥
+IsIn id (x ∷ xs) = (x ≡ id) ⊎ IsIn id xs
+
+-- The id of a mark, and another one.
+abbrev pub IsOther : List ℕ → List ℕ → Type 0
+IsOther id x = IsTrue (is_mark_id x) × (x ≢ id)
+
+-- The receipt stands after those that are recorded.
+abbrev pub StandsNext : ℕ → InFlight → List (List Command) → List Item → Type 0
+StandsNext width p records items = Stands width (records ++ p.receipt ∷ []) items
+
+-- Where these commands are due, the receipt stands once the mark is run.
+abbrev pub Fulfils : ℕ → InFlight → List (List Command) → List Item → List Command → List Command → Type 0
+Fulfils width p records kept ran due = (a b : List Command) → due ≡ a ++ b → IsIn p.mark (marks a) → StandsNext width p records (kept ++ printed width (ran ++ a))
+
+-- The printer reads what comes, and the promise is kept then.
+pub record KeepsOn (width : ℕ) (p : InFlight) (records : List (List Command)) (sheet : Sheet) (half stream : List ℕ) : Type 0 where
+  pub due : List Command
+  pub aligned : Reads (half ++ stream) due []
+  pub kept : List Item
+  pub ran : List Command
+  pub sheet_is : SheetIs width sheet kept ran
+  pub fulfils : Fulfils width p records kept ran due
+
+-- The link that the printer serves: other marks alone were put on it, and none was run; or the promise is kept by what comes.
+abbrev pub ServedFor : ℕ → InFlight → List (List Command) → Sheet → List ℕ → List ℕ → Type 0
+ServedFor width p records sheet half stream = UnreadOf (IsOther p.mark) half stream ⊎ KeepsOn width p records sheet half stream
+
+-- The links that were given up, and the live one. On those that the printer doesn't serve yet there are other marks alone.
+abbrev pub GivenUpFor : ℕ → InFlight → List (List Command) → Sheet → List ℕ → List (List ℕ) → Type 0
+GivenUpFor width p records sheet half [] = Unit {0}
+GivenUpFor width p records sheet half (bytes ∷ others) =
+    ((more : List ℕ) × ServedFor width p records sheet half (bytes ++ more)) × AllByRecursion (LateOf (IsOther p.mark)) others
+
+abbrev pub NewestFor : ℕ → InFlight → List (List Command) → Sheet → List ℕ → List (List ℕ) → List ℕ → Type 0
+NewestFor width p records sheet half [] stream = ServedFor width p records sheet half stream
+NewestFor width p records sheet half (bytes ∷ others) stream = FreshOf (IsOther p.mark) stream
+
+abbrev pub LiveFor : ℕ → InFlight → List (List Command) → Sheet → List ℕ → List (List ℕ) → Option (List ℕ) → List ℕ → Type 0
+LiveFor width p records sheet half ended None out = Unit {0}
+LiveFor width p records sheet half ended (Some bytes) out = NewestFor width p records sheet half ended (bytes ++ out)
+
+-- The promise, where these marks are answered and not heard yet.
+pub record PromisedBy (width : ℕ) (p : InFlight) (records : List (List Command)) (out : List ℕ) (sheet : Sheet) (half : List ℕ) (ended : List (List ℕ))
+    (live : Option (List ℕ)) (pending : List (List ℕ)) : Type 0 where
+  pub answered : IsIn p.mark pending → StandsNext width p records sheet.items
+  pub given_up : GivenUpFor width p records sheet half ended
+  pub newest : LiveFor width p records sheet half ended live out
+
+-- The promise on a line whose printer prints lines of this width, for these records: those that the host had when the promise was made.
+pub record PromisedIn (width : ℕ) (records : List (List Command)) (p : InFlight) (l : LineView) : Type 0 where
+  pub answers : List Answer
+  pub hears : Hears (l.host.half ++ l.coming) answers []
+  pub by : PromisedBy width p records l.host.out l.printer.sheet l.printer.half l.ended l.live (answered_marks (answers ++ l.printer.waiting))
+
+abbrev pub Promised : List (List Command) → InFlight → LineView → Type 0
+Promised records p l = PromisedIn l.printer.sheet.line_dots records p l
+
+-- The event puts out no mark with this id.
+abbrev pub PutsOther : Event → HostView → List ℕ → Type 0
+PutsOther event.LinkUp h id = mark_of h.next ≢ id
+PutsOther event.Nudge h id = mark_of h.next ≢ id
+PutsOther (event.Submit receipt) h id = mark_of h.next ≢ id
+PutsOther _ h id = Unit {0}
+
+-- The line with other records.
+abbrev pub with_records : LineView → List (List Command) → LineView
+with_records l records = record {
+  host = record { phase = l.host.phase; out = l.host.out; half = l.host.half; next = l.host.next; records = records; left = l.host.left };
+  printer = l.printer;
+  ended = l.ended;
+  live = l.live;
+  coming = l.coming;
+}
+
+-- The law of promises, on lines that can be trusted: a promise may be made before its mark is put out; it holds for the only
+-- receipt in flight; it stays after each event that puts out other marks and after each refusal, for any host that is off its
+-- link then, and after a link with nothing on it; a late answer to its mark shows that the receipt stands; and then, with no receipt in flight, it may be recorded.
+pub record Promising : Type 0 where
+  pub made : (l : LineView) (records : List (List Command)) (p : InFlight) (n : ℕ) → IsTrusted l → l.host.next ≤ n → n < mark_count → p.mark ≡ mark_of n → Promised records p l
+  pub in_flight : (l : LineView) (p : InFlight) → IsTrusted l → l.host.phase ≡ Open (p ∷ []) → Promised l.host.records p l
+  pub stays : (e : Event) (l after : LineView) (n : Note) (records : List (List Command)) (p : InFlight) → IsFitting e → IsSound l.host → IsLine l → After e l n after
+      → IsTrusted l → PutsOther e l.host p.mark → Promised records p l → Promised records p after
+  pub off : (l : LineView) (host : HostView) (records : List (List Command)) (p : InFlight) → host.half ≡ [] → Promised records p l → Promised records p (off_link (with_host l host))
+  pub leaves : (e : Event) (l after : LineView) (records : List (List Command)) (p : InFlight) → IsSound l.host → IsLine l → Leaves e l after → IsTrusted l
+      → Promised records p l → Promised records p after
+  pub idle : (h : HostView) (w : WireView) (records : List (List Command)) (p : InFlight) → h.phase ≡ Down → IsLine (line_of h w) → IsTrusted (line_of h w)
+      → Promised records p (line_of h w) → Promised records p (line_of h (given_up (with_link w)))
+  pub late : (l after : LineView) (k consumed : ℕ) (id : List ℕ) (records : List (List Command)) (p : InFlight) → IsLine l → IsTrusted l
+      → After (event.Answer k) l (note.Heard consumed (heard.Late id)) after → p.mark ≡ id → Promised records p l
+      → Stands after.printer.sheet.line_dots (records ++ p.receipt ∷ []) after.printer.sheet.items
+  pub recorded : (l : LineView) (records : List (List Command)) → IsTrusted l → flight_of l.host.phase ≡ [] → Stands l.printer.sheet.line_dots records l.printer.sheet.items
+      → IsTrusted (with_records l records)
