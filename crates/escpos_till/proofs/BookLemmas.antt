@@ -1,6 +1,7 @@
 -- What one more entry does to the book of a list of entries.
-use Rattle.std.proofs.Common.{ℕ, zero, suc, ◌≡◌, ◌≢◌, ◌+◌, ◌-◌, ◌<◌, ◌≤◌, inl, inr, Some, None, List, [], ◌∷◌, ◌++◌, length, get_or, set, refl, sym, ◌∙◌, ap, subst, length-append, length-set, arith}
+use Rattle.std.proofs.Common.{ℕ, zero, suc, ◌≡◌, ◌≢◌, ◌+◌, ◌-◌, ◌<◌, ◌≤◌, inl, inr, Some, None, List, [], ◌∷◌, ◌++◌, length, get_or, set, refl, sym, ◌∙◌, ap, subst, length-append, length-set, append-nil, arith}
 use Rattle.std.specs.Prelude.{MatchOption, Option, slice_get}
+use Rattle.std.proofs.lemmas.List.Elements.{filter_map-append}
 use Rattle.std.specs.Option.{SomeIff}
 use Rattle.std.proofs.lemmas.Option.{get_or_from_slice_get, same_Some, slice_get_read}
 use Rattle.escpos_till.specs.declared.book.Book.{Book}
@@ -13,6 +14,7 @@ use Rattle.escpos_till.specs.Book.{HasContents, IsBookOf}
 use Rattle.escpos_till.specs.Entries.{IsLedger, MayFollow, Waits, contents, recorded, state_of, states, taken, times_tried, waiting}
 use Rattle.escpos_till.specs.Entries.{states as states_of}
 use Rattle.escpos_till.specs.Delivers.{FirstWaits}
+use Rattle.escpos_till.specs.Tries.{tries, try_of}
 use Rattle.escpos_till.specs.States.{IsEnded, IsFirstWaiting, tries_in}
 use Rattle.escpos_till.proofs.StateLemmas.{first_after_queued, first_after_tried, get-set, get-snoc}
 use Rattle.escpos_till.proofs.EntryLemmas.{cancelled_states, count_states, first_of_states, length-states, no_more, next_after_cancelled, next_after_queued, next_after_raised, next_after_recorded, next_after_tried, recorded-count, recorded-same, recorded_states, states-get, states_after_queued, states_after_raised, tried_states, waiting_state, waits_by_state, within_states}
@@ -58,6 +60,16 @@ contents-cancelled (Tried m other ∷ es) n = contents-cancelled es n
 contents-cancelled (Recorded m ∷ es) n = contents-cancelled es n
 contents-cancelled (Raised other ∷ es) n = contents-cancelled es n
 contents-cancelled (Cancelled m ∷ es) n = contents-cancelled es n
+
+-- ## Tries
+
+tries-snoc : (es : List Entry) (e : Entry) → tries (es ++ e ∷ []) ≡ tries es ++ tries (e ∷ [])
+tries-snoc es e = filter_map-append try_of es (e ∷ [])
+
+pub same_tries : (es : List Entry) (e : Entry) → tries (e ∷ []) ≡ [] → tries (es ++ e ∷ []) ≡ tries es
+same_tries es e h = tries-snoc es e ∙ ap (λ more. tries es ++ more) h ∙ append-nil (tries es)
+
+-- ## Items
 
 -- The same item after the list grew by one, or after another one was set.
 get-front : {X : Type 0} (xs : List X) (y x : X) (k : ℕ) → slice_get xs k ≡ Some x → slice_get (xs ++ y ∷ []) k ≡ Some x
@@ -158,21 +170,22 @@ state_read s es n r x sums waits same is =
 
 pub book_after_queued : (s t : Book) (es : List Entry) (e : Entry) (content : Content) → IsBookOf s es → IsLedger es → e ≡ Queued content
     → t.contents.items ≡ s.contents.items ++ content ∷ [] → t.states.items ≡ s.states.items ++ state.Waiting 0 ∷ []
-    → t.first_waiting ≡ s.first_waiting → t.recorded ≡ s.recorded → t.next ≡ s.next → t.count ≡ s.count + 1 → IsBookOf t (es ++ e ∷ [])
-book_after_queued s t es e content sums ledger kind kept states first recorded next count = subst (λ e. IsBookOf t (es ++ e ∷ [])) (sym kind) (record {
+    → t.first_waiting ≡ s.first_waiting → t.recorded ≡ s.recorded → t.next ≡ s.next → t.count ≡ s.count + 1 → t.tries.items ≡ s.tries.items → IsBookOf t (es ++ e ∷ [])
+book_after_queued s t es e content sums ledger kind kept states first recorded next count tried = subst (λ e. IsBookOf t (es ++ e ∷ [])) (sym kind) (record {
   contents = subst (λ cs. HasContents cs (es ++ Queued content ∷ [])) (sym kept) (contents_after_queued s.contents.items es content ledger sums.contents);
   states = states ∙ ap (λ ss. ss ++ state.Waiting 0 ∷ []) sums.states ∙ sym (states_after_queued es content ledger);
   first_waiting = subst (λ ss. IsFirstWaiting ss t.first_waiting) (sym states) (subst (IsFirstWaiting (s.states.items ++ state.Waiting 0 ∷ [])) (sym first) (first_after_queued s.states.items s.first_waiting sums.first_waiting));
   recorded = recorded ∙ sums.recorded ∙ sym (recorded-same es (Queued content) refl);
   next = next ∙ sums.next ∙ sym (next_after_queued es content);
+  tries = tried ∙ sums.tries ∙ sym (same_tries es (Queued content) refl);
   count = one_more_entry s.count t.count es (Queued content) count sums.count;
 })
 
 pub book_after_tried : (s t : Book) (es : List Entry) (e : Entry) (n next r : ℕ) (x y : ReceiptState) → IsBookOf s es → MayFollow es e → e ≡ Tried n next → r ≡ n
     → x ≡ get_or s.states.items (r - 1) x → ((tried : ℕ) → x ≡ state.Waiting tried → y ≡ state.Waiting (tried + 1))
     → t.contents.items ≡ s.contents.items → t.states.items ≡ set s.states.items (r - 1) y
-    → t.first_waiting ≡ s.first_waiting → t.recorded ≡ s.recorded → t.next ≡ next → t.count ≡ s.count + 1 → IsBookOf t (es ++ e ∷ [])
-book_after_tried s t es e n next r x y sums follows kind same is more kept states first recorded is_next count =
+    → t.first_waiting ≡ s.first_waiting → t.recorded ≡ s.recorded → t.next ≡ next → t.count ≡ s.count + 1 → t.tries.items ≡ s.tries.items ++ record { number = n; closing = next - 1 } ∷ [] → IsBookOf t (es ++ e ∷ [])
+book_after_tried s t es e n next r x y sums follows kind same is more kept states first recorded is_next count tried =
     let waits : Waits es n = (subst (MayFollow es) kind follows).0 in
     let one_more = more (times_tried es n) (state_read s es n r x sums waits same is) in
     let set_so : t.states.items ≡ set s.states.items (n - 1) (state.Waiting (times_tried es n + 1)) =
@@ -184,13 +197,14 @@ book_after_tried s t es e n next r x y sums follows kind same is more kept state
           (first_after_tried s.states.items s.first_waiting (n - 1) (times_tried es n) (times_tried es n + 1) (ap (λ ss. slice_get ss (n - 1)) sums.states ∙ waiting_state es n waits) sums.first_waiting));
       recorded = recorded ∙ sums.recorded ∙ sym (recorded-same es (Tried n next) refl);
       next = is_next ∙ sym (next_after_tried es n next);
+      tries = tried ∙ ap (λ ts. ts ++ record { number = n; closing = next - 1 } ∷ []) sums.tries ∙ sym (tries-snoc es (Tried n next));
       count = one_more_entry s.count t.count es (Tried n next) count sums.count;
     })
 
 pub book_after_recorded : (s t : Book) (es : List Entry) (e : Entry) (n r : ℕ) → IsBookOf s es → MayFollow es e → e ≡ Recorded n → r ≡ n
     → (x : Content) → t.contents.items ≡ set s.contents.items (r - 1) x → t.states.items ≡ set s.states.items (r - 1) (state.Recorded s.recorded)
-    → IsFirstWaiting t.states.items t.first_waiting → t.recorded ≡ s.recorded + 1 → t.next ≡ s.next → t.count ≡ s.count + 1 → IsBookOf t (es ++ e ∷ [])
-book_after_recorded s t es e n r sums follows kind same x kept states first recorded next count =
+    → IsFirstWaiting t.states.items t.first_waiting → t.recorded ≡ s.recorded + 1 → t.next ≡ s.next → t.count ≡ s.count + 1 → t.tries.items ≡ s.tries.items → IsBookOf t (es ++ e ∷ [])
+book_after_recorded s t es e n r sums follows kind same x kept states first recorded next count tried =
     let waits : Waits es n = (subst (MayFollow es) kind follows).0 in
     subst (λ e. IsBookOf t (es ++ e ∷ [])) (sym kind) (record {
       contents = subst (λ cs. HasContents cs (es ++ Recorded n ∷ [])) (sym (kept ∙ ap (λ k. set s.contents.items (k - 1) x) same)) (contents_after_recorded s.contents.items es n x waits sums.contents);
@@ -199,14 +213,15 @@ book_after_recorded s t es e n r sums follows kind same x kept states first reco
       first_waiting = first;
       recorded = recorded ∙ ap (λ c. c + 1) sums.recorded ∙ sym (recorded-count es n);
       next = next ∙ sums.next ∙ sym (next_after_recorded es n);
+      tries = tried ∙ sums.tries ∙ sym (same_tries es (Recorded n) refl);
       count = one_more_entry s.count t.count es (Recorded n) count sums.count;
     })
 
 pub book_after_cancelled : (s t : Book) (es : List Entry) (e : Entry) (n r : ℕ) (x y : ReceiptState) → IsBookOf s es → MayFollow es e → e ≡ Cancelled n → r ≡ n
     → x ≡ get_or s.states.items (r - 1) x → ((tried : ℕ) → x ≡ state.Waiting tried → y ≡ state.Cancelled tried)
     → (c : Content) → t.contents.items ≡ set s.contents.items (r - 1) c → t.states.items ≡ set s.states.items (r - 1) y
-    → IsFirstWaiting t.states.items t.first_waiting → t.recorded ≡ s.recorded → t.next ≡ s.next → t.count ≡ s.count + 1 → IsBookOf t (es ++ e ∷ [])
-book_after_cancelled s t es e n r x y sums follows kind same is ends c kept states first recorded next count =
+    → IsFirstWaiting t.states.items t.first_waiting → t.recorded ≡ s.recorded → t.next ≡ s.next → t.count ≡ s.count + 1 → t.tries.items ≡ s.tries.items → IsBookOf t (es ++ e ∷ [])
+book_after_cancelled s t es e n r x y sums follows kind same is ends c kept states first recorded next count tried =
     let waits : Waits es n = subst (MayFollow es) kind follows in
     let end = ends (times_tried es n) (state_read s es n r x sums waits same is) in
     subst (λ e. IsBookOf t (es ++ e ∷ [])) (sym kind) (record {
@@ -217,18 +232,20 @@ book_after_cancelled s t es e n r x y sums follows kind same is ends c kept stat
       first_waiting = first;
       recorded = recorded ∙ sums.recorded ∙ sym (recorded-same es (Cancelled n) refl);
       next = next ∙ sums.next ∙ sym (next_after_cancelled es n);
+      tries = tried ∙ sums.tries ∙ sym (same_tries es (Cancelled n) refl);
       count = one_more_entry s.count t.count es (Cancelled n) count sums.count;
     })
 
 pub book_after_raised : (s t : Book) (es : List Entry) (e : Entry) (next : ℕ) → IsBookOf s es → e ≡ Raised next
     → t.contents.items ≡ s.contents.items → t.states.items ≡ s.states.items
-    → t.first_waiting ≡ s.first_waiting → t.recorded ≡ s.recorded → t.next ≡ next → t.count ≡ s.count + 1 → IsBookOf t (es ++ e ∷ [])
-book_after_raised s t es e next sums kind kept states first recorded is_next count = subst (λ e. IsBookOf t (es ++ e ∷ [])) (sym kind) (record {
+    → t.first_waiting ≡ s.first_waiting → t.recorded ≡ s.recorded → t.next ≡ next → t.count ≡ s.count + 1 → t.tries.items ≡ s.tries.items → IsBookOf t (es ++ e ∷ [])
+book_after_raised s t es e next sums kind kept states first recorded is_next count tried = subst (λ e. IsBookOf t (es ++ e ∷ [])) (sym kind) (record {
   contents = subst (λ cs. HasContents cs (es ++ Raised next ∷ [])) (sym kept) (contents_after_raised s.contents.items es next sums.contents);
   states = states ∙ sums.states ∙ sym (states_after_raised es next);
   first_waiting = subst (λ ss. IsFirstWaiting ss t.first_waiting) (sym states) (subst (IsFirstWaiting s.states.items) (sym first) sums.first_waiting);
   recorded = recorded ∙ sums.recorded ∙ sym (recorded-same es (Raised next) refl);
   next = is_next ∙ sym (next_after_raised es next);
+  tries = tried ∙ sums.tries ∙ sym (same_tries es (Raised next) refl);
   count = one_more_entry s.count t.count es (Raised next) count sums.count;
 })
 

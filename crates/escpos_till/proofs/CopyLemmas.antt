@@ -1,15 +1,21 @@
 -- A receipt with the line of a copy before it is a receipt.
-use Rattle.std.proofs.Common.{ℕ, ◌≡◌, ◌⊎◌, inl, inr, Bool, true, false, Option, Some, None, List, [], ◌∷◌, ◌++◌, map, refl, sym, ◌∙◌, ap, subst, append_assoc}
-use Rattle.std.specs.Prelude.{if◌then◌else◌, nat_lt}
-use Rattle.std.specs.List.{AllByRecursion}
+use Rattle.std.proofs.Common.{ℕ, suc, ◌≡◌, ◌⊎◌, inl, inr, Bool, true, false, IsTrue, None, List, [], ◌∷◌, ◌++◌, map, refl, sym, ◌∙◌, ap, subst, append_assoc, arith}
+use Rattle.std.specs.Prelude.{◌==◌, if◌then◌else◌}
+use Rattle.std.proofs.lemmas.Bool.Decides.{nat_tests}
+use Rattle.std.specs.List.{AllByRecursion, AllPass}
 use Rattle.escpos_command.specs.declared.command.Command.{Command}
 use Rattle.escpos_command.specs.declared.command.Command.TheVariants.{Align, Char, Emphasis, LineFeed}
+use Rattle.escpos_command.specs.declared.bytes.TheConstants.{DLE}
+use Rattle.escpos_command.specs.CommandTable.{spell}
 use Rattle.escpos_command.specs.Settings.{stored}
 use Rattle.escpos_command.specs.Text.{ends_later, text, text_after}
 use Rattle.escpos_command.proofs.Lines.{same_text}
 use Rattle.escpos_command.proofs.Settings.{stored-snoc}
 use Rattle.escpos_receipt.specs.Whole.{MayFollow, Whole, is_forbidden, is_nonempty, needs_empty_line}
-use Rattle.escpos_till.specs.Copy.{copy_line, sent_of}
+use Rattle.escpos_real_time.specs.Scan.{holds}
+use Rattle.escpos_real_time.proofs.Holding.{found, finds, skip}
+use Rattle.escpos_receipt.proofs.RealTimes.{none_in, said}
+use Rattle.escpos_till.specs.Copy.{copy_line, is_copy_character}
 
 -- ## Places in two lists
 
@@ -92,20 +98,35 @@ follows_line bs rest c f = record { allowed = f.allowed; at_line_start = λ need
 free_follows : (before : List Command) (c : Command) → IsFree c → MayFollow before c
 free_follows before c f = record { allowed = f.allowed; at_line_start = λ needs. absurd (let no : needs_empty_line c ≡ false = f.anywhere in let yes : needs_empty_line c ≡ true = needs in cc) }
 
-pub copy_whole : (bs : List ℕ) (cs : List Command) → Whole cs → Whole (copy_line bs ++ cs)
-copy_whole bs cs w = record {
+-- The bytes of the line and of what follows hold what these hold: the line has no DLE.
+not_dle : (b : ℕ) → IsTrue (is_copy_character b) → (b == DLE) ≡ false
+not_dle b is = grind (arith, nat_tests)
+
+chars_hold_none : (bs : List ℕ) (cs : List Command) → AllPass is_copy_character bs
+    → holds (spell ((map Char bs ++ LineFeed ∷ Emphasis 0 ∷ Align 0 ∷ []) ++ cs)) ≡ holds (spell cs)
+chars_hold_none [] cs plain =
+    let rest = spell cs in
+    skip 0x0A (0x1B ∷ 0x45 ∷ 0 ∷ 0x1B ∷ 0x61 ∷ 0 ∷ rest) refl ∙ skip 0x1B (0x45 ∷ 0 ∷ 0x1B ∷ 0x61 ∷ 0 ∷ rest) refl
+    ∙ skip 0x45 (0 ∷ 0x1B ∷ 0x61 ∷ 0 ∷ rest) refl ∙ skip 0 (0x1B ∷ 0x61 ∷ 0 ∷ rest) refl ∙ skip 0x1B (0x61 ∷ 0 ∷ rest) refl ∙ skip 0x61 (0 ∷ rest) refl
+    ∙ skip 0 rest refl
+chars_hold_none (b ∷ bs) cs plain =
+    skip b (spell ((map Char bs ++ LineFeed ∷ Emphasis 0 ∷ Align 0 ∷ []) ++ cs)) (not_dle b (plain 0 0 (omega arith)))
+    ∙ chars_hold_none bs cs (λ k d h. plain (suc k) d (omega (arith, h)))
+
+line_holds_none : (bs : List ℕ) (cs : List Command) → AllPass is_copy_character bs → holds (spell (copy_line bs ++ cs)) ≡ holds (spell cs)
+line_holds_none bs cs plain =
+    let rest = spell ((map Char bs ++ LineFeed ∷ Emphasis 0 ∷ Align 0 ∷ []) ++ cs) in
+    skip 0x1B (0x61 ∷ 1 ∷ 0x1B ∷ 0x45 ∷ 1 ∷ rest) refl ∙ skip 0x61 (1 ∷ 0x1B ∷ 0x45 ∷ 1 ∷ rest) refl ∙ skip 1 (0x1B ∷ 0x45 ∷ 1 ∷ rest) refl
+    ∙ skip 0x1B (0x45 ∷ 1 ∷ rest) refl ∙ skip 0x45 (1 ∷ rest) refl ∙ skip 1 rest refl ∙ chars_hold_none bs cs plain
+
+pub copy_whole : (bs : List ℕ) (cs : List Command) → AllPass is_copy_character bs → Whole cs → Whole (copy_line bs ++ cs)
+copy_whole bs cs plain w = record {
   nonempty = λ e. cc;
   in_place = λ before c following e. elim (split_append (copy_line bs) cs before c following e) [
     | inl within ↦ free_follows before c (at_place IsFree before c within.0 (subst (AllByRecursion IsFree) within.1 (free_line bs)))
     | inr later ↦ subst (λ front. MayFollow front c) (sym later.1) (follows_line bs later.0 c (w.in_place later.0 c following later.2))
   ];
+  no_real_time = said (copy_line bs ++ cs)
+      (λ held. none_in cs w.no_real_time (found (spell cs) (sym (line_holds_none bs cs plain) ∙ finds (spell (copy_line bs ++ cs)) held)));
   no_text_left = ap is_nonempty (text_after_line bs cs) ∙ w.no_text_left;
 }
-
-by_times : (b : Bool) (bs : List ℕ) (cs : List Command) → Whole cs → Whole (if b then copy_line bs ++ cs else cs)
-by_times true bs cs w = copy_whole bs cs w
-by_times false bs cs w = w
-
-pub sent_whole : (copy : Option (List ℕ)) (tried : ℕ) (cs : List Command) → Whole cs → Whole (sent_of copy tried cs)
-sent_whole None tried cs w = w
-sent_whole (Some bs) tried cs w = by_times (nat_lt 0 tried) bs cs w

@@ -21,7 +21,7 @@ use Rattle.escpos_till.specs.declared.machine.TillNote.{TillNote}
 use Rattle.escpos_till.specs.declared.machine.TillNote.TheVariants as note
 use Rattle.escpos_till.specs.declared.store.StoreFault.{StoreFault}
 use Rattle.escpos_till.specs.Driver.{Breaks, Deed, DidAll, Ends, Gives, HangsUp, HearsAll, IsGiven, IsTold, Keeps, Links, Loses, Misses, Puts, RanFor, RanTo, Tells, TellsNothing, Turns}
-use Rattle.escpos_till.specs.Machine.{Came, Ended, Follows, GoesOn, HearsOne, Kept, MachineView, Opens, Rests, Submits, Turns as Turned, Unsure, connected, hung_up, lost, not_connected, put}
+use Rattle.escpos_till.specs.Machine.{Came, Ended, Follows, GoesOn, HearsOne, Kept, MachineView, Opens, Rests, Submits, Turns as Turned, Unsure, connected, hung_up, lost, not_connected, printed, put}
 
 -- 1 while a machine talks.
 abbrev pub is_talking : Stage → ℕ
@@ -45,7 +45,9 @@ heard_some h bytes count e after some (inl it) = inl (omega (arith, it.1, some))
 heard_some h bytes count event.None after some (inr it) = inl (absurd (it.3 refl))
 heard_some h bytes count event.Opened after some (inr it) = inl (omega (arith, it.4))
 heard_some h bytes count (event.Recorded n) after some (inr it) = inl (omega (arith, it.4))
+heard_some h bytes count (event.Late id) after some (inr it) = inl (omega (arith, it.4))
 heard_some h bytes count (event.Status byte) after some (inr it) = inl (omega (arith, it.4))
+heard_some h bytes count (event.Condition block) after some (inr it) = inl (omega (arith, it.4))
 heard_some h bytes count (event.BadAnswer place) after some (inr it) = inr tt
 
 hears_by_phase : (phase : Phase) (h : HostView) (bytes : List ℕ) (count : ℕ) (e : HostEvent) (after : HostView) → h.phase ≡ phase → 0 < length bytes → HearsOne h bytes count e after
@@ -54,12 +56,14 @@ hears_by_phase Down h bytes count e after is some hears = inl (omega (arith, (he
 hears_by_phase (Opening first) h bytes count e after is some hears = heard_some h bytes count e after some (hears.1 (λ down. absurd (let bad : Opening first ≡ Down = sym is ∙ down in cc)))
 hears_by_phase (Open flight) h bytes count e after is some hears = heard_some h bytes count e after some (hears.1 (λ down. absurd (let bad : Open flight ≡ Down = sym is ∙ down in cc)))
 
-bad_ends : (e : HostEvent) (talk : Talk) (left : ℕ) (h after : HostView) (s : Stage) → IsBad e → Turned e talk left h after s → is_talking s ≡ 0
-bad_ends (event.BadAnswer place) talk left h after s bad turned = ap is_talking turned.1
-bad_ends event.None talk left h after s bad turned = absurd bad
-bad_ends event.Opened talk left h after s bad turned = absurd bad
-bad_ends (event.Recorded n) talk left h after s bad turned = absurd bad
-bad_ends (event.Status byte) talk left h after s bad turned = absurd bad
+bad_ends : (b : Book) (e : HostEvent) (talk : Talk) (left : ℕ) (h after : HostView) (s : Stage) → IsBad e → Turned b e talk left h after s → is_talking s ≡ 0
+bad_ends b (event.BadAnswer place) talk left h after s bad turned = ap is_talking turned.1
+bad_ends b event.None talk left h after s bad turned = absurd bad
+bad_ends b event.Opened talk left h after s bad turned = absurd bad
+bad_ends b (event.Recorded n) talk left h after s bad turned = absurd bad
+bad_ends b (event.Late id) talk left h after s bad turned = absurd bad
+bad_ends b (event.Status byte) talk left h after s bad turned = absurd bad
+bad_ends b (event.Condition block) talk left h after s bad turned = absurd bad
 
 taken_or_ended : (count : ℕ) (e : HostEvent) (s : Stage) → (0 < count) ⊎ IsBad e → (IsBad e → is_talking s ≡ 0) → (0 < count) ⊎ (is_talking s ≡ 0)
 taken_or_ended count e s (inl taken) ends = inl taken
@@ -69,7 +73,7 @@ taken_or_ended count e s (inr bad) ends = inr (ends bad)
 pub came_moves : (s : Stage) (bytes : List ℕ) (count : ℕ) (m after : MachineView) (talk : Talk) → s ≡ stage.Talking talk → 0 < length bytes → Came s bytes count m after
     → (0 < count) ⊎ (is_talking after.stage ≡ 0)
 came_moves (stage.Talking t) bytes count m after talk is some (e, h, hears, turned, book) =
-    taken_or_ended count e after.stage (hears_by_phase m.host.phase m.host bytes count e h refl some hears) (λ bad. bad_ends e t (t.left - count) h after.host after.stage bad turned)
+    taken_or_ended count e after.stage (hears_by_phase m.host.phase m.host bytes count e h refl some hears) (λ bad. bad_ends m.book e t (t.left - count) h after.host after.stage bad turned)
 came_moves stage.AtRest bytes count m after talk is some so = absurd (let bad : stage.AtRest ≡ stage.Talking talk = is in cc)
 came_moves (stage.Connecting due) bytes count m after talk is some so = absurd (let bad : stage.Connecting due ≡ stage.Talking talk = is in cc)
 came_moves (stage.Keeping e next) bytes count m after talk is some so = absurd (let bad : stage.Keeping e next ≡ stage.Talking talk = is in cc)
@@ -174,17 +178,20 @@ submits_not talk (Some receipt) zero before h s goes = on_not talk zero before h
 submits_not talk (Some receipt) (suc left) before h s (inl (flight, opened, few, mark, host, is)) = not_at s (stage.Talking (record { number = talk.number; receipt = None; left = suc left })) is (λ h. h)
 submits_not talk (Some receipt) (suc left) before h s (inr (why, refused, drops, is)) = not_at s (stage.HangingUp (note.Waiting talk.number (fault.Refused why))) is (λ h. h)
 
-turned_not : (e : HostEvent) (talk : Talk) (left : ℕ) (before h : HostView) (s : Stage) → Turned e talk left before h s → Rests s → ⊥
-turned_not event.None talk left before h s goes = on_not talk left before h s goes
-turned_not (event.Status byte) talk left before h s goes = on_not talk left before h s goes
-turned_not event.Opened talk left before h s goes = submits_not talk talk.receipt left before h s goes
-turned_not (event.Recorded place) talk left before h s (same, is) = not_at s (stage.Keeping (entry.Recorded talk.number) (then.Recorded talk.number)) is (λ h. h)
-turned_not (event.BadAnswer place) talk left before h s (drops, is) = not_at s (stage.HangingUp (note.Waiting talk.number fault.BadAnswer)) is (λ h. h)
+turned_not : (b : Book) (e : HostEvent) (talk : Talk) (left : ℕ) (before h : HostView) (s : Stage) → Turned b e talk left before h s → Rests s → ⊥
+turned_not b event.None talk left before h s goes = on_not talk left before h s goes
+turned_not b (event.Status byte) talk left before h s goes = on_not talk left before h s goes
+turned_not b (event.Condition block) talk left before h s goes = on_not talk left before h s goes
+turned_not b (event.Late id) talk left before h s (inl (closes, same, is)) = not_at s (printed talk.number) is (λ h. h)
+turned_not b (event.Late id) talk left before h s (inr (other, goes)) = on_not talk left before h s goes
+turned_not b event.Opened talk left before h s goes = submits_not talk talk.receipt left before h s goes
+turned_not b (event.Recorded place) talk left before h s (same, is) = not_at s (stage.Keeping (entry.Recorded talk.number) (then.Recorded talk.number)) is (λ h. h)
+turned_not b (event.BadAnswer place) talk left before h s (drops, is) = not_at s (stage.HangingUp (note.Waiting talk.number fault.BadAnswer)) is (λ h. h)
 
 came_not : (s : Stage) (talk : Talk) (bytes : List ℕ) (count : ℕ) (m after : MachineView) → s ≡ stage.Talking talk → Came s bytes count m after → Rests after.stage → ⊥
 came_not s talk bytes count m after is came =
     let (e, h, hears, turned, book) = subst (λ at. Came at bytes count m after) is came in
-    turned_not e talk (talk.left - count) h after.host after.stage turned
+    turned_not m.book e talk (talk.left - count) h after.host after.stage turned
 
 hears_not : (m : MachineView) (bytes counts : List ℕ) (after : MachineView) → (Rests m.stage → ⊥) → HearsAll m bytes counts after → Rests after.stage → ⊥
 hears_not m bytes [] after never (same, talks) = λ rests. never (subst (λ (k : MachineView). Rests k.stage) same rests)

@@ -4,4 +4,5 @@ pub mod StateLemmas
 pub mod CopyLemmas
 pub mod DriverLemmas
 pub mod BookLemmas
+pub mod TryLemmas
 pub mod MachineLemmas

@@ -1,9 +1,10 @@
 -- What the calls of a machine do to the entries that it is of.
-use Rattle.std.proofs.Common.{ℕ, zero, suc, ◌≡◌, ◌+◌, ◌-◌, ◌<◌, inl, inr, Some, None, List, [], ◌∷◌, ◌++◌, length, refl, sym, ◌∙◌, ap, subst, length-append, arith}
+use Rattle.std.proofs.Common.{ℕ, zero, suc, ◌≡◌, ◌+◌, ◌-◌, ◌<◌, ◌≤◌, inl, inr, Some, None, List, [], ◌∷◌, ◌++◌, length, refl, sym, ◌∙◌, ap, subst, length-append, arith}
 use Rattle.std.specs.Prelude.{slice_get}
 use Rattle.escpos_host.specs.declared.host.HostEvent.{HostEvent}
 use Rattle.escpos_host.specs.declared.host.HostEvent.TheVariants as event
-use Rattle.escpos_host.specs.Machine.{HostView}
+use Rattle.escpos_host.specs.Heard.{IsHeard, taken_at}
+use Rattle.escpos_host.specs.Machine.{Down, HostView, Open, Opening, Phase}
 use Rattle.escpos_command.specs.declared.command.Command.{Command}
 use Rattle.std.specs.Prelude.{Option}
 use Rattle.escpos_till.specs.declared.book.Book.{Book}
@@ -17,7 +18,7 @@ use Rattle.escpos_till.specs.declared.machine.Then.{Then}
 use Rattle.escpos_till.specs.declared.machine.Then.TheVariants as then
 use Rattle.escpos_till.specs.declared.state.ReceiptState.TheVariants as state
 use Rattle.escpos_till.specs.Entries.{MayFollow, Waits, states, times_tried}
-use Rattle.escpos_till.specs.Machine.{Came, Fits, Follows, GoesOn, HearsOne, Opens, Submits, Suits, Turns, most_entries}
+use Rattle.escpos_till.specs.Machine.{Came, Fits, Follows, GoesOn, HearsOne, Opens, Submits, Suits, Turns, most_entries, printed}
 use Rattle.escpos_till.proofs.BookLemmas.{get-here}
 use Rattle.escpos_till.proofs.EntryLemmas.{some_state, tried_states, waits_by_state, within_states}
 
@@ -43,12 +44,24 @@ fits_submits b es talk (Some receipt) (suc left) before h s waits tried few (inr
 fits_submits b es talk (Some receipt) zero before h s waits tried few so = fits_going_on b es talk zero before h s waits tried few so
 fits_submits b es talk None left before h s waits tried few so = fits_going_on b es talk left before h s waits tried few so
 
-pub fits_turns : (b : Book) (es : List Entry) (e : HostEvent) (talk : Talk) (left : ℕ) (before h : HostView) (s : Stage) → Fits b es (stage.Talking talk) → Turns e talk left before h s → Fits b es s
+-- A receipt that was tried may be recorded.
+fits_printed : (b : Book) (es : List Entry) (n : ℕ) → Waits es n → 0 < times_tried es n → length es < most_entries → Fits b es (printed n)
+fits_printed b es n waits tried few = (
+  (waits, tried),
+  refl,
+  omega (arith, few),
+  λ content is. absurd (let bad : entry.Recorded n ≡ entry.Queued content = is in cc),
+  λ number next is. absurd (let bad : entry.Recorded n ≡ entry.Tried number next = is in cc),
+)
+
+pub fits_turns : (b : Book) (es : List Entry) (e : HostEvent) (talk : Talk) (left : ℕ) (before h : HostView) (s : Stage) → Fits b es (stage.Talking talk) → Turns b e talk left before h s → Fits b es s
 fits_turns b es event.None talk left before h s fits so = fits_going_on b es talk left before h s fits.0 fits.1 fits.2 so
 fits_turns b es (event.Status byte) talk left before h s fits so = fits_going_on b es talk left before h s fits.0 fits.1 fits.2 so
+fits_turns b es (event.Condition block) talk left before h s fits so = fits_going_on b es talk left before h s fits.0 fits.1 fits.2 so
 fits_turns b es event.Opened talk left before h s fits so = fits_submits b es talk talk.receipt left before h s fits.0 fits.1 fits.2 so
-fits_turns b es (event.Recorded place) talk left before h s fits so =
-    subst (Fits b es) (sym so.1) ((fits.0, fits.1), refl, omega (arith, fits.2), λ content is. absurd (let bad : entry.Recorded talk.number ≡ entry.Queued content = is in cc))
+fits_turns b es (event.Recorded place) talk left before h s fits so = subst (Fits b es) (sym so.1) (fits_printed b es talk.number fits.0 fits.1 fits.2)
+fits_turns b es (event.Late id) talk left before h s fits (inl (closes, same, is)) = subst (Fits b es) (sym is) (fits_printed b es talk.number fits.0 fits.1 fits.2)
+fits_turns b es (event.Late id) talk left before h s fits (inr (other, on)) = fits_going_on b es talk left before h s fits.0 fits.1 fits.2 on
 fits_turns b es (event.BadAnswer place) talk left before h s fits so = subst (Fits b es) (sym so.1) tt
 
 -- Once an entry is kept, what follows fits the entries with it.
@@ -87,8 +100,32 @@ state_of_taken es (entry.Cancelled n) suits = absurd suits
 
 -- What came over a link, as it is told of the machine's parts.
 pub came_so : (talk : Talk) (now : Stage) (b inside : Book) (h host : HostView) (bytes : List ℕ) (consumed : ℕ) (e : HostEvent) (heard : HostView) (left : ℕ) (after : HostView) (s : Stage)
-    → now ≡ stage.Talking talk → host ≡ h → inside ≡ b → HearsOne host bytes consumed e heard → left ≡ talk.left - consumed → Turns e talk left heard after s
+    → now ≡ stage.Talking talk → host ≡ h → inside ≡ b → HearsOne host bytes consumed e heard → left ≡ talk.left - consumed → Turns inside e talk left heard after s
     → Came now bytes consumed (record { book = b; host = h; stage = now }) (record { book = inside; host = after; stage = s })
 came_so talk now b inside h host bytes consumed e heard left after s is same books hears less turns =
-    subst (λ stage. Came stage bytes consumed (record { book = b; host = h; stage = now }) (record { book = inside; host = after; stage = s })) (sym is)
-    (e, heard, subst (λ x. HearsOne x bytes consumed e heard) same hears, subst (λ n. Turns e talk n heard after s) less turns, books)
+    subst (λ stage. Came stage bytes consumed (record { book = b; host = h; stage = now }) (record { book = inside; host = after; stage = s })) (sym is) (
+      e,
+      heard,
+      subst (λ x. HearsOne x bytes consumed e heard) same hears,
+      subst (λ k. Turns k e talk (talk.left - consumed) heard after s) books (subst (λ n. Turns inside e talk n heard after s) less turns),
+      books,
+    )
+
+-- No more is heard than came.
+taken_within : (e : HostEvent) (at : ℕ) → taken_at e at ≤ at + 1
+taken_within event.None at = omega arith
+taken_within event.Opened at = omega arith
+taken_within (event.Recorded n) at = omega arith
+taken_within (event.Late id) at = omega arith
+taken_within (event.Status byte) at = omega arith
+taken_within (event.Condition block) at = omega arith
+taken_within (event.BadAnswer place) at = omega arith
+
+heard_within : (h : HostView) (bytes : List ℕ) (consumed : ℕ) (e : HostEvent) (after : HostView) → IsHeard h bytes consumed e after → consumed ≤ length bytes
+heard_within h bytes consumed e after (inl (none, all, passed, same)) = omega (arith, all)
+heard_within h bytes consumed e after (inr (at, half, within, some, count, passed, byte)) = omega (arith, count, taken_within e at, within)
+
+pub hears_within : (phase : Phase) (h : HostView) (bytes : List ℕ) (consumed : ℕ) (e : HostEvent) (after : HostView) → h.phase ≡ phase → HearsOne h bytes consumed e after → consumed ≤ length bytes
+hears_within Down h bytes consumed e after is hears = omega (arith, (hears.0 is).0)
+hears_within (Opening first) h bytes consumed e after is hears = heard_within h bytes consumed e after (hears.1 (λ down. absurd (let bad : Opening first ≡ Down = sym is ∙ down in cc)))
+hears_within (Open flight) h bytes consumed e after is hears = heard_within h bytes consumed e after (hears.1 (λ down. absurd (let bad : Open flight ≡ Down = sym is ∙ down in cc)))

@@ -6,6 +6,7 @@ use Rattle.escpos_till.specs.declared.entry.Entry.{Entry}
 use Rattle.escpos_till.specs.declared.state.ReceiptState.TheVariants as state
 use Rattle.escpos_till.specs.Entries.{IsLedger, MayFollow, contents, next_free, recorded, states}
 use Rattle.escpos_till.specs.States.{IsFirstWaiting}
+use Rattle.escpos_till.specs.Tries.{tries}
 
 -- These are the contents of the receipts that wait, each at the place of its receipt.
 pub record HasContents (kept : List Content) (entries : List Entry) : Type 0 where
@@ -19,6 +20,7 @@ pub record IsBookOf (b : Book) (entries : List Entry) : Type 0 where
   pub contents : HasContents b.contents.items entries
   pub first_waiting : IsFirstWaiting b.states.items b.first_waiting
   pub recorded : b.recorded ≡ length (recorded entries)
+  pub tries : b.tries.items ≡ tries entries
   pub next : b.next ≡ next_free entries
   pub count : b.count ≡ length entries
 
@@ -30,3 +32,7 @@ Notes old e new = (entries : List Entry) → IsBookOf old entries → IsLedger e
 pub record HasRoom (b : Book) : Type 0 where
   pub states : length b.states.items < b.states.cap
   pub contents : length b.contents.items < b.contents.cap
+
+-- There is room for one more try.
+abbrev pub HasTryRoom : Book → Type 0
+HasTryRoom b = length b.tries.items < b.tries.cap

@@ -1,5 +1,6 @@
 pub mod Contents
 pub mod Entries
+pub mod Tries
 pub mod States
 pub mod Copy
 pub mod Delivers

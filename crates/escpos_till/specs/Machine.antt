@@ -30,7 +30,8 @@ use Rattle.escpos_till.specs.declared.machine.TillRefusal.{TillRefusal}
 use Rattle.escpos_till.specs.declared.machine.TillRefusal.TheVariants as refusal
 use Rattle.escpos_till.specs.declared.state.ReceiptState.TheVariants as state
 use Rattle.escpos_till.specs.declared.store.StoreFault.{StoreFault}
-use Rattle.escpos_till.specs.Book.{HasRoom, IsBookOf, Notes}
+use Rattle.escpos_till.specs.Book.{HasRoom, HasTryRoom, IsBookOf, Notes}
+use Rattle.escpos_till.specs.Tries.{ClosesTry}
 use Rattle.escpos_till.specs.Contents.{GivesReceipt, IsContentFault}
 use Rattle.escpos_till.specs.Delivers.{Due as IsDue, FirstWaits, fresh, marks_taken}
 use Rattle.escpos_till.specs.Entries.{IsLedger, MayFollow, Waits, next_free, state_of, taken, times_tried, waiting}
@@ -71,10 +72,15 @@ abbrev pub entries_to_come : Then → ℕ
 entries_to_come (then.Send due) = 1
 entries_to_come next = 0
 
+-- The receipt may be tried.
+abbrev pub MayTry : List Entry → Due → Type 0
+MayTry es due = Waits es due.number × (next_free es + marks_taken due.openings ≤ mark_count) × (length es + 1 < most_entries)
+
 -- A stage fits these entries: what is to be kept may follow them.
 abbrev pub Fits : Book → List Entry → Stage → Type 0
-Fits b es (stage.Connecting due) = Waits es due.number × (next_free es + marks_taken due.openings ≤ mark_count) × (length es + 1 < most_entries)
+Fits b es (stage.Connecting due) = MayTry es due × HasTryRoom b
 Fits b es (stage.Keeping e next) = MayFollow es e × Suits next e × (length es + entries_to_come next < most_entries) × ((content : Content) → e ≡ entry.Queued content → HasRoom b)
+    × ((number next : ℕ) → e ≡ entry.Tried number next → HasTryRoom b)
 Fits b es (stage.Talking talk) = Waits es talk.number × (0 < times_tried es talk.number) × (length es < most_entries)
 Fits b es s = Unit {0}
 
@@ -154,7 +160,9 @@ pub record Delivers (m : MachineView) (openings most : ℕ) (copy : Option (List
   pub rest : m.stage ≡ stage.AtRest
   pub due : Due
   pub next : IsNext m.book openings most copy due
-  pub after_is : after ≡ at m (stage.Connecting due)
+  pub host : after.host ≡ m.host
+  pub book : (entries : List Entry) → IsBookOf m.book entries → IsBookOf after.book entries
+  pub connects : after.stage ≡ stage.Connecting due
 
 -- ## Why a call is refused: what holds of the machine then. The first reason that applies counts; out of memory may come in place of
 -- any but the first two.
@@ -265,13 +273,22 @@ Submits talk (Some receipt) (suc left) before h s =
     ⊎ ((why : HostError) × RefusesSubmit why before × Drops before h × (s ≡ stage.HangingUp (note.Waiting talk.number (fault.Refused why))))
 Submits talk receipt left before h s = GoesOn talk left before h s
 
--- What an event does, where so many bytes of answers may still be read.
-abbrev pub Turns : HostEvent → Talk → ℕ → HostView → HostView → Stage → Type 0
-Turns event.None talk left before h s = GoesOn talk left before h s
-Turns (event.Status byte) talk left before h s = GoesOn talk left before h s
-Turns event.Opened talk left before h s = Submits talk talk.receipt left before h s
-Turns (event.Recorded place) talk left before h s = (h ≡ before) × (s ≡ stage.Keeping (entry.Recorded talk.number) (then.Recorded talk.number))
-Turns (event.BadAnswer place) talk left before h s = Drops before h × (s ≡ stage.HangingUp (note.Waiting talk.number fault.BadAnswer))
+-- The receipt is printed: that is to be kept.
+abbrev pub printed : ℕ → Stage
+printed number = stage.Keeping (entry.Recorded number) (then.Recorded number)
+
+-- What an event does, where so many bytes of answers may still be read. An answer to a mark of an older link that closed a try of the
+-- receipt shows that it is printed; so it isn't sent again.
+abbrev pub Turns : Book → HostEvent → Talk → ℕ → HostView → HostView → Stage → Type 0
+Turns b event.None talk left before h s = GoesOn talk left before h s
+Turns b (event.Status byte) talk left before h s = GoesOn talk left before h s
+Turns b (event.Condition block) talk left before h s = GoesOn talk left before h s
+Turns b event.Opened talk left before h s = Submits talk talk.receipt left before h s
+Turns b (event.Recorded place) talk left before h s = (h ≡ before) × (s ≡ printed talk.number)
+Turns b (event.Late id) talk left before h s =
+    (ClosesTry b.tries.items talk.number id × (h ≡ before) × (s ≡ printed talk.number))
+    ⊎ ((ClosesTry b.tries.items talk.number id → ⊥) × GoesOn talk left before h s)
+Turns b (event.BadAnswer place) talk left before h s = Drops before h × (s ≡ stage.HangingUp (note.Waiting talk.number fault.BadAnswer))
 
 -- A host hears bytes up to the first event, and with no link none of them.
 abbrev pub HearsOne : HostView → List ℕ → ℕ → HostEvent → HostView → Type 0
@@ -281,7 +298,7 @@ HearsOne h bytes consumed e after =
 -- Bytes of answers came, and so many of them were heard.
 abbrev pub Came : Stage → List ℕ → ℕ → MachineView → MachineView → Type 0
 Came (stage.Talking talk) bytes consumed m after =
-    (e : HostEvent) × (h : HostView) × HearsOne m.host bytes consumed e h × Turns e talk (talk.left - consumed) h after.host after.stage × (after.book ≡ m.book)
+    (e : HostEvent) × (h : HostView) × HearsOne m.host bytes consumed e h × Turns m.book e talk (talk.left - consumed) h after.host after.stage × (after.book ≡ m.book)
 Came s bytes consumed m after = (consumed ≡ length bytes) × (after ≡ m)
 
 -- The link has ended, or was waited for as long as may be.

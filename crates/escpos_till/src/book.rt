@@ -9,13 +9,14 @@ ghost use Rattle.escpos_till.specs.declared.entry.Entry.TheVariants as entry_kin
 ghost use Rattle.escpos_till.specs.declared.state.ReceiptState.{ReceiptState};
 ghost use Rattle.escpos_till.specs.declared.state.ReceiptState.TheVariants as state_kind;
 ghost use Rattle.escpos_till.specs.Contents.{content_with};
-ghost use Rattle.escpos_till.specs.Book.{HasRoom, IsBookOf, Notes};
+ghost use Rattle.escpos_till.specs.Book.{HasRoom, HasTryRoom, IsBookOf, Notes};
 ghost use Rattle.escpos_till.specs.Entries.{IsLedger, MayFollow, Waits, state_of, taken, times_tried, waiting};
 ghost use Rattle.escpos_till.specs.Delivers.{FirstWaits};
 
 use crate::entry::{Content, Entry};
 use crate::number::ReceiptNumber;
 use crate::state::{ReceiptState, first_waiting_from, once_cancelled, one_try_more, tries_in};
+use crate::tries::Try;
 use crate::waiting::WaitingReceipt;
 use std::alloc::{AllocError, Global};
 
@@ -39,6 +40,8 @@ pub struct Book {
     pub(crate) first_waiting: usize,
     /// How many are recorded.
     pub(crate) recorded: usize,
+    /// All tries of receipts, in order.
+    pub(crate) tries: Vec<Try>,
     /// The next mark number.
     pub(crate) next: u32,
     /// How many entries there are.
@@ -55,6 +58,7 @@ impl Book {
             contents: Vec::new(alloc),
             first_waiting: 0,
             recorded: 0,
+            tries: Vec::new(alloc),
             next: 0,
             count: 0,
         }
@@ -74,7 +78,7 @@ impl Book {
             let Ok(entry) = entry.copy(alloc) else {
                 return Err(NoBook::Memory);
             };
-            if book.reserve().is_err() {
+            if book.reserve().is_err() || book.reserve_try().is_err() {
                 return Err(NoBook::Memory);
             }
             book.note(entry);
@@ -162,6 +166,15 @@ impl Book {
         self.states.reserve(1)?;
         self.contents.reserve(1)
     }
+
+    /// Makes room for one more try.
+    pub(crate) fn reserve_try(&mut self) -> Result<(), AllocError>
+        ensures room { OnOk result (HasTryRoom self.new) }
+        ensures kept { HasRoom self.old → HasRoom self.new }
+        ensures same { (entries : List Entry) → IsBookOf self.old entries → IsBookOf self.new entries }
+    {
+        self.tries.reserve(1)
+    }
 }
 
 impl Book {
@@ -169,6 +182,7 @@ impl Book {
     pub(crate) fn note(&mut self, entry: Entry)
         requires follows { (entries : List Entry) × IsBookOf self.old entries × IsLedger entries × MayFollow entries entry × (length entries < 2 ^ 63) }
         requires room { (content : Content) → entry ≡ entry_kind.Queued content → HasRoom self.old }
+        requires try_room { (number next : ℕ) → entry ≡ entry_kind.Tried number next → HasTryRoom self.old }
         ensures { Notes self.old entry self.new }
     {
         match entry {
@@ -181,6 +195,10 @@ impl Book {
             Entry::Tried { number, next } => {
                 let place = number.get() - 1;
                 self.states[place] = one_try_more(self.states[place]);
+                self.tries.push_reserved(Try {
+                    number,
+                    closing: next - 1,
+                });
                 self.next = next;
                 self.count += 1;
             }

@@ -71,6 +71,8 @@ pub(crate) fn with_copy(
 ) -> Result<Receipt, AllocError>
     ensures { IfOk result (λ again. again ≡ copy_line text.now ++ receipt.now) }
 {
+    // Proof only: what a copy's text is.
+    let _ = text.text();
     let mut commands = Vec::new(alloc);
     push_copy_line(&mut commands, text)?;
     push_all(&mut commands, receipt.commands())?;

@@ -16,6 +16,7 @@ mod receipt_content;
 mod state;
 mod store;
 mod surroundings;
+mod tries;
 mod waiting;
 
 pub use copy::{COPY_CHARACTERS, CopyText};
@@ -28,3 +29,4 @@ pub use receipt_content::ReceiptContent;
 pub use state::ReceiptState;
 pub use store::{NoStore, Store, StoreFault};
 pub use surroundings::{PrinterLine, Surroundings};
+pub use tries::Try;

@@ -26,7 +26,7 @@ ghost use Rattle.escpos_till.specs.Book.{IsBookOf, Notes};
 ghost use Rattle.escpos_host.specs.Machine.{IsSound};
 ghost use Rattle.escpos_till.specs.Delivers.{fresh, marks_taken};
 ghost use Rattle.escpos_till.specs.declared.machine.Talk.{Talk};
-ghost use Rattle.escpos_till.specs.Machine.{Asks, Came, Cancels, Delivers, Drops, Ended, Fits, Follows, GoesOn, IsNext, IsStarted, Kept, Opens, Queues, Raises, RefusesAny, RefusesCancel, RefusesDeliver, RefusesRaise, Rests, SameEntries, SendsReceipt, Submits, Turns, Unsure, connected, hung_up, lost, not_connected, put, told};
+ghost use Rattle.escpos_till.specs.Machine.{Asks, Came, Cancels, Delivers, Drops, Ended, Fits, Follows, GoesOn, IsNext, IsStarted, Kept, MayTry, Opens, Queues, Raises, RefusesAny, RefusesCancel, RefusesDeliver, RefusesRaise, Rests, SameEntries, SendsReceipt, Submits, Turns, Unsure, connected, hung_up, lost, not_connected, printed, put, told};
 
 use crate::book::{Book, NoBook};
 use crate::copy::CopyText;
@@ -35,6 +35,7 @@ use crate::number::ReceiptNumber;
 use crate::receipt_content::ReceiptContent;
 use crate::state::ReceiptState;
 use crate::store::StoreFault;
+use crate::tries::closes_try;
 use escpos_host::{Host, HostEvent, SendFault, open_link};
 use escpos_receipt::{JsonError, JsonFault, Receipt};
 use std::alloc::Global;
@@ -346,9 +347,12 @@ impl TillMachine {
         most: u32,
     ) -> Result<(), TillRefusal>
         ensures delivers { OnOk result (Delivers self.old openings most (option_map (λ t. t.now) copy.entry) self.new) }
-        ensures refused { IfErr result (λ why. RefusesDeliver self.old openings why × (self.new ≡ self.old)) }
+        ensures refused { IfErr result (λ why. RefusesDeliver self.old openings why × SameEntries self.old self.new) }
     {
         let due = self.next_due(openings, copy, most)?;
+        if self.book.reserve_try().is_err() {
+            return Err(TillRefusal::Memory);
+        }
         self.stage = Stage::Connecting(due);
         Ok(())
     }
@@ -362,7 +366,7 @@ impl TillMachine {
     ) -> Result<Due, TillRefusal>
         ensures rest { IfOk result (λ _. self.now.stage ≡ Stage.AtRest) }
         ensures next { IfOk result (λ due. IsNext self.now.book openings most (option_map (λ t. t.now) copy.entry) due) }
-        ensures fits { IfOk result (λ due. (entries : List Entry) → IsBookOf self.now.book entries → Fits self.now.book entries (Stage.Connecting due)) }
+        ensures fits { IfOk result (λ due. (entries : List Entry) → IsBookOf self.now.book entries → MayTry entries due) }
         ensures refused { IfErr result (λ why. RefusesDeliver self.now openings why) }
     {
         self.check_rest()?;
@@ -472,7 +476,7 @@ impl TillMachine {
             Stage::Talking(talk) => {
                 let heard = self.host.heard(bytes);
                 let left = less(talk.left, heard.consumed);
-                self.stage = turned(&mut self.host, heard.event, talk, left);
+                self.stage = turned(&self.book, &mut self.host, heard.event, talk, left);
                 heard.consumed
             }
             other => {
@@ -595,19 +599,33 @@ fn opened(host: &mut Host, due: Due) -> Stage
 }
 
 // What an event does, where so many bytes of answers may still be read.
-fn turned(host: &mut Host, event: HostEvent, talk: Talk, left: u32) -> Stage
-    ensures { Turns event talk left host.old host.new result }
+fn turned(book: &Book, host: &mut Host, event: HostEvent, talk: Talk, left: u32) -> Stage
+    ensures { Turns book.now event talk left host.old host.new result }
 {
     match event {
-        HostEvent::None | HostEvent::Status(_) => going_on(host, talk, left),
+        HostEvent::None | HostEvent::Status(_) | HostEvent::Condition(_) => {
+            going_on(host, talk, left)
+        }
         HostEvent::Opened => submitted(host, talk, left),
-        HostEvent::Recorded(_) => Stage::Keeping {
-            entry: Entry::Recorded {
-                number: talk.number,
-            },
-            then: Then::Recorded(talk.number),
-        },
+        HostEvent::Recorded(_) => printed(talk.number),
+        HostEvent::Late(id) => {
+            if closes_try(&book.tries, talk.number, id) {
+                printed(talk.number)
+            } else {
+                going_on(host, talk, left)
+            }
+        }
         HostEvent::BadAnswer { .. } => given_up(host, talk.number, SendFault::BadAnswer),
+    }
+}
+
+// The receipt is printed: that is to be kept.
+fn printed(number: ReceiptNumber) -> Stage
+    ensures { result ≡ printed number }
+{
+    Stage::Keeping {
+        entry: Entry::Recorded { number },
+        then: Then::Recorded(number),
     }
 }
 

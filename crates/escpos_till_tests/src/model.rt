@@ -214,6 +214,41 @@ fn links_end(rt: HostRuntime) {
     prints(&rt, &till, ONCE);
 }
 
+// The link ends with S on it, and the printer prints S after that. Its answer comes on the next link, before that one's opening mark
+// is answered: S is recorded, and isn't sent again.
+#[test]
+fn answered_late(rt: HostRuntime) {
+    let (alloc, first) = (rt.alloc(), number(&rt, 1));
+    let mut till = till_at_last(&rt, alloc);
+    for at in 0..12 {
+        all_happen(&rt, alloc, &mut till, &[whole(at)]);
+    }
+    all_happen(
+        &rt,
+        alloc,
+        &mut till,
+        &[Plain::End, Plain::HangUp, Plain::Tell],
+    );
+    stand(&rt, &till, &[ReceiptState::Waiting { tried: 1 }]);
+    prints(&rt, &till, b"");
+    all_happen(&rt, alloc, &mut till, &DELIVERY[..4]);
+    all_happen(
+        &rt,
+        alloc,
+        &mut till,
+        &[Plain::Feed, Plain::Leave, Plain::HandOver, Plain::Hear],
+    );
+    all_happen(
+        &rt,
+        alloc,
+        &mut till,
+        &[Plain::Keep, Plain::HangUp, Plain::Tell],
+    );
+    was_told(&rt, &till, TillNote::Recorded(first));
+    goes_on(&rt, alloc, &mut till);
+    prints(&rt, &till, ONCE);
+}
+
 // S is tried and cancelled: it isn't sent again, and the answer that comes then counts for nothing.
 #[test]
 fn cancelled(rt: HostRuntime) {

@@ -124,6 +124,11 @@ fn records(rt: &impl Abort, machine: &mut TillMachine) {
     hears(rt, machine, 100, b"\x37\x220000\x00");
     puts(rt, machine, &SENT[11..]);
     hears(rt, machine, 93, b"\x37\x220001\x00");
+    keeps(rt, machine);
+}
+
+// The first receipt is printed: that is kept, the link given up, and the owner told.
+fn keeps(rt: &impl Abort, machine: &mut TillMachine) {
     let first = number(rt, 1);
     match machine.asks() {
         Action::Append(entry) => assert!(rt; is_recorded(entry, first)),
@@ -166,6 +171,66 @@ fn machine_gives_up(rt: HostRuntime) {
     }
     waits(&rt, &mut machine, SendFault::TooLong);
     assert!(&rt; machine.states() == [ReceiptState::Waiting { tried: 2 }].as_slice());
+}
+
+// The receipt is put, and the link ends before its closing mark is answered.
+fn loses_the_answer(rt: &impl Abort, machine: &mut TillMachine) {
+    puts(rt, machine, &SENT[..11]);
+    hears(rt, machine, 100, b"\x37\x220000\x00");
+    puts(rt, machine, &SENT[11..]);
+    machine.link_ended(SendFault::Ended);
+    waits(rt, machine, SendFault::Ended);
+}
+
+// On the link of the second try, the closing mark of the first is answered late: the receipt is printed, and isn't put again. Marks
+// that closed no try are passed over, and so is a block.
+#[test]
+fn machine_hears_late(rt: HostRuntime) {
+    let mut machine = machine_of(&rt, rt.alloc(), &[]);
+    takes(&rt, rt.alloc(), &mut machine, 1);
+    tries(&rt, &mut machine, None, 2);
+    loses_the_answer(&rt, &mut machine);
+    tries(&rt, &mut machine, None, 4);
+    puts(&rt, &mut machine, b"\x1D(H\x06\x00000002");
+    hears(&rt, &mut machine, 100, b"\x37\x220000\x00");
+    hears(&rt, &mut machine, 93, b"\x37\x220009\x00");
+    hears(&rt, &mut machine, 86, b"\x37\x22 ~@!\x00");
+    hears(&rt, &mut machine, 79, b"\x14\x00\x00\x0F");
+    hears(&rt, &mut machine, 75, b"\x37\x220001\x00");
+    keeps(&rt, &mut machine);
+    assert!(&rt; machine.states() == [ReceiptState::Recorded { place: 0 }].as_slice());
+    assert!(&rt; machine.next_mark() == 4);
+}
+
+// The second receipt is tried. A late answer to the closing mark of the first says nothing of it.
+#[test]
+fn machine_hears_of_another(rt: HostRuntime) {
+    let (first, second) = (number(&rt, 1), number(&rt, 2));
+    let entries = [
+        Entry::Queued {
+            content: content(&rt, rt.alloc(), S.0),
+        },
+        Entry::Tried {
+            number: first,
+            next: 2,
+        },
+        Entry::Recorded { number: first },
+        Entry::Queued {
+            content: content(&rt, rt.alloc(), S.0),
+        },
+    ];
+    let mut machine = machine_of(&rt, rt.alloc(), &entries);
+    assert!(&rt; machine.deliver(1, None, 100) == Ok(()));
+    machine.connected(true);
+    match machine.asks() {
+        Action::Append(entry) => assert!(&rt; is_tried(entry, second, 4)),
+        _ => panic!(&rt; "nothing to keep"),
+    }
+    machine.appended(Ok(()));
+    puts(&rt, &mut machine, b"\x1D(H\x06\x00000002");
+    hears(&rt, &mut machine, 100, b"\x37\x220001\x00");
+    hears(&rt, &mut machine, 93, b"\x37\x220002\x00");
+    puts(&rt, &mut machine, b"\x1B@Hi\n\x1D(H\x06\x00000003");
 }
 
 // It gives the link up, and tells why the first receipt waits.

@@ -16,13 +16,13 @@ one_try_more-requires c =
 
 pub returns-in-Queued : goal.returns-in-Queued
 returns-in-Queued c entries book ledger follows =
-    book_after_queued c.args.self.now _ entries c.args.entry c.in-Queued.content book ledger c.in-Queued.is c.push_reserved-in-Queued.ensures.items c.push_reserved.ensures.items refl refl refl refl
+    book_after_queued c.args.self.now _ entries c.args.entry c.in-Queued.content book ledger c.in-Queued.is c.push_reserved-in-Queued.ensures.items c.push_reserved.ensures.items refl refl refl refl refl
 
 pub returns-in-Tried : goal.returns-in-Tried
 returns-in-Tried c entries book ledger follows =
     book_after_tried c.args.self.now _ entries c.args.entry c.in-Tried.number c.in-Tried.next c.get-place.result c.index.result.now c.one_try_more.result book follows c.in-Tried.is
-    c.get-place.ensures.value c.index.ensures c.one_try_more.ensures refl refl refl refl refl refl
+    c.get-place.ensures.value c.index.ensures c.one_try_more.ensures refl refl refl refl refl refl c.push_reserved-in-Tried.ensures.items
 
 pub returns-in-Raised : goal.returns-in-Raised
 returns-in-Raised c entries book ledger follows =
-    book_after_raised c.args.self.now _ entries c.args.entry c.in-Raised.next book c.in-Raised.is refl refl refl refl refl refl
+    book_after_raised c.args.self.now _ entries c.args.entry c.in-Raised.next book c.in-Raised.is refl refl refl refl refl refl refl

@@ -1,8 +1,8 @@
 -- What is heard over a link.
-use Rattle.std.proofs.Common.{◌≡◌, ◌∙◌, ap, sym, subst}
+use Rattle.std.proofs.Common.{◌≡◌, ◌∙◌, ap, refl, sym, subst}
 use Rattle.escpos_till.specs.declared.machine.Stage.TheVariants as stage
 use Rattle.escpos_till.specs.Machine.{Fits}
-use Rattle.escpos_till.proofs.MachineLemmas.{came_so, fits_turns}
+use Rattle.escpos_till.proofs.MachineLemmas.{came_so, fits_turns, hears_within}
 use Rattle.escpos_till.proofs.machine.TillMachine.came.Goals as goal
 
 pub invariant_of-self : goal.invariant_of-self
@@ -23,3 +23,8 @@ returns-in-Talking-clause-came c =
     let books : c.self.inside.book ≡ c.args.self.now.book = ap (λ m. m.book) c.self.view_is in
     came_so c.in-Talking.talk c.args.self.now.stage c.args.self.now.book c.self.inside.book c.args.self.now.host c.self.inside.host c.args.bytes.now c.heard-heard.result.consumed c.heard-heard.result.event
     c.heard-heard.new.self c.less-left.result c.turned.new.host c.turned.result is same books (c.heard-heard.ensures.down, c.heard-heard.ensures.up) c.less-left.ensures c.turned.ensures
+
+pub returns-in-Talking-clause-within : goal.returns-in-Talking-clause-within
+returns-in-Talking-clause-within c =
+    hears_within c.self.inside.host.phase c.self.inside.host c.args.bytes.now c.heard-heard.result.consumed c.heard-heard.result.event c.heard-heard.new.self refl
+    (c.heard-heard.ensures.down, c.heard-heard.ensures.up)

@@ -19,6 +19,7 @@ invariant_of-self c =
         refl,
         omega (arith, c.if-self-ge-MOST_ENTRIES.false, c.self.invariant.book.count),
         λ content is. absurd (let bad : entry.Cancelled c.args.number ≡ entry.Queued content = is in cc),
+        λ number next is. absurd (let bad : entry.Cancelled c.args.number ≡ entry.Tried number next = is in cc),
       );
     }
 
