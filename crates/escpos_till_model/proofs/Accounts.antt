@@ -119,7 +119,7 @@ waits_at before (Raised next) number follows about = absurd about
 waits_at before (Cancelled n) number follows about = subst (Waits before) about follows
 
 -- It waits no more after its end.
-ended_there : (before more : List Entry) (end : Entry) (number : ℕ) → IsEndOf number end → ¬ Waits (before ++ end ∷ more) number
+pub ended_there : (before more : List Entry) (end : Entry) (number : ℕ) → IsEndOf number end → ¬ Waits (before ++ end ∷ more) number
 ended_there before more (Queued content) number ends waits = absurd ends
 ended_there before more (Tried n next) number ends waits = absurd ends
 ended_there before more (Recorded n) number ends waits =

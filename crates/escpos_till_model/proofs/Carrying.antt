@@ -1,7 +1,8 @@
 -- Why no mark number goes out twice, whatever happens: each link has numbers of its own, and what is put on it has no other.
-use Rattle.std.proofs.Common.{ℕ, zero, suc, ◌≡◌, ◌⊎◌, inl, inr, ◌+◌, ◌-◌, ◌<◌, ◌≤◌, min, max, Option, Some, None, List, [], ◌∷◌, ◌++◌, length, take, drop, refl, sym, ◌∙◌, ap, subst, append_assoc, arith}
-use Rattle.std.specs.List.{AllByRecursion}
-use Rattle.std.specs.Prelude.{IsTrue, map, option_to_list, slice_index}
+use Rattle.std.proofs.Common.{ℕ, zero, suc, ◌≡◌, ◌⊎◌, inl, inr, ◌+◌, ◌-◌, ◌<◌, ◌≤◌, min, max, Option, Some, None, List, [], ◌∷◌, ◌++◌, length, take, drop, refl, sym, ◌∙◌, ap, subst, append-nil, append_assoc, arith}
+use Rattle.std.specs.List.{AllByRecursion, list_all}
+use Rattle.std.specs.Prelude.{Bool, true, false, ◌==◌, ◌&&◌, IsTrue, map, option_to_list, slice_index}
+use Rattle.std.proofs.lemmas.Bool.Decides.{nat_tests}
 use Rattle.std.proofs.lemmas.Grind.{flat_map-append}
 use Rattle.std.proofs.lemmas.List.{take-append-drop, take_min}
 use Rattle.escpos_command.specs.declared.command.Command.{Command}
@@ -10,6 +11,11 @@ use Rattle.escpos_command.specs.CommandTable.{AreCommands, row, spell}
 use Rattle.escpos_command.specs.Digits.{mark_count, mark_of}
 use Rattle.escpos_command.specs.Parameters.{is_mark_id}
 use Rattle.escpos_command.specs.Marks.{mark_id, marks}
+use Rattle.escpos_real_time.specs.RealTime.{HoldsRealTime}
+use Rattle.escpos_real_time.proofs.Holding.{within}
+use Rattle.escpos_receipt.specs.Whole.{HoldNoRealTime}
+use Rattle.escpos_receipt.proofs.RealTimes.{none_in}
+use Rattle.escpos_host.proofs.NoRealTime.{Ids, all_of_both, joined_hold_none, nothing_held, openings_hold_none, openings_in_range, sent_holds_none}
 use Rattle.escpos_host.specs.declared.host.HostEvent.{HostEvent}
 use Rattle.escpos_host.specs.declared.host.HostEvent.TheVariants as heard
 use Rattle.escpos_host.specs.declared.send.SendFault.{SendFault}
@@ -18,8 +24,7 @@ use Rattle.escpos_host.specs.Earlier.{with_earlier}
 use Rattle.escpos_host.specs.Awaits.{dialled}
 use Rattle.escpos_host.specs.Machine.{HostView, InFlight, next_mark, submitted, taken_out}
 use Rattle.escpos_host.specs.Says.{marks_from}
-use Rattle.escpos_link.specs.Trusted.{IsFitting}
-use Rattle.escpos_link.specs.declared.event.Event.TheVariants as line
+use Rattle.escpos_till.specs.declared.book.Book.{Book}
 use Rattle.escpos_till.specs.declared.entry.Entry.{Entry}
 use Rattle.escpos_till.specs.declared.entry.Entry.TheVariants as entry
 use Rattle.escpos_till.specs.declared.machine.Stage.{Stage}
@@ -40,30 +45,18 @@ use Rattle.escpos_till_model.specs.declared.event.Happening.TheVariants as event
 use Rattle.escpos_till_model.specs.Carried.{AreApart, Carried, Carries, HasOwnMarks, limit_of, link_at, link_by, link_of, links_after, numbers_from, out_of, with_put}
 use Rattle.escpos_till_model.specs.Known.{BookMayLag, Holds, IsMachineIn, IsToKeep, IsWorld}
 use Rattle.escpos_till_model.specs.Kept.{Hand}
-use Rattle.escpos_till_model.specs.World.{Breaks, FitsLine, Happens, Hears, Moves, Puts, Runs, Stores, World, with_entry, without_entry}
+use Rattle.escpos_till_model.specs.World.{Breaks, FitsLine, Happens, Hears, IsSendable, Moves, Puts, Runs, Stores, World, with_entry, without_entry}
 use Rattle.escpos_till_model.proofs.LinesKept.{LineLaws, down_or_up}
 use Rattle.escpos_till_model.proofs.Worlds.{whatever}
 
 -- ## Marks
 
--- A mark with such a number is a command.
-abbrev pub Ids : Type 0
-Ids = (n : ℕ) → n < mark_count → IsTrue (is_mark_id (mark_of n))
-
 marks_of_both : (some others : List Command) → marks (some ++ others) ≡ marks some ++ marks others
 marks_of_both some others = flat_map-append (λ c. option_to_list (mark_id c)) some others
-
-all_of_both : (some others : List Command) → AreCommands some → AreCommands others → AreCommands (some ++ others)
-all_of_both [] others all more = more
-all_of_both (c ∷ some) others all more = (all.0, all_of_both some others all.1 more)
 
 marks_of_openings : (count first : ℕ) → marks (marks_from count first) ≡ map mark_of (numbers_from count first)
 marks_of_openings zero first = refl
 marks_of_openings (suc count) first = ap (λ ids. mark_of first ∷ ids) (marks_of_openings count (first + 1))
-
-openings_in_range : Ids → (count first : ℕ) → first + count ≤ mark_count → AreCommands (marks_from count first)
-openings_in_range ids zero first within = tt
-openings_in_range ids (suc count) first within = (ids first (omega (arith, within)), openings_in_range ids count (first + 1) (omega (arith, within)))
 
 one_number_more : (count first : ℕ) → numbers_from (suc count) first ≡ numbers_from count first ++ (first + count) ∷ []
 one_number_more zero first = ap (λ n. n ∷ []) (let so : first ≡ first + 0 = omega arith in so)
@@ -82,6 +75,7 @@ pub record IsSaying (l : Carried) (h : HostView) (receipt : Option (List Command
   pub used : ℕ
   pub begins : spell said ≡ l.bytes ++ h.out
   pub commands : AreCommands said
+  pub no_real_time : HoldNoRealTime said
   pub marks_are : marks said ≡ map mark_of (numbers_from used l.first)
   pub next_is : h.next ≡ l.first + used
   pub within : h.next ≤ l.limit
@@ -228,7 +222,7 @@ kept_by ids (then.Send due) low links kept hand h m after e first may keeps foll
     let enough : next_free kept + openings ≤ mark_count = omega (arith, keeps.1.within) in
     let l : Carried = record { first = next_free kept; limit = limit_of e; bytes = [] } in (
       (omega (arith, limit, after_it), omega (arith, limit), apart),
-      (record { said = []; unsaid = []; used = 0; begins = refl; commands = tt; marks_are = refl; within = omega (arith, limit) }, own),
+      (record { said = []; unsaid = []; used = 0; begins = refl; commands = tt; marks_are = refl; within = omega (arith, limit); no_real_time = nothing_held }, own),
       elim follows [
         | inl opened ↦
             let host : after.host ≡ dialled (fresh (next_free kept)) openings = opened.0 ∙ ap (λ f. dialled (fresh f) openings) first in
@@ -237,6 +231,7 @@ kept_by ids (then.Send due) low links kept hand h m after e first may keeps foll
               used = openings;
               begins = refl;
               commands = openings_in_range ids openings (next_free kept) enough;
+              no_real_time = openings_hold_none ids openings (next_free kept) enough;
               marks_are = marks_of_openings openings (next_free kept);
               next_is = refl;
               within = omega (arith, limit);
@@ -283,9 +278,13 @@ failed_carried w new low links why has known more c stores =
 
 -- ## Bytes are put
 
+-- What was put of what is said holds no real-time command either.
+put_holds_none : (said : List Command) (bytes unsaid : List ℕ) → spell said ≡ bytes ++ unsaid → HoldNoRealTime said → HoldsRealTime bytes → ⊥
+put_holds_none said bytes unsaid begins none held = none_in said none (subst HoldsRealTime (sym begins) (within [] bytes unsaid held))
+
 own_of : (l : Carried) (h : HostView) (receipt : Option (List Command)) → IsSaying l h receipt → HasOwnMarks l
 own_of l h receipt says =
-    record { said = says.said; unsaid = h.out; used = says.used; begins = says.begins; commands = says.commands; marks_are = says.marks_are; within = omega (arith, says.next_is, says.within) }
+    record { said = says.said; unsaid = h.out; used = says.used; begins = says.begins; commands = says.commands; marks_are = says.marks_are; within = omega (arith, says.next_is, says.within); no_real_time = put_holds_none says.said l.bytes h.out says.begins says.no_real_time }
 
 put_says : (l : Carried) (h : HostView) (receipt : Option (List Command)) (most count : ℕ) → count ≡ min most (length h.out) → IsSaying l h receipt
     → IsSaying (record { first = l.first; limit = l.limit; bytes = l.bytes ++ take most h.out }) (taken_out h count) receipt
@@ -297,6 +296,7 @@ put_says l h receipt most count is says =
       begins = says.begins ∙ ap (λ k. l.bytes ++ k) (sym (take-append-drop count h.out)) ∙ sym (append_assoc l.bytes (take count h.out) (drop count h.out))
           ∙ ap (λ k. (l.bytes ++ k) ++ drop count h.out) (sym same);
       commands = says.commands;
+      no_real_time = says.no_real_time;
       marks_are = says.marks_are;
       next_is = says.next_is;
       within = says.within;
@@ -343,6 +343,7 @@ part_put low high (l ∷ ls) h receipt most fewer says apart own =
           commands = says.commands;
           marks_are = says.marks_are;
           within = omega (arith, says.next_is, says.within);
+          no_real_time = put_holds_none says.said (l.bytes ++ take fewer front) (drop fewer front ++ drop most h.out) (says.begins ∙ sym all) says.no_real_time;
         },
         own.1,
       ),
@@ -371,6 +372,7 @@ saying_for l h h' receipt out next says = record {
   used = says.used;
   begins = says.begins ∙ ap (λ k. l.bytes ++ k) (sym out);
   commands = says.commands;
+  no_real_time = says.no_real_time;
   marks_are = says.marks_are;
   next_is = next ∙ says.next_is;
   within = subst (λ n. n ≤ l.limit) (sym next) says.within;
@@ -401,6 +403,12 @@ byte_says (heard.Recorded number) h byte at h' (inr (inr (a, spells, (p, ps, pha
 byte_says (heard.Status byte') h byte at h' (inl grown) good = absurd grown
 byte_says (heard.Status byte') h byte at h' (inr (inl misfits)) good = absurd misfits
 byte_says (heard.Status byte') h byte at h' (inr (inr (a, spells, (is, same)))) good = same_by h h' _ refl refl same
+byte_says (heard.Condition block) h byte at h' (inl grown) good = absurd grown
+byte_says (heard.Condition block) h byte at h' (inr (inl misfits)) good = absurd misfits
+byte_says (heard.Condition block) h byte at h' (inr (inr (a, spells, (is, same)))) good = same_by h h' _ refl refl same
+byte_says (heard.Late id) h byte at h' (inl grown) good = absurd grown
+byte_says (heard.Late id) h byte at h' (inr (inl misfits)) good = absurd misfits
+byte_says (heard.Late id) h byte at h' (inr (inr (a, spells, (first, phase, is, other, same)))) good = same_by h h' _ refl refl same
 byte_says (heard.BadAnswer place) h byte at h' hears good = absurd good
 
 heard_says : (e : HostEvent) (h : HostView) (bytes : List ℕ) (count : ℕ) (h' : HostView) → IsHeard h bytes count e h' → IsGood e → SaysSame h h'
@@ -419,17 +427,19 @@ goes_says l ls talk zero h after says (drops, is) = quiet_on after.stage after.h
 goes_says l ls talk (suc left) h after says (same, is) = subst (λ s. TalksOn s after.host (l ∷ ls)) (sym is) (subst (λ v. IsSaying l v talk.receipt) (sym same) says)
 
 -- The receipt is put out, with one more mark.
-submitted_says : Ids → (l : Carried) (h : HostView) (flight : List InFlight) (commands : List Command) → IsSaying l h (Some commands) → IsFitting (line.Submit commands) → h.next < mark_count
+submitted_says : Ids → (l : Carried) (h : HostView) (flight : List InFlight) (commands : List Command) → IsSaying l h (Some commands) → IsSendable commands → h.next < mark_count
     → IsSaying l (submitted h flight commands) None
-submitted_says ids l h flight commands says (unmarked, in_range) high =
+submitted_says ids l h flight commands says sendable high =
     let more : List Command = kind.Init ∷ (commands ++ next_mark h ∷ []) in
     let fewer : h.next < l.limit = says.left commands refl in
-    let marked : marks more ≡ mark_of h.next ∷ [] = marks_of_both commands (next_mark h ∷ []) ∙ ap (λ ids. ids ++ mark_of h.next ∷ []) unmarked in
+    let marked : marks more ≡ mark_of h.next ∷ [] = marks_of_both commands (next_mark h ∷ []) ∙ ap (λ ids. ids ++ mark_of h.next ∷ []) sendable.fits.0 in
     record {
       said = says.said ++ more;
       used = suc says.used;
       begins = flat_map-append row says.said more ∙ ap (λ k. k ++ spell more) says.begins ∙ append_assoc l.bytes h.out (spell more);
-      commands = all_of_both says.said more says.commands (refl, all_of_both commands (next_mark h ∷ []) in_range (ids h.next high, tt));
+      commands = all_of_both says.said more says.commands (refl, all_of_both commands (next_mark h ∷ []) sendable.fits.1 (ids h.next high, tt));
+      no_real_time = joined_hold_none says.said more (refl, all_of_both commands (next_mark h ∷ []) sendable.fits.1 (ids h.next high, tt)) says.no_real_time
+          (sent_holds_none ids commands h.next sendable.fits.1 high sendable.no_real_time);
       marks_are = marks_of_both says.said more ∙ ap (λ ids. ids ++ marks more) says.marks_are ∙ ap (λ ids. map mark_of (numbers_from says.used l.first) ++ ids) marked
           ∙ ap (λ n. map mark_of (numbers_from says.used l.first) ++ mark_of n ∷ []) says.next_is ∙ sym (map_one_more (numbers_from says.used l.first) (l.first + says.used))
           ∙ ap (map mark_of) (sym (one_number_more says.used l.first));
@@ -439,27 +449,32 @@ submitted_says ids l h flight commands says (unmarked, in_range) high =
     }
 
 submits_says : Ids → (l : Carried) (ls : List Carried) (talk : Talk) (receipt : Option (List Command)) (left : ℕ) (h : HostView) (after : MachineView) → talk.receipt ≡ receipt → IsSaying l h talk.receipt
-    → ((commands : List Command) → talk.receipt ≡ Some commands → IsFitting (line.Submit commands)) → Submits talk receipt left h after.host after.stage → TalksOn after.stage after.host (l ∷ ls)
+    → ((commands : List Command) → talk.receipt ≡ Some commands → IsSendable commands) → Submits talk receipt left h after.host after.stage → TalksOn after.stage after.host (l ∷ ls)
 submits_says ids l ls talk (Some commands) (suc left) h after is says fits (inl (flight, phase, few, mark, same, at)) =
     subst (λ s. TalksOn s after.host (l ∷ ls)) (sym at) (subst (λ v. IsSaying l v None) (sym same) (submitted_says ids l h flight commands (subst (IsSaying l h) is says) (fits commands is) mark))
 submits_says ids l ls talk (Some commands) (suc left) h after is says fits (inr (why, refuses, drops, at)) = quiet_on after.stage after.host (l ∷ ls) (subst IsQuiet (sym at) tt)
 submits_says ids l ls talk (Some commands) zero h after is says fits so = goes_says l ls talk zero h after says so
 submits_says ids l ls talk None left h after is says fits so = goes_says l ls talk left h after says so
 
-turned_says : Ids → (e : HostEvent) (l : Carried) (ls : List Carried) (talk : Talk) (left : ℕ) (before h : HostView) (after : MachineView) → IsSaying l before talk.receipt → (IsGood e → SaysSame before h)
-    → ((commands : List Command) → talk.receipt ≡ Some commands → IsFitting (line.Submit commands)) → Turned e talk left h after.host after.stage → TalksOn after.stage after.host (l ∷ ls)
-turned_says ids heard.None l ls talk left before h after says same fits turned = goes_says l ls talk left h after (saying_for l before h talk.receipt (same tt).0 (same tt).1 says) turned
-turned_says ids (heard.Status byte) l ls talk left before h after says same fits turned = goes_says l ls talk left h after (saying_for l before h talk.receipt (same tt).0 (same tt).1 says) turned
-turned_says ids heard.Opened l ls talk left before h after says same fits turned =
+turned_says : Ids → (b : Book) (e : HostEvent) (l : Carried) (ls : List Carried) (talk : Talk) (left : ℕ) (before h : HostView) (after : MachineView) → IsSaying l before talk.receipt → (IsGood e → SaysSame before h)
+    → ((commands : List Command) → talk.receipt ≡ Some commands → IsSendable commands) → Turned b e talk left h after.host after.stage → TalksOn after.stage after.host (l ∷ ls)
+turned_says ids b heard.None l ls talk left before h after says same fits turned = goes_says l ls talk left h after (saying_for l before h talk.receipt (same tt).0 (same tt).1 says) turned
+turned_says ids b (heard.Status byte) l ls talk left before h after says same fits turned = goes_says l ls talk left h after (saying_for l before h talk.receipt (same tt).0 (same tt).1 says) turned
+turned_says ids b (heard.Condition block) l ls talk left before h after says same fits turned =
+    goes_says l ls talk left h after (saying_for l before h talk.receipt (same tt).0 (same tt).1 says) turned
+turned_says ids b (heard.Late id) l ls talk left before h after says same fits (inl (closes, host, is)) = quiet_on after.stage after.host (l ∷ ls) (subst IsQuiet (sym is) tt)
+turned_says ids b (heard.Late id) l ls talk left before h after says same fits (inr (other, turned)) =
+    goes_says l ls talk left h after (saying_for l before h talk.receipt (same tt).0 (same tt).1 says) turned
+turned_says ids b heard.Opened l ls talk left before h after says same fits turned =
     submits_says ids l ls talk talk.receipt left h after refl (saying_for l before h talk.receipt (same tt).0 (same tt).1 says) fits turned
-turned_says ids (heard.Recorded place) l ls talk left before h after says same fits (host, is) = quiet_on after.stage after.host (l ∷ ls) (subst IsQuiet (sym is) tt)
-turned_says ids (heard.BadAnswer place) l ls talk left before h after says same fits (drops, is) = quiet_on after.stage after.host (l ∷ ls) (subst IsQuiet (sym is) tt)
+turned_says ids b (heard.Recorded place) l ls talk left before h after says same fits (host, is) = quiet_on after.stage after.host (l ∷ ls) (subst IsQuiet (sym is) tt)
+turned_says ids b (heard.BadAnswer place) l ls talk left before h after says same fits (drops, is) = quiet_on after.stage after.host (l ∷ ls) (subst IsQuiet (sym is) tt)
 
-pub came_says : Ids → (links : List Carried) (talk : Talk) (m after : MachineView) (bytes : List ℕ) (count : ℕ) → SaysOn links m.host talk.receipt → ((commands : List Command) → talk.receipt ≡ Some commands → IsFitting (line.Submit commands))
+pub came_says : Ids → (links : List Carried) (talk : Talk) (m after : MachineView) (bytes : List ℕ) (count : ℕ) → SaysOn links m.host talk.receipt → ((commands : List Command) → talk.receipt ≡ Some commands → IsSendable commands)
     → Came (stage.Talking talk) bytes count m after → TalksOn after.stage after.host links
 came_says ids [] talk m after bytes count says fits came = absurd says
 came_says ids (l ∷ ls) talk m after bytes count says fits (e, h, hears, turned, book) =
-    turned_says ids e l ls talk (talk.left - count) m.host h after says (hears_says e m.host bytes count h hears) fits turned
+    turned_says ids m.book e l ls talk (talk.left - count) m.host h after says (hears_says e m.host bytes count h hears) fits turned
 
 hears_carried : Ids → (w new : World) (low : ℕ) (links : List Carried) (most : ℕ) → IsWorld w → AreCarried low w links → Hears w most new → AreCarried low new links
 hears_carried ids w new low links most known c hears =
@@ -501,7 +516,7 @@ step_carried ids (event.Cancel number) w new low links known moves c =
     moved_on (λ m after. Cancels m number after) w new w.told low links moves (λ m after cancels. quietly links m after (subst (λ k. IsQuiet k.stage) (sym cancels.after_is) tt)) c
 step_carried ids (event.Deliver openings most copy) w new low links known (is_copy, moves) c =
     moved_on (λ m after. Delivers m openings most copy after × FitsLine after.stage) w new w.told low links moves
-    (λ m after delivers. quietly links m after (subst (λ k. IsQuiet k.stage) (sym delivers.0.after_is) tt)) c
+    (λ m after delivers. quietly links m after (subst IsQuiet (sym delivers.0.connects) tt)) c
 step_carried ids event.Refuse w new low links known moves c =
     moved_on SameEntries w new w.told low links moves
     (λ m after same talks. subst (λ s. TalksOn s after.host links) (sym same.stage) (subst (λ h. TalksOn m.stage h links) (sym same.host) talks)) c

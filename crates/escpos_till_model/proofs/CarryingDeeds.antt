@@ -8,8 +8,8 @@ use Rattle.escpos_host.specs.declared.host.HostEvent.TheVariants as heard
 use Rattle.escpos_host.specs.declared.send.SendFault.{SendFault}
 use Rattle.escpos_host.specs.Earlier.{with_earlier}
 use Rattle.escpos_host.specs.Machine.{HostView}
-use Rattle.escpos_link.specs.Trusted.{IsFitting}
-use Rattle.escpos_link.specs.declared.event.Event.TheVariants as line
+use Rattle.escpos_host.proofs.NoRealTime.{Ids}
+use Rattle.escpos_till.specs.declared.book.Book.{Book}
 use Rattle.escpos_till.specs.declared.entry.Entry.{Entry}
 use Rattle.escpos_till.specs.declared.machine.Stage.{Stage}
 use Rattle.escpos_till.specs.declared.machine.Stage.TheVariants as stage
@@ -26,8 +26,8 @@ use Rattle.escpos_till_model.specs.Around.{Around, Does, DoesInTime, HasNoLink, 
 use Rattle.escpos_till_model.specs.Carried.{AreApart, Carried, CarriesBy, HasOwnMarks, UsesMarksOnce, link_for, link_of, with_put}
 use Rattle.escpos_till_model.specs.Kept.{Hand}
 use Rattle.escpos_till_model.specs.Known.{BookMayLag, Holds, IsMachineIn, IsToKeep, IsWorld}
-use Rattle.escpos_till_model.specs.World.{HasCome, World}
-use Rattle.escpos_till_model.proofs.Carrying.{Ids, IsQuiet, SaysOn, TalksOn, apart_more, came_says, connected_so, ended_so, grows, hung_so, kept_by, lost_quiet, missed_so, note_quiet, one_put, part_put, quiet_on, same_or_quiet}
+use Rattle.escpos_till_model.specs.World.{HasCome, IsSendable, World}
+use Rattle.escpos_till_model.proofs.Carrying.{IsQuiet, SaysOn, TalksOn, apart_more, came_says, connected_so, ended_so, grows, hung_so, kept_by, lost_quiet, missed_so, note_quiet, one_put, part_put, quiet_on, same_or_quiet}
 use Rattle.escpos_till_model.proofs.Driven.{does, shows_around}
 use Rattle.escpos_till_model.proofs.DriverDoes.{IsEnding, ends_on, lags_ends, unsure_lags}
 use Rattle.escpos_till_model.proofs.Rows.{EveryWorld}
@@ -60,7 +60,7 @@ told_on n m mid links at mid_is = quiet_on mid.stage mid.host links (subst (λ k
 
 -- The receipt that is still to be sent fits the line.
 abbrev FitsTalk : Stage → Type 0
-FitsTalk (stage.Talking talk) = (commands : List Command) → talk.receipt ≡ Some commands → IsFitting (line.Submit commands)
+FitsTalk (stage.Talking talk) = (commands : List Command) → talk.receipt ≡ Some commands → IsSendable commands
 FitsTalk s = Unit {0}
 
 goes_fits : (talk : Talk) (left : ℕ) (h : HostView) (after : MachineView) → FitsTalk (stage.Talking talk) → GoesOn talk left h after.host after.stage → FitsTalk after.stage
@@ -73,15 +73,18 @@ submits_fits talk (Some commands) (suc left) h after fits (inr (why, refuses, dr
 submits_fits talk (Some commands) zero h after fits so = goes_fits talk zero h after fits so
 submits_fits talk None left h after fits so = goes_fits talk left h after fits so
 
-turned_fits : (e : HostEvent) (talk : Talk) (left : ℕ) (h : HostView) (after : MachineView) → FitsTalk (stage.Talking talk) → Turned e talk left h after.host after.stage → FitsTalk after.stage
-turned_fits heard.None talk left h after fits turned = goes_fits talk left h after fits turned
-turned_fits (heard.Status byte) talk left h after fits turned = goes_fits talk left h after fits turned
-turned_fits heard.Opened talk left h after fits turned = submits_fits talk talk.receipt left h after fits turned
-turned_fits (heard.Recorded place) talk left h after fits (host, is) = subst FitsTalk (sym is) tt
-turned_fits (heard.BadAnswer place) talk left h after fits (drops, is) = subst FitsTalk (sym is) tt
+turned_fits : (b : Book) (e : HostEvent) (talk : Talk) (left : ℕ) (h : HostView) (after : MachineView) → FitsTalk (stage.Talking talk) → Turned b e talk left h after.host after.stage → FitsTalk after.stage
+turned_fits b heard.None talk left h after fits turned = goes_fits talk left h after fits turned
+turned_fits b (heard.Status byte) talk left h after fits turned = goes_fits talk left h after fits turned
+turned_fits b (heard.Condition block) talk left h after fits turned = goes_fits talk left h after fits turned
+turned_fits b (heard.Late id) talk left h after fits (inl (closes, host, is)) = subst FitsTalk (sym is) tt
+turned_fits b (heard.Late id) talk left h after fits (inr (other, turned)) = goes_fits talk left h after fits turned
+turned_fits b heard.Opened talk left h after fits turned = submits_fits talk talk.receipt left h after fits turned
+turned_fits b (heard.Recorded place) talk left h after fits (host, is) = subst FitsTalk (sym is) tt
+turned_fits b (heard.BadAnswer place) talk left h after fits (drops, is) = subst FitsTalk (sym is) tt
 
 came_fits : (talk : Talk) (m after : MachineView) (bytes : List ℕ) (count : ℕ) → FitsTalk (stage.Talking talk) → Came (stage.Talking talk) bytes count m after → FitsTalk after.stage
-came_fits talk m after bytes count fits (e, h, hears, turned, book) = turned_fits e talk _ h after fits turned
+came_fits talk m after bytes count fits (e, h, hears, turned, book) = turned_fits m.book e talk _ h after fits turned
 
 one_heard : Ids → (talk : Talk) (m mid : MachineView) (bytes : List ℕ) (count : ℕ) (links : List Carried) → m.stage ≡ stage.Talking talk → FitsTalk m.stage → TalksOn m.stage m.host links
     → Came m.stage bytes count m mid → FitsTalk mid.stage × TalksOn mid.stage mid.host links

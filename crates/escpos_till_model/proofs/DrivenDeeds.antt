@@ -14,6 +14,7 @@ use Rattle.escpos_host.specs.Heard.{HearsByte, IsHeard, taken_at, with_half}
 use Rattle.escpos_host.specs.Machine.{HostView, Down, IsSound}
 use Rattle.escpos_link.specs.declared.event.Event.{Event}
 use Rattle.escpos_link.specs.Wire.{WireView, given_up, heard_from, with_bytes, with_link}
+use Rattle.escpos_till.specs.declared.book.Book.{Book}
 use Rattle.escpos_till.specs.declared.entry.Entry.{Entry}
 use Rattle.escpos_till.specs.declared.machine.Stage.{Stage}
 use Rattle.escpos_till.specs.declared.machine.Stage.TheVariants as stage
@@ -315,6 +316,12 @@ byte_up (heard.Recorded number) h byte at h' up (inr (inr (a, spells, (p, ps, ph
 byte_up (heard.Status byte') h byte at h' up (inl grows) good = absurd grows
 byte_up (heard.Status byte') h byte at h' up (inr (inl misfits)) good = absurd misfits
 byte_up (heard.Status byte') h byte at h' up (inr (inr (a, spells, (is, same)))) good = subst (λ v. v.phase ≢ Down) (sym same) up
+byte_up (heard.Condition block) h byte at h' up (inl grows) good = absurd grows
+byte_up (heard.Condition block) h byte at h' up (inr (inl misfits)) good = absurd misfits
+byte_up (heard.Condition block) h byte at h' up (inr (inr (a, spells, (is, same)))) good = subst (λ v. v.phase ≢ Down) (sym same) up
+byte_up (heard.Late id) h byte at h' up (inl grows) good = absurd grows
+byte_up (heard.Late id) h byte at h' up (inr (inl misfits)) good = absurd misfits
+byte_up (heard.Late id) h byte at h' up (inr (inr (a, spells, (first, phase, is, other, same)))) good = subst (λ v. v.phase ≢ Down) (sym same) up
 byte_up (heard.BadAnswer place) h byte at h' up hears good = absurd good
 
 heard_up : (e : HostEvent) (h : HostView) (bytes : List ℕ) (count : ℕ) (h' : HostView) → h.phase ≢ Down → IsHeard h bytes count e h' → IsGood e → h'.phase ≢ Down
@@ -326,6 +333,8 @@ taken_within heard.None at count most fewer is = omega (arith, fewer, is)
 taken_within heard.Opened at count most fewer is = omega (arith, fewer, is)
 taken_within (heard.Recorded number) at count most fewer is = omega (arith, fewer, is)
 taken_within (heard.Status byte) at count most fewer is = omega (arith, fewer, is)
+taken_within (heard.Condition block) at count most fewer is = omega (arith, fewer, is)
+taken_within (heard.Late id) at count most fewer is = omega (arith, fewer, is)
 taken_within (heard.BadAnswer place) at count most fewer is = omega (arith, fewer, is)
 
 heard_within : (e : HostEvent) (h : HostView) (bytes : List ℕ) (count : ℕ) (h' : HostView) → IsHeard h bytes count e h' → count ≤ length bytes
@@ -342,17 +351,21 @@ submitting talk (Some receipt) (suc left) h mid up (inr (why, refuses, drops, is
 submitting talk (Some receipt) zero h mid up so = going talk zero h mid up so
 submitting talk None left h mid up so = going talk left h mid up so
 
-came_by : (e : HostEvent) (talk : Talk) (left : ℕ) (before h : HostView) (bytes : List ℕ) (count : ℕ) (mid : MachineView) → before.phase ≢ Down → IsHeard before bytes count e h
-    → Turned e talk left h mid.host mid.stage → Stands mid
-came_by heard.None talk left before h bytes count mid up hears turned = going talk left h mid (heard_up heard.None before bytes count h up hears tt) turned
-came_by (heard.Status byte) talk left before h bytes count mid up hears turned = going talk left h mid (heard_up (heard.Status byte) before bytes count h up hears tt) turned
-came_by heard.Opened talk left before h bytes count mid up hears turned = submitting talk talk.receipt left h mid (heard_up heard.Opened before bytes count h up hears tt) turned
-came_by (heard.Recorded place) talk left before h bytes count mid up hears (same, is) =
+came_by : (b : Book) (e : HostEvent) (talk : Talk) (left : ℕ) (before h : HostView) (bytes : List ℕ) (count : ℕ) (mid : MachineView) → before.phase ≢ Down → IsHeard before bytes count e h
+    → Turned b e talk left h mid.host mid.stage → Stands mid
+came_by b heard.None talk left before h bytes count mid up hears turned = going talk left h mid (heard_up heard.None before bytes count h up hears tt) turned
+came_by b (heard.Status byte) talk left before h bytes count mid up hears turned = going talk left h mid (heard_up (heard.Status byte) before bytes count h up hears tt) turned
+came_by b (heard.Condition block) talk left before h bytes count mid up hears turned = going talk left h mid (heard_up (heard.Condition block) before bytes count h up hears tt) turned
+came_by b (heard.Late id) talk left before h bytes count mid up hears (inl (closes, same, is)) =
+    Done _ _ is (subst (λ v. v.phase ≢ Down) (sym same) (heard_up (heard.Late id) before bytes count h up hears tt))
+came_by b (heard.Late id) talk left before h bytes count mid up hears (inr (other, turned)) = going talk left h mid (heard_up (heard.Late id) before bytes count h up hears tt) turned
+came_by b heard.Opened talk left before h bytes count mid up hears turned = submitting talk talk.receipt left h mid (heard_up heard.Opened before bytes count h up hears tt) turned
+came_by b (heard.Recorded place) talk left before h bytes count mid up hears (same, is) =
     Done _ _ is (subst (λ v. v.phase ≢ Down) (sym same) (heard_up (heard.Recorded place) before bytes count h up hears tt))
-came_by (heard.BadAnswer place) talk left before h bytes count mid up hears (drops, is) = Off _ is (gone h mid.host drops)
+came_by b (heard.BadAnswer place) talk left before h bytes count mid up hears (drops, is) = Off _ is (gone h mid.host drops)
 
 came_stands : (talk : Talk) (m mid : MachineView) (bytes : List ℕ) (count : ℕ) → m.host.phase ≢ Down → Came (stage.Talking talk) bytes count m mid → Stands mid
-came_stands talk m mid bytes count up (e, h, hears, turned, book) = came_by e talk (talk.left - count) m.host h bytes count mid up (hears.1 up) turned
+came_stands talk m mid bytes count up (e, h, hears, turned, book) = came_by m.book e talk (talk.left - count) m.host h bytes count mid up (hears.1 up) turned
 
 came_within : (talk : Talk) (m mid : MachineView) (bytes : List ℕ) (count : ℕ) → m.host.phase ≢ Down → Came (stage.Talking talk) bytes count m mid → count ≤ length bytes
 came_within talk m mid bytes count up (e, h, hears, turned, book) = heard_within e m.host bytes count h (hears.1 up)

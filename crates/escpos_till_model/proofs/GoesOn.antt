@@ -90,6 +90,8 @@ turned h after a at heard.None (ignored, same) = stays_same h after same
 turned h after a at heard.Opened (first, id, is, answer, mark, same) = subst (GoesOn h) (sym same) (is_opened h first is)
 turned h after a at (heard.Recorded number) (p, ps, is, answer, place, same) = subst (GoesOn h) (sym same) (is_recorded h p ps is)
 turned h after a at (heard.Status byte) (answer, same) = stays_same h after same
+turned h after a at (heard.Condition block) (answer, same) = stays_same h after same
+turned h after a at (heard.Late id) (first, is, answer, other, same) = stays_same h after same
 turned h after a at (heard.BadAnswer place) (p, ps, id, is, answer, other, closing, at_place, same) = subst (GoesOn h) (sym same) (goes_down h)
 
 with_half_on : (h : HostView) (half : List ℕ) → GoesOn h (with_half h half)
@@ -107,6 +109,8 @@ grows_on h after byte heard.None (same, half) = subst (GoesOn h) (sym same) (wit
 grows_on h after byte heard.Opened grows = absurd grows
 grows_on h after byte (heard.Recorded number) grows = absurd grows
 grows_on h after byte (heard.Status b) grows = absurd grows
+grows_on h after byte (heard.Condition b) grows = absurd grows
+grows_on h after byte (heard.Late id) grows = absurd grows
 grows_on h after byte (heard.BadAnswer place) grows = absurd grows
 
 misfits_on : (h after : HostView) (byte at : ℕ) (e : HostEvent) → Misfits h byte at e after → GoesOn h after
@@ -114,6 +118,8 @@ misfits_on h after byte at heard.None misfits = absurd misfits
 misfits_on h after byte at heard.Opened misfits = absurd misfits
 misfits_on h after byte at (heard.Recorded number) misfits = absurd misfits
 misfits_on h after byte at (heard.Status b) misfits = absurd misfits
+misfits_on h after byte at (heard.Condition b) misfits = absurd misfits
+misfits_on h after byte at (heard.Late id) misfits = absurd misfits
 misfits_on h after byte at (heard.BadAnswer place) (is, viable, same) = subst (GoesOn h) (sym same) (goes_down h)
 
 byte_on : (h after : HostView) (byte at : ℕ) (e : HostEvent) → HearsByte h byte at e after → GoesOn h after
@@ -156,6 +162,8 @@ heard_host heard.None l consumed host = refl
 heard_host heard.Opened l consumed host = refl
 heard_host (heard.Recorded number) l consumed host = refl
 heard_host (heard.Status byte) l consumed host = refl
+heard_host (heard.Condition block) l consumed host = refl
+heard_host (heard.Late id) l consumed host = refl
 heard_host (heard.BadAnswer at) l consumed host = refl
 
 -- Answers are heard.

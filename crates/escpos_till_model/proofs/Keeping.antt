@@ -17,7 +17,7 @@ use Rattle.escpos_till_model.proofs.GoesOn.{GoesOn}
 
 -- ## Lists
 
-nothing_before : {X : Type 0} (a b : List X) → a ++ b ≡ [] → a ≡ []
+pub nothing_before : {X : Type 0} (a b : List X) → a ++ b ≡ [] → a ≡ []
 nothing_before [] b e = refl
 nothing_before (x ∷ a) b e = absurd (let bad : x ∷ (a ++ b) ≡ [] = e in cc)
 
@@ -38,7 +38,7 @@ sent_grows : (es more : List Entry) (number : ℕ) (receipt : Option (List Comma
 sent_grows es more number (Some commands) sent (is, none) = (receipt_of_grows es more number commands is, none)
 sent_grows es more number None sent (commands, is, once) = (commands, receipt_of_grows es more number commands is, once)
 
-in_hand_grows : (es : List Entry) (e : Entry) (hand : Option Hand) (answered : List (List Command)) (h : HostView) → MayFollow es e → IsInHand es hand answered h
+pub in_hand_grows : (es : List Entry) (e : Entry) (hand : Option Hand) (answered : List (List Command)) (h : HostView) → MayFollow es e → IsInHand es hand answered h
     → IsInHand (es ++ e ∷ []) hand answered h
 in_hand_grows es e None answered h follows is = is
 in_hand_grows es e (Some hand) answered h follows is = record {
@@ -53,7 +53,7 @@ in_hand_grows es e (Some hand) answered h follows is = record {
   sent = sent_grows es (e ∷ []) hand.number hand.receipt (answered ++ in_flight h.phase) is.sent;
 }
 
-pub entry_keeps : (es : List Entry) (e : Entry) (hand : Option Hand) (h : HostView) → record_of e ≡ None → MayFollow es e → Keeps es hand h → Keeps (es ++ e ∷ []) hand h
+abbrev pub entry_keeps : (es : List Entry) (e : Entry) (hand : Option Hand) (h : HostView) → record_of e ≡ None → MayFollow es e → Keeps es hand h → Keeps (es ++ e ∷ []) hand h
 entry_keeps es e hand h none follows k = record {
   ledger = ledger-snoc es e k.ledger follows;
   receipts = k.receipts;
@@ -75,7 +75,7 @@ fewer_sent es number None some lost all split (commands, is, inr one) = (command
 regroup : (a b c d : List (List Command)) → ((a ++ b) ++ c) ++ d ≡ a ++ (b ++ (c ++ d))
 regroup a b c d = simp append_assoc
 
-on_in_hand : (es : List Entry) (hand : Option Hand) (answered : List (List Command)) (h after : HostView) (g : GoesOn h after) → IsInHand es hand answered h
+pub on_in_hand : (es : List Entry) (hand : Option Hand) (answered : List (List Command)) (h after : HostView) (g : GoesOn h after) → IsInHand es hand answered h
     → IsInHand es hand (answered ++ g.grown) after
 on_in_hand es None answered h after g is = g.down is
 on_in_hand es (Some hand) answered h after g is = record {
@@ -85,7 +85,7 @@ on_in_hand es (Some hand) answered h after g is = record {
       (regroup answered g.grown (in_flight after.phase) g.lost ∙ ap (λ v. answered ++ v) (sym g.flight)) is.sent;
 }
 
-pub on_keeps : (es : List Entry) (hand : Option Hand) (h after : HostView) → GoesOn h after → Keeps es hand h → Keeps es hand after
+abbrev pub on_keeps : (es : List Entry) (hand : Option Hand) (h after : HostView) → GoesOn h after → Keeps es hand h → Keeps es hand after
 on_keeps es hand h after g k = record {
   ledger = k.ledger;
   receipts = k.receipts;
@@ -113,7 +113,7 @@ hung_phase Down h is = is
 hung_phase (Opening first) h is = refl
 hung_phase (Open flight) h is = refl
 
-pub gone_keeps : (es : List Entry) (hand : Option Hand) (h : HostView) → Keeps es hand h → Keeps es None (hung_up h.phase h)
+abbrev pub gone_keeps : (es : List Entry) (hand : Option Hand) (h : HostView) → Keeps es hand h → Keeps es None (hung_up h.phase h)
 gone_keeps es hand h k = record {
   ledger = k.ledger;
   receipts = k.receipts;
@@ -126,7 +126,7 @@ gone_keeps es hand h k = record {
 
 -- ## A receipt is taken in hand
 
-pub take_keeps : (es : List Entry) (h : HostView) (number limit : ℕ) (commands : List Command) → MayFollow es (Tried number limit) → IsReceiptOf es number commands → Keeps es None h
+abbrev pub take_keeps : (es : List Entry) (h : HostView) (number limit : ℕ) (commands : List Command) → MayFollow es (Tried number limit) → IsReceiptOf es number commands → Keeps es None h
     → Keeps (es ++ Tried number limit ∷ []) (Some (record { number = number; receipt = Some commands; limit = limit })) (resumed_host h (next_free es) (length (recorded es)))
 take_keeps es h number limit commands follows is k =
     let e = Tried number limit in
@@ -148,7 +148,7 @@ take_keeps es h number limit commands follows is k =
 
 -- ## A mark number is used
 
-used_keeps : (es : List Entry) (hand left : Hand) (h after : HostView) (k : Keeps es (Some hand) h) → left.number ≡ hand.number → left.limit ≡ hand.limit
+abbrev used_keeps : (es : List Entry) (hand left : Hand) (h after : HostView) (k : Keeps es (Some hand) h) → left.number ≡ hand.number → left.limit ≡ hand.limit
     → after.records ≡ h.records → after.next ≡ h.next + 1 → h.next < hand.limit → IsSent es left.number left.receipt (k.answered ++ in_flight after.phase)
     → Keeps es (Some left) after
 used_keeps es hand left h after k number limit records next within sent = record {
@@ -173,15 +173,15 @@ used_keeps es hand left h after k number limit records next within sent = record
   };
 }
 
-pub linked_keeps : (es : List Entry) (hand : Hand) (h : HostView) → h.phase ≡ Down → h.next < hand.limit → Keeps es (Some hand) h → Keeps es (Some hand) (linked h)
+abbrev pub linked_keeps : (es : List Entry) (hand : Hand) (h : HostView) → h.phase ≡ Down → h.next < hand.limit → Keeps es (Some hand) h → Keeps es (Some hand) (linked h)
 linked_keeps es hand h is_down within k =
     used_keeps es hand hand h (linked h) k refl refl refl refl within
     (subst (λ (phase : Phase). IsSent es hand.number hand.receipt (k.answered ++ in_flight phase)) is_down k.in_hand.sent)
 
-pub nudged_keeps : (es : List Entry) (hand : Hand) (h : HostView) → h.next < hand.limit → Keeps es (Some hand) h → Keeps es (Some hand) (nudged h)
+abbrev pub nudged_keeps : (es : List Entry) (hand : Hand) (h : HostView) → h.next < hand.limit → Keeps es (Some hand) h → Keeps es (Some hand) (nudged h)
 nudged_keeps es hand h within k = used_keeps es hand hand h (nudged h) k refl refl refl refl within k.in_hand.sent
 
-one_more : (answered some : List (List Command)) (commands : List Command) (flight : List InFlight) (mark : List ℕ) → some ≡ in_flight (Open flight) → answered ++ some ≡ []
+pub one_more : (answered some : List (List Command)) (commands : List Command) (flight : List InFlight) (mark : List ℕ) → some ≡ in_flight (Open flight) → answered ++ some ≡ []
     → answered ++ in_flight (Open (flight ++ record { receipt = commands; mark = mark } ∷ [])) ≡ commands ∷ []
 one_more answered some commands flight mark is none =
     let p : InFlight = record { receipt = commands; mark = mark } in
@@ -190,7 +190,7 @@ one_more answered some commands flight mark is none =
     ∙ sym (append_assoc answered (map f flight) (commands ∷ []))
     ∙ ap (λ v. v ++ commands ∷ []) (ap (λ v. answered ++ v) (sym is) ∙ none)
 
-pub submitted_keeps : (es : List Entry) (hand : Hand) (h : HostView) (flight : List InFlight) (commands : List Command) → hand.receipt ≡ Some commands → h.phase ≡ Open flight
+abbrev pub submitted_keeps : (es : List Entry) (hand : Hand) (h : HostView) (flight : List InFlight) (commands : List Command) → hand.receipt ≡ Some commands → h.phase ≡ Open flight
     → h.next < hand.limit → Keeps es (Some hand) h
     → Keeps es (Some (record { number = hand.number; receipt = None; limit = hand.limit })) (submitted h flight commands)
 submitted_keeps es hand h flight commands has is within k =
@@ -200,7 +200,7 @@ submitted_keeps es hand h flight commands has is within k =
 
 -- ## What is answered is recorded
 
-answered_one : (es : List Entry) (number : ℕ) (receipt : Option (List Command)) (answered flight : List (List Command)) → 0 < length answered
+pub answered_one : (es : List Entry) (number : ℕ) (receipt : Option (List Command)) (answered flight : List (List Command)) → 0 < length answered
     → IsSent es number receipt (answered ++ flight) → (commands : List Command) × IsReceiptOf es number commands × (answered ≡ commands ∷ [])
 answered_one es number (Some commands) answered flight some (is, none) =
     absurd (let e = nothing_before answered flight none in omega (arith, ap length e))
@@ -211,7 +211,7 @@ answered_one es number None answered flight some (commands, is, inr one) = elim 
   | inr same ↦ (commands, is, same)
 ]
 
-pub record_keeps : (es : List Entry) (hand : Hand) (h : HostView) → MayFollow es (Recorded hand.number) → length (recorded es) < length h.records → Keeps es (Some hand) h
+abbrev pub record_keeps : (es : List Entry) (hand : Hand) (h : HostView) → MayFollow es (Recorded hand.number) → length (recorded es) < length h.records → Keeps es (Some hand) h
     → Keeps (es ++ Recorded hand.number ∷ []) None (hung_up h.phase h)
 record_keeps es hand h follows more k =
     let e = Recorded hand.number in

@@ -3,10 +3,12 @@ pub mod Accounts
 pub mod GoesOn
 pub mod Keeping
 pub mod LinesKept
+pub mod LateLemmas
 pub mod WorldCalls
 pub mod WorldStore
 pub mod WorldHears
 pub mod Worlds
+mod Again
 mod WireEvents
 mod Shown
 mod DrivenDeeds

@@ -1,7 +1,8 @@
 -- A line whose records can be trusted stays one, whatever its host does.
-use Rattle.std.proofs.Common.{ℕ, ◌≡◌, ◌≢◌, ◌⊎◌, inl, inr, None, List, [], ◌++◌, take, refl, sym, ◌∙◌, ap, subst, append-nil}
+use Rattle.std.proofs.Common.{ℕ, ◌≡◌, ◌≢◌, ◌⊎◌, ◌<◌, inl, inr, None, List, [], ◌++◌, take, refl, sym, ◌∙◌, ap, subst, append-nil}
 use Rattle.std.specs.Prelude.{option_to_list}
 use Rattle.escpos_command.specs.declared.command.Command.{Command}
+use Rattle.escpos_command.specs.Digits.{mark_count, mark_of}
 use Rattle.escpos_host.specs.Earlier.{with_earlier}
 use Rattle.escpos_host.specs.Machine.{HostView, Phase, Down, Opening, Open, IsSound}
 use Rattle.escpos_host.specs.declared.host.HostEvent.{HostEvent}
@@ -12,6 +13,7 @@ use Rattle.escpos_link.specs.declared.event.Note.{Note}
 use Rattle.escpos_link.specs.declared.event.Note.TheVariants as note
 use Rattle.escpos_link.specs.EventTable.{After, hung_up}
 use Rattle.escpos_link.specs.Line.{IsLine, LineView}
+use Rattle.escpos_link.specs.Promised.{Promising}
 use Rattle.escpos_link.specs.Trusted.{IsFitting, IsTrusted, Trusting}
 use Rattle.escpos_link.specs.Wire.{WireView, given_up, line_of}
 use Rattle.escpos_link.proofs.AtTheEnd.{hung_up_by}
@@ -22,6 +24,8 @@ use Rattle.escpos_till_model.specs.World.{Wired}
 -- The laws of the line that are cited.
 pub record LineLaws : Type 0 where
   pub trust : Trusting
+  pub promise : Promising
+  pub one_number : (m n : ℕ) → m < mark_count → n < mark_count → mark_of m ≡ mark_of n → m ≡ n
   pub every : (e : Event) (l after : LineView) (n : Note) → IsSound l.host → IsLine l → After e l n after → IsLine after
   pub turn : (h after : HostView) (w : WireView) (most consumed : ℕ) (events : List HostEvent) → IsLine (line_of h w) → IsTrusted (line_of h w)
       → HearsAll h (take most w.coming) events consumed after → EndsLink (last_of events) → ⊥

@@ -35,13 +35,13 @@ asked_host : (call : Call) (m asked : MachineView) → Calls m call asked → as
 asked_host (Queue content) m asked calls = calls.host
 asked_host (Raise first) m asked calls = ap (λ v. v.host) calls.after_is
 asked_host (Cancel number) m asked calls = ap (λ v. v.host) calls.after_is
-asked_host (Deliver openings most copy) m asked calls = ap (λ v. v.host) calls.0.after_is
+asked_host (Deliver openings most copy) m asked calls = calls.0.host
 
 asked_no_link : (call : Call) (m asked : MachineView) → Calls m call asked → HasNoLink asked.stage
 asked_no_link (Queue content) m asked calls = subst HasNoLink (sym calls.keeps) tt
 asked_no_link (Raise first) m asked calls = subst HasNoLink (sym (ap (λ v. v.stage) calls.after_is)) tt
 asked_no_link (Cancel number) m asked calls = subst HasNoLink (sym (ap (λ v. v.stage) calls.after_is)) tt
-asked_no_link (Deliver openings most copy) m asked calls = subst HasNoLink (sym (ap (λ v. v.stage) calls.0.after_is)) tt
+asked_no_link (Deliver openings most copy) m asked calls = subst HasNoLink (sym calls.0.connects) tt
 
 -- The call happens in the world, where nothing else changes.
 called_so : Fitting → (call : Call) (w : World) (m asked : MachineView) → w.machine ≡ Some m → Calls m call asked → MayCall call → IsSound asked.host

@@ -14,6 +14,7 @@ use Rattle.escpos_link.specs.Wire.{IsRefusedOnWire, WireView, given_up, heard_fr
 use Rattle.escpos_printer.specs.Feeds.{PrinterView}
 use Rattle.escpos_printer.specs.declared.printer.FeedStop.{FeedStop}
 use Rattle.escpos_printer.specs.declared.printer.FeedStop.TheVariants as stop
+use Rattle.escpos_till.specs.declared.book.Book.{Book}
 use Rattle.escpos_till.specs.Delivers.{fresh}
 use Rattle.escpos_till.specs.declared.entry.Entry.{Entry}
 use Rattle.escpos_till.specs.declared.entry.Entry.TheVariants as entry
@@ -155,7 +156,7 @@ pub is_up : (w : World) (m : MachineView) → IsWorld w → w.machine ≡ Some m
 is_up w m known was linked = let p = parts w m was known in up_by w.kept p.hand (with_earlier p.earlier m.host) m.stage p.holds linked
 
 pub is_down : (w : World) (m : MachineView) → IsWorld w → w.machine ≡ Some m → (Linked m.stage → ⊥) → m.host.phase ≡ Down
-is_down w m known was none = let p = parts w m was known in down_by w.kept p.hand (with_earlier p.earlier m.host) m.stage p.keeps p.holds none
+is_down w m known was none = let p = parts w m was known in down_by w.kept p.hand (with_earlier p.earlier m.host) m.stage p.account.keeps p.holds none
 
 -- The host gives its link up, if it has one.
 pub drops_wired : (w : World) (m after : MachineView) (wire : WireView) → IsWorld w → w.machine ≡ Some m → Drops m.host after.host → (Linked m.stage → wire ≡ given_up w.wire)
@@ -367,12 +368,15 @@ agrees_submitted talk (Some receipt) (suc left) h after up (inr (why, refuses, d
 agrees_submitted talk (Some receipt) zero h after up so = agrees_going talk zero h after up so
 agrees_submitted talk None left h after up so = agrees_going talk left h after up so
 
-agrees_turned : (e : HostEvent) (talk : Talk) (left : ℕ) (h : HostView) (after : MachineView) → ((EndsLink e → ⊥) → h.phase ≢ Down) → Turns e talk left h after.host after.stage → Agrees after
-agrees_turned heard.None talk left h after up so = agrees_going talk left h after (up (λ l. l)) so
-agrees_turned (heard.Status byte) talk left h after up so = agrees_going talk left h after (up (λ l. l)) so
-agrees_turned heard.Opened talk left h after up so = agrees_submitted talk talk.receipt left h after (up (λ l. l)) so
-agrees_turned (heard.Recorded place) talk left h after up so = agrees_on h after _ tt (up (λ l. l)) so.0 so.1
-agrees_turned (heard.BadAnswer place) talk left h after up so = agrees_over h after _ so.0 so.1
+agrees_turned : (b : Book) (e : HostEvent) (talk : Talk) (left : ℕ) (h : HostView) (after : MachineView) → ((EndsLink e → ⊥) → h.phase ≢ Down) → Turns b e talk left h after.host after.stage → Agrees after
+agrees_turned b heard.None talk left h after up so = agrees_going talk left h after (up (λ l. l)) so
+agrees_turned b (heard.Status byte) talk left h after up so = agrees_going talk left h after (up (λ l. l)) so
+agrees_turned b (heard.Condition block) talk left h after up so = agrees_going talk left h after (up (λ l. l)) so
+agrees_turned b (heard.Late id) talk left h after up (inl (closes, same, is)) = agrees_on h after _ tt (up (λ l. l)) same is
+agrees_turned b (heard.Late id) talk left h after up (inr (other, so)) = agrees_going talk left h after (up (λ l. l)) so
+agrees_turned b heard.Opened talk left h after up so = agrees_submitted talk talk.receipt left h after (up (λ l. l)) so
+agrees_turned b (heard.Recorded place) talk left h after up so = agrees_on h after _ tt (up (λ l. l)) so.0 so.1
+agrees_turned b (heard.BadAnswer place) talk left h after up so = agrees_over h after _ so.0 so.1
 
 pub hears_so : (w : World) (m after : MachineView) (talk : Talk) (most consumed : ℕ) (wire : WireView) → IsWorld w → w.machine ≡ Some m → m.stage ≡ stage.Talking talk
     → Came m.stage (take most w.wire.coming) consumed m after → IsSound after.host → (Linked after.stage → wire ≡ heard_from w.wire consumed)
@@ -381,7 +385,7 @@ hears_so w m after talk most consumed wire known was talks came sound stays gone
     let p = parts w m was known in
     let up : m.host.phase ≢ Down = is_up w m known was (subst Linked (sym talks) tt) in
     let (e, host, hears_one, turns, book) = subst (λ s. Came s (take most w.wire.coming) consumed m after) talks came in
-    let agrees = agrees_turned e talk _ host after (λ on. (heard_one m.host host w.wire.coming most consumed e up p.sound (hears_one.1 up) on).up) turns in
+    let agrees = agrees_turned m.book e talk _ host after (λ on. (heard_one m.host host w.wire.coming most consumed e up p.sound (hears_one.1 up) on).up) turns in
     record {
       m = m;
       after = after;

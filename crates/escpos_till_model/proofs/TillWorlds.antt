@@ -40,6 +40,7 @@ use Rattle.escpos_host.specs.declared.send.SendFault.TheVariants as fault
 use Rattle.escpos_link.specs.Line.{IsLine}
 use Rattle.escpos_till.specs.Entries.{IsLedger}
 use Rattle.escpos_till.proofs.EntryLemmas.{empty_ledger}
+use Rattle.escpos_till_model.specs.Late.{LateAnswers}
 use Rattle.escpos_till_model.specs.Receipts.{Among, AreReceipts, Extends}
 use Rattle.escpos_till_model.proofs.EntryFacts.{among_nothing}
 use Rattle.escpos_till_model.proofs.Worlds.{entries_last, entries_stay, more_entries, same_entries}
@@ -83,7 +84,7 @@ unwanted_in why.NotAtPrinter w v m e view was for is = absurd is
 unwanted_in (why.Machine cause) w v m e view was for is = absurd is
 
 pub fits_by : ((receipt : List Command) → Whole receipt → AreCommands receipt → IsFitting (line.Submit receipt)) → (s : Stage) → SendsReceipt s → FitsLine s
-fits_by fitting (stage.Connecting due) sends = fitting due.receipt sends.1 sends.0
+fits_by fitting (stage.Connecting due) sends = record { fits = fitting due.receipt sends.1 sends.0; no_real_time = sends.1.no_real_time }
 fits_by fitting stage.AtRest sends = tt
 fits_by fitting (stage.Keeping e next) sends = tt
 fits_by fitting (stage.Talking talk) sends = tt
@@ -326,6 +327,8 @@ new_begins w off kept notes is_line trusted = record {
   is_line = is_line;
   trusted = trusted;
   receipts = subst (λ es. AreReceipts es []) (sym kept) tt;
+  late = subst (λ es. LateAnswers es [] (line_of (fresh 0) w.wire)) (sym kept)
+      (record { first = λ number closing waits has. absurd has; promise = λ number closing waits has. absurd has });
   next = omega arith;
   wire_is = sym (none_given_up (fresh 0) w.wire refl is_line);
   told = λ n among. absurd (among_nothing n (subst (λ ns. Among n ns) notes among));

@@ -5,9 +5,7 @@ use Rattle.std.proofs.Math.Nat.{le-max_right}
 use Rattle.escpos_host.specs.declared.send.SendFault.{SendFault}
 use Rattle.escpos_command.specs.declared.command.Command.{Command}
 use Rattle.escpos_host.specs.Earlier.{with_earlier}
-use Rattle.escpos_host.specs.Machine.{HostView, IsSound}
-use Rattle.escpos_link.specs.declared.event.Event.TheVariants as event
-use Rattle.escpos_link.specs.Trusted.{IsFitting}
+use Rattle.escpos_host.specs.Machine.{Down, HostView, IsSound, Opening}
 use Rattle.escpos_link.specs.Wire.{WireView, line_of}
 use Rattle.escpos_till.specs.declared.entry.Content.{Content}
 use Rattle.escpos_till.specs.declared.entry.Entry.{Entry}
@@ -31,10 +29,12 @@ use Rattle.escpos_till.proofs.EntryLemmas.{length-taken}
 use Rattle.escpos_till_model.proofs.EntryFacts.{among_cons, among_filtered, among_last, among_nothing, first_among, first_is_taken}
 use Rattle.escpos_till_model.proofs.Keeping.{gone_keeps}
 use Rattle.escpos_till_model.specs.Receipts.{Among, IsReceipt}
-use Rattle.escpos_till_model.specs.Kept.{Hand, Keeps}
-use Rattle.escpos_till_model.specs.Known.{BookMayLag, Holds, IsHostOf, IsMachineIn, IsToSend, IsWorld}
-use Rattle.escpos_till_model.specs.World.{Calls, FitsLine, IsCopy, IsSo, Tells, Wired, World, running}
-use Rattle.escpos_till_model.proofs.LinesKept.{LineLaws, Right, goes, same_wire, drops_right, drops_hung}
+use Rattle.escpos_till_model.specs.Kept.{Hand}
+use Rattle.escpos_till_model.specs.Known.{Accounted, BookMayLag, Holds, IsHostOf, IsMachineIn, IsToSend, IsWorld}
+use Rattle.escpos_till_model.specs.World.{Calls, FitsLine, IsCopy, IsSendable, IsSo, Tells, Wired, World, running}
+use Rattle.escpos_till_model.specs.Late.{HasJustBegun, LateAnswers}
+use Rattle.escpos_till_model.proofs.LateLemmas.{drops_late, first_is_least}
+use Rattle.escpos_till_model.proofs.LinesKept.{LineLaws, Right, down_or_up, goes, same_wire, drops_right, drops_hung}
 
 -- ## Worlds, part by part
 
@@ -48,7 +48,8 @@ pub record Parts (m : MachineView) (kept : List Entry) (wire : WireView) : Type 
   pub sound : IsSound m.host
   pub right : Right (line_of (with_earlier earlier m.host) wire)
   pub hand : Option Hand
-  pub keeps : Keeps kept hand (with_earlier earlier m.host)
+  pub account : Accounted kept hand (with_earlier earlier m.host) wire
+  pub begun : HasJustBegun m.host
   pub book : (BookMayLag m.stage → ⊥) → IsBookOf m.book kept
   pub holds : Holds kept hand (with_earlier earlier m.host) m.stage
 
@@ -61,7 +62,8 @@ whole m kept wire notes so p = record {
   line = p.right.line;
   trusted = p.right.trusted;
   hand = p.hand;
-  keeps = p.keeps;
+  account = p.account;
+  begun = p.begun;
   machine = (p.book, p.holds);
   told = so;
 }
@@ -76,7 +78,8 @@ parts_of m kept wire notes machine is w =
       sound = subst IsSound host w.sound;
       right = subst (λ h. Right (line_of (with_earlier w.earlier h) wire)) host (record { line = w.line; trusted = w.trusted });
       hand = w.hand;
-      keeps = subst (λ h. Keeps kept w.hand (with_earlier w.earlier h)) host w.keeps;
+      account = subst (λ h. Accounted kept w.hand (with_earlier w.earlier h) wire) host w.account;
+      begun = subst HasJustBegun host w.begun;
       book = known.0;
       holds = subst (λ h. Holds kept w.hand (with_earlier w.earlier h) m.stage) host known.1;
     }
@@ -96,7 +99,8 @@ same_host m after kept w new p same sound wired book holds =
       sound = sound;
       right = subst (λ v. Right (line_of (with_earlier p.earlier after.host) v)) (sym wire) (subst (λ h. Right (line_of (with_earlier p.earlier h) w)) (sym same) p.right);
       hand = p.hand;
-      keeps = subst (λ h. Keeps kept p.hand (with_earlier p.earlier h)) (sym same) p.keeps;
+      account = subst (λ v. Accounted kept p.hand (with_earlier p.earlier after.host) v) (sym wire) (subst (λ h. Accounted kept p.hand (with_earlier p.earlier h) w) (sym same) p.account);
+      begun = subst HasJustBegun (sym same) p.begun;
       book = book;
       holds = subst (λ h. Holds kept p.hand (with_earlier p.earlier h) after.stage) (sym same) holds;
     }
@@ -189,7 +193,7 @@ first_waits es number tried content first =
     record { from_one = omega (arith, bounds.0); taken = omega (arith, bounds.1, length-taken 1 (contents es)); open_still = place; not_cancelled = cancel }
 
 pub to_send : (b : Book) (kept : List Entry) (openings most : ℕ) (copy : Option (List ℕ)) (due : Due) → IsBookOf b kept → IsCopy copy → IsNext b openings most copy due
-    → IsFitting (event.Submit due.receipt) → IsToSend kept due
+    → IsSendable due.receipt → IsToSend kept due
 to_send b kept openings most copy due book is next fits =
     let first = next.first kept book in
     record {
@@ -201,6 +205,7 @@ to_send b kept openings most copy due book is next fits =
       within = omega (arith, next.within, book.next, ap marks_taken next.marks);
       fits = fits;
       follows = (first_waits kept due.number first.tried first.content first.first, omega (arith, le-max_right due.openings 1));
+      first = first_is_least kept due.number first.tried first.content first.first;
     }
 
 pub delivers : (w new : World) (openings most : ℕ) (copy : Option (List ℕ)) → IsWorld w → IsCopy copy
@@ -209,12 +214,11 @@ delivers w new openings most copy known copy_is moves =
     let p = parts w moves.m moves.was known in
     let (goes, fitting) = moves.goes in
     let (book, none) = at_rest moves.m w.kept w.wire goes.rest p in
-    let is = goes.after_is in
-    let fits : FitsLine (stage.Connecting goes.due) = subst FitsLine (ap (λ m. m.stage) is) fitting in
+    let fits : FitsLine (stage.Connecting goes.due) = subst FitsLine goes.connects fitting in
     subst IsWorld (sym moves.is) (whole moves.after w.kept moves.wire w.told known.told
-    (same_host moves.m moves.after w.kept w.wire moves.wire p (ap (λ m. m.host) is) moves.sound moves.wired
-    (λ live. subst (λ b. IsBookOf b w.kept) (sym (ap (λ m. m.book) is)) book)
-    (subst (λ s. Holds w.kept p.hand (with_earlier p.earlier moves.m.host) s) (sym (ap (λ m. m.stage) is))
+    (same_host moves.m moves.after w.kept w.wire moves.wire p goes.host moves.sound moves.wired
+    (λ live. goes.book w.kept book)
+    (subst (λ s. Holds w.kept p.hand (with_earlier p.earlier moves.m.host) s) (sym goes.connects)
     (none, to_send moves.m.book w.kept openings most copy goes.due book copy_is goes.next fits))))
 
 -- ## What the machine is told
@@ -306,6 +310,23 @@ missed_parts m after kept w new (stage.Talking talk) is p same sound wired = unc
 missed_parts m after kept w new (stage.Telling n) is p same sound wired = unchanged m after kept w new p same sound wired
 missed_parts m after kept w new stage.Failed is p same sound wired = unchanged m after kept w new p same sound wired
 
+-- A host that has given its link up opens none.
+pub gone_begun : (h other : HostView) → Drops h other → HasJustBegun other
+gone_begun h other drops first is = elim (down_or_up h.phase) [
+  | inl down ↦ absurd (let bad : Down ≡ Opening first = sym down ∙ ap (λ v. v.phase) (sym (drops.0 down)) ∙ is in cc)
+  | inr up ↦ absurd (let bad : Down ≡ Opening first = ap (λ v. v.phase) (sym (drops.1 up)) ∙ is in cc)
+]
+
+-- The account of a host that gives its link up.
+pub gone_account : LineLaws → (earlier : List (List Command)) (h other : HostView) (kept : List Entry) (hand : Option Hand) (w new : WireView) → IsSound h → Drops h other
+    → Wired h other w new → Right (line_of (with_earlier earlier h) w) → Accounted kept hand (with_earlier earlier h) w → Accounted kept None (with_earlier earlier other) new
+gone_account laws earlier h other kept hand w new sound drops wired right a =
+    let hung = drops_hung earlier h other drops in
+    subst (λ v. Accounted kept None v new) (sym hung) (record {
+      keeps = gone_keeps kept hand (with_earlier earlier h) a.keeps;
+      late = subst (λ v. LateAnswers kept a.keeps.receipts (line_of v new)) hung (drops_late laws kept a.keeps.receipts earlier h other w new sound drops wired right a.late);
+    })
+
 -- The host gives its link up, and nothing is in hand any more.
 pub let_go : LineLaws → (m after : MachineView) (kept : List Entry) (w new : WireView) (p : Parts m kept w) → Drops m.host after.host → IsSound after.host → Wired m.host after.host w new
     → ((BookMayLag after.stage → ⊥) → IsBookOf after.book kept) → Holds kept None (with_earlier p.earlier after.host) after.stage → Parts after kept new
@@ -314,7 +335,8 @@ let_go laws m after kept w new p drops sound wired book holds = record {
   sound = sound;
   right = drops_right laws p.earlier m.host after.host w new p.sound drops wired p.right;
   hand = None;
-  keeps = subst (λ h. Keeps kept None h) (sym (drops_hung p.earlier m.host after.host drops)) (gone_keeps kept p.hand (with_earlier p.earlier m.host) p.keeps);
+  account = gone_account laws p.earlier m.host after.host kept p.hand w new p.sound drops wired p.right p.account;
+  begun = gone_begun m.host after.host drops;
   book = book;
   holds = holds;
 }

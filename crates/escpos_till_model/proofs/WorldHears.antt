@@ -3,39 +3,49 @@ use Rattle.std.proofs.Common.{ℕ, zero, suc, ◌≡◌, ◌≢◌, ◌+◌, ◌
 use Rattle.std.specs.Prelude.{map, slice_index}
 use Rattle.escpos_command.specs.declared.command.Command.{Command}
 use Rattle.escpos_host.specs.declared.send.SendFault.{SendFault}
-use Rattle.escpos_command.specs.Digits.{mark_of}
+use Rattle.escpos_command.specs.Digits.{mark_count, mark_of}
 use Rattle.escpos_host.specs.Earlier.{with_earlier}
-use Rattle.escpos_host.specs.Machine.{HostView, Phase, Down, Open, IsSound, in_flight, most_in_flight, submitted, HasMark, InFlight}
+use Rattle.escpos_host.specs.Machine.{HostView, Phase, Down, Opening, Open, IsSound, in_flight, most_in_flight, submitted, HasMark, InFlight}
 use Rattle.escpos_command.specs.declared.answer.Answer.{Answer}
 use Rattle.escpos_command.specs.Answers.{HalfAnswer}
 use Rattle.escpos_host.specs.declared.host.HostEvent.{HostEvent}
 use Rattle.escpos_host.specs.declared.host.HostEvent.TheVariants as heard
 use Rattle.escpos_host.specs.Earlier.{shifted}
 use Rattle.escpos_host.specs.Heard.{EndsLink, Grows, HearsAll, HearsByte, IsHeard, Misfits, Passed, Turns, last_of, taken_at, with_half}
+use Rattle.std.proofs.lemmas.Bool.{cases_lt}
 use Rattle.std.proofs.lemmas.List.{get_or-take, length-take-le}
 use Rattle.escpos_link.specs.declared.event.Event.TheVariants as event
 use Rattle.escpos_link.specs.declared.event.Note.TheVariants as note
 use Rattle.escpos_link.specs.EventTable.{After}
-use Rattle.escpos_link.specs.Trusted.{IsFitting}
+use Rattle.escpos_link.specs.Line.{LineView}
+use Rattle.escpos_link.specs.Promised.{Promised}
+use Rattle.escpos_link.specs.Stands.{Stands}
+use Rattle.escpos_link.specs.Trusted.{IsFitting, flight_of}
 use Rattle.escpos_link.specs.Wire.{WireView, heard_from, line_of}
 use Rattle.escpos_link.proofs.AtTheEnd.{heard_on}
 use Rattle.escpos_host.proofs.Earlier.{earlier_hears, earlier_sound, ends_shifted, last_shifted}
 use Rattle.escpos_till.specs.declared.entry.Entry.{Entry}
 use Rattle.escpos_till.specs.declared.machine.Stage.TheVariants as stage
 use Rattle.escpos_till.specs.Book.{IsBookOf}
-use Rattle.escpos_till.specs.Entries.{MayFollow, recorded}
+use Rattle.escpos_till.specs.declared.book.Book.{Book}
+use Rattle.escpos_till.specs.Entries.{IsLedger, MayFollow, Waits, recorded}
+use Rattle.escpos_till.specs.Tries.{ClosesTry, HasTry, tries}
 use Rattle.escpos_till.specs.declared.entry.Entry.TheVariants as entry
 use Rattle.escpos_till.specs.declared.machine.Talk.{Talk}
 use Rattle.escpos_till.specs.declared.machine.Then.TheVariants as then
 use Rattle.escpos_till.specs.declared.machine.TillNote.TheVariants as note_kind
-use Rattle.escpos_till.specs.Machine.{Came, Drops, GoesOn as MachineGoesOn, MachineView, Submits, Turns as MachineTurns, at}
+use Rattle.escpos_till.specs.Machine.{Came, Drops, GoesOn as MachineGoesOn, MachineView, Submits, Turns as MachineTurns, printed}
 use Rattle.escpos_till_model.proofs.GoesOn.{answered_on}
-use Rattle.escpos_till_model.proofs.Keeping.{gone_keeps, on_keeps, submitted_keeps}
-use Rattle.escpos_till_model.specs.Kept.{Hand, Keeps}
-use Rattle.escpos_till_model.specs.Known.{Holds, IsWorld}
-use Rattle.escpos_till_model.specs.World.{Hears, Wired, World}
-use Rattle.escpos_till_model.proofs.LinesKept.{LineLaws, Right, goes, same_wire, drops_right, drops_hung}
-use Rattle.escpos_till_model.proofs.WorldCalls.{Parts, whole, parts}
+use Rattle.escpos_till_model.proofs.EntryFacts.{zip_length}
+use Rattle.escpos_till_model.proofs.Keeping.{nothing_before, on_keeps, submitted_keeps}
+use Rattle.escpos_till_model.proofs.LateLemmas.{late_host, late_on, other_mark, which_try}
+use Rattle.escpos_till_model.specs.Kept.{Hand, IsSent, Reserves}
+use Rattle.escpos_till_model.specs.Known.{Accounted, Holds, IsWorld}
+use Rattle.escpos_till_model.specs.Late.{HasJustBegun, LateAnswers}
+use Rattle.escpos_till_model.specs.Receipts.{IsReceiptOf}
+use Rattle.escpos_till_model.specs.World.{Hears, IsSendable, Wired, World}
+use Rattle.escpos_till_model.proofs.LinesKept.{LineLaws, Right, goes, same_wire, drops_right}
+use Rattle.escpos_till_model.proofs.WorldCalls.{Parts, gone_account, gone_begun, whole, parts}
 use Rattle.escpos_till_model.proofs.WorldStore.{talking_book, talking_holds}
 
 -- ## Answers are heard
@@ -82,6 +92,10 @@ sound_turned h after a at (heard.Recorded number) half up sound (p, ps, phase, i
 )
 sound_turned h after a at (heard.Status byte) half up sound (is, same) on some =
     (ap (λ v. v.half) same ∙ half, subst IsSound (sym same) sound, λ down. up (ap (λ v. v.phase) (sym same) ∙ down))
+sound_turned h after a at (heard.Condition block) half up sound (is, same) on some =
+    (ap (λ v. v.half) same ∙ half, subst IsSound (sym same) sound, λ down. up (ap (λ v. v.phase) (sym same) ∙ down))
+sound_turned h after a at (heard.Late id) half up sound (first, phase, is, other, same) on some =
+    (ap (λ v. v.half) same ∙ half, subst IsSound (sym same) sound, λ down. up (ap (λ v. v.phase) (sym same) ∙ down))
 sound_turned h after a at (heard.BadAnswer place) half up sound t on some = absurd (on tt)
 
 pub sound_half : (h : HostView) (half : List ℕ) → h.phase ≢ Down → IsSound h → (half ≡ []) ⊎ HalfAnswer half → IsSound (with_half h half)
@@ -92,6 +106,8 @@ no_growth h byte heard.None after some g = some refl
 no_growth h byte heard.Opened after some g = g
 no_growth h byte (heard.Recorded number) after some g = g
 no_growth h byte (heard.Status b) after some g = g
+no_growth h byte (heard.Condition b) after some g = g
+no_growth h byte (heard.Late id) after some g = g
 no_growth h byte (heard.BadAnswer place) after some g = g
 
 pub no_misfit : (h : HostView) (byte at : ℕ) (e : HostEvent) (after : HostView) → (EndsLink e → ⊥) → Misfits h byte at e after → ⊥
@@ -99,6 +115,8 @@ no_misfit h byte at heard.None after on m = m
 no_misfit h byte at heard.Opened after on m = m
 no_misfit h byte at (heard.Recorded number) after on m = m
 no_misfit h byte at (heard.Status b) after on m = m
+no_misfit h byte at (heard.Condition b) after on m = m
+no_misfit h byte at (heard.Late id) after on m = m
 no_misfit h byte at (heard.BadAnswer place) after on m = on tt
 
 pub sound_byte : (h after : HostView) (byte at : ℕ) (e : HostEvent) → h.phase ≢ Down → IsSound h → HearsByte h byte at e after → (EndsLink e → ⊥) → e ≢ heard.None
@@ -113,6 +131,8 @@ taken_one heard.None at on = refl
 taken_one heard.Opened at on = refl
 taken_one (heard.Recorded number) at on = refl
 taken_one (heard.Status byte) at on = refl
+taken_one (heard.Condition block) at on = refl
+taken_one (heard.Late id) at on = refl
 taken_one (heard.BadAnswer place) at on = absurd (on tt)
 
 -- What was heard up to the first event: it is an event of the line, and leaves a sound host with a link.
@@ -131,6 +151,8 @@ none_or_some heard.None = inl refl
 none_or_some heard.Opened = inr (λ same. cc same)
 none_or_some (heard.Recorded number) = inr (λ same. cc same)
 none_or_some (heard.Status byte) = inr (λ same. cc same)
+none_or_some (heard.Condition block) = inr (λ same. cc same)
+none_or_some (heard.Late id) = inr (λ same. cc same)
 none_or_some (heard.BadAnswer place) = inr (λ same. cc same)
 
 pub heard_one : (h after : HostView) (coming : List ℕ) (most consumed : ℕ) (e : HostEvent) → h.phase ≢ Down → IsSound h → IsHeard h (take most coming) consumed e after → (EndsLink e → ⊥)
@@ -199,6 +221,8 @@ grew_turned h after a at heard.Opened (first, id, phase, is, mark, same) on = ap
 grew_turned h after a at (heard.Recorded number) (p, ps, phase, is, count, same) on =
     omega (arith, ap (λ v. length v.records) same, length-append h.records (p.receipt ∷ []))
 grew_turned h after a at (heard.Status byte) (is, same) on = ap (λ v. v.records) same
+grew_turned h after a at (heard.Condition block) (is, same) on = ap (λ v. v.records) same
+grew_turned h after a at (heard.Late id) (first, phase, is, other, same) on = ap (λ v. v.records) same
 grew_turned h after a at (heard.BadAnswer place) t on = absurd (on tt)
 
 pub grew_byte : (h after : HostView) (byte at : ℕ) (e : HostEvent) → HearsByte h byte at e after → (EndsLink e → ⊥) → e ≢ heard.None → Grew e h.records after.records
@@ -211,18 +235,62 @@ grew h after bytes consumed e (inl (none, all, passed, same)) on =
     subst (λ x. Grew x h.records after.records) (sym none) (ap (λ v. v.records) same)
 grew h after bytes consumed e (inr (at, half, within, some, count, passed, byte)) on = grew_byte (with_half h half) after (slice_index bytes at) at e byte on some
 
+-- An answer to a mark of an older link comes while a link is being opened.
+abbrev pub StillOpening : HostEvent → HostView → Type 0
+StillOpening (heard.Late id) h = (first : ℕ) × (h.phase ≡ Opening first)
+StillOpening e h = Unit {0}
+
+-- A host that is opening its first link has recorded nothing yet, and is still opening it if the event says so.
+pub begun_turned : (h after : HostView) (a : Answer) (at : ℕ) (e : HostEvent) → Turns h a at e after → (EndsLink e → ⊥) → HasJustBegun h → HasJustBegun after × StillOpening e after
+begun_turned h after a at heard.None (ignores, same) on begun = (subst HasJustBegun (sym same) begun, tt)
+begun_turned h after a at heard.Opened (first, id, phase, is, mark, same) on begun =
+    (λ f opening. absurd (let bad : Open [] ≡ Opening f = ap (λ v. v.phase) (sym same) ∙ opening in cc), tt)
+begun_turned h after a at (heard.Recorded number) (p, ps, phase, is, count, same) on begun =
+    (λ f opening. absurd (let bad : Open ps ≡ Opening f = ap (λ v. v.phase) (sym same) ∙ opening in cc), tt)
+begun_turned h after a at (heard.Status byte) (is, same) on begun = (subst HasJustBegun (sym same) begun, tt)
+begun_turned h after a at (heard.Condition block) (is, same) on begun = (subst HasJustBegun (sym same) begun, tt)
+begun_turned h after a at (heard.Late id) (first, phase, is, other, same) on begun =
+    (subst HasJustBegun (sym same) begun, (first, ap (λ v. v.phase) same ∙ phase))
+begun_turned h after a at (heard.BadAnswer place) t on begun = absurd (on tt)
+
+pub begun_byte : (h after : HostView) (byte at : ℕ) (e : HostEvent) → HearsByte h byte at e after → (EndsLink e → ⊥) → e ≢ heard.None → HasJustBegun h → HasJustBegun after × StillOpening e after
+begun_byte h after byte at e (inl g) on some begun = absurd (no_growth h byte e after some g)
+begun_byte h after byte at e (inr (inl m)) on some begun = absurd (no_misfit h byte at e after on m)
+begun_byte h after byte at e (inr (inr (a, spells, turns))) on some begun = begun_turned (with_half h []) after a at e turns on begun
+
+pub heard_begun : (h after : HostView) (bytes : List ℕ) (consumed : ℕ) (e : HostEvent) → IsHeard h bytes consumed e after → (EndsLink e → ⊥) → HasJustBegun h
+    → HasJustBegun after × StillOpening e after
+heard_begun h after bytes consumed e (inl (none, all, passed, same)) on begun = (
+  λ f opening. ap (λ v. v.records) same ∙ begun f (ap (λ v. v.phase) (sym same) ∙ opening),
+  subst (λ x. StillOpening x after) (sym none) tt,
+)
+heard_begun h after bytes consumed e (inr (at, half, within, some, count, passed, byte)) on begun = begun_byte (with_half h half) after (slice_index bytes at) at e byte on some begun
+
+-- If the event is an answer to the closing mark of a try of a receipt that waits, that receipt stands after these.
+abbrev pub Shows : List Entry → List (List Command) → WireView → HostEvent → Type 0
+Shows kept receipts w e =
+    (number closing : ℕ) → Waits kept number → HasTry (tries kept) number closing → closing < mark_count → e ≡ heard.Late (mark_of closing)
+    → (receipt : List Command) × IsReceiptOf kept number receipt × Stands w.printer.sheet.line_dots (receipts ++ receipt ∷ []) w.printer.sheet.items
+
+-- The account after an event, with what that shows.
+pub record HeardSo (kept : List Entry) (hand : Option Hand) (h : HostView) (w : WireView) (e : HostEvent) : Type 0 where
+  pub account : Accounted kept hand h w
+  pub shows : Shows kept account.keeps.receipts w e
+
 -- A machine that hears an answer: what it is of, and what its host has become.
-pub record Heard (m after : MachineView) (kept : List Entry) (w wire : WireView) (talk : Talk) (consumed : ℕ) (host : HostView) : Type 0 where
+pub record Heard (m after : MachineView) (kept : List Entry) (w wire : WireView) (talk : Talk) (consumed : ℕ) (host : HostView) (e : HostEvent) : Type 0 where
   pub earlier : List (List Command)
   pub held : Hand
   pub number : held.number ≡ talk.number
   pub receipt : held.receipt ≡ talk.receipt
   pub follows : MayFollow kept (entry.Recorded talk.number)
-  pub reserved : (receipt : List Command) → talk.receipt ≡ Some receipt → (host.next < held.limit) × IsFitting (event.Submit receipt)
+  pub reserved : (receipt : List Command) → talk.receipt ≡ Some receipt → (host.next < held.limit) × IsSendable receipt
   pub sound : IsSound host
   pub up : host.phase ≢ Down
   pub right : Right (line_of (with_earlier earlier host) w)
-  pub keeps : Keeps kept (Some held) (with_earlier earlier host)
+  pub so : HeardSo kept (Some held) (with_earlier earlier host) w e
+  pub begun : HasJustBegun host
+  pub opening : StillOpening e host
   pub book : IsBookOf after.book kept
   pub after_sound : IsSound after.host
   pub wired : Wired host after.host w wire
@@ -232,82 +300,209 @@ abbrev pub Unrecorded : List Entry → List (List Command) → HostView → Type
 Unrecorded kept earlier host = length (earlier ++ host.records) ≡ length (recorded kept)
 
 -- The talk is over.
-pub over : LineLaws → (m after : MachineView) (kept : List Entry) (w wire : WireView) (talk : Talk) (consumed : ℕ) (host : HostView) (why : SendFault) → (x : Heard m after kept w wire talk consumed host)
+pub over : LineLaws → (m after : MachineView) (kept : List Entry) (w wire : WireView) (talk : Talk) (consumed : ℕ) (host : HostView) (e : HostEvent) (why : SendFault) → (x : Heard m after kept w wire talk consumed host e)
     → Drops host after.host → after.stage ≡ stage.HangingUp (note_kind.Waiting talk.number why) → Parts after kept wire
-over laws m after kept w wire talk consumed host why x drops now = record {
+over laws m after kept w wire talk consumed host e why x drops now = record {
   earlier = x.earlier;
   sound = x.after_sound;
   right = drops_right laws x.earlier host after.host w wire x.sound drops x.wired x.right;
   hand = None;
-  keeps = subst (λ v. Keeps kept None v) (sym (drops_hung x.earlier host after.host drops)) (gone_keeps kept (Some x.held) (with_earlier x.earlier host) x.keeps);
+  account = gone_account laws x.earlier host after.host kept (Some x.held) w wire x.sound drops x.wired x.right x.so.account;
+  begun = gone_begun host after.host drops;
   book = λ live. x.book;
   holds = subst (λ s. Holds kept None (with_earlier x.earlier after.host) s) (sym now) (refl, tt);
 }
 
 -- The talk goes on, with the host as it is.
-pub onward : (m after : MachineView) (kept : List Entry) (w wire : WireView) (talk : Talk) (consumed left : ℕ) (host : HostView) → (x : Heard m after kept w wire talk consumed host)
+pub onward : (m after : MachineView) (kept : List Entry) (w wire : WireView) (talk : Talk) (consumed left : ℕ) (host : HostView) (e : HostEvent) → (x : Heard m after kept w wire talk consumed host e)
     → Unrecorded kept x.earlier host → after.host ≡ host → after.stage ≡ stage.Talking (record { number = talk.number; receipt = talk.receipt; left = left }) → Parts after kept wire
-onward m after kept w wire talk consumed left host x none same now =
+onward m after kept w wire talk consumed left host e x none same now =
     let stays : wire ≡ w = same_wire host after.host w wire same x.wired in
     record {
       earlier = x.earlier;
       sound = x.after_sound;
       right = subst (λ v. Right (line_of (with_earlier x.earlier after.host) v)) (sym stays) (subst (λ h. Right (line_of (with_earlier x.earlier h) w)) (sym same) x.right);
       hand = Some x.held;
-      keeps = subst (λ h. Keeps kept (Some x.held) (with_earlier x.earlier h)) (sym same) x.keeps;
+      account = subst (λ v. Accounted kept (Some x.held) (with_earlier x.earlier after.host) v) (sym stays)
+          (subst (λ h. Accounted kept (Some x.held) (with_earlier x.earlier h) w) (sym same) x.so.account);
+      begun = subst HasJustBegun (sym same) x.begun;
       book = λ live. x.book;
       holds = subst (λ s. Holds kept (Some x.held) (with_earlier x.earlier after.host) s) (sym now)
           (subst (λ h. Holds kept (Some x.held) (with_earlier x.earlier h) (stage.Talking (record { number = talk.number; receipt = talk.receipt; left = left }))) (sym same)
           (x.held, refl, x.number, x.receipt, x.follows, none, x.up, x.reserved));
     }
 
-pub goes_on_parts : LineLaws → (m after : MachineView) (kept : List Entry) (w wire : WireView) (talk : Talk) (consumed left : ℕ) (host : HostView) → (x : Heard m after kept w wire talk consumed host)
+pub goes_on_parts : LineLaws → (m after : MachineView) (kept : List Entry) (w wire : WireView) (talk : Talk) (consumed left : ℕ) (host : HostView) (e : HostEvent) → (x : Heard m after kept w wire talk consumed host e)
     → Unrecorded kept x.earlier host → MachineGoesOn talk left host after.host after.stage → Parts after kept wire
-goes_on_parts laws m after kept w wire talk consumed zero host x none so = over laws m after kept w wire talk consumed host _ x so.0 so.1
-goes_on_parts laws m after kept w wire talk consumed (suc left) host x none so = onward m after kept w wire talk consumed (suc left) host x none so.0 so.1
+goes_on_parts laws m after kept w wire talk consumed zero host e x none so = over laws m after kept w wire talk consumed host e _ x so.0 so.1
+goes_on_parts laws m after kept w wire talk consumed (suc left) host e x none so = onward m after kept w wire talk consumed (suc left) host e x none so.0 so.1
+
+-- What was submitted is the try in hand, closed by the last of its numbers.
+own_try : (kept : List Entry) (hand : Hand) (k : ℕ) (number closing : ℕ) → IsLedger kept → (r : Reserves kept hand.number k hand.limit) → k < hand.limit → HasTry (tries kept) number closing
+    → closing ≡ k → number ≡ hand.number
+own_try kept hand k number closing ledger r below has same =
+    elim ((which_try kept r.before r.following hand.number hand.limit ledger r.entries_are).0 number closing has) [
+      | inl earlier ↦ absurd (let from = r.from in omega (arith, same, earlier, from))
+      | inr (inl (own, last)) ↦ own
+      | inr (inr later) ↦ absurd (omega (arith, same, below, later))
+    ]
+
+no_flight : (flight : List InFlight) (answered some : List (List Command)) → some ≡ in_flight (Open flight) → answered ++ some ≡ [] → flight ≡ []
+no_flight [] answered some is none = refl
+no_flight (f ∷ fs) [] some is none = absurd (let bad : in_flight (Open (f ∷ fs)) ≡ [] = sym is ∙ none in cc)
+no_flight (f ∷ fs) (a ∷ others) some is none = absurd (let bad : a ∷ (others ++ some) ≡ [] = none in cc)
+
+-- A late answer proves the same after the receipt is submitted: it is the only one in flight, and its mark is its try's alone.
+submitted_late : LineLaws → (kept : List Entry) (hand : Hand) (h : HostView) (w : WireView) (receipt : List Command) (flight : List InFlight) → IsSound h → Right (line_of h w)
+    → Right (line_of (submitted h flight receipt) w) → After (event.Submit receipt) (line_of h w) note.Done (line_of (submitted h flight receipt) w) → IsFitting (event.Submit receipt)
+    → hand.receipt ≡ Some receipt → h.phase ≡ Open flight → HasMark h → h.next < hand.limit → (a : Accounted kept (Some hand) h w)
+    → LateAnswers kept a.keeps.receipts (line_of (submitted h flight receipt) w)
+submitted_late laws kept hand h w receipt flight sound right new_right happened fits has phase mark within a =
+    let l : LineView = line_of h w in
+    let after : LineView = line_of (submitted h flight receipt) w in
+    let rs = a.keeps.receipts in
+    let sent : IsSent kept hand.number (Some receipt) (a.keeps.answered ++ in_flight h.phase) =
+    subst (λ (r : Option (List Command)). IsSent kept hand.number r (a.keeps.answered ++ in_flight h.phase)) has a.keeps.in_hand.sent in
+    let p : InFlight = record { receipt = receipt; mark = mark_of h.next } in
+    let alone : Open (flight ++ p ∷ []) ≡ Open (p ∷ []) = ap (λ f. Open (f ++ p ∷ [])) (no_flight flight a.keeps.answered (in_flight h.phase) (ap in_flight phase) sent.1) in
+    let none : a.keeps.answered ≡ [] = nothing_before a.keeps.answered (in_flight h.phase) sent.1 in
+    let records : h.records ≡ rs = a.keeps.records ∙ ap (λ v. rs ++ v) none ∙ append-nil rs in
+    let own : Promised rs p after = subst (λ v. Promised v p after) records (laws.promise.in_flight after p new_right.trusted alone) in
+    record {
+      first = a.late.first;
+      promise = λ number closing waits tried few.
+          let (other, is, promised) = a.late.promise number closing waits tried few in
+          let stays : mark_of h.next ≢ mark_of closing → (r : List Command) × IsReceiptOf kept number r × Promised rs (record { receipt = r; mark = mark_of closing }) after =
+          λ differs. (
+            other,
+            is,
+            laws.promise.stays (event.Submit receipt) l after note.Done rs (record { receipt = other; mark = mark_of closing }) fits sound right.line happened right.trusted differs promised,
+          ) in
+          elim (cases_lt closing h.next) [
+            | inl less ↦ stays (other_mark laws h.next closing mark few (λ same. omega (arith, same, less)))
+            | inr more ↦ elim (cases_lt h.next closing) [
+              | inl greater ↦ stays (other_mark laws h.next closing mark few (λ same. omega (arith, same, greater)))
+              | inr fewer ↦
+                  let same : closing ≡ h.next = omega (arith, more, fewer) in
+                  let number_is = own_try kept hand h.next number closing a.keeps.ledger a.keeps.in_hand.reserved within tried same in (
+                    receipt,
+                    subst (λ n. IsReceiptOf kept n receipt) (sym number_is) sent.0,
+                    subst (λ n. Promised rs (record { receipt = receipt; mark = mark_of n }) after) (sym same) own,
+                  )
+            ]
+          ];
+    }
 
 -- The receipt goes to the host.
-pub given : LineLaws → (m after : MachineView) (kept : List Entry) (w wire : WireView) (talk : Talk) (consumed left : ℕ) (host : HostView) (receipt : List Command) (flight : List InFlight)
-    → (x : Heard m after kept w wire talk consumed host) → Unrecorded kept x.earlier host → talk.receipt ≡ Some receipt → host.phase ≡ Open flight → length flight < most_in_flight
+pub given : LineLaws → (m after : MachineView) (kept : List Entry) (w wire : WireView) (talk : Talk) (consumed left : ℕ) (host : HostView) (e : HostEvent) (receipt : List Command) (flight : List InFlight)
+    → (x : Heard m after kept w wire talk consumed host e) → Unrecorded kept x.earlier host → talk.receipt ≡ Some receipt → host.phase ≡ Open flight → length flight < most_in_flight
     → HasMark host → after.host ≡ submitted host flight receipt → after.stage ≡ stage.Talking (record { number = talk.number; receipt = None; left = left }) → Parts after kept wire
-given laws m after kept w wire talk consumed left host receipt flight x none has phase few mark same now =
+given laws m after kept w wire talk consumed left host e receipt flight x none has phase few mark same now =
     let before : HostView = with_earlier x.earlier host in
     let hand : Hand = record { number = x.held.number; receipt = None; limit = x.held.limit } in
-    let (within, fits) = x.reserved receipt has in
+    let (within, sendable) = x.reserved receipt has in
+    let fits = sendable.fits in
     let up : after.host.phase ≢ Down = λ down. let bad : Open (flight ++ record { receipt = receipt; mark = mark_of host.next } ∷ []) ≡ Down = ap (λ v. v.phase) (sym same) ∙ down in cc in
     let stays : wire ≡ w = x.wired.stays_up x.up up in
-    let right = goes laws (event.Submit receipt) (line_of before w) (line_of (submitted before flight receipt) w) note.Done fits (earlier_sound x.earlier host x.sound) x.right
-    (flight, refl, phase, few, mark, refl) in
-    let keeps = submitted_keeps kept x.held before flight receipt (x.receipt ∙ has) phase within x.keeps in
+    let sound = earlier_sound x.earlier host x.sound in
+    let happened : After (event.Submit receipt) (line_of before w) note.Done (line_of (submitted before flight receipt) w) = (flight, refl, phase, few, mark, refl) in
+    let right = goes laws (event.Submit receipt) (line_of before w) (line_of (submitted before flight receipt) w) note.Done fits sound x.right happened in
+    let account : Accounted kept (Some hand) (submitted before flight receipt) w = record {
+      keeps = submitted_keeps kept x.held before flight receipt (x.receipt ∙ has) phase within x.so.account.keeps;
+      late = submitted_late laws kept x.held before w receipt flight sound x.right right happened fits (x.receipt ∙ has) phase mark within x.so.account;
+    } in
     record {
       earlier = x.earlier;
       sound = x.after_sound;
       right = subst (λ v. Right (line_of (with_earlier x.earlier after.host) v)) (sym stays) (subst (λ h. Right (line_of (with_earlier x.earlier h) w)) (sym same) right);
       hand = Some hand;
-      keeps = subst (λ h. Keeps kept (Some hand) (with_earlier x.earlier h)) (sym same) keeps;
+      account = subst (λ v. Accounted kept (Some hand) (with_earlier x.earlier after.host) v) (sym stays)
+          (subst (λ h. Accounted kept (Some hand) (with_earlier x.earlier h) w) (sym same) account);
+      begun = λ first opening.
+          absurd (let bad : Open (flight ++ record { receipt = receipt; mark = mark_of host.next } ∷ []) ≡ Opening first = ap (λ v. v.phase) (sym same) ∙ opening in cc);
       book = λ live. x.book;
       holds = subst (λ s. Holds kept (Some hand) (with_earlier x.earlier after.host) s) (sym now)
           (hand, refl, x.number, refl, x.follows, ap (λ h. length (x.earlier ++ h.records)) same ∙ none, up, λ r is. absurd (let bad : None ≡ Some r = is in cc));
     }
 
-pub submits_parts : LineLaws → (m after : MachineView) (kept : List Entry) (w wire : WireView) (talk : Talk) (consumed left : ℕ) (host : HostView) (receipt : Option (List Command))
-    → (x : Heard m after kept w wire talk consumed host) → Unrecorded kept x.earlier host → talk.receipt ≡ receipt → Submits talk receipt left host after.host after.stage → Parts after kept wire
-submits_parts laws m after kept w wire talk consumed (suc left) host (Some receipt) x none has (inl (flight, phase, few, mark, same, now)) =
-    given laws m after kept w wire talk consumed (suc left) host receipt flight x none has phase few mark same now
-submits_parts laws m after kept w wire talk consumed (suc left) host (Some receipt) x none has (inr (why, refuses, drops, now)) = over laws m after kept w wire talk consumed host _ x drops now
-submits_parts laws m after kept w wire talk consumed zero host (Some receipt) x none has so = goes_on_parts laws m after kept w wire talk consumed zero host x none so
-submits_parts laws m after kept w wire talk consumed left host None x none has so = goes_on_parts laws m after kept w wire talk consumed left host x none so
+pub submits_parts : LineLaws → (m after : MachineView) (kept : List Entry) (w wire : WireView) (talk : Talk) (consumed left : ℕ) (host : HostView) (e : HostEvent) (receipt : Option (List Command))
+    → (x : Heard m after kept w wire talk consumed host e) → Unrecorded kept x.earlier host → talk.receipt ≡ receipt → Submits talk receipt left host after.host after.stage → Parts after kept wire
+submits_parts laws m after kept w wire talk consumed (suc left) host e (Some receipt) x none has (inl (flight, phase, few, mark, same, now)) =
+    given laws m after kept w wire talk consumed (suc left) host e receipt flight x none has phase few mark same now
+submits_parts laws m after kept w wire talk consumed (suc left) host e (Some receipt) x none has (inr (why, refuses, drops, now)) = over laws m after kept w wire talk consumed host e _ x drops now
+submits_parts laws m after kept w wire talk consumed zero host e (Some receipt) x none has so = goes_on_parts laws m after kept w wire talk consumed zero host e x none so
+submits_parts laws m after kept w wire talk consumed left host e None x none has so = goes_on_parts laws m after kept w wire talk consumed left host e x none so
 
-pub turned_parts : LineLaws → (m after : MachineView) (kept : List Entry) (w wire : WireView) (talk : Talk) (consumed left : ℕ) (host : HostView) (e : HostEvent) (old : List (List Command))
-    → (x : Heard m after kept w wire talk consumed host) → length (x.earlier ++ old) ≡ length (recorded kept) → Grew e old host.records → (EndsLink e → ⊥)
-    → MachineTurns e talk left host after.host after.stage → Parts after kept wire
-turned_parts laws m after kept w wire talk consumed left host heard.None old x count more on so =
-    goes_on_parts laws m after kept w wire talk consumed left host x (ap (λ rs. length (x.earlier ++ rs)) more ∙ count) so
-turned_parts laws m after kept w wire talk consumed left host (heard.Status byte) old x count more on so =
-    goes_on_parts laws m after kept w wire talk consumed left host x (ap (λ rs. length (x.earlier ++ rs)) more ∙ count) so
-turned_parts laws m after kept w wire talk consumed left host heard.Opened old x count more on so =
-    submits_parts laws m after kept w wire talk consumed left host talk.receipt x (ap (λ rs. length (x.earlier ++ rs)) more ∙ count) refl so
-turned_parts laws m after kept w wire talk consumed left host (heard.Recorded place) old x count more on (same, now) =
+-- A receipt that an answer to an older mark shows to stand is answered, as one in flight would be.
+late_parts : LineLaws → (m after : MachineView) (kept : List Entry) (w wire : WireView) (talk : Talk) (consumed left : ℕ) (host : HostView) (id : List ℕ)
+    → (x : Heard m after kept w wire talk consumed host (heard.Late id)) → Unrecorded kept x.earlier host → ClosesTry (tries kept) talk.number id → after.host ≡ host
+    → after.stage ≡ printed talk.number → Parts after kept wire
+late_parts laws m after kept w wire talk consumed left host id x none (closing, few, mark, has) same now =
+    let a = x.so.account in
+    let rs = a.keeps.receipts in
+    let (receipt, is, stand) = x.so.shows talk.number closing x.follows.0 has few (ap heard.Late (sym mark)) in
+    let (first, opening) = x.opening in
+    let nothing : host.records ≡ [] = x.begun first opening in
+    let earlier : List (List Command) = rs ++ receipt ∷ [] in
+    let all : earlier ++ host.records ≡ earlier = ap (λ v. earlier ++ v) nothing ∙ append-nil earlier in
+    let l : LineView = line_of (with_earlier x.earlier host) w in
+    let right : Right (line_of (with_earlier earlier host) w) = record {
+      line = record { down = x.right.line.down; alone = x.right.line.alone; quiet = x.right.line.quiet; whole = x.right.line.whole; fitting = x.right.line.fitting };
+      trusted = laws.promise.recorded l (earlier ++ host.records) x.right.trusted (ap flight_of opening)
+          (subst (λ v. Stands w.printer.sheet.line_dots v w.printer.sheet.items) (sym all) stand);
+    } in
+    let hand : Hand = record { number = x.held.number; receipt = None; limit = x.held.limit } in
+    let own = a.keeps.in_hand in
+    let account : Accounted kept (Some hand) (with_earlier earlier host) w = record {
+      keeps = record {
+        ledger = a.keeps.ledger;
+        receipts = rs;
+        are = a.keeps.are;
+        answered = receipt ∷ [];
+        records = all;
+        next = a.keeps.next;
+        in_hand = record {
+          reserved = own.reserved;
+          below = own.below;
+          sent = (receipt, subst (λ n. IsReceiptOf kept n receipt) (sym x.number) is, inr (ap (λ v. receipt ∷ in_flight v) opening));
+        };
+      };
+      late = late_host kept rs (with_earlier x.earlier host) (with_earlier earlier host) w refl refl a.late;
+    } in
+    let stays : wire ≡ w = same_wire host after.host w wire same x.wired in
+    let count = zip_length (IsReceiptOf kept) (recorded kept) rs a.keeps.are in
+    let one_more : length (recorded kept) < length (earlier ++ host.records) = omega (arith, count, ap length all, length-append rs (receipt ∷ [])) in
+    record {
+      earlier = earlier;
+      sound = x.after_sound;
+      right = subst (λ v. Right (line_of (with_earlier earlier after.host) v)) (sym stays) (subst (λ h. Right (line_of (with_earlier earlier h) w)) (sym same) right);
+      hand = Some hand;
+      account = subst (λ v. Accounted kept (Some hand) (with_earlier earlier after.host) v) (sym stays)
+          (subst (λ h. Accounted kept (Some hand) (with_earlier earlier h) w) (sym same) account);
+      begun = subst HasJustBegun (sym same) x.begun;
+      book = λ live. x.book;
+      holds = subst (λ s. Holds kept (Some hand) (with_earlier earlier after.host) s) (sym now)
+          (subst (λ h. Holds kept (Some hand) (with_earlier earlier h) (stage.Keeping (entry.Recorded talk.number) (then.Recorded talk.number))) (sym same)
+          (x.follows, (hand, refl, x.number, refl, one_more, x.up)));
+    }
+
+pub turned_parts : LineLaws → (m after : MachineView) (kept : List Entry) (w wire : WireView) (talk : Talk) (consumed left : ℕ) (host : HostView) (e : HostEvent) (b : Book)
+    (old : List (List Command)) → b.tries.items ≡ tries kept
+    → (x : Heard m after kept w wire talk consumed host e) → length (x.earlier ++ old) ≡ length (recorded kept) → Grew e old host.records → (EndsLink e → ⊥)
+    → MachineTurns b e talk left host after.host after.stage → Parts after kept wire
+turned_parts laws m after kept w wire talk consumed left host heard.None b old book x count more on so =
+    goes_on_parts laws m after kept w wire talk consumed left host heard.None x (ap (λ rs. length (x.earlier ++ rs)) more ∙ count) so
+turned_parts laws m after kept w wire talk consumed left host (heard.Status byte) b old book x count more on so =
+    goes_on_parts laws m after kept w wire talk consumed left host (heard.Status byte) x (ap (λ rs. length (x.earlier ++ rs)) more ∙ count) so
+turned_parts laws m after kept w wire talk consumed left host (heard.Condition block) b old book x count more on so =
+    goes_on_parts laws m after kept w wire talk consumed left host (heard.Condition block) x (ap (λ rs. length (x.earlier ++ rs)) more ∙ count) so
+turned_parts laws m after kept w wire talk consumed left host (heard.Late id) b old book x count more on (inl (closes, same, now)) =
+    late_parts laws m after kept w wire talk consumed left host id x (ap (λ rs. length (x.earlier ++ rs)) more ∙ count) (subst (λ ts. ClosesTry ts talk.number id) book closes) same now
+turned_parts laws m after kept w wire talk consumed left host (heard.Late id) b old book x count more on (inr (other, so)) =
+    goes_on_parts laws m after kept w wire talk consumed left host (heard.Late id) x (ap (λ rs. length (x.earlier ++ rs)) more ∙ count) so
+turned_parts laws m after kept w wire talk consumed left host heard.Opened b old book x count more on so =
+    submits_parts laws m after kept w wire talk consumed left host heard.Opened talk.receipt x (ap (λ rs. length (x.earlier ++ rs)) more ∙ count) refl so
+turned_parts laws m after kept w wire talk consumed left host (heard.Recorded place) b old book x count more on (same, now) =
     let stays : wire ≡ w = same_wire host after.host w wire same x.wired in
     let one_more : length (recorded kept) < length (x.earlier ++ host.records) = omega (arith, count, more, length-append x.earlier old, length-append x.earlier host.records) in
     record {
@@ -315,13 +510,15 @@ turned_parts laws m after kept w wire talk consumed left host (heard.Recorded pl
       sound = x.after_sound;
       right = subst (λ v. Right (line_of (with_earlier x.earlier after.host) v)) (sym stays) (subst (λ h. Right (line_of (with_earlier x.earlier h) w)) (sym same) x.right);
       hand = Some x.held;
-      keeps = subst (λ h. Keeps kept (Some x.held) (with_earlier x.earlier h)) (sym same) x.keeps;
+      account = subst (λ v. Accounted kept (Some x.held) (with_earlier x.earlier after.host) v) (sym stays)
+          (subst (λ h. Accounted kept (Some x.held) (with_earlier x.earlier h) w) (sym same) x.so.account);
+      begun = subst HasJustBegun (sym same) x.begun;
       book = λ live. x.book;
       holds = subst (λ s. Holds kept (Some x.held) (with_earlier x.earlier after.host) s) (sym now)
           (subst (λ h. Holds kept (Some x.held) (with_earlier x.earlier h) (stage.Keeping (entry.Recorded talk.number) (then.Recorded talk.number))) (sym same)
           (x.follows, (x.held, refl, x.number, refl, one_more, x.up)));
     }
-turned_parts laws m after kept w wire talk consumed left host (heard.BadAnswer place) old x count more on so = absurd (on tt)
+turned_parts laws m after kept w wire talk consumed left host (heard.BadAnswer place) b old book x count more on so = absurd (on tt)
 
 pub hears : LineLaws → (w new : World) (most : ℕ) → IsWorld w → Hears w most new → IsWorld new
 hears laws w new most known v =
@@ -336,9 +533,29 @@ hears laws w new most known v =
     let right = goes laws (event.Answer v.consumed) (line_of (with_earlier p.earlier v.m.host) w.wire) (line_of (with_earlier p.earlier host) middle) _ tt
     (earlier_sound p.earlier v.m.host p.sound) p.right happened in
     let went = answered_on v.consumed (line_of (with_earlier p.earlier v.m.host) w.wire) (line_of (with_earlier p.earlier host) middle) _ happened in
-    let keeps = subst (λ x. Keeps w.kept x (with_earlier p.earlier host)) hand_is
-    (on_keeps w.kept p.hand (with_earlier p.earlier v.m.host) (with_earlier p.earlier host) went p.keeps) in
-    let x : Heard v.m v.after w.kept middle v.wire v.talk v.consumed host = record {
+    let before : LineView = line_of (with_earlier p.earlier v.m.host) w.wire in
+    let sound = earlier_sound p.earlier v.m.host p.sound in
+    let last : last_of (map (shifted (length p.earlier)) one.events) ≡ shifted (length p.earlier) e =
+    last_shifted (length p.earlier) one.events ∙ ap (shifted (length p.earlier)) one.last in
+    let so : HeardSo w.kept p.hand (with_earlier p.earlier host) middle e = record {
+      account = record {
+        keeps = on_keeps w.kept p.hand (with_earlier p.earlier v.m.host) (with_earlier p.earlier host) went p.account.keeps;
+        late = late_on laws w.kept p.account.keeps.receipts (event.Answer v.consumed) before (line_of (with_earlier p.earlier host) middle) _ tt sound p.right happened
+            (λ number closing has few. tt) p.account.late;
+      };
+      shows = λ number closing waits has few late.
+          let (receipt, is, promised) = p.account.late.promise number closing waits has few in
+          let told : note.Heard v.consumed (last_of (map (shifted (length p.earlier)) one.events)) ≡ note.Heard v.consumed (heard.Late (mark_of closing)) =
+          ap (note.Heard v.consumed) (last ∙ ap (shifted (length p.earlier)) late) in (
+            receipt,
+            is,
+            laws.promise.late before (line_of (with_earlier p.earlier host) middle) v.consumed v.consumed (mark_of closing) p.account.keeps.receipts
+                (record { receipt = receipt; mark = mark_of closing }) p.right.line p.right.trusted
+                (subst (λ n. After (event.Answer v.consumed) before n (line_of (with_earlier p.earlier host) middle)) told happened) refl promised,
+          );
+    } in
+    let begun = heard_begun v.m.host host (take most w.wire.coming) v.consumed e is_heard on p.begun in
+    let x : Heard v.m v.after w.kept middle v.wire v.talk v.consumed host e = record {
       earlier = p.earlier;
       held = held;
       number = number;
@@ -348,7 +565,9 @@ hears laws w new most known v =
       sound = one.sound;
       up = one.up;
       right = right;
-      keeps = keeps;
+      so = subst (λ x. HeardSo w.kept x (with_earlier p.earlier host) middle e) hand_is so;
+      begun = begun.0;
+      opening = begun.1;
       book = subst (λ b. IsBookOf b w.kept) (sym book) (talking_book v.m w.kept w.wire v.talk v.talks p);
       after_sound = v.sound;
       wired = record {
@@ -359,5 +578,6 @@ hears laws w new most known v =
       };
     } in
     subst IsWorld (sym v.is) (whole v.after w.kept v.wire w.told known.told
-    (turned_parts laws v.m v.after w.kept middle v.wire v.talk v.consumed (v.talk.left - v.consumed) host e v.m.host.records x records
+    (turned_parts laws v.m v.after w.kept middle v.wire v.talk v.consumed (v.talk.left - v.consumed) host e v.m.book v.m.host.records
+    (talking_book v.m w.kept w.wire v.talk v.talks p).tries x records
     (grew v.m.host host (take most w.wire.coming) v.consumed e is_heard on) on turns))

@@ -1,10 +1,10 @@
 -- What holds of every world holds after what a store does, after bytes are put, and after what happens without the machine.
-use Rattle.std.proofs.Common.{ℕ, zero, suc, ◌≡◌, ◌≢◌, ◌+◌, ◌-◌, ◌<◌, ◌≤◌, inl, inr, max, Option, Some, None, List, [], ◌∷◌, ◌++◌, length, take, refl, sym, ◌∙◌, ap, subst, append-nil, length-append, arith}
+use Rattle.std.proofs.Common.{ℕ, zero, suc, ◌≡◌, ◌≢◌, ◌+◌, ◌-◌, ◌<◌, ◌≤◌, ◌-◌, ◌⊎◌, inl, inr, max, Option, Some, None, List, [], ◌∷◌, ◌++◌, length, take, refl, sym, ◌∙◌, ap, subst, append-nil, length-append, arith}
 use Rattle.std.specs.Prelude.{true, false}
 use Rattle.std.proofs.Math.Nat.{le-max_right, min-le_right}
 use Rattle.escpos_host.specs.declared.send.SendFault.{SendFault}
 use Rattle.escpos_command.specs.declared.command.Command.{Command}
-use Rattle.escpos_command.specs.Digits.{mark_count}
+use Rattle.escpos_command.specs.Digits.{mark_count, mark_of}
 use Rattle.escpos_host.specs.Earlier.{with_earlier}
 use Rattle.escpos_host.specs.Machine.{HostView, Phase, Down, Opening, IsSound, gone_down, in_flight, linked, most_in_flight, nudged, taken_out}
 use Rattle.escpos_host.specs.declared.host.HostError.{HostError}
@@ -16,6 +16,7 @@ use Rattle.escpos_link.specs.declared.event.Event.TheVariants as event
 use Rattle.escpos_link.specs.declared.event.Note.TheVariants as note
 use Rattle.escpos_link.specs.EventTable.{hung_up}
 use Rattle.escpos_link.specs.Resumed.{resumed_host}
+use Rattle.escpos_link.specs.Promised.{PutsOther}
 use Rattle.escpos_link.specs.Trusted.{IsFitting}
 use Rattle.escpos_link.specs.Wire.{WireView, given_up, line_of, with_bytes, with_link}
 use Rattle.escpos_link.proofs.AtTheEnd.{hung_up_by, idle_kept, idle_trusted}
@@ -26,7 +27,7 @@ use Rattle.escpos_till.specs.declared.entry.Content.{Content}
 use Rattle.escpos_till.specs.declared.entry.Entry.{Entry}
 use Rattle.escpos_till.specs.declared.machine.Stage.TheVariants as stage
 use Rattle.escpos_till.specs.Book.{IsBookOf}
-use Rattle.escpos_till.specs.Entries.{MayFollow, cancelled, contents, next_free, numbered_from, record_of, recorded, states, taken, times_tried}
+use Rattle.escpos_till.specs.Entries.{IsLedger, MayFollow, cancelled, contents, next_free, numbered_from, record_of, recorded, states, taken, times_tried}
 use Rattle.escpos_till.specs.declared.entry.Entry.TheVariants as entry
 use Rattle.escpos_till.specs.declared.machine.Due.{Due}
 use Rattle.escpos_till.specs.declared.machine.Talk.{Talk}
@@ -36,6 +37,7 @@ use Rattle.escpos_till.specs.declared.machine.TillNote.TheVariants as note_kind
 use Rattle.escpos_till.specs.declared.store.StoreFault.{StoreFault}
 use Rattle.escpos_till.specs.declared.machine.Then.TheVariants as then
 use Rattle.escpos_till.specs.Delivers.{fresh, marks_taken}
+use Rattle.escpos_till.specs.Tries.{HasTry, tries}
 use Rattle.escpos_till.specs.Machine.{Drops, Ended, Follows, Kept, MachineView, Opens, Unsure, lost, put}
 use Rattle.escpos_till.proofs.EntryLemmas.{count_states, next_after_tried, some_state}
 use Rattle.escpos_till.proofs.MachineLemmas.{waits_tried}
@@ -45,10 +47,12 @@ use Rattle.escpos_till_model.proofs.GoesOn.{GoesOn, taken_on}
 use Rattle.escpos_till_model.proofs.Keeping.{entry_keeps, front_of, gone_keeps, linked_keeps, nudged_keeps, on_keeps, record_keeps, take_keeps}
 use Rattle.escpos_till_model.specs.Receipts.{Among, IsReceiptOf}
 use Rattle.escpos_till_model.specs.Kept.{Hand, Keeps}
-use Rattle.escpos_till_model.specs.Known.{BookMayLag, Holds, IsHostOf, IsToKeep, IsWorld}
-use Rattle.escpos_till_model.specs.World.{Breaks, Crashes, GoesOnWire, Idles, IsSo, Puts, Starts, Stores, Wired, World, is_printer_event, off, running, with_entry, with_wire, without_entry}
+use Rattle.escpos_till_model.specs.Known.{Accounted, BookMayLag, Holds, IsHostOf, IsToKeep, IsToSend, IsWorld}
+use Rattle.escpos_till_model.specs.Late.{HasJustBegun, LateAnswers}
+use Rattle.escpos_till_model.specs.World.{Breaks, Crashes, GoesOnWire, Idles, IsSendable, IsSo, Puts, Starts, Stores, Wired, World, is_printer_event, off, running, with_entry, with_wire, without_entry}
+use Rattle.escpos_till_model.proofs.LateLemmas.{are_below, has_last, has_tried, late_fresh, late_host, late_idle, late_more, late_on, late_recorded, late_tried, other_mark}
 use Rattle.escpos_till_model.proofs.LinesKept.{LineLaws, Right, goes, down_or_up, same_wire, none_given_up, drops_right, drops_hung}
-use Rattle.escpos_till_model.proofs.WorldCalls.{AreSo, Parts, whole, parts, let_go}
+use Rattle.escpos_till_model.proofs.WorldCalls.{AreSo, Parts, whole, parts, let_go, gone_account, gone_begun}
 
 -- ## A host that has sent nothing
 
@@ -73,26 +77,36 @@ fresh_right laws earlier h w kept hand f down right k within =
     } in
     subst (λ v. Right (line_of (with_earlier k.receipts (fresh f)) v)) wire (subst (λ v. Right (line_of v (given_up w))) host resumed_right)
 
-pub fresh_keeps : (earlier : List (List Command)) (h : HostView) (kept : List Entry) (hand : Option Hand) (f : ℕ) → (k : Keeps kept hand (with_earlier earlier h)) → f ≤ next_free kept
+abbrev pub fresh_keeps : (earlier : List (List Command)) (h : HostView) (kept : List Entry) (hand : Option Hand) (f : ℕ) → (k : Keeps kept hand (with_earlier earlier h)) → f ≤ next_free kept
     → Keeps kept None (with_earlier k.receipts (fresh f))
 fresh_keeps earlier h kept hand f k within =
     record { ledger = k.ledger; receipts = k.receipts; are = k.are; answered = []; records = refl; next = within; in_hand = refl }
+
+pub fresh_begun : (f : ℕ) → HasJustBegun (fresh f)
+fresh_begun f first is = let bad : Down ≡ Opening first = is in absurd cc
 
 pub started : LineLaws → (w new : World) → IsWorld w → Starts w new → IsWorld new
 started laws w new known starts =
     let down : known.host.phase ≡ Down = subst (λ x. IsHostOf x known.host) starts.off known.host_is in
     let next : starts.m.book.next ≡ next_free w.kept = starts.book.next in
-    let right = fresh_right laws known.earlier known.host w.wire w.kept known.hand starts.m.book.next down (record { line = known.line; trusted = known.trusted }) known.keeps
-    (omega (arith, known.keeps.next, next)) in
-    let keeps = fresh_keeps known.earlier known.host w.kept known.hand starts.m.book.next known.keeps (omega (arith, next)) in
+    let a = known.account in
+    let rs = a.keeps.receipts in
+    let f = starts.m.book.next in
+    let right = fresh_right laws known.earlier known.host w.wire w.kept known.hand f down (record { line = known.line; trusted = known.trusted }) a.keeps
+    (omega (arith, a.keeps.next, next)) in
+    let account : Accounted w.kept None (with_earlier rs (fresh f)) w.wire = record {
+      keeps = fresh_keeps known.earlier known.host w.kept known.hand f a.keeps (omega (arith, next));
+      late = late_fresh w.kept rs known.earlier rs known.host w.wire f known.sound down a.late;
+    } in
     subst IsWorld (sym starts.is) (whole starts.m w.kept w.wire w.told known.told (record {
-      earlier = known.keeps.receipts;
+      earlier = rs;
       sound = starts.sound;
-      right = subst (λ h. Right (line_of (with_earlier known.keeps.receipts h) w.wire)) (sym starts.started.host) right;
+      right = subst (λ h. Right (line_of (with_earlier rs h) w.wire)) (sym starts.started.host) right;
       hand = None;
-      keeps = subst (λ h. Keeps w.kept None (with_earlier known.keeps.receipts h)) (sym starts.started.host) keeps;
+      account = subst (λ h. Accounted w.kept None (with_earlier rs h) w.wire) (sym starts.started.host) account;
+      begun = subst HasJustBegun (sym starts.started.host) (fresh_begun f);
       book = λ live. starts.book;
-      holds = subst (λ s. Holds w.kept None (with_earlier known.keeps.receipts starts.m.host) s) (sym starts.started.stage) refl;
+      holds = subst (λ s. Holds w.kept None (with_earlier rs starts.m.host) s) (sym starts.started.stage) refl;
     }))
 
 -- What was told is so with one more entry.
@@ -130,10 +144,26 @@ fits_wire event.PrinterRestart at_printer = tt
 fits_wire event.HostDrops at_printer = tt
 fits_wire (event.SetCondition condition) at_printer = tt
 
+-- Nothing is put out at the printer's end.
+pub puts_none : (e : Event) (h : HostView) (id : List ℕ) → is_printer_event e ≡ true → PutsOther e h id
+puts_none event.LinkUp h id at_printer = absurd (let bad : false ≡ true = at_printer in cc)
+puts_none event.Nudge h id at_printer = absurd (let bad : false ≡ true = at_printer in cc)
+puts_none (event.Submit receipt) h id at_printer = absurd (let bad : false ≡ true = at_printer in cc)
+puts_none (event.Ask kind) h id at_printer = tt
+puts_none (event.HostRestart first) h id at_printer = tt
+puts_none (event.Move k) h id at_printer = tt
+puts_none (event.Deliver k) h id at_printer = tt
+puts_none event.HandOver h id at_printer = tt
+puts_none (event.Answer k) h id at_printer = tt
+puts_none event.PrinterLeaves h id at_printer = tt
+puts_none event.PrinterRestart h id at_printer = tt
+puts_none event.HostDrops h id at_printer = tt
+puts_none (event.SetCondition condition) h id at_printer = tt
+
 -- Another wire, where all else stays.
 pub rewired : (w : World) (wire : WireView) → (known : IsWorld w) → Right (line_of (with_earlier known.earlier known.host) wire)
-    → IsWorld (with_wire w wire)
-rewired w wire known right = record {
+    → LateAnswers w.kept known.account.keeps.receipts (line_of (with_earlier known.earlier known.host) wire) → IsWorld (with_wire w wire)
+rewired w wire known right late = record {
   earlier = known.earlier;
   host = known.host;
   host_is = known.host_is;
@@ -141,7 +171,8 @@ rewired w wire known right = record {
   line = right.line;
   trusted = right.trusted;
   hand = known.hand;
-  keeps = known.keeps;
+  account = record { keeps = known.account.keeps; late = late };
+  begun = known.begun;
   machine = known.machine;
   told = known.told;
 }
@@ -149,22 +180,26 @@ rewired w wire known right = record {
 pub on_wire : LineLaws → (w new : World) (e : Event) → IsWorld w → GoesOnWire e w new → IsWorld new
 on_wire laws w new e known v =
     let before : HostView = with_earlier known.earlier known.host in
+    let right : Right (line_of before w.wire) = record { line = known.line; trusted = known.trusted } in
+    let sound = earlier_sound known.earlier known.host known.sound in
     subst IsWorld (sym v.is) (rewired w v.wire known
-    (goes laws e (line_of before w.wire) (line_of before v.wire) v.effect (fits_wire e v.at_printer) (earlier_sound known.earlier known.host known.sound)
-    (record { line = known.line; trusted = known.trusted }) (v.happened before)))
+    (goes laws e (line_of before w.wire) (line_of before v.wire) v.effect (fits_wire e v.at_printer) sound right (v.happened before))
+    (late_on laws w.kept known.account.keeps.receipts e (line_of before w.wire) (line_of before v.wire) v.effect (fits_wire e v.at_printer) sound right (v.happened before)
+    (λ number closing has few. puts_none e before (mark_of closing) v.at_printer) known.account.late))
 
 pub down_of : (machine : Option MachineView) (h : HostView) → IsHostOf machine h → ((m : MachineView) → machine ≡ Some m → m.host.phase ≡ Down) → h.phase ≡ Down
 down_of None h is none = is
 down_of (Some m) h is none = ap (λ v. v.phase) is ∙ none m refl
 
-pub idled : (w new : World) → IsWorld w → Idles w new → IsWorld new
-idled w new known idles =
+pub idled : LineLaws → (w new : World) → IsWorld w → Idles w new → IsWorld new
+idled laws w new known idles =
     let down = down_of w.machine known.host known.host_is idles.none in
     let before : HostView = with_earlier known.earlier known.host in
     subst IsWorld (sym idles.is) (rewired w (given_up (with_link w.wire)) known (record {
       line = idle_kept before w.wire down known.line;
       trusted = (idle_trusted before w.wire down known.line known.trusted).0;
-    }))
+    })
+    (late_idle laws w.kept known.account.keeps.receipts before w.wire down (record { line = known.line; trusted = known.trusted }) known.account.late))
 
 pub sound_gone : (h : HostView) → IsSound (gone_down h)
 sound_gone h = record { quiet = λ down. (refl, refl); none_left = λ up. absurd (up refl); few = omega arith; half = inl refl }
@@ -172,7 +207,8 @@ sound_gone h = record { quiet = λ down. (refl, refl); none_left = λ up. absurd
 pub off_world : LineLaws → (w : World) (wire : WireView) (h : HostView) → (known : IsWorld w) → Drops known.host h → IsSound h → Wired known.host h w.wire wire → h.phase ≡ Down
     → IsWorld (off w wire)
 off_world laws w wire h known drops sound wired down =
-    let right = drops_right laws known.earlier known.host h w.wire wire known.sound drops wired (record { line = known.line; trusted = known.trusted }) in
+    let was : Right (line_of (with_earlier known.earlier known.host) w.wire) = record { line = known.line; trusted = known.trusted } in
+    let right = drops_right laws known.earlier known.host h w.wire wire known.sound drops wired was in
     record {
       earlier = known.earlier;
       host = h;
@@ -181,7 +217,8 @@ off_world laws w wire h known drops sound wired down =
       line = right.line;
       trusted = right.trusted;
       hand = None;
-      keeps = subst (λ v. Keeps w.kept None v) (sym (drops_hung known.earlier known.host h drops)) (gone_keeps w.kept known.hand (with_earlier known.earlier known.host) known.keeps);
+      account = gone_account laws known.earlier known.host h w.kept known.hand w.wire wire known.sound drops wired was known.account;
+      begun = gone_begun known.host h drops;
       machine = refl;
       told = known.told;
     }
@@ -226,6 +263,13 @@ moved_right laws earlier h w count within sound right =
     goes laws (event.Move count) (line_of (with_earlier earlier h) w) (line_of (with_earlier earlier (taken_out h count)) (with_bytes w (take count h.out))) (note.Moved count) tt
     (earlier_sound earlier h sound) right (count, refl, omega (arith, within), refl)
 
+pub moved_late : LineLaws → (kept : List Entry) (rs earlier : List (List Command)) (h : HostView) (w : WireView) (count : ℕ) → count ≤ length h.out → IsSound h
+    → Right (line_of (with_earlier earlier h) w) → LateAnswers kept rs (line_of (with_earlier earlier h) w)
+    → LateAnswers kept rs (line_of (with_earlier earlier (taken_out h count)) (with_bytes w (take count h.out)))
+moved_late laws kept rs earlier h w count within sound right late =
+    late_on laws kept rs (event.Move count) (line_of (with_earlier earlier h) w) (line_of (with_earlier earlier (taken_out h count)) (with_bytes w (take count h.out))) (note.Moved count) tt
+    (earlier_sound earlier h sound) right (count, refl, omega (arith, within), refl) (λ number closing has few. tt) late
+
 pub moved_on : (earlier : List (List Command)) (h : HostView) (w : WireView) (count : ℕ) → count ≤ length h.out → GoesOn (with_earlier earlier h) (with_earlier earlier (taken_out h count))
 moved_on earlier h w count within = taken_on (with_earlier earlier h) count
 
@@ -252,7 +296,11 @@ puts laws w new most known v =
       sound = subst (λ m. IsSound m.host) is v.sound;
       right = moved_right laws p.earlier h w.wire count within p.sound p.right;
       hand = p.hand;
-      keeps = on_keeps w.kept p.hand (with_earlier p.earlier h) (with_earlier p.earlier (taken_out h count)) (moved_on p.earlier h w.wire count within) p.keeps;
+      account = record {
+        keeps = on_keeps w.kept p.hand (with_earlier p.earlier h) (with_earlier p.earlier (taken_out h count)) (moved_on p.earlier h w.wire count within) p.account.keeps;
+        late = moved_late laws w.kept p.account.keeps.receipts p.earlier h w.wire count within p.sound p.right p.account.late;
+      };
+      begun = p.begun;
       book = λ live. talking_book v.m w.kept w.wire v.talk v.talks p;
       holds = holds;
     }))
@@ -271,17 +319,26 @@ breaks laws w new most fewer why known v =
     let gone : v.after.host ≡ gone_down h = drops.1 up in
     let wire : WireView = with_bytes w.wire (take count h.out) in
     let put_right = moved_right laws p.earlier h w.wire count within p.sound p.right in
+    let off = hung_up_by (with_earlier p.earlier (taken_out h count)) (with_earlier p.earlier (gone_down h)) wire (λ u. refl) (λ down. absurd (up down)) in
+    let taken_sound = earlier_sound p.earlier (taken_out h count) (sound_taken h count up p.sound) in
     let off_right = goes laws event.HostDrops (line_of (with_earlier p.earlier (taken_out h count)) wire) (line_of (with_earlier p.earlier (gone_down h)) (given_up wire)) note.Done tt
-    (earlier_sound p.earlier (taken_out h count) (sound_taken h count up p.sound)) put_right
-    (hung_up_by (with_earlier p.earlier (taken_out h count)) (with_earlier p.earlier (gone_down h)) wire (λ u. refl) (λ down. absurd (up down))) in
+    taken_sound put_right off in
+    let a = p.account in
+    let rs = a.keeps.receipts in
+    let off_late = late_on laws w.kept rs event.HostDrops (line_of (with_earlier p.earlier (taken_out h count)) wire) (line_of (with_earlier p.earlier (gone_down h)) (given_up wire)) note.Done tt
+    taken_sound put_right off (λ number closing has few. tt) (moved_late laws w.kept rs p.earlier h w.wire count within p.sound p.right a.late) in
+    let hung = drops_hung p.earlier h v.after.host (λ down. absurd (up down), λ u. gone) in
     subst IsWorld (sym v.is) (whole v.after w.kept (given_up wire) w.told known.told (record {
       earlier = p.earlier;
       sound = v.sound;
       right = subst (λ x. Right (line_of (with_earlier p.earlier x) (given_up wire))) (sym gone) off_right;
       hand = None;
-      keeps = subst (λ x. Keeps w.kept None x)
-          (sym (drops_hung p.earlier h v.after.host (λ down. absurd (up down), λ u. gone)))
-          (gone_keeps w.kept p.hand (with_earlier p.earlier h) p.keeps);
+      account = subst (λ x. Accounted w.kept None x (given_up wire)) (sym hung) (record {
+        keeps = gone_keeps w.kept p.hand (with_earlier p.earlier h) a.keeps;
+        late = subst (λ x. LateAnswers w.kept rs (line_of x (given_up wire))) hung
+            (subst (λ x. LateAnswers w.kept rs (line_of (with_earlier p.earlier x) (given_up wire))) (sym gone) off_late);
+      });
+      begun = gone_begun h v.after.host (λ down. absurd (up down), λ u. gone);
       book = λ live. subst (λ b. IsBookOf b w.kept) (sym book) (talking_book v.m w.kept w.wire v.talk v.talks p);
       holds = subst (λ s. Holds w.kept None (with_earlier p.earlier v.after.host) s) (sym now) (refl, tt);
     }))
@@ -303,26 +360,52 @@ lost_holds (then.Cancelled number tried) why kept h = (refl, tt)
 lost_holds (then.Send due) why kept h = (refl, tt)
 lost_holds (then.Recorded number) why kept h = (refl, tt)
 
+-- The entries with one more are accounted for, if it records nothing.
+pub more_account : LineLaws → (kept : List Entry) (e : Entry) (hand : Option Hand) (h : HostView) (w : WireView) → record_of e ≡ None → tries (e ∷ []) ≡ [] → MayFollow kept e
+    → Accounted kept hand h w → Accounted (kept ++ e ∷ []) hand h w
+more_account laws kept e hand h w none untried follows a =
+    record { keeps = entry_keeps kept e hand h none follows a.keeps; late = late_more kept e a.keeps.receipts (line_of h w) a.keeps.ledger untried a.late }
+
+-- The same where it says that a receipt is tried.
+pub tried_late : LineLaws → (kept : List Entry) (hand : Option Hand) (h : HostView) (w : WireView) (due : Due) → Right (line_of h w) → (k : Keeps kept hand h) → IsToSend kept due
+    → LateAnswers kept k.receipts (line_of h w) → LateAnswers (kept ++ entry.Tried due.number (next_free kept + marks_taken due.openings) ∷ []) k.receipts (line_of h w)
+tried_late laws kept hand h w due right k send late =
+    let limit = next_free kept + marks_taken due.openings in
+    late_tried kept due.number limit k.receipts due.receipt (line_of h w) k.ledger send.follows send.first send.receipt
+    (λ few. laws.promise.made (line_of h w) k.receipts (record { receipt = due.receipt; mark = mark_of (limit - 1) }) (limit - 1) right.trusted
+    (let more = send.follows.1 in omega (arith, k.next, more)) few refl) late
+
 -- The entries with that one are kept by a host that has given its link up.
-pub stored_keeps : (kept : List Entry) (e : Entry) (next : Then) (hand : Option Hand) (earlier : List (List Command)) (h h' : HostView) → Keeps kept hand (with_earlier earlier h)
-    → MayFollow kept e → IsToKeep kept hand (with_earlier earlier h) e next → Drops h h' → Keeps (kept ++ e ∷ []) None (with_earlier earlier h')
-stored_keeps kept e then.Queued hand earlier h h' k follows (none, content, is) drops =
-    subst (λ v. Keeps (kept ++ e ∷ []) None v) (sym (drops_hung earlier h h' drops))
-    (gone_keeps (kept ++ e ∷ []) hand (with_earlier earlier h) (entry_keeps kept e hand (with_earlier earlier h) (ap record_of is) follows k))
-stored_keeps kept e then.Raised hand earlier h h' k follows (none, first, is) drops =
-    subst (λ v. Keeps (kept ++ e ∷ []) None v) (sym (drops_hung earlier h h' drops))
-    (gone_keeps (kept ++ e ∷ []) hand (with_earlier earlier h) (entry_keeps kept e hand (with_earlier earlier h) (ap record_of is) follows k))
-stored_keeps kept e (then.Cancelled number tried) hand earlier h h' k follows (none, is, times) drops =
-    subst (λ v. Keeps (kept ++ e ∷ []) None v) (sym (drops_hung earlier h h' drops))
-    (gone_keeps (kept ++ e ∷ []) hand (with_earlier earlier h) (entry_keeps kept e hand (with_earlier earlier h) (ap record_of is) follows k))
-stored_keeps kept e (then.Send due) hand earlier h h' k follows (none, send, tried) drops =
-    subst (λ v. Keeps (kept ++ e ∷ []) None v) (sym (drops_hung earlier h h' drops))
-    (gone_keeps (kept ++ e ∷ []) hand (with_earlier earlier h) (entry_keeps kept e hand (with_earlier earlier h) (ap record_of tried) follows k))
-stored_keeps kept e (then.Recorded number) hand earlier h h' k follows (held, hand_is, same, recorded_is, more, up) drops =
+pub stored_account : LineLaws → (kept : List Entry) (e : Entry) (next : Then) (hand : Option Hand) (earlier : List (List Command)) (h h' : HostView) (w new : WireView) → IsSound h
+    → Wired h h' w new → Right (line_of (with_earlier earlier h) w) → Accounted kept hand (with_earlier earlier h) w
+    → MayFollow kept e → IsToKeep kept hand (with_earlier earlier h) e next → Drops h h' → Accounted (kept ++ e ∷ []) None (with_earlier earlier h') new
+stored_account laws kept e then.Queued hand earlier h h' w new sound wired right a follows (none, content, is) drops =
+    gone_account laws earlier h h' (kept ++ e ∷ []) hand w new sound drops wired right
+    (more_account laws kept e hand (with_earlier earlier h) w (ap record_of is) (ap (λ x. tries (x ∷ [])) is) follows a)
+stored_account laws kept e then.Raised hand earlier h h' w new sound wired right a follows (none, first, is) drops =
+    gone_account laws earlier h h' (kept ++ e ∷ []) hand w new sound drops wired right
+    (more_account laws kept e hand (with_earlier earlier h) w (ap record_of is) (ap (λ x. tries (x ∷ [])) is) follows a)
+stored_account laws kept e (then.Cancelled number tried) hand earlier h h' w new sound wired right a follows (none, is, times) drops =
+    gone_account laws earlier h h' (kept ++ e ∷ []) hand w new sound drops wired right
+    (more_account laws kept e hand (with_earlier earlier h) w (ap record_of is) (ap (λ x. tries (x ∷ [])) is) follows a)
+stored_account laws kept e (then.Send due) hand earlier h h' w new sound wired right a follows (none, send, is) drops =
+    gone_account laws earlier h h' (kept ++ e ∷ []) hand w new sound drops wired right (record {
+      keeps = entry_keeps kept e hand (with_earlier earlier h) (ap record_of is) follows a.keeps;
+      late = subst (λ x. LateAnswers (kept ++ x ∷ []) a.keeps.receipts (line_of (with_earlier earlier h) w)) (sym is)
+          (tried_late laws kept hand (with_earlier earlier h) w due right a.keeps send a.late);
+    })
+stored_account laws kept e (then.Recorded number) hand earlier h h' w new sound wired right a follows (held, hand_is, same, recorded_is, more, up) drops =
     let is : e ≡ entry.Recorded held.number = recorded_is ∙ ap entry.Recorded (sym same) in
-    subst (λ v. Keeps (kept ++ e ∷ []) None v) (sym (drops_hung earlier h h' drops))
-    (subst (λ x. Keeps (kept ++ x ∷ []) None (hung_up h.phase (with_earlier earlier h))) (sym is)
-    (record_keeps kept held (with_earlier earlier h) (subst (MayFollow kept) is follows) more (subst (λ v. Keeps kept v (with_earlier earlier h)) hand_is k)))
+    let b : Accounted kept (Some held) (with_earlier earlier h) w = subst (λ v. Accounted kept v (with_earlier earlier h) w) hand_is a in
+    let reserved = b.keeps.in_hand.reserved in
+    let so : MayFollow kept (entry.Recorded held.number) = subst (MayFollow kept) is follows in
+    let hung = drops_hung earlier h h' drops in
+    subst (λ v. Accounted (kept ++ e ∷ []) None v new) (sym hung)
+    (subst (λ x. Accounted (kept ++ x ∷ []) None (hung_up h.phase (with_earlier earlier h)) new) (sym is) (record {
+      keeps = record_keeps kept held (with_earlier earlier h) so more b.keeps;
+      late = late_recorded kept held.number (held.limit - 1) b.keeps.receipts (line_of (with_earlier earlier h) w) _ (line_of (hung_up h.phase (with_earlier earlier h)) new) b.keeps.ledger so.0
+          (has_tried kept reserved.before reserved.following held.number held.limit reserved.entries_are) b.late;
+    }))
 
 pub failed_with : LineLaws → (w new : World) (why : StoreFault) → IsWorld w → Stores (λ m after. Unsure m.stage why m after) with_entry w new → IsWorld new
 failed_with laws w new why known v =
@@ -336,7 +419,8 @@ failed_with laws w new why known v =
       sound = moves.sound;
       right = drops_right laws p.earlier moves.m.host moves.after.host w.wire moves.wire p.sound drops moves.wired p.right;
       hand = None;
-      keeps = stored_keeps w.kept v.entry v.next p.hand p.earlier moves.m.host moves.after.host p.keeps follows to_keep drops;
+      account = stored_account laws w.kept v.entry v.next p.hand p.earlier moves.m.host moves.after.host w.wire moves.wire p.sound moves.wired p.right p.account follows to_keep drops;
+      begun = gone_begun moves.m.host moves.after.host drops;
       book = λ live. absurd (live (subst BookMayLag (sym now) (lost_lags v.next why)));
       holds = subst (λ s. Holds (w.kept ++ v.entry ∷ []) None (with_earlier p.earlier moves.after.host) s) (sym now)
           (lost_holds v.next why (w.kept ++ v.entry ∷ []) (with_earlier p.earlier moves.after.host));
@@ -358,7 +442,7 @@ failed_without laws w new why known v =
 -- A host that has sent nothing puts its opening marks out.
 pub record Dialled (kept : List Entry) (hand : Hand) (receipts : List (List Command)) (h : HostView) (w : WireView) : Type 0 where
   pub right : Right (line_of (with_earlier receipts h) w)
-  pub keeps : Keeps kept (Some hand) (with_earlier receipts h)
+  pub account : Accounted kept (Some hand) (with_earlier receipts h) w
   pub sound : IsSound h
 
 pub dialled_sound : (h : HostView) (first : ℕ) → h.phase ≡ Opening first → h.left ≡ [] → h.half ≡ [] → IsSound h
@@ -369,24 +453,46 @@ dialled_sound h first is left half = record {
   half = inl half;
 }
 
+-- The closing marks of the tries are below this number, or the last one below the limit.
+abbrev pub AreApart : List Entry → ℕ → ℕ → Type 0
+AreApart kept f limit = (number closing : ℕ) → HasTry (tries kept) number closing → (closing < f) ⊎ (closing ≡ limit - 1)
+
+-- So a mark with a number between is another one.
+pub apart : LineLaws → (kept : List Entry) (f limit n : ℕ) → AreApart kept f limit → f ≤ n → n + 1 < limit → limit ≤ mark_count → (number closing : ℕ) → HasTry (tries kept) number closing
+    → closing < mark_count → mark_of n ≢ mark_of closing
+apart laws kept f limit n are from below within number closing has few = elim (are number closing has) [
+  | inl less ↦ other_mark laws n closing (omega (arith, below, within)) few (λ same. omega (arith, same, less, from))
+  | inr last ↦ other_mark laws n closing (omega (arith, below, within)) few (λ same. omega (arith, same, last, below))
+]
+
 pub dials : LineLaws → (kept : List Entry) (hand : Hand) (receipts : List (List Command)) (w : WireView) (f c : ℕ) → f + (c + 1) < hand.limit → hand.limit ≤ mark_count
-    → Right (line_of (with_earlier receipts (fresh f)) w) → Keeps kept (Some hand) (with_earlier receipts (fresh f)) → IsSound (fresh f)
+    → AreApart kept f hand.limit → Right (line_of (with_earlier receipts (fresh f)) w) → Accounted kept (Some hand) (with_earlier receipts (fresh f)) w → IsSound (fresh f)
     → Dialled kept hand receipts (dialled (fresh f) (c + 1)) (with_link w)
-dials laws kept hand receipts w f zero below within right keeps sound =
+dials laws kept hand receipts w f zero below within are right a sound =
     subst (λ h. Dialled kept hand receipts h (with_link w)) (dialled_first (fresh f)) (record {
       right = goes laws event.LinkUp (line_of (with_earlier receipts (fresh f)) w) (line_of (with_earlier receipts (linked (fresh f))) (with_link w)) note.Done tt
           (earlier_sound receipts (fresh f) sound) right (refl, refl, omega (arith, below, within), refl);
-      keeps = linked_keeps kept hand (with_earlier receipts (fresh f)) refl (omega (arith, below)) keeps;
+      account = record {
+        keeps = linked_keeps kept hand (with_earlier receipts (fresh f)) refl (omega (arith, below)) a.keeps;
+        late = late_on laws kept a.keeps.receipts event.LinkUp (line_of (with_earlier receipts (fresh f)) w) (line_of (with_earlier receipts (linked (fresh f))) (with_link w)) note.Done tt
+            (earlier_sound receipts (fresh f) sound) right (refl, refl, omega (arith, below, within), refl)
+            (λ number closing has few. apart laws kept f hand.limit f are (omega arith) (omega (arith, below)) within number closing has few) a.late;
+      };
       sound = dialled_sound (linked (fresh f)) f refl refl refl;
     })
-dials laws kept hand receipts w f (suc c) below within right keeps sound =
-    let d = dials laws kept hand receipts w f c (omega (arith, below)) within right keeps sound in
+dials laws kept hand receipts w f (suc c) below within are right a sound =
+    let d = dials laws kept hand receipts w f c (omega (arith, below)) within are right a sound in
     let h : HostView = dialled (fresh f) (c + 1) in
     let more : nudged h ≡ dialled (fresh f) (suc c + 1) = dialled_more (fresh f) (c + 1) ∙ ap (dialled (fresh f)) (omega arith) in
     subst (λ h. Dialled kept hand receipts h (with_link w)) more (record {
       right = goes laws event.Nudge (line_of (with_earlier receipts h) (with_link w)) (line_of (with_earlier receipts (nudged h)) (with_link w)) note.Done tt
           (earlier_sound receipts h d.sound) d.right (refl, tt, omega (arith, below, within), refl);
-      keeps = nudged_keeps kept hand (with_earlier receipts h) (omega (arith, below)) d.keeps;
+      account = record {
+        keeps = nudged_keeps kept hand (with_earlier receipts h) (omega (arith, below)) d.account.keeps;
+        late = late_on laws kept d.account.keeps.receipts event.Nudge (line_of (with_earlier receipts h) (with_link w)) (line_of (with_earlier receipts (nudged h)) (with_link w)) note.Done tt
+            (earlier_sound receipts h d.sound) d.right (refl, tt, omega (arith, below, within), refl)
+            (λ number closing has few. apart laws kept f hand.limit (f + (c + 1)) are (omega arith) (omega (arith, below)) within number closing has few) d.account.late;
+      };
       sound = dialled_sound (nudged h) f refl refl refl;
     })
 
@@ -406,6 +512,14 @@ refused_host error.InFlightFull f k h none = absurd none
 pub max_is : (n : ℕ) → (c : ℕ) × (max n 1 ≡ c + 1)
 max_is n = (max n 1 - 1, omega (arith, le-max_right n 1))
 
+-- The marks of a new try are above those that closed others.
+pub tried_apart : (kept : List Entry) (n limit : ℕ) → IsLedger kept → AreApart (kept ++ entry.Tried n limit ∷ []) (next_free kept) limit
+tried_apart kept n limit ledger number closing has = elim (has_last kept (entry.Tried n limit) number closing has) [
+  | inl before ↦ inl (are_below kept ledger number closing before).0
+  | inr (inl (same, last)) ↦ inr (sym last)
+  | inr (inr none) ↦ absurd none
+]
+
 pub same_receipt : (a b : List Command) → Some a ≡ Some b → a ≡ b
 same_receipt a b same = cc
 
@@ -418,13 +532,19 @@ sent_parts laws m after kept w new e due p book follows (none, send, is) (inl (h
     let limit : ℕ = f + marks_taken due.openings in
     let hand : Hand = record { number = due.number; receipt = Some due.receipt; limit = limit } in
     let more : List Entry = kept ++ entry.Tried due.number limit ∷ [] in
-    let keeps : Keeps kept None (with_earlier p.earlier m.host) = subst (λ v. Keeps kept v (with_earlier p.earlier m.host)) none p.keeps in
+    let a : Accounted kept None (with_earlier p.earlier m.host) w = subst (λ v. Accounted kept v (with_earlier p.earlier m.host) w) none p.account in
+    let keeps = a.keeps in
     let down : m.host.phase ≡ Down = keeps.in_hand in
     let right = fresh_right laws p.earlier m.host w kept None f down p.right keeps keeps.next in
-    let taken = subst (λ v. Keeps more (Some hand) v) (resumed_is p.earlier m.host kept None f keeps)
-    (take_keeps kept (with_earlier p.earlier m.host) due.number limit due.receipt send.follows send.receipt keeps) in
+    let before : HostView = with_earlier p.earlier m.host in
+    let resumed : HostView = resumed_host before f (length (recorded kept)) in
+    let taken : Accounted more (Some hand) resumed w = record {
+      keeps = take_keeps kept before due.number limit due.receipt send.follows send.receipt keeps;
+      late = late_host more keeps.receipts before resumed w (sym (p.sound.quiet down).1) (sym (p.sound.quiet down).0) (tried_late laws kept None before w due p.right keeps send a.late);
+    } in
     let (c, count) = max_is due.openings in
-    let d = dials laws more hand keeps.receipts w f c (omega (arith, count)) send.within right taken (fresh_sound f) in
+    let d = dials laws more hand keeps.receipts w f c (omega (arith, count)) send.within (tried_apart kept due.number limit keeps.ledger) right
+    (subst (λ v. Accounted more (Some hand) v w) (resumed_is p.earlier m.host kept None f keeps) taken) (fresh_sound f) in
     let at_wire : after.host ≡ dialled (fresh f) (c + 1) = host ∙ ap (λ n. dialled (fresh n) (max due.openings 1)) book.next ∙ ap (dialled (fresh f)) count in
     let up : after.host.phase ≢ Down = λ gone. let bad : Opening f ≡ Down = ap (λ v. v.phase) (sym at_wire) ∙ gone in cc in
     let linked_up : new ≡ with_link w = wired.goes_up down up in
@@ -440,7 +560,7 @@ sent_parts laws m after kept w new e due p book follows (none, send, is) (inl (h
       tried,
       counts,
       (λ gone. let bad : Opening f ≡ Down = gone in cc),
-      λ receipt is. (omega (arith, count), subst (λ r. IsFitting (event.Submit r)) (same_receipt due.receipt receipt is) send.fits),
+      λ receipt is. (omega (arith, count), subst IsSendable (same_receipt due.receipt receipt is) send.fits),
     ) in
     subst (λ x. Parts after (kept ++ x ∷ []) new) (sym is) (record {
       earlier = keeps.receipts;
@@ -448,7 +568,9 @@ sent_parts laws m after kept w new e due p book follows (none, send, is) (inl (h
       right = subst (λ v. Right (line_of (with_earlier keeps.receipts after.host) v)) (sym linked_up)
           (subst (λ h. Right (line_of (with_earlier keeps.receipts h) (with_link w))) (sym at_wire) d.right);
       hand = Some hand;
-      keeps = subst (λ h. Keeps more (Some hand) (with_earlier keeps.receipts h)) (sym at_wire) d.keeps;
+      account = subst (λ v. Accounted more (Some hand) (with_earlier keeps.receipts after.host) v) (sym linked_up)
+          (subst (λ h. Accounted more (Some hand) (with_earlier keeps.receipts h) (with_link w)) (sym at_wire) d.account);
+      begun = λ first opening. ap (λ v. v.records) at_wire;
       book = λ live. subst (λ x. IsBookOf after.book (kept ++ x ∷ [])) is known;
       holds = subst (λ s. Holds more (Some hand) (with_earlier keeps.receipts after.host) s) (sym now)
           (subst (λ h. Holds more (Some hand) (with_earlier keeps.receipts h) (stage.Talking (record { number = due.number; receipt = Some due.receipt; left = due.most }))) (sym at_wire) holds);
@@ -456,7 +578,8 @@ sent_parts laws m after kept w new e due p book follows (none, send, is) (inl (h
 sent_parts laws m after kept w new e due p book follows (none, send, is) (inr (why, refuses, now)) known sound wired =
     let f : ℕ = next_free kept in
     let limit : ℕ = f + marks_taken due.openings in
-    let keeps : Keeps kept None (with_earlier p.earlier m.host) = subst (λ v. Keeps kept v (with_earlier p.earlier m.host)) none p.keeps in
+    let a : Accounted kept None (with_earlier p.earlier m.host) w = subst (λ v. Accounted kept v (with_earlier p.earlier m.host) w) none p.account in
+    let keeps = a.keeps in
     let down : m.host.phase ≡ Down = keeps.in_hand in
     let (g, host, from, to) = refused_host why f (max due.openings 1) after.host (subst (λ n. RefusesOpening why (fresh n) (max due.openings 1) after.host) book.next refuses) in
     let grown = entry_keeps kept e None (with_earlier p.earlier m.host) (ap record_of is) follows keeps in
@@ -464,27 +587,38 @@ sent_parts laws m after kept w new e due p book follows (none, send, is) (inr (w
     let last : next_free (kept ++ e ∷ []) ≡ limit = ap (λ x. next_free (kept ++ x ∷ [])) is ∙ next_after_tried kept due.number limit in
     let kept_so = fresh_keeps p.earlier m.host (kept ++ e ∷ []) None g grown (omega (arith, last, to)) in
     let stays : new ≡ w = wired.stays_down down (ap (λ v. v.phase) host) in
+    let account : Accounted (kept ++ e ∷ []) None (with_earlier grown.receipts (fresh g)) w = record {
+      keeps = kept_so;
+      late = late_fresh (kept ++ e ∷ []) keeps.receipts p.earlier grown.receipts m.host w g p.sound down
+          (subst (λ x. LateAnswers (kept ++ x ∷ []) keeps.receipts (line_of (with_earlier p.earlier m.host) w)) (sym is)
+          (tried_late laws kept None (with_earlier p.earlier m.host) w due p.right keeps send a.late));
+    } in
     record {
       earlier = grown.receipts;
       sound = sound;
       right = subst (λ v. Right (line_of (with_earlier grown.receipts after.host) v)) (sym stays) (subst (λ h. Right (line_of (with_earlier grown.receipts h) w)) (sym host) right);
       hand = None;
-      keeps = subst (λ h. Keeps (kept ++ e ∷ []) None (with_earlier grown.receipts h)) (sym host) kept_so;
+      account = subst (λ v. Accounted (kept ++ e ∷ []) None (with_earlier grown.receipts after.host) v) (sym stays)
+          (subst (λ h. Accounted (kept ++ e ∷ []) None (with_earlier grown.receipts h) w) (sym host) account);
+      begun = subst HasJustBegun (sym host) (fresh_begun g);
       book = λ live. known;
       holds = subst (λ s. Holds (kept ++ e ∷ []) None (with_earlier grown.receipts after.host) s) (sym now) (refl, tt);
     }
 
-pub quietly_kept : (m after : MachineView) (kept : List Entry) (w new : WireView) (e : Entry) → (p : Parts m kept w) → MayFollow kept e → p.hand ≡ None → record_of e ≡ None → after.host ≡ m.host
+pub quietly_kept : LineLaws → (m after : MachineView) (kept : List Entry) (w new : WireView) (e : Entry) → (p : Parts m kept w) → MayFollow kept e → p.hand ≡ None → record_of e ≡ None
+    → tries (e ∷ []) ≡ [] → after.host ≡ m.host
     → IsSound after.host → Wired m.host after.host w new → IsBookOf after.book (kept ++ e ∷ []) → Holds (kept ++ e ∷ []) p.hand (with_earlier p.earlier m.host) after.stage
     → Parts after (kept ++ e ∷ []) new
-quietly_kept m after kept w new e p follows none other same sound wired known holds =
+quietly_kept laws m after kept w new e p follows none other untried same sound wired known holds =
     let wire : new ≡ w = same_wire m.host after.host w new same wired in
     record {
       earlier = p.earlier;
       sound = sound;
       right = subst (λ v. Right (line_of (with_earlier p.earlier after.host) v)) (sym wire) (subst (λ h. Right (line_of (with_earlier p.earlier h) w)) (sym same) p.right);
       hand = p.hand;
-      keeps = subst (λ h. Keeps (kept ++ e ∷ []) p.hand (with_earlier p.earlier h)) (sym same) (entry_keeps kept e p.hand (with_earlier p.earlier m.host) other follows p.keeps);
+      account = subst (λ v. Accounted (kept ++ e ∷ []) p.hand (with_earlier p.earlier after.host) v) (sym wire)
+          (subst (λ h. Accounted (kept ++ e ∷ []) p.hand (with_earlier p.earlier h) w) (sym same) (more_account laws kept e p.hand (with_earlier p.earlier m.host) w other untried follows p.account));
+      begun = subst HasJustBegun (sym same) p.begun;
       book = λ live. known;
       holds = subst (λ h. Holds (kept ++ e ∷ []) p.hand (with_earlier p.earlier h) after.stage) (sym same) holds;
     }
@@ -511,14 +645,14 @@ pub kept_parts : LineLaws → (m after : MachineView) (kept : List Entry) (w new
     → MayFollow kept e → IsToKeep kept p.hand (with_earlier p.earlier m.host) e next → Follows next m.host m.book.next after.book after.host after.stage → IsBookOf after.book (kept ++ e ∷ [])
     → IsSound after.host → Wired m.host after.host w new → Parts after (kept ++ e ∷ []) new
 kept_parts laws m after kept w new e then.Queued p book follows (none, content, entry_is) (number, is, host, now) known sound wired =
-    quietly_kept m after kept w new e p follows none (ap record_of entry_is) host sound wired known
+    quietly_kept laws m after kept w new e p follows none (ap record_of entry_is) (ap (λ x. tries (x ∷ [])) entry_is) host sound wired known
     (subst (λ s. Holds (kept ++ e ∷ []) p.hand (with_earlier p.earlier m.host) s) (sym now)
     (none, queued_so after.book (kept ++ e ∷ []) kept content number known (ap (λ x. kept ++ x ∷ []) entry_is) is))
 kept_parts laws m after kept w new e then.Raised p book follows (none, first, entry_is) (host, now) known sound wired =
-    quietly_kept m after kept w new e p follows none (ap record_of entry_is) host sound wired known
+    quietly_kept laws m after kept w new e p follows none (ap record_of entry_is) (ap (λ x. tries (x ∷ [])) entry_is) host sound wired known
     (subst (λ s. Holds (kept ++ e ∷ []) p.hand (with_earlier p.earlier m.host) s) (sym now) (none, tt))
 kept_parts laws m after kept w new e (then.Cancelled number tried) p book follows (none, entry_is, times) (host, now) known sound wired =
-    quietly_kept m after kept w new e p follows none (ap record_of entry_is) host sound wired known
+    quietly_kept laws m after kept w new e p follows none (ap record_of entry_is) (ap (λ x. tries (x ∷ [])) entry_is) host sound wired known
     (subst (λ s. Holds (kept ++ e ∷ []) p.hand (with_earlier p.earlier m.host) s) (sym now)
     (none, subst (λ x. IsSo (kept ++ x ∷ []) (note_kind.Cancelled number tried)) (sym entry_is) (cancelled_so kept number tried times)))
 kept_parts laws m after kept w new e (then.Send due) p book follows to_keep opens known sound wired = sent_parts laws m after kept w new e due p book follows to_keep opens known sound wired
@@ -527,7 +661,8 @@ kept_parts laws m after kept w new e (then.Recorded number) p book follows to_ke
   sound = sound;
   right = drops_right laws p.earlier m.host after.host w new p.sound drops wired p.right;
   hand = None;
-  keeps = stored_keeps kept e (then.Recorded number) p.hand p.earlier m.host after.host p.keeps follows to_keep drops;
+  account = stored_account laws kept e (then.Recorded number) p.hand p.earlier m.host after.host w new p.sound wired p.right p.account follows to_keep drops;
+  begun = gone_begun m.host after.host drops;
   book = λ live. known;
   holds = subst (λ s. Holds (kept ++ e ∷ []) None (with_earlier p.earlier after.host) s) (sym now)
       (refl, subst (λ x. Among number (recorded (kept ++ x ∷ []))) (sym to_keep.3) (recorded_so kept number));
@@ -542,4 +677,4 @@ kept_world laws w new known v =
     let (follows, to_keep) = subst (λ s. Holds w.kept p.hand (with_earlier p.earlier moves.m.host) s) is p.holds in
     let book : IsBookOf moves.m.book w.kept = p.book (λ lost. subst BookMayLag is lost) in
     subst IsWorld (sym moves.is) (whole moves.after (w.kept ++ v.entry ∷ []) moves.wire w.told (so_later w.kept v.entry w.told follows known.told)
-    (kept_parts laws moves.m moves.after w.kept w.wire moves.wire v.entry v.next p book follows to_keep so (notes w.kept book p.keeps.ledger follows) moves.sound moves.wired))
+    (kept_parts laws moves.m moves.after w.kept w.wire moves.wire v.entry v.next p book follows to_keep so (notes w.kept book p.account.keeps.ledger follows) moves.sound moves.wired))

@@ -17,14 +17,16 @@ use Rattle.escpos_till.specs.declared.entry.Entry.TheVariants as entry
 use Rattle.escpos_till.specs.Delivers.{fresh}
 use Rattle.escpos_till.proofs.EntryLemmas.{empty_ledger, ledger-snoc}
 use Rattle.escpos_till_model.specs.Receipts.{AreReceipts, Extends, IsReceiptOf, RecordedStand}
+use Rattle.escpos_till_model.specs.Late.{LateAnswers}
 use Rattle.escpos_till_model.specs.Known.{IsHostOf, IsMachineIn, IsWorld}
 use Rattle.escpos_till_model.specs.World.{Begins, Happens, Runs, World}
 use Rattle.escpos_till_model.specs.declared.event.Happening.{Happening}
 use Rattle.escpos_till_model.specs.declared.event.Happening.TheVariants.{Break, Cancel, Connect, Crash, Deliver, End, FailWith, FailWithout, HangUp, Hear, Idle, Keep, Miss, OnWire, Put, Queue, Raise, Refuse, Start, Tell}
+use Rattle.escpos_till_model.proofs.LateLemmas.{late_fresh, late_off}
 use Rattle.escpos_till_model.proofs.LinesKept.{LineLaws, Right, none_given_up}
 use Rattle.escpos_till_model.proofs.EntryFacts.{among_nothing, zip_length}
 use Rattle.escpos_till_model.proofs.WorldCalls.{cancels, queued, raised, refused, delivers, told_world, hung_world, connected_world, missed_world, ended_world}
-use Rattle.escpos_till_model.proofs.WorldStore.{started, on_wire, idled, crashed, puts, breaks, failed_with, failed_without, fresh_right, fresh_sound, kept_world}
+use Rattle.escpos_till_model.proofs.WorldStore.{started, on_wire, idled, crashed, puts, breaks, failed_with, failed_without, fresh_begun, fresh_right, fresh_sound, kept_world}
 use Rattle.escpos_till_model.proofs.WorldHears.{hears}
 
 -- ## Whatever happens
@@ -48,7 +50,7 @@ whatever laws w new (End why) known happened = ended_world laws w new why known 
 whatever laws w new HangUp known happened = hung_world w new known happened
 whatever laws w new Tell known happened = told_world w new known happened
 whatever laws w new (OnWire e) known happened = on_wire laws w new e known happened
-whatever laws w new Idle known happened = idled w new known happened
+whatever laws w new Idle known happened = idled laws w new known happened
 whatever laws w new Crash known happened = crashed laws w new known happened
 
 pub over_time : LineLaws → (w new : World) (happenings : List Happening) → IsWorld w → Runs w happenings new → IsWorld new
@@ -58,10 +60,10 @@ over_time laws w new (e ∷ es) known (mid, happened, others) = over_time laws m
 -- What is recorded stands on the paper.
 pub recorded_stand : LineLaws → (w : World) → IsWorld w → RecordedStand w.wire.printer.sheet.line_dots w.kept w.wire.printer.sheet.items
 recorded_stand laws w known = record {
-  receipts = known.keeps.receipts;
-  are = known.keeps.are;
-  stand = stands_front w.wire.printer.sheet.line_dots known.keeps.receipts known.keeps.answered w.wire.printer.sheet.items
-      (subst (λ rs. Stands w.wire.printer.sheet.line_dots rs w.wire.printer.sheet.items) known.keeps.records
+  receipts = known.account.keeps.receipts;
+  are = known.account.keeps.are;
+  stand = stands_front w.wire.printer.sheet.line_dots known.account.keeps.receipts known.account.keeps.answered w.wire.printer.sheet.items
+      (subst (λ rs. Stands w.wire.printer.sheet.line_dots rs w.wire.printer.sheet.items) known.account.keeps.records
       (laws.trust.stands (line_of (with_earlier known.earlier known.host) w.wire) known.trusted));
 }
 
@@ -126,7 +128,12 @@ begun laws w b =
       line = right.line;
       trusted = right.trusted;
       hand = None;
-      keeps = record { ledger = b.ledger; receipts = records; are = b.receipts; answered = []; records = refl; next = omega arith; in_hand = refl };
+      account = record {
+        keeps = record { ledger = b.ledger; receipts = records; are = b.receipts; answered = []; records = refl; next = omega arith; in_hand = refl };
+        late = subst (λ v. LateAnswers w.kept records (line_of (with_earlier records (fresh f)) v)) (sym b.wire_is)
+            (late_off laws w.kept records b.line (with_earlier records (fresh f)) refl b.late);
+      };
+      begun = fresh_begun f;
       machine = subst (λ x. IsMachineIn x w.kept None (with_earlier records (fresh f))) (sym b.off) refl;
       told = b.told;
     }
@@ -135,16 +142,19 @@ begun laws w b =
 pub begins_again : LineLaws → (w : World) → w.machine ≡ None → IsWorld w → Begins w
 begins_again laws w off known =
     let down : known.host.phase ≡ Down = subst (λ x. IsHostOf x known.host) off known.host_is in
-    let host : HostView = with_earlier known.keeps.receipts (fresh (next_free w.kept)) in
+    let a = known.account in
+    let host : HostView = with_earlier a.keeps.receipts (fresh (next_free w.kept)) in
     let right : Right (line_of host w.wire) =
-    fresh_right laws known.earlier known.host w.wire w.kept known.hand (next_free w.kept) down (record { line = known.line; trusted = known.trusted }) known.keeps known.keeps.next in
+    fresh_right laws known.earlier known.host w.wire w.kept known.hand (next_free w.kept) down (record { line = known.line; trusted = known.trusted }) a.keeps a.keeps.next in
     record {
       off = off;
-      ledger = known.keeps.ledger;
+      ledger = a.keeps.ledger;
       line = line_of host w.wire;
       is_line = right.line;
       trusted = right.trusted;
-      receipts = subst (λ rs. AreReceipts w.kept rs) (sym (append-nil known.keeps.receipts)) known.keeps.are;
+      receipts = subst (λ rs. AreReceipts w.kept rs) (sym (append-nil a.keeps.receipts)) a.keeps.are;
+      late = subst (λ rs. LateAnswers w.kept rs (line_of host w.wire)) (sym (append-nil a.keeps.receipts))
+          (late_fresh w.kept a.keeps.receipts known.earlier a.keeps.receipts known.host w.wire (next_free w.kept) known.sound down a.late);
       next = omega arith;
       wire_is = sym (none_given_up host w.wire refl right.line);
       told = known.told;
@@ -163,6 +173,7 @@ first_world laws l n line trusted within = record {
   is_line = resumed_kept l n 0 line;
   trusted = (laws.trust.resumes l n 0 within trusted).0;
   receipts = tt;
+  late = record { first = λ number closing waits has. absurd has; promise = λ number closing waits has. absurd has };
   next = omega arith;
   told = λ n among. absurd (among_nothing n among);
   wire_is = sym (none_given_up (resumed_host l.host n 0) (wire_of (resumed l n 0)) refl (resumed_kept l n 0 line));

@@ -5,6 +5,7 @@ use Rattle.escpos_command.specs.declared.command.Command.{Command}
 use Rattle.escpos_command.specs.CommandTable.{AreCommands, spell}
 use Rattle.escpos_command.specs.Digits.{mark_of}
 use Rattle.escpos_command.specs.Marks.{marks}
+use Rattle.escpos_real_time.specs.RealTime.{HoldsRealTime}
 use Rattle.escpos_till.specs.declared.entry.Entry.{Entry}
 use Rattle.escpos_till.specs.declared.entry.Entry.TheVariants as entry
 use Rattle.escpos_till.specs.declared.machine.Stage.{Stage}
@@ -70,7 +71,7 @@ numbers_from zero first = []
 numbers_from (suc count) first = first ∷ numbers_from count (first + 1)
 
 -- What was put on the link is the beginning of commands. Their marks have the numbers that are reserved for it, from the first on, each
--- once and in order.
+-- once and in order. And no real-time command stands anywhere in it.
 pub record HasOwnMarks (l : Carried) : Type 0 where
   pub said : List Command
   pub unsaid : List ℕ
@@ -79,6 +80,7 @@ pub record HasOwnMarks (l : Carried) : Type 0 where
   pub commands : AreCommands said
   pub marks_are : marks said ≡ map mark_of (numbers_from used l.first)
   pub within : l.first + used ≤ l.limit
+  pub no_real_time : ¬ HoldsRealTime l.bytes
 
 -- The numbers of each link are above those of the links before it, from `low` on and below `high`: none is reserved twice.
 abbrev pub AreApart : ℕ → List Carried → ℕ → Type 0

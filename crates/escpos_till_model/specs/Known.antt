@@ -6,9 +6,8 @@ use Rattle.escpos_command.specs.Digits.{mark_count}
 use Rattle.escpos_host.specs.Earlier.{with_earlier}
 use Rattle.escpos_host.specs.Machine.{HostView, Down, IsSound}
 use Rattle.escpos_link.specs.Line.{IsLine}
-use Rattle.escpos_link.specs.declared.event.Event.TheVariants as line
-use Rattle.escpos_link.specs.Trusted.{IsFitting, IsTrusted}
-use Rattle.escpos_link.specs.Wire.{line_of}
+use Rattle.escpos_link.specs.Trusted.{IsTrusted}
+use Rattle.escpos_link.specs.Wire.{WireView, line_of}
 use Rattle.escpos_till.specs.declared.entry.Content.{Content}
 use Rattle.escpos_till.specs.declared.entry.Entry.{Entry}
 use Rattle.escpos_till.specs.declared.entry.Entry.TheVariants as entry
@@ -21,11 +20,12 @@ use Rattle.escpos_till.specs.declared.machine.TillNote.{TillNote}
 use Rattle.escpos_till.specs.declared.machine.TillNote.TheVariants as note
 use Rattle.escpos_till.specs.Book.{IsBookOf}
 use Rattle.escpos_till.specs.Delivers.{marks_taken}
-use Rattle.escpos_till.specs.Entries.{MayFollow, next_free, recorded, times_tried}
+use Rattle.escpos_till.specs.Entries.{MayFollow, Waits, next_free, recorded, times_tried}
 use Rattle.escpos_till.specs.Machine.{MachineView}
 use Rattle.escpos_till_model.specs.Kept.{Hand, Keeps}
+use Rattle.escpos_till_model.specs.Late.{HasJustBegun, LateAnswers}
 use Rattle.escpos_till_model.specs.Receipts.{Among, IsReceiptOf}
-use Rattle.escpos_till_model.specs.World.{IsSo, World}
+use Rattle.escpos_till_model.specs.World.{IsSendable, IsSo, World}
 
 -- The host at the wire is the machine's; where there is no machine it has no link.
 abbrev pub IsHostOf : Option MachineView → HostView → Type 0
@@ -40,12 +40,13 @@ BookMayLag (stage.Telling (note.NotKept why)) = Unit {0}
 BookMayLag stage.Failed = Unit {0}
 BookMayLag s = ⊥
 
--- The receipt may be sent with numbers from the next one on.
+-- The receipt, the first that waits, may be sent with numbers from the next one on.
 pub record IsToSend (kept : List Entry) (due : Due) : Type 0 where
   pub receipt : IsReceiptOf kept due.number due.receipt
   pub within : next_free kept + marks_taken due.openings ≤ mark_count
-  pub fits : IsFitting (line.Submit due.receipt)
+  pub fits : IsSendable due.receipt
   pub follows : MayFollow kept (entry.Tried due.number (next_free kept + marks_taken due.openings))
+  pub first : (k : ℕ) → Waits kept k → due.number ≤ k
 
 -- What an entry that is to be kept is, by what follows it.
 abbrev pub IsToKeep : List Entry → Option Hand → HostView → Entry → Then → Type 0
@@ -70,7 +71,7 @@ Holds kept hand h (stage.Keeping e next) = MayFollow kept e × IsToKeep kept han
 Holds kept hand h (stage.Talking talk) =
     (held : Hand) × (hand ≡ Some held) × (held.number ≡ talk.number) × (held.receipt ≡ talk.receipt) × MayFollow kept (entry.Recorded talk.number)
     × (length h.records ≡ length (recorded kept)) × (h.phase ≢ Down)
-    × ((receipt : List Command) → talk.receipt ≡ Some receipt → (h.next < held.limit) × IsFitting (line.Submit receipt))
+    × ((receipt : List Command) → talk.receipt ≡ Some receipt → (h.next < held.limit) × IsSendable receipt)
 Holds kept hand h (stage.HangingUp n) = (hand ≡ None) × IsSo kept n
 Holds kept hand h (stage.Telling n) = (hand ≡ None) × IsSo kept n
 Holds kept hand h s = hand ≡ None
@@ -79,8 +80,14 @@ abbrev pub IsMachineIn : Option MachineView → List Entry → Option Hand → H
 IsMachineIn None kept hand h = hand ≡ None
 IsMachineIn (Some m) kept hand h = ((BookMayLag m.stage → ⊥) → IsBookOf m.book kept) × Holds kept hand h m.stage
 
+-- The entries are those of a till whose host is at this wire; and if a try of a receipt that waits is answered late, the receipt stands then
+-- after those that are recorded.
+pub record Accounted (kept : List Entry) (hand : Option Hand) (h : HostView) (wire : WireView) : Type 0 where
+  pub keeps : Keeps kept hand h
+  pub late : LateAnswers kept keeps.receipts (line_of h wire)
+
 -- What holds of every world: with the records of the hosts before, the machine's host and the wire are a line that can be trusted, and
--- the entries are those of a till whose host this is; and what its owner was told is so.
+-- the entries are those of a till whose host this is, so that late answers prove what they say; and what its owner was told is so.
 pub record IsWorld (w : World) : Type 0 where
   pub earlier : List (List Command)
   pub host : HostView
@@ -89,6 +96,7 @@ pub record IsWorld (w : World) : Type 0 where
   pub line : IsLine (line_of (with_earlier earlier host) w.wire)
   pub trusted : IsTrusted (line_of (with_earlier earlier host) w.wire)
   pub hand : Option Hand
-  pub keeps : Keeps w.kept hand (with_earlier earlier host)
+  pub account : Accounted w.kept hand (with_earlier earlier host) w.wire
+  pub begun : HasJustBegun host
   pub machine : IsMachineIn w.machine w.kept hand (with_earlier earlier host)
   pub told : (n : TillNote) → Among n w.told → IsSo w.kept n

@@ -1,8 +1,10 @@
 pub mod Receipts
+pub mod Late
 pub mod Kept
 pub mod World
 pub mod Known
 pub mod Instead
 pub mod Around
 pub mod Carried
+pub mod Again
 pub mod Bridge

@@ -7,9 +7,11 @@
 -- program may close its socket a little later. A crash within an append is `FailWith` or `FailWithout`, and then `Crash`.
 --
 -- Not in this world: other writers to the printer, and bytes from it that nobody asked for; a store that loses an entry that it kept, or
--- that is put back from a backup; two machines over one ledger at the same time; and an answer to a mark of an old link that comes late
--- on a new one, as it may on a serial line.
+-- that is put back from a backup; two machines over one ledger at the same time; and an answer that was on its way on an old link and
+-- comes on a new one, as it may on a serial line. (An answer that waited in the printer does come on a new link.)
 use Rattle.std.specs.Prelude.{ℕ, Bool, true, false, ◌≡◌, ◌≢◌, ◌<◌, ◌≤◌, Option, Some, None, List, [], ◌∷◌, ◌++◌, length, min, take}
+use Rattle.escpos_command.specs.declared.command.Command.{Command}
+use Rattle.escpos_receipt.specs.Whole.{HoldNoRealTime}
 use Rattle.escpos_host.specs.declared.send.SendFault.{SendFault}
 use Rattle.escpos_host.specs.Machine.{HostView, Down, IsSound}
 use Rattle.escpos_link.specs.declared.event.Event.{Event}
@@ -29,6 +31,7 @@ use Rattle.escpos_till.specs.Book.{IsBookOf}
 use Rattle.escpos_till.specs.Copy.{IsCopyText}
 use Rattle.escpos_till.specs.Entries.{IsLedger, cancelled, next_free, recorded, taken, times_tried}
 use Rattle.escpos_till.specs.Machine.{Came, Cancels, Delivers, Ended, IsStarted, Kept, MachineView, Queues, Raises, SameEntries, Unsure, connected, hung_up, not_connected, put, told}
+use Rattle.escpos_till_model.specs.Late.{LateAnswers}
 use Rattle.escpos_till_model.specs.Receipts.{Among, AreReceipts}
 use Rattle.escpos_till_model.specs.declared.event.Happening.{Happening}
 use Rattle.escpos_till_model.specs.declared.event.Happening.TheVariants as event
@@ -58,7 +61,8 @@ IsSo kept n = Unit {0}
 
 -- A world may begin so: the till is off, and its store has a ledger, an old one or a new one. The wire is what is left of a line once its
 -- host has given its link up: whatever printer that is, with links that it still reads. That host's records are the receipts that the
--- ledger has as recorded, and it has used no mark number from the ledger's next one on. What the owner was told before is so.
+-- ledger has as recorded, and it has used no mark number from the ledger's next one on; what it put for the tries of a receipt that waits
+-- proves that it is printed, if it is answered. What the owner was told before is so.
 pub record Begins (w : World) : Type 0 where
   pub off : w.machine ≡ None
   pub ledger : IsLedger w.kept
@@ -66,6 +70,7 @@ pub record Begins (w : World) : Type 0 where
   pub is_line : IsLine line
   pub trusted : IsTrusted line
   pub receipts : AreReceipts w.kept line.host.records
+  pub late : LateAnswers w.kept line.host.records line
   pub next : line.host.next ≤ next_free w.kept
   pub wire_is : w.wire ≡ given_up (wire_of line)
   pub told : (n : TillNote) → Among n w.told → IsSo w.kept n
@@ -110,9 +115,14 @@ pub record Tells (w : World) (new : World) : Type 0 where
   pub note : TillNote
   pub moves : Moves (λ m after. (m.stage ≡ stage.Telling note) × (after ≡ told m.stage m)) w w.kept (w.told ++ note ∷ []) new
 
--- What is to be sent fits the line, as every receipt does: it is whole, and its commands are in range.
+-- A receipt may be sent, as every one may: it fits the line, and no real-time command stands in its bytes.
+pub record IsSendable (receipt : List Command) : Type 0 where
+  pub fits : IsFitting (line.Submit receipt)
+  pub no_real_time : HoldNoRealTime receipt
+
+-- What is to be sent is such a receipt.
 abbrev pub FitsLine : Stage → Type 0
-FitsLine (stage.Connecting due) = IsFitting (line.Submit due.receipt)
+FitsLine (stage.Connecting due) = IsSendable due.receipt
 FitsLine s = Unit {0}
 
 -- The machine hears bytes that are on their way.

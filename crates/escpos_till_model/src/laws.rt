@@ -19,6 +19,7 @@ ghost use Rattle.escpos_till.specs.Book.{IsBookOf};
 ghost use Rattle.escpos_till.specs.Driver.{Answered, Call, Ran, RanTo, Serves, Tells};
 ghost use Rattle.escpos_till.specs.Machine.{Delivers, IsStarted, MachineView, RefusesDeliver, after_note};
 ghost use Rattle.escpos_till.specs.Surroundings.{Did};
+ghost use Rattle.escpos_till_model.specs.Again.{HearsAnswer, IsLostFirst, IsNotTriedAgain};
 ghost use Rattle.escpos_till_model.specs.Around.{Around, CrashesTo, DoesInTime, IsAround, Reaches, around};
 ghost use Rattle.escpos_till_model.specs.Bridge.{AllOnWire, AreServed, EndsIn, FitsWire, GoesTo, IsFaithful, IsGivenUp, IsOffLine, IsServed, notes_of, told_of};
 ghost use Rattle.std.specs.List.{AllByRecursion};
@@ -67,13 +68,29 @@ pub fn what_is_recorded_stands()
     ensures begins_again { (w after : World) (happenings : List Happening) → Begins w → Runs w happenings after → after.machine ≡ None → Begins after }
     ensures begins { (l : LineView) (n : ℕ) → IsLine l → IsTrusted l → l.host.next ≤ n → Begins (record { machine = None; kept = entry.Raised n ∷ []; wire = given_up (wire_of l); told = [] }) }
 {
+    escpos_command::laws::mark_numbers();
     escpos_link::laws::trust();
+    escpos_link::laws::promise();
+    escpos_link::laws::every_line();
+    escpos_link::laws::in_turn();
+}
+
+/// What is heard: once a machine has heard an answer to the closing mark of a try of a receipt, be it of an older link, no entry says that the
+/// receipt is tried again; unless the machine is gone, or its store fails, before it has kept that the receipt is recorded.
+pub fn what_is_heard_is_not_sent_again()
+    ensures { (first w heard after : World) (before happenings : List Happening) (most number : ℕ) → Begins first → Runs first before w → HearsAnswer w most number heard
+        → Runs heard happenings after → ¬ IsLostFirst happenings → IsNotTriedAgain number w.kept after.kept }
+{
+    escpos_command::laws::mark_numbers();
+    escpos_link::laws::trust();
+    escpos_link::laws::promise();
     escpos_link::laws::every_line();
     escpos_link::laws::in_turn();
 }
 
 /// What goes out: over every list of happenings each link has mark numbers of its own, which an entry has reserved before. The marks in the
-/// bytes that are put on it have these numbers, each once and in order; so no mark number goes out twice.
+/// bytes that are put on it have these numbers, each once and in order; so no mark number goes out twice. And no real-time command stands
+/// anywhere in them.
 pub fn marks_are_used_once()
     ensures carries { (w after : World) (happenings : List Happening) → Runs w happenings after → (links : List Carried) × Carries w happenings after [] links }
     ensures apart { (w after : World) (happenings : List Happening) (links : List Carried) → Begins w → Carries w happenings after [] links
@@ -83,6 +100,7 @@ pub fn marks_are_used_once()
 {
     escpos_command::laws::mark_numbers();
     escpos_link::laws::trust();
+    escpos_link::laws::promise();
     escpos_link::laws::every_line();
     escpos_link::laws::in_turn();
 }
@@ -208,7 +226,7 @@ pub fn a_row_of_calls_is_in_the_world<S: Store, L: PrinterLine, W: LikeWire<L>>(
 
 /// What a driver puts out, told of its deeds: each entry by which a receipt is tried has a link, whose mark numbers that entry has reserved
 /// before, and nothing is put but on such a link. The marks in what is put have these numbers, each once and in order; so no mark number goes
-/// out twice, in one call or in the next.
+/// out twice, in one call or in the next. And no real-time command stands anywhere in it.
 pub fn a_driver_uses_marks_once<S: Store, L: PrinterLine>()
     ensures ran { (w : World) (m after : MachineView) (a new : Around) (ran : Ran DoesInTime m a after new) → HasCome w → IsAround m a w → UsesMarksOnce a.kept ran.deeds new.kept }
     ensures served { (world : World) (m after : MachineView) (old new : Surroundings S L) (call : Call) (note : TillNote) (most : ℕ) (wire : WireView) (left : List Entry)
@@ -226,7 +244,9 @@ pub fn a_driver_uses_marks_once<S: Store, L: PrinterLine>()
 pub(crate) fn every_world()
     ensures { (w after : World) (happenings : List Happening) → Begins w → Runs w happenings after → IsWorld after }
 {
+    escpos_command::laws::mark_numbers();
     escpos_link::laws::trust();
+    escpos_link::laws::promise();
     escpos_link::laws::every_line();
     escpos_link::laws::in_turn();
 }

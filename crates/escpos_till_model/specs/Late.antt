@@ -1,0 +1,33 @@
+-- What answers that come late prove, of the tries in a ledger.
+--
+-- A ledger knows the number of the mark that closes each try. So an answer to that mark, on whatever link it comes, shows that the receipt
+-- is on the paper, and it need not be sent again.
+use Rattle.std.specs.Prelude.{ℕ, ◌≡◌, ◌<◌, ◌≤◌, List, []}
+use Rattle.escpos_command.specs.declared.command.Command.{Command}
+use Rattle.escpos_command.specs.Digits.{mark_count, mark_of}
+use Rattle.escpos_host.specs.Machine.{HostView, Opening}
+use Rattle.escpos_link.specs.Line.{LineView}
+use Rattle.escpos_link.specs.Promised.{Promised}
+use Rattle.escpos_till.specs.declared.entry.Entry.{Entry}
+use Rattle.escpos_till.specs.Entries.{Waits}
+use Rattle.escpos_till.specs.Tries.{HasTry, tries}
+use Rattle.escpos_till_model.specs.Receipts.{IsReceiptOf}
+
+-- Of the receipts that wait none but the first was tried.
+abbrev pub FirstIsTried : List Entry → Type 0
+FirstIsTried entries = (number closing : ℕ) → Waits entries number → HasTry (tries entries) number closing → (k : ℕ) → Waits entries k → number ≤ k
+
+-- If the closing mark of a try of a receipt that waits is answered, then the receipt stands on the paper, after these.
+abbrev pub TriesPromise : List Entry → List (List Command) → LineView → Type 0
+TriesPromise entries records l =
+    (number closing : ℕ) → Waits entries number → HasTry (tries entries) number closing → closing < mark_count
+    → (receipt : List Command) × IsReceiptOf entries number receipt × Promised records (record { receipt = receipt; mark = mark_of closing }) l
+
+-- Both, where these are the receipts that are recorded.
+pub record LateAnswers (entries : List Entry) (records : List (List Command)) (l : LineView) : Type 0 where
+  pub first : FirstIsTried entries
+  pub promise : TriesPromise entries records l
+
+-- A host that is opening its first link has recorded nothing.
+abbrev pub HasJustBegun : HostView → Type 0
+HasJustBegun h = (first : ℕ) → h.phase ≡ Opening first → h.records ≡ []
