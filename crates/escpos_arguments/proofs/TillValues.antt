@@ -1,6 +1,6 @@
 -- The values of a till's task.
 use Rattle.std.proofs.Common.{◌≡◌, ◌∙◌, ℕ, List, Option, Some, None, Result, Ok, Err, refl, sym, ap, subst, codes}
-use Rattle.std.specs.Prelude.{◌≤◌, IfSome, IsSomeAnd}
+use Rattle.std.specs.Prelude.{◌<◌, ◌≤◌, IfSome, IsSomeAnd}
 use Rattle.clap.specs.Words.{Row, first_of, one_of}
 use Rattle.escpos_arguments.specs.declared.arguments.TheConstants.{OPENINGS, MOST_OPENINGS}
 use Rattle.escpos_arguments.specs.Arguments.{IsNumberOr, IsWait}
@@ -13,12 +13,13 @@ use Rattle.escpos_jobs.specs.declared.address.Address.{Address}
 use Rattle.escpos_jobs.specs.declared.task.NoTask.{NoTask}
 use Rattle.escpos_till_jobs.specs.declared.deliver.Delivery.{Delivery}
 use Rattle.escpos_till_jobs.specs.declared.task.TillTask.{TillTask}
-use Rattle.escpos_till_jobs.specs.declared.task.TillTask.TheVariants.{Queue, Deliver, DeliverWithin, Cancel, List as listing}
+use Rattle.escpos_till_jobs.specs.declared.task.TillTask.TheVariants.{Queue, QueueAgain, Deliver, DeliverWithin, Cancel, List as listing}
 
 -- An address that is asked for is taken.
 pub taken_address : (rows : List Row) (task : TillTask) (r : Result Address NoTask) (why : NoTask) → AsksTillBy (codes "deliver") rows task → r ≡ Err why
     → ((a : Address) → IsSomeAnd (first_of (codes "address") rows) (λ text. IsAddress text a) → r ≡ Ok a) → ⊥
 taken_address rows (Queue ledger options) r why asks is taken = let bad = asks.0 in absurd cc
+taken_address rows (QueueAgain ledger number) r why asks is taken = let bad = asks.0 in absurd cc
 taken_address rows (Deliver ledger d) r why asks is taken =
     let (name, path, address, openings, copy, none) = asks in
     no_error r d.address why (taken d.address address) is
@@ -32,6 +33,7 @@ taken_address rows (listing ledger first) r why asks is taken = let bad = asks.0
 pub taken_wait : (rows : List Row) (task : TillTask) (r : Result (Option ℕ) NoTask) (why : NoTask) → AsksTillBy (codes "deliver") rows task → IsTillInRange task → r ≡ Err why
     → ((wait : Option ℕ) → IsNumberIn (one_of (codes "wait") rows) wait → IfSome wait IsWait → r ≡ Ok wait) → ⊥
 taken_wait rows (Queue ledger options) r why asks range is taken = let bad = asks.0 in absurd cc
+taken_wait rows (QueueAgain ledger number) r why asks range is taken = let bad = asks.0 in absurd cc
 taken_wait rows (Deliver ledger d) r why asks range is taken =
     let (name, path, address, openings, copy, none) = asks in
     no_error r None why (taken None (subst (λ o. IsNumberIn o None) (sym none) refl) tt) is
@@ -41,6 +43,20 @@ taken_wait rows (DeliverWithin ledger d wait) r why asks range is taken =
     no_error r (Some wait) why (taken (Some wait) (number_in _ wait is_wait) in_range) is
 taken_wait rows (Cancel ledger number) r why asks range is taken = let bad = asks.0 in absurd cc
 taken_wait rows (listing ledger first) r why asks range is taken = let bad = asks.0 in absurd cc
+
+-- The number of a receipt that is to be taken once more is taken.
+pub taken_again : (rows : List Row) (task : TillTask) (r : Result (Option ℕ) NoTask) (why : NoTask) → AsksTillBy (codes "queue") rows task → IsTillInRange task → r ≡ Err why
+    → ((again : Option ℕ) → IsNumberIn (one_of (codes "again") rows) again → IfSome again (λ n. 0 < n) → r ≡ Ok again) → ⊥
+taken_again rows (Queue ledger options) r why asks range is taken =
+    let (name, path, none, gives) = asks in
+    no_error r None why (taken None (subst (λ o. IsNumberIn o None) (sym none) refl) tt) is
+taken_again rows (QueueAgain ledger number) r why asks range is taken =
+    let (name, path, given, none) = asks in
+    no_error r (Some number) why (taken (Some number) (number_in _ number given) range) is
+taken_again rows (Deliver ledger d) r why asks range is taken = let bad = asks.0 in absurd cc
+taken_again rows (DeliverWithin ledger d wait) r why asks range is taken = let bad = asks.0 in absurd cc
+taken_again rows (Cancel ledger number) r why asks range is taken = let bad = asks.0 in absurd cc
+taken_again rows (listing ledger first) r why asks range is taken = let bad = asks.0 in absurd cc
 
 -- The task with the values that were read.
 abbrev pub delivery_task : List ℕ → Delivery → Option ℕ → TillTask
@@ -64,6 +80,7 @@ pub taken_task : (rows : List Row) (task : TillTask) (ledger : List ℕ) (a : Ad
     → ((other : Option ℕ) → IsNumberIn (one_of (codes "wait") rows) other → IfSome other IsWait → wait ≡ other)
     → delivery_task ledger (record { address = a; openings = n; copy = copy }) wait ≡ task
 taken_task rows (Queue path options) ledger a n copy wait asks range l b m k w = let bad = asks.0 in absurd cc
+taken_task rows (QueueAgain path number) ledger a n copy wait asks range l b m k w = let bad = asks.0 in absurd cc
 taken_task rows (Deliver path d) ledger a n copy wait asks range l b m k w =
     let (name, is_path, address, openings, is_copy, none) = asks in
     let (low, high, fits) = range in

@@ -5,12 +5,12 @@ use Rattle.clap.specs.Simple.{on_top}
 use Rattle.clap.specs.declared.builder.action.ArgAction.TheVariants.{Set}
 use Rattle.escpos_command.specs.Digits.{mark_count}
 use Rattle.escpos_arguments.specs.declared.arguments.TheConstants.{OPENINGS, MOST_OPENINGS}
-use Rattle.escpos_arguments.specs.Arguments.{IsNumberOr, IsOptions, IsWait, GivesOptions, address_rule, option_rule, replace_rule, width_rule}
+use Rattle.escpos_arguments.specs.Arguments.{IsNumberOr, IsOptions, IsWait, GivesOptions, HasNoOptions, address_rule, option_rule, replace_rule, width_rule}
 use Rattle.escpos_arguments.specs.ClapAnswers.{IsNumber, IsNumberIn}
 use Rattle.escpos_jobs.specs.Address.{IsAddress}
 use Rattle.escpos_till.specs.Copy.{IsCopyText}
 use Rattle.escpos_till_jobs.specs.declared.task.TillTask.{TillTask}
-use Rattle.escpos_till_jobs.specs.declared.task.TillTask.TheVariants.{Queue, Deliver, DeliverWithin, Cancel, List as listing}
+use Rattle.escpos_till_jobs.specs.declared.task.TillTask.TheVariants.{Queue, QueueAgain, Deliver, DeliverWithin, Cancel, List as listing}
 
 -- ---- what the arguments ask for
 
@@ -20,7 +20,14 @@ till_names = codes "queue" ∷ codes "deliver" ∷ codes "cancel" ∷ codes "led
 
 -- this name, with the values that were given after it, asks for the task
 abbrev pub AsksTillBy : Text → List Row → TillTask → Type 0
-AsksTillBy name rows (Queue ledger options) = (name ≡ codes "queue") × (first_of (codes "ledger") rows ≡ Some ledger) × GivesOptions rows options
+AsksTillBy name rows (Queue ledger options) = (name ≡ codes "queue")
+    × (first_of (codes "ledger") rows ≡ Some ledger)
+    × (one_of (codes "again") rows ≡ None)
+    × GivesOptions rows options
+AsksTillBy name rows (QueueAgain ledger number) = (name ≡ codes "queue")
+    × (first_of (codes "ledger") rows ≡ Some ledger)
+    × IsSomeAnd (one_of (codes "again") rows) (λ text. IsNumber text number)
+    × HasNoOptions rows
 AsksTillBy name rows (Deliver ledger delivery) = (name ≡ codes "deliver")
     × (first_of (codes "ledger") rows ≡ Some ledger)
     × IsSomeAnd (first_of (codes "address") rows) (λ text. IsAddress text delivery.address)
@@ -47,6 +54,7 @@ AsksTill found task = IsSomeAnd found (λ p. AsksTillBy p.0 p.1 task)
 -- the values of the task are in range
 abbrev pub IsTillInRange : TillTask → Type 0
 IsTillInRange (Queue ledger options) = IsOptions options
+IsTillInRange (QueueAgain ledger number) = 0 < number
 IsTillInRange (Deliver ledger delivery) = (1 ≤ delivery.openings) × (delivery.openings ≤ MOST_OPENINGS) × IfSome delivery.copy IsCopyText
 IsTillInRange (DeliverWithin ledger delivery wait) = (1 ≤ delivery.openings) × (delivery.openings ≤ MOST_OPENINGS) × IfSome delivery.copy IsCopyText × IsWait wait
 IsTillInRange (Cancel ledger number) = 0 < number
@@ -64,7 +72,7 @@ number_rule = record (new_rule (codes "number")) { required = true; action = Som
 
 -- what may follow `queue`
 abbrev pub queue_words : Shape
-queue_words = (with_rule (with_rule (with_rule (new_app (codes "queue")) ledger_rule) width_rule) replace_rule).top
+queue_words = (with_rule (with_rule (with_rule (with_rule (new_app (codes "queue")) ledger_rule) width_rule) replace_rule) (option_rule (codes "again") false)).top
 
 -- what may follow `deliver`
 abbrev pub deliver_words : Shape

@@ -12,7 +12,7 @@ use crate::arguments::{
     MOST_OPENINGS, OPENINGS, address, address_of, count_of, no_task, number_given, option,
     wait_given,
 };
-use crate::options::options_or_usual;
+use crate::queue::queue_asked;
 use clap::error::ErrorKind;
 use clap::{Arg, ArgAction, ArgMatches, Command};
 use escpos_command::MarkId;
@@ -69,19 +69,6 @@ fn till_task_asked<'a>(name: &str, given: &ArgMatches<'a>) -> Result<TillTask<'a
     }
 }
 
-// The task of `queue` with the arguments that follow it.
-fn queue_asked<'a>(given: &ArgMatches<'a>) -> Result<TillTask<'a>, NoTask>
-    ensures asks { IfOk result (AsksTillBy (codes "queue") (rows_of (found_of given.now))) }
-    ensures ranges { IfOk result IsTillInRange }
-    ensures taken { (task : TillTask) → AsksTillBy (codes "queue") (rows_of (found_of given.now)) task → IsTillInRange task
-        → result ≡ Ok task }
-    ensures usage { IfErr result (λ why. why ≡ NoTask.Usage) }
-{
-    let ledger = ledger_path(given)?;
-    let options = options_or_usual(given)?;
-    Ok(TillTask::Queue { ledger, options })
-}
-
 // The task of `deliver` with the arguments that follow it.
 fn deliver_asked<'a>(given: &ArgMatches<'a>) -> Result<TillTask<'a>, NoTask>
     ensures asks { IfOk result (AsksTillBy (codes "deliver") (rows_of (found_of given.now))) }
@@ -136,7 +123,7 @@ fn ledger_asked<'a>(given: &ArgMatches<'a>) -> Result<TillTask<'a>, NoTask>
 }
 
 // The path of the ledger.
-fn ledger_path<'a>(given: &ArgMatches<'a>) -> Result<LedgerPath<'a>, NoTask>
+pub(crate) fn ledger_path<'a>(given: &ArgMatches<'a>) -> Result<LedgerPath<'a>, NoTask>
     ensures read { IfOk result (λ path. first_of (codes "ledger") (rows_of (found_of given.now)) ≡ Some path) }
     ensures taken { (path : Text) → first_of (codes "ledger") (rows_of (found_of given.now)) ≡ Some path → result ≡ Ok path }
     ensures usage { IfErr result (λ why. why ≡ NoTask.Usage) }
@@ -236,7 +223,8 @@ fn queue_command<'a>(alloc: Global) -> Result<Command<'a>, AllocError>
     let command = Command::new(alloc, "queue")
         .arg(ledger_argument(alloc))?
         .arg(option(alloc, "width", false))?
-        .arg(option(alloc, "replace", false))?;
+        .arg(option(alloc, "replace", false))?
+        .arg(option(alloc, "again", false))?;
     Ok(command)
 }
 

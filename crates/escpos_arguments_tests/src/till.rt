@@ -63,7 +63,7 @@ fn deliveries_that_wait(rt: HostRuntime) {
     }
 }
 
-const ASKED: [(&'static [&'static str], Result<Plain<'static>, NoTask>); 19] = [
+const ASKED: [(&'static [&'static str], Result<Plain<'static>, NoTask>); 24] = [
     (&["queue", "till"], Ok(Plain::Queue("till", 512, None))),
     (
         &["queue", "a/till.db"],
@@ -84,6 +84,23 @@ const ASKED: [(&'static [&'static str], Result<Plain<'static>, NoTask>); 19] = [
     (
         &["queue", "--replace", " ", "till"],
         Ok(Plain::Queue("till", 512, Some(' '))),
+    ),
+    (
+        &["queue", "till", "--again", "1"],
+        Ok(Plain::Again("till", 1)),
+    ),
+    (
+        &["queue", "--again=+007", "till"],
+        Ok(Plain::Again("till", 7)),
+    ),
+    (&["queue", "1", "--again", "2"], Ok(Plain::Again("1", 2))),
+    (
+        &["queue", "till", "--again", "4294967295"],
+        Ok(Plain::Again("till", 4_294_967_295)),
+    ),
+    (
+        &["queue", "till", "--again", "1", "--help"],
+        Err(NoTask::Help),
     ),
     (&["cancel", "till", "1"], Ok(Plain::Cancel("till", 1))),
     (&["cancel", "2", "3"], Ok(Plain::Cancel("2", 3))),
@@ -110,7 +127,7 @@ const ASKED: [(&'static [&'static str], Result<Plain<'static>, NoTask>); 19] = [
 ];
 
 // Words that ask for nothing.
-const USAGE: [&'static [&'static str]; 45] = [
+const USAGE: [&'static [&'static str]; 56] = [
     &[],
     &["check"],
     &["queue"],
@@ -123,6 +140,17 @@ const USAGE: [&'static [&'static str]; 45] = [
     &["queue", "till", "--replace", ""],
     &["queue", "till", "--replace", "??"],
     &["queue", "till", "--replace", "é"],
+    &["queue", "--again", "1"],
+    &["queue", "till", "--again"],
+    &["queue", "till", "--again", "0"],
+    &["queue", "till", "--again", "-1"],
+    &["queue", "till", "--again", "one"],
+    &["queue", "till", "--again", "4294967296"],
+    &["queue", "till", "--again", "1", "--again", "1"],
+    &["queue", "till", "--again", "1", "--width", "512"],
+    &["queue", "till", "--replace", "?", "--again", "1"],
+    &["queue", "till", "1", "--again", "1"],
+    &["cancel", "till", "--again", "1"],
     &["deliver"],
     &["deliver", "till"],
     &["deliver", ADDRESS],

@@ -14,3 +14,4 @@ pub mod Quiet
 pub mod TornParts
 pub mod Plays
 mod PrinterStatusLemmas
+pub mod RealTimeNotes

@@ -1,4 +1,4 @@
--- Asking for a status: answers of marks before a status byte, and the four bytes.
+-- Asking for a status: answers that are passed over before a status byte, and the four bytes.
 use Rattle.std.proofs.Common.{◌≡◌, ◌∙◌, ◌++◌, ◌∷◌, [], ℕ, zero, suc, List, IsTrue, refl, sym, ap, ap₂, subst, append_assoc, append-nil, Result, Ok, Err, IfErr, IsErrAnd, Option, inl, inr, length, take, drop, ◌≤◌, arith}
 use Rattle.std.specs.Prelude.{◌≢◌, ◌<◌, ◌⊎◌, ◌+◌, Bool, true, false, get_or}
 use Rattle.std.specs.List.{AllByRecursion}
@@ -15,7 +15,7 @@ use Rattle.escpos_host.specs.declared.send.SendFault.TheVariants as fault
 use Rattle.escpos_jobs.specs.declared.printer_status.PrinterStatus.{PrinterStatus}
 use Rattle.escpos_jobs.specs.declared.status.Status.TheVariants.{Good, Device}
 use Rattle.escpos_jobs.specs.Ending.{JobEnd, Tells}
-use Rattle.escpos_jobs.specs.PrinterStatus.{AreMarks, AsksAndTells, FailsNext, FailsToAsk, FindsNone, IsMark, NoneYet, IsOfSink, TellsEach, TellsNext, TellsStatus, no_status_line, requests, status_text}
+use Rattle.escpos_jobs.specs.PrinterStatus.{ArePassedOver, AsksAndTells, FailsNext, FailsToAsk, FindsNone, IsPassedOver, NoneYet, IsOfSink, TellsEach, TellsNext, TellsStatus, no_status_line, requests, status_text}
 use Rattle.escpos_jobs.specs.Send.{Devices, DevicesSay, Passed, devices}
 
 -- What `?` passes on.
@@ -28,32 +28,32 @@ pub one_byte : (piece : List ℕ) (count d : ℕ) → length piece ≡ 1 → cou
 one_byte piece count d room few some =
     let one : count ≡ 1 = omega (arith, few, some) in ap (λ n. take n piece) one ∙ take_more piece 0 d (omega (arith, room))
 
-pub no_marks : AreMarks []
-no_marks = record { marks = []; each = tt; in_range = tt; whole = refl }
+pub none_passed : ArePassedOver []
+none_passed = record { answers = []; each = tt; in_range = tt; whole = refl }
 
 all_of_both : (P : Answer → Type 0) (xs ys : List Answer) → AllByRecursion P xs → AllByRecursion P ys → AllByRecursion P (xs ++ ys)
 all_of_both P [] ys h k = k
 all_of_both P (x ∷ xs) ys h k = (h.0, all_of_both P xs ys h.1 k)
 
--- Answers of marks, and more of them.
-both_marks : (first more : List ℕ) → AreMarks first → AreMarks more → AreMarks (first ++ more)
-both_marks first more m n = record {
-  marks = m.marks ++ n.marks;
-  each = all_of_both IsMark m.marks n.marks m.each n.each;
-  in_range = all_of_both (λ a. IsTrue (is_answer a)) m.marks n.marks m.in_range n.in_range;
-  whole = ap₂ (λ (x y : List ℕ). x ++ y) m.whole n.whole ∙ sym (flat_map-append answer_bytes m.marks n.marks);
+-- Answers that are passed over, and more of them.
+both_passed : (first more : List ℕ) → ArePassedOver first → ArePassedOver more → ArePassedOver (first ++ more)
+both_passed first more m n = record {
+  answers = m.answers ++ n.answers;
+  each = all_of_both IsPassedOver m.answers n.answers m.each n.each;
+  in_range = all_of_both (λ a. IsTrue (is_answer a)) m.answers n.answers m.in_range n.in_range;
+  whole = ap₂ (λ (x y : List ℕ). x ++ y) m.whole n.whole ∙ sym (flat_map-append answer_bytes m.answers n.answers);
 }
 
-pub one_mark : (bytes id : List ℕ) → AnswerSpells (answer.Mark id) bytes → AreMarks bytes
-one_mark bytes id s = record { marks = answer.Mark id ∷ []; each = (tt, tt); in_range = (s.in_range, tt); whole = s.in_table ∙ sym (append-nil (answer_bytes (answer.Mark id))) }
+pub one_passed : (bytes : List ℕ) (a : Answer) → IsPassedOver a → AnswerSpells a bytes → ArePassedOver bytes
+one_passed bytes a passed s = record { answers = a ∷ []; each = (passed, tt); in_range = (s.in_range, tt); whole = s.in_table ∙ sym (append-nil (answer_bytes a)) }
 
--- One more byte: marks, and the bytes of an answer that isn't whole.
-pub marks_on : (before half more new : List ℕ) (byte : ℕ) → AreMarks before → AreMarks more → half ++ byte ∷ [] ≡ more ++ new
-    → (all : List ℕ) × AreMarks all × ((before ++ half) ++ byte ∷ [] ≡ all ++ new)
-marks_on before half more new byte m n same = (before ++ more, both_marks before more m n, append_assoc before half (byte ∷ []) ∙ ap (λ bs. before ++ bs) same ∙ sym (append_assoc before more new))
+-- One more byte: such answers, and the bytes of an answer that isn't whole.
+pub passed_further : (before half more new : List ℕ) (byte : ℕ) → ArePassedOver before → ArePassedOver more → half ++ byte ∷ [] ≡ more ++ new
+    → (all : List ℕ) × ArePassedOver all × ((before ++ half) ++ byte ∷ [] ≡ all ++ new)
+passed_further before half more new byte m n same = (before ++ more, both_passed before more m n, append_assoc before half (byte ∷ []) ∙ ap (λ bs. before ++ bs) same ∙ sym (append_assoc before more new))
 
 -- A status byte after such answers.
-pub told_next : (before half : List ℕ) (byte status : ℕ) → AreMarks before → AnswerSpells (answer.Status status) (half ++ byte ∷ []) → TellsNext ((before ++ half) ++ byte ∷ []) status
+pub told_next : (before half : List ℕ) (byte status : ℕ) → ArePassedOver before → AnswerSpells (answer.Status status) (half ++ byte ∷ []) → TellsNext ((before ++ half) ++ byte ∷ []) status
 told_next before half byte status m s = (before, m, append_assoc before half (byte ∷ []) ∙ ap (λ bs. before ++ bs) s.in_table, s.in_range)
 
 -- The printer said so.
@@ -124,12 +124,12 @@ begun why timed_out came before after all n few put late other =
 
 -- ## The next status byte
 
--- So far nothing but answers of marks was read, and a half answer.
-pub none_yet : (before half : List ℕ) → AreMarks before → (half ≡ []) ⊎ HalfAnswer half → NoneYet (before ++ half) half
+-- So far nothing but such answers was read, and a half answer.
+pub none_yet : (before half : List ℕ) → ArePassedOver before → (half ≡ []) ⊎ HalfAnswer half → NoneYet (before ++ half) half
 none_yet before half m h = (before, m, refl, h)
 
 -- A byte that continues no answer.
-pub bad_next : (why : SendFault) (before half : List ℕ) (byte : ℕ) → why ≡ fault.BadAnswer → AreMarks before → (half ≡ []) ⊎ HalfAnswer half
+pub bad_next : (why : SendFault) (before half : List ℕ) (byte : ℕ) → why ≡ fault.BadAnswer → ArePassedOver before → (half ≡ []) ⊎ HalfAnswer half
     → length (before ++ half) < 16384 → (ViableAnswer (half ++ byte ∷ []) → ⊥) → FailsNext why ((before ++ half) ++ byte ∷ [])
 bad_next why before half byte is m h few misfit =
     subst (λ w. FailsNext w ((before ++ half) ++ byte ∷ [])) (sym is) (before ++ half, half, byte, none_yet before half m h, few, refl, misfit)

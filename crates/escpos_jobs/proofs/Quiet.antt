@@ -23,14 +23,18 @@ turned : (h : HostView) (a : Answer) (at : ℕ) (e : HostEvent) (after : HostVie
 turned h a at event.None after t = same h after (ap out_of t.1)
 turned h a at event.Opened after (first, id, opening, mark, among, is) = same h after (ap out_of is)
 turned h a at (event.Recorded number) after (p, ps, sending, mark, count, is) = same h after (ap out_of is)
+turned h a at (event.Late id) after (first, opening, mark, other, is) = same h after (ap out_of is)
 turned h a at (event.Status byte) after t = same h after (ap out_of t.1)
+turned h a at (event.Condition block) after t = same h after (ap out_of t.1)
 turned h a at (event.BadAnswer place) after (p, ps, id, sending, mark, other, closing, here, is) = dropped h after (ap out_of is)
 
 grown : (h : HostView) (byte : ℕ) (e : HostEvent) (after : HostView) → Grows h byte e after → IsQuiet h after
 grown h byte event.None after t = same h after (ap out_of t.0)
 grown h byte event.Opened after t = absurd t
 grown h byte (event.Recorded number) after t = absurd t
+grown h byte (event.Late id) after t = absurd t
 grown h byte (event.Status b) after t = absurd t
+grown h byte (event.Condition block) after t = absurd t
 grown h byte (event.BadAnswer place) after t = absurd t
 
 misfits : (h : HostView) (byte at : ℕ) (e : HostEvent) (after : HostView) → Misfits h byte at e after → IsQuiet h after
@@ -38,7 +42,9 @@ misfits h byte at (event.BadAnswer place) after t = dropped h after (ap out_of t
 misfits h byte at event.None after t = absurd t
 misfits h byte at event.Opened after t = absurd t
 misfits h byte at (event.Recorded number) after t = absurd t
+misfits h byte at (event.Late id) after t = absurd t
 misfits h byte at (event.Status b) after t = absurd t
+misfits h byte at (event.Condition block) after t = absurd t
 
 hears_byte : (h : HostView) (byte at : ℕ) (e : HostEvent) (after : HostView) → HearsByte h byte at e after → IsQuiet h after
 hears_byte h byte at e after t = elim t [

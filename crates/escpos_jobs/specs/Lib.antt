@@ -5,6 +5,7 @@ pub mod Hexadecimal
 pub mod DigitValues
 pub mod Input
 pub mod Notes
+pub mod RealTimeNotes
 pub mod Lines
 pub mod Report
 pub mod Check

@@ -1,8 +1,9 @@
--- The lines of a listing, one for each command, with a note on a barcode whose check digit is wrong, and a last one. All
--- numbers are decimal, and a byte is two lower-case hexadecimal digits.
+-- The lines of a listing, one for each command, with a note on a barcode whose check digit is wrong and on a command in which a
+-- real-time command stands, and a last one. All numbers are decimal, and a byte is two lower-case hexadecimal digits.
 use Rattle.std.specs.Prelude.{ℕ, ◌+◌, List, [], ◌∷◌, ◌++◌, length, codes, decimal}
 use Rattle.escpos_command.specs.Barcodes.{barcode_mode}
 use Rattle.escpos_jobs.specs.Notes.{note_of}
+use Rattle.escpos_jobs.specs.RealTimeNotes.{real_time_note}
 use Rattle.std.specs.List.{flat_map}
 use Rattle.hex.specs.Hex.{encode_lower}
 use Rattle.escpos_command.specs.declared.bytes.TheConstants.{LF}
@@ -28,6 +29,7 @@ word_of (kind.Table n) = codes "table"
 word_of (kind.CharacterSet n) = codes "charset"
 word_of (kind.Reverse n) = codes "reverse"
 word_of (kind.Smoothing n) = codes "smooth"
+word_of (kind.AutomaticStatus n) = codes "autostatus"
 word_of (kind.UpsideDown n) = codes "upside"
 word_of (kind.Align n) = codes "align"
 word_of (kind.LineSpacing n) = codes "spacing"
@@ -64,9 +66,13 @@ values_of (kind.Raster raster) = byte_value raster.scale ++ SPACE ∷ decimal ra
 values_of (kind.QrStore stored) = SPACE ∷ encode_lower stored
 values_of c = flat_map byte_value (entry_of c).parameters
 
--- The line of a command: the number of bytes before it, its name, and what it carries; and the note on it, if there is one.
+-- The line of a command: the number of bytes before it, its name, and what it carries; and the note on its check digit, if there is one.
+abbrev pub own_line : ℕ → Command → List ℕ
+own_line place c = decimal place ++ SPACE ∷ [] ++ word_of c ++ values_of c ++ LF ∷ [] ++ note_of place c
+
+-- The line of a command, and the notes on it.
 abbrev pub command_line : ℕ → Command → List ℕ
-command_line place c = decimal place ++ SPACE ∷ [] ++ word_of c ++ values_of c ++ LF ∷ [] ++ note_of place c
+command_line place c = own_line place c ++ real_time_note place c
 
 -- The lines of commands, the first of which has this many bytes before it.
 abbrev pub command_lines : ℕ → List Command → List ℕ

@@ -15,4 +15,4 @@ link_line number served = codes "link " ++ decimal number ++ codes " read " ++ d
 
 -- The printer once its paper is torn off.
 abbrev pub torn : PrinterView → PrinterView
-torn printer = record { sheet = bare printer.sheet; half = printer.half; waiting = printer.waiting; condition = printer.condition }
+torn printer = record { sheet = bare printer.sheet; half = printer.half; waiting = printer.waiting; condition = printer.condition; automatic = printer.automatic }

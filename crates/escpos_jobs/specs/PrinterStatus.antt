@@ -34,22 +34,24 @@ status_text s =
 abbrev pub no_status_line : SendFault → List ℕ
 no_status_line why = codes "no status " ++ fault_name why ++ LF ∷ []
 
-abbrev pub IsMark : Answer → Type 0
-IsMark (answer.Mark id) = ⊤
-IsMark (answer.Status b) = ⊥
+-- An answer that is passed over: that of a mark, or a block of automatic status.
+abbrev pub IsPassedOver : Answer → Type 0
+IsPassedOver (answer.Mark id) = ⊤
+IsPassedOver (answer.Condition block) = ⊤
+IsPassedOver (answer.Status b) = ⊥
 
--- These bytes are answers of marks, one after another.
-pub record AreMarks (bytes : List ℕ) : Type 0 where
-  pub marks : List Answer
-  pub each : AllByRecursion IsMark marks
-  pub in_range : AllByRecursion (λ a. IsTrue (is_answer a)) marks
-  pub whole : bytes ≡ spell_answers marks
+-- These bytes are such answers, one after another.
+pub record ArePassedOver (bytes : List ℕ) : Type 0 where
+  pub answers : List Answer
+  pub each : AllByRecursion IsPassedOver answers
+  pub in_range : AllByRecursion (λ a. IsTrue (is_answer a)) answers
+  pub whole : bytes ≡ spell_answers answers
 
--- These bytes are answers of marks, if any, and then this status byte.
+-- These bytes are such answers, if any, and then this status byte.
 abbrev pub TellsNext : List ℕ → ℕ → Type 0
-TellsNext bytes byte = (before : List ℕ) × AreMarks before × (bytes ≡ before ++ byte ∷ []) × IsTrue (is_status_byte byte)
+TellsNext bytes byte = (before : List ℕ) × ArePassedOver before × (bytes ≡ before ++ byte ∷ []) × IsTrue (is_status_byte byte)
 
--- These bytes tell this status: its four bytes stand among them in order, and beside them only answers of marks.
+-- These bytes tell this status: its four bytes stand among them in order, and beside them only such answers.
 pub record TellsStatus (bytes : List ℕ) (s : PrinterStatus) : Type 0 where
   pub first : List ℕ
   pub second : List ℕ
@@ -63,9 +65,9 @@ pub record TellsStatus (bytes : List ℕ) (s : PrinterStatus) : Type 0 where
 
 -- ## Why a printer doesn't say
 
--- Up to here nothing but answers of marks has come, the last of which may be a half answer.
+-- Up to here nothing but such answers has come, the last of which may be a half answer.
 abbrev pub NoneYet : List ℕ → List ℕ → Type 0
-NoneYet bytes half = (before : List ℕ) × AreMarks before × (bytes ≡ before ++ half) × ((half ≡ []) ⊎ HalfAnswer half)
+NoneYet bytes half = (before : List ℕ) × ArePassedOver before × (bytes ≡ before ++ half) × ((half ≡ []) ⊎ HalfAnswer half)
 
 -- A read found no further byte, although more may be read.
 abbrev pub FindsNone : List ℕ → Type 0

@@ -1,5 +1,6 @@
 -- What `play` prints for an event.
 use Rattle.std.specs.Prelude.{ℕ, List, [], ◌∷◌, ◌++◌, codes, decimal}
+use Rattle.std.specs.List.{flat_map}
 use Rattle.escpos_command.specs.declared.bytes.TheConstants.{LF}
 use Rattle.escpos_command.specs.Places as places
 use Rattle.escpos_host.specs.declared.host.HostEvent.{HostEvent}
@@ -30,12 +31,14 @@ handed_text handed.None = codes "none"
 handed_text handed.Lost = codes "lost"
 handed_text handed.On = codes "on"
 
--- The last event that was heard.
+-- The last event that was heard. An answer to a mark of an older link is none of this one's.
 abbrev pub heard_text : HostEvent → List ℕ
 heard_text heard.None = codes "none"
+heard_text (heard.Late id) = codes "none"
 heard_text heard.Opened = codes "opened"
 heard_text (heard.Recorded number) = codes "recorded " ++ decimal number
 heard_text (heard.Status byte) = codes "status" ++ byte_value byte
+heard_text (heard.Condition block) = codes "condition" ++ flat_map byte_value block
 heard_text (heard.BadAnswer at) = codes "bad"
 
 -- The line of an event.

@@ -355,7 +355,7 @@ fn serve_part<R: ByteIn, A: ByteOut>(
         × ((above : List Item) → Serves (under above printer.old)
         (link (R.to_come reader.old) (R.to_come reader.new) (A.written writer.old) (A.written writer.new))
         PART_BYTES result (under (above ++ gone) printer.new)) }
-    ensures few { result.written ≤ 112 + 224 * result.read }
+    ensures few { result.written ≤ 116 + 232 * result.read }
 {
     // Proof only: what stands on the paper above makes no difference, and the printer's sheet is one that commands leave.
     escpos_printer::laws::paper_above();

@@ -4,7 +4,7 @@
 //! `encode`, `image` and `play` are the jobs over any source and sink, and `emulate`, `send`, `printer_status` and `loop_link` those
 //! over a link; over the network of `wait` no wait lasts longer than a given time. `job` has what `check` and `render` share,
 //! `script` reads the lines of a script and `script_output` has those that `play` prints, `lines` has the lines of a listing,
-//! `notes` the note on a wrong check digit, `item_form` the two texts of an item on paper, and `paper_text` keeps the paper of `emulate`. `input`, `hexadecimal` and
+//! `notes` the note on a wrong check digit, `real_time` that on a real-time command in the data of another, `item_form` the two texts of an item on paper, and `paper_text` keeps the paper of `emulate`. `input`, `hexadecimal` and
 //! `receipt_input` read the input, `byte_form` has the two forms in which `encode` writes, `refusal` has the line that refuses
 //! a receipt, `ending` the line that a job prints in place of everything else, and `status` the exit status of the program.
 //! `laws` has why the last line can stand in a picture as it is.
@@ -32,6 +32,7 @@ pub mod perform;
 pub mod play;
 pub mod printer_link;
 pub mod printer_status;
+mod real_time;
 pub mod receipt_input;
 mod refusal;
 pub mod render;

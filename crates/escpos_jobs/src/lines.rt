@@ -2,7 +2,7 @@
 
 ghost use Rattle.std.specs.Prelude.{◌≡◌, ◌≢◌, ◌+◌, ◌≤◌, ◌++◌, ◌∷◌, ℕ, List, length, codes, decimal};
 ghost use Rattle.std.specs.List.{flat_map};
-ghost use Rattle.escpos_jobs.specs.Lines.{byte_value, command_line, end_line, fault_line, values_of, word_of};
+ghost use Rattle.escpos_jobs.specs.Lines.{byte_value, command_line, end_line, fault_line, own_line, values_of, word_of};
 ghost use Rattle.escpos_jobs.specs.LastText.{last_text};
 ghost use Rattle.escpos_jobs.specs.Notes.{note_line};
 ghost use Rattle.escpos_command.specs.declared.command.Command.TheVariants as kind;
@@ -12,6 +12,7 @@ ghost use Rattle.hex.specs.Hex.{encode_lower};
 
 use crate::ending::MEMORY;
 use crate::notes::{WrongDigit, wrong_digit};
+use crate::real_time::put_note;
 use escpos_command::{Bars, Command, FaultReason, LF, QrData, Raster};
 use escpos_io::{
     ByteOut, Device, GATHERED_BYTES, Gather, Piece, append_digits_after, append_number,
@@ -61,7 +62,7 @@ impl Piece for Last {
     }
 }
 
-/// Gives the line of a command that has `place` bytes before it.
+/// Gives the line of a command that has `place` bytes before it, and the notes on it.
 ///
 /// On `Err` the sink has failed, and took exactly the first `written` of all bytes ever given to the gather, as long as these are
 /// few enough to be counted.
@@ -73,6 +74,20 @@ pub fn put_line<W: ByteOut>(
 ) -> Result<(), Device>
     ensures { IsGiven result (passage (W.written writer.old) (W.written writer.new) (W.failed writer.old) (W.failed writer.new))
         gather.old gather.new (command_line place command.now) }
+{
+    put_own_line(gather, place, command, writer)?;
+    put_note(gather, place, command, writer)
+}
+
+// Gives the line of a command, and the note on its check digit.
+fn put_own_line<W: ByteOut>(
+    gather: &mut Gather,
+    place: usize,
+    command: &Command,
+    writer: &mut W,
+) -> Result<(), Device>
+    ensures { IsGiven result (passage (W.written writer.old) (W.written writer.new) (W.failed writer.old) (W.failed writer.new))
+        gather.old gather.new (own_line place command.now) }
 {
     match command {
         Command::QrStore(stored) => put_store(gather, place, stored, writer),
@@ -92,7 +107,7 @@ fn put_store<W: ByteOut>(
     writer: &mut W,
 ) -> Result<(), Device>
     ensures { IsGiven result (passage (W.written writer.old) (W.written writer.new) (W.failed writer.old) (W.failed writer.new))
-        gather.old gather.new (command_line place (kind.QrStore stored.now)) }
+        gather.old gather.new (own_line place (kind.QrStore stored.now)) }
 {
     gather.room(LINE_BYTES, writer)?;
     append_store(gather, place);
@@ -114,7 +129,7 @@ fn append_store(gather: &mut Gather, place: usize)
 fn append_line(gather: &mut Gather, place: usize, command: &Command)
     requires no_data { (stored : List ℕ) → command.now ≢ kind.QrStore stored }
     requires room { length gather.old.kept + LINE_BYTES ≤ GATHERED_BYTES }
-    ensures kept { gather.new.kept ≡ gather.old.kept ++ command_line place command.now }
+    ensures kept { gather.new.kept ≡ gather.old.kept ++ own_line place command.now }
     ensures same_count { gather.new.written ≡ gather.old.written }
 {
     append_number(gather, place);
@@ -203,6 +218,7 @@ fn word(command: &Command) -> &'static [u8]
         Command::CharacterSet(_) => b"charset",
         Command::Reverse(_) => b"reverse",
         Command::Smoothing(_) => b"smooth",
+        Command::AutomaticStatus(_) => b"autostatus",
         Command::UpsideDown(_) => b"upside",
         Command::Align(_) => b"align",
         Command::LineSpacing(_) => b"spacing",
@@ -289,8 +305,8 @@ fn append_raster(gather: &mut Gather, raster: &Raster)
     append_number(gather, usize::from(raster.height()));
 }
 
-// Appends a space and two digits for each byte.
-fn append_bytes(gather: &mut Gather, bytes: &[u8])
+/// Appends a space and two digits for each byte.
+pub fn append_bytes(gather: &mut Gather, bytes: &[u8])
     requires few { length bytes.now ≤ 5 }
     requires room { length gather.old.kept + 15 ≤ GATHERED_BYTES }
     ensures kept { gather.new.kept ≡ gather.old.kept ++ flat_map byte_value bytes.now }

@@ -8,7 +8,7 @@ ghost use Rattle.escpos_command.specs.CommandTable.{spell};
 ghost use Rattle.escpos_command.specs.Meanings.{has_bit};
 ghost use Rattle.escpos_host.specs.declared.send.SendFault.{SendFault};
 ghost use Rattle.escpos_jobs.specs.Ending.{Tells, job_end};
-ghost use Rattle.escpos_jobs.specs.PrinterStatus.{AreMarks, AsksAndTells, FailsNext, FailsToAsk, TellsNext, TellsStatus, no_status_line, requests, status_text};
+ghost use Rattle.escpos_jobs.specs.PrinterStatus.{ArePassedOver, AsksAndTells, FailsNext, FailsToAsk, TellsNext, TellsStatus, no_status_line, requests, status_text};
 ghost use Rattle.escpos_jobs.specs.Send.{DevicesSay, devices, passed};
 
 use crate::address::Address;
@@ -69,7 +69,8 @@ fn status_on<W: ByteOut>(link: PrinterLink, output: &mut W) -> Status
 }
 
 /// Asks a printer for its status and prints three lines: `online` or `offline`; `cover closed` or `cover open`; and `paper
-/// there`, `paper near its end` or `paper ended`. Answers of marks that come before or between are passed over.
+/// there`, `paper near its end` or `paper ended`. Answers of marks and blocks of automatic status that come
+/// before or between are passed over.
 ///
 /// The status is then `Good`. If the printer doesn't say, the line is `no status WHY`, with the name of a `SendFault`, and
 /// the status `Device`, as it is if `output` has failed.
@@ -119,7 +120,7 @@ fn tell_fault<W: ByteOut>(why: SendFault, output: &mut W) -> Status
     Status::Device
 }
 
-/// Puts the four requests out, and reads the four status bytes. Answers of marks are passed over; at most 16,384 bytes are
+/// Puts the four requests out, and reads the four status bytes. Answers of marks and blocks are passed over; at most 16,384 bytes are
 /// read for each status byte.
 pub fn ask_status<R: ByteIn, A: ByteOut>(
     reader: &mut R,
@@ -143,7 +144,7 @@ pub fn ask_status<R: ByteIn, A: ByteOut>(
     })
 }
 
-// Reads up to the next status byte; answers of marks before it are passed over.
+// Reads up to the next status byte; answers of marks and blocks before it are passed over.
 fn next_status<R: ByteIn>(reader: &mut R) -> Result<u8, SendFault>
     ensures told { IfOk result (λ byte. (bytes : List ℕ) × Consumes (R.to_come reader.old) (R.to_come reader.new) bytes × TellsNext bytes byte) }
     ensures fails { IfErr result (λ why. (bytes : List ℕ) × Consumes (R.to_come reader.old) (R.to_come reader.new) bytes × FailsNext why bytes) }
@@ -171,13 +172,14 @@ fn next_status<R: ByteIn>(reader: &mut R) -> Result<u8, SendFault>
 // Takes one more byte. Returns the status byte, if it is one.
 fn take_byte(answers: &mut AnswerReader, byte: u8) -> Result<Option<u8>, SendFault>
     ensures status { (status : ℕ) → result ≡ Ok (Some status) → AnswerSpells (Answer.Status status) (answers.old ++ byte ∷ []) }
-    ensures passed { result ≡ Ok None → (marks : List ℕ) × AreMarks marks × (answers.old ++ byte ∷ [] ≡ marks ++ answers.new) }
+    ensures passed { result ≡ Ok None → (passed : List ℕ) × ArePassedOver passed × (answers.old ++ byte ∷ [] ≡ passed ++ answers.new) }
     ensures half { result ≡ Ok None → (answers.new ≡ []) ⊎ HalfAnswer answers.new }
     ensures bad { IfErr result (λ why. (why ≡ SendFault.BadAnswer) × (ViableAnswer (answers.old ++ byte ∷ []) → ⊥)) }
 {
     match answers.push(byte) {
         Ok(Some(Answer::Status(status))) => Ok(Some(status)),
         Ok(Some(Answer::Mark(_))) => Ok(None),
+        Ok(Some(Answer::Condition(_))) => Ok(None),
         Ok(None) => Ok(None),
         Err(NoAnswer) => Err(SendFault::BadAnswer),
     }

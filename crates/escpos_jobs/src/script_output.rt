@@ -3,7 +3,7 @@
 ghost use Rattle.std.specs.Prelude.{◌≡◌, ◌+◌, ◌≤◌, ◌++◌, length};
 ghost use Rattle.escpos_jobs.specs.ScriptOutput.{handed_text, heard_text, records_line, refused_line, stop_text, event_line, unreadable_line};
 
-use crate::lines::{SPACE, append_byte};
+use crate::lines::{SPACE, append_byte, append_bytes};
 use crate::refusal::append_place;
 use escpos_command::LF;
 use escpos_host::HostEvent;
@@ -117,7 +117,7 @@ fn name_of_handed(handed: Handed) -> &'static str
     }
 }
 
-// Appends the last event that was heard.
+// Appends the last event that was heard. An answer to a mark of an older link is none of this one's.
 fn append_heard(gather: &mut Gather, last: HostEvent)
     requires { length gather.old.kept + 64 ≤ GATHERED_BYTES }
     ensures kept { gather.new.kept ≡ gather.old.kept ++ heard_text last }
@@ -125,7 +125,7 @@ fn append_heard(gather: &mut Gather, last: HostEvent)
     ensures short { length (heard_text last) ≤ 64 }
 {
     match last {
-        HostEvent::None => gather.extend(b"none"),
+        HostEvent::None | HostEvent::Late(_) => gather.extend(b"none"),
         HostEvent::Opened => gather.extend(b"opened"),
         HostEvent::Recorded(number) => {
             gather.extend(b"recorded ");
@@ -134,6 +134,10 @@ fn append_heard(gather: &mut Gather, last: HostEvent)
         HostEvent::Status(byte) => {
             gather.extend(b"status");
             append_byte(gather, byte);
+        }
+        HostEvent::Condition(block) => {
+            gather.extend(b"condition");
+            append_bytes(gather, &block.bytes());
         }
         HostEvent::BadAnswer { .. } => gather.extend(b"bad"),
     }

@@ -7,7 +7,7 @@ use crate::status::Status;
 use escpos_io::{ByteOut, Device, put_all};
 
 /// The text for arguments that ask for the version: that of the program, and the profile of commands that it knows.
-pub const VERSION: &str = "escpos_cli 1.4.0, profile 3\n";
+pub const VERSION: &str = "escpos_cli 1.4.0, profile 4\n";
 
 /// The text for arguments that name no task.
 pub const USAGE: &str = "\
@@ -25,6 +25,7 @@ usage: escpos_cli check [--raw] < STREAM
        escpos_cli probe ADDRESS [--wait S]
        escpos_cli loop [--width D] < RECEIPT
        escpos_cli queue LEDGER [--width D] [--replace C] < RECEIPT
+       escpos_cli queue LEDGER --again N
        escpos_cli deliver LEDGER ADDRESS [--openings N] [--copy TEXT]
                                          [--wait S]
        escpos_cli cancel LEDGER N
@@ -53,7 +54,8 @@ line `memory` says that the program ran out of memory.
       its name, and what it carries. The last line is `end N pending P`, where N
       bytes were read and the last P of them are a command that isn't complete,
       or `fault K NUMBER NAME`, where the byte at place K is refused. A barcode
-      with a wrong check digit is followed by a line `note`.
+      with a wrong check digit is followed by a line `note`, and so is a command
+      in whose data stand the bytes of a real-time command.
 
       Taken are characters and the commands that the table below says; any other
       command is refused at its exact byte.
@@ -152,7 +154,7 @@ line `memory` says that the program ran out of memory.
           1D 57     GS W    refused: margins
           1D 5C     GS \\    refused: page mode
           1D 5E     GS ^    refused: macros
-          1D 61     GS a    refused: answers that nobody has asked for
+          1D 61     GS a    taken
           1D 62     GS b    taken
           1D 63     GS c    refused: counters of the machine
           1D 66     GS f    taken
@@ -281,9 +283,11 @@ line `memory` says that the program ran out of memory.
       At the end no text may be left in the line, and none may stand in it at a
       barcode, an image, a QR code or a cut. Input that isn't a receipt gives
       one line, `refused N NAME` or `refused N NAME PLACE`: 1 Empty, 3 TextLeft,
-      4 MidLine (where PLACE is the command's), 5 NotJson, 6 BadShape,
-      7 ControlByte, 8 NoCharacter (where PLACE is the entry's). Places are
-      counted from 0. NoCharacter is followed by the character, as U+6F22.
+      4 MidLine, 9 RealTime (bytes that a printer obeys at once), 10 NotPrintable
+      (a barcode or QR code that isn't printed; where PLACE is the command's),
+      5 NotJson, 6 BadShape, 7 ControlByte, 8 NoCharacter (where PLACE is the
+      entry's). Places are counted from 0. NoCharacter is followed by the
+      character, as U+6F22.
 
       Each character of a text is printed with the code table in force if that
       has it, otherwise with the first of `tables` that has it, which is then in
@@ -348,10 +352,10 @@ line `memory` says that the program ran out of memory.
       N`, the receipts that the host has recorded as printed. The printer is
       online at first, and the first mark is 0.
 
-      Here the answer to a receipt's mark is on its way when the link breaks.
-      The host can't know that the receipt is printed, so it is sent again; it
-      stands on the paper twice, and is recorded once, when the second mark is
-      answered.
+      Here the link breaks before a receipt's mark is answered, and the answer
+      comes late: on the next link, before that is open. `deliver` records the
+      receipt then. This script sends it again; it stands on the paper twice,
+      and is recorded once, when the second mark is answered.
 
           linkup                      ok
           move 11                     moved 11
@@ -476,7 +480,7 @@ line `memory` says that the program ran out of memory.
           feed 1
           recorded 0
 
-  escpos_cli queue LEDGER [--width D] [--replace C]
+  escpos_cli queue LEDGER [--again N | [--width D] [--replace C]]
       Reads a receipt in JSON as `encode` does, takes it into the file LEDGER,
       and prints `queued N`: its number, from 1. From then on it is kept,
       whatever is switched off, and --width and --replace, which are those of
@@ -484,8 +488,14 @@ line `memory` says that the program ran out of memory.
       ledger, and a ledger one printer. If it can't be used, the line is that
       of `ledger`.
 
+      With --again N nothing is read: receipt N, whatever became of it, is taken
+      once more, with a number of its own. If no receipt N was taken, the line
+      is `refused NotTaken N`.
+
           $ echo '[{\"line\":\"Hi\"}]' | escpos_cli queue shop.ledger
           queued 1
+          $ escpos_cli queue shop.ledger --again 1
+          queued 2
 
   escpos_cli deliver LEDGER ADDRESS [--openings N] [--copy TEXT] [--wait S]
       Sends each receipt that waits to the printer at ADDRESS, in the order of

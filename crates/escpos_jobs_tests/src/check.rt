@@ -70,6 +70,51 @@ fn rows_of_check(rt: HostRuntime) {
     assert!(&rt; performs_rows(rt.alloc(), Task::Check, &CHECKED, &[1, 5, 4096]));
 }
 
+// A real-time command in the data of another is noted, with the place of the command that holds it. A request for a status is one itself.
+const CHECKED_REAL_TIME: [Row; 8] = [
+    (
+        b"41 1D 76 30 00 01 00 03 00 10 14 01 0A",
+        b"0 char 41\n1 raster 00 1 3\nnote 1 real-time\n12 lf\nend 13 pending 0\n",
+        Status::Good,
+    ),
+    (
+        b"1D 76 30 00 01 00 03 00 10 14 04",
+        b"0 raster 00 1 3\nend 11 pending 0\n",
+        Status::Good,
+    ),
+    (
+        b"1D 76 30 00 02 00 01 00 10 05",
+        b"0 raster 00 2 1\nend 10 pending 0\n",
+        Status::Good,
+    ),
+    (
+        b"1D 28 6B 06 00 31 50 30 10 04 01",
+        b"0 qrstore 100401\nnote 0 real-time\nend 11 pending 0\n",
+        Status::Good,
+    ),
+    (
+        b"1D 28 6B 06 00 31 50 30 10 05 03",
+        b"0 qrstore 100503\nend 11 pending 0\n",
+        Status::Good,
+    ),
+    (
+        b"1D 6B 49 05 7B 41 10 14 08",
+        b"0 bars 49 7b41101408\nnote 0 real-time\nend 9 pending 0\n",
+        Status::Good,
+    ),
+    (b"10 04 01", b"0 status 01\nend 3 pending 0\n", Status::Good),
+    (
+        b"10 04 04 1D 28 6B 06 00 31 50 30 10 05 00",
+        b"0 status 04\n3 qrstore 100500\nnote 3 real-time\nend 14 pending 0\n",
+        Status::Good,
+    ),
+];
+
+#[test]
+fn real_time_noted(rt: HostRuntime) {
+    assert!(&rt; performs_rows(rt.alloc(), Task::Check, &CHECKED_REAL_TIME, &[1, 5, 4096]));
+}
+
 const CHECKED_CONTENTS: [Row; 27] = [
     // ean13
     (
@@ -187,7 +232,7 @@ fn contents_in_check(rt: HostRuntime) {
 }
 
 // What is new since the second profile.
-const CHECKED_STYLES: [Row; 23] = [
+const CHECKED_STYLES: [Row; 25] = [
     // strike, on, off and with bits that have no effect
     (
         b"1B 47 01 1B 47 00 1B 47 FF",
@@ -210,6 +255,12 @@ const CHECKED_STYLES: [Row; 23] = [
     (
         b"1D 62 01 1D 62 00",
         b"0 smooth 01\n3 smooth 00\nend 6 pending 0\n",
+        Status::Good,
+    ),
+    // autostatus
+    (
+        b"1D 61 FF 1D 61 00",
+        b"0 autostatus ff\n3 autostatus 00\nend 6 pending 0\n",
         Status::Good,
     ),
     // spacing, from nothing to the most, and the default
@@ -235,6 +286,7 @@ const CHECKED_STYLES: [Row; 23] = [
     (b"1D 42", b"end 2 pending 2\n", Status::Refused),
     (b"1B 7B", b"end 2 pending 2\n", Status::Refused),
     (b"1D 62", b"end 2 pending 2\n", Status::Refused),
+    (b"1D 61", b"end 2 pending 2\n", Status::Refused),
     (b"1B 33", b"end 2 pending 2\n", Status::Refused),
     (b"1B 52", b"end 2 pending 2\n", Status::Refused),
     // letters beside those that are taken

@@ -147,8 +147,8 @@ fn help_has_what_is_taken_and_refused(rt: HostRuntime) {
             refused = refused.saturating_add(1);
         }
     }
-    assert!(rt; taken == 30);
-    assert!(rt; refused == 63);
+    assert!(rt; taken == 31);
+    assert!(rt; refused == 62);
 }
 
 // The help has the number and the name of a reason.
@@ -198,7 +198,7 @@ fn help_has_an_example_of_each_member(rt: HostRuntime) {
 
 #[test]
 fn version(rt: HostRuntime) {
-    assert!(&rt; VERSION == "escpos_cli 1.4.0, profile 3\n");
+    assert!(&rt; VERSION == "escpos_cli 1.4.0, profile 4\n");
 }
 
 // Help on a word prints this, and where there is no room for it the status says so.

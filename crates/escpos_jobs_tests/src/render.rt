@@ -196,7 +196,7 @@ fn contents_in_render(rt: HostRuntime) {
 }
 
 // What is new since the second profile.
-const RENDERED_STYLES: [Row; 24] = [
+const RENDERED_STYLES: [Row; 25] = [
     // strike, beside emphasis, by bit 0 alone
     (
         b"1B 45 01 1B 47 01 41 1B 47 02 42 0A",
@@ -273,6 +273,12 @@ const RENDERED_STYLES: [Row; 24] = [
     // smoothing has no effect
     (
         b"1D 62 01 41 1D 62 00 0A",
+        b"row left A\nfeed 1\n",
+        Status::Good,
+    ),
+    // nor has automatic status
+    (
+        b"1D 61 0F 41 1D 61 00 0A",
         b"row left A\nfeed 1\n",
         Status::Good,
     ),

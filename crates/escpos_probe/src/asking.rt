@@ -25,7 +25,7 @@ const _: () = prove!(USUAL_WAIT == 2);
 /// Asks a printer each question, on a link of its own, and prints its answers as they come: the line `unasked`, with what came on a link on
 /// which nothing was asked; a line for each question; and what the answers show. Each byte is waited for as long as the task says.
 ///
-/// The status is `Good` if the headline's premises about the printer's answers are met, otherwise `Refused`; it is `Device` if there is no
+/// The status is `Good` if the printer answers marks and sends nothing unasked, otherwise `Refused`; it is `Device` if there is no
 /// connection, which the line `no link` says, or if `output` has failed.
 pub fn probe<N: Printers, W: ByteOut>(net: &N, task: ProbeTask, output: &mut W) -> Status
     ensures never_usage { result ≢ Status.Usage }

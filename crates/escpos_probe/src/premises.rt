@@ -18,7 +18,8 @@ pub struct Premises {
 }
 
 impl Premises {
-    /// Whether the headline's premises about a printer's answers are met: it answers marks, and sends nothing unasked.
+    /// Whether the printer answers marks, and sends nothing unasked. Then the headline's premises about its answers are met, which also
+    /// allow blocks of automatic status.
     pub fn are_met(self) -> bool
         ensures { result ≡ (self.quiet && self.marks) }
     {

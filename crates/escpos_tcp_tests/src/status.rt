@@ -19,7 +19,7 @@ const REQUESTS: &[u8] = b"\x10\x04\x01\x10\x04\x02\x10\x04\x03\x10\x04\x04";
 const ONLINE: &str = "online\ncover closed\npaper there\n";
 
 // What comes from a printer, and what is printed of it.
-const TOLD: [(&'static [u8], &'static str, Status); 17] = [
+const TOLD: [(&'static [u8], &'static str, Status); 20] = [
     // status_online
     (b"\x12\x12\x12\x12", ONLINE, Status::Good),
     // status_cover_open
@@ -80,6 +80,13 @@ const TOLD: [(&'static [u8], &'static str, Status); 17] = [
         ONLINE,
         Status::Good,
     ),
+    // status_after_a_block, status_between_blocks: what they say counts for nothing
+    (b"\x14\x00\x00\x0F\x12\x12\x12\x12", ONLINE, Status::Good),
+    (
+        b"\x12\x38\x00\x0C\x00\x37\x220000\x00\x12\x12\x38\x00\x0C\x00\x12",
+        ONLINE,
+        Status::Good,
+    ),
     // status_more_than_four
     (b"\x12\x12\x12\x12\x7E\xFF", ONLINE, Status::Good),
     // status_ended
@@ -94,6 +101,12 @@ const TOLD: [(&'static [u8], &'static str, Status); 17] = [
     (b"", "no status Ended\n", Status::Device),
     // status_bad_answer
     (b"\x12\xFF\x12\x12", "no status BadAnswer\n", Status::Device),
+    // status_bad_block
+    (
+        b"\x12\x14\x10\x12\x12\x12",
+        "no status BadAnswer\n",
+        Status::Device,
+    ),
     // status_bad_mark
     (
         b"\x12\x37\x22000 \x12",

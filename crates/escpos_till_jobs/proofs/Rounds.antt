@@ -1,8 +1,9 @@
 -- One more receipt is recorded and told; and rounds are calls that were served.
-use Rattle.std.proofs.Common.{◌≡◌, ℕ, ◌+◌, List, [], ◌∷◌, ◌++◌, length, inl, inr, refl, ◌∙◌, ap, length-append}
+use Rattle.std.proofs.Common.{◌≡◌, ℕ, ◌+◌, List, [], ◌∷◌, ◌++◌, length, inl, inr, refl, ◌∙◌, ap, subst, length-append}
 use Rattle.escpos_jobs.specs.declared.status.Status.{Status}
 use Rattle.escpos_jobs.specs.declared.status.Status.TheVariants.{Good}
 use Rattle.escpos_till.specs.declared.entry.Entry.{Entry}
+use Rattle.escpos_till.specs.declared.machine.TillNote.{TillNote}
 use Rattle.escpos_till.specs.declared.machine.TillNote.TheVariants as note
 use Rattle.escpos_till.specs.declared.state.ReceiptState.{ReceiptState}
 use Rattle.escpos_till.specs.Book.{IsBookOf}
@@ -11,9 +12,11 @@ use Rattle.escpos_till.specs.Driver.{Deed, Serves, ServesAll}
 use Rattle.escpos_till.specs.Machine.{MachineView}
 use Rattle.escpos_till_jobs.specs.Delivering.{DeliversAndTells, RoundEnds, Rounds, asked, recorded_by}
 use Rattle.escpos_till_jobs.specs.declared.deliver.Delivery.{Delivery}
+use Rattle.escpos_till_jobs.specs.declared.outcome.Outcome.TheVariants as outcome
 use Rattle.escpos_till_jobs.specs.declared.outcome.TheConstants.{MOST_DEEDS}
 use Rattle.escpos_till_jobs.specs.Lines.{recorded_line}
-use Rattle.escpos_till_jobs.specs.Outputs.{Output, Took}
+use Rattle.escpos_till_jobs.specs.Outcomes.{NoteEnds}
+use Rattle.escpos_till_jobs.specs.Outputs.{Output, Took, ended}
 
 -- So many receipts are recorded so far, and told.
 pub record SoFar {D : Type 0} (did : D → Deed → D → Type 0) (delivery : Delivery) (m : MachineView) (old : D) (before : Output) (now : MachineView) (new : D) (heard : Output) (count : ℕ) : Type 0 where
@@ -32,6 +35,14 @@ one_more did delivery m old before mid between heard after new end count number 
   rounds = Rounds.more so_far.numbers mid between heard number after new end (so_far.numbers ++ number ∷ []) so_far.rounds serves told refl;
   counted = length-append so_far.numbers (number ∷ []) ∙ ap (λ n. n + 1) so_far.counted;
 }
+
+-- What its owner is told ends it, but for a recorded receipt whose line is printed.
+pub note_ends : {D : Type 0} (did : D → Deed → D → Type 0) (delivery : Delivery) (m : MachineView) (old : D) (before : Output) (n : TillNote) (after : MachineView) (new : D) (end : Output)
+    (status : Status) → Serves did m old (asked delivery) n MOST_DEEDS after new → NoteEnds n (ended before end status) → RoundEnds did delivery m old before after new end status
+note_ends did delivery m old before n after new end status serves ends = elim ends [
+  | inl (number, is, device, failed) ↦ inl (number, subst (λ n. Serves did m old (asked delivery) n MOST_DEEDS after new) is serves, device, failed)
+  | inr (other, tells) ↦ inr (outcome.Told n, serves, (λ recorded. let same = recorded.1 in other recorded.0 (cc)), tells)
+]
 
 -- How it ends, after the receipts so far.
 pub round_ends : {D : Type 0} (did : D → Deed → D → Type 0) (delivery : Delivery) (m : MachineView) (old : D) (before : Output) (mid : MachineView) (between : D) (heard : Output) (after : MachineView) (new : D) (end : Output)

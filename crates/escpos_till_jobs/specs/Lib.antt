@@ -4,5 +4,6 @@ pub mod Outcomes
 pub mod Outputs
 pub mod Delivering
 pub mod LinkLine
+pub mod Again
 pub mod Words
 pub mod Performing

@@ -47,6 +47,10 @@ QueuesAt {F} {S} {L} p did came failed ledgers before after end status path opti
     ((fault : NoReceipt) × (after ≡ ledgers) × RefusesFor fault options came failed before end status)
     ⊎ ((content : Content) × Reads options came content × (line new : L) × InLedger p did path (word.Queue content) ledgers line before after new end status)
 
+-- The receipt with this number is taken once more into the ledger at the path.
+abbrev pub QueuesAgainAt : {F S L : Type 0} → Place F S → (L → Deed → L → Type 0) → F → Output → F → Output → Status → List ℕ → ℕ → Type 0
+QueuesAgainAt {F} {S} {L} p did ledgers before after end status path number = (line new : L) × InLedger p did path (word.Again number) ledgers line before after new end status
+
 -- What is known of lines.
 pub record Way (P L : Type 0) : Type 1 where
   pub made : P → Address → Option ℕ → L → P → Type 0
@@ -73,6 +77,10 @@ abbrev pub OfQueue : (List ℕ → ReceiptOptions → Type 0) → TillTask → T
 OfQueue Holds (task.Queue path options) = Holds path options
 OfQueue Holds t = Unit {0}
 
+abbrev pub OfQueueAgain : (List ℕ → ℕ → Type 0) → TillTask → Type 0
+OfQueueAgain Holds (task.QueueAgain path number) = Holds path number
+OfQueueAgain Holds t = Unit {0}
+
 abbrev pub OfDeliver : (List ℕ → Delivery → Type 0) → TillTask → Type 0
 OfDeliver Holds (task.Deliver path delivery) = Holds path delivery
 OfDeliver Holds t = Unit {0}
@@ -95,7 +103,7 @@ UnlessDeliver Holds (task.Deliver path delivery) = Unit {0}
 UnlessDeliver Holds (task.DeliverWithin path delivery wait) = Unit {0}
 UnlessDeliver Holds t = Holds
 
--- This holds unless the task is to take a receipt.
+-- This holds unless the task is to take a receipt that is read.
 abbrev pub UnlessQueue : Type 0 → TillTask → Type 0
 UnlessQueue Holds (task.Queue path options) = Unit {0}
 UnlessQueue Holds t = Holds

@@ -14,6 +14,7 @@ use Rattle.escpos_till.specs.Machine.{MachineView, RefusesAny, RefusesCancel}
 use Rattle.escpos_till.specs.Surroundings.{Did}
 use Rattle.escpos_till_jobs.specs.declared.word.Word.{Word}
 use Rattle.escpos_till_jobs.specs.declared.word.Word.TheVariants as word
+use Rattle.escpos_till_jobs.specs.Again.{QueuesAgain}
 use Rattle.escpos_till_jobs.specs.Delivering.{DeliversAndTells}
 use Rattle.escpos_till_jobs.specs.Lines.{no_store_line, no_store_status}
 use Rattle.escpos_till_jobs.specs.Opening.{Opens}
@@ -22,12 +23,16 @@ use Rattle.escpos_till_jobs.specs.Outputs.{Output, ended}
 
 -- ## With a machine
 
--- A receipt is taken, the receipts that wait are delivered, one is cancelled, or all are listed.
-abbrev pub WordDoes : {D : Type 0} → (D → Deed → D → Type 0) → Word → MachineView → D → Output → MachineView → D → Output → Status → Type 0
-WordDoes did (word.Queue content) m old before after new end status = BecomesAndTells did (RefusesAny m) m old (Queue content) after new (ended before end status)
-WordDoes did (word.Deliver delivery) m old before after new end status = DeliversAndTells did delivery m old before after new end status
-WordDoes did (word.Cancel number) m old before after new end status = BecomesAndTells did (RefusesCancel m number) m old (Cancel number) after new (ended before end status)
-WordDoes did (word.List first) m old before after new end status = RaisesAndLists did m old first after new (ended before end status)
+-- A receipt is taken, or taken once more, the receipts that wait are delivered, one is cancelled, or all are listed.
+abbrev pub WordDoes : {S L : Type 0} → (S → Type 0) → (S → List Entry → Type 0) → (S → List Entry → Type 0) → (S → List Entry → StoreFault → S → Type 0) → (L → Deed → L → Type 0) → Word
+    → MachineView → Surroundings S L → Output → MachineView → Surroundings S L → Output → Status → Type 0
+WordDoes faithful holds leaves says did (word.Queue content) m old before after new end status =
+    BecomesAndTells (Did faithful holds leaves says did) (RefusesAny m) m old (Queue content) after new (ended before end status)
+WordDoes faithful holds leaves says did (word.Again number) m old before after new end status = QueuesAgain faithful holds leaves says did number m old after new (ended before end status)
+WordDoes faithful holds leaves says did (word.Deliver delivery) m old before after new end status = DeliversAndTells (Did faithful holds leaves says did) delivery m old before after new end status
+WordDoes faithful holds leaves says did (word.Cancel number) m old before after new end status =
+    BecomesAndTells (Did faithful holds leaves says did) (RefusesCancel m number) m old (Cancel number) after new (ended before end status)
+WordDoes faithful holds leaves says did (word.List first) m old before after new end status = RaisesAndLists (Did faithful holds leaves says did) m old first after new (ended before end status)
 
 -- ## With a store
 
@@ -48,7 +53,7 @@ abbrev pub DoesWith : {S L : Type 0} → (S → Type 0) → (S → List Entry �
 DoesWith {S} faithful holds leaves says did w old before new end status =
     ((why : NoStore) × NoLedgerIn faithful holds leaves says old.store why new.store × (new.line ≡ old.line) × Tells (ended before end status) (no_store_line why) (no_store_status why))
     ⊎ ((m after : MachineView) × (opened : S) × Opens faithful holds old.store m opened × (faithful opened → faithful old.store)
-    × WordDoes (Did faithful holds leaves says did) w m (around opened old.line) before after new end status)
+    × WordDoes faithful holds leaves says did w m (around opened old.line) before after new end status)
 
 -- ## At a path
 

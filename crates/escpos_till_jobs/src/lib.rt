@@ -1,11 +1,12 @@
 //! What the words `queue`, `deliver`, `cancel` and `ledger` do with a till's ledger, over any store, line, source and sink.
 //!
 //! Each makes calls of a till's machine, has the driver of escpos_till do what it asks for, and prints what came of that.
-//! `opening` makes the machine of a store's ledger, or says why there is none. `queue` takes a receipt, `deliver` sends those that
+//! `opening` makes the machine of a store's ledger, or says why there is none. `queue` takes a receipt, `again` takes one once more, `deliver` sends those that
 //! wait, `cancel` takes one back that waits, and `listing` lists where each stands. `outcome` has the lines, `link_line` the line to a printer, and `lines` makes it. `word` does one
 //! of these words with a store, `perform` with the ledger at a path, and `task` has what may be asked for. A ledger's file is left to the program.
 #![tactic(auto)]
 
+mod again;
 mod cancel;
 mod deliver;
 pub mod laws;
@@ -19,6 +20,7 @@ mod queue;
 mod task;
 mod word;
 
+pub use again::{NotAgain, queue_again};
 pub use cancel::cancel_receipt;
 pub use deliver::{Delivery, deliver_waiting};
 pub use lines::{Lines, NetworkLine, NetworkLines};

@@ -6,7 +6,7 @@ ghost use Rattle.std.specs.Prelude.{◌≡◌, ◌≢◌, ◌+◌, ◌≤◌, �
 ghost use Rattle.escpos_jobs.specs.declared.input.TheConstants.{INPUT_LIMIT};
 ghost use Rattle.escpos_till.specs.declared.store.NoStore.{NoStore as WhyNone};
 ghost use Rattle.escpos_till_jobs.specs.Outputs.{output_of};
-ghost use Rattle.escpos_till_jobs.specs.Performing.{CancelsAt, DeliversAt, ListsAt, OfCancel, OfDeliver, OfDeliverWithin, OfList, OfQueue, QueuesAt, UnlessDeliver, UnlessQueue, way};
+ghost use Rattle.escpos_till_jobs.specs.Performing.{CancelsAt, DeliversAt, ListsAt, OfCancel, OfDeliver, OfDeliverWithin, OfList, OfQueue, OfQueueAgain, QueuesAgainAt, QueuesAt, UnlessDeliver, UnlessQueue, way};
 ghost use Rattle.escpos_till_jobs.specs.Words.{InLedger, place};
 
 use crate::deliver::Delivery;
@@ -60,6 +60,8 @@ pub fn perform_till<
 ) -> Status
     ensures queue { OfQueue (QueuesAt (place F.opened F.closed S.faithful S.holds S.leaves S.says) ⟦<NoLine as PrinterLine>⟧.did (R.to_come input.old) (R.failed input.new)
         ledgers.old (output_of (W.written output.old) (W.failed output.old)) ledgers.new (output_of (W.written output.new) (W.failed output.new)) result) task.entry }
+    ensures queue_again { OfQueueAgain (QueuesAgainAt (place F.opened F.closed S.faithful S.holds S.leaves S.says) ⟦<NoLine as PrinterLine>⟧.did
+        ledgers.old (output_of (W.written output.old) (W.failed output.old)) ledgers.new (output_of (W.written output.new) (W.failed output.new)) result) task.entry }
     ensures deliver { OfDeliver (DeliversAt (place F.opened F.closed S.faithful S.holds S.leaves S.says) (way P.made P.ended) L.did None
         ledgers.old lines.old (output_of (W.written output.old) (W.failed output.old)) ledgers.new lines.new (output_of (W.written output.new) (W.failed output.new)) result) task.entry }
     ensures deliver_within { OfDeliverWithin (λ path delivery wait. DeliversAt (place F.opened F.closed S.faithful S.holds S.leaves S.says) (way P.made P.ended) L.did (Some wait)
@@ -90,6 +92,9 @@ pub fn perform_till<
             }
             Err(fault) => refuse_input(fault, output),
         },
+        TillTask::QueueAgain { ledger, number } => {
+            do_at(alloc, ledgers, &ledger, NoLine, Word::Again(number), output).1
+        }
         TillTask::Deliver { ledger, delivery } => {
             deliver_at(alloc, ledgers, lines, &ledger, delivery, None, output)
         }

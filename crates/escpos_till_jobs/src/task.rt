@@ -45,6 +45,11 @@ pub enum TillTask<'a> {
         ledger: LedgerPath<'a>,
         options: ReceiptOptions,
     },
+    /// Take the receipt of this ledger that has this number once more.
+    QueueAgain {
+        ledger: LedgerPath<'a>,
+        number: ReceiptNumber,
+    },
     /// Deliver the receipts of this ledger that wait.
     Deliver {
         ledger: LedgerPath<'a>,

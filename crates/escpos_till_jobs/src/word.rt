@@ -1,10 +1,10 @@
 //! The words of a till: what each does with a machine, and with the store that its ledger is in.
 
 ghost use Rattle.std.specs.Prelude.{◌≢◌, IsTrue};
-ghost use Rattle.escpos_till.specs.Surroundings.{Did};
 ghost use Rattle.escpos_till_jobs.specs.Outputs.{output_of};
 ghost use Rattle.escpos_till_jobs.specs.Words.{DoesWith, WordDoes};
 
+use crate::again::queue_again;
 use crate::cancel::cancel_receipt;
 use crate::deliver::{Delivery, deliver_waiting};
 use crate::listing::list;
@@ -20,6 +20,8 @@ use std::alloc::Global;
 pub enum Word<'a> {
     /// A receipt is taken, as by `queue_receipt`.
     Queue(ReceiptContent),
+    /// The receipt with this number is taken once more, as by `queue_again`.
+    Again(ReceiptNumber),
     /// The receipts that wait are delivered, as by `deliver_waiting`.
     Deliver(Delivery<'a>),
     /// The receipt with this number is cancelled, as by `cancel_receipt`.
@@ -30,18 +32,20 @@ pub enum Word<'a> {
 
 /// Does a word with the machine of a ledger and what surrounds it, and returns how it went.
 pub fn do_word<S: Store, L: PrinterLine, W: ByteOut>(
+    alloc: Global,
     machine: &mut TillMachine,
     around: &mut Surroundings<S, L>,
     word: Word<'_>,
     output: &mut W,
 ) -> Status
-    ensures does { WordDoes (Did S.faithful S.holds S.leaves S.says L.did) word.entry machine.old around.old (output_of (W.written output.old) (W.failed output.old))
+    ensures does { WordDoes S.faithful S.holds S.leaves S.says L.did word.entry machine.old around.old (output_of (W.written output.old) (W.failed output.old))
         machine.new around.new (output_of (W.written output.new) (W.failed output.new)) result }
     ensures not_hidden { result ≢ Status.Device → ¬ IsTrue (W.failed output.old) → ¬ IsTrue (W.failed output.new) }
     ensures never_usage { result ≢ Status.Usage }
 {
     match word {
         Word::Queue(content) => queue_receipt(machine, around, content, output),
+        Word::Again(number) => queue_again(alloc, machine, around, number, output),
         Word::Deliver(delivery) => deliver_waiting(machine, around, &delivery, output),
         Word::Cancel(number) => cancel_receipt(machine, around, number, output),
         Word::List(first) => list(machine, around, first, output),
@@ -64,7 +68,7 @@ pub fn do_with<S: Store, L: PrinterLine, W: ByteOut>(
     match open_machine(alloc, &mut around.store) {
         Ok(machine) => {
             let mut machine = machine;
-            do_word(&mut machine, around, word, output)
+            do_word(alloc, &mut machine, around, word, output)
         }
         Err(why) => refuse_store(why, output),
     }

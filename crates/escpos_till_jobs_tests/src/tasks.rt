@@ -1,7 +1,7 @@
 //! What a till asks for, done with a ledger at a path: it is opened and closed again.
 
 use crate::support::tills::{
-    Nobody, OneLedger, S, Told, delivery_to, is_told, number, printer_address, store_of,
+    A, Nobody, OneLedger, S, Told, delivery_to, is_told, number, printer_address, store_of,
 };
 use escpos_io::{MemoryIn, MemoryOut};
 use escpos_jobs::status::Status;
@@ -65,6 +65,15 @@ fn cancels(rt: &impl Abort, alloc: Global, ledger: &mut OneLedger, path: &str, w
     performs(rt, alloc, ledger, (task, b""), wanted);
 }
 
+// The first receipt of the ledger at a path is taken once more. The input would give another one, and isn't read.
+fn takes_again(rt: &impl Abort, alloc: Global, ledger: &mut OneLedger, path: &str, wanted: Told) {
+    let task = TillTask::QueueAgain {
+        ledger: LedgerPath::new(path),
+        number: number(rt, 1),
+    };
+    performs(rt, alloc, ledger, (task, A), wanted);
+}
+
 // The receipts that wait in the ledger at a path are delivered, with a wait and without.
 fn delivers(rt: &impl Abort, alloc: Global, ledger: &mut OneLedger, path: &str, wanted: Told) {
     let task = TillTask::Deliver {
@@ -99,6 +108,7 @@ fn taken_and_listed(rt: HostRuntime) {
     queues(&rt, rt.alloc(), &mut ledger, ("b", S), NO_LEDGER);
     lists(&rt, rt.alloc(), &mut ledger, "b", NO_LEDGER);
     cancels(&rt, rt.alloc(), &mut ledger, "b", NO_LEDGER);
+    takes_again(&rt, rt.alloc(), &mut ledger, "b", NO_LEDGER);
     delivers(&rt, rt.alloc(), &mut ledger, "b", NO_LEDGER);
     let no_link = ("waiting 1 no link\n", Status::Device);
     delivers(&rt, rt.alloc(), &mut ledger, "a", no_link);
@@ -106,7 +116,9 @@ fn taken_and_listed(rt: HostRuntime) {
     lists(&rt, rt.alloc(), &mut ledger, "a", listed);
     let cancelled = ("cancelled 1\n", Status::Good);
     cancels(&rt, rt.alloc(), &mut ledger, "a", cancelled);
-    let listed = ("1 cancelled\nnext 0\n", Status::Good);
+    let again = ("queued 2\n", Status::Good);
+    takes_again(&rt, rt.alloc(), &mut ledger, "a", again);
+    let listed = ("1 cancelled\n2 waiting\nnext 0\n", Status::Good);
     lists(&rt, rt.alloc(), &mut ledger, "a", listed);
 }
 
@@ -120,5 +132,6 @@ fn in_use(rt: HostRuntime) {
     queues(&rt, rt.alloc(), &mut ledger, ("a", S), IN_USE);
     lists(&rt, rt.alloc(), &mut ledger, "a", IN_USE);
     cancels(&rt, rt.alloc(), &mut ledger, "a", IN_USE);
+    takes_again(&rt, rt.alloc(), &mut ledger, "a", IN_USE);
     delivers(&rt, rt.alloc(), &mut ledger, "a", IN_USE);
 }

@@ -282,6 +282,25 @@ fn sent_again_as_a_copy(rt: HostRuntime) {
     let _store = lists(&rt, rt.alloc(), store, None, recorded);
 }
 
+// The link ends before the receipt's mark is answered. It is answered late: on the next link, after a block of automatic status and
+// before an opening mark's answer. The receipt is recorded, and no copy is sent.
+#[test]
+fn recorded_late(rt: HostRuntime) {
+    let store = store_of(&rt, rt.alloc(), &[Plain::Taken]);
+    let out = b"\x1D(H\x06\x00000000\x1D(H\x06\x00000001\x1B@Hi\n\x1D(H\x06\x00000002";
+    let ended = ("waiting 1 Ended\n", Status::Device);
+    let first = (b"\x37\x220000\x00".as_slice(), out.as_slice());
+    let store = delivers_over_memory(&rt, rt.alloc(), store, first, ended);
+    let tried = ("1 tried 1\nnext 3\n", Status::Good);
+    let store = lists(&rt, rt.alloc(), store, None, tried);
+    let marks = b"\x1D(H\x06\x00000003\x1D(H\x06\x00000004";
+    let answers = b"\x14\x00\x00\x0F\x37\x220001\x00\x37\x220002\x00";
+    let told = ("recorded 1\n", Status::Good);
+    let store = delivers_over_memory(&rt, rt.alloc(), store, (answers, marks), told);
+    let recorded = ("1 recorded 0\nnext 6\n", Status::Good);
+    let _store = lists(&rt, rt.alloc(), store, None, recorded);
+}
+
 // A text for a line of 384 dots, with a character that no code table has: it is refused unless there is a replacement, and sent as
 // it was read when it was taken.
 #[test]

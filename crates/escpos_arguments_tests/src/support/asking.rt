@@ -20,6 +20,7 @@ pub fn asks_for(rt: &impl Abort, alloc: Global, words: &[&str], asked: Result<Ta
 #[derive(Clone, Copy, PartialEq)]
 pub enum Plain<'a> {
     Queue(&'a str, u16, Option<char>),
+    Again(&'a str, usize),
     Deliver(&'a str, Option<SocketAddrV4>, u32, bool),
     Within(&'a str, Option<SocketAddrV4>, u32, bool, u32),
     Cancel(&'a str, usize),
@@ -48,6 +49,7 @@ fn plain_of<'a>(task: TillTask<'a>) -> Plain<'a> {
             options.width.dots(),
             replacement_of(&options),
         ),
+        TillTask::QueueAgain { ledger, number } => Plain::Again(ledger.text(), number.get()),
         TillTask::Deliver { ledger, delivery } => Plain::Deliver(
             ledger.text(),
             v4_of(&delivery.address),

@@ -160,6 +160,29 @@ fn cancel_refused(rt: HostRuntime) {
     stands(&rt, rt.alloc(), &mut store, cancelled, 5);
 }
 
+fn takes_again(rt: &impl Abort, alloc: Global, store: MemoryStore) -> (MemoryStore, bool) {
+    let mut room = [0; 64];
+    let mut output = MemoryOut::new(&mut room);
+    let word = Word::Again(number(rt, 1));
+    let (store, status) = done_with(alloc, (store, NoLine), word, &mut output);
+    let is = is_told(rt, (output.written(), status), b"queued 2\n");
+    (store, is)
+}
+
+#[test]
+fn again_refused(rt: HostRuntime) {
+    let (taken, is) = takes_again(&rt, rt.alloc(), queued_at_last(&rt, rt.alloc()));
+    let mut store = taken;
+    if !is {
+        let (taken, is) = takes_again(&rt, rt.alloc(), store);
+        assert!(&rt; is);
+        store = taken;
+    }
+    let machine = machine_at_last(&rt, rt.alloc(), &mut store);
+    let waiting = ReceiptState::Waiting { tried: 0 };
+    assert!(&rt; machine.states() == [waiting, waiting].as_slice());
+}
+
 // Delivers the receipt over a link on which the ledger's next two marks are answered.
 fn delivers(rt: &impl Abort, alloc: Global, store: MemoryStore) -> (MemoryStore, bool) {
     let mut store = store;

@@ -11,5 +11,5 @@ invariant-loop g l = record {
   so_far :
       ServedSoFar l.fn.printer (link (g.R.ByteIn.to_come l.fn.reader) (g.R.ByteIn.to_come l.reader) (g.A.ByteOut.written l.fn.writer) (g.A.ByteOut.written l.writer))
       (16384 * l.counter) l.served l.fn.paper l.paper l.printer;
-  few : l.served.written ≤ 3670128 * l.counter;
+  few : l.served.written ≤ 3801204 * l.counter;
 }

@@ -1,10 +1,16 @@
-use Rattle.std.proofs.Common.{[], refl}
-use Rattle.escpos_io.proofs.Giving.{given_in_the_front}
+-- The note follows the line.
+use Rattle.std.proofs.Common.{refl}
+use Rattle.escpos_io.proofs.Giving.{given_in_the_front, given_in_turn}
+use Rattle.escpos_jobs.specs.Lines.{own_line}
+use Rattle.escpos_jobs.specs.RealTimeNotes.{real_time_note}
 use Rattle.escpos_jobs.proofs.lines.put_line.Goals as goal
 
-pub returns-in-QrStore : goal.returns-in-QrStore
-returns-in-QrStore g c = rw c.in-QrStore.is c.put_store.ensures
+pub returns-in_err-put_own_line : goal.returns-in_err-put_own_line
+returns-in_err-put_own_line g c =
+    given_in_the_front c.from_residual.result c.in_err-put_own_line.field-0.0 _ _ _ (own_line c.args.place c.args.command.now) (real_time_note c.args.place c.args.command.now) _
+    c.from_residual.ensures.1 c.in_err-put_own_line.ensures refl
 
-pub returns-in_err-room-in_default : goal.returns-in_err-room-in_default
-returns-in_err-room-in_default g c =
-    given_in_the_front c.from_residual.result c.in_err-room-in_default.field-0.0 _ _ _ [] _ _ c.from_residual.ensures.1 c.in_err-room-in_default.ensures.given refl
+pub returns : goal.returns
+returns g c =
+    given_in_turn c.put_note.result _ _ _ _ _ _ _ _ _ (own_line c.args.place c.args.command.now) (real_time_note c.args.place c.args.command.now) _
+    c.in_ok-put_own_line.ensures c.put_note.ensures refl

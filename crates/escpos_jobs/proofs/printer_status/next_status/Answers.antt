@@ -2,7 +2,7 @@
 use Rattle.std.proofs.Common.{◌≡◌, ◌∙◌, ◌+◌, ◌++◌, ◌∷◌, [], Ok, length, sym, ap, subst, arith}
 use Rattle.std.specs.Io.KnownBytes.{Consumes}
 use Rattle.std.proofs.KnownBytes.{Consumes-kept, Consumes-trans}
-use Rattle.escpos_jobs.proofs.PrinterStatusLemmas.{bad_next, marks_on, none_yet, one_byte, one_longer, passed_on, source_fails, told_next}
+use Rattle.escpos_jobs.proofs.PrinterStatusLemmas.{bad_next, passed_further, none_yet, one_byte, one_longer, passed_on, source_fails, told_next}
 use Rattle.escpos_jobs.proofs.printer_status.next_status.Goals as goal
 
 pub returns-in-Some-clause-told : goal.returns-in-Some-clause-told
@@ -29,7 +29,7 @@ loop-read-preserved g c =
     let still : length c.pull.new.piece ≡ 1 = omega (arith, kept, room) in
     let byte = one_byte c.pull.new.piece c.in-Ok.count _ still (omega (arith, fits, room)) c.if-count-eq0.false in
     let passed = c.take_byte.ensures.passed (c.in_ok-status.was ∙ ap Ok c.in_default.is) in
-    let on = marks_on so_far.0 c.loop-read.answers passed.0 c.take_byte.new.answers _ so_far.1 passed.1 passed.2 in
+    let on = passed_further so_far.0 c.loop-read.answers passed.0 c.take_byte.new.answers _ so_far.1 passed.1 passed.2 in
     record {
       room = still;
       so_far = (

@@ -1,7 +1,7 @@
 -- Each task is done as it says.
 use Rattle.std.proofs.Common.{sym, ◌∙◌, ap, subst, inl, inr, refl, Err}
 use Rattle.escpos_till_jobs.specs.Outputs.{output_of}
-use Rattle.escpos_till_jobs.specs.Performing.{OfCancel, OfDeliver, OfDeliverWithin, OfList, OfQueue}
+use Rattle.escpos_till_jobs.specs.Performing.{OfCancel, OfDeliver, OfDeliverWithin, OfList, OfQueue, OfQueueAgain}
 use Rattle.escpos_till_jobs.proofs.Tasks.{refuses_for}
 use Rattle.escpos_till_jobs.proofs.perform.perform_till.Goals as goal
 
@@ -22,6 +22,9 @@ returns-in-Err-clause-queue g c =
           c.refuse_input.ensures.too_long c.refuse_input.ensures.refused c.refuse_input.ensures.memory
           (λ same. ((c.refuse_input.ensures.device same).0, ap (λ o. output_of (g.W.ByteOut.written o) (g.W.ByteOut.failed o)) (c.refuse_input.ensures.device same).1)),
     ))
+
+pub returns-in-QueueAgain-clause-queue_again : goal.returns-in-QueueAgain-clause-queue_again
+returns-in-QueueAgain-clause-queue_again g c = subst (OfQueueAgain _) (sym c.in-QueueAgain.is) (_, c.do_at-in-QueueAgain.result.0, c.do_at-in-QueueAgain.ensures.does)
 
 pub returns-in-Deliver-clause-deliver : goal.returns-in-Deliver-clause-deliver
 returns-in-Deliver-clause-deliver g c = subst (OfDeliver _) (sym c.in-Deliver.is) c.deliver_at.ensures.does

@@ -1,0 +1,124 @@
+//! `queue --again`: a receipt that a ledger has taken is taken once more.
+
+ghost use Rattle.std.specs.Prelude.{◌≡◌, ◌≢◌, ◌≤◌, List, length, slice_get, None, Some, IfErr, IfOk, IsErrOf, IsTrue, MatchOption};
+ghost use Rattle.escpos_jobs.specs.Ending.{job_end};
+ghost use Rattle.escpos_till.specs.Contents.{GivesReceipt};
+ghost use Rattle.escpos_till.specs.Delivers.{WhyNone};
+ghost use Rattle.escpos_till.specs.Entries.{content_of, contents};
+ghost use Rattle.escpos_till_jobs.specs.Again.{HasContent, HasNone, QueuesAgain, RefusesAgain};
+
+use crate::outcome::{Outcome, tell};
+use crate::queue::queue_receipt;
+use escpos_io::ByteOut;
+use escpos_jobs::receipt_input::refuse_text;
+use escpos_jobs::status::Status;
+use escpos_receipt::JsonError;
+use escpos_till::{
+    Content, Entry, PrinterLine, ReceiptContent, ReceiptNumber, Store, Surroundings, TillMachine,
+    TillNote, TillRefusal,
+};
+use std::alloc::Global;
+
+/// Why a receipt isn't taken once more.
+#[derive(Clone, Copy, Debug, PartialEq, Eq)]
+pub enum NotAgain {
+    /// No receipt with this number was taken.
+    NotTaken,
+    /// Its text gives no receipt, or an allocation failed.
+    Text(JsonError),
+}
+
+/// Takes a receipt once more that the ledger of the store has taken, whatever became of that, and prints `queued M`, with the number that it has now.
+///
+/// The status and the line are those of `queue_receipt`; or the status is `Refused` with `refused NotTaken N` if no receipt has this number, and with the
+/// line of a refused text if what the ledger has of it gives no receipt. The entries are read from the store: if that fails, the line is `ledger failed`, with
+/// `Device`.
+pub fn queue_again<S: Store, L: PrinterLine, W: ByteOut>(
+    alloc: Global,
+    machine: &mut TillMachine,
+    around: &mut Surroundings<S, L>,
+    number: ReceiptNumber,
+    output: &mut W,
+) -> Status
+    ensures queues { QueuesAgain S.faithful S.holds S.leaves S.says L.did number machine.old around.old machine.new around.new
+        (job_end (W.written output.old) (W.written output.new) (W.failed output.new) result) }
+    ensures not_hidden { result ≢ Status.Device → ¬ IsTrue (W.failed output.old) → ¬ IsTrue (W.failed output.new) }
+    ensures never_usage { result ≢ Status.Usage }
+{
+    match around.store.entries(alloc) {
+        Ok(entries) => match content_again(alloc, &entries, number) {
+            Ok(content) => queue_receipt(machine, around, content, output),
+            Err(why) => refuse_again(why, number, output),
+        },
+        Err(fault) => tell(Outcome::Told(TillNote::NotKept(fault)), output),
+    }
+}
+
+// Prints why a receipt isn't taken once more.
+fn refuse_again<W: ByteOut>(why: NotAgain, number: ReceiptNumber, output: &mut W) -> Status
+    ensures refuses { RefusesAgain why number (job_end (W.written output.old) (W.written output.new) (W.failed output.new) result) }
+    ensures not_hidden { result ≢ Status.Device → ¬ IsTrue (W.failed output.old) → ¬ IsTrue (W.failed output.new) }
+    ensures never_usage { result ≢ Status.Usage }
+{
+    match why {
+        NotAgain::NotTaken => tell(Outcome::Refused(TillRefusal::NotTaken(number)), output),
+        NotAgain::Text(fault) => refuse_text(fault, output),
+    }
+}
+
+// The content of the receipt that has this number.
+fn content_again(
+    alloc: Global,
+    entries: &[Entry],
+    number: ReceiptNumber,
+) -> Result<ReceiptContent, NotAgain>
+    ensures content { IfOk result (λ content. HasContent entries.now number content × GivesReceipt content) }
+    ensures none { IfErr result (λ why. HasNone why entries.now number) }
+{
+    let Some(content) = content_at(entries, number.get() - 1) else {
+        return Err(NotAgain::NotTaken);
+    };
+    read_again(alloc, content)
+}
+
+// Reads a content's text once more.
+fn read_again(alloc: Global, content: &Content) -> Result<ReceiptContent, NotAgain>
+    ensures same { IfOk result (λ again. (again ≡ content.now) × GivesReceipt again) }
+    ensures none { IfErr result (λ why. (error : JsonError) × (why ≡ NotAgain.Text error) × WhyNone error content.now) }
+{
+    let Ok(text) = content.bytes().to_vec(alloc) else {
+        return Err(NotAgain::Text(JsonError::Memory));
+    };
+    match ReceiptContent::read(alloc, &content.options, text) {
+        Ok(again) => Ok(again),
+        Err(error) => Err(NotAgain::Text(error)),
+    }
+}
+
+// The content that was taken at this place, counted from 0 in the order of taking.
+fn content_at(entries: &[Entry], place: usize) -> Option<&Content>
+    ensures { MatchOption result (length (contents entries.now) ≤ place) (λ content. slice_get (contents entries.now) place ≡ Some content.now) }
+{
+    let mut passed = 0;
+    for entry in entries {
+        match content_of(entry) {
+            Some(content) if passed == place => return Some(content),
+            Some(_) => passed += 1,
+            None => {}
+        }
+    }
+    None
+}
+
+// The content of the receipt that an entry takes, if it takes one.
+fn content_of(entry: &Entry) -> Option<&Content>
+    ensures { MatchOption result (content_of entry.now ≡ None) (λ content. content_of entry.now ≡ Some content.now) }
+{
+    match entry {
+        Entry::Queued { content } => Some(content),
+        Entry::Tried { .. }
+        | Entry::Recorded { .. }
+        | Entry::Raised { .. }
+        | Entry::Cancelled { .. } => None,
+    }
+}
