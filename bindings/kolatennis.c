@@ -111,6 +111,8 @@ const char *kolatennis_error_name(uint32_t reason) {
         case KOLATENNIS_RECEIPT_BAD_SHAPE: return "BadShape";
         case KOLATENNIS_RECEIPT_CONTROL_BYTE: return "ControlByte";
         case KOLATENNIS_RECEIPT_NO_CHARACTER: return "NoCharacter";
+        case KOLATENNIS_RECEIPT_REAL_TIME: return "RealTime";
+        case KOLATENNIS_RECEIPT_NOT_PRINTABLE: return "NotPrintable";
         case KOLATENNIS_RECEIPT_TOO_LONG: return "TooLong";
         case KOLATENNIS_RECEIPT_BAD_OPTIONS: return "BadOptions";
         case KOLATENNIS_HOST_NOT_READY: return "NotReady";

@@ -60,7 +60,7 @@ enum kolatennis_status {
     KOLATENNIS_STATUS_BAD_ARGUMENT = 7 /* a pointer is NULL that may not be */
 };
 
-/* Why a text gives no receipt. The place counts entries of the text, or (102 and 104) commands, from 0. */
+/* Why a text gives no receipt. The place counts entries of the text, or (102, 104, 109 and 110) commands, from 0. */
 enum kolatennis_receipt {
     KOLATENNIS_RECEIPT_EMPTY = 101,        /* it has no command */
     KOLATENNIS_RECEIPT_FORBIDDEN = 102,    /* a command that a receipt may not have */
@@ -70,8 +70,10 @@ enum kolatennis_receipt {
     KOLATENNIS_RECEIPT_BAD_SHAPE = 106,    /* not an array, or an entry that isn't one of a receipt's */
     KOLATENNIS_RECEIPT_CONTROL_BYTE = 107, /* a character below 20 (hexadecimal) in a text */
     KOLATENNIS_RECEIPT_NO_CHARACTER = 108, /* a character that no code table of the choice has */
-    KOLATENNIS_RECEIPT_TOO_LONG = 109,     /* more than 16,777,216 bytes */
-    KOLATENNIS_RECEIPT_BAD_OPTIONS = 110   /* not the text: the options are out of range */
+    KOLATENNIS_RECEIPT_REAL_TIME = 109,    /* a command whose data hold a real-time command, which the printer would carry out */
+    KOLATENNIS_RECEIPT_NOT_PRINTABLE = 110, /* a barcode or QR code that a printer with lines of this width leaves out */
+    KOLATENNIS_RECEIPT_TOO_LONG = 111,     /* more than 16,777,216 bytes */
+    KOLATENNIS_RECEIPT_BAD_OPTIONS = 112   /* not the text: the options are out of range */
 };
 
 /* Why a host refuses a call. */
@@ -160,7 +162,8 @@ KOLATENNIS_API int kolatennis_image(uint16_t width, uint8_t threshold, const uin
  * It says what to send, and when a receipt is printed. A till opens a link, calls kolatennis_host_link_up, and then goes on like this:
  * it sends what kolatennis_host_take_out gives, and hands what it receives to kolatennis_host_heard, from where the last call stopped.
  * Once the event is EVENT_OPENED it submits receipts; EVENT_RECORDED says that the oldest one in flight is on the paper. If a link
- * breaks it calls kolatennis_host_link_down; a receipt that was in flight and isn't recorded may have been printed or not.
+ * breaks it calls kolatennis_host_link_down; a receipt that was in flight and isn't recorded may have been printed or not. Its mark's
+ * number is kolatennis_host_next_mark less 1, once it is submitted: if EVENT_LATE tells that one on the next link, it is printed.
  *
  * No number of a mark may ever be used twice with a printer. So each time that kolatennis_host_take_out may give bytes, before the
  * first of them is sent, a till keeps what kolatennis_host_next_mark says where it survives a crash, and gives that to the host of its
@@ -178,11 +181,14 @@ typedef struct {
 /* What a host hears. */
 enum kolatennis_event {
     KOLATENNIS_EVENT_NONE = 400,
-    KOLATENNIS_EVENT_OPENED = 401,    /* the link is open */
-    KOLATENNIS_EVENT_RECORDED = 402,  /* the oldest receipt in flight is printed: `number` is its record, from 0 */
-    KOLATENNIS_EVENT_STATUS = 403,    /* the printer sent the status byte `number` */
-    KOLATENNIS_EVENT_BAD_ANSWER = 404 /* the byte at place `number` of these bytes fits no answer, or ends the answer to the mark of a
-                                       * later receipt than the oldest: the link is given up, close it */
+    KOLATENNIS_EVENT_OPENED = 401,     /* the link is open */
+    KOLATENNIS_EVENT_RECORDED = 402,   /* the oldest receipt in flight is printed: `number` is its record, from 0 */
+    KOLATENNIS_EVENT_STATUS = 403,     /* the printer sent the status byte `number` */
+    KOLATENNIS_EVENT_BAD_ANSWER = 404, /* the byte at place `number` of these bytes fits no answer, or ends the answer to the mark of a
+                                        * later receipt than the oldest: the link is given up, close it */
+    KOLATENNIS_EVENT_LATE = 405,       /* before the link is open, the mark `number` of an older link is answered: all before it is
+                                        * printed; 0, which closes no receipt, where no mark has the answer's id */
+    KOLATENNIS_EVENT_CONDITION = 406   /* the printer sent a block of automatic status: `number` is its four bytes, the first highest */
 };
 
 /* Where a host stands with its link. */

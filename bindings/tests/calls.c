@@ -94,6 +94,8 @@ static const struct refused REFUSED[] = {
     {"[{\"line\":\"A\"},{\"fed\":1}]", KOLATENNIS_RECEIPT_BAD_SHAPE, 1},
     {"[{\"line\":\"\\t\"}]", KOLATENNIS_RECEIPT_CONTROL_BYTE, 0},
     {"[{\"line\":\"\\u6f22\"}]", KOLATENNIS_RECEIPT_NO_CHARACTER, 0},
+    {"[{\"line\":\"A\"},{\"raster\":{\"scale\":\"normal\",\"x\":3,\"y\":1,\"dots\":\"101401\"}}]", KOLATENNIS_RECEIPT_REAL_TIME, 2},
+    {"[{\"line\":\"A\"},{\"bars\":{\"kind\":\"code128\",\"content\":\"{B\"}}]", KOLATENNIS_RECEIPT_NOT_PRINTABLE, 2},
 };
 
 static void encodes(void) {
@@ -401,9 +403,15 @@ static void goes_through_a_link(void) {
     IS(CALL(kolatennis_host_nudge(&host, &reason)) == KOLATENNIS_STATUS_GOOD && reason == 0);
     puts_out(&host, BYTES("\x1D(H\x06\x00" "000006"));
     IS(CALL(kolatennis_host_ask(&host, 1, &reason)) == KOLATENNIS_STATUS_REFUSED && reason == KOLATENNIS_HOST_NOT_READY);
+    hears(&host, BYTES("\x37\"0004\x00\x12"), 7, KOLATENNIS_EVENT_LATE, 4);
+    hears(&host, BYTES("\x37\"abcd\x00\x12"), 7, KOLATENNIS_EVENT_LATE, 0);
+    hears(&host, BYTES("\x14\x00\x00\x0F\x12"), 4, KOLATENNIS_EVENT_CONDITION, 0x1400000F);
+    stands(&host, KOLATENNIS_STATE_OPENING, 7, 3);
     hears(&host, BYTES("\x37\"00"), 4, KOLATENNIS_EVENT_NONE, 0);
     hears(&host, BYTES("05\x00\x12"), 3, KOLATENNIS_EVENT_OPENED, 0);
     hears(&host, BYTES("\x12"), 1, KOLATENNIS_EVENT_STATUS, 0x12);
+    hears(&host, BYTES("\x18"), 1, KOLATENNIS_EVENT_NONE, 0);
+    hears(&host, BYTES("\x00\x0C\x00\x12"), 3, KOLATENNIS_EVENT_CONDITION, 0x18000C00);
     stands(&host, KOLATENNIS_STATE_READY, 7, 3);
     IS(CALL(kolatennis_host_ask(&host, 0, &reason)) == KOLATENNIS_STATUS_REFUSED && reason == KOLATENNIS_HOST_NO_KIND);
     IS(CALL(kolatennis_host_ask(&host, 5, &reason)) == KOLATENNIS_STATUS_REFUSED && reason == KOLATENNIS_HOST_NO_KIND);

@@ -218,6 +218,12 @@ class Handles(unittest.TestCase):
         self.assertEqual(host.hear(b"\x12\x12"), [kolatennis.Event("status", 18)] * 2)
         self.assertEqual(host.hear(b""), [])
 
+    def test_hear_late_answers_and_blocks(self):
+        host = kolatennis.Host(5)
+        host.link_up()
+        heard = host.hear(b'\x37"0004\x00\x14\x00\x00\x0f\x37"0005\x00')
+        self.assertEqual(heard, [kolatennis.Event("late", 4), kolatennis.Event("condition", 0x1400000F), kolatennis.Event("opened", 0)])
+
     def test_made_again(self):
         host = kolatennis.Host(5)
         host.__init__(7)

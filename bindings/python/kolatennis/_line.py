@@ -11,7 +11,8 @@ from ._texts import Receipt, as_json
 
 
 class Event(NamedTuple):
-    """What a host heard: a name of EVENTS, and the record's number, the status byte or the place of the bad answer."""
+    """What a host heard: a name of EVENTS, and the record's number, the status byte, the place of the bad answer, the number of the mark
+    that was answered late, or the four bytes of the condition as one number, the first byte highest."""
 
     kind: str
     number: int

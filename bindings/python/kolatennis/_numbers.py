@@ -20,14 +20,14 @@ class Status(enum.IntEnum):
 #: Why a text gives no receipt, by number.
 RECEIPT_REASONS: Dict[int, str] = {
     101: "Empty", 102: "Forbidden", 103: "TextLeft", 104: "MidLine", 105: "NotJson", 106: "BadShape", 107: "ControlByte",
-    108: "NoCharacter", 109: "TooLong", 110: "BadOptions",
+    108: "NoCharacter", 109: "RealTime", 110: "NotPrintable", 111: "TooLong", 112: "BadOptions",
 }
 #: Why a host takes no call, by number.
 HOST_REASONS: Dict[int, str] = {201: "NotReady", 202: "MarksUsedUp", 203: "AlreadyUp", 206: "InFlightFull", 209: "NoKind"}
 #: Why no command goes on with a byte, by number.
 FAULT_REASONS: Dict[int, str] = {301: "UnknownByte", 302: "UnknownCommand", 303: "BadParameter", 304: "BadBarcode", 305: "BadSize"}
 #: What a host hears, by number.
-EVENTS: Dict[int, str] = {400: "none", 401: "opened", 402: "recorded", 403: "status", 404: "bad answer"}
+EVENTS: Dict[int, str] = {400: "none", 401: "opened", 402: "recorded", 403: "status", 404: "bad answer", 405: "late", 406: "condition"}
 #: Where a host stands with its link, by number.
 STATES: Dict[int, str] = {500: "down", 501: "opening", 502: "ready", 503: "sending"}
 #: Why a printer took no more bytes, by number.

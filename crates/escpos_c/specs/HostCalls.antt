@@ -11,7 +11,7 @@ use Rattle.escpos_receipt.specs.declared.options.ReceiptOptions.{ReceiptOptions}
 use Rattle.escpos_c.specs.declared.host_core.HostCore.{HostCore}
 use Rattle.escpos_c.specs.declared.refusal.TheConstants.{BAD_OPTIONS, NO_KIND, NO_REASON, NO_PLACE}
 use Rattle.escpos_c.specs.EncodeCalls.{GivesReceipt, IsRefusal}
-use Rattle.escpos_c.specs.HostNumbers.{event_kind, event_number, refusal_reason, refusal_status}
+use Rattle.escpos_c.specs.HostNumbers.{IsEventNumber, event_kind, refusal_reason, refusal_status}
 use Rattle.escpos_c.specs.Status.{number_of_status}
 
 -- The handle holds a host that is new, with this number for its next mark, after this many records.
@@ -78,6 +78,6 @@ TakesOut before after count old new =
 abbrev pub HearsBytes : List ℕ → ℕ → ℕ → ℕ → HostCore → HostCore → Type 0
 HearsBytes bytes consumed kind number old new =
     (new.before ≡ old.before)
-    × ((e : HostEvent) × (kind ≡ event_kind e) × (number ≡ event_number old.before e)
+    × ((e : HostEvent) × (kind ≡ event_kind e) × IsEventNumber old.before e number
     × (old.host.phase ≡ Down → (consumed ≡ length bytes) × (e ≡ event.None) × (new.host ≡ old.host))
     × (old.host.phase ≢ Down → IsHeard old.host bytes consumed e new.host))

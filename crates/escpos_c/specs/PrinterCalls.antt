@@ -8,6 +8,7 @@ use Rattle.escpos_paper.specs.Torn.{bare}
 use Rattle.escpos_printer.specs.declared.condition.Condition.{Condition}
 use Rattle.escpos_printer.specs.declared.printer.FeedStop.{FeedStop}
 use Rattle.escpos_printer.specs.Feeds.{Feeds, PrinterView}
+use Rattle.escpos_printer.specs.Replies.{after_change}
 use Rattle.escpos_c.specs.declared.printer.Sensors.{Sensors}
 use Rattle.escpos_c.specs.declared.limited_text.TheConstants.{TEXT_LIMIT}
 use Rattle.escpos_c.specs.declared.printer_core.PrinterCore.{PrinterCore}
@@ -18,12 +19,13 @@ use Rattle.escpos_c.specs.PrinterNumbers.{stop_kind, stop_place, stop_reason}
 abbrev pub condition_of : Sensors → Condition
 condition_of sensors = record { cover_open = sensors.cover_open; near_end = sensors.near_end; paper_end = sensors.paper_end }
 
--- The printer has just been switched on in this condition. Its lines have this width.
+-- The printer has just been switched on in this condition, which it doesn't tell unasked. Its lines have this width.
 pub record IsNewPrinter (width : ℕ) (printer : PrinterView) (condition : Condition) : Type 0 where
   pub sheet : SheetIs width printer.sheet [] []
   pub half : printer.half ≡ []
   pub waiting : printer.waiting ≡ []
   pub condition_is : printer.condition ≡ condition
+  pub automatic : printer.automatic ≡ 0
 
 -- The handle holds such a printer.
 abbrev pub HoldsNewPrinter : ℕ → Option PrinterCore → Condition → Type 0
@@ -41,7 +43,7 @@ abbrev pub GivesAnswer : PrinterView → PrinterView → List ℕ → List ℕ �
 GivesAnswer printer next before after written =
     ((printer.waiting ≡ []) × (next ≡ printer) × (written ≡ 0) × (after ≡ before))
     ⊎ ((answer : Answer) × (answers : List Answer) × (printer.waiting ≡ answer ∷ answers)
-    × (next ≡ record { sheet = printer.sheet; half = printer.half; waiting = answers; condition = printer.condition })
+    × (next ≡ record { sheet = printer.sheet; half = printer.half; waiting = answers; condition = printer.condition; automatic = printer.automatic })
     × Fills before after written (answer_bytes answer))
 
 -- The longest answer has 7 bytes. A buffer that has room for it is given the answer that has waited longest, and nothing if none
@@ -59,8 +61,15 @@ GivesPaper status before after written core =
     ⊎ ((status ≡ pos 4) × (written ≡ 0) × (after ≡ before))
     ⊎ ((status ≡ pos 6) × (TEXT_LIMIT < length (items_text core.printer.sheet.items)) × (written ≡ 0) × (after ≡ before))
 
+-- The sensors say this now; a printer that tells its condition unasked has the block of it among the answers that wait.
 abbrev pub with_condition : PrinterView → Condition → PrinterView
-with_condition printer condition = record { sheet = printer.sheet; half = printer.half; waiting = printer.waiting; condition = condition }
+with_condition printer condition = record {
+  sheet = printer.sheet;
+  half = printer.half;
+  waiting = after_change printer.automatic printer.condition condition printer.waiting;
+  condition = condition;
+  automatic = printer.automatic;
+}
 
 abbrev pub torn : PrinterView → PrinterView
-torn printer = record { sheet = bare printer.sheet; half = printer.half; waiting = printer.waiting; condition = printer.condition }
+torn printer = record { sheet = bare printer.sheet; half = printer.half; waiting = printer.waiting; condition = printer.condition; automatic = printer.automatic }

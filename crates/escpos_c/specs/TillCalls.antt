@@ -85,7 +85,7 @@ copy_of (b ∷ copy) = Some (b ∷ copy)
 -- The first receipt that waits is delivered, or the machine refuses to; or the text of a copy is none, and the machine isn't asked.
 abbrev pub DeliversCopy : ℕ → List ℕ → ℕ → ℤ → Told → TillCore → TillCore → Type 0
 DeliversCopy openings copy most status told old new =
-    TillCalled (λ m after. Delivers m openings most (copy_of copy) after) (λ m why. RefusesDeliver m openings why) Same status told old new
+    TillCalled (λ m after. Delivers m openings most (copy_of copy) after) (λ m why. RefusesDeliver m openings why) SameEntries status told old new
     ⊎ ((copy ≢ []) × ¬ IsCopyText copy × (status ≡ pos 1) × (told ≡ refused_for BAD_COPY) × (new ≡ old))
 
 -- ## What it asks for

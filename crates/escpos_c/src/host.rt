@@ -156,8 +156,9 @@ pub extern "C" fn escpos_host_has_out(alloc: Global, host: &mut HostHandle, has:
 }
 
 /// Hears bytes of answers, up to the first event. `consumed` is how many were heard, `event` the kind of the event (0 none, 1 the
-/// link is open, 2 the oldest receipt in flight is recorded, 3 a status byte, 4 a bad answer, after which the link is down), and
-/// `number` the record's number from 0, the status byte, or the place of the bad answer.
+/// link is open, 2 the oldest receipt in flight is recorded, 3 a status byte, 4 a bad answer, after which the link is down, 5 a late
+/// answer, 6 a condition), and `number` the record's number from 0, the status byte, the place of the bad answer, the number of the mark
+/// that was answered late (0 where none has its id), or the four bytes of the condition, the first highest.
 #[unsafe(no_mangle)]
 pub extern "C" fn escpos_host_heard(
     alloc: Global,

@@ -4,11 +4,11 @@ ghost use Rattle.std.specs.Prelude.{◌≡◌, ◌+◌, [], min, length, IfSome}
 ghost use Rattle.escpos_host.specs.Machine.{Down, RefusesLinkUp, RefusesNudge, RefusesSubmit, state_of};
 ghost use Rattle.escpos_c.specs.HostCalls.{AsksKind, Called, HearsBytes, LinksUp, Nudges, Submits};
 ghost use Rattle.escpos_c.specs.Status.{number_of_status};
-ghost use Rattle.escpos_c.specs.HostNumbers.{event_kind, event_number, state_number, told_reason, told_status};
+ghost use Rattle.escpos_c.specs.HostNumbers.{IsEventNumber, IsMarkNumber, event_kind, state_number, told_reason, told_status};
 
 use crate::call_status::CallStatus;
 use crate::refusal::{NO_KIND, NO_REASON};
-use escpos_command::StatusKind;
+use escpos_command::{MarkId, StatusKind};
 use escpos_host::{Host, HostError, HostEvent, HostState, Receipt};
 use std::alloc::Global;
 
@@ -108,13 +108,15 @@ impl HostCore {
 
     // The number that comes with an event.
     fn number(&self, event: HostEvent) -> usize
-        ensures { result ≡ event_number self.now.before event }
+        ensures { IsEventNumber self.now.before event result }
     {
         match event {
             HostEvent::None | HostEvent::Opened => 0,
             HostEvent::Recorded(number) => self.before.saturating_add(number),
             HostEvent::Status(byte) => usize::from(byte),
             HostEvent::BadAnswer { at } => at,
+            HostEvent::Late(id) => mark_number(id) as usize,
+            HostEvent::Condition(block) => u32::from_be_bytes(block.bytes()) as usize,
         }
     }
 }
@@ -129,6 +131,18 @@ fn event_kind(event: HostEvent) -> u32
         HostEvent::Recorded(_) => 2,
         HostEvent::Status(_) => 3,
         HostEvent::BadAnswer { .. } => 4,
+        HostEvent::Late(_) => 5,
+        HostEvent::Condition(_) => 6,
+    }
+}
+
+// The number of the mark with this id, or 0.
+fn mark_number(id: MarkId) -> u32
+    ensures { IsMarkNumber id result }
+{
+    match id.number() {
+        Some(number) => number,
+        None => 0,
     }
 }
 

@@ -9,11 +9,11 @@ use escpos_receipt::JsonFault;
 /// The reason where nothing is refused.
 pub const NO_REASON: u32 = 0;
 
-/// The reason of a text that is longer than 16,777,216 bytes. Those of other texts are 1 to 8.
-pub const TOO_LONG: u32 = 9;
+/// The reason of a text that is longer than 16,777,216 bytes. Those of other texts are 1 to 10.
+pub const TOO_LONG: u32 = 11;
 
 /// The reason where the options of a receipt are out of range.
-pub const BAD_OPTIONS: u32 = 10;
+pub const BAD_OPTIONS: u32 = 12;
 
 /// The reason of a status request of a kind that isn't 1 to 4. Those of a host are less.
 pub const NO_KIND: u32 = 9;
@@ -23,9 +23,9 @@ pub const NO_PLACE: usize = usize::MAX;
 
 const _: () = prove!(NO_REASON == 0);
 
-const _: () = prove!(TOO_LONG == 9);
+const _: () = prove!(TOO_LONG == 11);
 
-const _: () = prove!(BAD_OPTIONS == 10);
+const _: () = prove!(BAD_OPTIONS == 12);
 
 const _: () = prove!(NO_KIND == 9);
 
