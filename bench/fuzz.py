@@ -4,6 +4,7 @@ The tables and the reading of JSON here are written on their own, from what docs
 """
 import json, math, re
 
+from barcodes import qr_side, widths
 from text import Encoding, NoCharacter
 
 MARKS = 36**4
@@ -364,6 +365,34 @@ def number_of(text):
     return int(text) if text.isdecimal() else float(text)
 
 
+# DLE EOT, DLE ENQ and DLE DC4, which a printer obeys wherever they stand.
+REAL_TIME = re.compile(rb"\x10(?:\x04[\x01-\x08]|\x05[\x00-\x02]|\x14[\x01-\x03\x06-\x08])")
+
+
+def left_out(spellings):
+    """Returns the place of the first command whose code isn't printed on a line of 512 dots, or nothing."""
+    module, size, level, stored = 3, 3, "L", ""
+    for place, spelling in enumerate(spellings):
+        if spelling.startswith(WITH_BYTE["barwidth"][0]):
+            module = spelling[-1]
+        elif spelling.startswith(WITH_BYTE["qrsize"][0]):
+            size = spelling[-1]
+        elif spelling.startswith(WITH_BYTE["qrlevel"][0]):
+            level = LEVELS[spelling[-1] - 48]
+        elif spelling[:3] == b"\x1d(k" and spelling[5:8] == b"1P0":
+            stored = spelling[8:].decode("latin-1")
+        elif spelling == PLAIN["qrprint"]:
+            if not 0 < size * (qr_side(stored, level) or 0) <= 512:
+                return place
+        elif spelling[:2] == b"\x1dk":
+            number, content = spelling[2] - 65, spelling[4:].decode("latin-1")
+            if len(content) < FULL_LENGTHS.get(number, 0):
+                content += str(check_digit(spelling[4:]))
+            if not widths(next(kind for kind, its in KINDS.items() if its == number), content, module):
+                return place
+    return None
+
+
 def commands_of(text):
     """Returns the commands of a receipt in JSON, or raises the line of its refusal."""
     try:
@@ -380,13 +409,19 @@ def commands_of(text):
         except Refused as refused:
             line = str(refused)
             raise Refused(line.replace("{}", str(place)) if "{}" in line else f"{line} {place}") from None
-    for place, (what, _) in enumerate(commands):
+    for place, (what, spelling) in enumerate(commands):
         if what == "block" and in_text:
             raise Refused(f"4 MidLine {place}")
+        if REAL_TIME.search(spelling):
+            raise Refused(f"9 RealTime {place}")
         in_text = what == "text" or in_text and what != "end"
     if not commands or in_text:
         raise Refused("3 TextLeft" if commands else "1 Empty")
-    return [spelling for _, spelling in commands]
+    spellings = [spelling for _, spelling in commands]
+    place = left_out(spellings)
+    if place is not None:
+        raise Refused(f"10 NotPrintable {place}")
+    return spellings
 
 
 ASCII = "".join(map(chr, range(32, 127)))

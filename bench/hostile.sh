@@ -34,7 +34,7 @@ STORE = b"\x1d(k\xb4\x1b1P0" + b"7" * 7089
 PRINT = b"\x1d(k\x03\x001Q0"
 CODE128 = b"\x1dkI\xff{A" + b"x" * 253
 PICTURE = b'{"raster":{"scale":"normal","x":128,"y":4095,"dots":"' + b"a5" * 524160 + b'"}}'
-QR_CODE = b'{"qr":{"size":3,"level":"L","content":"'
+QR_CODE = b'{"qr":{"size":2,"level":"L","content":"'
 OPEN = b"linkup\nmove 11\ndeliver 11\nhandover\nanswer 7\n"
 
 Ran = collections.namedtuple("Ran", "seconds processor memory status count told")
@@ -131,7 +131,7 @@ RECEIPTS = [
     ("a member again and again", lambda size: b"[{" + b",".join([b'"feed":1'] * (size // 9 - 2)) + b"}]", 0),
     ("quotation marks", times(b'"'), 1),
     ("QR codes of a byte", entries(QR_CODE + b'A"}}'), 0),
-    ("longest QR codes", entries(QR_CODE + b"A" * 7089 + b'"}}'), 0),
+    ("longest QR codes", entries(QR_CODE + b"7" * 7089 + b'"}}'), 0),
     ("a QR code that is too long", times(b"A", b"[" + QR_CODE, b'"}}]'), 1),
 ]
 
@@ -201,7 +201,7 @@ LIMITS = [
     fixed("encode", "content of 256", b'[{"bars":{"kind":"code39","content":"' + b"A" * 256 + b'"}}]', 1, b"refused 6 BadShape 0\n"),
     fixed("encode", "the largest raster", entries(PICTURE, 1), 0, HEADER.hex().encode()),
     fixed("encode", "a raster too high", lambda size: b"[" + PICTURE.replace(b"4095", b"4096") + b"]", 1, b"refused 6 BadShape 0\n"),
-    fixed("encode", "a QR code of 7,089 bytes", b"[" + QR_CODE + b"A" * 7089 + b'"}}]', 0, b"1d286b0300314303"),
+    fixed("encode", "a QR code of 7,089 bytes", b"[" + QR_CODE + b"7" * 7089 + b'"}}]', 0, b"1d286b0300314302"),
     fixed("encode", "a QR code of 7,090 bytes", b"[" + QR_CODE + b"A" * 7090 + b'"}}]', 1, b"refused 6 BadShape 0\n"),
     fixed("encode", "a feed of 256", b'[{"feed":256}]', 1, b"refused 6 BadShape 0\n"),
     fixed("encode", "nothing", b"", 1, b"refused 5 NotJson\n"),
