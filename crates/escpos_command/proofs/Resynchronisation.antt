@@ -176,3 +176,49 @@ resynchronisation h q more id cs rest left ok begun e r = record {
   none_else = read_or_none h q more id cs rest left ok begun e r;
   whole = read_whole h q more id cs rest ok e r;
 }
+
+-- ## The request for automatic status holds no mark either
+
+reporting_row : (n : ℕ) → row (kind.AutomaticStatus n) ≡ GS ∷ 0x61 ∷ n ∷ []
+reporting_row n = append-nil _
+
+after_first : (b : ℕ) (t a xs : List ℕ) → a ≢ [] → b ∷ t ≡ a ++ xs → Quiet t → Quiet xs
+after_first b t [] xs some e q = absurd (some refl)
+after_first b t (x ∷ a) xs some e q = quiet_end a xs (subst Quiet (tail_of b x t (a ++ xs) e) q)
+
+-- What begins as the request does begins no mark.
+not_both : (t more x : List ℕ) (n : ℕ) (id : List ℕ) → t ++ more ≡ 0x61 ∷ n ∷ [] → t ≡ later id ++ x → ⊥
+not_both t more x n id e is =
+    let bytes : later id ++ (x ++ more) ≡ 0x61 ∷ n ∷ [] = sym (ap (λ v. v ++ more) is ∙ append_assoc (later id) x more) ∙ e in
+    let bad : 0x28 ≡ 0x61 = head_of 0x28 0x61 (0x48 ∷ 0x06 ∷ 0x00 ∷ 0x30 ∷ 0x30 ∷ (id ++ (x ++ more))) (n ∷ []) bytes in cc
+
+first_unmarked : (t more : List ℕ) (n : ℕ) (cs : List Command) (rest : List ℕ) → t ++ more ≡ 0x61 ∷ n ∷ [] → Quiet t → Reads (GS ∷ t) cs rest → marks cs ≡ []
+first_unmarked t more n [] rest e q r = refl
+first_unmarked t more n (c ∷ cs) rest e q r =
+    let whole = r.whole ∙ append_assoc (row c) (spell cs) rest in
+    elim (kind_of c) [
+      | other none ↦ marks_after c cs none (unmarked cs rest (after_first GS t (row c) (spell cs ++ rest) (λ v. begins c r.commands.0 v) whole q))
+      | mark id is ↦
+          let front : GS ∷ t ≡ GS ∷ (later id ++ (spell cs ++ rest)) = whole ∙ ap (λ v. v ++ (spell cs ++ rest)) (ap row is ∙ mark_row id) in
+          absurd (not_both t more (spell cs ++ rest) n id e (tail_of GS GS t _ front))
+    ]
+
+quiet_request : (n : ℕ) → n ≢ GS → Quiet (0x61 ∷ n ∷ [])
+quiet_request n differs = ((λ e. cc), (differs, tt))
+
+begun_unread : (h t more : List ℕ) (n : ℕ) (cs : List Command) (rest : List ℕ) → (h ≡ []) ⊎ Half h → t ++ more ≡ 0x61 ∷ n ∷ [] → Quiet t
+    → Reads (h ++ GS ∷ t) cs rest → marks cs ≡ []
+begun_unread h t more n cs rest (inl none) e q r = first_unmarked t more n cs rest e q (subst (λ v. Reads (v ++ GS ∷ t) cs rest) none r)
+begun_unread h t more n cs rest (inr half) e q r = swallowed h t cs rest half q r
+
+request_unread : (h : List ℕ) (b : ℕ) (t more : List ℕ) (n : ℕ) (cs : List Command) (rest : List ℕ) → (h ≡ []) ⊎ Half h → n ≢ GS
+    → GS ∷ 0x61 ∷ n ∷ [] ≡ b ∷ (t ++ more) → Reads (h ++ b ∷ t) cs rest → marks cs ≡ []
+request_unread h b t more n cs rest left differs bytes r =
+    let others = sym (tail_of GS b (0x61 ∷ n ∷ []) (t ++ more) bytes) in
+    begun_unread h t more n cs rest left others (quiet_front t more (subst Quiet (sym others) (quiet_request n differs)))
+    (subst (λ v. Reads (h ++ v ∷ t) cs rest) (sym (head_of GS b (0x61 ∷ n ∷ []) (t ++ more) bytes)) r)
+
+pub reporting : (h q more : List ℕ) (n : ℕ) (cs : List Command) (rest : List ℕ) → (h ≡ []) ⊎ Half h → n ≢ GS → q ≢ [] → row (kind.AutomaticStatus n) ≡ q ++ more
+    → Reads (h ++ q) cs rest → marks cs ≡ []
+reporting h [] more n cs rest left differs begun e r = absurd (begun refl)
+reporting h (b ∷ t) more n cs rest left differs begun e r = request_unread h b t more n cs rest left differs (sym (reporting_row n) ∙ e) r

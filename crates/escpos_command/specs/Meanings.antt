@@ -59,6 +59,10 @@ leaves_a_point m = m == 1 || m == 49 || m == 66
 abbrev pub reports : ℕ → Bool
 reports n = not (n == 0)
 
+-- The setting that tells each change but the drawer's: bits 1, 2 and 3.
+abbrev pub all_but_drawer : ℕ
+all_but_drawer = 0x0E
+
 -- The model of a QR code is sent as its digit.
 abbrev pub model_number : ℕ → ℕ
 model_number n = n - 48

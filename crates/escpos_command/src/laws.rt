@@ -13,7 +13,8 @@ ghost use Rattle.escpos_command.specs.Profiles.{ViableIn, ReadsIn, FaultAtIn, Is
 ghost use Rattle.escpos_command.specs.FirstProfile.{in_first_profile, IsNew};
 ghost use Rattle.escpos_command.specs.ThirdProfile.{in_third_profile, IsLetterOfStatus};
 ghost use Rattle.escpos_command.specs.SecondProfile.{in_second_profile, IsNewLetter};
-ghost use Rattle.escpos_command.specs.Marks.{IsMarkOrNone};
+ghost use Rattle.escpos_command.specs.Marks.{IsMarkOrNone, marks};
+ghost use Rattle.escpos_command.specs.declared.bytes.TheConstants.{GS};
 ghost use Rattle.escpos_command.specs.Answers.{AnswerSpells, Hears, kind_of, kind_by};
 ghost use Rattle.escpos_command.specs.declared.answer.Answer.{Answer};
 ghost use Rattle.escpos_command.specs.declared.command.Command.TheVariants as kind;
@@ -99,6 +100,12 @@ pub fn mark_numbers()
 pub fn resynchronisation()
     ensures { (half q more id : List ℕ) (cs : List Command) (rest : List ℕ) → (half ≡ []) ⊎ Half half → IsTrue (is_mark_id id) → q ≢ []
         → row (kind.Mark id) ≡ q ++ more → Reads (half ++ q) cs rest → IsMarkOrNone half more id cs }
+{}
+
+/// Reporting: a prefix of a request for automatic status, sent after anything, is read as no mark; so it may be put before marks.
+pub fn reporting()
+    ensures { (half q more : List ℕ) (n : ℕ) (cs : List Command) (rest : List ℕ) → (half ≡ []) ⊎ Half half → n ≢ GS → q ≢ []
+        → row (kind.AutomaticStatus n) ≡ q ++ more → Reads (half ++ q) cs rest → marks cs ≡ [] }
 {}
 
 /// Answers: each has its own bytes, no answer begins another, and a list of bytes is heard in at most one way. The first

@@ -1,5 +1,6 @@
 -- Opening marks, one after another, and bytes that are put out, piece after piece.
-use Rattle.std.proofs.Common.{◌≡◌, ◌≢◌, ◌<◌, ◌≤◌, ◌+◌, inl, inr, ℕ, suc, List, [], ◌∷◌, ◌++◌, length, take, drop, refl, sym, ◌∙◌, ap, append-nil, append_assoc, length-append, length-take, length-drop, take-append-drop, arith, Option, Result, Ok, Err, OnErr, IsTrue, false}
+use Rattle.std.specs.Prelude.{Bool}
+use Rattle.std.proofs.Common.{◌≡◌, ◌≢◌, ◌<◌, ◌≤◌, ◌+◌, inl, inr, ℕ, suc, List, [], ◌∷◌, ◌++◌, length, take, drop, refl, sym, ◌∙◌, ap, append-nil, append_assoc, length-append, length-take, length-drop, take-append-drop, arith, Option, Result, Ok, Err, OnErr, IsTrue, true, false}
 use Rattle.std.specs.Io.KnownBytes.{Appends}
 use Rattle.std.proofs.KnownBytes.{Appends-trans}
 use Rattle.std.proofs.lemmas.Grind.{flat_map-append}
@@ -9,24 +10,51 @@ use Rattle.escpos_command.specs.CommandTable.{row, spell}
 use Rattle.escpos_command.specs.Digits.{mark_count, mark_of}
 use Rattle.escpos_host.specs.declared.host.HostError.{HostError}
 use Rattle.escpos_host.specs.declared.host.HostError.TheVariants as error
-use Rattle.escpos_host.specs.Awaits.{RefusesOpening, dialled}
-use Rattle.escpos_host.specs.Machine.{HostView, Down, Opening, RefusesLinkUp, RefusesNudge, gone_down, linked, nudged}
+use Rattle.escpos_host.specs.Awaits.{RefusesOpening, dialled, dialled_by}
+use Rattle.escpos_host.specs.Machine.{HostView, Down, Opening, RefusesLinkUp, RefusesNudge, ask_reports, gone_down, linked_by, nudged}
 use Rattle.escpos_host.specs.Says.{marks_from}
 use Rattle.escpos_host.specs.Sends.{IsCut}
 use Rattle.escpos_host.proofs.Said.{marks-snoc}
 
-pub dialled_first : (h : HostView) → linked h ≡ dialled h 1
-dialled_first h = ap (λ out. record { phase = Opening h.next; out = out; half = []; next = h.next + 1; records = h.records; left = [] }) (sym (append-nil (row (kind.Mark (mark_of h.next)))))
+-- What is put out before the marks.
+abbrev before_marks : Bool → List ℕ
+before_marks true = row ask_reports
+before_marks false = []
 
-pub dialled_more : (h : HostView) (n : ℕ) → nudged (dialled h n) ≡ dialled h (n + 1)
-dialled_more h n =
+dialled_so : (reporting : Bool) (h : HostView) (n : ℕ)
+    → dialled_by reporting h n ≡ record { phase = Opening h.next; out = before_marks reporting ++ spell (marks_from n h.next); half = []; next = h.next + n; records = h.records; left = [] }
+dialled_so true h n = refl
+dialled_so false h n = refl
+
+pub dialled_next : (reporting : Bool) (h : HostView) (n : ℕ) → (dialled_by reporting h n).next ≡ h.next + n
+dialled_next true h n = refl
+dialled_next false h n = refl
+
+linked_so : (reporting : Bool) (h : HostView)
+    → linked_by reporting h ≡ record { phase = Opening h.next; out = before_marks reporting ++ row (kind.Mark (mark_of h.next)); half = []; next = h.next + 1; records = h.records; left = [] }
+linked_so true h = refl
+linked_so false h = refl
+
+pub dialled_first : (reporting : Bool) (h : HostView) → linked_by reporting h ≡ dialled_by reporting h 1
+dialled_first reporting h =
+    linked_so reporting h
+    ∙ ap (λ out. record { phase = Opening h.next; out = before_marks reporting ++ out; half = []; next = h.next + 1; records = h.records; left = [] }) (sym (append-nil (row (kind.Mark (mark_of h.next)))))
+    ∙ sym (dialled_so reporting h 1)
+
+pub dialled_more : (reporting : Bool) (h : HostView) (n : ℕ) → nudged (dialled_by reporting h n) ≡ dialled_by reporting h (n + 1)
+dialled_more reporting h n =
     let one : n + 1 ≡ suc n = omega arith in
     let count : (h.next + n) + 1 ≡ h.next + (n + 1) = omega arith in
-    let whole : spell (marks_from n h.next) ++ row (kind.Mark (mark_of (h.next + n))) ≡ spell (marks_from (n + 1) h.next) =
-    sym (ap (λ k. spell (marks_from k h.next)) one ∙ ap spell (marks-snoc n h.next) ∙ flat_map-append row (marks_from n h.next) (kind.Mark (mark_of (h.next + n)) ∷ [])
-    ∙ ap (λ v. spell (marks_from n h.next) ++ v) (append-nil (row (kind.Mark (mark_of (h.next + n)))))) in
-    ap (λ out. record { phase = Opening h.next; out = out; half = []; next = (h.next + n) + 1; records = h.records; left = [] }) whole
-    ∙ ap (λ k. record { phase = Opening h.next; out = spell (marks_from (n + 1) h.next); half = []; next = k; records = h.records; left = [] }) count
+    let before = before_marks reporting in
+    let last = row (kind.Mark (mark_of (h.next + n))) in
+    let whole : (before ++ spell (marks_from n h.next)) ++ last ≡ before ++ spell (marks_from (n + 1) h.next) =
+    append_assoc before (spell (marks_from n h.next)) last
+    ∙ sym (ap (λ k. before ++ spell (marks_from k h.next)) one ∙ ap (λ cs. before ++ spell cs) (marks-snoc n h.next)
+    ∙ ap (λ v. before ++ v) (flat_map-append row (marks_from n h.next) (kind.Mark (mark_of (h.next + n)) ∷ []) ∙ ap (λ v. spell (marks_from n h.next) ++ v) (append-nil last))) in
+    ap nudged (dialled_so reporting h n)
+    ∙ ap (λ out. record { phase = Opening h.next; out = out; half = []; next = (h.next + n) + 1; records = h.records; left = [] }) whole
+    ∙ ap (λ k. record { phase = Opening h.next; out = before ++ spell (marks_from (n + 1) h.next); half = []; next = k; records = h.records; left = [] }) count
+    ∙ sym (dialled_so reporting h (n + 1))
 
 pub refused_first : (why : HostError) (h after : HostView) (openings : ℕ) → RefusesLinkUp why h → after ≡ h → RefusesOpening why h openings after
 refused_first error.NotReady h after openings refuses same = absurd refuses
@@ -35,19 +63,36 @@ refused_first error.AlreadyUp h after openings refuses same = (refuses, same)
 refused_first error.Memory h after openings refuses same = (refuses.0, refuses.1, inl same)
 refused_first error.InFlightFull h after openings refuses same = absurd refuses
 
-pub refused_later : (why : HostError) (h after : HostView) (n openings : ℕ) → h.phase ≡ Down → 1 ≤ n → n < openings → h.next + n ≤ mark_count → RefusesNudge why (dialled h n)
+later_refused : (why : HostError) (h after : HostView) (n openings : ℕ) → h.phase ≡ Down → 1 ≤ n → n < openings → h.next + n ≤ mark_count → RefusesNudge why (dialled h n)
     → after ≡ gone_down (dialled h n) → RefusesOpening why h openings after
-refused_later error.NotReady h after n openings down some few marks refuses gone = absurd (refuses tt)
-refused_later error.MarksUsedUp h after n openings down some few marks refuses gone =
+later_refused error.NotReady h after n openings down some few marks refuses gone = absurd (refuses tt)
+later_refused error.MarksUsedUp h after n openings down some few marks refuses gone =
     let used = refuses.1 in
     let all : h.next + n ≡ mark_count = omega (arith, used, marks) in
     let positive : 0 < n = omega (arith, some) in (down, inr (n, positive, few, all, gone))
-refused_later error.AlreadyUp h after n openings down some few marks refuses gone = absurd refuses
-refused_later error.Memory h after n openings down some few marks refuses gone =
+later_refused error.AlreadyUp h after n openings down some few marks refuses gone = absurd refuses
+later_refused error.Memory h after n openings down some few marks refuses gone =
     let left = refuses.1 in
     let first : h.next < mark_count = omega (arith, left) in
     let positive : 0 < n = omega (arith, some) in (down, first, inr (n, positive, few, left, gone))
-refused_later error.InFlightFull h after n openings down some few marks refuses gone = absurd refuses
+later_refused error.InFlightFull h after n openings down some few marks refuses gone = absurd refuses
+
+nudge_refused : (reporting : Bool) (why : HostError) (h : HostView) (n : ℕ) → RefusesNudge why (dialled_by reporting h n) → RefusesNudge why (dialled h n)
+nudge_refused false why h n refuses = refuses
+nudge_refused true error.NotReady h n refuses = refuses
+nudge_refused true error.MarksUsedUp h n refuses = refuses
+nudge_refused true error.AlreadyUp h n refuses = refuses
+nudge_refused true error.Memory h n refuses = refuses
+nudge_refused true error.InFlightFull h n refuses = refuses
+
+down_so : (reporting : Bool) (h : HostView) (n : ℕ) → gone_down (dialled_by reporting h n) ≡ gone_down (dialled h n)
+down_so true h n = refl
+down_so false h n = refl
+
+pub refused_later : (reporting : Bool) (why : HostError) (h after : HostView) (n openings : ℕ) → h.phase ≡ Down → 1 ≤ n → n < openings → h.next + n ≤ mark_count
+    → RefusesNudge why (dialled_by reporting h n) → after ≡ gone_down (dialled_by reporting h n) → RefusesOpening why h openings after
+refused_later reporting why h after n openings down some few marks refuses gone =
+    later_refused why h after n openings down some few marks (nudge_refused reporting why h n refuses) (gone ∙ down_so reporting h n)
 
 -- ## Putting out
 

@@ -1,5 +1,5 @@
 -- No real-time command stands in what a host says, but in its requests.
-use Rattle.std.proofs.Common.{ℕ, zero, suc, ◌≡◌, ◌⊎◌, inl, inr, ◌+◌, ◌<◌, ◌≤◌, Bool, true, false, List, [], ◌∷◌, ◌++◌, length, refl, sym, ◌∙◌, ap, subst, append-nil, append_assoc, arith}
+use Rattle.std.proofs.Common.{ℕ, zero, suc, ◌≡◌, ◌⊎◌, inl, inr, ◌+◌, ◌<◌, ◌≤◌, Bool, true, false, List, [], ◌∷◌, ◌++◌, length, refl, sym, ◌∙◌, subst, append-nil, append_assoc, arith}
 use Rattle.std.specs.List.{AllByRecursion, flat_map, list_all}
 use Rattle.std.specs.Prelude.{IsTrue, ◌==◌, ◌&&◌}
 use Rattle.std.proofs.lemmas.Bool.Decides.{nat_tests}
@@ -16,8 +16,8 @@ use Rattle.escpos_real_time.proofs.Holding.{finds, skip, within}
 use Rattle.escpos_real_time.proofs.Starts.{command_starts, held_by_one}
 use Rattle.escpos_receipt.specs.Whole.{HoldNoRealTime}
 use Rattle.escpos_receipt.proofs.RealTimes.{none_in, said as holding}
-use Rattle.escpos_host.specs.Machine.{HostView, InFlight, Phase, Down, Opening, Open}
-use Rattle.escpos_host.specs.Says.{Asked, HasNoRequest, IsPart, IsRequest, IsSent, Part, SaysIn, Sent, Talks, framed, marks_from, said_by}
+use Rattle.escpos_host.specs.Machine.{HostView, InFlight, Phase, Down, Opening, Open, ask_reports}
+use Rattle.escpos_host.specs.Says.{Asked, AskedReports, HasNoRequest, IsBeginning, IsPart, IsRequest, IsSent, Part, SaysIn, Sent, Talks, framed, marks_from, said_by}
 
 -- A mark with such a number is a command.
 abbrev pub Ids : Type 0
@@ -87,6 +87,9 @@ openings_hold_none ids (suc count) first enough =
 pub init_holds_none : HoldNoRealTime (kind.Init ∷ [])
 init_holds_none = holding (kind.Init ∷ []) (λ held. absurd (let bad : false ≡ true = finds (0x1B ∷ 0x40 ∷ []) held in cc))
 
+pub reports_hold_none : HoldNoRealTime (ask_reports ∷ [])
+reports_hold_none = holding (ask_reports ∷ []) (λ held. absurd (let bad : false ≡ true = finds (0x1D ∷ 0x61 ∷ 0x0E ∷ []) held in cc))
+
 -- A receipt between its Init and its closing mark.
 pub sent_holds_none : Ids → (receipt : List Command) (n : ℕ) → AreCommands receipt → n < mark_count → HoldNoRealTime receipt
     → HoldNoRealTime (kind.Init ∷ (receipt ++ kind.Mark (mark_of n) ∷ []))
@@ -111,9 +114,16 @@ both P (x ∷ xs) ys all more = (all.0, both P xs ys all.1 more)
 mark_quiet : Ids → (n : ℕ) → n < mark_count → IsQuiet (kind.Mark (mark_of n))
 mark_quiet ids n few held = absurd (mark_holds_none (mark_of n) (ids n few) held)
 
+reports_quiet : IsQuiet ask_reports
+reports_quiet held = absurd (let bad : false ≡ true = finds (0x1D ∷ 0x61 ∷ 0x0E ∷ []) held in cc)
+
 marks_quiet : Ids → (count first : ℕ) → first + count ≤ mark_count → AllByRecursion IsQuiet (marks_from count first)
 marks_quiet ids zero first enough = tt
 marks_quiet ids (suc count) first enough = (mark_quiet ids first (omega (arith, enough)), marks_quiet ids count (first + 1) (omega (arith, enough)))
+
+opening_quiet : Ids → (count first : ℕ) (said : List Command) → first + count ≤ mark_count → IsBeginning count first said → AllByRecursion IsQuiet said
+opening_quiet ids count first said enough (inl marks) = subst (AllByRecursion IsQuiet) (sym marks) (marks_quiet ids count first enough)
+opening_quiet ids count first said enough (inr marks) = subst (AllByRecursion IsQuiet) (sym marks) (reports_quiet, marks_quiet ids count first enough)
 
 -- The commands of a receipt hold none, since its bytes hold none.
 each_quiet : (before cs : List Command) → (HoldsRealTime (spell (before ++ cs)) → ⊥) → AllByRecursion IsQuiet cs
@@ -131,6 +141,7 @@ sent_quiet ids p (whole, (n, few, is)) = (
 
 part_quiet : Ids → (part : Part) → IsPart part → AllByRecursion IsQuiet (said_by part)
 part_quiet ids (Asked n) is = (λ held. tt, tt)
+part_quiet ids AskedReports is = (reports_quiet, tt)
 part_quiet ids (Sent p) is = sent_quiet ids p is
 
 parts_quiet : {X : Type 0} (P : X → Type 0) (says : X → List Command) (xs : List X) → ((x : X) → P x → AllByRecursion IsQuiet (says x)) → AllByRecursion P xs
@@ -141,11 +152,11 @@ parts_quiet P says (x ∷ xs) each all = both IsQuiet (says x) (flat_map says xs
 said_quiet : Ids → (phase : Phase) (next : ℕ) (said : List Command) → SaysIn phase next said → AllByRecursion IsQuiet said
 said_quiet ids Down next said says = absurd says
 said_quiet ids (Opening first) next said (count, is_next, few, is_said) =
-    subst (AllByRecursion IsQuiet) (sym is_said) (marks_quiet ids (suc count) first (omega (arith, is_next, few)))
-said_quiet ids (Open flight) next said (first, count, parts, few, each, sent, is_said) =
+    opening_quiet ids (suc count) first said (omega (arith, is_next, few)) is_said
+said_quiet ids (Open flight) next said (first, count, opening, parts, few, opens, each, sent, is_said) =
     subst (AllByRecursion IsQuiet) (sym is_said)
-    (both IsQuiet (marks_from (suc count) first ++ flat_map said_by parts) (flat_map framed flight)
-    (both IsQuiet (marks_from (suc count) first) (flat_map said_by parts) (marks_quiet ids (suc count) first few) (parts_quiet IsPart said_by parts (part_quiet ids) each))
+    (both IsQuiet (opening ++ flat_map said_by parts) (flat_map framed flight)
+    (both IsQuiet opening (flat_map said_by parts) (opening_quiet ids (suc count) first opening few opens) (parts_quiet IsPart said_by parts (part_quiet ids) each))
     (parts_quiet IsSent framed flight (sent_quiet ids) sent))
 
 -- Commands that hold none, but for requests, hold none where there is no request.

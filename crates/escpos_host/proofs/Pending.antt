@@ -11,6 +11,7 @@ use Rattle.escpos_command.specs.CommandTable.{row, spell}
 use Rattle.escpos_command.specs.Copied.{Copied}
 use Rattle.escpos_host.specs.declared.outbox.OutPart.{OutPart}
 use Rattle.escpos_host.specs.declared.outbox.OutPart.TheVariants as part
+use Rattle.escpos_host.specs.Machine.{ask_reports}
 use Rattle.escpos_host.specs.Out.{Pending, part_commands, unsent, IsPlaced, IsInFirst, Within, CopiedOut}
 
 -- ## The first part and the others
@@ -100,7 +101,9 @@ row_nonempty c = grind (arith, common_steps)
 starts : (receipts : List (List Command)) (ps : List OutPart) → IsInFirst receipts ps 0 0
 starts receipts [] = (refl, refl)
 starts receipts (part.Mark id ∷ ps) = (omega arith, row_nonempty (kind.Mark id))
+starts receipts (part.Opening id ∷ ps) = (omega arith, row_nonempty ask_reports)
 starts receipts (part.Ask n ∷ ps) = (omega arith, row_nonempty (kind.Status n))
+starts receipts (part.AskReports ∷ ps) = (omega arith, row_nonempty ask_reports)
 starts receipts (part.Receipt place closing ∷ ps) = (omega arith, row_nonempty kind.Init)
 
 -- This many bytes of the next command, which is one of part `p`, are copied.
@@ -238,7 +241,9 @@ more_taken receipts o m n old mid fresh filled count h more =
 -- More receipts after these change no part of these.
 same_part : (receipts more : List (List Command)) (p : OutPart) → IsPlaced receipts p → part_commands (receipts ++ more) p ≡ part_commands receipts p
 same_part receipts more (part.Mark id) h = refl
+same_part receipts more (part.Opening id) h = refl
 same_part receipts more (part.Ask n) h = refl
+same_part receipts more part.AskReports h = refl
 same_part receipts more (part.Receipt place closing) h =
     ap (λ cs. kind.Init ∷ (cs ++ kind.Mark closing ∷ [])) (get_or_append_left receipts more [] place h)
 
@@ -249,7 +254,9 @@ same_parts receipts more (p ∷ ps) h = ap (λ cs. cs ++ flat_map (part_commands
 
 still_placed : (receipts more : List (List Command)) (p : OutPart) → IsPlaced receipts p → IsPlaced (receipts ++ more) p
 still_placed receipts more (part.Mark id) h = tt
+still_placed receipts more (part.Opening id) h = tt
 still_placed receipts more (part.Ask n) h = tt
+still_placed receipts more part.AskReports h = tt
 still_placed receipts more (part.Receipt place closing) h = omega (arith, length-append receipts more)
 
 all_placed : (receipts more : List (List Command)) (ps : List OutPart) → AllByRecursion (IsPlaced receipts) ps → AllByRecursion (IsPlaced (receipts ++ more)) ps

@@ -12,9 +12,9 @@ use Rattle.escpos_command.specs.declared.answer.Answer.{Answer}
 use Rattle.escpos_host.specs.declared.host.HostEvent.{HostEvent}
 use Rattle.escpos_host.specs.declared.host.HostEvent.TheVariants as event
 use Rattle.escpos_host.specs.Heard.{HearsByte, IsHeard, Turns, with_half}
-use Rattle.escpos_host.specs.Machine.{HostView, InFlight, IsOpening, Phase, Down, Opening, Open}
+use Rattle.escpos_host.specs.Machine.{HostView, InFlight, IsOpening as Opens, Phase, Down, Opening, Open, ask_reports}
 use Rattle.escpos_receipt.proofs.Prefixes.{all_joined}
-use Rattle.escpos_host.specs.Says.{Asked, IsPart, IsSent, SaysIn, Sent, Talks, marks_from, said_by, framed}
+use Rattle.escpos_host.specs.Says.{Asked, AskedReports, IsBeginning, IsPart, IsSent, Part, SaysIn, Sent, Talks, marks_from, said_by, framed}
 
 -- One more mark.
 pub marks-snoc : (count first : ℕ) → marks_from (suc count) first ≡ marks_from count first ++ kind.Mark (mark_of (first + count)) ∷ []
@@ -24,53 +24,72 @@ marks-snoc (suc count) first =
     ap (λ cs. kind.Mark (mark_of first) ∷ cs) (marks-snoc count (first + 1) ∙ ap (λ n. marks_from count (first + 1) ++ kind.Mark (mark_of n) ∷ []) same)
 
 pub says_linked : (next : ℕ) → next < mark_count → SaysIn (Opening next) (next + 1) (kind.Mark (mark_of next) ∷ [])
-says_linked next marks = (0, omega arith, omega (arith, marks), refl)
+says_linked next marks = (0, omega arith, omega (arith, marks), inl refl)
 
-pub says_nudged : (phase : Phase) (next : ℕ) (said : List Command) → IsOpening phase → next < mark_count → SaysIn phase next said → SaysIn phase (next + 1) (said ++ kind.Mark (mark_of next) ∷ [])
+pub says_linked_reporting : (next : ℕ) → next < mark_count → SaysIn (Opening next) (next + 1) (ask_reports ∷ kind.Mark (mark_of next) ∷ [])
+says_linked_reporting next marks = (0, omega arith, omega (arith, marks), inr refl)
+
+-- One more opening mark.
+more_marks : (count first next : ℕ) → next ≡ first + count → marks_from count first ++ kind.Mark (mark_of next) ∷ [] ≡ marks_from (suc count) first
+more_marks count first next is = ap (λ n. marks_from count first ++ kind.Mark (mark_of n) ∷ []) is ∙ sym (marks-snoc count first)
+
+more_opening : (count first next : ℕ) (said : List Command) → next ≡ first + count → IsBeginning count first said → IsBeginning (suc count) first (said ++ kind.Mark (mark_of next) ∷ [])
+more_opening count first next said is (inl marks) = inl (ap (λ cs. cs ++ kind.Mark (mark_of next) ∷ []) marks ∙ more_marks count first next is)
+more_opening count first next said is (inr marks) =
+    inr (ap (λ cs. cs ++ kind.Mark (mark_of next) ∷ []) marks ∙ ap (λ cs. ask_reports ∷ cs) (more_marks count first next is))
+
+pub says_nudged : (phase : Phase) (next : ℕ) (said : List Command) → Opens phase → next < mark_count → SaysIn phase next said → SaysIn phase (next + 1) (said ++ kind.Mark (mark_of next) ∷ [])
 says_nudged Down next said opening marks says = absurd says
 says_nudged (Open flight) next said opening marks says = absurd opening
 says_nudged (Opening first) next said opening marks (count, is_next, few, is_said) =
-    let later : next + 1 ≡ first + suc (suc count) = omega (arith, is_next) in (
-      suc count,
-      later,
-      omega (arith, marks),
-      ap (λ cs. cs ++ kind.Mark (mark_of next) ∷ []) is_said ∙ ap (λ n. marks_from (suc count) first ++ kind.Mark (mark_of n) ∷ []) is_next ∙ sym (marks-snoc (suc count) first),
-    )
+    let later : next + 1 ≡ first + suc (suc count) = omega (arith, is_next) in
+    (suc count, later, omega (arith, marks), more_opening (suc count) first next said is_next is_said)
 
-pub says_opened : (phase : Phase) (next : ℕ) (said : List Command) → IsOpening phase → SaysIn phase next said → SaysIn (Open []) next said
+pub says_opened : (phase : Phase) (next : ℕ) (said : List Command) → Opens phase → SaysIn phase next said → SaysIn (Open []) next said
 says_opened Down next said opening says = absurd says
 says_opened (Open flight) next said opening says = absurd opening
 says_opened (Opening first) next said opening (count, is_next, few, is_said) =
-    (first, count, [], omega (arith, is_next, few), tt, tt, is_said ∙ sym (append-nil (marks_from (suc count) first ++ []) ∙ append-nil (marks_from (suc count) first)))
+    (first, count, said, [], omega (arith, is_next, few), is_said, tt, tt, sym (append-nil (said ++ []) ∙ append-nil said))
 
-asked_one : (next n : ℕ) (said : List Command) → IsTrue (is_status_kind n) → SaysIn (Open []) next said → SaysIn (Open []) next (said ++ kind.Status n ∷ [])
-asked_one next n said known (first, count, parts, few, each, none, is_said) =
-    let marks = marks_from (suc count) first in
+-- One more request, while nothing is in flight.
+asked_one : (next : ℕ) (part : Part) (c : Command) (said : List Command) → said_by part ≡ c ∷ [] → IsPart part → SaysIn (Open []) next said → SaysIn (Open []) next (said ++ c ∷ [])
+asked_one next part c said one known (first, count, opening, parts, few, opens, each, none, is_said) =
     let before = flat_map said_by parts in (
       first,
       count,
-      parts ++ Asked n ∷ [],
+      opening,
+      parts ++ part ∷ [],
       few,
-      all_joined IsPart parts (Asked n ∷ []) each (known, tt),
+      opens,
+      all_joined IsPart parts (part ∷ []) each (known, tt),
       tt,
-      ap (λ cs. cs ++ kind.Status n ∷ []) (is_said ∙ append-nil (marks ++ before)) ∙ append_assoc marks before (kind.Status n ∷ [])
-          ∙ ap (λ cs. marks ++ cs) (ap (λ cs. before ++ cs) (sym (append-nil (kind.Status n ∷ []))) ∙ sym (flat_map-append said_by parts (Asked n ∷ [])))
-          ∙ sym (append-nil (marks ++ flat_map said_by (parts ++ Asked n ∷ []))),
+      ap (λ cs. cs ++ c ∷ []) (is_said ∙ append-nil (opening ++ before)) ∙ append_assoc opening before (c ∷ [])
+          ∙ ap (λ cs. opening ++ cs) (ap (λ cs. before ++ cs) (sym one ∙ sym (append-nil (said_by part))) ∙ sym (flat_map-append said_by parts (part ∷ [])))
+          ∙ sym (append-nil (opening ++ flat_map said_by (parts ++ part ∷ []))),
     )
 
-pub says_asked : (phase : Phase) (next n : ℕ) (said : List Command) → phase ≡ Open [] → IsTrue (is_status_kind n) → SaysIn phase next said → SaysIn phase next (said ++ kind.Status n ∷ [])
-says_asked phase next n said ready known says =
+says_part : (phase : Phase) (next : ℕ) (part : Part) (c : Command) (said : List Command) → phase ≡ Open [] → said_by part ≡ c ∷ [] → IsPart part → SaysIn phase next said
+    → SaysIn phase next (said ++ c ∷ [])
+says_part phase next part c said ready one known says =
     let now : SaysIn (Open []) next said = subst (λ p. SaysIn p next said) ready says in
-    subst (λ p. SaysIn p next (said ++ kind.Status n ∷ [])) (sym ready) (asked_one next n said known now)
+    subst (λ p. SaysIn p next (said ++ c ∷ [])) (sym ready) (asked_one next part c said one known now)
+
+pub says_asked : (phase : Phase) (next n : ℕ) (said : List Command) → phase ≡ Open [] → IsTrue (is_status_kind n) → SaysIn phase next said → SaysIn phase next (said ++ kind.Status n ∷ [])
+says_asked phase next n said ready known says = says_part phase next (Asked n) (kind.Status n) said ready refl known says
+
+pub says_asked_reports : (phase : Phase) (next : ℕ) (said : List Command) → phase ≡ Open [] → SaysIn phase next said → SaysIn phase next (said ++ ask_reports ∷ [])
+says_asked_reports phase next said ready says = says_part phase next AskedReports ask_reports said ready refl tt says
 
 submitted_one : (next later : ℕ) (said : List Command) (flight : List InFlight) (p : InFlight) → IsSent p → SaysIn (Open flight) next said
     → SaysIn (Open (flight ++ p ∷ [])) later (said ++ framed p)
-submitted_one next later said flight p whole (first, count, parts, few, each, sent_each, is_said) =
-    let before = marks_from (suc count) first ++ flat_map said_by parts in (
+submitted_one next later said flight p whole (first, count, opening, parts, few, opens, each, sent_each, is_said) =
+    let before = opening ++ flat_map said_by parts in (
       first,
       count,
+      opening,
       parts,
       few,
+      opens,
       each,
       all_joined IsSent flight (p ∷ []) sent_each (whole, tt),
       ap (λ cs. cs ++ framed p) is_said ∙ append_assoc before (flat_map framed flight) (framed p)
@@ -82,18 +101,19 @@ pub says_submitted : (phase : Phase) (next later : ℕ) (said : List Command) (f
 says_submitted phase next later said flight p open_phase whole says = submitted_one next later said flight p whole (subst (λ f. SaysIn f next said) open_phase says)
 
 recorded_one : (next : ℕ) (said : List Command) (p : InFlight) (ps : List InFlight) → SaysIn (Open (p ∷ ps)) next said → SaysIn (Open ps) next said
-recorded_one next said p ps (first, count, parts, few, each, sent_each, is_said) =
-    let marks = marks_from (suc count) first in
+recorded_one next said p ps (first, count, opening, parts, few, opens, each, sent_each, is_said) =
     let before = flat_map said_by parts in
     let rest = flat_map framed ps in (
       first,
       count,
+      opening,
       parts ++ Sent p ∷ [],
       few,
+      opens,
       all_joined IsPart parts (Sent p ∷ []) each (sent_each.0, tt),
       sent_each.1,
-      is_said ∙ sym (append_assoc (marks ++ before) (framed p) rest)
-          ∙ ap (λ cs. cs ++ rest) (append_assoc marks before (framed p) ∙ ap (λ cs. marks ++ cs) (ap (λ cs. before ++ cs) (sym (append-nil (framed p))) ∙ sym (flat_map-append said_by parts (Sent p ∷ [])))),
+      is_said ∙ sym (append_assoc (opening ++ before) (framed p) rest)
+          ∙ ap (λ cs. cs ++ rest) (append_assoc opening before (framed p) ∙ ap (λ cs. opening ++ cs) (ap (λ cs. before ++ cs) (sym (append-nil (framed p))) ∙ sym (flat_map-append said_by parts (Sent p ∷ [])))),
     )
 
 pub says_recorded : (phase : Phase) (next : ℕ) (said : List Command) (p : InFlight) (ps : List InFlight) → phase ≡ Open (p ∷ ps) → SaysIn phase next said → SaysIn (Open ps) next said
@@ -104,7 +124,7 @@ says_turned : (h after : HostView) (a : Answer) (at : ℕ) (e : HostEvent) (out 
 says_turned h after a at event.None out said up talks turns = subst (λ v. Talks v out said) (sym turns.1) talks
 says_turned h after a at event.Opened out said up talks (first, id, is_first, is_mark, is_opening, same) =
     subst (λ v. Talks v out said) (sym same)
-    (record { says = says_opened h.phase h.next said (subst IsOpening (sym is_first) tt) talks.says; whole = talks.whole })
+    (record { says = says_opened h.phase h.next said (subst Opens (sym is_first) tt) talks.says; whole = talks.whole })
 says_turned h after a at (event.Recorded number) out said up talks (p, ps, is_open, is_mark, is_number, same) =
     subst (λ v. Talks v out said) (sym same) (record { says = says_recorded h.phase h.next said p ps is_open talks.says; whole = talks.whole })
 says_turned h after a at (event.Late id) out said up talks (first, phase, is, other, same) = subst (λ v. Talks v out said) (sym same) talks

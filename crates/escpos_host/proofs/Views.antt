@@ -15,8 +15,8 @@ use Rattle.escpos_command.specs.Answers.{HalfAnswer}
 use Rattle.escpos_command.specs.CommandTable.{row, spell}
 use Rattle.std.specs.List.{AllByRecursion}
 use Rattle.escpos_command.specs.Digits.{mark_count, mark_of}
-use Rattle.escpos_host.specs.Machine.{HostView, InFlight, IsSound, Phase, Down, Opening, Open, state_of, linked, nudged, gone_down, taken_out, handed_out, submitted}
-use Rattle.escpos_host.specs.Out.{IsPlaced, Pending, Within, unsent, part_commands}
+use Rattle.escpos_host.specs.Machine.{HostView, InFlight, IsSound, Phase, Down, Opening, Open, state_of, ask_reports, linked_by, nudged, gone_down, taken_out, handed_out, submitted}
+use Rattle.escpos_host.specs.Out.{IsPlaced, Pending, Within, opening_commands, unsent, part_commands}
 use Rattle.escpos_host.specs.declared.outbox.OutPart.TheVariants as part
 use Rattle.escpos_host.proofs.Pending.{more_receipts}
 
@@ -61,14 +61,24 @@ one_row : (c : Command) → spell (c ∷ []) ≡ row c
 one_row c = append-nil (row c)
 
 -- A link that comes up.
-pub comes_up : (receipts kept : List (List Command)) (recorded : ℕ) (marks : List ℕ) (out fresh : Pending) (half : List ℕ) (next : ℕ) (id : List ℕ)
+opening_bytes : (reporting : Bool) (next : ℕ) (h : HostView) → h.next ≡ next → spell (opening_commands reporting (mark_of next)) ≡ (linked_by reporting h).out
+opening_bytes true next h is = ap (λ v. row ask_reports ++ v) (one_row (kind.Mark (mark_of next)) ∙ ap (λ n. row (kind.Mark (mark_of n))) (sym is))
+opening_bytes false next h is = one_row (kind.Mark (mark_of next)) ∙ ap (λ n. row (kind.Mark (mark_of n))) (sym is)
+
+linked_so : (reporting : Bool) (h : HostView) → record { phase = Opening h.next; out = (linked_by reporting h).out; half = []; next = h.next + 1; records = h.records; left = [] } ≡ linked_by reporting h
+linked_so true h = refl
+linked_so false h = refl
+
+pub comes_up : (reporting : Bool) (receipts kept : List (List Command)) (recorded : ℕ) (marks : List ℕ) (out fresh : Pending) (half : List ℕ) (next : ℕ) (id : List ℕ)
     → IsConsistent stage.Down receipts recorded marks out half → kept ≡ take recorded receipts → id ≡ mark_of next
-    → unsent kept fresh ≡ unsent kept out ++ spell (kind.Mark id ∷ [])
-    → view_of (stage.Opening next) kept recorded marks fresh half (next + 1) ≡ linked (view_of stage.Down receipts recorded marks out half next)
-comes_up receipts kept recorded marks out fresh half next id fits is_kept is_id put =
-    same_views (Opening next) (unsent kept fresh) (row (kind.Mark (mark_of next))) half [] (next + 1) (take recorded kept) (take recorded receipts) [] []
-    (put ∙ ap (λ v. v ++ spell (kind.Mark id ∷ [])) (fits.1 kept).1 ∙ one_row (kind.Mark id) ∙ ap (λ i. row (kind.Mark i)) is_id) fits.2
+    → unsent kept fresh ≡ unsent kept out ++ spell (opening_commands reporting id)
+    → view_of (stage.Opening next) kept recorded marks fresh half (next + 1) ≡ linked_by reporting (view_of stage.Down receipts recorded marks out half next)
+comes_up reporting receipts kept recorded marks out fresh half next id fits is_kept is_id put =
+    let before = view_of stage.Down receipts recorded marks out half next in
+    same_views (Opening next) (unsent kept fresh) (linked_by reporting before).out half [] (next + 1) (take recorded kept) (take recorded receipts) [] []
+    (put ∙ ap (λ v. v ++ spell (opening_commands reporting id)) (fits.1 kept).1 ∙ ap (λ i. spell (opening_commands reporting i)) is_id ∙ opening_bytes reporting next before refl) fits.2
     (ap (take recorded) is_kept ∙ take_all recorded (take recorded receipts) (omega (arith, length-take recorded receipts))) refl
+    ∙ linked_so reporting before
 
 -- One more opening mark.
 pub is_nudged : (receipts : List (List Command)) (recorded : ℕ) (marks : List ℕ) (first : ℕ) (out fresh : Pending) (half : List ℕ) (next : ℕ) (id : List ℕ)

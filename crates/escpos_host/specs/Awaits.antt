@@ -1,13 +1,13 @@
 -- What the parts of `send_link` do, for a host that has a link: hearing answers up to an event that isn't overlooked,
 -- reading them until there is one, and putting out what the host has to say. Only private clauses, invariants and proofs use these
 -- definitions.
-use Rattle.std.specs.Prelude.{ℕ, ◌≡◌, ◌≢◌, ◌+◌, ◌<◌, ◌≤◌, ◌-◌, ◌⊎◌, List, [], ◌∷◌, ◌++◌, length, take, drop, slice_index, Option}
+use Rattle.std.specs.Prelude.{Bool, true, false, ℕ, ◌≡◌, ◌≢◌, ◌+◌, ◌<◌, ◌≤◌, ◌-◌, ◌⊎◌, List, [], ◌∷◌, ◌++◌, length, take, drop, slice_index, Option}
 use Rattle.std.specs.List.{AllByRecursion}
 use Rattle.std.specs.Io.KnownBytes.{Appends, Consumes}
 use Rattle.escpos_command.specs.declared.answer.Answer.{Answer}
 use Rattle.escpos_command.specs.declared.answer.Answer.TheVariants as answer
 use Rattle.escpos_command.specs.Answers.{Hears}
-use Rattle.escpos_command.specs.CommandTable.{spell}
+use Rattle.escpos_command.specs.CommandTable.{row, spell}
 use Rattle.escpos_command.specs.Digits.{mark_count}
 use Rattle.escpos_host.specs.declared.host.HostError.{HostError}
 use Rattle.escpos_host.specs.declared.host.HostError.TheVariants as error
@@ -17,7 +17,7 @@ use Rattle.escpos_host.specs.declared.send.Awaited.{Awaited}
 use Rattle.escpos_host.specs.declared.send.SendFault.{SendFault}
 use Rattle.escpos_host.specs.declared.send.SendFault.TheVariants as fault
 use Rattle.escpos_host.specs.Heard.{HearsByte, IsClosing, IsOpeningMark, taken_at, with_half}
-use Rattle.escpos_host.specs.Machine.{HostView, Phase, Down, Open, Opening, gone_down}
+use Rattle.escpos_host.specs.Machine.{HostView, Phase, Down, Open, Opening, ask_reports, gone_down}
 use Rattle.escpos_host.specs.Says.{marks_from}
 use Rattle.escpos_host.specs.Sends.{Call, Closed, Fails, Opened, closing, given_up, most_in_piece, opening_bytes, receipt_bytes, recorded_by}
 
@@ -26,6 +26,15 @@ use Rattle.escpos_host.specs.Sends.{Call, Closed, Fails, Opened, closing, given_
 -- The host whose link is up, with this many opening marks put out.
 abbrev pub dialled : HostView → ℕ → HostView
 dialled h count = record { phase = Opening h.next; out = spell (marks_from count h.next); half = []; next = h.next + count; records = h.records; left = [] }
+
+-- The same, with a request for automatic status before them.
+abbrev pub dialled_reporting : HostView → ℕ → HostView
+dialled_reporting h count =
+    record { phase = Opening h.next; out = row ask_reports ++ spell (marks_from count h.next); half = []; next = h.next + count; records = h.records; left = [] }
+
+abbrev pub dialled_by : Bool → HostView → ℕ → HostView
+dialled_by true h count = dialled_reporting h count
+dialled_by false h count = dialled h count
 
 -- The host whose link was given up after this many opening marks.
 abbrev pub given_up_after : HostView → ℕ → HostView

@@ -20,12 +20,16 @@
 -- An answer to any other mark is ignored; but while the host is Opening it is an event, since a mark of an older link may
 -- be answered late. A status byte and a block of automatic status are events in every state but Down. `link_down`, and a byte that
 -- fits no answer, lead to Down; what was in flight then is left.
-use Rattle.std.specs.Prelude.{ℕ, ◌≡◌, ◌≢◌, ◌⊎◌, ◌+◌, ◌<◌, ◌≤◌, List, [], ◌∷◌, ◌++◌, length, drop, map}
+--
+-- A host may ask a printer to tell unasked how it is (`ask_reports`): before its first opening mark, and while it is Ready.
+-- That request has no number, no answer and no place in the table; what the printer tells are blocks of automatic status.
+use Rattle.std.specs.Prelude.{Bool, true, false, ℕ, ◌≡◌, ◌≢◌, ◌⊎◌, ◌+◌, ◌<◌, ◌≤◌, List, [], ◌∷◌, ◌++◌, length, drop, map}
 use Rattle.escpos_command.specs.declared.command.Command.{Command}
 use Rattle.escpos_command.specs.declared.command.Command.TheVariants as kind
 use Rattle.escpos_command.specs.Answers.{HalfAnswer}
 use Rattle.escpos_command.specs.CommandTable.{row, spell}
 use Rattle.escpos_command.specs.Digits.{mark_count, mark_of}
+use Rattle.escpos_command.specs.Meanings.{all_but_drawer}
 use Rattle.escpos_host.specs.declared.host.HostState.{HostState}
 use Rattle.escpos_host.specs.declared.host.HostState.TheVariants as state
 use Rattle.escpos_host.specs.declared.host.HostError.{HostError}
@@ -67,9 +71,22 @@ most_in_flight = 4
 abbrev pub next_mark : HostView → Command
 next_mark h = kind.Mark (mark_of h.next)
 
+-- The request for automatic status: of each change but the drawer's. (Reference: GS a.)
+abbrev pub ask_reports : Command
+ask_reports = kind.AutomaticStatus all_but_drawer
+
 -- The link is up: one opening mark is put out. What was left is dropped.
 abbrev pub linked : HostView → HostView
 linked h = record { phase = Opening h.next; out = row (next_mark h); half = []; next = h.next + 1; records = h.records; left = [] }
+
+-- The same, where a request for automatic status is put out before the mark.
+abbrev pub linked_reporting : HostView → HostView
+linked_reporting h =
+    record { phase = Opening h.next; out = row ask_reports ++ row (next_mark h); half = []; next = h.next + 1; records = h.records; left = [] }
+
+abbrev pub linked_by : Bool → HostView → HostView
+linked_by true h = linked_reporting h
+linked_by false h = linked h
 
 -- One more opening mark is put out.
 abbrev pub nudged : HostView → HostView
@@ -78,6 +95,10 @@ nudged h = record { phase = h.phase; out = h.out ++ row (next_mark h); half = h.
 -- A status request is put out.
 abbrev pub asked : HostView → ℕ → HostView
 asked h n = record { phase = h.phase; out = h.out ++ row (kind.Status n); half = h.half; next = h.next; records = h.records; left = h.left }
+
+-- A request for automatic status is put out.
+abbrev pub reports_asked : HostView → HostView
+reports_asked h = record { phase = h.phase; out = h.out ++ row ask_reports; half = h.half; next = h.next; records = h.records; left = h.left }
 
 -- A receipt is put out, after Init and before its closing mark, and is in flight.
 abbrev pub submitted : HostView → List InFlight → List Command → HostView

@@ -1,10 +1,11 @@
 -- What a host must still put on its link: the bytes of parts, one after another, without those that are out. Only private
 -- clauses, invariants and proofs use these definitions.
-use Rattle.std.specs.Prelude.{ℕ, ◌≡◌, ◌<◌, ◌≤◌, List, [], ◌∷◌, ◌++◌, length, take, drop, slice_index_or}
+use Rattle.std.specs.Prelude.{Bool, true, false, ℕ, ◌≡◌, ◌<◌, ◌≤◌, List, [], ◌∷◌, ◌++◌, length, take, drop, slice_index_or}
 use Rattle.std.specs.List.{flat_map, AllByRecursion}
 use Rattle.escpos_command.specs.declared.command.Command.{Command}
 use Rattle.escpos_command.specs.declared.command.Command.TheVariants as kind
 use Rattle.escpos_command.specs.CommandTable.{row, spell}
+use Rattle.escpos_host.specs.Machine.{ask_reports}
 use Rattle.escpos_host.specs.declared.outbox.OutPart.{OutPart}
 use Rattle.escpos_host.specs.declared.outbox.OutPart.TheVariants as part
 
@@ -17,8 +18,15 @@ pub record Pending : Type 0 where
 -- The commands of a part. A receipt is the list of its commands.
 abbrev pub part_commands : List (List Command) → OutPart → List Command
 part_commands receipts (part.Mark id) = kind.Mark id ∷ []
+part_commands receipts (part.Opening id) = ask_reports ∷ kind.Mark id ∷ []
 part_commands receipts (part.Ask n) = kind.Status n ∷ []
+part_commands receipts part.AskReports = ask_reports ∷ []
 part_commands receipts (part.Receipt place closing) = kind.Init ∷ (slice_index_or receipts place [] ++ kind.Mark closing ∷ [])
+
+-- What a link begins with: the first opening mark, after a request for automatic status or without one.
+abbrev pub opening_commands : Bool → List ℕ → List Command
+opening_commands true id = ask_reports ∷ kind.Mark id ∷ []
+opening_commands false id = kind.Mark id ∷ []
 
 -- The bytes that are still to be taken out.
 abbrev pub unsent : List (List Command) → Pending → List ℕ

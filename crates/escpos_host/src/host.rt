@@ -8,7 +8,7 @@ ghost use Rattle.escpos_command.specs.Digits.{mark_count, mark_of};
 ghost use Rattle.escpos_command.specs.declared.answer.Answer.TheVariants as answer;
 ghost use Rattle.escpos_host.specs.Kept.{HasIdAmong, StandsSo};
 ghost use Rattle.escpos_host.specs.Heard.{HearsByte, IsHeard, IsOpeningMark, Turns};
-ghost use Rattle.escpos_host.specs.Machine.{HostView, InFlight, Down, Opening, Open, HasMark, IsOpening, IsSound, RefusesAsk, RefusesLinkUp, RefusesNudge, RefusesSubmit, asked, error_number, gone_down, linked, most_in_flight, nudged, state_of, submitted, taken_out, handed_out};
+ghost use Rattle.escpos_host.specs.Machine.{HostView, InFlight, Down, Opening, Open, HasMark, IsOpening, IsSound, RefusesAsk, RefusesLinkUp, RefusesNudge, RefusesSubmit, asked, error_number, gone_down, linked, linked_by, linked_reporting, most_in_flight, nudged, reports_asked, state_of, submitted, taken_out, handed_out};
 
 use crate::answer_reader::{AnswerReader, NoAnswer};
 use crate::outbox::{Out, OutPart};
@@ -219,13 +219,30 @@ impl Host {
         ensures up { OnOk result ((self.old.phase ≡ Down) × HasMark self.old × (self.new ≡ linked self.old)) }
         ensures refused { IfErr result (λ why. RefusesLinkUp why self.old × (self.new ≡ self.old)) }
     {
+        self.open(false)
+    }
+
+    /// Opens a link as `link_up` does, and puts a request for automatic status out before the opening mark, so that the printer tells
+    /// each change of its condition but the drawer's. (Reference: GS a.)
+    pub fn link_up_reporting(&mut self) -> Result<(), HostError>
+        ensures up { OnOk result ((self.old.phase ≡ Down) × HasMark self.old × (self.new ≡ linked_reporting self.old)) }
+        ensures refused { IfErr result (λ why. RefusesLinkUp why self.old × (self.new ≡ self.old)) }
+    {
+        self.open(true)
+    }
+
+    // Opens a link, with a request for automatic status or without.
+    pub(crate) fn open(&mut self, reporting: bool) -> Result<(), HostError>
+        ensures up { OnOk result ((self.old.phase ≡ Down) × HasMark self.old × (self.new ≡ linked_by reporting self.old)) }
+        ensures refused { IfErr result (λ why. RefusesLinkUp why self.old × (self.new ≡ self.old)) }
+    {
         let Stage::Down = self.stage else {
             return Err(HostError::AlreadyUp);
         };
         let Some(mark) = MarkId::of_number(self.next) else {
             return Err(HostError::MarksUsedUp);
         };
-        if self.out.push(OutPart::Mark(mark)).is_err() {
+        if self.out.push(OutPart::opening(mark, reporting)).is_err() {
             return Err(HostError::Memory);
         }
         self.receipts.truncate(self.recorded);
@@ -291,6 +308,21 @@ impl Host {
             return Err(HostError::NotReady);
         }
         if self.out.push(OutPart::Ask(kind)).is_err() {
+            return Err(HostError::Memory);
+        }
+        Ok(())
+    }
+
+    /// Puts a request for automatic status out; possible while no receipt is in flight. From then on the printer tells each change of
+    /// its condition but the drawer's. (Reference: GS a.)
+    pub fn ask_reports(&mut self) -> Result<(), HostError>
+        ensures asked { OnOk result ((self.old.phase ≡ Open []) × (self.new ≡ reports_asked self.old)) }
+        ensures refused { IfErr result (λ why. RefusesAsk why self.old × (self.new ≡ self.old)) }
+    {
+        if self.state() != HostState::Ready {
+            return Err(HostError::NotReady);
+        }
+        if self.out.push(OutPart::AskReports).is_err() {
             return Err(HostError::Memory);
         }
         Ok(())

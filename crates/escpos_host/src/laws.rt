@@ -12,22 +12,25 @@ ghost use Rattle.escpos_command.specs.Parameters.{is_status_kind};
 ghost use Rattle.escpos_host.specs.declared.host.HostEvent.{HostEvent};
 ghost use Rattle.escpos_host.specs.Earlier.{shifted, with_earlier};
 ghost use Rattle.escpos_host.specs.Heard.{EndsLink, GoesOn, HearsAll, IsHeard, IsOff, Turns, last_of};
-ghost use Rattle.escpos_host.specs.Machine.{HasMark, HostView, InFlight, IsOpening, IsSound, Down, Open, asked, gone_down, handed_out, linked, next_mark, nudged, submitted, taken_out};
+ghost use Rattle.escpos_host.specs.Machine.{HasMark, HostView, InFlight, IsOpening, IsSound, Down, Open, ask_reports, asked, gone_down, handed_out, linked, linked_reporting, next_mark, nudged, reports_asked, submitted, taken_out};
 ghost use Rattle.escpos_host.specs.Says.{HasNoRequest, Talks};
 ghost use Rattle.escpos_real_time.specs.RealTime.{HoldsRealTime};
 ghost use Rattle.escpos_receipt.specs.Whole.{Whole};
 
 /// What a host says: suppose that it has said these commands on its link, of whose bytes some were taken out and the others
 /// are still to be. This holds again after each call that leaves the link up, with what the call puts out added, and also
-/// after what the host hears. What it has said is: first opening marks; then, once one of them is answered, status requests
-/// and receipts, each receipt with Init before it and its closing mark after it; and last the receipts that are in flight. And no
+/// after what the host hears. What it has said is: first opening marks, perhaps after a request for automatic status; then, once one of
+/// them is answered, requests and receipts, each receipt with Init before it and its closing mark after it; and last the receipts that are in flight. And no
 /// real-time command stands anywhere in it, but its own requests.
 pub fn says()
     ensures linked { (h : HostView) → HasMark h → Talks (linked h) [] (next_mark h ∷ []) }
+    ensures linked_reporting { (h : HostView) → HasMark h → Talks (linked_reporting h) [] (ask_reports ∷ next_mark h ∷ []) }
     ensures nudged { (h : HostView) (out : List ℕ) (said : List Command) → IsOpening h.phase → HasMark h → Talks h out said
         → Talks (nudged h) out (said ++ next_mark h ∷ []) }
     ensures asked { (h : HostView) (out : List ℕ) (said : List Command) (n : ℕ) → h.phase ≡ Open [] → IsTrue (is_status_kind n) → Talks h out said
         → Talks (asked h n) out (said ++ kind.Status n ∷ []) }
+    ensures asked_reports { (h : HostView) (out : List ℕ) (said : List Command) → h.phase ≡ Open [] → Talks h out said
+        → Talks (reports_asked h) out (said ++ ask_reports ∷ []) }
     ensures submitted { (h : HostView) (out : List ℕ) (said : List Command) (flight : List InFlight) (receipt : List Command) → h.phase ≡ Open flight
         → HasMark h → Whole receipt → Talks h out said → Talks (submitted h flight receipt) out (said ++ (kind.Init ∷ (receipt ++ next_mark h ∷ []))) }
     ensures taken { (h : HostView) (out : List ℕ) (said : List Command) (count : ℕ) → Talks h out said → Talks (taken_out h count) (out ++ take count h.out) said }
@@ -72,8 +75,10 @@ pub fn earlier_records()
     ensures last { (count : ℕ) (events : List HostEvent) → last_of (map (shifted count) events) ≡ shifted count (last_of events) }
     ensures ends { (count : ℕ) (e : HostEvent) → EndsLink e ↔ EndsLink (shifted count e) }
     ensures linked { (earlier : List (List Command)) (h : HostView) → linked (with_earlier earlier h) ≡ with_earlier earlier (linked h) }
+    ensures linked_reporting { (earlier : List (List Command)) (h : HostView) → linked_reporting (with_earlier earlier h) ≡ with_earlier earlier (linked_reporting h) }
     ensures nudged { (earlier : List (List Command)) (h : HostView) → nudged (with_earlier earlier h) ≡ with_earlier earlier (nudged h) }
     ensures asked { (earlier : List (List Command)) (h : HostView) (n : ℕ) → asked (with_earlier earlier h) n ≡ with_earlier earlier (asked h n) }
+    ensures asked_reports { (earlier : List (List Command)) (h : HostView) → reports_asked (with_earlier earlier h) ≡ with_earlier earlier (reports_asked h) }
     ensures submitted { (earlier : List (List Command)) (h : HostView) (flight : List InFlight) (receipt : List Command)
         → submitted (with_earlier earlier h) flight receipt ≡ with_earlier earlier (submitted h flight receipt) }
     ensures taken { (earlier : List (List Command)) (h : HostView) (count : ℕ) → taken_out (with_earlier earlier h) count ≡ with_earlier earlier (taken_out h count) }

@@ -10,9 +10,10 @@ ghost use Rattle.escpos_command.specs.Copied.{Copied};
 ghost use Rattle.escpos_command.specs.Laws.{longest_spelling};
 ghost use Rattle.escpos_command.specs.declared.command.Command.{Command};
 ghost use Rattle.escpos_command.specs.declared.command.Command.TheVariants as kind;
-ghost use Rattle.escpos_host.specs.Out.{part_commands, unsent, IsPlaced, Within, CopiedOut};
+ghost use Rattle.escpos_host.specs.Machine.{ask_reports};
+ghost use Rattle.escpos_host.specs.Out.{opening_commands, part_commands, unsent, IsPlaced, Within, CopiedOut};
 
-use escpos_command::{Command, MarkId, StatusKind};
+use escpos_command::{Command, MarkId, Reporting, StatusKind};
 use escpos_receipt::Receipt;
 use std::alloc::{AllocError, Global};
 use std::collections::VecDeque;
@@ -23,8 +24,12 @@ use std::marker::Model;
 pub enum OutPart {
     /// An opening mark.
     Mark(MarkId),
+    /// A request for automatic status, and the first opening mark.
+    Opening(MarkId),
     /// A status request.
     Ask(StatusKind),
+    /// A request for automatic status.
+    AskReports,
     /// The receipt at this place of the host's receipts, with Init before it and this closing mark after it.
     Receipt { place: usize, closing: MarkId },
 }
@@ -138,13 +143,26 @@ struct Step {
 }
 
 impl OutPart {
+    /// The first opening mark, with a request for automatic status or without.
+    pub fn opening(mark: MarkId, reporting: bool) -> Self
+        ensures commands { (receipts : List (List Command)) → part_commands receipts result ≡ opening_commands reporting mark }
+        ensures placed { (receipts : List (List Command)) → IsPlaced receipts result }
+    {
+        if reporting {
+            OutPart::Opening(mark)
+        } else {
+            OutPart::Mark(mark)
+        }
+    }
+
     // The number of commands of the part.
     fn command_count(&self, receipts: &[Receipt]) -> usize
         requires { IsPlaced receipts.now self.now }
         ensures { result ≡ length (part_commands receipts.now self.now) }
     {
         match *self {
-            OutPart::Mark(_) | OutPart::Ask(_) => 1,
+            OutPart::Mark(_) | OutPart::Ask(_) | OutPart::AskReports => 1,
+            OutPart::Opening(_) => 2,
             OutPart::Receipt { place, .. } => receipts[place].commands().len() + 2,
         }
     }
@@ -160,6 +178,8 @@ impl OutPart {
     {
         match *self {
             OutPart::Mark(id) => copy(&Command::Mark(id), from, out),
+            OutPart::Opening(id) if item == 1 => copy(&Command::Mark(id), from, out),
+            OutPart::Opening(_) | OutPart::AskReports => copy(&ask_reports(), from, out),
             OutPart::Ask(kind) => copy(&Command::Status(kind), from, out),
             OutPart::Receipt { place, closing } => {
                 if item == 0 {
@@ -172,6 +192,13 @@ impl OutPart {
             }
         }
     }
+}
+
+// The request for automatic status.
+fn ask_reports() -> Command
+    ensures { result ≡ ask_reports }
+{
+    Command::AutomaticStatus(Reporting::all_but_drawer())
 }
 
 // Copies bytes of the command from byte `from` on, as many as there are and fit.

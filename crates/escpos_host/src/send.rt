@@ -7,7 +7,7 @@ ghost use Rattle.std.specs.Prelude.{◌≡◌, ◌≢◌, ◌↔◌, ◌⊎◌, 
 ghost use Rattle.std.specs.Io.KnownBytes.{Appends, Consumes};
 ghost use Rattle.escpos_command.specs.Digits.{mark_count};
 ghost use Rattle.escpos_host.specs.declared.send.SendFault.{SendFault};
-ghost use Rattle.escpos_host.specs.Awaits.{Brought, Closes, HearsOut, IsBreak, IsOverlookedEvent, IsSilence, Lost, Opens, RefusesOpening, Silent, Stops, dialled, sending, with_out};
+ghost use Rattle.escpos_host.specs.Awaits.{Brought, Closes, HearsOut, IsBreak, IsOverlookedEvent, IsSilence, Lost, Opens, RefusesOpening, Silent, Stops, dialled, dialled_by, dialled_reporting, sending, with_out};
 ghost use Rattle.escpos_host.specs.Machine.{Down};
 ghost use Rattle.escpos_host.specs.Sends.{Call, HasMarks, IsCut, Opened, Sends, Why, most_in_piece, opening_bytes};
 
@@ -178,7 +178,25 @@ pub fn open_link(host: &mut Host, openings: u32) -> Result<(), HostError>
     ensures marks { OnOk result (host.old.next + max openings 1 ≤ mark_count) }
     ensures refused { IfErr result (λ why. RefusesOpening why host.old (max openings 1) host.new) }
 {
-    host.link_up()?;
+    dial(host, openings, false)
+}
+
+/// Brings a host's link up as `open_link` does, with a request for automatic status before the opening marks. (Reference: GS a.)
+pub fn open_link_reporting(host: &mut Host, openings: u32) -> Result<(), HostError>
+    ensures opened { OnOk result ((host.old.phase ≡ Down) × (host.new ≡ dialled_reporting host.old (max openings 1))) }
+    ensures marks { OnOk result (host.old.next + max openings 1 ≤ mark_count) }
+    ensures refused { IfErr result (λ why. RefusesOpening why host.old (max openings 1) host.new) }
+{
+    dial(host, openings, true)
+}
+
+// Brings a host's link up, with a request for automatic status or without, and puts out this many opening marks; 0 counts as 1.
+fn dial(host: &mut Host, openings: u32, reporting: bool) -> Result<(), HostError>
+    ensures opened { OnOk result ((host.old.phase ≡ Down) × (host.new ≡ dialled_by reporting host.old (max openings 1))) }
+    ensures marks { OnOk result (host.old.next + max openings 1 ≤ mark_count) }
+    ensures refused { IfErr result (λ why. RefusesOpening why host.old (max openings 1) host.new) }
+{
+    host.open(reporting)?;
     for _ in 1..openings {
         if let Err(why) = host.nudge() {
             host.link_down();

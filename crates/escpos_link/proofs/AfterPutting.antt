@@ -11,7 +11,7 @@ use Rattle.std.specs.Prelude.{false, option_to_list}
 use Rattle.escpos_receipt.specs.Whole.{EachMayFollow, is_forbidden}
 use Rattle.escpos_host.specs.Machine.{InFlight, IsOpening, Phase, Down, Opening, Open}
 use Rattle.escpos_link.specs.EventTable.{put_on}
-use Rattle.escpos_link.specs.Trusted.{Course, Newest, Owed, Way, flight_of}
+use Rattle.escpos_link.specs.Trusted.{Course, Known, Newest, Owed, Way, flight_of}
 use Rattle.escpos_link.proofs.Aligning.{OfReadings}
 use Rattle.escpos_link.proofs.Claiming.{OfPaper, course_more, course_submit, owed_more, owed_submit}
 use Rattle.escpos_link.proofs.Links.{newest_add, step_add}
@@ -77,7 +77,7 @@ nudged_way width below of paper phase out next records sheet half ended (Some by
       known = w.known;
       given_up = w.given_up;
       newest = subst (Newest (next + 1) half ended) (append_assoc bytes out (row m))
-          (newest_add next (next + 1) half ended (bytes ++ out) (mark_of next) (omega arith) (next, omega arith, few, refl) w.newest);
+          (newest_add next (next + 1) half ended (bytes ++ out) m (omega arith) (inl (mark_of next, refl, (next, omega arith, few, refl))) w.newest);
     })
 
 not_opening : (phase : Phase) (first : ℕ) (flight : List InFlight) → phase ≡ Open flight → phase ≡ Opening first → ⊥
@@ -119,15 +119,14 @@ submitted_way width below of phase out next records sheet half ended (Some bytes
 submitted_way width below of phase out next records sheet half ended (Some bytes) pending flight receipt is few none are all (inr w) =
     absurd (not_opening phase w.first flight is w.opening)
 
--- A status request.
+-- A request.
 pub asked_way : (width : ℕ) → OfReadings → OfPaper → (phase : Phase) (out : List ℕ) (next : ℕ) (records : List (List Command)) (sheet : Sheet) (half : List ℕ)
-    (ended : List (List ℕ)) (live : Option (List ℕ)) (pending : List (List ℕ)) (n : ℕ) → phase ≡ Open [] → IsCommand (kind.Status n)
+    (ended : List (List ℕ)) (live : Option (List ℕ)) (pending : List (List ℕ)) (c : Command) → phase ≡ Open [] → IsCommand c → mark_id c ≡ None
     → Way width phase out next records sheet half ended live pending
-    → Way width phase (out ++ row (kind.Status n)) next records sheet half ended live pending
-asked_way width below paper phase out next records sheet half ended None pending n is ok (inl w) = inl w
-asked_way width below paper phase out next records sheet half ended None pending n is ok (inr w) = inr w
-asked_way width below paper phase out next records sheet half ended (Some bytes) pending n is ok (inl w) =
-    let c = kind.Status n in
+    → Way width phase (out ++ row c) next records sheet half ended live pending
+asked_way width below paper phase out next records sheet half ended None pending c is ok none (inl w) = inl w
+asked_way width below paper phase out next records sheet half ended None pending c is ok none (inr w) = inr w
+asked_way width below paper phase out next records sheet half ended (Some bytes) pending c is ok none (inl w) =
     inl (record {
       up = w.up;
       only = w.only;
@@ -136,9 +135,10 @@ asked_way width below paper phase out next records sheet half ended (Some bytes)
       due = w.due ++ c ∷ [];
       sheet_is = w.sheet_is;
       aligned = subst (λ v. Reads (half ++ (bytes ++ (out ++ v))) (w.due ++ c ∷ []) []) (one_row c) (step_add below half bytes out w.due (c ∷ []) w.aligned (ok, tt));
-      course = course_more width paper records (flight_of phase) next next w.kept w.ran pending w.due (c ∷ []) (ap flight_of is) (omega arith) tt w.course;
+      course = course_more width paper records (flight_of phase) next next w.kept w.ran pending w.due (c ∷ []) (ap flight_of is) (omega arith)
+          (subst (Known next) (sym (ap (λ v. option_to_list v ++ []) none)) tt) w.course;
     })
-asked_way width below paper phase out next records sheet half ended (Some bytes) pending n is ok (inr w) = absurd (not_opening phase w.first [] is w.opening)
+asked_way width below paper phase out next records sheet half ended (Some bytes) pending c is ok none (inr w) = absurd (not_opening phase w.first [] is w.opening)
 
 -- Bytes leave the host.
 pub kept_bytes : (bytes out : List ℕ) (n : ℕ) → bytes ++ out ≡ (bytes ++ take n out) ++ drop n out

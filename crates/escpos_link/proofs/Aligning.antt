@@ -1,7 +1,8 @@
 -- Alignment: once a mark of a link was run, what is run from there on is what the host put after it.
 --
 -- A printer may come to a link with a half command of an older one, and so takes the first bytes of the new link for the
--- rest of that: a raster may swallow a hundred marks. But only marks are put on a link before one of them is answered.
+-- rest of that: a raster may swallow a hundred marks. But only marks are put on a link before one of them is answered, and a request
+-- for automatic status, which is never read as a mark either.
 -- Whatever stood before a mark, a prefix of it is read as no mark at all, unless nothing stood before it and it was read
 -- whole, at its own place. That is what resynchronisation says of one mark, because the byte 1D begins a mark and stands
 -- nowhere else in it. So take the marks that were put on a link, one after another. As long as none was run, each was read
@@ -9,19 +10,20 @@
 -- nothing is left of it; and then the next bytes are the first ones of the commands that the host put after it, whose first
 -- part is read as the first of them. So the printer reads from there on what the host meant, however the bytes were cut on
 -- the way.
-use Rattle.std.proofs.Common.{◌≡◌, ◌≢◌, ◌⊎◌, ◌+◌, inl, inr, ℕ, List, [], ◌∷◌, ◌++◌, refl, sym, ◌∙◌, ap, subst, append-nil, append_assoc, map, IsTrue, length}
+use Rattle.std.proofs.Common.{◌≡◌, ◌≢◌, ◌⊎◌, ◌+◌, inl, inr, ℕ, List, [], ◌∷◌, ◌++◌, refl, sym, ◌∙◌, ap, subst, append-nil, append_assoc, IsTrue, length}
 use Rattle.std.proofs.lemmas.Grind.{flat_map-append}
 use Rattle.std.specs.Prelude.{option_to_list}
 use Rattle.std.specs.List.{AllByRecursion}
 use Rattle.escpos_command.specs.declared.command.Command.{Command}
 use Rattle.escpos_command.specs.declared.command.Command.TheVariants as kind
 use Rattle.escpos_command.specs.declared.fault.FaultReason.{FaultReason}
-use Rattle.escpos_command.specs.CommandTable.{AreCommands, row, spell}
+use Rattle.escpos_command.specs.CommandTable.{AreCommands, IsCommand, row, spell}
 use Rattle.escpos_command.specs.Grammar.{FaultAt, Half, Reads}
 use Rattle.escpos_command.specs.Laws.{IsRead, IsRefused}
 use Rattle.escpos_command.specs.Marks.{IsMarkOrNone, mark_id, marks}
 use Rattle.escpos_command.specs.Parameters.{is_mark_id}
-use Rattle.escpos_link.specs.Trusted.{IsKnown, IsRest}
+use Rattle.escpos_host.specs.Machine.{ask_reports}
+use Rattle.escpos_link.specs.Trusted.{IsKnown, IsOpener, IsRest}
 use Rattle.escpos_link.proofs.Numbers.{OfNumbers}
 
 -- What the layers below say of readings.
@@ -37,15 +39,13 @@ pub record OfReadings : Type 0 where
       → (others : List Command) × (all ≡ some ++ others) × Reads (r ++ b) others []
   pub resynchronisation : (half q more id : List ℕ) (cs : List Command) (rest : List ℕ) → (half ≡ []) ⊎ Half half → IsTrue (is_mark_id id) → q ≢ []
       → row (kind.Mark id) ≡ q ++ more → Reads (half ++ q) cs rest → IsMarkOrNone half more id cs
+  pub reporting : (half q more : List ℕ) (cs : List Command) (rest : List ℕ) → (half ≡ []) ⊎ Half half → q ≢ [] → row ask_reports ≡ q ++ more
+      → Reads (half ++ q) cs rest → marks cs ≡ []
 
 -- ## Marks as commands
 
 pub marks_append : (cs ds : List Command) → marks (cs ++ ds) ≡ marks cs ++ marks ds
 marks_append cs ds = flat_map-append (λ (c : Command). option_to_list (mark_id c)) cs ds
-
-pub marks_of : (ids : List (List ℕ)) → marks (map kind.Mark ids) ≡ ids
-marks_of [] = refl
-marks_of (id ∷ ids) = ap (λ v. id ∷ v) (marks_of ids)
 
 -- What is said of ids holds of ids of marks alone.
 abbrev pub OfIds : (List ℕ → Type 0) → Type 0
@@ -54,9 +54,21 @@ OfIds K = (id : List ℕ) → K id → IsTrue (is_mark_id id)
 pub known_ids : OfNumbers → (b : ℕ) → OfIds (IsKnown b)
 known_ids of b id (n, less, few, is) = subst (λ v. IsTrue (is_mark_id v)) is (of.ids n few)
 
-pub commands_of : (K : List ℕ → Type 0) → OfIds K → (ids : List (List ℕ)) → AllByRecursion K ids → AreCommands (map kind.Mark ids)
+one_in_range : (K : List ℕ → Type 0) → OfIds K → (c : Command) → IsOpener K c → IsCommand c
+one_in_range K of c (inl (id, is, k)) = subst IsCommand (sym is) (of id k)
+one_in_range K of c (inr is) = subst IsCommand (sym is) refl
+
+pub commands_of : (K : List ℕ → Type 0) → OfIds K → (openers : List Command) → AllByRecursion (IsOpener K) openers → AreCommands openers
 commands_of K of [] k = tt
-commands_of K of (id ∷ ids) k = (of id k.0, commands_of K of ids k.1)
+commands_of K of (c ∷ openers) k = (one_in_range K of c k.0, commands_of K of openers k.1)
+
+more_known : (K : List ℕ → Type 0) (c : Command) (ids : List (List ℕ)) → IsOpener K c → AllByRecursion K ids → AllByRecursion K (option_to_list (mark_id c) ++ ids)
+more_known K c ids (inl (id, is, k)) all = subst (λ v. AllByRecursion K (option_to_list (mark_id v) ++ ids)) (sym is) (k, all)
+more_known K c ids (inr is) all = subst (λ v. AllByRecursion K (option_to_list (mark_id v) ++ ids)) (sym is) all
+
+pub known_marks : (K : List ℕ → Type 0) (openers : List Command) → AllByRecursion (IsOpener K) openers → AllByRecursion K (marks openers)
+known_marks K [] k = tt
+known_marks K (c ∷ openers) k = more_known K c (marks openers) k.0 (known_marks K openers k.1)
 
 pub reads_all : (cs : List Command) → AreCommands cs → Reads (spell cs) cs []
 reads_all cs are = record { commands = are; whole = sym (append-nil (spell cs)); rest_is = inl refl }
@@ -133,6 +145,9 @@ MayTurn K later cs next =
 row_begins : (id : List ℕ) → row (kind.Mark id) ≡ [] → ⊥
 row_begins id e = cc
 
+request_begins : row ask_reports ≡ [] → ⊥
+request_begins e = cc
+
 -- Nothing is left of a mark that was read with nothing before it.
 none_left : OfReadings → (h id : List ℕ) (cs : List Command) (next : List ℕ) → IsTrue (is_mark_id id) → h ≡ [] → Reads (h ++ row (kind.Mark id)) cs next → next ≡ []
 none_left below h id cs next ok none r =
@@ -140,65 +155,91 @@ none_left below h id cs next ok none r =
     subst (λ v. Reads v (kind.Mark id ∷ []) []) (append-nil (row (kind.Mark id))) (reads_all (kind.Mark id ∷ []) (ok, tt)) in
     (below.one_reading (row (kind.Mark id)) cs (kind.Mark id ∷ []) next [] (subst (λ v. Reads (v ++ row (kind.Mark id)) cs next) none r) one).1
 
--- A mark was read: the marks after it are read too, as far as they came.
-turned : OfReadings → (K : List ℕ → Type 0) → OfIds K → (id : List ℕ) (ids : List (List ℕ)) (q later : List ℕ) (some cs : List Command) (next : List ℕ) → AllByRecursion K (id ∷ ids)
-    → some ≡ kind.Mark id ∷ [] → q ++ later ≡ spell (map kind.Mark ids) → Reads q cs next → MayTurn K later (some ++ cs) next
-turned below K of id ids q later some cs next known is spelled reads =
-    let c = below.cut q later (map kind.Mark ids) cs next
-    (subst (λ v. Reads v (map kind.Mark ids) []) (sym spelled) (reads_all (map kind.Mark ids) (commands_of K of ids known.1))) reads in
-    let same : marks (some ++ cs) ++ marks c.0 ≡ id ∷ ids =
-    ap (λ v. marks (v ++ cs) ++ marks c.0) is ∙ ap (λ v. id ∷ v) (sym (marks_append cs c.0) ∙ ap marks (sym c.1) ∙ marks_of ids) in
-    inr (c.0, c.2, subst (AllByRecursion K) (sym same) known)
+-- A mark was read: what comes after it is read too, as far as it came.
+turned : OfReadings → (K : List ℕ → Type 0) → OfIds K → (id : List ℕ) (openers : List Command) (q later : List ℕ) (some cs : List Command) (next : List ℕ) → K id
+    → AllByRecursion (IsOpener K) openers → some ≡ kind.Mark id ∷ [] → q ++ later ≡ spell openers → Reads q cs next → MayTurn K later (some ++ cs) next
+turned below K of id openers q later some cs next first known is spelled reads =
+    let c = below.cut q later openers cs next (subst (λ v. Reads v openers []) (sym spelled) (reads_all openers (commands_of K of openers known))) reads in
+    let same : marks (some ++ cs) ++ marks c.0 ≡ id ∷ marks openers =
+    ap (λ v. marks (v ++ cs) ++ marks c.0) is ∙ ap (λ v. id ∷ v) (sym (marks_append cs c.0) ∙ ap marks (sym c.1)) in
+    inr (c.0, c.2, subst (AllByRecursion K) (sym same) (first, known_marks K openers known))
 
 -- A prefix of the first mark came, perhaps all of it.
-front_came : OfReadings → (K : List ℕ → Type 0) → OfIds K → (id : List ℕ) (ids : List (List ℕ)) (h q y later : List ℕ) (cs : List Command) (next : List ℕ) → IsRest h
-    → AllByRecursion K (id ∷ ids) → row (kind.Mark id) ≡ q ++ y → later ≡ y ++ spell (map kind.Mark ids) → Reads (h ++ q) cs next → MayTurn K later cs next
-front_came below K of id ids h [] y later cs next rest known is after reads = inl (ap marks (none_read below h [] cs next rest refl reads))
-front_came below K of id ids h (x ∷ q) y later cs next rest known is after reads =
-    let ok = of id known.0 in
+mark_came : OfReadings → (K : List ℕ → Type 0) → OfIds K → (id : List ℕ) (openers : List Command) (h q y later : List ℕ) (cs : List Command) (next : List ℕ) → IsRest h
+    → K id → AllByRecursion (IsOpener K) openers → row (kind.Mark id) ≡ q ++ y → later ≡ y ++ spell openers → Reads (h ++ q) cs next → MayTurn K later cs next
+mark_came below K of id openers h [] y later cs next rest first known is after reads = inl (ap marks (none_read below h [] cs next rest refl reads))
+mark_came below K of id openers h (x ∷ q) y later cs next rest first known is after reads =
+    let ok = of id first in
     elim ((below.resynchronisation h (x ∷ q) y id cs next rest ok (λ e. cc e) is reads).none_else) [
       | inl none ↦ inl none
-      | inr (first, whole, one) ↦
+      | inr (front, whole, one) ↦
           let all : row (kind.Mark id) ≡ x ∷ q = is ∙ ap (λ v. (x ∷ q) ++ v) whole ∙ append-nil (x ∷ q) in
-          let left = none_left below h id cs next ok first (subst (λ v. Reads (h ++ v) cs next) (sym all) reads) in
+          let left = none_left below h id cs next ok front (subst (λ v. Reads (h ++ v) cs next) (sym all) reads) in
           let nothing : Reads [] [] next = subst (λ v. Reads [] [] v) (sym left) (record { commands = tt; whole = refl; rest_is = inl refl }) in
           subst (λ v. MayTurn K later v next) (append-nil cs)
-          (turned below K of id ids [] later cs [] next known one (after ∙ ap (λ v. v ++ spell (map kind.Mark ids)) whole) nothing)
+          (turned below K of id openers [] later cs [] next first known one (after ∙ ap (λ v. v ++ spell openers) whole) nothing)
     ]
 
--- What holds for these marks, whatever stood before them.
-abbrev Behind : (List ℕ → Type 0) → List (List ℕ) → Type 0
-Behind K ids = (h q later : List ℕ) (cs : List Command) (next : List ℕ) → IsRest h → q ++ later ≡ spell (map kind.Mark ids) → Reads (h ++ q) cs next
-    → MayTurn K later cs next
+-- A prefix of the request came, perhaps all of it.
+request_came : OfReadings → (K : List ℕ → Type 0) (h q y later : List ℕ) (cs : List Command) (next : List ℕ) → IsRest h → row ask_reports ≡ q ++ y
+    → Reads (h ++ q) cs next → MayTurn K later cs next
+request_came below K h [] y later cs next rest is reads = inl (ap marks (none_read below h [] cs next rest refl reads))
+request_came below K h (x ∷ q) y later cs next rest is reads = inl (below.reporting h (x ∷ q) y cs next rest (λ e. cc e) is reads)
 
--- All of the first mark came, and more.
-all_came : OfReadings → (K : List ℕ → Type 0) → OfIds K → (id : List ℕ) (ids : List (List ℕ)) (h q y later : List ℕ) (cs : List Command) (next : List ℕ) → IsRest h
-    → AllByRecursion K (id ∷ ids) → q ≡ row (kind.Mark id) ++ y → spell (map kind.Mark ids) ≡ y ++ later → IsCut (h ++ row (kind.Mark id)) y cs next
-    → Behind K ids → MayTurn K later cs next
-all_came below K of id ids h q y later cs next rest known is after c behind =
-    let ok = of id known.0 in
-    let one = below.resynchronisation h (row (kind.Mark id)) [] id c.some c.mid rest ok (row_begins id) (sym (append-nil (row (kind.Mark id)))) c.reads in
+front_came : OfReadings → (K : List ℕ → Type 0) → OfIds K → (c : Command) (openers : List Command) (h q y later : List ℕ) (cs : List Command) (next : List ℕ) → IsRest h
+    → IsOpener K c → AllByRecursion (IsOpener K) openers → row c ≡ q ++ y → later ≡ y ++ spell openers → Reads (h ++ q) cs next → MayTurn K later cs next
+front_came below K of c openers h q y later cs next rest (inl (id, same, first)) known is after reads =
+    mark_came below K of id openers h q y later cs next rest first known (sym (ap row same) ∙ is) after reads
+front_came below K of c openers h q y later cs next rest (inr same) known is after reads =
+    request_came below K h q y later cs next rest (sym (ap row same) ∙ is) reads
+
+-- What holds for these commands, whatever stood before them.
+abbrev Behind : (List ℕ → Type 0) → List Command → Type 0
+Behind K openers = (h q later : List ℕ) (cs : List Command) (next : List ℕ) → IsRest h → q ++ later ≡ spell openers → Reads (h ++ q) cs next → MayTurn K later cs next
+
+-- The first of them was read as no mark: those after it are read as if nothing had come before.
+passed : (K : List ℕ → Type 0) (openers : List Command) (h q y later : List ℕ) (cs : List Command) (next : List ℕ) (b : List ℕ) → spell openers ≡ y ++ later
+    → (c : IsCut (h ++ b) y cs next) → marks c.some ≡ [] → Behind K openers → MayTurn K later cs next
+passed K openers h q y later cs next b after c none behind =
     subst (λ v. MayTurn K later v next) (sym c.all)
-    (elim one.none_else [
-      | inl none ↦ elim (behind c.mid y later c.others next c.reads.rest_is (sym after) c.goes) [
-        | inl also ↦ inl (marks_append c.some c.others ∙ ap (λ v. v ++ marks c.others) none ∙ also)
-        | inr (others, goes, ks) ↦
-            inr (others, goes, subst (λ v. AllByRecursion K (v ++ marks others)) (sym (marks_append c.some c.others ∙ ap (λ v. v ++ marks c.others) none)) ks)
-      ]
-      | inr (first, whole, mark) ↦
-          let left = none_left below h id c.some c.mid ok first c.reads in
-          turned below K of id ids y later c.some c.others next known mark (sym after) (subst (λ v. Reads (v ++ y) c.others next) left c.goes)
+    (elim (behind c.mid y later c.others next c.reads.rest_is (sym after) c.goes) [
+      | inl also ↦ inl (marks_append c.some c.others ∙ ap (λ v. v ++ marks c.others) none ∙ also)
+      | inr (others, goes, ks) ↦
+          inr (others, goes, subst (λ v. AllByRecursion K (v ++ marks others)) (sym (marks_append c.some c.others ∙ ap (λ v. v ++ marks c.others) none)) ks)
     ])
 
-pub may_turn : OfReadings → (K : List ℕ → Type 0) → OfIds K → (ids : List (List ℕ)) → AllByRecursion K ids → Behind K ids
+-- All of the first came, and more.
+mark_passed : OfReadings → (K : List ℕ → Type 0) → OfIds K → (id : List ℕ) (openers : List Command) (h q y later : List ℕ) (cs : List Command) (next : List ℕ) → IsRest h
+    → K id → AllByRecursion (IsOpener K) openers → spell openers ≡ y ++ later → IsCut (h ++ row (kind.Mark id)) y cs next → Behind K openers → MayTurn K later cs next
+mark_passed below K of id openers h q y later cs next rest first known after c behind =
+    let ok = of id first in
+    let one = below.resynchronisation h (row (kind.Mark id)) [] id c.some c.mid rest ok (row_begins id) (sym (append-nil (row (kind.Mark id)))) c.reads in
+    elim one.none_else [
+      | inl none ↦ passed K openers h q y later cs next (row (kind.Mark id)) after c none behind
+      | inr (front, whole, mark) ↦
+          let left = none_left below h id c.some c.mid ok front c.reads in
+          subst (λ v. MayTurn K later v next) (sym c.all)
+          (turned below K of id openers y later c.some c.others next first known mark (sym after) (subst (λ v. Reads (v ++ y) c.others next) left c.goes))
+    ]
+
+all_came : OfReadings → (K : List ℕ → Type 0) → OfIds K → (c : Command) (openers : List Command) (h q y later : List ℕ) (cs : List Command) (next : List ℕ) → IsRest h
+    → IsOpener K c → AllByRecursion (IsOpener K) openers → spell openers ≡ y ++ later → IsCut (h ++ row c) y cs next → Behind K openers → MayTurn K later cs next
+all_came below K of c openers h q y later cs next rest (inl (id, same, first)) known after cut behind =
+    mark_passed below K of id openers h q y later cs next rest first known after (subst (λ v. IsCut (h ++ row v) y cs next) same cut) behind
+all_came below K of c openers h q y later cs next rest (inr same) known after cut behind =
+    let here = subst (λ v. IsCut (h ++ row v) y cs next) same cut in
+    passed K openers h q y later cs next (row ask_reports) after here
+    (below.reporting h (row ask_reports) [] here.some here.mid rest request_begins (sym (append-nil (row ask_reports))) here.reads) behind
+
+pub may_turn : OfReadings → (K : List ℕ → Type 0) → OfIds K → (openers : List Command) → AllByRecursion (IsOpener K) openers → Behind K openers
 may_turn below K of [] known h q later cs next rest spelled reads =
     inl (ap marks (none_read below h q cs next rest (nothing_first q later spelled) reads))
-may_turn below K of (id ∷ ids) known h q later cs next rest spelled reads =
-    elim (fronts q later (row (kind.Mark id)) (spell (map kind.Mark ids)) spelled) [
-      | inl (y, is, after) ↦ front_came below K of id ids h q y later cs next rest known is after reads
+may_turn below K of (c ∷ openers) known h q later cs next rest spelled reads =
+    elim (fronts q later (row c) (spell openers) spelled) [
+      | inl (y, is, after) ↦ front_came below K of c openers h q y later cs next rest known.0 known.1 is after reads
       | inr (y, is, after) ↦
-          let whole = subst (λ v. Reads v cs next) (ap (λ v. h ++ v) is ∙ sym (append_assoc h (row (kind.Mark id)) y)) reads in
-          all_came below K of id ids h q y later cs next rest known is after
-          (cut_reading below (h ++ row (kind.Mark id)) y cs next whole (below.read_or_refused (h ++ row (kind.Mark id))))
-          (λ mid more still others last left spelling goes. may_turn below K of ids known.1 mid more still others last left spelling goes)
+          let whole = subst (λ v. Reads v cs next) (ap (λ v. h ++ v) is ∙ sym (append_assoc h (row c) y)) reads in
+          all_came below K of c openers h q y later cs next rest known.0 known.1 after
+          (cut_reading below (h ++ row c) y cs next whole (below.read_or_refused (h ++ row c)))
+          (λ mid more still others last left spelling goes. may_turn below K of openers known.1 mid more still others last left spelling goes)
     ]

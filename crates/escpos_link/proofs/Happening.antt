@@ -1,7 +1,7 @@
 -- What holds for a line holds after any event, and after any refusal.
 use Rattle.std.proofs.Common.{◌≡◌, ◌≢◌, List, Result, Ok, Err, IfErr, refl, sym, ◌∙◌, subst}
 use Rattle.escpos_command.specs.declared.command.Command.{Command}
-use Rattle.escpos_host.specs.Machine.{InFlight, IsOpening, IsSound, Phase, Down, Opening, Open, asked, nudged, submitted}
+use Rattle.escpos_host.specs.Machine.{InFlight, IsOpening, IsSound, Phase, Down, Opening, Open, asked, linked, linked_reporting, nudged, reports_asked, submitted}
 use Rattle.escpos_link.specs.declared.event.Event.{Event}
 use Rattle.escpos_link.specs.declared.event.Event.TheVariants as event
 use Rattle.escpos_link.specs.declared.event.Handed.{Handed}
@@ -44,11 +44,13 @@ hand_kept below l after handed.On i (a, answers, waits, links, live, same) =
     subst IsLine (sym same) (on_its_way_kept below.joined l a answers i waits live)
 
 pub kept : Below → (e : Event) (l after : LineView) (n : Note) → IsSound l.host → IsLine l → After e l n after → IsLine after
-kept below event.LinkUp l after n sound i (done, is_down, mark, same) = subst IsLine (sym same) (opened_kept l i is_down)
+kept below event.LinkUp l after n sound i (done, is_down, mark, same) = subst IsLine (sym same) (opened_kept l (linked l.host) i is_down refl refl)
+kept below event.LinkUpReporting l after n sound i (done, is_down, mark, same) = subst IsLine (sym same) (opened_kept l (linked_reporting l.host) i is_down refl refl)
 kept below event.Nudge l after n sound i (done, opening, mark, same) =
     subst IsLine (sym same) (with_host_kept l (nudged l.host) i refl (λ e. e) (λ e. e))
 kept below (event.Submit receipt) l after n sound i (flight, done, is, few, mark, same) = subst IsLine (sym same) (submit_kept l flight receipt i is)
 kept below (event.Ask kind) l after n sound i (done, is, same) = subst IsLine (sym same) (with_host_kept l (asked l.host kind) i refl (λ e. e) (λ e. e))
+kept below event.AskReports l after n sound i (done, is, same) = subst IsLine (sym same) (with_host_kept l (reports_asked l.host) i refl (λ e. e) (λ e. e))
 kept below (event.Move k) l after n sound i (count, note, is, same) = subst IsLine (sym same) (moved_kept l count i)
 kept below (event.Deliver k) l after n sound i (fed, printer, note, feeds, memory, same) =
     subst IsLine (sym same)
@@ -69,9 +71,11 @@ kept below (event.SetCondition condition) l after n sound i (done, same) =
 -- A refusal leaves the line as it was, or as after fewer bytes.
 pub left_kept : Below → (e : Event) (l after : LineView) → IsSound l.host → IsLine l → Leaves e l after → IsLine after
 left_kept below event.LinkUp l after sound i same = subst IsLine (sym same) i
+left_kept below event.LinkUpReporting l after sound i same = subst IsLine (sym same) i
 left_kept below event.Nudge l after sound i same = subst IsLine (sym same) i
 left_kept below (event.Submit receipt) l after sound i same = subst IsLine (sym same) i
 left_kept below (event.Ask kind) l after sound i same = subst IsLine (sym same) i
+left_kept below event.AskReports l after sound i same = subst IsLine (sym same) i
 left_kept below (event.Move k) l after sound i (fewer, n, less, within, moves) = kept below (event.Move fewer) l after n sound i moves
 left_kept below (event.Deliver k) l after sound i (fewer, n, less, feeds, wanted) = kept below (event.Deliver fewer) l after n sound i feeds
 left_kept below event.HandOver l after sound i same = subst IsLine (sym same) i

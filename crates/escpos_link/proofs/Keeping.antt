@@ -13,7 +13,7 @@ use Rattle.escpos_printer.specs.Feeds.{PrinterView, Feeds}
 use Rattle.escpos_printer.specs.Blocks.{with_one_block}
 use Rattle.escpos_printer.specs.Replies.{after_change, replies}
 use Rattle.escpos_host.specs.Machine.{HostView, IsSound, Phase, Down, Opening, Open}
-use Rattle.escpos_link.specs.EventTable.{answers_left, delivered, ended_fed, hung_up, left_by, live_fed, live_left, moved, off_link, on_its_way, linked_up, with_host, with_printer, without_first}
+use Rattle.escpos_link.specs.EventTable.{answers_left, delivered, ended_fed, hung_up, left_by, live_fed, live_left, moved, off_link, on_its_way, with_host, with_new_link, with_printer, without_first}
 use Rattle.escpos_link.specs.Line.{IsLine, LineView}
 
 abbrev pub AreAnswers : List Answer → Type 0
@@ -38,12 +38,12 @@ with_host_kept l host i half from to = record {
 some_none : (bytes : List ℕ) → Some bytes ≡ None → ⊥
 some_none bytes e = cc e
 
-pub opened_kept : (l : LineView) → IsLine l → l.host.phase ≡ Down → IsLine (linked_up l)
-opened_kept l i is_down = record {
-  down = λ e. let bad : Opening l.host.next ≡ Down = e in absurd cc;
+pub opened_kept : (l : LineView) (host : HostView) → IsLine l → l.host.phase ≡ Down → host.phase ≡ Opening l.host.next → host.half ≡ [] → IsLine (with_new_link l host)
+opened_kept l host i is_down opening none = record {
+  down = λ e. let bad : Opening l.host.next ≡ Down = sym opening ∙ e in absurd cc;
   alone = λ up e. absurd (some_none [] e);
-  quiet = λ e. let bad : Opening l.host.next ≡ Down = e in absurd cc;
-  whole = subst AreWholeAnswers (sym (i.quiet is_down)) none_whole;
+  quiet = λ e. let bad : Opening l.host.next ≡ Down = sym opening ∙ e in absurd cc;
+  whole = subst AreWholeAnswers (sym (ap (λ v. v ++ l.coming) none ∙ i.quiet is_down)) none_whole;
   fitting = i.fitting;
 }
 

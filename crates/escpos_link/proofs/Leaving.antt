@@ -1,10 +1,7 @@
 -- The four ways of a line when an end leaves a link, or is restarted; and when the host opens one.
-use Rattle.std.proofs.Common.{◌≡◌, ◌<◌, ◌≤◌, ◌+◌, inl, inr, ℕ, List, [], ◌∷◌, ◌++◌, drop, Option, Some, None, refl, sym, ◌∙◌, ap, subst, arith, append-nil}
+use Rattle.std.proofs.Common.{◌≡◌, ◌≤◌, ◌+◌, inl, inr, ℕ, List, [], ◌∷◌, ◌++◌, drop, Option, Some, None, refl, sym, ◌∙◌, ap, subst, arith, append-nil}
 use Rattle.std.specs.Prelude.{option_to_list}
 use Rattle.escpos_command.specs.declared.command.Command.{Command}
-use Rattle.escpos_command.specs.declared.command.Command.TheVariants as kind
-use Rattle.escpos_command.specs.CommandTable.{row}
-use Rattle.escpos_command.specs.Digits.{mark_count, mark_of}
 use Rattle.escpos_command.specs.Marks.{marks}
 use Rattle.escpos_paper.specs.declared.item.Item.{Item}
 use Rattle.escpos_paper.specs.Page.{Sheet, SheetIs}
@@ -12,9 +9,9 @@ use Rattle.escpos_paper.specs.Printed.{printed}
 use Rattle.escpos_host.specs.Machine.{Phase, Down, Opening}
 use Rattle.escpos_link.specs.EventTable.{live_left}
 use Rattle.escpos_link.specs.Stands.{Stands}
-use Rattle.escpos_link.specs.Trusted.{GivenUp, InStep, IsRest, Off, Owed, Way, flight_of}
+use Rattle.escpos_link.specs.Trusted.{Fresh, GivenUp, InStep, IsRest, Off, Owed, Way, flight_of}
 use Rattle.escpos_link.proofs.Claiming.{OfPaper, course_known, course_owed, course_stands, owed_front, owed_known, owed_rested, owed_stands}
-use Rattle.escpos_link.proofs.Links.{given_add, given_more, given_next, newest_first, newest_next}
+use Rattle.escpos_link.proofs.Links.{given_add, given_more, given_next, newest_next}
 use Rattle.escpos_link.proofs.Numbers.{known_back, known_front, known_more}
 
 pub items_are : (width : ℕ) (sheet : Sheet) (kept : List Item) (ran : List Command) → SheetIs width sheet kept ran → sheet.items ≡ kept ++ printed width ran
@@ -106,17 +103,17 @@ off_way width paper phase out next f records sheet half ended (Some bytes) xs ys
 -- ## The host opens a link
 
 pub opened_way : (width : ℕ) → OfPaper → (phase : Phase) (out : List ℕ) (next : ℕ) (records : List (List Command)) (sheet : Sheet) (half : List ℕ) (ended : List (List ℕ))
-    (live : Option (List ℕ)) (xs ys : List (List ℕ)) → live ≡ None → phase ≡ Down → next < mark_count → IsRest half
+    (live : Option (List ℕ)) (xs ys : List (List ℕ)) (bytes : List ℕ) → live ≡ None → phase ≡ Down → Fresh (next + 1) bytes → IsRest half
     → Way width phase out next records sheet half ended live (xs ++ ys)
-    → Way width (Opening next) (row (kind.Mark (mark_of next))) (next + 1) records sheet half ended (Some []) ys
-opened_way width paper phase out next records sheet half ended (Some bytes) xs ys none is_down few is w = absurd (cc none)
-opened_way width paper phase out next records sheet half ended None xs ys none is_down few is (inl w) = absurd (w.up is_down)
-opened_way width paper phase out next records sheet half ended None xs ys none is_down few is (inr w) = inr (record {
+    → Way width (Opening next) bytes (next + 1) records sheet half ended (Some []) ys
+opened_way width paper phase out next records sheet half ended (Some on) xs ys bytes none is_down fresh is w = absurd (cc none)
+opened_way width paper phase out next records sheet half ended None xs ys bytes none is_down fresh is (inl w) = absurd (w.up is_down)
+opened_way width paper phase out next records sheet half ended None xs ys bytes none is_down fresh is (inr w) = inr (record {
   first = next;
   opening = refl;
   within = omega arith;
   stands = w.stands;
   known = known_back next xs ys w.known;
   given_up = w.given_up;
-  newest = newest_first (next + 1) half ended (mark_of next) is (next, omega arith, few, refl);
+  newest = newest_next (next + 1) half ended bytes is fresh;
 })

@@ -1,13 +1,14 @@
--- Links on which marks alone were put, and links that are in step: what is left of them when a part was delivered, when the printer leaves
--- one, when the host gives one up, and when one more mark is put.
-use Rattle.std.proofs.Common.{◌≡◌, ◌⊎◌, ◌≤◌, inl, inr, ℕ, List, [], ◌∷◌, ◌++◌, refl, sym, ◌∙◌, ap, subst, append-nil, append_assoc, map}
+-- Links on which openings alone were put, and links that are in step: what is left of them when a part was delivered, when the printer leaves
+-- one, when the host gives one up, and when one more command is put.
+use Rattle.std.proofs.Common.{◌≡◌, ◌⊎◌, ◌≤◌, arith, inl, inr, ℕ, List, [], ◌∷◌, ◌++◌, refl, sym, ◌∙◌, ap, subst, append-nil, append_assoc}
 use Rattle.std.specs.List.{AllByRecursion}
 use Rattle.escpos_command.specs.declared.command.Command.{Command}
 use Rattle.escpos_command.specs.declared.command.Command.TheVariants as kind
 use Rattle.escpos_command.specs.CommandTable.{AreCommands, row, spell}
 use Rattle.escpos_command.specs.Grammar.{Reads}
 use Rattle.escpos_command.specs.Marks.{marks}
-use Rattle.escpos_link.specs.Trusted.{Fresh, FreshOf, GivenUp, IsKnown, IsRest, Known, Late, LateOf, Newest, ServedLink, Unread, UnreadOf}
+use Rattle.escpos_host.specs.Machine.{ask_reports}
+use Rattle.escpos_link.specs.Trusted.{Fresh, FreshOf, GivenUp, IsKnown, IsOpener, IsRest, Known, Late, LateOf, Newest, ServedLink, Unread, UnreadOf}
 use Rattle.escpos_link.proofs.Aligning.{OfIds, OfReadings, known_ids, marks_append, may_turn, reads_all}
 use Rattle.escpos_link.proofs.Numbers.{OfNumbers, known_back, known_front, known_more}
 
@@ -21,17 +22,17 @@ pub unread_on : OfReadings → (K : List ℕ → Type 0) → OfIds K → (half p
     → StillOrTurned K next stream cs
 unread_on below K of half piece stream next cs u reads =
     let all = u.delivered ++ piece in
-    let spelled : all ++ stream ≡ spell (map kind.Mark u.ids) = append_assoc u.delivered piece stream ∙ u.spelled in
+    let spelled : all ++ stream ≡ spell u.openers = append_assoc u.delivered piece stream ∙ u.spelled in
     let whole = subst (λ v. Reads v (u.commands ++ cs) next) (append_assoc u.older u.delivered piece)
     (below.reading (u.older ++ u.delivered) piece u.commands cs half next u.reads reads) in
     let both : marks (u.commands ++ cs) ≡ marks cs = marks_append u.commands cs ∙ ap (λ v. v ++ marks cs) u.no_mark in
-    elim (may_turn below K of u.ids u.known u.older all stream (u.commands ++ cs) next u.pending spelled whole) [
+    elim (may_turn below K of u.openers u.known u.older all stream (u.commands ++ cs) next u.pending spelled whole) [
       | inl none ↦ inl (
         sym both ∙ none,
         record {
           older = u.older;
           delivered = all;
-          ids = u.ids;
+          openers = u.openers;
           commands = u.commands ++ cs;
           pending = u.pending;
           known = u.known;
@@ -64,10 +65,10 @@ served_on below of b half piece bytes next cs (more, inr i) reads =
 -- ## The printer comes to a link
 
 pub fresh_unread : (K : List ℕ → Type 0) (half stream : List ℕ) → IsRest half → FreshOf K stream → UnreadOf K half stream
-fresh_unread K half stream rest (ids, known, is) = record {
+fresh_unread K half stream rest (openers, known, is) = record {
   older = half;
   delivered = [];
-  ids = ids;
+  openers = openers;
   commands = [];
   pending = rest;
   known = known;
@@ -86,17 +87,25 @@ newest_next b half (bytes ∷ others) stream rest fresh = fresh
 
 -- ## A greater bound
 
+one_more : (b c : ℕ) (x : Command) → b ≤ c → IsOpener (IsKnown b) x → IsOpener (IsKnown c) x
+one_more b c x more (inl (id, is, (n, less, few, same))) = inl (id, is, (n, omega (arith, less, more), few, same))
+one_more b c x more (inr is) = inr is
+
+openers_more : (b c : ℕ) (openers : List Command) → b ≤ c → AllByRecursion (IsOpener (IsKnown b)) openers → AllByRecursion (IsOpener (IsKnown c)) openers
+openers_more b c [] more known = tt
+openers_more b c (x ∷ openers) more known = (one_more b c x more known.0, openers_more b c openers more known.1)
+
 fresh_more : (b c : ℕ) (stream : List ℕ) → b ≤ c → Fresh b stream → Fresh c stream
-fresh_more b c stream more (ids, known, is) = (ids, known_more b c ids more known, is)
+fresh_more b c stream more (openers, known, is) = (openers, openers_more b c openers more known, is)
 
 unread_more : (b c : ℕ) (half stream : List ℕ) → b ≤ c → Unread b half stream → Unread c half stream
 unread_more b c half stream more u = record {
   older = u.older;
   delivered = u.delivered;
-  ids = u.ids;
+  openers = u.openers;
   commands = u.commands;
   pending = u.pending;
-  known = known_more b c u.ids more u.known;
+  known = openers_more b c u.openers more u.known;
   spelled = u.spelled;
   reads = u.reads;
   no_mark = u.no_mark;
@@ -127,40 +136,44 @@ given_add first b half [] bytes out more given newest = ((out, inl newest), tt)
 given_add first b half (x ∷ others) bytes out more (served, late) newest =
     (served_more first b half x more served, late_add (IsKnown b) others bytes (late_more first b others more late) (out, newest))
 
--- ## One more mark
+-- ## One more command
 
-spell_add : (ids : List (List ℕ)) (id : List ℕ) → spell (map kind.Mark ids) ++ row (kind.Mark id) ≡ spell (map kind.Mark (ids ++ id ∷ []))
-spell_add [] id = sym (append-nil (row (kind.Mark id)))
-spell_add (x ∷ ids) id =
-    append_assoc (row (kind.Mark x)) (spell (map kind.Mark ids)) (row (kind.Mark id)) ∙ ap (λ v. row (kind.Mark x) ++ v) (spell_add ids id)
+spell_add : (openers : List Command) (c : Command) → spell openers ++ row c ≡ spell (openers ++ c ∷ [])
+spell_add [] c = sym (append-nil (row c))
+spell_add (x ∷ openers) c = append_assoc (row x) (spell openers) (row c) ∙ ap (λ v. row x ++ v) (spell_add openers c)
 
-all_add : (K : List ℕ → Type 0) (ids : List (List ℕ)) (id : List ℕ) → K id → AllByRecursion K ids → AllByRecursion K (ids ++ id ∷ [])
-all_add K [] id one all = (one, tt)
-all_add K (x ∷ ids) id one all = (all.0, all_add K ids id one all.1)
+all_add : (P : Command → Type 0) (openers : List Command) (c : Command) → P c → AllByRecursion P openers → AllByRecursion P (openers ++ c ∷ [])
+all_add P [] c one all = (one, tt)
+all_add P (x ∷ openers) c one all = (all.0, all_add P openers c one all.1)
 
-pub unread_add : (K : List ℕ → Type 0) (half stream id : List ℕ) → K id → UnreadOf K half stream → UnreadOf K half (stream ++ row (kind.Mark id))
-unread_add K half stream id one u = record {
+pub unread_add : (K : List ℕ → Type 0) (half stream : List ℕ) (c : Command) → IsOpener K c → UnreadOf K half stream → UnreadOf K half (stream ++ row c)
+unread_add K half stream c one u = record {
   older = u.older;
   delivered = u.delivered;
-  ids = u.ids ++ id ∷ [];
+  openers = u.openers ++ c ∷ [];
   commands = u.commands;
   pending = u.pending;
-  known = all_add K u.ids id one u.known;
-  spelled = sym (append_assoc u.delivered stream (row (kind.Mark id))) ∙ ap (λ v. v ++ row (kind.Mark id)) u.spelled ∙ spell_add u.ids id;
+  known = all_add (IsOpener K) u.openers c one u.known;
+  spelled = sym (append_assoc u.delivered stream (row c)) ∙ ap (λ v. v ++ row c) u.spelled ∙ spell_add u.openers c;
   reads = u.reads;
   no_mark = u.no_mark;
 }
 
-pub fresh_add : (K : List ℕ → Type 0) (stream id : List ℕ) → K id → FreshOf K stream → FreshOf K (stream ++ row (kind.Mark id))
-fresh_add K stream id one (ids, known, is) = (ids ++ id ∷ [], all_add K ids id one known, ap (λ v. v ++ row (kind.Mark id)) is ∙ spell_add ids id)
+pub fresh_add : (K : List ℕ → Type 0) (stream : List ℕ) (c : Command) → IsOpener K c → FreshOf K stream → FreshOf K (stream ++ row c)
+fresh_add K stream c one (openers, known, is) = (openers ++ c ∷ [], all_add (IsOpener K) openers c one known, ap (λ v. v ++ row c) is ∙ spell_add openers c)
 
-pub newest_add : (b c : ℕ) (half : List ℕ) (ended : List (List ℕ)) (stream id : List ℕ) → b ≤ c → IsKnown c id → Newest b half ended stream
-    → Newest c half ended (stream ++ row (kind.Mark id))
-newest_add b c half [] stream id more one u = unread_add (IsKnown c) half stream id one (unread_more b c half stream more u)
-newest_add b c half (bytes ∷ others) stream id more one fresh = fresh_add (IsKnown c) stream id one (fresh_more b c stream more fresh)
+pub newest_add : (b c : ℕ) (half : List ℕ) (ended : List (List ℕ)) (stream : List ℕ) (x : Command) → b ≤ c → IsOpener (IsKnown c) x → Newest b half ended stream
+    → Newest c half ended (stream ++ row x)
+newest_add b c half [] stream x more one u = unread_add (IsKnown c) half stream x one (unread_more b c half stream more u)
+newest_add b c half (bytes ∷ others) stream x more one fresh = fresh_add (IsKnown c) stream x one (fresh_more b c stream more fresh)
 
-pub newest_first : (c : ℕ) (half : List ℕ) (ended : List (List ℕ)) (id : List ℕ) → IsRest half → IsKnown c id → Newest c half ended (row (kind.Mark id))
-newest_first c half ended id rest one = newest_next c half ended (row (kind.Mark id)) rest (id ∷ [], (one, tt), sym (append-nil (row (kind.Mark id))))
+-- What a link begins with: a mark, after a request for automatic status or without one.
+pub mark_fresh : (K : List ℕ → Type 0) (id : List ℕ) → K id → FreshOf K (row (kind.Mark id))
+mark_fresh K id one = (kind.Mark id ∷ [], (inl (id, refl, one), tt), sym (append-nil (row (kind.Mark id))))
+
+pub request_fresh : (K : List ℕ → Type 0) (id : List ℕ) → K id → FreshOf K (row ask_reports ++ row (kind.Mark id))
+request_fresh K id one =
+    (ask_reports ∷ kind.Mark id ∷ [], (inr refl, (inl (id, refl, one), tt)), ap (λ v. row ask_reports ++ v) (sym (append-nil (row (kind.Mark id)))))
 
 -- ## Commands put on a link that is in step
 

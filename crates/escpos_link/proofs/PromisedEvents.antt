@@ -1,14 +1,15 @@
 -- A promise stays after each event of a line that can be trusted, and after each refusal; and a late answer is one for which it is kept.
 use Rattle.std.proofs.Common.{◌≡◌, ◌≢◌, ◌<◌, ◌≤◌, inl, inr, ℕ, List, [], ◌∷◌, ◌++◌, length, take, drop, refl, sym, ◌∙◌, ap, subst, append-nil, append_assoc, take-append-drop, IsTrue}
+use Rattle.std.specs.Prelude.{None, option_to_list}
 use Rattle.std.specs.List.{AllByRecursion}
 use Rattle.escpos_command.specs.declared.answer.Answer.{Answer}
 use Rattle.escpos_command.specs.declared.answer.Answer.TheVariants as answer
 use Rattle.escpos_command.specs.declared.command.Command.{Command}
 use Rattle.escpos_command.specs.declared.command.Command.TheVariants as kind
 use Rattle.escpos_command.specs.Answers.{Hears, answer_bytes, is_answer, spell_answers}
-use Rattle.escpos_command.specs.CommandTable.{AreCommands, row}
+use Rattle.escpos_command.specs.CommandTable.{AreCommands, IsCommand, row}
 use Rattle.escpos_command.specs.Digits.{mark_count, mark_of}
-use Rattle.escpos_command.specs.Marks.{marks}
+use Rattle.escpos_command.specs.Marks.{mark_id, marks}
 use Rattle.escpos_paper.specs.Page.{SheetIs}
 use Rattle.escpos_printer.specs.declared.printer.FeedStop.{FeedStop}
 use Rattle.escpos_printer.specs.declared.printer.FeedStop.TheVariants as stop
@@ -16,24 +17,25 @@ use Rattle.escpos_printer.specs.Feeds.{Feeds, PrinterView, Took}
 use Rattle.escpos_host.specs.declared.host.HostEvent.{HostEvent}
 use Rattle.escpos_host.specs.declared.host.HostEvent.TheVariants as heard
 use Rattle.escpos_host.specs.Heard.{EndsLink, HearsAll, HearsInTurn, IsHeard, Turns, last_of}
-use Rattle.escpos_host.specs.Machine.{HasMark, HostView, InFlight, IsSound, Phase, Down, Opening, Open, asked, gone_down, nudged, submitted}
+use Rattle.escpos_host.specs.Machine.{HasMark, HostView, InFlight, IsSound, Phase, Down, Opening, Open, ask_reports, asked, gone_down, linked, linked_reporting, nudged, reports_asked, submitted}
 use Rattle.escpos_link.specs.declared.event.Event.{Event}
 use Rattle.escpos_link.specs.declared.event.Event.TheVariants as event
 use Rattle.escpos_link.specs.declared.event.Handed.{Handed}
 use Rattle.escpos_link.specs.declared.event.Handed.TheVariants as handed
 use Rattle.escpos_link.specs.declared.event.Note.{Note}
 use Rattle.escpos_link.specs.declared.event.Note.TheVariants as note
-use Rattle.escpos_link.specs.EventTable.{After, HandsOver, Leaves, Restarted, answers_left, delivered, ended_fed, first_link, heard_to, hung_up, left_by, live_fed, off_link, on_its_way, linked_up, restarted, told_at, with_host, with_printer, without_first}
+use Rattle.escpos_link.specs.EventTable.{After, HandsOver, Leaves, Restarted, answers_left, delivered, ended_fed, first_link, heard_to, hung_up, left_by, live_fed, off_link, on_its_way, restarted, told_at, with_host, with_new_link, with_printer, without_first}
 use Rattle.escpos_link.specs.Line.{IsLine, LineView}
 use Rattle.escpos_link.specs.Promised.{IsIn, IsOther, PromisedBy, PromisedIn, PutsOther, with_records}
 use Rattle.escpos_link.specs.Stands.{Stands}
-use Rattle.escpos_link.specs.Trusted.{IsFitting, IsRest, Trusted, answered, answered_marks, flight_of}
+use Rattle.escpos_link.specs.Trusted.{FreshOf, IsFitting, IsRest, Trusted, answered, answered_marks, flight_of}
 use Rattle.escpos_link.specs.Wire.{WireView, given_up, line_of, with_link}
 use Rattle.escpos_link.proofs.Aligning.{marks_append}
 use Rattle.escpos_link.proofs.AfterAnswers.{InWay, turn_way}
 use Rattle.escpos_link.proofs.AfterHearing.{drop-nil, dropped, heard_line, heard_line_is}
 use Rattle.escpos_link.proofs.Feeding.{Read}
 use Rattle.escpos_link.proofs.Leaving.{items_are}
+use Rattle.escpos_link.proofs.Links.{mark_fresh, request_fresh}
 use Rattle.escpos_link.proofs.Promises.{fed_for, fewer_for, idle_for, in_back, in_front, in_join, leaves_for, moved_for, nudged_for, off_for, opened_for}
 use Rattle.escpos_link.proofs.Promising.{in_flight_for, made_for, put_open_for, recorded_way}
 use Rattle.escpos_link.proofs.Trusting.{changed_marks, Laws, are_join, grown, marks_join, none_heard, stopped, width_is}
@@ -41,13 +43,12 @@ use Rattle.escpos_link.proofs.Turning.{Goes, Holding, OfAnswers, Turner, by_one,
 
 -- ## What the host does
 
-opened_promised : (width : ℕ) → Laws → (l : LineView) (rs : List (List Command)) (p : InFlight) → IsLine l → l.host.phase ≡ Down → HasMark l.host → mark_of l.host.next ≢ p.mark → IsRest l.printer.half
-    → PromisedIn width rs p l → PromisedIn width rs p (linked_up l)
-opened_promised width laws l rs p i is_down few other rest w = record {
+opened_promised : (width : ℕ) (l : LineView) (host : HostView) (rs : List (List Command)) (p : InFlight) → IsLine l → l.host.phase ≡ Down → host.half ≡ [] → FreshOf (IsOther p.mark) host.out
+    → IsRest l.printer.half → PromisedIn width rs p l → PromisedIn width rs p (with_new_link l host)
+opened_promised width l host rs p i is_down none fresh rest w = record {
   answers = [];
-  hears = subst (λ v. Hears v [] []) (sym (i.quiet is_down)) none_heard;
-  by = opened_for width p rs l.host.out l.printer.sheet l.printer.half (mark_of l.host.next) l.ended l.live (answered_marks w.answers) (answered_marks l.printer.waiting)
-      (laws.numbers.ids l.host.next few, other) rest
+  hears = subst (λ v. Hears v [] []) (sym (ap (λ v. v ++ l.coming) none ∙ i.quiet is_down)) none_heard;
+  by = opened_for width p rs l.host.out l.printer.sheet l.printer.half host.out l.ended l.live (answered_marks w.answers) (answered_marks l.printer.waiting) fresh rest
       (subst (PromisedBy width p rs l.host.out l.printer.sheet l.printer.half l.ended l.live) (marks_join w.answers l.printer.waiting) w.by);
 }
 
@@ -69,14 +70,15 @@ submitted_promised width laws l rs p flight receipt is few fits other t w =
     (answered_marks (w.answers ++ l.printer.waiting)) (answered_marks (t.answers ++ l.printer.waiting)) flight cs is are
     (subst (AllByRecursion (IsOther p.mark)) (sym only) ((id, other), tt)) t.way w.by)
 
-asked_promised : (width : ℕ) → Laws → (l : LineView) (rs : List (List Command)) (p : InFlight) (n : ℕ) → l.host.phase ≡ Open [] → IsFitting (event.Ask n) → Trusted width l → PromisedIn width rs p l
-    → PromisedIn width rs p (with_host l (asked l.host n))
-asked_promised width laws l rs p n is fits t w =
-    put_promised width l rs p (asked l.host n) w refl
-    (subst (λ v. PromisedBy width p rs (l.host.out ++ v) l.printer.sheet l.printer.half l.ended l.live (answered_marks (w.answers ++ l.printer.waiting)))
-    (append-nil (row (kind.Status n)))
+asked_promised : (width : ℕ) → Laws → (l : LineView) (host : HostView) (rs : List (List Command)) (p : InFlight) (c : Command) → l.host.phase ≡ Open [] → IsCommand c → mark_id c ≡ None
+    → host.half ≡ l.host.half → host.out ≡ l.host.out ++ row c → Trusted width l → PromisedIn width rs p l → PromisedIn width rs p (with_host l host)
+asked_promised width laws l host rs p c is fits none half out t w =
+    put_promised width l rs p host w half
+    (subst (λ v. PromisedBy width p rs v l.printer.sheet l.printer.half l.ended l.live (answered_marks (w.answers ++ l.printer.waiting)))
+    (ap (λ v. l.host.out ++ v) (append-nil (row c)) ∙ sym out)
     (put_open_for width laws.readings laws.paper l.host.phase l.host.out l.host.next p l.host.records rs l.printer.sheet l.printer.half l.ended l.live
-    (answered_marks (w.answers ++ l.printer.waiting)) (answered_marks (t.answers ++ l.printer.waiting)) [] (kind.Status n ∷ []) is (fits, tt) tt t.way w.by))
+    (answered_marks (w.answers ++ l.printer.waiting)) (answered_marks (t.answers ++ l.printer.waiting)) [] (c ∷ []) is (fits, tt)
+    (subst (AllByRecursion (IsOther p.mark)) (sym (ap (λ v. option_to_list v ++ []) none)) tt) t.way w.by))
 
 -- The host is off its link.
 pub off_promised : (width : ℕ) (l : LineView) (rs : List (List Command)) (p : InFlight) (host : HostView) → host.half ≡ [] → PromisedIn width rs p l → PromisedIn width rs p (off_link (with_host l host))
@@ -312,15 +314,21 @@ late_in width laws l k consumed events host id t (inr (up, hears)) last =
 pub promised : (width : ℕ) → Laws → (e : Event) (l after : LineView) (n : Note) (rs : List (List Command)) (p : InFlight) → IsFitting e → IsSound l.host → IsLine l → After e l n after → Trusted width l
     → PutsOther e l.host p.mark → PromisedIn width rs p l → PromisedIn width rs p after
 promised width laws event.LinkUp l after n rs p fits sound i (done, is_down, few, same) t other w =
-    subst (PromisedIn width rs p) (sym same) (opened_promised width laws l rs p i is_down few other t.half w)
+    subst (PromisedIn width rs p) (sym same)
+    (opened_promised width l (linked l.host) rs p i is_down refl (mark_fresh (IsOther p.mark) (mark_of l.host.next) (laws.numbers.ids l.host.next few, other)) t.half w)
+promised width laws event.LinkUpReporting l after n rs p fits sound i (done, is_down, few, same) t other w =
+    subst (PromisedIn width rs p) (sym same)
+    (opened_promised width l (linked_reporting l.host) rs p i is_down refl (request_fresh (IsOther p.mark) (mark_of l.host.next) (laws.numbers.ids l.host.next few, other)) t.half w)
 promised width laws event.Nudge l after n rs p fits sound i (done, opening, few, same) t other w =
     subst (PromisedIn width rs p) (sym same)
     (put_promised width l rs p (nudged l.host) w refl
     (nudged_for width laws.readings laws.paper p rs l.host.out l.printer.sheet l.printer.half (mark_of l.host.next) l.ended l.live _ (laws.numbers.ids l.host.next few, other) w.by))
 promised width laws (event.Submit receipt) l after n rs p fits sound i (flight, done, is, room, few, same) t other w =
     subst (PromisedIn width rs p) (sym same) (submitted_promised width laws l rs p flight receipt is few fits other t w)
-promised width laws (event.Ask kind) l after n rs p fits sound i (done, is, same) t other w =
-    subst (PromisedIn width rs p) (sym same) (asked_promised width laws l rs p kind is fits t w)
+promised width laws (event.Ask asks) l after n rs p fits sound i (done, is, same) t other w =
+    subst (PromisedIn width rs p) (sym same) (asked_promised width laws l (asked l.host asks) rs p (kind.Status asks) is fits refl refl refl t w)
+promised width laws event.AskReports l after n rs p fits sound i (done, is, same) t other w =
+    subst (PromisedIn width rs p) (sym same) (asked_promised width laws l (reports_asked l.host) rs p ask_reports is refl refl refl refl t w)
 promised width laws (event.Move k) l after n rs p fits sound i (count, told, is, same) t other w =
     subst (PromisedIn width rs p) (sym same)
     (record { answers = w.answers; hears = w.hears; by = moved_for width p rs l.host.out l.printer.sheet l.printer.half l.ended l.live _ count w.by })
@@ -350,9 +358,11 @@ promised width laws (event.SetCondition condition) l after n rs p fits sound i (
 pub leaves_promised : (width : ℕ) → Laws → (e : Event) (l after : LineView) (rs : List (List Command)) (p : InFlight) → IsSound l.host → IsLine l → Leaves e l after → Trusted width l → PromisedIn width rs p l
     → PromisedIn width rs p after
 leaves_promised width laws event.LinkUp l after rs p sound i same t w = subst (PromisedIn width rs p) (sym same) w
+leaves_promised width laws event.LinkUpReporting l after rs p sound i same t w = subst (PromisedIn width rs p) (sym same) w
 leaves_promised width laws event.Nudge l after rs p sound i same t w = subst (PromisedIn width rs p) (sym same) w
 leaves_promised width laws (event.Submit receipt) l after rs p sound i same t w = subst (PromisedIn width rs p) (sym same) w
 leaves_promised width laws (event.Ask kind) l after rs p sound i same t w = subst (PromisedIn width rs p) (sym same) w
+leaves_promised width laws event.AskReports l after rs p sound i same t w = subst (PromisedIn width rs p) (sym same) w
 leaves_promised width laws (event.Move k) l after rs p sound i (fewer, n, less, within, moves) t w =
     promised width laws (event.Move fewer) l after n rs p tt sound i moves t tt w
 leaves_promised width laws (event.Deliver k) l after rs p sound i (fewer, n, less, feeds, wanted) t w =

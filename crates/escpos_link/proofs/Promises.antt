@@ -142,7 +142,7 @@ served_for_on width below paper p records sheet after half rest piece stream cs 
 -- One more mark is put, another one.
 pub served_for_mark : (width : ℕ) → OfReadings → OfPaper → (p : InFlight) (records : List (List Command)) (sheet : Sheet) (half stream id : List ℕ) → IsOther p.mark id
     → ServedFor width p records sheet half stream → ServedFor width p records sheet half (stream ++ row (kind.Mark id))
-served_for_mark width below paper p records sheet half stream id one (inl u) = inl (unread_add (IsOther p.mark) half stream id one u)
+served_for_mark width below paper p records sheet half stream id one (inl u) = inl (unread_add (IsOther p.mark) half stream (kind.Mark id) (inl (id, refl, one)) u)
 served_for_mark width below paper p records sheet half stream id one (inr k) =
     let m = kind.Mark id in
     inr (record {
@@ -263,14 +263,14 @@ off_for width p records out later sheet half (first ∷ others) (Some bytes) xs 
   newest = tt;
 }
 
--- The host opens a link with one mark, another one.
-pub opened_for : (width : ℕ) (p : InFlight) (records : List (List Command)) (out : List ℕ) (sheet : Sheet) (half id : List ℕ) (ended : List (List ℕ)) (live : Option (List ℕ))
-    (xs ys : List (List ℕ)) → IsOther p.mark id → IsRest half → PromisedBy width p records out sheet half ended live (xs ++ ys)
-    → PromisedBy width p records (row (kind.Mark id)) sheet half ended (Some []) ys
-opened_for width p records out sheet half id ended live xs ys one is w = record {
+-- The host opens a link, with other marks alone.
+pub opened_for : (width : ℕ) (p : InFlight) (records : List (List Command)) (out : List ℕ) (sheet : Sheet) (half bytes : List ℕ) (ended : List (List ℕ)) (live : Option (List ℕ))
+    (xs ys : List (List ℕ)) → FreshOf (IsOther p.mark) bytes → IsRest half → PromisedBy width p records out sheet half ended live (xs ++ ys)
+    → PromisedBy width p records bytes sheet half ended (Some []) ys
+opened_for width p records out sheet half bytes ended live xs ys fresh is w = record {
   answered = λ also. w.answered (in_back p.mark xs ys also);
   given_up = w.given_up;
-  newest = fresh_newest width p records sheet half ended (row (kind.Mark id)) is (id ∷ [], (one, tt), sym (append-nil (row (kind.Mark id))));
+  newest = fresh_newest width p records sheet half ended bytes is fresh;
 }
 
 -- A link with nothing on it is opened and given up.
@@ -302,7 +302,7 @@ nudged_for width below paper p records out sheet half id [] (Some bytes) pending
 nudged_for width below paper p records out sheet half id (first ∷ others) (Some bytes) pending one w = record {
   answered = w.answered;
   given_up = w.given_up;
-  newest = subst (FreshOf (IsOther p.mark)) (append_assoc bytes out (row (kind.Mark id))) (fresh_add (IsOther p.mark) (bytes ++ out) id one w.newest);
+  newest = subst (FreshOf (IsOther p.mark)) (append_assoc bytes out (row (kind.Mark id))) (fresh_add (IsOther p.mark) (bytes ++ out) (kind.Mark id) (inl (id, refl, one)) w.newest);
 }
 
 -- Commands with other marks alone are put out where the printer reads what comes.

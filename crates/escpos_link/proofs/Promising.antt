@@ -12,7 +12,7 @@ use Rattle.escpos_paper.specs.Printed.{printed}
 use Rattle.escpos_host.specs.Machine.{InFlight, Phase, Down, Opening, Open}
 use Rattle.escpos_link.specs.Promised.{GivenUpFor, IsIn, IsOther, LiveFor, PromisedBy, StandsNext}
 use Rattle.escpos_link.specs.Stands.{Stands}
-use Rattle.escpos_link.specs.Trusted.{Course, FreshOf, GivenUp, IsKnown, Known, LateOf, Newest, Owed, Rising, UnreadOf, Way, closing_marks, flight_of, receipts}
+use Rattle.escpos_link.specs.Trusted.{Course, FreshOf, GivenUp, IsKnown, IsOpener, Known, LateOf, Newest, Owed, Rising, UnreadOf, Way, closing_marks, flight_of, receipts}
 use Rattle.escpos_link.proofs.Aligning.{OfReadings, head_same, tail_same, nothing_first}
 use Rattle.escpos_link.proofs.Claiming.{OfPaper, course_known, course_owed, course_run, owed_known, owed_rested, rested}
 use Rattle.escpos_link.proofs.Leaving.{items_are}
@@ -22,25 +22,33 @@ use Rattle.escpos_link.proofs.Promises.{fulfils_none, in_back, lost_for, not_in,
 -- ## A promise is made
 
 -- What is said of all ids holds of those on a link.
-all_as : (K L : List ℕ → Type 0) → ((id : List ℕ) → K id → L id) → (ids : List (List ℕ)) → AllByRecursion K ids → AllByRecursion L ids
+ids_as : (K L : List ℕ → Type 0) → ((id : List ℕ) → K id → L id) → (ids : List (List ℕ)) → AllByRecursion K ids → AllByRecursion L ids
+ids_as K L so [] all = tt
+ids_as K L so (id ∷ ids) all = (so id all.0, ids_as K L so ids all.1)
+
+one_as : (K L : List ℕ → Type 0) → ((id : List ℕ) → K id → L id) → (c : Command) → IsOpener K c → IsOpener L c
+one_as K L so c (inl (id, is, k)) = inl (id, is, so id k)
+one_as K L so c (inr is) = inr is
+
+all_as : (K L : List ℕ → Type 0) → ((id : List ℕ) → K id → L id) → (openers : List Command) → AllByRecursion (IsOpener K) openers → AllByRecursion (IsOpener L) openers
 all_as K L so [] all = tt
-all_as K L so (id ∷ ids) all = (so id all.0, all_as K L so ids all.1)
+all_as K L so (c ∷ openers) all = (one_as K L so c all.0, all_as K L so openers all.1)
 
 unread_as : (K L : List ℕ → Type 0) → ((id : List ℕ) → K id → L id) → (half stream : List ℕ) → UnreadOf K half stream → UnreadOf L half stream
 unread_as K L so half stream u = record {
   older = u.older;
   delivered = u.delivered;
-  ids = u.ids;
+  openers = u.openers;
   commands = u.commands;
   pending = u.pending;
-  known = all_as K L so u.ids u.known;
+  known = all_as K L so u.openers u.known;
   spelled = u.spelled;
   reads = u.reads;
   no_mark = u.no_mark;
 }
 
 fresh_as : (K L : List ℕ → Type 0) → ((id : List ℕ) → K id → L id) → (stream : List ℕ) → FreshOf K stream → FreshOf L stream
-fresh_as K L so stream (ids, all, is) = (ids, all_as K L so ids all, is)
+fresh_as K L so stream (openers, all, is) = (openers, all_as K L so openers all, is)
 
 late_as : (K L : List ℕ → Type 0) → ((id : List ℕ) → K id → L id) → (others : List (List ℕ)) → AllByRecursion (LateOf K) others → AllByRecursion (LateOf L) others
 late_as K L so [] all = tt
@@ -69,7 +77,7 @@ made_given width of b n p records sheet half (bytes ∷ others) kept ran is leas
       kept = kept;
       ran = ran;
       sheet_is = is;
-      fulfils = fulfils_none width p records kept ran i.due (all_as (IsKnown b) (IsOther p.mark) (known_other of b n p least few mark) (marks i.due) i.known);
+      fulfils = fulfils_none width p records kept ran i.due (ids_as (IsKnown b) (IsOther p.mark) (known_other of b n p least few mark) (marks i.due) i.known);
     }),
   ),
   late_as (IsKnown b) (IsOther p.mark) (known_other of b n p least few mark) others late,
@@ -84,7 +92,7 @@ made_newest width of b n p records sheet half (first ∷ others) bytes out least
 
 -- A known mark isn't its own.
 not_known : OfNumbers → (b n : ℕ) (p : InFlight) (pending : List (List ℕ)) → b ≤ n → n < mark_count → p.mark ≡ mark_of n → Known b pending → IsIn p.mark pending → ⊥
-not_known of b n p pending least few mark known = not_in p.mark pending (all_as (IsKnown b) (IsOther p.mark) (known_other of b n p least few mark) pending known)
+not_known of b n p pending least few mark known = not_in p.mark pending (ids_as (IsKnown b) (IsOther p.mark) (known_other of b n p least few mark) pending known)
 
 pub made_for : (width : ℕ) → OfNumbers → (phase : Phase) (out : List ℕ) (next n : ℕ) (p : InFlight) (records rs : List (List Command)) (sheet : Sheet) (half : List ℕ)
     (ended : List (List ℕ)) (live : Option (List ℕ)) (pending : List (List ℕ)) (kept : List Item) (ran : List Command) → SheetIs width sheet kept ran → next ≤ n
@@ -112,7 +120,7 @@ made_for width of phase out next n p records rs sheet half [] (Some bytes) pendi
         ran = w.ran;
         sheet_is = w.sheet_is;
         fulfils = fulfils_none width p rs w.kept w.ran w.due
-            (all_as (IsKnown next) (IsOther p.mark) (known_other of next n p least few mark) (marks w.due) (known_back next pending (marks w.due) known));
+            (ids_as (IsKnown next) (IsOther p.mark) (known_other of next n p least few mark) (marks w.due) (known_back next pending (marks w.due) known));
       });
     }
 made_for width of phase out next n p records rs sheet half (first ∷ others) (Some bytes) pending kept ran is least few mark (inl w) = absurd (cc w.only)

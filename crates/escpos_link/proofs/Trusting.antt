@@ -1,6 +1,6 @@
 -- What lets records be trusted holds for a line after each event, and after each refusal; and no answer ends the host's
 -- link.
-use Rattle.std.proofs.Common.{◌≡◌, ◌≢◌, ◌≤◌, inl, inr, ℕ, List, [], ◌∷◌, ◌++◌, length, take, drop, Option, Some, None, refl, sym, ◌∙◌, ap, subst, arith, append-nil, append_assoc, take-append-drop, IsTrue}
+use Rattle.std.proofs.Common.{◌≡◌, ◌≢◌, ◌<◌, ◌+◌, ◌≤◌, inl, inr, ℕ, List, [], ◌∷◌, ◌++◌, length, take, drop, Option, Some, None, refl, sym, ◌∙◌, ap, subst, arith, append-nil, append_assoc, take-append-drop, IsTrue}
 use Rattle.std.specs.Prelude.{Bool, true, false, ◌&&◌, if◌then◌else◌}
 use Rattle.std.proofs.lemmas.Grind.{flat_map-append}
 use Rattle.std.specs.List.{AllByRecursion}
@@ -10,7 +10,7 @@ use Rattle.escpos_command.specs.declared.command.Command.{Command}
 use Rattle.escpos_command.specs.declared.command.Command.TheVariants as kind
 use Rattle.escpos_command.specs.Answers.{Hears, answer_bytes, is_answer, spell_answers}
 use Rattle.escpos_command.specs.CommandTable.{AreCommands}
-use Rattle.escpos_command.specs.Digits.{mark_of}
+use Rattle.escpos_command.specs.Digits.{mark_count, mark_of}
 use Rattle.escpos_command.specs.Marks.{marks}
 use Rattle.escpos_command.specs.Meanings.{reports}
 use Rattle.escpos_paper.specs.declared.item.Item.{Item}
@@ -24,18 +24,18 @@ use Rattle.escpos_printer.specs.Replies.{after_change, condition_block, is_chang
 use Rattle.escpos_host.specs.declared.host.HostEvent.{HostEvent}
 use Rattle.escpos_host.specs.declared.host.HostEvent.TheVariants as heard
 use Rattle.escpos_host.specs.Heard.{EndsLink, HearsAll, last_of}
-use Rattle.escpos_host.specs.Machine.{HasMark, HostView, InFlight, IsOpening, IsSound, Phase, Down, Opening, Open, asked, gone_down, nudged, submitted}
+use Rattle.escpos_host.specs.Machine.{HasMark, HostView, InFlight, IsOpening, IsSound, Phase, Down, Opening, Open, ask_reports, asked, gone_down, linked, linked_reporting, nudged, reports_asked, submitted}
 use Rattle.escpos_link.specs.declared.event.Event.{Event}
 use Rattle.escpos_link.specs.declared.event.Event.TheVariants as event
 use Rattle.escpos_link.specs.declared.event.Handed.{Handed}
 use Rattle.escpos_link.specs.declared.event.Handed.TheVariants as handed
 use Rattle.escpos_link.specs.declared.event.Note.{Note}
 use Rattle.escpos_link.specs.declared.event.Note.TheVariants as note
-use Rattle.escpos_link.specs.EventTable.{After, HandsOver, Leaves, Restarted, answers_left, delivered, ended_fed, first_link, heard_to, hung_up, left_by, live_fed, moved, off_link, on_its_way, linked_up, restarted, told_at, with_host, with_printer, without_first}
+use Rattle.escpos_link.specs.EventTable.{After, HandsOver, Leaves, Restarted, answers_left, delivered, ended_fed, first_link, heard_to, hung_up, left_by, live_fed, moved, off_link, on_its_way, restarted, told_at, with_host, with_new_link, with_printer, without_first}
 use Rattle.escpos_link.specs.Line.{IsLine, LineView}
 use Rattle.escpos_link.specs.Resumed.{resumed, resumed_host}
 use Rattle.escpos_link.specs.Stands.{Stands}
-use Rattle.escpos_link.specs.Trusted.{IsFitting, IsRest, Known, IsTrusted, Off, StillTrusted, Trusted, Way, answered, answered_marks, flight_of}
+use Rattle.escpos_link.specs.Trusted.{Fresh, IsFitting, IsKnown, IsRest, Known, IsTrusted, Off, StillTrusted, Trusted, Way, answered, answered_marks, flight_of}
 use Rattle.escpos_link.proofs.Aligning.{OfReadings, marks_append}
 use Rattle.escpos_link.proofs.AfterAnswers.{InWay, turn_way}
 use Rattle.escpos_link.proofs.Claiming.{OfPaper, course_stands, owed_stands}
@@ -43,6 +43,7 @@ use Rattle.escpos_link.proofs.Feeding.{Read, fed_way}
 use Rattle.escpos_link.proofs.Standing.{stands_front}
 use Rattle.escpos_link.proofs.AfterHearing.{dropped, drop-nil, heard_line, heard_line_is}
 use Rattle.escpos_link.proofs.Leaving.{items_are, leaves_way, off_way, opened_way}
+use Rattle.escpos_link.proofs.Links.{mark_fresh, request_fresh}
 use Rattle.escpos_link.proofs.Numbers.{OfNumbers, known_back, known_front, known_join}
 use Rattle.escpos_link.proofs.AfterPutting.{asked_way, moved_way, nudged_way, submitted_way}
 use Rattle.escpos_link.proofs.Turning.{Goes, OfAnswers, heard_in_turn}
@@ -90,14 +91,15 @@ stands width paper l t = way_stands width paper _ _ _ _ _ _ _ l.live _ t.way
 
 -- ## What the host does
 
-opened_trusted : (width : ℕ) → Laws → (l : LineView) → IsSound l.host → IsLine l → l.host.phase ≡ Down → HasMark l.host → Trusted width l → Trusted width (linked_up l)
-opened_trusted width laws l sound i is_down few t = record {
+opened_trusted : (width : ℕ) → Laws → (l : LineView) (bytes : List ℕ) → IsSound l.host → IsLine l → l.host.phase ≡ Down → Fresh (l.host.next + 1) bytes → Trusted width l
+    → Trusted width (with_new_link l (record { phase = Opening l.host.next; out = bytes; half = []; next = l.host.next + 1; records = l.host.records; left = [] }))
+opened_trusted width laws l bytes sound i is_down fresh t = record {
   answers = [];
   hears = subst (λ v. Hears v [] []) (sym (i.quiet is_down)) none_heard;
   half = t.half;
   reached = t.reached;
   way = opened_way width laws.paper l.host.phase l.host.out l.host.next l.host.records l.printer.sheet l.printer.half l.ended l.live (answered_marks t.answers)
-      (answered_marks l.printer.waiting) (i.down is_down) is_down few t.half
+      (answered_marks l.printer.waiting) bytes (i.down is_down) is_down fresh t.half
       (subst (Way width l.host.phase l.host.out l.host.next l.host.records l.printer.sheet l.printer.half l.ended l.live) (marks_join t.answers l.printer.waiting) t.way);
 }
 
@@ -132,7 +134,15 @@ submitted_trusted width laws l flight receipt is few fits t =
 asked_trusted : (width : ℕ) → Laws → (l : LineView) (n : ℕ) → l.host.phase ≡ Open [] → IsFitting (event.Ask n) → Trusted width l → Trusted width (with_host l (asked l.host n))
 asked_trusted width laws l n is fits t =
     put_trusted width l (asked l.host n) t refl
-    (asked_way width laws.readings laws.paper l.host.phase l.host.out l.host.next l.host.records l.printer.sheet l.printer.half l.ended l.live _ n is fits t.way)
+    (asked_way width laws.readings laws.paper l.host.phase l.host.out l.host.next l.host.records l.printer.sheet l.printer.half l.ended l.live _ (kind.Status n) is fits refl t.way)
+
+reports_trusted : (width : ℕ) → Laws → (l : LineView) → l.host.phase ≡ Open [] → Trusted width l → Trusted width (with_host l (reports_asked l.host))
+reports_trusted width laws l is t =
+    put_trusted width l (reports_asked l.host) t refl
+    (asked_way width laws.readings laws.paper l.host.phase l.host.out l.host.next l.host.records l.printer.sheet l.printer.half l.ended l.live _ ask_reports is refl refl t.way)
+
+next_known : (next : ℕ) → next < mark_count → IsKnown (next + 1) (mark_of next)
+next_known next few = (next, omega arith, few, refl)
 
 moved_trusted : (width : ℕ) (l : LineView) (n : ℕ) → Trusted width l → Trusted width (moved l n)
 moved_trusted width l n t = record {
@@ -385,11 +395,16 @@ answered_trusted width laws l k consumed events host i (inr (up, hears)) t =
 -- ## Every event
 
 pub trusted : (width : ℕ) → Laws → (e : Event) (l after : LineView) (n : Note) → IsFitting e → IsSound l.host → IsLine l → After e l n after → Trusted width l → Trusted width after
-trusted width laws event.LinkUp l after n fits sound i (done, is_down, mark, same) t = subst (Trusted width) (sym same) (opened_trusted width laws l sound i is_down mark t)
+trusted width laws event.LinkUp l after n fits sound i (done, is_down, mark, same) t =
+    subst (Trusted width) (sym same) (opened_trusted width laws l (linked l.host).out sound i is_down (mark_fresh (IsKnown (l.host.next + 1)) (mark_of l.host.next) (next_known l.host.next mark)) t)
+trusted width laws event.LinkUpReporting l after n fits sound i (done, is_down, mark, same) t =
+    subst (Trusted width) (sym same)
+    (opened_trusted width laws l (linked_reporting l.host).out sound i is_down (request_fresh (IsKnown (l.host.next + 1)) (mark_of l.host.next) (next_known l.host.next mark)) t)
 trusted width laws event.Nudge l after n fits sound i (done, opening, mark, same) t = subst (Trusted width) (sym same) (nudged_trusted width laws l opening mark t)
 trusted width laws (event.Submit receipt) l after n fits sound i (flight, done, is, few, mark, same) t =
     subst (Trusted width) (sym same) (submitted_trusted width laws l flight receipt is mark fits t)
 trusted width laws (event.Ask kind) l after n fits sound i (done, is, same) t = subst (Trusted width) (sym same) (asked_trusted width laws l kind is fits t)
+trusted width laws event.AskReports l after n fits sound i (done, is, same) t = subst (Trusted width) (sym same) (reports_trusted width laws l is t)
 trusted width laws (event.Move k) l after n fits sound i (count, told, is, same) t = subst (Trusted width) (sym same) (moved_trusted width l count t)
 trusted width laws (event.Deliver k) l after n fits sound i (fed, printer, told, feeds, memory, same) t =
     subst (Trusted width) (sym same) (fed_trusted width laws l fed.consumed k fed.stop printer feeds t)
@@ -415,9 +430,11 @@ trusted width laws (event.SetCondition condition) l after n fits sound i (done, 
 -- A refusal leaves the line as it was, or as after fewer bytes.
 pub leaves_trusted : (width : ℕ) → Laws → (e : Event) (l after : LineView) → IsSound l.host → IsLine l → Leaves e l after → Trusted width l → Trusted width after
 leaves_trusted width laws event.LinkUp l after sound i same t = subst (Trusted width) (sym same) t
+leaves_trusted width laws event.LinkUpReporting l after sound i same t = subst (Trusted width) (sym same) t
 leaves_trusted width laws event.Nudge l after sound i same t = subst (Trusted width) (sym same) t
 leaves_trusted width laws (event.Submit receipt) l after sound i same t = subst (Trusted width) (sym same) t
 leaves_trusted width laws (event.Ask kind) l after sound i same t = subst (Trusted width) (sym same) t
+leaves_trusted width laws event.AskReports l after sound i same t = subst (Trusted width) (sym same) t
 leaves_trusted width laws (event.Move k) l after sound i (fewer, n, less, within, moves) t = trusted width laws (event.Move fewer) l after n tt sound i moves t
 leaves_trusted width laws (event.Deliver k) l after sound i (fewer, n, less, feeds, wanted) t = trusted width laws (event.Deliver fewer) l after n tt sound i feeds t
 leaves_trusted width laws event.HandOver l after sound i same t = subst (Trusted width) (sym same) t
@@ -455,9 +472,11 @@ done_told consumed place n done bad = let both : note.Done ≡ note.Heard consum
 pub none_bad : (width : ℕ) → Laws → (e : Event) (l after : LineView) (n : Note) (consumed place : ℕ) → IsLine l → Trusted width l → After e l n after
     → n ≢ note.Heard consumed (heard.BadAnswer place)
 none_bad width laws event.LinkUp l after n consumed place i t (done, is_down, mark, same) bad = done_told consumed place n done bad
+none_bad width laws event.LinkUpReporting l after n consumed place i t (done, is_down, mark, same) bad = done_told consumed place n done bad
 none_bad width laws event.Nudge l after n consumed place i t (done, opening, mark, same) bad = done_told consumed place n done bad
 none_bad width laws (event.Submit receipt) l after n consumed place i t (flight, done, is, few, mark, same) bad = done_told consumed place n done bad
 none_bad width laws (event.Ask kind) l after n consumed place i t (done, is, same) bad = done_told consumed place n done bad
+none_bad width laws event.AskReports l after n consumed place i t (done, is, same) bad = done_told consumed place n done bad
 none_bad width laws (event.Move k) l after n consumed place i t (count, told, is, same) bad =
     let both : note.Moved count ≡ note.Heard consumed (heard.BadAnswer place) = sym told ∙ bad in cc
 none_bad width laws (event.Deliver k) l after n consumed place i t (fed, printer, told, feeds, memory, same) bad =

@@ -7,9 +7,10 @@
 -- knows nothing of them: it is a stream to it, and a command cut off on one link may be completed by the next.
 --
 --   Event          | What it does
---   LinkUp         | the host opens a link; a new one with nothing on it is the live one
+--   LinkUp,        | the host opens a link, with a request for automatic status or without; a new one with nothing on it is
+--   LinkUpReporting | the live one
 --   Nudge, Submit, | what the host's machine says
---   Ask            |
+--   Ask, AskReports |
 --   Move k         | up to k bytes leave the host: for the end of the live link, or lost where there is none
 --   Deliver k      | the printer is fed up to k first bytes of the first link; after a fault it leaves that link
 --   HandOver       | the oldest answer leaves the printer: on its way to the host where the only link is the live one, lost where the first
@@ -38,7 +39,7 @@ use Rattle.escpos_host.specs.declared.host.HostError.{HostError}
 use Rattle.escpos_host.specs.declared.host.HostEvent.{HostEvent}
 use Rattle.escpos_host.specs.declared.host.HostEvent.TheVariants as heard
 use Rattle.escpos_host.specs.Heard.{HearsAll, last_of}
-use Rattle.escpos_host.specs.Machine.{HasMark, HostView, InFlight, IsOpening, Phase, Down, Open, RefusesAsk, RefusesLinkUp, RefusesNudge, RefusesSubmit, asked, gone_down, linked, most_in_flight, nudged, submitted, taken_out}
+use Rattle.escpos_host.specs.Machine.{HasMark, HostView, InFlight, IsOpening, Phase, Down, Open, RefusesAsk, RefusesLinkUp, RefusesNudge, RefusesSubmit, asked, gone_down, linked, linked_reporting, most_in_flight, nudged, reports_asked, submitted, taken_out}
 use Rattle.escpos_link.specs.declared.event.Event.{Event}
 use Rattle.escpos_link.specs.declared.event.Event.TheVariants as event
 use Rattle.escpos_link.specs.declared.event.Handed.{Handed}
@@ -86,8 +87,11 @@ live_left (bytes ∷ others) live = live
 -- ## What events do
 
 -- A new link is the live one.
+abbrev pub with_new_link : LineView → HostView → LineView
+with_new_link l host = record { host = host; printer = l.printer; ended = l.ended; live = Some []; coming = l.coming }
+
 abbrev pub linked_up : LineView → LineView
-linked_up l = record { host = linked l.host; printer = l.printer; ended = l.ended; live = Some []; coming = l.coming }
+linked_up l = with_new_link l (linked l.host)
 
 -- The first bytes to take out left the host, for the live link.
 abbrev pub put_on : Option (List ℕ) → List ℕ → Option (List ℕ)
@@ -170,11 +174,13 @@ restarted h f = record { phase = Down; out = []; half = []; next = f; records = 
 
 abbrev pub After : Event → LineView → Note → LineView → Type 0
 After event.LinkUp l n after = (n ≡ note.Done) × (l.host.phase ≡ Down) × HasMark l.host × (after ≡ linked_up l)
+After event.LinkUpReporting l n after = (n ≡ note.Done) × (l.host.phase ≡ Down) × HasMark l.host × (after ≡ with_new_link l (linked_reporting l.host))
 After event.Nudge l n after = (n ≡ note.Done) × IsOpening l.host.phase × HasMark l.host × (after ≡ with_host l (nudged l.host))
 After (event.Submit receipt) l n after =
     (flight : List InFlight) × (n ≡ note.Done) × (l.host.phase ≡ Open flight) × (length flight < most_in_flight) × HasMark l.host
     × (after ≡ with_host l (submitted l.host flight receipt))
 After (event.Ask kind) l n after = (n ≡ note.Done) × (l.host.phase ≡ Open []) × (after ≡ with_host l (asked l.host kind))
+After event.AskReports l n after = (n ≡ note.Done) × (l.host.phase ≡ Open []) × (after ≡ with_host l (reports_asked l.host))
 After (event.Move k) l n after = (count : ℕ) × (n ≡ note.Moved count) × (count ≡ min k (length l.host.out)) × (after ≡ moved l count)
 After (event.Deliver k) l n after =
     (fed : Fed) × (printer : PrinterView) × (n ≡ note.Fed fed) × Feeds l.printer (take k (first_link l)) fed.consumed fed.stop printer × (fed.stop ≢ stop.Memory)
@@ -195,9 +201,11 @@ After (event.SetCondition condition) l n after = (n ≡ note.Done) × (after ≡
 -- live link, where there are bytes to be fed to the printer, and for an answer that goes on its way to the host.
 abbrev pub Refuses : Event → LineView → Refusal → Type 0
 Refuses event.LinkUp l why = (e : HostError) × (why ≡ of_host e) × RefusesLinkUp e l.host
+Refuses event.LinkUpReporting l why = (e : HostError) × (why ≡ of_host e) × RefusesLinkUp e l.host
 Refuses event.Nudge l why = (e : HostError) × (why ≡ of_host e) × RefusesNudge e l.host
 Refuses (event.Submit receipt) l why = (e : HostError) × (why ≡ of_host e) × RefusesSubmit e l.host
 Refuses (event.Ask kind) l why = (e : HostError) × (why ≡ of_host e) × RefusesAsk e l.host
+Refuses event.AskReports l why = (e : HostError) × (why ≡ of_host e) × RefusesAsk e l.host
 Refuses (event.Move k) l why = (why ≡ refusal.Memory) × (l.live ≢ None)
 Refuses (event.Deliver k) l why = (why ≡ refusal.Memory) × (take k (first_link l) ≢ [])
 Refuses event.HandOver l why = (why ≡ refusal.Memory) × (l.printer.waiting ≢ []) × (l.ended ≡ []) × (l.live ≢ None)

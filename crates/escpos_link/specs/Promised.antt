@@ -95,6 +95,7 @@ Promised records p l = PromisedIn l.printer.sheet.line_dots records p l
 -- The event puts out no mark with this id.
 abbrev pub PutsOther : Event → HostView → List ℕ → Type 0
 PutsOther event.LinkUp h id = mark_of h.next ≢ id
+PutsOther event.LinkUpReporting h id = mark_of h.next ≢ id
 PutsOther event.Nudge h id = mark_of h.next ≢ id
 PutsOther (event.Submit receipt) h id = mark_of h.next ≢ id
 PutsOther _ h id = Unit {0}

@@ -32,7 +32,7 @@ use Rattle.escpos_command.specs.Marks.{marks}
 use Rattle.escpos_paper.specs.declared.item.Item.{Item}
 use Rattle.escpos_paper.specs.Page.{Sheet, SheetIs}
 use Rattle.escpos_paper.specs.Printed.{printed}
-use Rattle.escpos_host.specs.Machine.{InFlight, IsSound, Phase, Down, Opening, Open}
+use Rattle.escpos_host.specs.Machine.{InFlight, IsSound, Phase, Down, Opening, Open, ask_reports}
 use Rattle.escpos_link.specs.declared.event.Event.{Event}
 use Rattle.escpos_link.specs.declared.event.Event.TheVariants as event
 use Rattle.escpos_link.specs.declared.event.Note.{Note}
@@ -135,16 +135,20 @@ pub record Owed (width : ℕ) (records : List (List Command)) (flight : List InF
 abbrev pub IsRest : List ℕ → Type 0
 IsRest half = (half ≡ []) ⊎ Half half
 
--- No mark of the link was run: only marks with such ids were put on it, and what was delivered of them was read after an
--- older half command as commands without a mark.
+-- What is put on a link before one of its marks is answered: a mark with such an id, or a request for automatic status.
+abbrev pub IsOpener : (List ℕ → Type 0) → Command → Type 0
+IsOpener K c = ((id : List ℕ) × (c ≡ kind.Mark id) × K id) ⊎ (c ≡ ask_reports)
+
+-- No mark of the link was run: only such commands were put on it, and what was delivered of them was read after an older half command
+-- as commands without a mark.
 pub record UnreadOf (K : List ℕ → Type 0) (half stream : List ℕ) : Type 0 where
   pub older : List ℕ
   pub delivered : List ℕ
-  pub ids : List (List ℕ)
+  pub openers : List Command
   pub commands : List Command
   pub pending : IsRest older
-  pub known : AllByRecursion K ids
-  pub spelled : delivered ++ stream ≡ spell (map kind.Mark ids)
+  pub known : AllByRecursion (IsOpener K) openers
+  pub spelled : delivered ++ stream ≡ spell openers
   pub reads : Reads (older ++ delivered) commands half
   pub no_mark : marks commands ≡ []
 
@@ -157,9 +161,9 @@ pub record InStep (bound : ℕ) (half stream : List ℕ) : Type 0 where
   pub aligned : Reads (half ++ stream) due []
   pub known : Known bound (marks due)
 
--- Marks alone, with such ids, of which nothing was delivered.
+-- Such commands alone, of which nothing was delivered.
 abbrev pub FreshOf : (List ℕ → Type 0) → List ℕ → Type 0
-FreshOf K stream = (ids : List (List ℕ)) × AllByRecursion K ids × (stream ≡ spell (map kind.Mark ids))
+FreshOf K stream = (openers : List Command) × AllByRecursion (IsOpener K) openers × (stream ≡ spell openers)
 
 abbrev pub Fresh : ℕ → List ℕ → Type 0
 Fresh bound stream = FreshOf (IsKnown bound) stream

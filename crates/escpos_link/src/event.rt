@@ -13,12 +13,16 @@ use escpos_printer::{Condition, Fed};
 pub enum Event {
     /// The host opens a link: a new one with nothing on it, after all links that there are.
     LinkUp,
+    /// The same, and the host asks the printer to tell its condition, before its opening mark.
+    LinkUpReporting,
     /// The host puts one more opening mark out.
     Nudge,
     /// The host is given this receipt to print.
     Submit(Receipt),
     /// The host asks for a status.
     Ask(StatusKind),
+    /// The host asks the printer to tell its condition.
+    AskReports,
     /// Up to this many bytes leave the host: for the newest link if it is live, otherwise they are lost.
     Move(usize),
     /// Up to this many bytes of the first link reach the printer. A fault ends that link, as if the printer left it.

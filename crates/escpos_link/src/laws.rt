@@ -8,7 +8,7 @@ ghost use Rattle.escpos_paper.specs.Page.{SheetIs};
 ghost use Rattle.escpos_receipt.specs.Whole.{Whole};
 ghost use Rattle.escpos_host.specs.declared.host.HostEvent.{HostEvent};
 ghost use Rattle.escpos_host.specs.Heard.{EndsLink, HearsAll, last_of};
-ghost use Rattle.escpos_host.specs.Machine.{HasMark, HostView, InFlight, IsOpening, IsSound, Down, Open, asked, gone_down, linked, most_in_flight, nudged, submitted, taken_out};
+ghost use Rattle.escpos_host.specs.Machine.{HasMark, HostView, InFlight, IsOpening, IsSound, Down, Open, asked, gone_down, linked, linked_reporting, most_in_flight, nudged, reports_asked, submitted, taken_out};
 ghost use Rattle.escpos_link.specs.declared.event.Event.{Event};
 ghost use Rattle.escpos_link.specs.declared.event.Event.TheVariants as event;
 ghost use Rattle.escpos_link.specs.declared.event.Note.{Note};
@@ -29,6 +29,7 @@ pub fn trust()
     escpos_command::laws::one_reading();
     escpos_command::laws::joined_readings();
     escpos_command::laws::resynchronisation();
+    escpos_command::laws::reporting();
     escpos_command::laws::mark_numbers();
     escpos_command::laws::answers();
     escpos_paper::laws::initialisation();
@@ -42,6 +43,7 @@ pub fn promise()
     escpos_command::laws::one_reading();
     escpos_command::laws::joined_readings();
     escpos_command::laws::resynchronisation();
+    escpos_command::laws::reporting();
     escpos_command::laws::mark_numbers();
     escpos_command::laws::answers();
     escpos_paper::laws::initialisation();
@@ -78,10 +80,13 @@ pub fn new_line()
 /// host's calls are those of its machine; of what it hears, no event ends its link, or the last one does.
 pub fn host_events()
     ensures link_up { (h : HostView) (w : WireView) → h.phase ≡ Down → HasMark h → After event.LinkUp (line_of h w) note.Done (line_of (linked h) (with_link w)) }
+    ensures link_up_reporting { (h : HostView) (w : WireView) → h.phase ≡ Down → HasMark h
+        → After event.LinkUpReporting (line_of h w) note.Done (line_of (linked_reporting h) (with_link w)) }
     ensures nudge { (h : HostView) (w : WireView) → IsOpening h.phase → HasMark h → After event.Nudge (line_of h w) note.Done (line_of (nudged h) w) }
     ensures submit { (h : HostView) (w : WireView) (flight : List InFlight) (receipt : List Command) → h.phase ≡ Open flight → length flight < most_in_flight → HasMark h
         → After (event.Submit receipt) (line_of h w) note.Done (line_of (submitted h flight receipt) w) }
     ensures ask { (h : HostView) (w : WireView) (n : ℕ) → h.phase ≡ Open [] → After (event.Ask n) (line_of h w) note.Done (line_of (asked h n) w) }
+    ensures ask_reports { (h : HostView) (w : WireView) → h.phase ≡ Open [] → After event.AskReports (line_of h w) note.Done (line_of (reports_asked h) w) }
     ensures put { (h : HostView) (w : WireView) (count : ℕ) → count ≤ length h.out
         → After (event.Move count) (line_of h w) (note.Moved count) (line_of (taken_out h count) (with_bytes w (take count h.out))) }
     ensures heard { (h after : HostView) (w : WireView) (most consumed : ℕ) (events : List HostEvent) → HearsAll h (take most w.coming) events consumed after

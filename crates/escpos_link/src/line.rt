@@ -136,9 +136,11 @@ impl Line {
     {
         match event {
             Event::LinkUp => self.link_up(),
+            Event::LinkUpReporting => self.link_up_reporting(),
             Event::Nudge => self.nudge(),
             Event::Submit(receipt) => self.submit(receipt),
             Event::Ask(kind) => self.ask(kind),
+            Event::AskReports => self.ask_reports(),
             Event::Move(most) => self.move_bytes(most),
             Event::Deliver(most) => self.wire.deliver(most),
             Event::HandOver => self.wire.hand_over(),
@@ -169,7 +171,18 @@ impl Line {
         ensures happened { IfOk result (λ note. After Event.LinkUp self.old note self.new) }
         ensures refused { IfErr result (λ refused. IsRefused Event.LinkUp self.old refused self.new) }
     {
-        match self.wire.link_up_from(&mut self.host) {
+        match self.wire.link_up_from(&mut self.host, false) {
+            Ok(()) => Ok(Note::Done),
+            Err(error) => Err(refused_by(error)),
+        }
+    }
+
+    // The host opens a link, and asks the printer to tell its condition.
+    fn link_up_reporting(&mut self) -> Result<Note, Refused>
+        ensures happened { IfOk result (λ note. After Event.LinkUpReporting self.old note self.new) }
+        ensures refused { IfErr result (λ refused. IsRefused Event.LinkUpReporting self.old refused self.new) }
+    {
+        match self.wire.link_up_from(&mut self.host, true) {
             Ok(()) => Ok(Note::Done),
             Err(error) => Err(refused_by(error)),
         }
@@ -206,6 +219,17 @@ impl Line {
         ensures refused { IfErr result (λ refused. IsRefused (Event.Ask kind) self.old refused self.new) }
     {
         if let Err(error) = self.host.ask(kind) {
+            return Err(refused_by(error));
+        }
+        Ok(Note::Done)
+    }
+
+    // The host asks the printer to tell its condition.
+    fn ask_reports(&mut self) -> Result<Note, Refused>
+        ensures happened { IfOk result (λ note. After Event.AskReports self.old note self.new) }
+        ensures refused { IfErr result (λ refused. IsRefused Event.AskReports self.old refused self.new) }
+    {
+        if let Err(error) = self.host.ask_reports() {
             return Err(refused_by(error));
         }
         Ok(Note::Done)

@@ -5,7 +5,7 @@
 //! function of its own. `laws` says that host and wire are then a line that goes from event to event.
 
 ghost use Rattle.std.specs.Prelude.{ℕ, ◌≡◌, ◌≢◌, ◌<◌, ◌≤◌, min, List, [], length, take, drop, None, Some, IfOk, IfErr, IfSome, IsTrue, OnOk, OnErr, ◌↔◌};
-ghost use Rattle.escpos_host.specs.Machine.{HasMark, HostView, Down, RefusesLinkUp, linked, taken_out};
+ghost use Rattle.escpos_host.specs.Machine.{HasMark, HostView, Down, RefusesLinkUp, linked_by, taken_out};
 ghost use Rattle.escpos_paper.specs.Page.{SheetIs};
 ghost use Rattle.escpos_printer.specs.Feeds.{Feeds, PrinterView};
 ghost use Rattle.escpos_link.specs.declared.event.Event.TheVariants as event;
@@ -99,16 +99,20 @@ impl Wire {
         Ok(())
     }
 
-    // This host opens a link, if it may: then room for the link comes first.
-    pub(crate) fn link_up_from(&mut self, host: &mut Host) -> Result<(), HostError>
-        ensures up { OnOk result ((host.old.phase ≡ Down) × HasMark host.old × (host.new ≡ linked host.old) × (self.new ≡ with_link self.old)) }
+    // This host opens a link, if it may, with a request for automatic status or without: then room for the link comes first.
+    pub(crate) fn link_up_from(&mut self, host: &mut Host, reporting: bool) -> Result<(), HostError>
+        ensures up { OnOk result ((host.old.phase ≡ Down) × HasMark host.old × (host.new ≡ linked_by reporting host.old) × (self.new ≡ with_link self.old)) }
         ensures refused { IfErr result (λ why. RefusesLinkUp why host.old × (host.new ≡ host.old) × (self.new ≡ self.old)) }
     {
         let may = host.state() == HostState::Down && MarkId::of_number(host.next_mark()).is_some();
         if may && self.ended.reserve(1).is_err() {
             return Err(HostError::Memory);
         }
-        host.link_up()?;
+        if reporting {
+            host.link_up_reporting()?;
+        } else {
+            host.link_up()?;
+        }
         self.live = Some(Undelivered::new(*self.ended.allocator()));
         Ok(())
     }

@@ -3,7 +3,7 @@
 ghost use Rattle.std.specs.Prelude.{◌≡◌, ℕ, IsTrue, Some, None};
 ghost use Rattle.std.specs.Option.{SomeIff};
 ghost use Rattle.escpos_command.specs.Parameters.{is_byte, is_one_of_three, is_cut, is_pulse, is_status_kind};
-ghost use Rattle.escpos_command.specs.Meanings.{choice, alignment_of, leaves_a_point, reports};
+ghost use Rattle.escpos_command.specs.Meanings.{choice, alignment_of, leaves_a_point, all_but_drawer, reports};
 
 use super::choices::{Alignment, alignment_of, choice};
 use std::marker::Model;
@@ -301,6 +301,14 @@ impl Reporting {
         ensures { result ≡ 0 }
     {
         Reporting { byte: 0 }
+    }
+
+    /// The setting by which a till is told of each change but the drawer's: going offline and online (bit 1), errors (bit 2), the
+    /// paper (bit 3).
+    pub fn all_but_drawer() -> Self
+        ensures { result ≡ all_but_drawer }
+    {
+        Reporting { byte: 0x0E }
     }
 
     /// The setting of this byte. Every byte is one.

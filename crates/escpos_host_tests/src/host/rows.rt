@@ -8,7 +8,7 @@ use crate::support::hosts::{
     links_up, mark, opens, puts_out, records_two, stands, submits, submits_two,
 };
 use crate::support::texts::is_shown_as;
-use escpos_host::{Heard, Host, HostError, HostEvent, HostState};
+use escpos_host::{Heard, Host, HostError, HostEvent, HostState, open_link_reporting};
 use escpos_test_receipts::{A, B, S, SENT, are_line, have_lines, read_receipt};
 use std::alloc::Global;
 use std::process::Abort;
@@ -307,6 +307,47 @@ fn asks_all(rt: &impl Abort, host: &mut Host) {
 fn ask(rt: HostRuntime) {
     let mut host = Host::new(rt.alloc(), 0);
     asks_all(&rt, &mut host);
+}
+
+// The printer is asked to tell its condition unasked, before the first opening mark, and while no receipt is in flight. A block is heard
+// in each phase.
+fn asks_for_reports(rt: &impl Abort, alloc: Global, host: &mut Host) {
+    assert!(rt; host.ask_reports() == Err(HostError::NotReady));
+    assert!(rt; open_link_reporting(host, 2) == Ok(()));
+    assert!(rt; host.link_up_reporting() == Err(HostError::AlreadyUp));
+    assert!(rt; host.ask_reports() == Err(HostError::NotReady));
+    puts_out(
+        rt,
+        host,
+        b"\x1Da\x0E\x1D(H\x06\x00000000\x1D(H\x06\x00000001",
+    );
+    is_told(rt, host, b"\x10\x00\x00\x00");
+    hears(rt, host, ANSWER_0, 7, HostEvent::Opened);
+    assert!(rt; host.ask_reports() == Ok(()));
+    puts_out(rt, host, b"\x1Da\x0E");
+    submits(rt, alloc, host, S);
+    assert!(rt; host.ask_reports() == Err(HostError::NotReady));
+    is_told(rt, host, b"\x18\x00\x0C\x00");
+    hears(rt, host, ANSWER_2, 7, HostEvent::Recorded(0));
+}
+
+// A block of automatic status is heard.
+fn is_told(rt: &impl Abort, host: &mut Host, bytes: &[u8]) {
+    let heard = host.heard(bytes);
+    assert!(rt; heard.consumed == 4);
+    assert!(rt; matches!(heard.event, HostEvent::Condition(_)));
+}
+
+#[test]
+fn reports(rt: HostRuntime) {
+    let mut host = Host::new(rt.alloc(), 0);
+    asks_for_reports(&rt, rt.alloc(), &mut host);
+    let mut host = Host::new(rt.alloc(), 1_679_616);
+    assert!(&rt; host.link_up_reporting() == Err(HostError::MarksUsedUp));
+    assert!(&rt; open_link_reporting(&mut host, 1) == Err(HostError::MarksUsedUp));
+    let mut host = Host::new(rt.alloc(), 7);
+    assert!(&rt; open_link_reporting(&mut host, 0) == Ok(()));
+    puts_out(&rt, &mut host, b"\x1Da\x0E\x1D(H\x06\x00000007");
 }
 
 // A status is asked for, with this outcome. Nothing changes but what there is to take out.

@@ -1,7 +1,9 @@
 //! Reading a receipt, and the calls of a host.
 
-use crate::support::hosts::{ANSWER_0, hears, is_left, kind, puts_out, send};
-use escpos_host::{Host, HostError, HostEvent, HostState, JsonError, Receipt, SendFault, Sent};
+use crate::support::hosts::{ANSWER_0, hears, is_left, kind, puts_out, send, stands};
+use escpos_host::{
+    Host, HostError, HostEvent, HostState, JsonError, Receipt, SendFault, Sent, open_link_reporting,
+};
 use escpos_io::{MemoryIn, MemoryOut};
 use escpos_test_receipts::{EVERY_MEMBER, are_line, read_receipt, receipt_at_last};
 use std::alloc::Global;
@@ -56,15 +58,19 @@ fn state_of_host(host: &Host) -> (HostState, u32, bool) {
 #[derive(Clone, Copy)]
 enum Call {
     LinkUp,
+    LinkUpReporting,
     Nudge,
     Ask,
+    AskReports,
 }
 
 fn make_call(rt: &impl Abort, host: &mut Host, call: Call) -> Result<(), HostError> {
     match call {
         Call::LinkUp => host.link_up(),
+        Call::LinkUpReporting => host.link_up_reporting(),
         Call::Nudge => host.nudge(),
         Call::Ask => host.ask(kind(rt, 1)),
+        Call::AskReports => host.ask_reports(),
     }
 }
 
@@ -119,6 +125,28 @@ fn asks_eight(rt: &impl Abort, host: &mut Host, receipt: Receipt, refusals: &mut
     host.take_left().expect(rt, "S")
 }
 
+// Puts a request for automatic status with a mark out, and five more: memory is taken at the mark, and at the fourth request after it.
+fn asks_for_reports(rt: &impl Abort, host: &mut Host, refusals: &mut u32) {
+    makes_call(rt, host, Call::LinkUpReporting, refusals);
+    puts_out(rt, host, b"\x1Da\x0E\x1D(H\x06\x00000000");
+    hears(rt, host, ANSWER_0, 7, HostEvent::Opened);
+    for _ in 0..5 {
+        makes_call(rt, host, Call::AskReports, refusals);
+    }
+    puts_out(rt, host, b"\x1Da\x0E\x1Da\x0E\x1Da\x0E\x1Da\x0E\x1Da\x0E");
+}
+
+// Puts a request for automatic status with five marks out. Where memory is refused, the link is down, and is opened again.
+fn opens_reporting(rt: &impl Abort, host: &mut Host, refusals: &mut u32) {
+    if let Err(why) = open_link_reporting(host, 5) {
+        assert!(rt; why == HostError::Memory);
+        stands(rt, host, HostState::Down);
+        assert!(rt; open_link_reporting(host, 5) == Ok(()));
+        *refusals = refusals.saturating_add(1);
+    }
+    stands(rt, host, HostState::Opening);
+}
+
 // Sends S with five opening marks. There are the answers to marks 0 and 5, and those of a second try, whose first mark is 0, 4
 // or 5.
 fn sends_five(host: &mut Host, receipt: Receipt) -> Sent {
@@ -152,6 +180,10 @@ fn host_allocations_fail(rt: HostRuntime) {
     let left = asks_eight(&rt, &mut host, receipt, &mut refusals);
     let mut host = Host::new(rt.alloc(), 0);
     sends_again(&rt, &mut host, left, &mut refusals);
+    let mut host = Host::new(rt.alloc(), 0);
+    asks_for_reports(&rt, &mut host, &mut refusals);
+    let mut host = Host::new(rt.alloc(), 0);
+    opens_reporting(&rt, &mut host, &mut refusals);
     assert!(&rt; refusals <= 1, "{refusals} calls were refused");
     let _ = println!(&rt; "refused calls: {refusals}");
 }

@@ -3,13 +3,19 @@ use Rattle.std.proofs.lemmas.List.{take-append-drop}
 use Rattle.escpos_command.specs.CommandTable.{row}
 use Rattle.escpos_command.specs.Digits.{mark_of}
 use Rattle.escpos_command.specs.declared.command.Command.TheVariants as kind
-use Rattle.escpos_host.specs.Machine.{next_mark}
-use Rattle.escpos_host.proofs.Said.{more_said, one_more_said, says_asked, says_heard, says_linked, says_nudged, says_submitted}
+use Rattle.escpos_host.specs.Machine.{ask_reports, next_mark}
+use Rattle.escpos_host.proofs.Said.{more_said, one_more_said, says_asked, says_asked_reports, says_heard, says_linked, says_linked_reporting, says_nudged, says_submitted}
 use Rattle.escpos_host.proofs.NoRealTime.{between_requests}
 use Rattle.escpos_host.proofs.laws.says.Goals as goal
 
 pub returns-clause-linked : goal.returns-clause-linked
 returns-clause-linked c = λ h marks. record { says = says_linked h.next marks; whole = append-nil (row (next_mark h)) }
+
+pub returns-clause-linked_reporting : goal.returns-clause-linked_reporting
+returns-clause-linked_reporting c = λ h marks. record {
+  says = says_linked_reporting h.next marks;
+  whole = ap (λ v. row ask_reports ++ v) (append-nil (row (next_mark h)));
+}
 
 pub returns-clause-nudged : goal.returns-clause-nudged
 returns-clause-nudged c = λ h out said opening marks talks. record {
@@ -21,6 +27,12 @@ pub returns-clause-asked : goal.returns-clause-asked
 returns-clause-asked c = λ h out said n ready known talks. record {
   says = says_asked h.phase h.next n said ready known talks.says;
   whole = one_more_said out h.out said (kind.Status n) talks.whole;
+}
+
+pub returns-clause-asked_reports : goal.returns-clause-asked_reports
+returns-clause-asked_reports c = λ h out said ready talks. record {
+  says = says_asked_reports h.phase h.next said ready talks.says;
+  whole = one_more_said out h.out said ask_reports talks.whole;
 }
 
 pub returns-clause-submitted : goal.returns-clause-submitted

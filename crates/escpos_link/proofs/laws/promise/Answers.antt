@@ -1,3 +1,4 @@
+use Rattle.escpos_command.specs.Meanings.{all_but_drawer}
 use Rattle.escpos_link.proofs.PromisedEvents.{late_stands, leaves_promised, idle_promised, off_promised, promised, recorded_trusted, made_promised, flying_promised, still_promised}
 use Rattle.escpos_link.proofs.Trusting.{Laws, leaves_trusted, trusted}
 use Rattle.escpos_link.proofs.laws.promise.Goals as goal
@@ -14,6 +15,7 @@ returns c =
         first_fault = c.joined_readings.ensures.first_fault;
         cut = c.joined_readings.ensures.cut;
         resynchronisation = c.resynchronisation.ensures;
+        reporting = λ half q more cs rest left begun is reads. c.reporting.ensures half q more all_but_drawer cs rest left (λ e. cc) begun is reads;
       };
       numbers = record { ids = c.mark_numbers.ensures.ids; one_number = c.mark_numbers.ensures.one_number };
       paper = record { init = c.initialisation.ensures; grows = c.paper_grows.ensures };

@@ -1,8 +1,8 @@
 use Rattle.std.proofs.Common.{◌≡◌, ◌≤◌, ◌+◌, max}
 use Rattle.escpos_command.specs.Digits.{mark_count}
-use Rattle.escpos_host.specs.Awaits.{dialled}
+use Rattle.escpos_host.specs.Awaits.{dialled_by}
 use Rattle.escpos_host.specs.Machine.{Down}
-use Rattle.escpos_host.proofs.send.open_link.Given as goal
+use Rattle.escpos_host.proofs.send.dial.Given as goal
 
 -- this many opening marks are put out
 abbrev pub invariant-loop : goal.invariant-loop
@@ -11,5 +11,5 @@ invariant-loop l = record {
   some : 1 ≤ l.counter;
   few : l.counter ≤ max l.fn.openings 1;
   marks : l.fn.host.next + l.counter ≤ mark_count;
-  dialled : l.host ≡ dialled l.fn.host l.counter;
+  dialled : l.host ≡ dialled_by l.fn.reporting l.fn.host l.counter;
 }

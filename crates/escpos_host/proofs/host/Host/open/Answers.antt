@@ -1,10 +1,12 @@
 -- With no link nothing is kept of an older one.
-use Rattle.std.proofs.Common.{◌∙◌, length, length-take, sym, ap, subst, arith}
+use Rattle.std.proofs.Common.{◌++◌, ◌∙◌, length, length-take, sym, ap, subst, arith}
 use Rattle.escpos_host.specs.declared.host.Stage.TheVariants as stage
+use Rattle.escpos_command.specs.CommandTable.{spell}
+use Rattle.escpos_host.specs.Out.{unsent}
 use Rattle.escpos_host.specs.Kept.{IsConsistent, view_of}
-use Rattle.escpos_host.specs.Machine.{HostView, HasMark, linked}
+use Rattle.escpos_host.specs.Machine.{HostView, HasMark, linked_by}
 use Rattle.escpos_host.proofs.Views.{comes_up, succeeded}
-use Rattle.escpos_host.proofs.host.Host.link_up.Goals as goal
+use Rattle.escpos_host.proofs.host.Host.open.Goals as goal
 
 pub invariant_of-self-2 : goal.invariant_of-self-2
 invariant_of-self-2 c =
@@ -13,7 +15,7 @@ invariant_of-self-2 c =
     subst (λ s. IsConsistent s h.receipts.items h.recorded h.closing.items h.out h.reader) c.in-Down.is c.self.invariant in
     let kept = c.truncate.new.self.items in (
       fits.0,
-      succeeded c.push.result c.if-is_err.ensures.value c.push.ensures.within kept (fits.1 kept).0 tt,
+      succeeded c.push.result c.if-is_err.ensures.value c.push.ensures.within kept (fits.1 kept).0 (c.opening.ensures.placed kept),
       ap length c.truncate.ensures.items ∙ omega (arith, length-take h.recorded h.receipts.items, fits.3),
     )
 
@@ -26,6 +28,7 @@ returns-clause-up c =
     subst (λ s. IsConsistent s h.receipts.items h.recorded h.closing.items h.out h.reader) c.in-Down.is c.self.invariant in (
       sym (ap (λ (v : HostView). v.phase) before),
       subst HasMark c.self.view_is c.in-Some.ensures.0,
-      comes_up h.receipts.items kept h.recorded h.closing.items h.out c.push.new.self h.reader h.next c.in-Some.mark fits c.truncate.ensures.items c.in-Some.ensures.1
-          (succeeded c.push.result c.if-is_err.ensures.value c.push.ensures.unsent kept (fits.1 kept).0) ∙ ap linked before,
+      comes_up c.args.reporting h.receipts.items kept h.recorded h.closing.items h.out c.push.new.self h.reader h.next c.in-Some.mark fits c.truncate.ensures.items c.in-Some.ensures.1
+          (succeeded c.push.result c.if-is_err.ensures.value c.push.ensures.unsent kept (fits.1 kept).0
+          ∙ ap (λ cs. unsent kept h.out ++ spell cs) (c.opening.ensures.commands kept)) ∙ ap (linked_by c.args.reporting) before,
     )

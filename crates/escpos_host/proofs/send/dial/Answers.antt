@@ -2,10 +2,10 @@
 use Rattle.std.proofs.Common.{◌≡◌, ◌<◌, ◌+◌, arith, max, ◌∙◌, ap, subst}
 use Rattle.std.proofs.Math.Nat.{le-max_left, max-le}
 use Rattle.escpos_command.specs.Digits.{mark_count}
-use Rattle.escpos_host.specs.Awaits.{dialled}
+use Rattle.escpos_host.specs.Awaits.{dialled_by}
 use Rattle.escpos_host.specs.Machine.{HostView, nudged}
-use Rattle.escpos_host.proofs.Dialling.{dialled_more}
-use Rattle.escpos_host.proofs.send.open_link.Goals as goal
+use Rattle.escpos_host.proofs.Dialling.{dialled_more, dialled_next}
+use Rattle.escpos_host.proofs.send.dial.Goals as goal
 
 pub loop-preserved : goal.loop-preserved
 loop-preserved c =
@@ -13,13 +13,14 @@ loop-preserved c =
     let few = c.loop-test.true in
     let most = le-max_left c.args.openings 1 in
     let nudge = c.in_default.ensures.nudged in
-    let left : c.args.host.now.next + c.loop.counter < mark_count = subst (λ (h : HostView). h.next < mark_count) c.loop.invariant.dialled nudge.1 in
+    let left : c.args.host.now.next + c.loop.counter < mark_count =
+    subst (λ next. next < mark_count) (ap (λ (h : HostView). h.next) c.loop.invariant.dialled ∙ dialled_next c.args.reporting c.args.host.now c.loop.counter) nudge.1 in
     record {
       down = c.loop.invariant.down;
       some = omega (arith, before);
       few = omega (arith, few, most);
       marks = omega (arith, left);
-      dialled = nudge.2 ∙ ap nudged c.loop.invariant.dialled ∙ dialled_more c.args.host.now c.loop.counter;
+      dialled = nudge.2 ∙ ap nudged c.loop.invariant.dialled ∙ dialled_more c.args.reporting c.args.host.now c.loop.counter;
     }
 
 pub returns-clause-opened : goal.returns-clause-opened
@@ -27,7 +28,7 @@ returns-clause-opened c =
     let most = max-le c.loop-test.false c.loop.invariant.some in
     let few = c.loop.invariant.few in
     let count : c.loop.counter ≡ max c.args.openings 1 = omega (arith, most, few) in
-    (c.loop.invariant.down, c.loop.invariant.dialled ∙ ap (dialled c.args.host.now) count)
+    (c.loop.invariant.down, c.loop.invariant.dialled ∙ ap (dialled_by c.args.reporting c.args.host.now) count)
 
 pub returns-clause-marks : goal.returns-clause-marks
 returns-clause-marks c =
