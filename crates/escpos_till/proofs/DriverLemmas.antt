@@ -1,5 +1,6 @@
 -- What a driver's turns do.
 use Rattle.std.proofs.Common.{ℕ, zero, suc, true, false, ◌==◌, ◌≡◌, ◌≢◌, ◌+◌, ◌*◌, ◌-◌, ◌<◌, ◌≤◌, ◌⊎◌, inl, inr, Option, Some, None, List, [], ◌∷◌, ◌++◌, length, take, drop, refl, sym, ◌∙◌, ap, subst, arith, length-append, length-drop}
+use Rattle.std.specs.Prelude.{Bool}
 use Rattle.std.proofs.lemmas.List.{drop-drop, nil_from_length, take_all}
 use Rattle.escpos_command.specs.declared.command.Command.{Command}
 use Rattle.escpos_host.specs.declared.host.HostEvent.{HostEvent}
@@ -19,9 +20,11 @@ use Rattle.escpos_till.specs.declared.machine.Then.{Then}
 use Rattle.escpos_till.specs.declared.machine.Then.TheVariants as then
 use Rattle.escpos_till.specs.declared.machine.TillNote.{TillNote}
 use Rattle.escpos_till.specs.declared.machine.TillNote.TheVariants as note
+use Rattle.escpos_till.specs.declared.machine.Action.TheVariants as action
+use Rattle.escpos_till.specs.declared.pause.Pause.{Pause}
 use Rattle.escpos_till.specs.declared.store.StoreFault.{StoreFault}
-use Rattle.escpos_till.specs.Driver.{Breaks, Deed, DidAll, Ends, Gives, HangsUp, HearsAll, IsGiven, IsTold, Keeps, Links, Loses, Misses, Puts, RanFor, RanTo, Tells, TellsNothing, Turns}
-use Rattle.escpos_till.specs.Machine.{Came, Ended, Follows, GoesOn, HearsOne, Kept, MachineView, Opens, Rests, Submits, Turns as Turned, Unsure, connected, hung_up, lost, not_connected, printed, put}
+use Rattle.escpos_till.specs.Driver.{Breaks, Deed, DidAll, Ends, Gives, HangsUp, HearsAll, IsGiven, IsSaid, IsTelling, IsTold, Keeps, Links, Loses, Misses, Pauses, Puts, RanQuietly, RanUpTo, SaysNothing, Tells, TellsNothing, Turns}
+use Rattle.escpos_till.specs.Machine.{Asks, AsksIn, Came, Ended, EndsFinally, Follows, IsFinal, news_in, news_of, told, GoesOn, HearsOne, Kept, MachineView, Opens, Rests, Submits, Turns as Turned, Unsure, connected, ended_by, first_talk, hung_up, lost, not_connected, printed, put, with_left, with_pause, with_sent}
 
 -- 1 while a machine talks.
 abbrev pub is_talking : Stage → ℕ
@@ -142,7 +145,7 @@ not_at : (s other : Stage) → s ≡ other → (Rests other → ⊥) → Rests s
 not_at s other is never = λ rests. never (subst Rests is rests)
 
 opens_not : (due : Due) (first : ℕ) (h : HostView) (s : Stage) → Opens due first h s → Rests s → ⊥
-opens_not due first h s (inl it) = not_at s (stage.Talking (record { number = due.number; receipt = Some due.receipt; left = due.most })) it.1 (λ h. h)
+opens_not due first h s (inl it) = not_at s (stage.Talking (first_talk due)) it.1 (λ h. h)
 opens_not due first h s (inr (why, refused, is)) = not_at s (stage.HangingUp (note.Waiting due.number (fault.Refused why))) is (λ h. h)
 
 follows_not : (next : Then) (before : HostView) (first : ℕ) (b : Book) (h : HostView) (s : Stage) → Follows next before first b h s → Rests s → ⊥
@@ -166,22 +169,22 @@ unsure_not : (s : Stage) (e : Entry) (next : Then) (why : StoreFault) (m after :
 unsure_not s e next why m after is unsure = not_at after.stage (lost next why) (subst (λ at. Unsure at why m after) is unsure).2 (lost_not next why)
 
 ended_not : (s : Stage) (talk : Talk) (why : SendFault) (m after : MachineView) → s ≡ stage.Talking talk → Ended s why m after → Rests after.stage → ⊥
-ended_not s talk why m after is ended = not_at after.stage (stage.HangingUp (note.Waiting talk.number why)) (subst (λ at. Ended at why m after) is ended).2 (λ h. h)
+ended_not s talk why m after is ended = not_at after.stage (stage.HangingUp (ended_by talk why)) (subst (λ at. Ended at why m after) is ended).2 (λ h. h)
 
 on_not : (talk : Talk) (left : ℕ) (before h : HostView) (s : Stage) → GoesOn talk left before h s → Rests s → ⊥
 on_not talk zero before h s (drops, is) = not_at s (stage.HangingUp (note.Waiting talk.number fault.TooLong)) is (λ h. h)
-on_not talk (suc left) before h s (same, is) = not_at s (stage.Talking (record { number = talk.number; receipt = talk.receipt; left = suc left })) is (λ h. h)
+on_not talk (suc left) before h s (same, is) = not_at s (stage.Talking (with_left talk (suc left))) is (λ h. h)
 
 submits_not : (talk : Talk) (receipt : Option (List Command)) (left : ℕ) (before h : HostView) (s : Stage) → Submits talk receipt left before h s → Rests s → ⊥
 submits_not talk None left before h s goes = on_not talk left before h s goes
 submits_not talk (Some receipt) zero before h s goes = on_not talk zero before h s goes
-submits_not talk (Some receipt) (suc left) before h s (inl (flight, opened, few, mark, host, is)) = not_at s (stage.Talking (record { number = talk.number; receipt = None; left = suc left })) is (λ h. h)
+submits_not talk (Some receipt) (suc left) before h s (inl (sends, is)) = not_at s (stage.Talking (with_sent talk (suc left))) is (λ h. h)
 submits_not talk (Some receipt) (suc left) before h s (inr (why, refused, drops, is)) = not_at s (stage.HangingUp (note.Waiting talk.number (fault.Refused why))) is (λ h. h)
 
 turned_not : (b : Book) (e : HostEvent) (talk : Talk) (left : ℕ) (before h : HostView) (s : Stage) → Turned b e talk left before h s → Rests s → ⊥
 turned_not b event.None talk left before h s goes = on_not talk left before h s goes
 turned_not b (event.Status byte) talk left before h s goes = on_not talk left before h s goes
-turned_not b (event.Condition block) talk left before h s goes = on_not talk left before h s goes
+turned_not b (event.Condition block) talk left before h s (p, after, goes) = on_not (with_pause talk p) left before h s goes
 turned_not b (event.Late id) talk left before h s (inl (closes, same, is)) = not_at s (printed talk.number) is (λ h. h)
 turned_not b (event.Late id) talk left before h s (inr (other, goes)) = on_not talk left before h s goes
 turned_not b event.Opened talk left before h s goes = submits_not talk talk.receipt left before h s goes
@@ -217,13 +220,36 @@ goes_on m (Gives room bytes) after never (waits, within, given) = given_not m wa
 goes_on m (Ends why) after never (room, waits, ended) = ended_not m.stage waits.talk why m after waits.talks ended
 goes_on m HangsUp after never (n, is, done) =
     λ rests. subst (λ (k : MachineView). Rests k.stage) (done ∙ ap (λ s. hung_up s m) is) rests
+goes_on m (Pauses number why) after never (talk, is, news, done) =
+    λ rests. subst (λ (k : MachineView). Rests k.stage) (done ∙ ap (λ s. told s m) is) rests
 goes_on m (Tells n) after never turns = absurd (never tt)
+
+not_told : (d : Deed) → (IsSaid d → ⊥) → IsTold d → ⊥
+not_told (Tells n) never told = never tt
+not_told (Keeps e) never told = told
+not_told (Loses e why) never told = told
+not_told Links never told = told
+not_told Misses never told = told
+not_told (Puts bytes) never told = told
+not_told (Breaks bytes why) never told = told
+not_told (Gives room bytes) never told = told
+not_told (Ends why) never told = told
+not_told HangsUp never told = told
+not_told (Pauses number why) never told = told
+
+-- A machine that has done what it asked for, and told nothing, asks for more.
+pub silent_goes_on : (m : MachineView) (d : Deed) (after : MachineView) → (IsSaid d → ⊥) → Turns m d after → Rests after.stage → ⊥
+silent_goes_on m d after never turns = goes_on m d after (not_told d never) turns
 
 -- ## Runs
 
 quiet_more : (ds : List Deed) (d : Deed) → TellsNothing ds → (IsTold d → ⊥) → TellsNothing (ds ++ d ∷ [])
 quiet_more [] d quiet never = (never, tt)
 quiet_more (x ∷ xs) d (first, rest) never = (first, quiet_more xs d rest never)
+
+silent_more : (ds : List Deed) (d : Deed) → SaysNothing ds → (IsSaid d → ⊥) → SaysNothing (ds ++ d ∷ [])
+silent_more [] d quiet never = (never, tt)
+silent_more (x ∷ xs) d (first, rest) never = (first, silent_more xs d rest never)
 
 -- One more deed.
 pub did_more : {D : Type 0} (did : D → Deed → D → Type 0) (m : MachineView) (old : D) (ds : List Deed) (mid : MachineView) (between : D) (d : Deed) (after : MachineView) (new : D)
@@ -233,29 +259,107 @@ did_more {D} did m old [] mid between d after new (is, same) turns sound done =
 did_more did m old (x ∷ xs) mid between d after new (one, other, turned, well, did_x, rest) turns sound done =
     (one, other, turned, well, did_x, did_more did one other xs mid between d after new rest turns sound done)
 
-pub ran_none : {D : Type 0} (did : D → Deed → D → Type 0) (m : MachineView) (old : D) → RanFor did m old m old 0
-ran_none did m old = record { run = record { deeds = []; did_all = (refl, refl) }; turns = refl; quiet = tt }
+pub ran_none : {D : Type 0} (did : D → Deed → D → Type 0) (m : MachineView) (old : D) → RanQuietly did m old m old 0
+ran_none did m old = (record { run = record { deeds = []; did_all = (refl, refl) }; turns = refl; quiet = tt }, tt)
+
+-- Where nothing was done of what may be.
+pub none_done : {D : Type 0} (did : D → Deed → D → Type 0) (m : MachineView) (old : D) (most : ℕ) → RanQuietly did m old m old (most - most)
+none_done did m old most =
+    let zero_left : 0 ≡ most - most = omega arith in
+    subst (λ n. RanQuietly did m old m old n) zero_left (ran_none did m old)
 
 pub ran_more : {D : Type 0} (did : D → Deed → D → Type 0) (m : MachineView) (old : D) (mid : MachineView) (between : D) (count : ℕ) (d : Deed) (after : MachineView) (new : D)
-    → RanFor did m old mid between count → (IsTold d → ⊥) → Turns mid d after → IsSound after.host → did between d new → RanFor did m old after new (count + 1)
-ran_more did m old mid between count d after new ran never turns sound done = record {
-  run = record { deeds = ran.run.deeds ++ d ∷ []; did_all = did_more did m old ran.run.deeds mid between d after new ran.run.did_all turns sound done };
-  turns = length-append ran.run.deeds (d ∷ []) ∙ ap (λ n. n + 1) ran.turns;
-  quiet = quiet_more ran.run.deeds d ran.quiet never;
-}
+    → RanQuietly did m old mid between count → (IsSaid d → ⊥) → Turns mid d after → IsSound after.host → did between d new → RanQuietly did m old after new (count + 1)
+ran_more did m old mid between count d after new (ran, silent) never turns sound done = (
+  record {
+    run = record { deeds = ran.run.deeds ++ d ∷ []; did_all = did_more did m old ran.run.deeds mid between d after new ran.run.did_all turns sound done };
+    turns = length-append ran.run.deeds (d ∷ []) ∙ ap (λ n. n + 1) ran.turns;
+    quiet = quiet_more ran.run.deeds d ran.quiet (not_told d never);
+  },
+  silent_more ran.run.deeds d silent never,
+)
 
--- At the end its owner is told.
-pub ran_to : {D : Type 0} (did : D → Deed → D → Type 0) (m : MachineView) (old : D) (mid : MachineView) (between : D) (count : ℕ) (n : TillNote) (most : ℕ) (after : MachineView) (new : D)
-    → RanFor did m old mid between count → count < most → Turns mid (Tells n) after → IsSound after.host → did between (Tells n) new → RanTo did m old n most after new
-ran_to did m old mid between count n most after new ran fewer turns sound done = record {
-  before = ran.run.deeds;
-  did_all = did_more did m old ran.run.deeds mid between (Tells n) after new ran.run.did_all turns sound done;
-  turns = subst (λ k. k < most) (sym ran.turns) fewer;
-}
+-- At the end its owner is told, and of what came of no call before.
+pub ran_to : {D : Type 0} (did : D → Deed → D → Type 0) (m : MachineView) (old : D) (mid : MachineView) (between : D) (count : ℕ) (d : Deed) (n : TillNote) (most left : ℕ) (after : MachineView) (new : D)
+    → RanQuietly did m old mid between count → count + 1 + left ≡ most → IsTelling d n → Turns mid d after → IsSound after.host → did between d new → RanUpTo did m old n most left after new
+ran_to {D} did m old mid between count (Tells x) n most left after new (ran, silent) all (is, final) turns sound done =
+    let whole = did_more did m old ran.run.deeds mid between (Tells x) after new ran.run.did_all turns sound done in
+    let counts : length ran.run.deeds + 1 + left ≡ most = ap (λ k. k + 1 + left) ran.turns ∙ all in
+    inl (
+      subst IsFinal is final,
+      (
+        record {
+          before = ran.run.deeds;
+          did_all = subst (λ note. DidAll did m old (ran.run.deeds ++ Tells note ∷ []) after new) is whole;
+          turns = omega (arith, counts);
+        },
+        silent,
+        counts,
+      ),
+    )
+ran_to did m old mid between count (Pauses number why) n most left after new (ran, silent) all is turns sound done =
+    let counts : length ran.run.deeds + 1 + left ≡ most = ap (λ k. k + 1 + left) ran.turns ∙ all in
+    inr (
+      record {
+        before = ran.run.deeds;
+        number = number;
+        why = why;
+        note_is = sym is;
+        did_all = did_more did m old ran.run.deeds mid between (Pauses number why) after new ran.run.did_all turns sound done;
+        turns = omega (arith, counts);
+        quiet = silent;
+        goes_on = goes_on mid (Pauses number why) after (λ never. never) turns;
+      },
+      counts,
+    )
+ran_to did m old mid between count (Keeps e) n most left after new ran all is turns sound done = absurd is
+ran_to did m old mid between count (Loses e why) n most left after new ran all is turns sound done = absurd is
+ran_to did m old mid between count Links n most left after new ran all is turns sound done = absurd is
+ran_to did m old mid between count Misses n most left after new ran all is turns sound done = absurd is
+ran_to did m old mid between count (Puts bytes) n most left after new ran all is turns sound done = absurd is
+ran_to did m old mid between count (Breaks bytes why) n most left after new ran all is turns sound done = absurd is
+ran_to did m old mid between count (Gives room bytes) n most left after new ran all is turns sound done = absurd is
+ran_to did m old mid between count (Ends why) n most left after new ran all is turns sound done = absurd is
+ran_to did m old mid between count HangsUp n most left after new ran all is turns sound done = absurd is
+
+same_note : (x n : TillNote) → action.Tell x ≡ action.Tell n → x ≡ n
+same_note x n is = cc is
+
+is_pause : (number : ℕ) (why : Option Pause) (is_news : Bool) (n : TillNote) → news_in number why is_news ≡ Some n → (p : Pause) × (n ≡ note.Paused number p)
+is_pause number (Some p) true n is = (p, cc is)
+is_pause number (Some p) false n is = absurd (let bad : None ≡ Some n = is in cc)
+is_pause number None is_news n is = absurd (let bad : None ≡ Some n = is in cc)
+
+told_in : (Done : Deed → Type 0) → ((number : ℕ) (why : Pause) → Done (Pauses number why)) → (talk : Talk) (m after : MachineView) (n : TillNote) (news : Option TillNote) → m.stage ≡ stage.Talking talk → news_of talk ≡ news → AsksIn m.host news talk.left (action.Tell n)
+    → after ≡ told m.stage m → (d : Deed) × IsTelling d n × Turns m d after × Done d
+told_in Done pauses talk m after n None is none asks done = absurd asks
+told_in Done pauses talk m after n (Some x) is some asks done =
+    let same : x ≡ n = same_note x n (sym asks) in
+    let (p, paused) = is_pause talk.number talk.paused.why talk.paused.is_news n (some ∙ ap Some same) in
+    (Pauses talk.number p, sym paused, (talk, is, some ∙ ap Some (same ∙ paused), done), pauses talk.number p)
+
+-- What a machine has to tell is told by a deed: what came of a call, or a pause.
+pub asked_to_tell : (Done : Deed → Type 0) → ((x : TillNote) → Done (Tells x)) → ((number : ℕ) (why : Pause) → Done (Pauses number why)) → (s : Stage) (m after : MachineView) (n : TillNote)
+    → m.stage ≡ s → Asks m s (action.Tell n) → EndsFinally s → after ≡ told s m → (d : Deed) × IsTelling d n × Turns m d after × Done d
+asked_to_tell Done tells pauses (stage.Telling x) m after n is asks final done =
+    (Tells x, (same_note x n (sym asks), final), (is, done ∙ ap (λ s. told s m) (sym is)), tells x)
+asked_to_tell Done tells pauses (stage.Talking talk) m after n is asks final done = told_in Done pauses talk m after n (news_of talk) is refl asks (done ∙ ap (λ s. told s m) (sym is))
+asked_to_tell Done tells pauses stage.AtRest m after n is asks final done = absurd (let bad : action.Tell n ≡ action.Nothing = asks in cc)
+asked_to_tell Done tells pauses (stage.Connecting due) m after n is asks final done = absurd (let bad : action.Tell n ≡ action.Connect = asks in cc)
+asked_to_tell Done tells pauses (stage.Keeping e next) m after n is asks final done = absurd asks
+asked_to_tell Done tells pauses (stage.HangingUp x) m after n is asks final done = absurd (let bad : action.Tell n ≡ action.HangUp = asks in cc)
+asked_to_tell Done tells pauses stage.Failed m after n is asks final done = absurd (let bad : action.Tell n ≡ action.Nothing = asks in cc)
+
+-- Of what may be done, one less may be done now.
+pub one_less : (left most : ℕ) → 0 < left → left ≤ most → (most - left) + 1 ≡ most - (left - 1)
+one_less left most some within = omega (arith, some, within)
+
+pub told_so : (count left most : ℕ) → count ≡ most - left → 0 < left → left ≤ most → count + 1 + (left - 1) ≡ most
+told_so count left most is some within = omega (arith, is, some, within)
 
 -- No more is done than may be.
 pub all_done : {D : Type 0} (did : D → Deed → D → Type 0) (m : MachineView) (old : D) (after : MachineView) (new : D) (count most : ℕ)
-    → RanFor did m old after new count → count ≤ most → most ≤ count → RanFor did m old after new most
+    → RanQuietly did m old after new count → count ≤ most → most ≤ count → RanQuietly did m old after new most
 all_done did m old after new count most ran fewer more =
     let same : count ≡ most = omega (arith, fewer, more) in
-    subst (λ n. RanFor did m old after new n) same ran
+    subst (λ n. RanQuietly did m old after new n) same ran

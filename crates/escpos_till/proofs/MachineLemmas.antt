@@ -1,10 +1,10 @@
 -- What the calls of a machine do to the entries that it is of.
-use Rattle.std.proofs.Common.{ℕ, zero, suc, ◌≡◌, ◌+◌, ◌-◌, ◌<◌, ◌≤◌, inl, inr, Some, None, List, [], ◌∷◌, ◌++◌, length, refl, sym, ◌∙◌, ap, subst, length-append, arith}
+use Rattle.std.proofs.Common.{ℕ, zero, suc, ◌≡◌, ◌+◌, ◌-◌, ◌<◌, ◌≤◌, ◌⊎◌, inl, inr, Some, None, List, [], ◌∷◌, ◌++◌, length, refl, sym, ◌∙◌, ap, subst, length-append, arith}
 use Rattle.std.specs.Prelude.{slice_get}
 use Rattle.escpos_host.specs.declared.host.HostEvent.{HostEvent}
 use Rattle.escpos_host.specs.declared.host.HostEvent.TheVariants as event
 use Rattle.escpos_host.specs.Heard.{IsHeard, taken_at}
-use Rattle.escpos_host.specs.Machine.{Down, HostView, Open, Opening, Phase}
+use Rattle.escpos_host.specs.Machine.{Down, HostView, Open, Opening, Phase, reports_asked}
 use Rattle.escpos_command.specs.declared.command.Command.{Command}
 use Rattle.std.specs.Prelude.{Option}
 use Rattle.escpos_till.specs.declared.book.Book.{Book}
@@ -16,9 +16,12 @@ use Rattle.escpos_till.specs.declared.machine.Stage.TheVariants as stage
 use Rattle.escpos_till.specs.declared.machine.Talk.{Talk}
 use Rattle.escpos_till.specs.declared.machine.Then.{Then}
 use Rattle.escpos_till.specs.declared.machine.Then.TheVariants as then
+use Rattle.escpos_host.specs.declared.host.HostError.{HostError}
+use Rattle.escpos_host.specs.declared.send.SendFault.TheVariants as fault
+use Rattle.escpos_till.specs.declared.machine.TillNote.TheVariants as note
 use Rattle.escpos_till.specs.declared.state.ReceiptState.TheVariants as state
 use Rattle.escpos_till.specs.Entries.{MayFollow, Waits, states, times_tried}
-use Rattle.escpos_till.specs.Machine.{Came, Fits, Follows, GoesOn, HearsOne, Opens, Submits, Suits, Turns, most_entries, printed}
+use Rattle.escpos_till.specs.Machine.{Came, Drops, Fits, RefusesSending, Follows, GoesOn, HearsOne, Opens, Submits, Suits, Turns, most_entries, printed, with_pause}
 use Rattle.escpos_till.proofs.BookLemmas.{get-here}
 use Rattle.escpos_till.proofs.EntryLemmas.{some_state, tried_states, waits_by_state, within_states}
 
@@ -39,7 +42,7 @@ fits_going_on b es talk (suc left) before h s waits tried few so = subst (Fits b
 
 fits_submits : (b : Book) (es : List Entry) (talk : Talk) (receipt : Option (List Command)) (left : ℕ) (before h : HostView) (s : Stage) → Waits es talk.number → 0 < times_tried es talk.number
     → length es < most_entries → Submits talk receipt left before h s → Fits b es s
-fits_submits b es talk (Some receipt) (suc left) before h s waits tried few (inl given) = subst (Fits b es) (sym given.5) (waits, tried, few)
+fits_submits b es talk (Some receipt) (suc left) before h s waits tried few (inl given) = subst (Fits b es) (sym given.1) (waits, tried, few)
 fits_submits b es talk (Some receipt) (suc left) before h s waits tried few (inr refused) = subst (Fits b es) (sym refused.3) tt
 fits_submits b es talk (Some receipt) zero before h s waits tried few so = fits_going_on b es talk zero before h s waits tried few so
 fits_submits b es talk None left before h s waits tried few so = fits_going_on b es talk left before h s waits tried few so
@@ -57,7 +60,7 @@ fits_printed b es n waits tried few = (
 pub fits_turns : (b : Book) (es : List Entry) (e : HostEvent) (talk : Talk) (left : ℕ) (before h : HostView) (s : Stage) → Fits b es (stage.Talking talk) → Turns b e talk left before h s → Fits b es s
 fits_turns b es event.None talk left before h s fits so = fits_going_on b es talk left before h s fits.0 fits.1 fits.2 so
 fits_turns b es (event.Status byte) talk left before h s fits so = fits_going_on b es talk left before h s fits.0 fits.1 fits.2 so
-fits_turns b es (event.Condition block) talk left before h s fits so = fits_going_on b es talk left before h s fits.0 fits.1 fits.2 so
+fits_turns b es (event.Condition block) talk left before h s fits (p, after, on) = fits_going_on b es (with_pause talk p) left before h s fits.0 fits.1 fits.2 on
 fits_turns b es event.Opened talk left before h s fits so = fits_submits b es talk talk.receipt left before h s fits.0 fits.1 fits.2 so
 fits_turns b es (event.Recorded place) talk left before h s fits so = subst (Fits b es) (sym so.1) (fits_printed b es talk.number fits.0 fits.1 fits.2)
 fits_turns b es (event.Late id) talk left before h s fits (inl (closes, same, is)) = subst (Fits b es) (sym is) (fits_printed b es talk.number fits.0 fits.1 fits.2)
@@ -129,3 +132,17 @@ pub hears_within : (phase : Phase) (h : HostView) (bytes : List ℕ) (consumed :
 hears_within Down h bytes consumed e after is hears = omega (arith, (hears.0 is).0)
 hears_within (Opening first) h bytes consumed e after is hears = heard_within h bytes consumed e after (hears.1 (λ down. absurd (let bad : Opening first ≡ Down = sym is ∙ down in cc)))
 hears_within (Open flight) h bytes consumed e after is hears = heard_within h bytes consumed e after (hears.1 (λ down. absurd (let bad : Open flight ≡ Down = sym is ∙ down in cc)))
+
+-- A link that is given up after a refusal is given up from before it.
+pub drops_from : (h mid after : HostView) → (mid ≡ h) ⊎ ((h.phase ≡ Open []) × (mid ≡ reports_asked h)) → Drops mid after → Drops h after
+drops_from h mid after (inl same) drops = subst (λ v. Drops v after) same drops
+drops_from h mid after (inr (up, asked)) drops =
+    let from = subst (λ v. Drops v after) asked drops in
+    (λ down. absurd (let bad : Open [] ≡ Down = sym up ∙ down in cc), λ some. from.1 some)
+
+-- The receipt isn't sent: the host refuses it, or the request before it.
+pub refuses_so : (talk : Talk) (held : Option (List Command)) (receipt : List Command) (left : ℕ) (before h : HostView) (s : Stage) (why : HostError) → held ≡ Some receipt → 0 < left
+    → RefusesSending why before → Drops before h → s ≡ stage.HangingUp (note.Waiting talk.number (fault.Refused why)) → Submits talk held left before h s
+refuses_so talk held receipt zero before h s why has some refuses drops is = absurd (omega (arith, some))
+refuses_so talk held receipt (suc left) before h s why has some refuses drops is =
+    subst (λ r. Submits talk r (suc left) before h s) (sym has) (inr (why, refuses, drops, is))

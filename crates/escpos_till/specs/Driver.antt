@@ -1,5 +1,5 @@
 -- What a driver does with a machine: all that the machine asks for, in order, with nothing between.
-use Rattle.std.specs.Prelude.{ℕ, Option, ◌≡◌, ◌≢◌, ◌<◌, ◌≤◌, List, [], ◌∷◌, ◌++◌, length, take, drop}
+use Rattle.std.specs.Prelude.{ℕ, Option, Some, None, ◌≡◌, ◌≢◌, ◌⊎◌, ◌+◌, ◌<◌, ◌≤◌, List, [], ◌∷◌, ◌++◌, length, take, drop}
 use Rattle.escpos_host.specs.declared.send.SendFault.{SendFault}
 use Rattle.escpos_host.specs.Machine.{IsSound}
 use Rattle.escpos_till.specs.declared.entry.Content.{Content}
@@ -9,8 +9,10 @@ use Rattle.escpos_till.specs.declared.machine.Stage.TheVariants as stage
 use Rattle.escpos_till.specs.declared.machine.Talk.{Talk}
 use Rattle.escpos_till.specs.declared.machine.Then.{Then}
 use Rattle.escpos_till.specs.declared.machine.TillNote.{TillNote}
+use Rattle.escpos_till.specs.declared.machine.TillNote.TheVariants as note
+use Rattle.escpos_till.specs.declared.pause.Pause.{Pause}
 use Rattle.escpos_till.specs.declared.store.StoreFault.{StoreFault}
-use Rattle.escpos_till.specs.Machine.{Came, Cancels, Delivers, Ended, Kept, MachineView, Queues, Raises, SendsReceipt, Unsure, connected, hung_up, not_connected, put, told}
+use Rattle.escpos_till.specs.Machine.{Came, Cancels, Delivers, Ended, IsFinal, Kept, MachineView, Queues, Raises, Rests, SendsReceipt, Unsure, connected, hung_up, news_of, not_connected, put, told}
 
 -- ## One turn
 
@@ -30,13 +32,27 @@ pub data Deed : Type 0 where
   Ends : SendFault → Deed
   -- the link is given up
   HangsUp : Deed
+  -- the owner is told that the printer prints nothing for now, while the receipt with this number is being sent
+  Pauses : ℕ → Pause → Deed
   -- the owner is told this
   Tells : TillNote → Deed
 
--- Its owner is told something.
+-- Its owner is told what came of a call.
 abbrev pub IsTold : Deed → Type 0
 IsTold (Tells note) = Unit {0}
 IsTold deed = ⊥
+
+-- Its owner is told something, of a call or of a pause.
+abbrev pub IsSaid : Deed → Type 0
+IsSaid (Tells note) = Unit {0}
+IsSaid (Pauses number why) = Unit {0}
+IsSaid deed = ⊥
+
+-- By this deed its owner is told this note.
+abbrev pub IsTelling : Deed → TillNote → Type 0
+IsTelling (Tells n) told = (n ≡ told) × IsFinal n
+IsTelling (Pauses number why) told = note.Paused number why ≡ told
+IsTelling deed told = ⊥
 
 -- It hears these bytes, each time up to an event, for as long as it talks; what comes after that is dropped. The counts are how many it took
 -- each time.
@@ -55,6 +71,7 @@ IsGiven m bytes after = (counts : List ℕ) × HearsAll m bytes counts after
 pub record IsNextOut (m : MachineView) (bytes : List ℕ) (count : ℕ) : Type 0 where
   pub talk : Talk
   pub talks : m.stage ≡ stage.Talking talk
+  pub quiet : news_of talk ≡ None
   pub some : m.host.out ≢ []
   pub positive : 0 < count
   pub within : count ≤ length m.host.out
@@ -64,6 +81,7 @@ pub record IsNextOut (m : MachineView) (bytes : List ℕ) (count : ℕ) : Type 0
 pub record IsWaiting (m : MachineView) (room : ℕ) : Type 0 where
   pub talk : Talk
   pub talks : m.stage ≡ stage.Talking talk
+  pub quiet : news_of talk ≡ None
   pub nothing_out : m.host.out ≡ []
   pub within : room ≤ talk.left
   pub some : room ≡ 0 → talk.left ≡ 0
@@ -79,6 +97,7 @@ Turns m (Breaks bytes why) after = (count : ℕ) × IsNextOut m bytes count × E
 Turns m (Gives room bytes) after = IsWaiting m room × (length bytes ≤ room) × IsGiven m bytes after
 Turns m (Ends why) after = (room : ℕ) × IsWaiting m room × Ended m.stage why m after
 Turns m HangsUp after = (note : TillNote) × (m.stage ≡ stage.HangingUp note) × (after ≡ hung_up m.stage m)
+Turns m (Pauses number why) after = (talk : Talk) × (m.stage ≡ stage.Talking talk) × (news_of talk ≡ Some (note.Paused number why)) × (after ≡ told m.stage m)
 Turns m (Tells note) after = (m.stage ≡ stage.Telling note) × (after ≡ told m.stage m)
 
 -- ## A run
@@ -100,16 +119,43 @@ pub record RanTo {D : Type 0} (did : D → Deed → D → Type 0) (m : MachineVi
   pub did_all : DidAll did m old (before ++ Tells n ∷ []) after new
   pub turns : length before < most
 
--- Its owner is told nothing by these.
+-- Its owner is told by none of these what came of a call.
 abbrev pub TellsNothing : List Deed → Type 0
 TellsNothing [] = Unit {0}
 TellsNothing (d ∷ ds) = (IsTold d → ⊥) × TellsNothing ds
 
--- A run with so many deeds, by which its owner is told nothing.
+-- Nor of a pause.
+abbrev pub SaysNothing : List Deed → Type 0
+SaysNothing [] = Unit {0}
+SaysNothing (d ∷ ds) = (IsSaid d → ⊥) × SaysNothing ds
+
+-- A run at whose end the machine's owner is told that the printer prints nothing for now.
+pub record RanPaused {D : Type 0} (did : D → Deed → D → Type 0) (m : MachineView) (old : D) (n : TillNote) (most : ℕ) (after : MachineView) (new : D) : Type 0 where
+  pub before : List Deed
+  pub number : ℕ
+  pub why : Pause
+  pub note_is : n ≡ note.Paused number why
+  pub did_all : DidAll did m old (before ++ Pauses number why ∷ []) after new
+  pub turns : length before < most
+  pub quiet : SaysNothing before
+  pub goes_on : Rests after.stage → ⊥
+
+-- A run at whose end the machine's owner is told this: what came of a call, and nothing of one before; or that the printer prints nothing for now.
+-- So many deeds may still be done then, of those that might be.
+abbrev pub RanUpTo : {D : Type 0} → (D → Deed → D → Type 0) → MachineView → D → TillNote → ℕ → ℕ → MachineView → D → Type 0
+RanUpTo did m old n most left after new =
+    (IsFinal n × ((ran : RanTo did m old n most after new) × SaysNothing ran.before × (length ran.before + 1 + left ≡ most)))
+    ⊎ ((ran : RanPaused did m old n most after new) × (length ran.before + 1 + left ≡ most))
+
+-- A run with so many deeds, by which its owner is told nothing of what came of a call.
 pub record RanFor {D : Type 0} (did : D → Deed → D → Type 0) (m : MachineView) (old : D) (after : MachineView) (new : D) (count : ℕ) : Type 0 where
   pub run : Ran did m old after new
   pub turns : length run.deeds ≡ count
   pub quiet : TellsNothing run.deeds
+
+-- The same, where its owner is told of no pause either.
+abbrev pub RanQuietly : {D : Type 0} → (D → Deed → D → Type 0) → MachineView → D → MachineView → D → ℕ → Type 0
+RanQuietly did m old after new count = (ran : RanFor did m old after new count) × SaysNothing ran.run.deeds
 
 -- ## What an owner asks for
 

@@ -1,6 +1,7 @@
 pub mod Contents
 pub mod Entries
 pub mod Tries
+pub mod Pauses
 pub mod States
 pub mod Copy
 pub mod Delivers

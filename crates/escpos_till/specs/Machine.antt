@@ -1,5 +1,5 @@
 -- The machine of a till with one printer: what it asks for, and what each call does.
-use Rattle.std.specs.Prelude.{ℕ, zero, suc, ◌≡◌, ◌≢◌, ◌⊎◌, ◌+◌, ◌-◌, ◌<◌, ◌≤◌, ◌^◌, max, Option, Some, None, List, [], length}
+use Rattle.std.specs.Prelude.{Bool, true, ℕ, zero, suc, ◌≡◌, ◌≢◌, ◌⊎◌, ◌+◌, ◌-◌, ◌<◌, ◌≤◌, ◌^◌, max, Option, Some, None, List, [], length}
 use Rattle.escpos_command.specs.declared.command.Command.{Command}
 use Rattle.escpos_command.specs.CommandTable.{AreCommands}
 use Rattle.escpos_command.specs.Digits.{mark_count}
@@ -8,9 +8,9 @@ use Rattle.escpos_host.specs.declared.host.HostEvent.{HostEvent}
 use Rattle.escpos_host.specs.declared.host.HostEvent.TheVariants as event
 use Rattle.escpos_host.specs.declared.send.SendFault.{SendFault}
 use Rattle.escpos_host.specs.declared.send.SendFault.TheVariants as fault
-use Rattle.escpos_host.specs.Awaits.{RefusesOpening, dialled}
+use Rattle.escpos_host.specs.Awaits.{RefusesOpening, dialled_reporting}
 use Rattle.escpos_host.specs.Heard.{IsHeard}
-use Rattle.escpos_host.specs.Machine.{HostView, InFlight, Down, Open, HasMark, RefusesSubmit, gone_down, most_in_flight, submitted, taken_out}
+use Rattle.escpos_host.specs.Machine.{HostView, Down, Open, HasMark, RefusesAsk, RefusesSubmit, gone_down, reports_asked, submitted, taken_out}
 use Rattle.escpos_receipt.specs.Whole.{Whole}
 use Rattle.escpos_till.specs.declared.book.Book.{Book}
 use Rattle.escpos_till.specs.declared.entry.Content.{Content}
@@ -28,9 +28,12 @@ use Rattle.escpos_till.specs.declared.machine.TillNote.{TillNote}
 use Rattle.escpos_till.specs.declared.machine.TillNote.TheVariants as note
 use Rattle.escpos_till.specs.declared.machine.TillRefusal.{TillRefusal}
 use Rattle.escpos_till.specs.declared.machine.TillRefusal.TheVariants as refusal
+use Rattle.escpos_till.specs.declared.pause.Pause.{Pause}
+use Rattle.escpos_till.specs.declared.pause.Paused.{Paused}
 use Rattle.escpos_till.specs.declared.state.ReceiptState.TheVariants as state
 use Rattle.escpos_till.specs.declared.store.StoreFault.{StoreFault}
 use Rattle.escpos_till.specs.Book.{HasRoom, HasTryRoom, IsBookOf, Notes}
+use Rattle.escpos_till.specs.Pauses.{IsAfterBlock, no_news, not_paused}
 use Rattle.escpos_till.specs.Tries.{ClosesTry}
 use Rattle.escpos_till.specs.Contents.{GivesReceipt, IsContentFault}
 use Rattle.escpos_till.specs.Delivers.{Due as IsDue, FirstWaits, fresh, marks_taken}
@@ -76,12 +79,24 @@ entries_to_come next = 0
 abbrev pub MayTry : List Entry → Due → Type 0
 MayTry es due = Waits es due.number × (next_free es + marks_taken due.openings ≤ mark_count) × (length es + 1 < most_entries)
 
--- A stage fits these entries: what is to be kept may follow them.
+-- The note says what came of a call: not that the printer pauses while it is served.
+abbrev pub IsFinal : TillNote → Type 0
+IsFinal (note.Paused number why) = ⊥
+IsFinal n = Unit {0}
+
+abbrev pub EndsFinally : Stage → Type 0
+EndsFinally (stage.HangingUp n) = IsFinal n
+EndsFinally (stage.Telling n) = IsFinal n
+EndsFinally s = Unit {0}
+
+-- A stage fits these entries: what is to be kept may follow them; and it ends with what came of its call.
 abbrev pub Fits : Book → List Entry → Stage → Type 0
 Fits b es (stage.Connecting due) = MayTry es due × HasTryRoom b
 Fits b es (stage.Keeping e next) = MayFollow es e × Suits next e × (length es + entries_to_come next < most_entries) × ((content : Content) → e ≡ entry.Queued content → HasRoom b)
     × ((number next : ℕ) → e ≡ entry.Tried number next → HasTryRoom b)
 Fits b es (stage.Talking talk) = Waits es talk.number × (0 < times_tried es talk.number) × (length es < most_entries)
+Fits b es (stage.HangingUp n) = IsFinal n
+Fits b es (stage.Telling n) = IsFinal n
 Fits b es s = Unit {0}
 
 -- What holds for every machine: it is that of some entries.
@@ -103,17 +118,33 @@ pub record IsStarted (m : MachineView) : Type 0 where
 
 -- ## What it asks for
 
+-- What its owner is to be told while it talks: that the printer prints nothing for now.
+abbrev pub news_in : ℕ → Option Pause → Bool → Option TillNote
+news_in number (Some why) true = Some (note.Paused number why)
+news_in number why is_news = None
+
+abbrev pub news_of : Talk → Option TillNote
+news_of talk = news_in talk.number talk.paused.why talk.paused.is_news
+
+abbrev pub IsPausing : Stage → Type 0
+IsPausing (stage.Talking talk) = talk.paused.why ≢ None
+IsPausing s = ⊥
+
 abbrev pub PutsFirst : HostView → Action → ℕ → Type 0
 PutsFirst h (action.Put) left = h.out ≢ []
 PutsFirst h (action.Wait most) left = (h.out ≡ []) × (most ≡ left)
 PutsFirst h _ left = ⊥
+
+abbrev pub AsksIn : HostView → Option TillNote → ℕ → Action → Type 0
+AsksIn h (Some n) left a = a ≡ action.Tell n
+AsksIn h None left a = PutsFirst h a left
 
 -- A machine at this stage asks for this.
 abbrev pub Asks : MachineView → Stage → Action → Type 0
 Asks m (stage.Connecting due) a = a ≡ action.Connect
 Asks m (stage.Keeping e next) (action.Append asked) = asked.now ≡ e
 Asks m (stage.Keeping e next) _ = ⊥
-Asks m (stage.Talking talk) a = PutsFirst m.host a talk.left
+Asks m (stage.Talking talk) a = AsksIn m.host (news_of talk) talk.left a
 Asks m (stage.HangingUp n) a = a ≡ action.HangUp
 Asks m (stage.Telling n) a = a ≡ action.Tell n
 Asks m _ a = a ≡ action.Nothing
@@ -213,10 +244,23 @@ pub record SameEntries (m after : MachineView) : Type 0 where
 abbrev pub Drops : HostView → HostView → Type 0
 Drops h after = (h.phase ≡ Down → after ≡ h) × (h.phase ≢ Down → after ≡ gone_down h)
 
--- A fresh host, whose first mark has this number, puts the opening marks out; or it refuses to.
+-- A talk that begins; and the same one later.
+abbrev pub first_talk : Due → Talk
+first_talk due = record { number = due.number; receipt = Some due.receipt; left = due.most; paused = not_paused }
+
+abbrev pub with_left : Talk → ℕ → Talk
+with_left talk left = record { number = talk.number; receipt = talk.receipt; left = left; paused = talk.paused }
+
+abbrev pub with_sent : Talk → ℕ → Talk
+with_sent talk left = record { number = talk.number; receipt = None; left = left; paused = talk.paused }
+
+abbrev pub with_pause : Talk → Paused → Talk
+with_pause talk p = record { number = talk.number; receipt = talk.receipt; left = talk.left; paused = p }
+
+-- A fresh host, whose first mark has this number, puts the opening marks out, after a request for automatic status; or it refuses to.
 abbrev pub Opens : Due → ℕ → HostView → Stage → Type 0
 Opens due first h s =
-    ((h ≡ dialled (fresh first) (max due.openings 1)) × (s ≡ stage.Talking (record { number = due.number; receipt = Some due.receipt; left = due.most })))
+    ((h ≡ dialled_reporting (fresh first) (max due.openings 1)) × (s ≡ stage.Talking (first_talk due)))
     ⊎ ((why : HostError) × RefusesOpening why (fresh first) (max due.openings 1) h × (s ≡ stage.HangingUp (note.Waiting due.number (fault.Refused why))))
 
 -- What follows once the entry is kept, where this host was there, and this mark number was the next; the book is the new one.
@@ -263,15 +307,25 @@ put s n m = m
 -- The talk goes on, where so many bytes of answers may still be read.
 abbrev pub GoesOn : Talk → ℕ → HostView → HostView → Stage → Type 0
 GoesOn talk zero before h s = Drops before h × (s ≡ stage.HangingUp (note.Waiting talk.number fault.TooLong))
-GoesOn talk (suc left) before h s = (h ≡ before) × (s ≡ stage.Talking (record { number = talk.number; receipt = talk.receipt; left = suc left }))
+GoesOn talk (suc left) before h s = (h ≡ before) × (s ≡ stage.Talking (with_left talk (suc left)))
 
--- The link is open: the host is given the receipt, or refuses it.
+-- A host whose link is open is given the receipt, after a request for automatic status; or it refuses one of them.
+abbrev pub Sends : List Command → HostView → HostView → Type 0
+Sends receipt before h = (before.phase ≡ Open []) × HasMark before × (h ≡ submitted (reports_asked before) [] receipt)
+
+abbrev pub RefusesSending : HostError → HostView → Type 0
+RefusesSending why h = RefusesAsk why h ⊎ ((h.phase ≡ Open []) × RefusesSubmit why (reports_asked h))
+
+-- The link is open: the receipt is sent, or refused.
 abbrev pub Submits : Talk → Option (List Command) → ℕ → HostView → HostView → Stage → Type 0
 Submits talk (Some receipt) (suc left) before h s =
-    ((flight : List InFlight) × (before.phase ≡ Open flight) × (length flight < most_in_flight) × HasMark before × (h ≡ submitted before flight receipt)
-    × (s ≡ stage.Talking (record { number = talk.number; receipt = None; left = suc left })))
-    ⊎ ((why : HostError) × RefusesSubmit why before × Drops before h × (s ≡ stage.HangingUp (note.Waiting talk.number (fault.Refused why))))
+    (Sends receipt before h × (s ≡ stage.Talking (with_sent talk (suc left))))
+    ⊎ ((why : HostError) × RefusesSending why before × Drops before h × (s ≡ stage.HangingUp (note.Waiting talk.number (fault.Refused why))))
 Submits talk receipt left before h s = GoesOn talk left before h s
+
+-- The printer tells its condition, and the talk goes on.
+abbrev pub Hears : Talk → List ℕ → ℕ → HostView → HostView → Stage → Type 0
+Hears talk block left before h s = (p : Paused) × IsAfterBlock talk.paused block p × GoesOn (with_pause talk p) left before h s
 
 -- The receipt is printed: that is to be kept.
 abbrev pub printed : ℕ → Stage
@@ -282,7 +336,7 @@ printed number = stage.Keeping (entry.Recorded number) (then.Recorded number)
 abbrev pub Turns : Book → HostEvent → Talk → ℕ → HostView → HostView → Stage → Type 0
 Turns b event.None talk left before h s = GoesOn talk left before h s
 Turns b (event.Status byte) talk left before h s = GoesOn talk left before h s
-Turns b (event.Condition block) talk left before h s = GoesOn talk left before h s
+Turns b (event.Condition block) talk left before h s = Hears talk block left before h s
 Turns b event.Opened talk left before h s = Submits talk talk.receipt left before h s
 Turns b (event.Recorded place) talk left before h s = (h ≡ before) × (s ≡ printed talk.number)
 Turns b (event.Late id) talk left before h s =
@@ -301,10 +355,18 @@ Came (stage.Talking talk) bytes consumed m after =
     (e : HostEvent) × (h : HostView) × HearsOne m.host bytes consumed e h × Turns m.book e talk (talk.left - consumed) h after.host after.stage × (after.book ≡ m.book)
 Came s bytes consumed m after = (consumed ≡ length bytes) × (after ≡ m)
 
+-- What the end of a link means: a printer that pauses was waited for as long as may be.
+abbrev pub ended_by_pause : ℕ → SendFault → Option Pause → TillNote
+ended_by_pause number fault.TimedOut (Some why) = note.StillPaused number why
+ended_by_pause number why pause = note.Waiting number why
+
+abbrev pub ended_by : Talk → SendFault → TillNote
+ended_by talk why = ended_by_pause talk.number why talk.paused.why
+
 -- The link has ended, or was waited for as long as may be.
 abbrev pub Ended : Stage → SendFault → MachineView → MachineView → Type 0
 Ended (stage.Talking talk) why m after =
-    Drops m.host after.host × (after.book ≡ m.book) × (after.stage ≡ stage.HangingUp (note.Waiting talk.number why))
+    Drops m.host after.host × (after.book ≡ m.book) × (after.stage ≡ stage.HangingUp (ended_by talk why))
 Ended s why m after = after ≡ m
 
 -- The link is given up. The host has done so before.
@@ -319,4 +381,5 @@ after_note n = stage.AtRest
 
 abbrev pub told : Stage → MachineView → MachineView
 told (stage.Telling n) m = at m (after_note n)
+told (stage.Talking talk) m = at m (stage.Talking (with_pause talk (no_news talk.paused)))
 told s m = m

@@ -3,7 +3,7 @@ use Rattle.std.specs.Prelude.{◌≡◌, ◌⊎◌, List, [], ◌∷◌, ◌++�
 use Rattle.escpos_till.specs.declared.entry.Entry.{Entry}
 use Rattle.escpos_till.specs.declared.store.StoreFault.{StoreFault}
 use Rattle.escpos_till.specs.declared.surroundings.Surroundings.{Surroundings}
-use Rattle.escpos_till.specs.Driver.{Deed, Keeps, Loses, Tells}
+use Rattle.escpos_till.specs.Driver.{Deed, Keeps, Loses, Pauses, Tells}
 
 -- If the store has done what it was asked to, it holds the entry after the others.
 pub record Appends {S : Type 0} (faithful : S → Type 0) (holds : S → List Entry → Type 0) (old : S) (e : Entry) (new : S) : Type 0 where
@@ -20,5 +20,6 @@ pub record MayAppend {S : Type 0} (faithful : S → Type 0) (holds leaves : S �
 unfoldable pub Did : {S L : Type 0} → (S → Type 0) → (S → List Entry → Type 0) → (S → List Entry → Type 0) → (S → List Entry → StoreFault → S → Type 0) → (L → Deed → L → Type 0) → Surroundings S L → Deed → Surroundings S L → Type 0
 Did faithful holds leaves says did old (Keeps e) new = Appends faithful holds old.store e new.store × (new.line ≡ old.line)
 Did faithful holds leaves says did old (Loses e why) new = MayAppend faithful holds leaves says old.store e why new.store × (new.line ≡ old.line)
+Did faithful holds leaves says did old (Pauses number why) new = new ≡ old
 Did faithful holds leaves says did old (Tells note) new = new ≡ old
 Did faithful holds leaves says did old deed new = did old.line deed new.line × (new.store ≡ old.store)

@@ -7,8 +7,8 @@ ghost use Rattle.std.specs.Prelude.{◌≡◌, ◌≢◌, ◌≤◌, ◌⊎◌, 
 ghost use Rattle.escpos_host.specs.Machine.{IsSound};
 ghost use Rattle.escpos_till.specs.declared.machine.Stage.TheVariants as stage;
 ghost use Rattle.escpos_till.specs.declared.machine.Talk.{Talk};
-ghost use Rattle.escpos_till.specs.Driver.{Deed, IsGiven, IsTold, RanFor, RanTo, Tells, Turns};
-ghost use Rattle.escpos_till.specs.Machine.{Rests};
+ghost use Rattle.escpos_till.specs.Driver.{Deed, IsGiven, IsSaid, IsTelling, RanQuietly, RanUpTo, Turns};
+ghost use Rattle.escpos_till.specs.Machine.{Rests, news_of};
 ghost use Rattle.escpos_till.specs.Surroundings.{Did};
 
 use crate::machine::{Action, TillMachine, TillNote};
@@ -38,11 +38,26 @@ pub fn drive<S: Store, L: PrinterLine>(
     around: &mut Surroundings<S, L>,
     most: u32,
 ) -> Option<TillNote>
-    ensures told { IfSome result (λ note. RanTo (Did S.faithful S.holds S.leaves S.says L.did) machine.old around.old note most machine.new around.new) }
+    ensures told { IfSome result (λ note. (left : ℕ) × RanUpTo (Did S.faithful S.holds S.leaves S.says L.did) machine.old around.old note most left machine.new around.new) }
     ensures not_told { result ≡ None → (Rests machine.old.stage × (machine.new ≡ machine.old) × (around.new ≡ around.old))
-        ⊎ RanFor (Did S.faithful S.holds S.leaves S.says L.did) machine.old around.old machine.new around.new most }
+        ⊎ RanQuietly (Did S.faithful S.holds S.leaves S.says L.did) machine.old around.old machine.new around.new most }
 {
-    for _ in 0..most {
+    let mut left = most;
+    drive_within(machine, around, &mut left)
+}
+
+/// The same, where at most `left` things are done, and what was done is taken off that. So an owner that was told something may go on.
+pub fn drive_within<S: Store, L: PrinterLine>(
+    machine: &mut TillMachine,
+    around: &mut Surroundings<S, L>,
+    left: &mut u32,
+) -> Option<TillNote>
+    ensures told { IfSome result (λ note. RanUpTo (Did S.faithful S.holds S.leaves S.says L.did) machine.old around.old note left.old left.new machine.new around.new) }
+    ensures not_told { result ≡ None → (Rests machine.old.stage × (machine.new ≡ machine.old) × (around.new ≡ around.old))
+        ⊎ RanQuietly (Did S.faithful S.holds S.leaves S.says L.did) machine.old around.old machine.new around.new left.old }
+{
+    while *left > 0 {
+        *left -= 1;
         match turn(machine, around) {
             Turned::Rests => return None,
             Turned::Done => {}
@@ -57,8 +72,8 @@ fn turn<S: Store, L: PrinterLine>(
     machine: &mut TillMachine,
     around: &mut Surroundings<S, L>,
 ) -> Turned
-    ensures turned { result ≡ Turned.Done → (deed : Deed) × (IsTold deed → ⊥) × Turns machine.old deed machine.new × Did S.faithful S.holds S.leaves S.says L.did around.old deed around.new }
-    ensures tells { (note : TillNote) → result ≡ Turned.Tells note → Turns machine.old (Tells note) machine.new × Did S.faithful S.holds S.leaves S.says L.did around.old (Tells note) around.new }
+    ensures turned { result ≡ Turned.Done → (deed : Deed) × (IsSaid deed → ⊥) × Turns machine.old deed machine.new × Did S.faithful S.holds S.leaves S.says L.did around.old deed around.new }
+    ensures tells { (note : TillNote) → result ≡ Turned.Tells note → (deed : Deed) × IsTelling deed note × Turns machine.old deed machine.new × Did S.faithful S.holds S.leaves S.says L.did around.old deed around.new }
     ensures sound { IsSound machine.new.host }
     ensures rests { result ≡ Turned.Rests → (machine.new ≡ machine.old) × (around.new ≡ around.old) × Rests machine.old.stage }
 {
@@ -73,8 +88,8 @@ fn act<S: Store, L: PrinterLine>(
     machine: &mut TillMachine,
     around: &mut Surroundings<S, L>,
 ) -> Turned
-    ensures turned { result ≡ Turned.Done → (deed : Deed) × (IsTold deed → ⊥) × Turns machine.old deed machine.new × Did S.faithful S.holds S.leaves S.says L.did around.old deed around.new }
-    ensures tells { (note : TillNote) → result ≡ Turned.Tells note → Turns machine.old (Tells note) machine.new × Did S.faithful S.holds S.leaves S.says L.did around.old (Tells note) around.new }
+    ensures turned { result ≡ Turned.Done → (deed : Deed) × (IsSaid deed → ⊥) × Turns machine.old deed machine.new × Did S.faithful S.holds S.leaves S.says L.did around.old deed around.new }
+    ensures tells { (note : TillNote) → result ≡ Turned.Tells note → (deed : Deed) × IsTelling deed note × Turns machine.old deed machine.new × Did S.faithful S.holds S.leaves S.says L.did around.old deed around.new }
     ensures rests { result ≡ Turned.Rests → (machine.new ≡ machine.old) × (around.new ≡ around.old) × Rests machine.old.stage }
 {
     match machine.asks() {
@@ -94,8 +109,9 @@ fn act<S: Store, L: PrinterLine>(
             machine.hung_up();
         }
         Action::Tell(note) => {
+            // Proof only: it is what came of a call, or a pause; and to tell it leaves what is around as it is.
+            machine.is_sound();
             machine.told();
-            // Proof only: it leaves what is around as it is.
             around.tells();
             return Turned::Tells(note);
         }
@@ -105,12 +121,13 @@ fn act<S: Store, L: PrinterLine>(
 
 // Puts the next bytes.
 fn put_out<S: Store, L: PrinterLine>(machine: &mut TillMachine, around: &mut Surroundings<S, L>)
-    requires talks { (talk : Talk) × (machine.old.stage ≡ stage.Talking talk) × (machine.old.host.out ≢ []) }
-    ensures { (deed : Deed) × (IsTold deed → ⊥) × Turns machine.old deed machine.new × Did S.faithful S.holds S.leaves S.says L.did around.old deed around.new }
+    requires talks { (talk : Talk) × (machine.old.stage ≡ stage.Talking talk) × (news_of talk ≡ None) × (machine.old.host.out ≢ []) }
+    ensures { (deed : Deed) × (IsSaid deed → ⊥) × Turns machine.old deed machine.new × Did S.faithful S.holds S.leaves S.says L.did around.old deed around.new }
 {
     let mut room = [0; PIECE_BYTES];
+    let patient = machine.is_paused();
     let count = machine.take_out(&mut room);
-    if let Err(why) = around.put(&room[..count]) {
+    if let Err(why) = around.put(&room[..count], patient) {
         machine.link_ended(why);
     }
 }
@@ -121,12 +138,13 @@ fn wait<S: Store, L: PrinterLine>(
     around: &mut Surroundings<S, L>,
     most: u32,
 )
-    requires talks { (talk : Talk) × (machine.old.stage ≡ stage.Talking talk) × (machine.old.host.out ≡ []) × (talk.left ≡ most) }
-    ensures { (deed : Deed) × (IsTold deed → ⊥) × Turns machine.old deed machine.new × Did S.faithful S.holds S.leaves S.says L.did around.old deed around.new }
+    requires talks { (talk : Talk) × (machine.old.stage ≡ stage.Talking talk) × (news_of talk ≡ None) × (machine.old.host.out ≡ []) × (talk.left ≡ most) }
+    ensures { (deed : Deed) × (IsSaid deed → ⊥) × Turns machine.old deed machine.new × Did S.faithful S.holds S.leaves S.says L.did around.old deed around.new }
 {
     let mut room = [0; PIECE_BYTES];
+    let patient = machine.is_paused();
     let most = PIECE_BYTES.min(most as usize);
-    match around.pull(&mut room[..most]) {
+    match around.pull(&mut room[..most], patient) {
         Ok(count) => hear(machine, &room[..count]),
         Err(why) => machine.link_ended(why),
     }

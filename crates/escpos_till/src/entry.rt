@@ -54,7 +54,7 @@ impl Text {
 /// What a till was given of a receipt.
 #[derive(Debug, Drop)]
 pub struct Content {
-    /// The receipt's text in JSON.
+    /// The receipt's text in JSON; or the bytes of another library, which begin with ESC @.
     pub text: Text,
     /// The options that the text is read with.
     pub options: ReceiptOptions,

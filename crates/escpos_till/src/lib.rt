@@ -1,7 +1,7 @@
 //! A till with one printer: its ledger, and the machine that says what is to be done for it.
 //!
 //! `entry`, `state` and `waiting` have what a ledger says, `book` what a machine knows of it, and `store` where its entries are
-//! kept. `machine` is the till itself, over values alone; `driver` does what it asks for, over the store and the line of
+//! kept. `machine` is the till itself, over values alone, and `talking` what it does with a printer on a link; `driver` does what it asks for, over the store and the line of
 //! `surroundings`.
 #![tactic(auto)]
 
@@ -12,19 +12,22 @@ mod entry;
 mod machine;
 mod memory_store;
 mod number;
+mod pause;
 mod receipt_content;
 mod state;
 mod store;
 mod surroundings;
+mod talking;
 mod tries;
 mod waiting;
 
 pub use copy::{COPY_CHARACTERS, CopyText};
-pub use driver::drive;
+pub use driver::{drive, drive_within};
 pub use entry::{Content, Entry, Text};
 pub use machine::{Action, Due, NoMachine, Stage, Talk, Then, TillMachine, TillNote, TillRefusal};
 pub use memory_store::{Failure, MemoryStore};
 pub use number::ReceiptNumber;
+pub use pause::{Pause, Paused};
 pub use receipt_content::ReceiptContent;
 pub use state::ReceiptState;
 pub use store::{NoStore, Store, StoreFault};

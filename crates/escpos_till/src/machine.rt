@@ -9,9 +9,10 @@
 //!              |                            | deliver              | Connecting
 //!   Connecting | a link to the printer      | connected, or not    | Keeping that it is tried; Telling
 //!   Keeping    | an entry to be kept        | appended             | Telling; Talking; HangingUp
-//!   Talking    | bytes to be put, while     | take_out             | Talking
-//!              | there are some; then for   | came                 | Talking; Keeping that it is recorded; HangingUp
-//!              | answers                    | link_ended           | HangingUp
+//!   Talking    | its owner to be told that  | told                 | Talking
+//!              | the printer pauses; bytes  | take_out             | Talking
+//!              | to be put, while there are | came                 | Talking; Keeping that it is recorded; HangingUp
+//!              | some; then for answers     | link_ended           | HangingUp
 //!   HangingUp  | the link to be given up    | hung_up              | Telling
 //!   Telling    | its owner to be told       | told                 | AtRest; Failed where the store couldn't keep an entry
 //!   Failed     | nothing                    | nothing              | Failed: a new machine is made from the entries
@@ -26,17 +27,18 @@ ghost use Rattle.escpos_till.specs.Book.{IsBookOf, Notes};
 ghost use Rattle.escpos_host.specs.Machine.{IsSound};
 ghost use Rattle.escpos_till.specs.Delivers.{fresh, marks_taken};
 ghost use Rattle.escpos_till.specs.declared.machine.Talk.{Talk};
-ghost use Rattle.escpos_till.specs.Machine.{Asks, Came, Cancels, Delivers, Drops, Ended, Fits, Follows, GoesOn, IsNext, IsStarted, Kept, MayTry, Opens, Queues, Raises, RefusesAny, RefusesCancel, RefusesDeliver, RefusesRaise, Rests, SameEntries, SendsReceipt, Submits, Turns, Unsure, connected, hung_up, lost, not_connected, printed, put, told};
+ghost use Rattle.escpos_till.specs.Machine.{Asks, AsksIn, Came, Cancels, Delivers, Ended, EndsFinally, Fits, Follows, IsNext, IsPausing, IsStarted, Kept, MayTry, Queues, Raises, RefusesAny, RefusesCancel, RefusesDeliver, RefusesRaise, Rests, SameEntries, SendsReceipt, Unsure, connected, ended_by, first_talk, hung_up, lost, news_of, not_connected, put, told};
 
 use crate::book::{Book, NoBook};
 use crate::copy::CopyText;
 use crate::entry::Entry;
 use crate::number::ReceiptNumber;
+use crate::pause::{Pause, Paused};
 use crate::receipt_content::ReceiptContent;
 use crate::state::ReceiptState;
 use crate::store::StoreFault;
-use crate::tries::closes_try;
-use escpos_host::{Host, HostEvent, SendFault, open_link};
+use crate::talking::{less, opened, turned};
+use escpos_host::{Host, SendFault};
 use escpos_receipt::{JsonError, JsonFault, Receipt};
 use std::alloc::Global;
 use std::marker::Model;
@@ -77,6 +79,16 @@ pub enum TillNote {
     Waiting {
         number: ReceiptNumber,
         why: SendFault,
+    },
+    /// The printer says that it prints nothing for now. The receipt is still being sent.
+    Paused {
+        number: ReceiptNumber,
+        why: Pause,
+    },
+    /// The printer printed nothing for as long as may be waited. The receipt waits, tried once more.
+    StillPaused {
+        number: ReceiptNumber,
+        why: Pause,
     },
     /// The store couldn't tell whether it kept the entry. The machine has failed.
     NotKept(StoreFault),
@@ -168,6 +180,8 @@ pub struct Talk {
     pub receipt: Option<Receipt>,
     /// How many bytes of answers may still be read.
     pub left: u32,
+    /// What the printer has told of its condition.
+    pub paused: Paused,
 }
 
 /// What follows once an entry is kept.
@@ -204,6 +218,52 @@ pub struct TillMachine {
     book: Book,
     host: Host,
     stage: Stage,
+}
+
+impl Talk {
+    /// A talk that begins.
+    pub(crate) fn first(due: Due) -> Self
+        ensures { result ≡ first_talk due }
+    {
+        Talk {
+            number: due.number,
+            receipt: Some(due.receipt),
+            left: due.most,
+            paused: Paused::not(),
+        }
+    }
+
+    // What the machine's owner is to be told, if there is something.
+    fn news(&self) -> Option<TillNote>
+        ensures { result ≡ news_of self.now }
+    {
+        match self.paused {
+            Paused {
+                why: Some(why),
+                is_news: true,
+            } => Some(TillNote::Paused {
+                number: self.number,
+                why,
+            }),
+            _ => None,
+        }
+    }
+
+    // What its end means: a printer that pauses was waited for as long as may be.
+    fn ended(&self, why: SendFault) -> TillNote
+        ensures { result ≡ ended_by self.now why }
+    {
+        match (why, self.paused.why) {
+            (SendFault::TimedOut, Some(why)) => TillNote::StillPaused {
+                number: self.number,
+                why,
+            },
+            _ => TillNote::Waiting {
+                number: self.number,
+                why,
+            },
+        }
+    }
 }
 
 impl Model for TillMachine {
@@ -244,10 +304,33 @@ impl TillMachine {
             Stage::AtRest | Stage::Failed => Action::Nothing,
             Stage::Connecting(_) => Action::Connect,
             Stage::Keeping { entry, .. } => Action::Append(entry),
-            Stage::Talking(_) if self.host.has_out() => Action::Put,
-            Stage::Talking(talk) => Action::Wait(talk.left),
+            Stage::Talking(talk) => self.asks_in(talk),
             Stage::HangingUp(_) => Action::HangUp,
             Stage::Telling(note) => Action::Tell(*note),
+        }
+    }
+
+    // What it asks for while it talks.
+    fn asks_in(&self, talk: &Talk) -> Action<'_>
+        ensures { AsksIn self.now.host (news_of talk.now) talk.now.left result }
+    {
+        if let Some(note) = talk.news() {
+            return Action::Tell(note);
+        }
+        if self.host.has_out() {
+            Action::Put
+        } else {
+            Action::Wait(talk.left)
+        }
+    }
+
+    /// Whether the printer says that it prints nothing for now. Then its owner waits longer for it.
+    pub fn is_paused(&self) -> bool
+        ensures { IsTrue result ↔ IsPausing self.now.stage }
+    {
+        match &self.stage {
+            Stage::Talking(talk) => talk.paused.why.is_some(),
+            _ => false,
         }
     }
 
@@ -486,17 +569,14 @@ impl TillMachine {
         }
     }
 
-    /// The link has ended, failed, or was waited for as long as may be.
+    /// The link has ended, failed, or was waited for as long as may be: where the printer says that it prints nothing, that is told.
     pub fn link_ended(&mut self, why: SendFault)
         ensures { Ended self.old.stage why self.old self.new }
     {
         match replace(&mut self.stage, Stage::AtRest) {
             Stage::Talking(talk) => {
                 self.host.link_down();
-                self.stage = Stage::HangingUp(TillNote::Waiting {
-                    number: talk.number,
-                    why,
-                });
+                self.stage = Stage::HangingUp(talk.ended(why));
             }
             other => self.stage = other,
         }
@@ -515,16 +595,18 @@ impl TillMachine {
     pub fn told(&mut self)
         ensures { self.new ≡ told self.old.stage self.old }
     {
-        if let Stage::Telling(note) = self.stage {
-            self.stage = match note {
-                TillNote::NotKept(_) => Stage::Failed,
-                _ => Stage::AtRest,
-            };
+        match &mut self.stage {
+            Stage::Telling(TillNote::NotKept(_)) => self.stage = Stage::Failed,
+            Stage::Telling(_) => self.stage = Stage::AtRest,
+            Stage::Talking(talk) => talk.paused.is_news = false,
+            _ => {}
         }
     }
 
-    /// Proof only: gives the caller these facts: what holds of every host holds of the machine's, and what is to be sent is a receipt.
+    /// Proof only: gives the caller these facts: what holds of every host holds of the machine's, what is to be sent is a receipt, and what
+    /// is told at the end is what came of a call.
     pub fn is_sound(&self)
+        ensures note { EndsFinally self.now.stage }
         ensures host { IsSound self.now.host }
         ensures receipt { SendsReceipt self.now.stage }
     {
@@ -578,117 +660,6 @@ fn following(alloc: Global, book: &Book, host: &mut Host, first: u32, then: Then
             host.link_down();
             Stage::HangingUp(TillNote::Recorded(number))
         }
-    }
-}
-
-// A host that has sent nothing puts its opening marks out.
-fn opened(host: &mut Host, due: Due) -> Stage
-    ensures { (first : ℕ) → host.old ≡ fresh first → Opens due first host.new result }
-{
-    match open_link(host, due.openings) {
-        Ok(()) => Stage::Talking(Talk {
-            number: due.number,
-            receipt: Some(due.receipt),
-            left: due.most,
-        }),
-        Err(why) => Stage::HangingUp(TillNote::Waiting {
-            number: due.number,
-            why: SendFault::Refused(why),
-        }),
-    }
-}
-
-// What an event does, where so many bytes of answers may still be read.
-fn turned(book: &Book, host: &mut Host, event: HostEvent, talk: Talk, left: u32) -> Stage
-    ensures { Turns book.now event talk left host.old host.new result }
-{
-    match event {
-        HostEvent::None | HostEvent::Status(_) | HostEvent::Condition(_) => {
-            going_on(host, talk, left)
-        }
-        HostEvent::Opened => submitted(host, talk, left),
-        HostEvent::Recorded(_) => printed(talk.number),
-        HostEvent::Late(id) => {
-            if closes_try(&book.tries, talk.number, id) {
-                printed(talk.number)
-            } else {
-                going_on(host, talk, left)
-            }
-        }
-        HostEvent::BadAnswer { .. } => given_up(host, talk.number, SendFault::BadAnswer),
-    }
-}
-
-// The receipt is printed: that is to be kept.
-fn printed(number: ReceiptNumber) -> Stage
-    ensures { result ≡ printed number }
-{
-    Stage::Keeping {
-        entry: Entry::Recorded { number },
-        then: Then::Recorded(number),
-    }
-}
-
-// The host gives the link up, since the receipt isn't known to be printed for this reason.
-fn given_up(host: &mut Host, number: ReceiptNumber, why: SendFault) -> Stage
-    ensures host { Drops host.old host.new }
-    ensures stage { result ≡ Stage.HangingUp (TillNote.Waiting number why) }
-{
-    host.link_down();
-    Stage::HangingUp(TillNote::Waiting { number, why })
-}
-
-// The talk goes on, if more bytes of answers may be read.
-fn going_on(host: &mut Host, talk: Talk, left: u32) -> Stage
-    ensures { GoesOn talk left host.old host.new result }
-{
-    if left == 0 {
-        return given_up(host, talk.number, SendFault::TooLong);
-    }
-    Stage::Talking(Talk {
-        number: talk.number,
-        receipt: talk.receipt,
-        left,
-    })
-}
-
-// The host is given the receipt, if more bytes of answers may be read.
-fn submitted(host: &mut Host, talk: Talk, left: u32) -> Stage
-    ensures { Submits talk talk.receipt left host.old host.new result }
-{
-    let Talk {
-        number,
-        receipt,
-        left: _,
-    } = talk;
-    match receipt {
-        Some(receipt) if left > 0 => match host.submit(receipt) {
-            Ok(()) => Stage::Talking(Talk {
-                number,
-                receipt: None,
-                left,
-            }),
-            Err((why, _)) => given_up(host, number, SendFault::Refused(why)),
-        },
-        receipt => going_on(
-            host,
-            Talk {
-                number,
-                receipt,
-                left,
-            },
-            left,
-        ),
-    }
-}
-
-// How many bytes may still be read, where so many more were.
-fn less(left: u32, count: usize) -> u32
-    ensures { result ≡ left - count }
-{
-    match u32::try_from(count) {
-        Ok(count) => left.saturating_sub(count),
-        Err(_) => 0,
     }
 }
 

@@ -3,9 +3,10 @@
 //! Both are one value, so that a contract can say in which order things were done. How a link is opened and what goes over it is
 //! left to the types that implement `PrinterLine`.
 
-ghost use Rattle.std.specs.Prelude.{◌≡◌, ◌≤◌, length, take, IfErr, IfOk, OnOk, IsTrue};
+ghost use Rattle.std.specs.Prelude.{◌≡◌, ◌≤◌, ℕ, length, take, IfErr, IfOk, OnOk, IsTrue};
 ghost use Rattle.escpos_till.specs.declared.machine.TillNote.{TillNote};
-ghost use Rattle.escpos_till.specs.Driver.{Breaks, Deed, Ends, Gives, HangsUp, Keeps, Links, Loses, Misses, Puts, Tells};
+ghost use Rattle.escpos_till.specs.declared.pause.Pause.{Pause};
+ghost use Rattle.escpos_till.specs.Driver.{Breaks, Deed, Ends, Gives, HangsUp, Keeps, Links, Loses, Misses, Pauses, Puts, Tells};
 ghost use Rattle.escpos_till.specs.Surroundings.{Did};
 
 use crate::entry::Entry;
@@ -22,13 +23,15 @@ pub trait PrinterLine {
         ensures links { IsTrue result → did self.old Links self.new }
         ensures misses { ¬ IsTrue result → did self.old Misses self.new };
 
-    /// Puts bytes on the link. At `Err` some of them may be put, and the link is of no more use.
-    fn put(&mut self, bytes: &[u8]) -> Result<(), SendFault>
+    /// Puts bytes on the link. At `Err` some of them may be put, and the link is of no more use. If `patient` is true, the printer says
+    /// that it prints nothing for now, and is waited for longer.
+    fn put(&mut self, bytes: &[u8], patient: bool) -> Result<(), SendFault>
         ensures puts { OnOk result (did self.old (Puts bytes.now) self.new) }
         ensures breaks { IfErr result (λ why. did self.old (Breaks bytes.now why) self.new) };
 
-    /// Waits for bytes of answers, moves them to the start of `room`, and returns how many there are. With 0, nothing came.
-    fn pull(&mut self, room: &mut [u8]) -> Result<usize, SendFault>
+    /// Waits for bytes of answers, moves them to the start of `room`, and returns how many there are. With 0, nothing came. If `patient` is
+    /// true, the printer says that it prints nothing for now, and is waited for longer.
+    fn pull(&mut self, room: &mut [u8], patient: bool) -> Result<usize, SendFault>
         ensures within { IfOk result (λ count. count ≤ length room.old) }
         ensures gives { IfOk result (λ count. did self.old (Gives (length room.old) (take count room.new)) self.new) }
         ensures ends { IfErr result (λ why. did self.old (Ends why) self.new) };
@@ -68,21 +71,21 @@ impl<S: Store, L: PrinterLine> Surroundings<S, L> {
 
     /// Puts bytes on the link.
     #[tactic(auto, unfolding(crate::specs::Surroundings::Did))]
-    pub(crate) fn put(&mut self, bytes: &[u8]) -> Result<(), SendFault>
+    pub(crate) fn put(&mut self, bytes: &[u8], patient: bool) -> Result<(), SendFault>
         ensures puts { OnOk result (Did S.faithful S.holds S.leaves S.says L.did self.old (Puts bytes.now) self.new) }
         ensures breaks { IfErr result (λ why. Did S.faithful S.holds S.leaves S.says L.did self.old (Breaks bytes.now why) self.new) }
     {
-        self.line.put(bytes)
+        self.line.put(bytes, patient)
     }
 
     /// Waits for bytes of answers.
     #[tactic(auto, unfolding(crate::specs::Surroundings::Did))]
-    pub(crate) fn pull(&mut self, room: &mut [u8]) -> Result<usize, SendFault>
+    pub(crate) fn pull(&mut self, room: &mut [u8], patient: bool) -> Result<usize, SendFault>
         ensures within { IfOk result (λ count. count ≤ length room.old) }
         ensures gives { IfOk result (λ count. Did S.faithful S.holds S.leaves S.says L.did self.old (Gives (length room.old) (take count room.new)) self.new) }
         ensures ends { IfErr result (λ why. Did S.faithful S.holds S.leaves S.says L.did self.old (Ends why) self.new) }
     {
-        self.line.pull(room)
+        self.line.pull(room, patient)
     }
 
     /// Gives the link up.
@@ -93,9 +96,10 @@ impl<S: Store, L: PrinterLine> Surroundings<S, L> {
         self.line.hang_up();
     }
 
-    // Proof only: gives the caller this fact: to tell the owner changes neither.
+    // Proof only: gives the caller these facts: to tell the owner changes neither.
     #[tactic(auto, unfolding(crate::specs::Surroundings::Did))]
     pub(crate) fn tells(&self)
-        ensures { (note : TillNote) → Did S.faithful S.holds S.leaves S.says L.did self.now (Tells note) self.now }
+        ensures told { (note : TillNote) → Did S.faithful S.holds S.leaves S.says L.did self.now (Tells note) self.now }
+        ensures paused { (number : ℕ) (why : Pause) → Did S.faithful S.holds S.leaves S.says L.did self.now (Pauses number why) self.now }
     {}
 }

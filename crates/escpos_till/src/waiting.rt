@@ -9,6 +9,7 @@ ghost use Rattle.escpos_till.specs.Delivers.{WhyNone};
 
 use crate::copy::{CopyText, with_copy};
 use crate::number::ReceiptNumber;
+use crate::receipt_content::receipt_of;
 use escpos_receipt::{JsonError, Receipt, ReceiptOptions};
 use std::alloc::Global;
 
@@ -17,7 +18,7 @@ use std::alloc::Global;
 pub struct WaitingReceipt<'a> {
     /// Its number.
     pub number: ReceiptNumber,
-    /// Its text in JSON.
+    /// Its text in JSON, or the bytes of another library.
     pub content: &'a [u8],
     /// The options that the text is read with.
     pub options: ReceiptOptions,
@@ -35,7 +36,7 @@ impl<'a> WaitingReceipt<'a> {
             × (sent ≡ sent_of (option_map (λ t. t.now) copy.entry) self.now.tried receipt)) }
         ensures refused { IfErr result (λ why. WhyNone why (content_with self.now.options self.now.content.now)) }
     {
-        let receipt = Receipt::from_json_with(alloc, &self.options, self.content)?;
+        let receipt = receipt_of(alloc, &self.options, self.content)?;
         match copy {
             Some(text) if self.tried > 0 => Ok(with_copy(alloc, text, &receipt)?),
             _ => Ok(receipt),

@@ -108,6 +108,8 @@ stays_so number kept now new (event.End why) stays r h =
 stays_so number kept now new event.HangUp stays r h =
     let at = stands_so number kept now h.m h.was r in
     still number kept now new h.after h.wire now.told r h.is (ap (λ x. x.stage) h.goes ∙ hung_at number h.m.stage h.m at ∙ at)
+stays_so number kept now new event.Pause stays r h =
+    absurd (let bad : stage.Talking h.goes.talk ≡ recording number = sym h.goes.talks ∙ stands_so number kept now h.m h.was r in cc)
 stays_so number kept now new event.Tell stays r h =
     absurd (let bad : stage.Telling h.note ≡ recording number = sym h.moves.goes.0 ∙ stands_so number kept now h.moves.m h.moves.was r in cc)
 stays_so number kept now new (event.OnWire e) stays r h =
@@ -149,6 +151,7 @@ goes number kept now new ((event.Break most fewer why) ∷ es) r (mid, h, runs) 
 goes number kept now new ((event.Hear most) ∷ es) r (mid, h, runs) kept_so = goes number kept mid new es (stays_so number kept now mid (event.Hear most) tt r h) runs kept_so
 goes number kept now new ((event.End why) ∷ es) r (mid, h, runs) kept_so = goes number kept mid new es (stays_so number kept now mid (event.End why) tt r h) runs kept_so
 goes number kept now new (event.HangUp ∷ es) r (mid, h, runs) kept_so = goes number kept mid new es (stays_so number kept now mid event.HangUp tt r h) runs kept_so
+goes number kept now new (event.Pause ∷ es) r (mid, h, runs) kept_so = goes number kept mid new es (stays_so number kept now mid event.Pause tt r h) runs kept_so
 goes number kept now new (event.Tell ∷ es) r (mid, h, runs) kept_so = goes number kept mid new es (stays_so number kept now mid event.Tell tt r h) runs kept_so
 goes number kept now new ((event.OnWire e) ∷ es) r (mid, h, runs) kept_so = goes number kept mid new es (stays_so number kept now mid (event.OnWire e) tt r h) runs kept_so
 goes number kept now new (event.Idle ∷ es) r (mid, h, runs) kept_so = goes number kept mid new es (stays_so number kept now mid event.Idle tt r h) runs kept_so

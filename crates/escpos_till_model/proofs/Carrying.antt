@@ -1,28 +1,26 @@
 -- Why no mark number goes out twice, whatever happens: each link has numbers of its own, and what is put on it has no other.
 use Rattle.std.proofs.Common.{ℕ, zero, suc, ◌≡◌, ◌⊎◌, inl, inr, ◌+◌, ◌-◌, ◌<◌, ◌≤◌, min, max, Option, Some, None, List, [], ◌∷◌, ◌++◌, length, take, drop, refl, sym, ◌∙◌, ap, subst, append-nil, append_assoc, arith}
-use Rattle.std.specs.List.{AllByRecursion, list_all}
-use Rattle.std.specs.Prelude.{Bool, true, false, ◌==◌, ◌&&◌, IsTrue, map, option_to_list, slice_index}
-use Rattle.std.proofs.lemmas.Bool.Decides.{nat_tests}
+use Rattle.std.specs.List.{AllByRecursion}
+use Rattle.std.specs.Prelude.{map, option_to_list, slice_index}
 use Rattle.std.proofs.lemmas.Grind.{flat_map-append}
 use Rattle.std.proofs.lemmas.List.{take-append-drop, take_min}
 use Rattle.escpos_command.specs.declared.command.Command.{Command}
 use Rattle.escpos_command.specs.declared.command.Command.TheVariants as kind
 use Rattle.escpos_command.specs.CommandTable.{AreCommands, row, spell}
 use Rattle.escpos_command.specs.Digits.{mark_count, mark_of}
-use Rattle.escpos_command.specs.Parameters.{is_mark_id}
 use Rattle.escpos_command.specs.Marks.{mark_id, marks}
 use Rattle.escpos_real_time.specs.RealTime.{HoldsRealTime}
 use Rattle.escpos_real_time.proofs.Holding.{within}
 use Rattle.escpos_receipt.specs.Whole.{HoldNoRealTime}
 use Rattle.escpos_receipt.proofs.RealTimes.{none_in}
-use Rattle.escpos_host.proofs.NoRealTime.{Ids, all_of_both, joined_hold_none, nothing_held, openings_hold_none, openings_in_range, sent_holds_none}
+use Rattle.escpos_host.proofs.NoRealTime.{Ids, all_of_both, joined_hold_none, nothing_held, openings_hold_none, openings_in_range, reports_hold_none, sent_holds_none}
 use Rattle.escpos_host.specs.declared.host.HostEvent.{HostEvent}
 use Rattle.escpos_host.specs.declared.host.HostEvent.TheVariants as heard
 use Rattle.escpos_host.specs.declared.send.SendFault.{SendFault}
 use Rattle.escpos_host.specs.Heard.{HearsByte, IsHeard, with_half}
 use Rattle.escpos_host.specs.Earlier.{with_earlier}
-use Rattle.escpos_host.specs.Awaits.{dialled}
-use Rattle.escpos_host.specs.Machine.{HostView, InFlight, next_mark, submitted, taken_out}
+use Rattle.escpos_host.specs.Awaits.{dialled_reporting}
+use Rattle.escpos_host.specs.Machine.{HostView, InFlight, ask_reports, next_mark, reports_asked, submitted, taken_out}
 use Rattle.escpos_host.specs.Says.{marks_from}
 use Rattle.escpos_till.specs.declared.book.Book.{Book}
 use Rattle.escpos_till.specs.declared.entry.Entry.{Entry}
@@ -38,14 +36,14 @@ use Rattle.escpos_till.specs.declared.store.StoreFault.{StoreFault}
 use Rattle.escpos_till.specs.Delivers.{fresh, marks_taken}
 use Rattle.escpos_till.specs.Book.{IsBookOf}
 use Rattle.escpos_till.specs.Entries.{MayFollow, next_free}
-use Rattle.escpos_till.specs.Machine.{Came, Cancels, Delivers, Ended, Follows, GoesOn, HearsOne, Kept, MachineView, Queues, Raises, SameEntries, Submits, Turns as Turned, Unsure, after_note, connected, hung_up, lost, not_connected, put, told}
+use Rattle.escpos_till.specs.Machine.{Came, Cancels, Delivers, Ended, Follows, GoesOn, HearsOne, Kept, MachineView, Queues, Raises, SameEntries, Submits, Turns as Turned, Unsure, after_note, connected, hung_up, lost, not_connected, put, told, with_pause}
 use Rattle.escpos_till.proofs.EntryLemmas.{next_after_cancelled, next_after_queued, next_after_raised, next_after_recorded, next_after_tried}
 use Rattle.escpos_till_model.specs.declared.event.Happening.{Happening}
 use Rattle.escpos_till_model.specs.declared.event.Happening.TheVariants as event
 use Rattle.escpos_till_model.specs.Carried.{AreApart, Carried, Carries, HasOwnMarks, limit_of, link_at, link_by, link_of, links_after, numbers_from, out_of, with_put}
 use Rattle.escpos_till_model.specs.Known.{BookMayLag, Holds, IsMachineIn, IsToKeep, IsWorld}
 use Rattle.escpos_till_model.specs.Kept.{Hand}
-use Rattle.escpos_till_model.specs.World.{Breaks, FitsLine, Happens, Hears, IsSendable, Moves, Puts, Runs, Stores, World, with_entry, without_entry}
+use Rattle.escpos_till_model.specs.World.{Breaks, FitsLine, Happens, Hears, IsSendable, Moves, Puts, Runs, Stores, TellsPause, World, with_entry, without_entry}
 use Rattle.escpos_till_model.proofs.LinesKept.{LineLaws, down_or_up}
 use Rattle.escpos_till_model.proofs.Worlds.{whatever}
 
@@ -161,6 +159,8 @@ note_quiet (note.Cancelled number tried) = tt
 note_quiet (note.Recorded number) = tt
 note_quiet (note.NoLink number) = tt
 note_quiet (note.Waiting number why) = tt
+note_quiet (note.Paused number why) = tt
+note_quiet (note.StillPaused number why) = tt
 note_quiet (note.NotKept why) = tt
 
 pub ended_so : (s : Stage) (why : SendFault) (m after : MachineView) → Ended s why m after → SameOrQuiet m after
@@ -225,13 +225,14 @@ kept_by ids (then.Send due) low links kept hand h m after e first may keeps foll
       (record { said = []; unsaid = []; used = 0; begins = refl; commands = tt; marks_are = refl; within = omega (arith, limit); no_real_time = nothing_held }, own),
       elim follows [
         | inl opened ↦
-            let host : after.host ≡ dialled (fresh (next_free kept)) openings = opened.0 ∙ ap (λ f. dialled (fresh f) openings) first in
+            let host : after.host ≡ dialled_reporting (fresh (next_free kept)) openings = opened.0 ∙ ap (λ f. dialled_reporting (fresh f) openings) first in
             subst (λ s. TalksOn s after.host (l ∷ links)) (sym opened.1) (subst (λ v. IsSaying l v (Some due.receipt)) (sym host) (record {
-              said = marks_from openings (next_free kept);
+              said = ask_reports ∷ marks_from openings (next_free kept);
               used = openings;
               begins = refl;
-              commands = openings_in_range ids openings (next_free kept) enough;
-              no_real_time = openings_hold_none ids openings (next_free kept) enough;
+              commands = (refl, openings_in_range ids openings (next_free kept) enough);
+              no_real_time = joined_hold_none (ask_reports ∷ []) (marks_from openings (next_free kept)) (openings_in_range ids openings (next_free kept) enough) reports_hold_none
+                  (openings_hold_none ids openings (next_free kept) enough);
               marks_are = marks_of_openings openings (next_free kept);
               next_is = refl;
               within = omega (arith, limit);
@@ -240,6 +241,11 @@ kept_by ids (then.Send due) low links kept hand h m after e first may keeps foll
         | inr refused ↦ quiet_on after.stage after.host (l ∷ links) (subst IsQuiet (sym refused.2) tt)
       ],
     )
+
+-- A pause is told, and the talk goes on.
+pub paused_on : (m after : MachineView) (links : List Carried) (talk : Talk) → m.stage ≡ stage.Talking talk → after ≡ told m.stage m → TalksOn m.stage m.host links → TalksOn after.stage after.host links
+paused_on m after links talk at is says =
+    subst (λ k. TalksOn k.stage k.host links) (sym (is ∙ ap (λ s. told s m) at)) (subst (λ s. TalksOn s m.host links) at says)
 
 kept_carried : Ids → (w new : World) (low : ℕ) (links : List Carried) → IsWorld w → AreCarried low w links → Happens w event.Keep new → AreCarried low new (links_after w event.Keep links)
 kept_carried ids w new low links known c stores =
@@ -426,6 +432,21 @@ goes_says : (l : Carried) (ls : List Carried) (talk : Talk) (left : ℕ) (h : Ho
 goes_says l ls talk zero h after says (drops, is) = quiet_on after.stage after.host (l ∷ ls) (subst IsQuiet (sym is) tt)
 goes_says l ls talk (suc left) h after says (same, is) = subst (λ s. TalksOn s after.host (l ∷ ls)) (sym is) (subst (λ v. IsSaying l v talk.receipt) (sym same) says)
 
+-- A request is put out, which has no mark.
+asked_says : (l : Carried) (h : HostView) (receipt : Option (List Command)) → IsSaying l h receipt → IsSaying l (reports_asked h) receipt
+asked_says l h receipt says = record {
+  said = says.said ++ ask_reports ∷ [];
+  used = says.used;
+  begins = flat_map-append row says.said (ask_reports ∷ []) ∙ ap (λ k. k ++ spell (ask_reports ∷ [])) says.begins ∙ append_assoc l.bytes h.out (spell (ask_reports ∷ []))
+      ∙ ap (λ k. l.bytes ++ (h.out ++ k)) (append-nil (row ask_reports));
+  commands = all_of_both says.said (ask_reports ∷ []) says.commands (refl, tt);
+  no_real_time = joined_hold_none says.said (ask_reports ∷ []) (refl, tt) says.no_real_time reports_hold_none;
+  marks_are = marks_of_both says.said (ask_reports ∷ []) ∙ append-nil (marks says.said) ∙ says.marks_are;
+  next_is = says.next_is;
+  within = says.within;
+  left = says.left;
+}
+
 -- The receipt is put out, with one more mark.
 submitted_says : Ids → (l : Carried) (h : HostView) (flight : List InFlight) (commands : List Command) → IsSaying l h (Some commands) → IsSendable commands → h.next < mark_count
     → IsSaying l (submitted h flight commands) None
@@ -450,8 +471,9 @@ submitted_says ids l h flight commands says sendable high =
 
 submits_says : Ids → (l : Carried) (ls : List Carried) (talk : Talk) (receipt : Option (List Command)) (left : ℕ) (h : HostView) (after : MachineView) → talk.receipt ≡ receipt → IsSaying l h talk.receipt
     → ((commands : List Command) → talk.receipt ≡ Some commands → IsSendable commands) → Submits talk receipt left h after.host after.stage → TalksOn after.stage after.host (l ∷ ls)
-submits_says ids l ls talk (Some commands) (suc left) h after is says fits (inl (flight, phase, few, mark, same, at)) =
-    subst (λ s. TalksOn s after.host (l ∷ ls)) (sym at) (subst (λ v. IsSaying l v None) (sym same) (submitted_says ids l h flight commands (subst (IsSaying l h) is says) (fits commands is) mark))
+submits_says ids l ls talk (Some commands) (suc left) h after is says fits (inl ((phase, mark, same), at)) =
+    subst (λ s. TalksOn s after.host (l ∷ ls)) (sym at)
+    (subst (λ v. IsSaying l v None) (sym same) (submitted_says ids l (reports_asked h) [] commands (asked_says l h (Some commands) (subst (IsSaying l h) is says)) (fits commands is) mark))
 submits_says ids l ls talk (Some commands) (suc left) h after is says fits (inr (why, refuses, drops, at)) = quiet_on after.stage after.host (l ∷ ls) (subst IsQuiet (sym at) tt)
 submits_says ids l ls talk (Some commands) zero h after is says fits so = goes_says l ls talk zero h after says so
 submits_says ids l ls talk None left h after is says fits so = goes_says l ls talk left h after says so
@@ -460,8 +482,8 @@ turned_says : Ids → (b : Book) (e : HostEvent) (l : Carried) (ls : List Carrie
     → ((commands : List Command) → talk.receipt ≡ Some commands → IsSendable commands) → Turned b e talk left h after.host after.stage → TalksOn after.stage after.host (l ∷ ls)
 turned_says ids b heard.None l ls talk left before h after says same fits turned = goes_says l ls talk left h after (saying_for l before h talk.receipt (same tt).0 (same tt).1 says) turned
 turned_says ids b (heard.Status byte) l ls talk left before h after says same fits turned = goes_says l ls talk left h after (saying_for l before h talk.receipt (same tt).0 (same tt).1 says) turned
-turned_says ids b (heard.Condition block) l ls talk left before h after says same fits turned =
-    goes_says l ls talk left h after (saying_for l before h talk.receipt (same tt).0 (same tt).1 says) turned
+turned_says ids b (heard.Condition block) l ls talk left before h after says same fits (p, told, turned) =
+    goes_says l ls (with_pause talk p) left h after (saying_for l before h talk.receipt (same tt).0 (same tt).1 says) turned
 turned_says ids b (heard.Late id) l ls talk left before h after says same fits (inl (closes, host, is)) = quiet_on after.stage after.host (l ∷ ls) (subst IsQuiet (sym is) tt)
 turned_says ids b (heard.Late id) l ls talk left before h after says same fits (inr (other, turned)) =
     goes_says l ls talk left h after (saying_for l before h talk.receipt (same tt).0 (same tt).1 says) turned
@@ -534,6 +556,8 @@ step_carried ids (event.End why) w new low links known moves c =
     moved_on (λ m after. Ended m.stage why m after) w new w.told low links moves (λ m after ended. same_or_quiet m after links (ended_so m.stage why m after ended)) c
 step_carried ids event.HangUp w new low links known moves c =
     moved_on (λ m after. after ≡ hung_up m.stage m) w new w.told low links moves (λ m after is. same_or_quiet m after links (hung_so m.stage m after is)) c
+step_carried ids event.Pause w new low links known moves c =
+    moved_on TellsPause w new w.told low links moves (λ m after goes. paused_on m after links goes.talk goes.talks goes.told) c
 step_carried ids event.Tell w new low links known tells c =
     moved_on _ w new (w.told ++ tells.note ∷ []) low links tells.moves
     (λ m after goes. quietly links m after (subst (λ k. IsQuiet k.stage) (sym (goes.1 ∙ ap (λ s. told s m) goes.0)) (note_quiet tells.note))) c

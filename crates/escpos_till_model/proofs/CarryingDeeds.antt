@@ -19,15 +19,15 @@ use Rattle.escpos_till.specs.declared.machine.Then.TheVariants as then
 use Rattle.escpos_till.specs.declared.machine.TillNote.{TillNote}
 use Rattle.escpos_till.specs.declared.store.StoreFault.{StoreFault}
 use Rattle.escpos_till.specs.Book.{IsBookOf}
-use Rattle.escpos_till.specs.Driver.{Breaks, Deed, DidAll, Ends, Gives, HangsUp, HearsAll, IsGiven, Keeps, Links, Loses, Misses, Puts, Tells, Turns}
+use Rattle.escpos_till.specs.Driver.{Breaks, Deed, DidAll, Ends, Gives, HangsUp, HearsAll, IsGiven, Keeps, Links, Loses, Misses, Pauses, Puts, Tells, Turns}
 use Rattle.escpos_till.specs.Entries.{next_free}
-use Rattle.escpos_till.specs.Machine.{Came, Ended, GoesOn, Kept, MachineView, Submits, Turns as Turned, Unsure, put, told}
+use Rattle.escpos_till.specs.Machine.{Came, Ended, GoesOn, Kept, MachineView, Submits, Turns as Turned, Unsure, put, told, with_pause}
 use Rattle.escpos_till_model.specs.Around.{Around, Does, DoesInTime, HasNoLink, IsAround, around}
 use Rattle.escpos_till_model.specs.Carried.{AreApart, Carried, CarriesBy, HasOwnMarks, UsesMarksOnce, link_for, link_of, with_put}
 use Rattle.escpos_till_model.specs.Kept.{Hand}
 use Rattle.escpos_till_model.specs.Known.{BookMayLag, Holds, IsMachineIn, IsToKeep, IsWorld}
 use Rattle.escpos_till_model.specs.World.{HasCome, IsSendable, World}
-use Rattle.escpos_till_model.proofs.Carrying.{IsQuiet, SaysOn, TalksOn, apart_more, came_says, connected_so, ended_so, grows, hung_so, kept_by, lost_quiet, missed_so, note_quiet, one_put, part_put, quiet_on, same_or_quiet}
+use Rattle.escpos_till_model.proofs.Carrying.{IsQuiet, SaysOn, TalksOn, apart_more, came_says, connected_so, ended_so, grows, hung_so, kept_by, lost_quiet, missed_so, note_quiet, one_put, part_put, paused_on, quiet_on, same_or_quiet}
 use Rattle.escpos_till_model.proofs.Driven.{does, shows_around}
 use Rattle.escpos_till_model.proofs.DriverDoes.{IsEnding, ends_on, lags_ends, unsure_lags}
 use Rattle.escpos_till_model.proofs.Rows.{EveryWorld}
@@ -68,7 +68,7 @@ goes_fits talk zero h after fits (drops, is) = subst FitsTalk (sym is) tt
 goes_fits talk (suc left) h after fits (same, is) = subst FitsTalk (sym is) fits
 
 submits_fits : (talk : Talk) (receipt : Option (List Command)) (left : ℕ) (h : HostView) (after : MachineView) → FitsTalk (stage.Talking talk) → Submits talk receipt left h after.host after.stage → FitsTalk after.stage
-submits_fits talk (Some commands) (suc left) h after fits (inl (flight, phase, few, mark, same, is)) = subst FitsTalk (sym is) (λ others some. absurd (let bad : None ≡ Some others = some in cc))
+submits_fits talk (Some commands) (suc left) h after fits (inl (sends, is)) = subst FitsTalk (sym is) (λ others some. absurd (let bad : None ≡ Some others = some in cc))
 submits_fits talk (Some commands) (suc left) h after fits (inr (why, refuses, drops, is)) = subst FitsTalk (sym is) tt
 submits_fits talk (Some commands) zero h after fits so = goes_fits talk zero h after fits so
 submits_fits talk None left h after fits so = goes_fits talk left h after fits so
@@ -76,7 +76,7 @@ submits_fits talk None left h after fits so = goes_fits talk left h after fits s
 turned_fits : (b : Book) (e : HostEvent) (talk : Talk) (left : ℕ) (h : HostView) (after : MachineView) → FitsTalk (stage.Talking talk) → Turned b e talk left h after.host after.stage → FitsTalk after.stage
 turned_fits b heard.None talk left h after fits turned = goes_fits talk left h after fits turned
 turned_fits b (heard.Status byte) talk left h after fits turned = goes_fits talk left h after fits turned
-turned_fits b (heard.Condition block) talk left h after fits turned = goes_fits talk left h after fits turned
+turned_fits b (heard.Condition block) talk left h after fits (p, told, turned) = goes_fits (with_pause talk p) left h after fits turned
 turned_fits b (heard.Late id) talk left h after fits (inl (closes, host, is)) = subst FitsTalk (sym is) tt
 turned_fits b (heard.Late id) talk left h after fits (inr (other, turned)) = goes_fits talk left h after fits turned
 turned_fits b heard.Opened talk left h after fits turned = submits_fits talk talk.receipt left h after fits turned
@@ -180,6 +180,7 @@ ends_alone did (Puts bytes ∷ ds) m after old new kept others before links endi
 ends_alone did (Breaks bytes why ∷ ds) m after old new kept others before links ending (mid, between, turns, sound, first, more) carries = absurd (ends_on (Breaks bytes why) m mid ending turns).0
 ends_alone did (Gives room bytes ∷ ds) m after old new kept others before links ending (mid, between, turns, sound, first, more) carries = absurd (ends_on (Gives room bytes) m mid ending turns).0
 ends_alone did (Ends why ∷ ds) m after old new kept others before links ending (mid, between, turns, sound, first, more) carries = absurd (ends_on (Ends why) m mid ending turns).0
+ends_alone did (Pauses number why ∷ ds) m after old new kept others before links ending (mid, between, turns, sound, first, more) carries = absurd (ends_on (Pauses number why) m mid ending turns).0
 
 -- ## One deed, and the others
 
@@ -221,6 +222,8 @@ step ids (Ends why) ds low m mid after a between new hand h before links knows (
     at_entries low mid ds links between _ is (passes low a.kept m mid ds before links on (same_or_quiet m mid before (ended_so m.stage why m mid ended) on.talks) carries)
 step ids HangsUp ds low m mid after a between new hand h before links knows (n, at, mid_is) is more on carries =
     at_entries low mid ds links between _ is (passes low a.kept m mid ds before links on (same_or_quiet m mid before (hung_so m.stage m mid mid_is) on.talks) carries)
+step ids (Pauses number why) ds low m mid after a between new hand h before links knows (talk, at, news, mid_is) is more on carries =
+    at_entries low mid ds links between _ is (passes low a.kept m mid ds before links on (paused_on m mid before talk at mid_is on.talks) carries)
 step ids (Tells n) ds low m mid after a between new hand h before links knows (at, mid_is) is more on carries =
     at_entries low mid ds links between _ is (passes low a.kept m mid ds before links on (told_on n m mid before at mid_is) carries)
 
@@ -296,6 +299,8 @@ has_step ids (Ends why) ds low m mid after a between new hand h before knows (ro
     has_at low a.kept mid (Ends why) ds before between _ is (before, same_links low a.kept m mid before on (same_or_quiet m mid before (ended_so m.stage why m mid ended) on.talks), λ links carries. carries)
 has_step ids HangsUp ds low m mid after a between new hand h before knows (n, at, mid_is) is more on =
     has_at low a.kept mid HangsUp ds before between _ is (before, same_links low a.kept m mid before on (same_or_quiet m mid before (hung_so m.stage m mid mid_is) on.talks), λ links carries. carries)
+has_step ids (Pauses number why) ds low m mid after a between new hand h before knows (talk, at, news, mid_is) is more on =
+    has_at low a.kept mid (Pauses number why) ds before between _ is (before, same_links low a.kept m mid before on (paused_on m mid before talk at mid_is on.talks), λ links carries. carries)
 has_step ids (Tells n) ds low m mid after a between new hand h before knows (at, mid_is) is more on =
     has_at low a.kept mid (Tells n) ds before between _ is (before, same_links low a.kept m mid before on (told_on n m mid before at mid_is), λ links carries. carries)
 

@@ -5,7 +5,7 @@ use Rattle.escpos_link.specs.Wire.{WireView, given_up, with_link}
 use Rattle.escpos_till.specs.declared.machine.Stage.{Stage}
 use Rattle.escpos_till.specs.declared.machine.Stage.TheVariants as stage
 use Rattle.escpos_till.specs.declared.machine.Then.TheVariants as then
-use Rattle.escpos_till.specs.Driver.{Breaks, Deed, DidAll, Ends, Gives, HangsUp, Keeps, Links, Loses, Misses, Puts, Ran, Tells, Turns}
+use Rattle.escpos_till.specs.Driver.{Breaks, Deed, DidAll, Ends, Gives, HangsUp, Keeps, Links, Loses, Misses, Pauses, Puts, Ran, Tells, Turns}
 use Rattle.escpos_till.specs.Machine.{MachineView}
 use Rattle.escpos_till_model.specs.Around.{Around, CrashesTo, Does, DoesInTime, HasNoLink, IsAround, Reaches, around}
 use Rattle.escpos_till_model.specs.declared.event.Happening.{Happening}
@@ -13,7 +13,7 @@ use Rattle.escpos_till_model.specs.declared.event.Happening.TheVariants.{Crash, 
 use Rattle.escpos_till_model.specs.World.{Runs, World, with_wire, Crashes, off}
 use Rattle.escpos_till_model.proofs.WireEvents.{goes_on_given_up}
 use Rattle.escpos_till_model.proofs.Shown.{DownIn, Leads, Shows, ShowsWire, events_of, later, leads_on, one, runs_events, runs_more}
-use Rattle.escpos_till_model.proofs.DrivenDeeds.{breaks, ends, gives, hangs_up, keeps, links, loses_with, loses_without, misses, misses_late, puts, tells}
+use Rattle.escpos_till_model.proofs.DrivenDeeds.{breaks, ends, gives, hangs_up, keeps, links, loses_with, loses_without, misses, misses_late, pauses, puts, tells}
 
 -- ## A whole run
 
@@ -32,6 +32,7 @@ does (Breaks bytes why) m mid a new w shows turns sound (k, few, is) = to_new w 
 does (Gives room bytes) m mid a new w shows turns sound (bytes_are, is) = to_new w mid _ new is (gives room bytes m mid a w shows turns sound bytes_are)
 does (Ends why) m mid a new w shows turns sound is = to_new w mid _ new is (ends m mid a w why shows turns sound)
 does HangsUp m mid a new w shows turns sound is = to_new w mid _ new is (hangs_up m mid a w shows turns sound)
+does (Pauses number why) m mid a new w shows turns sound is = to_new w mid _ new is (pauses m mid a w number why shows turns sound)
 does (Tells note) m mid a new w shows turns sound is = to_new w mid _ new is (tells m mid a w note shows turns sound)
 
 does_all : (ds : List Deed) (m after : MachineView) (a new : Around) (w : World) → Shows m a w → DidAll DoesInTime m a ds after new → Leads w after new

@@ -26,12 +26,14 @@ use Rattle.escpos_till.specs.declared.machine.TillNote.TheVariants as note_kind
 use Rattle.escpos_till.specs.declared.store.StoreFault.{StoreFault}
 use Rattle.std.proofs.Math.Nat.{min-eq_left}
 use Rattle.escpos_till.specs.Delivers.{fresh}
-use Rattle.escpos_till.specs.Driver.{Breaks, Ends, Gives, HangsUp, HearsAll, Keeps, Links, Loses, Misses, Puts, Tells, Turns}
-use Rattle.escpos_till.specs.Machine.{Came, Drops, Ended, Follows, GoesOn, Kept, MachineView, Submits, Turns as Turned, Unsure, connected, lost, after_note, hung_up, not_connected, put, told}
+use Rattle.escpos_till.specs.Driver.{Breaks, Ends, Gives, HangsUp, HearsAll, Keeps, Links, Loses, Misses, Pauses, Puts, Tells, Turns}
+use Rattle.escpos_till.specs.Machine.{Came, Drops, Ended, Follows, GoesOn, Kept, MachineView, Submits, Turns as Turned, Unsure, after_note, connected, hung_up, lost, not_connected, put, told, with_pause}
 use Rattle.escpos_till_model.specs.Around.{Around, GoesOnBy, around}
 use Rattle.escpos_till_model.specs.declared.event.Happening.{Happening}
+use Rattle.escpos_till.specs.declared.pause.Pause.{Pause}
+use Rattle.escpos_till_model.specs.declared.event.Happening.TheVariants as event
 use Rattle.escpos_till_model.specs.declared.event.Happening.TheVariants.{Break, Connect, End, FailWith, FailWithout, HangUp, Hear, Idle, Keep, Miss, Put, Tell}
-use Rattle.escpos_till_model.specs.World.{Happens, Stores, Wired, World, running, with_entry, without_entry}
+use Rattle.escpos_till_model.specs.World.{Happens, Stores, TellsPause, Wired, World, running, with_entry, without_entry}
 use Rattle.escpos_till_model.proofs.WireEvents.{with_more}
 use Rattle.escpos_till_model.proofs.Shown.{DownIn, Leads, Shows, ShowsWire, arrive, events_of, gone, idle_shown, leads_on, move, one, runs_events, shows_at, wired_down, wired_off, wired_on, wired_up}
 
@@ -211,6 +213,8 @@ noted_wire (note_kind.Cancelled number tried) h w near down same = (down, same)
 noted_wire (note_kind.Recorded number) h w near down same = (down, same)
 noted_wire (note_kind.NoLink number) h w near down same = (down, same)
 noted_wire (note_kind.Waiting number why) h w near down same = (down, same)
+noted_wire (note_kind.Paused number why) h w near down same = (down, same)
+noted_wire (note_kind.StillPaused number why) h w near down same = (down, same)
 noted_wire (note_kind.NotKept why) h w near down same = (down, same)
 
 pub tells : (m mid : MachineView) (a : Around) (w : World) (note : TillNote) → Shows m a w → Turns m (Tells note) mid → IsSound mid.host → Leads w mid (around a.kept a.wire (a.told ++ note ∷ []))
@@ -228,6 +232,18 @@ tells m mid a w note shows (is, mid_is) sound =
     })
     (shows_at (after_note note) mid (around a.kept a.wire (a.told ++ note ∷ [])) (running mid w.kept w.wire notes) refl shows.kept (ap (λ k. k ++ note ∷ []) shows.told) (ap (λ v. v.stage) so)
     (noted_wire note mid.host w.wire a.wire down' same))
+
+-- The owner is told of a pause, and the talk goes on.
+pub pauses : (m mid : MachineView) (a : Around) (w : World) (number : ℕ) (why : Pause) → Shows m a w → Turns m (Pauses number why) mid → IsSound mid.host → Leads w mid a
+pauses m mid a w number why shows (talk, is, news, mid_is) sound =
+    let so : mid ≡ told (stage.Talking talk) m = mid_is ∙ ap (λ s. told s m) is in
+    let (up, same) = wire_at (stage.Talking talk) m a w is shows in
+    let host : mid.host ≡ m.host = ap (λ v. v.host) so in
+    let up' : mid.host.phase ≢ Down = λ down. up (ap (λ h. h.phase) (sym host) ∙ down) in
+    arrive w (running mid w.kept w.wire w.told) event.Pause mid a
+    (move TellsPause w m mid w.kept w.told w.wire shows.machine (record { talk = talk; note = note_kind.Paused number why; talks = is; news = news; told = mid_is }) sound
+    (wired_on m.host mid.host w.wire up up'))
+    (shows_at _ mid a (running mid w.kept w.wire w.told) refl shows.kept shows.told (ap (λ v. v.stage) so) (up', same))
 
 -- ## Bytes
 
@@ -346,7 +362,7 @@ going talk zero h mid up (drops, is) = Off _ is (gone h mid.host drops)
 going talk (suc left) h mid up (same, is) = Talks _ is (subst (λ v. v.phase ≢ Down) (sym same) up)
 
 submitting : (talk : Talk) (receipt : Option (List Command)) (left : ℕ) (h : HostView) (mid : MachineView) → h.phase ≢ Down → Submits talk receipt left h mid.host mid.stage → Stands mid
-submitting talk (Some receipt) (suc left) h mid up (inl (flight, phase, few, mark, same, is)) = Talks _ is (subst (λ v. v.phase ≢ Down) (sym same) (λ bad. cc bad))
+submitting talk (Some receipt) (suc left) h mid up (inl ((phase, mark, same), is)) = Talks _ is (subst (λ v. v.phase ≢ Down) (sym same) (λ bad. cc bad))
 submitting talk (Some receipt) (suc left) h mid up (inr (why, refuses, drops, is)) = Off _ is (gone h mid.host drops)
 submitting talk (Some receipt) zero h mid up so = going talk zero h mid up so
 submitting talk None left h mid up so = going talk left h mid up so
@@ -355,7 +371,7 @@ came_by : (b : Book) (e : HostEvent) (talk : Talk) (left : ℕ) (before h : Host
     → Turned b e talk left h mid.host mid.stage → Stands mid
 came_by b heard.None talk left before h bytes count mid up hears turned = going talk left h mid (heard_up heard.None before bytes count h up hears tt) turned
 came_by b (heard.Status byte) talk left before h bytes count mid up hears turned = going talk left h mid (heard_up (heard.Status byte) before bytes count h up hears tt) turned
-came_by b (heard.Condition block) talk left before h bytes count mid up hears turned = going talk left h mid (heard_up (heard.Condition block) before bytes count h up hears tt) turned
+came_by b (heard.Condition block) talk left before h bytes count mid up hears (p, after, turned) = going (with_pause talk p) left h mid (heard_up (heard.Condition block) before bytes count h up hears tt) turned
 came_by b (heard.Late id) talk left before h bytes count mid up hears (inl (closes, same, is)) =
     Done _ _ is (subst (λ v. v.phase ≢ Down) (sym same) (heard_up (heard.Late id) before bytes count h up hears tt))
 came_by b (heard.Late id) talk left before h bytes count mid up hears (inr (other, turned)) = going talk left h mid (heard_up (heard.Late id) before bytes count h up hears tt) turned

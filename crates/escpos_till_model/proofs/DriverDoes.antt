@@ -12,7 +12,7 @@ use Rattle.escpos_till.specs.declared.machine.TillNote.{TillNote}
 use Rattle.escpos_till.specs.declared.machine.TillNote.TheVariants as note_kind
 use Rattle.escpos_till.specs.declared.store.StoreFault.{StoreFault}
 use Rattle.escpos_till.specs.declared.surroundings.Surroundings.{Surroundings}
-use Rattle.escpos_till.specs.Driver.{Breaks, Deed, DidAll, Ends, Gives, HangsUp, Keeps, Links, Loses, Misses, Puts, RanTo, Tells, Turns}
+use Rattle.escpos_till.specs.Driver.{Breaks, Deed, DidAll, Ends, Gives, HangsUp, Keeps, Links, Loses, Misses, Pauses, Puts, RanTo, Tells, Turns}
 use Rattle.escpos_till.specs.Machine.{MachineView, Rests, Unsure, after_note, hung_up, lost, told}
 use Rattle.escpos_till.specs.Surroundings.{Did}
 use Rattle.escpos_till_model.specs.Around.{DoesInTime, HasNoLink, around}
@@ -27,6 +27,7 @@ unfolding Did
 faithful_before faithful holds leaves says did (Keeps e) old new (appends, line) done = appends.was_faithful done
 faithful_before faithful holds leaves says did (Loses e why) old new (may, line) done = may.was_faithful done
 faithful_before {S} {L} faithful holds leaves says did (Tells n) old new same done = subst (λ (k : Surroundings S L). faithful k.store) same done
+faithful_before {S} {L} faithful holds leaves says did (Pauses number why) old new same done = subst (λ (k : Surroundings S L). faithful k.store) same done
 faithful_before faithful holds leaves says did Links old new (so, same) done = subst faithful same done
 faithful_before faithful holds leaves says did Misses old new (so, same) done = subst faithful same done
 faithful_before faithful holds leaves says did (Puts bytes) old new (so, same) done = subst faithful same done
@@ -66,6 +67,8 @@ after_note_ends (note_kind.Cancelled number tried) = tt
 after_note_ends (note_kind.Recorded number) = tt
 after_note_ends (note_kind.NoLink number) = tt
 after_note_ends (note_kind.Waiting number why) = tt
+after_note_ends (note_kind.Paused number why) = tt
+after_note_ends (note_kind.StillPaused number why) = tt
 after_note_ends (note_kind.NotKept why) = tt
 
 -- From there it only goes on to its end.
@@ -82,6 +85,7 @@ ends_on (Puts bytes) m mid ending (count, next, mid_is) = absurd (ending_at m.st
 ends_on (Breaks bytes why) m mid ending (count, next, ended) = absurd (ending_at m.stage _ next.talks ending)
 ends_on (Gives room bytes) m mid ending (waits, within, given) = absurd (ending_at m.stage _ waits.talks ending)
 ends_on (Ends why) m mid ending (room, waits, ended) = absurd (ending_at m.stage _ waits.talks ending)
+ends_on (Pauses number why) m mid ending (talk, is, news, mid_is) = absurd (ending_at m.stage _ is ending)
 
 -- After an entry that may be kept or not, its owner is told that; from then on it has failed.
 lost_lags : (next : Then) (why : StoreFault) → BookMayLag (lost next why)
@@ -111,6 +115,8 @@ hung_lags (note_kind.Cancelled number tried) lags = absurd lags
 hung_lags (note_kind.Recorded number) lags = absurd lags
 hung_lags (note_kind.NoLink number) lags = absurd lags
 hung_lags (note_kind.Waiting number why) lags = absurd lags
+hung_lags (note_kind.Paused number why) lags = absurd lags
+hung_lags (note_kind.StillPaused number why) lags = absurd lags
 
 told_lags : (n : TillNote) → BookMayLag (stage.Telling n) → BookMayLag (after_note n)
 told_lags (note_kind.NotKept why) lags = tt
@@ -120,6 +126,8 @@ told_lags (note_kind.Cancelled number tried) lags = absurd lags
 told_lags (note_kind.Recorded number) lags = absurd lags
 told_lags (note_kind.NoLink number) lags = absurd lags
 told_lags (note_kind.Waiting number why) lags = absurd lags
+told_lags (note_kind.Paused number why) lags = absurd lags
+told_lags (note_kind.StillPaused number why) lags = absurd lags
 
 lags_on : (d : Deed) (m mid : MachineView) → BookMayLag m.stage → Turns m d mid → BookMayLag mid.stage
 lags_on HangsUp m mid lags (n, is, mid_is) =
@@ -134,6 +142,7 @@ lags_on (Puts bytes) m mid lags turns = absurd (ends_on (Puts bytes) m mid (lags
 lags_on (Breaks bytes why) m mid lags turns = absurd (ends_on (Breaks bytes why) m mid (lags_ends m.stage lags) turns).0
 lags_on (Gives room bytes) m mid lags turns = absurd (ends_on (Gives room bytes) m mid (lags_ends m.stage lags) turns).0
 lags_on (Ends why) m mid lags turns = absurd (ends_on (Ends why) m mid (lags_ends m.stage lags) turns).0
+lags_on (Pauses number why) m mid lags turns = absurd (ends_on (Pauses number why) m mid (lags_ends m.stage lags) turns).0
 
 lags_all : {D : Type 0} (did : D → Deed → D → Type 0) (ds : List Deed) (m after : MachineView) (old new : D) → BookMayLag m.stage → DidAll did m old ds after new → BookMayLag after.stage
 lags_all did [] m after old new lags (is, same) = subst (λ (k : MachineView). BookMayLag k.stage) (sym is) lags
@@ -175,6 +184,7 @@ ends_alone faithful holds leaves says did (Puts bytes ∷ ds) m after old new en
 ends_alone faithful holds leaves says did (Breaks bytes why ∷ ds) m after old new ending (mid, between, turns, sound, first, more) = absurd (ends_on (Breaks bytes why) m mid ending turns).0
 ends_alone faithful holds leaves says did (Gives room bytes ∷ ds) m after old new ending (mid, between, turns, sound, first, more) = absurd (ends_on (Gives room bytes) m mid ending turns).0
 ends_alone faithful holds leaves says did (Ends why ∷ ds) m after old new ending (mid, between, turns, sound, first, more) = absurd (ends_on (Ends why) m mid ending turns).0
+ends_alone faithful holds leaves says did (Pauses number why ∷ ds) m after old new ending (mid, between, turns, sound, first, more) = absurd (ends_on (Pauses number why) m mid ending turns).0
 
 -- Whatever its store has, it has that to the end.
 ends_all : {D : Type 0} (ds : List Deed) (m after : MachineView) (left : List Entry) (w wire : WireView) (notes : List TillNote) → IsEnding m.stage → (did : D → Deed → D → Type 0) (old new : D) → DidAll did m old ds after new
@@ -192,6 +202,7 @@ ends_all (Puts bytes ∷ ds) m after left w wire notes ending did old new (mid, 
 ends_all (Breaks bytes why ∷ ds) m after left w wire notes ending did old new (mid, between, turns, sound, first, more) on = absurd (ends_on (Breaks bytes why) m mid ending turns).0
 ends_all (Gives room bytes ∷ ds) m after left w wire notes ending did old new (mid, between, turns, sound, first, more) on = absurd (ends_on (Gives room bytes) m mid ending turns).0
 ends_all (Ends why ∷ ds) m after left w wire notes ending did old new (mid, between, turns, sound, first, more) on = absurd (ends_on (Ends why) m mid ending turns).0
+ends_all (Pauses number why ∷ ds) m after left w wire notes ending did old new (mid, between, turns, sound, first, more) on = absurd (ends_on (Pauses number why) m mid ending turns).0
 
 -- The store couldn't tell whether it has the entry: what a crash leaves says it.
 loses_so : (kept left : List Entry) (e : Entry) (why : StoreFault) (w : WireView) (notes : List TillNote) → (left ≡ kept) ⊎ (left ≡ kept ++ e ∷ [])
@@ -251,6 +262,10 @@ goes_all {S} {L} faithful holds leaves says did (Loses e why ∷ ds) m after old
           let so = appends.kept_or_not (subst faithful stays done) kept left held (subst (λ s. leaves s left) stays may) in
           (mid, around left w notes, turns, sound, loses_so kept left e why w notes so, ends_all ds mid after left w wire notes (lags_ends mid.stage lags) (Did faithful holds leaves says did) between new more on),
     )
+goes_all {S} {L} faithful holds leaves says did (Pauses number why ∷ ds) m after old new kept w wire notes (mid, between, turns, sound, same, more) done held on =
+    ends_so holds leaves new.store after.stage (Goes mid kept w notes ds after wire) (Goes m kept w notes (Pauses number why ∷ ds) after wire)
+    (λ entries goes. (mid, around kept w notes, turns, sound, record { events = []; wire = w; goes_on = refl; does = refl }, goes))
+    (goes_all faithful holds leaves says did ds mid after between new kept w wire notes more done (subst (λ (k : Surroundings S L). holds k.store kept) (sym same) held) on)
 goes_all {S} {L} faithful holds leaves says did (Tells n ∷ ds) m after old new kept w wire notes (mid, between, turns, sound, same, more) done held on =
     ends_so holds leaves new.store after.stage (Goes mid kept w (notes ++ n ∷ []) ds after wire) (Goes m kept w notes (Tells n ∷ ds) after wire)
     (λ entries goes. tells_first m mid after kept entries w wire notes n ds turns sound goes)
@@ -318,6 +333,8 @@ fits_all faithful holds leaves says did fits does (Keeps e ∷ ds) m after old n
     fits_all faithful holds leaves says did fits does ds mid after between new w more (subst (λ l. fits l w) (sym same) like)
 fits_all faithful holds leaves says did fits does (Loses e why ∷ ds) m after old new w (mid, between, turns, sound, (appends, same), more) like =
     fits_all faithful holds leaves says did fits does ds mid after between new w more (subst (λ l. fits l w) (sym same) like)
+fits_all {S} {L} faithful holds leaves says did fits does (Pauses number why ∷ ds) m after old new w (mid, between, turns, sound, same, more) like =
+    fits_all faithful holds leaves says did fits does ds mid after between new w more (subst (λ (k : Surroundings S L). fits k.line w) (sym same) like)
 fits_all {S} {L} faithful holds leaves says did fits does (Tells n ∷ ds) m after old new w (mid, between, turns, sound, same, more) like =
     fits_all faithful holds leaves says did fits does ds mid after between new w more (subst (λ (k : Surroundings S L). fits k.line w) (sym same) like)
 fits_all faithful holds leaves says did fits does (Links ∷ ds) m after old new w (mid, between, turns, sound, (so, same), more) like =
@@ -365,6 +382,7 @@ no_turn (Breaks bytes why) m mid rests (count, next, ended) = rests_so m.stage _
 no_turn (Gives room bytes) m mid rests (waits, within, given) = rests_so m.stage _ waits.talks rests
 no_turn (Ends why) m mid rests (room, waits, ended) = rests_so m.stage _ waits.talks rests
 no_turn HangsUp m mid rests (n, is, mid_is) = rests_so m.stage _ is rests
+no_turn (Pauses number why) m mid rests (talk, is, news, mid_is) = rests_so m.stage _ is rests
 no_turn (Tells n) m mid rests (is, mid_is) = rests_so m.stage _ is rests
 
 after_note_rests : (n : TillNote) → Rests (after_note n)
@@ -374,6 +392,8 @@ after_note_rests (note_kind.Cancelled number tried) = tt
 after_note_rests (note_kind.Recorded number) = tt
 after_note_rests (note_kind.NoLink number) = tt
 after_note_rests (note_kind.Waiting number why) = tt
+after_note_rests (note_kind.Paused number why) = tt
+after_note_rests (note_kind.StillPaused number why) = tt
 after_note_rests (note_kind.NotKept why) = tt
 
 pub rests_no_link : (s : Stage) → Rests s → HasNoLink s
@@ -405,6 +425,7 @@ one_note did (Puts bytes ∷ ds) n m after old new (mid, between, turns, sound, 
 one_note did (Breaks bytes why ∷ ds) n m after old new (mid, between, turns, sound, first, more) = one_note did ds n mid after between new more
 one_note did (Gives room bytes ∷ ds) n m after old new (mid, between, turns, sound, first, more) = one_note did ds n mid after between new more
 one_note did (Ends why ∷ ds) n m after old new (mid, between, turns, sound, first, more) = one_note did ds n mid after between new more
+one_note did (Pauses number why ∷ ds) n m after old new (mid, between, turns, sound, first, more) = one_note did ds n mid after between new more
 one_note did (HangsUp ∷ ds) n m after old new (mid, between, turns, sound, first, more) = one_note did ds n mid after between new more
 
 -- At its end the machine rests: it is at rest, or has failed.

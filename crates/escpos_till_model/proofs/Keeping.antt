@@ -3,7 +3,7 @@ use Rattle.std.proofs.Common.{ℕ, ◌≡◌, ◌+◌, ◌<◌, ◌≤◌, ◌�
 use Rattle.std.proofs.lemmas.List.{map-append, take-append-le, take_all}
 use Rattle.escpos_command.specs.declared.command.Command.{Command}
 use Rattle.escpos_command.specs.Digits.{mark_of}
-use Rattle.escpos_host.specs.Machine.{HostView, InFlight, Phase, Down, Opening, Open, in_flight, linked, nudged, submitted}
+use Rattle.escpos_host.specs.Machine.{HostView, InFlight, Phase, Down, Opening, Open, in_flight, linked_reporting, nudged, reports_asked, submitted}
 use Rattle.escpos_link.specs.EventTable.{hung_up}
 use Rattle.escpos_link.specs.Resumed.{resumed_host}
 use Rattle.escpos_till.specs.declared.entry.Entry.{Entry}
@@ -173,13 +173,25 @@ used_keeps es hand left h after k number limit records next within sent = record
   };
 }
 
-abbrev pub linked_keeps : (es : List Entry) (hand : Hand) (h : HostView) → h.phase ≡ Down → h.next < hand.limit → Keeps es (Some hand) h → Keeps es (Some hand) (linked h)
-linked_keeps es hand h is_down within k =
-    used_keeps es hand hand h (linked h) k refl refl refl refl within
+abbrev pub linked_reporting_keeps : (es : List Entry) (hand : Hand) (h : HostView) → h.phase ≡ Down → h.next < hand.limit → Keeps es (Some hand) h → Keeps es (Some hand) (linked_reporting h)
+linked_reporting_keeps es hand h is_down within k =
+    used_keeps es hand hand h (linked_reporting h) k refl refl refl refl within
     (subst (λ (phase : Phase). IsSent es hand.number hand.receipt (k.answered ++ in_flight phase)) is_down k.in_hand.sent)
 
 abbrev pub nudged_keeps : (es : List Entry) (hand : Hand) (h : HostView) → h.next < hand.limit → Keeps es (Some hand) h → Keeps es (Some hand) (nudged h)
 nudged_keeps es hand h within k = used_keeps es hand hand h (nudged h) k refl refl refl refl within k.in_hand.sent
+
+-- A request has no number.
+abbrev pub asked_keeps : (es : List Entry) (hand : Hand) (h : HostView) → Keeps es (Some hand) h → Keeps es (Some hand) (reports_asked h)
+asked_keeps es hand h k = record {
+  ledger = k.ledger;
+  receipts = k.receipts;
+  are = k.are;
+  answered = k.answered;
+  records = k.records;
+  next = k.next;
+  in_hand = record { reserved = k.in_hand.reserved; below = k.in_hand.below; sent = k.in_hand.sent };
+}
 
 pub one_more : (answered some : List (List Command)) (commands : List Command) (flight : List InFlight) (mark : List ℕ) → some ≡ in_flight (Open flight) → answered ++ some ≡ []
     → answered ++ in_flight (Open (flight ++ record { receipt = commands; mark = mark } ∷ [])) ≡ commands ∷ []

@@ -9,7 +9,7 @@ use Rattle.escpos_till.specs.declared.machine.Then.TheVariants as then
 use Rattle.escpos_till.specs.declared.machine.TillNote.{TillNote}
 use Rattle.escpos_till.specs.declared.machine.TillNote.TheVariants as note_kind
 use Rattle.escpos_till.specs.declared.store.StoreFault.{StoreFault}
-use Rattle.escpos_till.specs.Driver.{Breaks, Call, Calls, Cancel, Deed, Deliver, DidAll, Ends, Gives, HangsUp, Keeps, Links, Loses, Misses, Puts, Queue, Raise, Tells, Turns}
+use Rattle.escpos_till.specs.Driver.{Breaks, Call, Calls, Cancel, Deed, Deliver, DidAll, Ends, Gives, HangsUp, Keeps, Links, Loses, Misses, Pauses, Puts, Queue, Raise, Tells, Turns}
 use Rattle.escpos_till.specs.Machine.{Kept, MachineView, Unsure, after_note, lost, told}
 use Rattle.escpos_till_model.specs.Bridge.{AllOnWire, IsOffLine, IsOnLine}
 
@@ -36,6 +36,8 @@ note_quiet (note_kind.Cancelled number tried) = tt
 note_quiet (note_kind.Recorded number) = tt
 note_quiet (note_kind.NoLink number) = tt
 note_quiet (note_kind.Waiting number why) = tt
+note_quiet (note_kind.Paused number why) = tt
+note_quiet (note_kind.StillPaused number why) = tt
 note_quiet (note_kind.NotKept why) = tt
 
 kept_quiet : (e : Entry) (next : Then) (m mid : MachineView) → IsQuiet (stage.Keeping e next) → Kept (stage.Keeping e next) m mid → IsQuiet mid.stage
@@ -65,11 +67,13 @@ quiet_on (Breaks bytes why) m mid quiet (count, next, ended) = absurd (quiet_at 
 quiet_on (Gives room bytes) m mid quiet (waits, within, given) = absurd (quiet_at m.stage _ waits.talks quiet)
 quiet_on (Ends why) m mid quiet (room, waits, ended) = absurd (quiet_at m.stage _ waits.talks quiet)
 quiet_on HangsUp m mid quiet (n, is, mid_is) = absurd (quiet_at m.stage _ is quiet)
+quiet_on (Pauses number why) m mid quiet (talk, is, news, mid_is) = absurd (quiet_at m.stage _ is quiet)
 
 quiet_first : (d : Deed) (ds : List Deed) (w : WireView) → (IsOnLine d → ⊥) → AllOnWire w ds w → AllOnWire w (d ∷ ds) w
 quiet_first (Keeps e) ds w never rest = rest
 quiet_first (Loses e why) ds w never rest = rest
 quiet_first (Tells n) ds w never rest = rest
+quiet_first (Pauses number why) ds w never rest = rest
 quiet_first Links ds w never rest = absurd (never tt)
 quiet_first Misses ds w never rest = absurd (never tt)
 quiet_first (Puts bytes) ds w never rest = absurd (never tt)

@@ -6,7 +6,7 @@ use Rattle.escpos_host.specs.Earlier.{with_earlier}
 use Rattle.escpos_host.specs.Heard.{EndsLink}
 use Rattle.escpos_host.specs.declared.host.HostEvent.{HostEvent}
 use Rattle.escpos_host.specs.declared.host.HostEvent.TheVariants as heard
-use Rattle.escpos_host.specs.Machine.{HostView, Down, Opening, IsSound, submitted}
+use Rattle.escpos_host.specs.Machine.{Down, HostView, IsSound, Opening, reports_asked, submitted}
 use Rattle.escpos_link.specs.declared.event.Event.TheVariants as line
 use Rattle.escpos_link.specs.declared.event.Refused.{Refused}
 use Rattle.escpos_link.specs.EventTable.{delivered, left_by}
@@ -26,7 +26,7 @@ use Rattle.escpos_till.specs.declared.machine.Then.{Then}
 use Rattle.escpos_till.specs.declared.machine.Then.TheVariants as then
 use Rattle.escpos_till.specs.declared.machine.TillNote.{TillNote}
 use Rattle.escpos_till.specs.declared.store.StoreFault.{StoreFault}
-use Rattle.escpos_till.specs.Machine.{Came, Drops, Ended, Follows, GoesOn, Kept, MachineView, Opens, Submits, Turns, Unsure, connected, hung_up, not_connected, told}
+use Rattle.escpos_till.specs.Machine.{Came, Drops, Ended, Follows, GoesOn, Kept, MachineView, Opens, Submits, Turns, Unsure, connected, hung_up, not_connected, told, with_pause}
 use Rattle.escpos_till_model.specs.Kept.{Hand, IsInHand, Keeps}
 use Rattle.escpos_till_model.specs.Known.{Holds, IsToKeep, IsWorld, Linked}
 use Rattle.escpos_till_model.specs.World.{Calls, GoesOnWire, Hears, Idles, Runs, Stores, Tells, Wired, World, running, with_entry, with_wire}
@@ -362,8 +362,8 @@ agrees_going talk (suc left) h after up so = agrees_on h after _ tt up so.0 so.1
 
 agrees_submitted : (talk : Talk) (receipt : Option (List Command)) (left : ℕ) (h : HostView) (after : MachineView) → h.phase ≢ Down → Submits talk receipt left h after.host after.stage
     → Agrees after
-agrees_submitted talk (Some receipt) (suc left) h after up (inl (flight, phase, few, mark, same, now)) =
-    agrees_on (submitted h flight receipt) after _ tt (λ gone. cc gone) same now
+agrees_submitted talk (Some receipt) (suc left) h after up (inl ((phase, mark, same), now)) =
+    agrees_on (submitted (reports_asked h) [] receipt) after _ tt (λ gone. cc gone) same now
 agrees_submitted talk (Some receipt) (suc left) h after up (inr (why, refuses, drops, now)) = agrees_over h after _ drops now
 agrees_submitted talk (Some receipt) zero h after up so = agrees_going talk zero h after up so
 agrees_submitted talk None left h after up so = agrees_going talk left h after up so
@@ -371,7 +371,7 @@ agrees_submitted talk None left h after up so = agrees_going talk left h after u
 agrees_turned : (b : Book) (e : HostEvent) (talk : Talk) (left : ℕ) (h : HostView) (after : MachineView) → ((EndsLink e → ⊥) → h.phase ≢ Down) → Turns b e talk left h after.host after.stage → Agrees after
 agrees_turned b heard.None talk left h after up so = agrees_going talk left h after (up (λ l. l)) so
 agrees_turned b (heard.Status byte) talk left h after up so = agrees_going talk left h after (up (λ l. l)) so
-agrees_turned b (heard.Condition block) talk left h after up so = agrees_going talk left h after (up (λ l. l)) so
+agrees_turned b (heard.Condition block) talk left h after up (p, told, so) = agrees_going (with_pause talk p) left h after (up (λ l. l)) so
 agrees_turned b (heard.Late id) talk left h after up (inl (closes, same, is)) = agrees_on h after _ tt (up (λ l. l)) same is
 agrees_turned b (heard.Late id) talk left h after up (inr (other, so)) = agrees_going talk left h after (up (λ l. l)) so
 agrees_turned b heard.Opened talk left h after up so = agrees_submitted talk talk.receipt left h after (up (λ l. l)) so

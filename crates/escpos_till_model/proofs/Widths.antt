@@ -62,6 +62,7 @@ step_width laws (event.Hear most) w new known happened =
     ap (λ k. width_of k.wire) happened.is ∙ wired_width happened.m.host happened.after.host _ happened.wire happened.wired
 step_width laws (event.End why) w new known happened = ap (λ k. width_of k.wire) happened.is ∙ wired_width happened.m.host happened.after.host w.wire happened.wire happened.wired
 step_width laws event.HangUp w new known happened = ap (λ k. width_of k.wire) happened.is ∙ wired_width happened.m.host happened.after.host w.wire happened.wire happened.wired
+step_width laws event.Pause w new known happened = ap (λ k. width_of k.wire) happened.is ∙ wired_width happened.m.host happened.after.host w.wire happened.wire happened.wired
 step_width laws event.Tell w new known happened =
     ap (λ k. width_of k.wire) happened.moves.is ∙ wired_width happened.moves.m.host happened.moves.after.host w.wire happened.moves.wire happened.moves.wired
 step_width laws (event.OnWire e) w new known happened =

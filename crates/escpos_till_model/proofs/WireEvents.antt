@@ -104,9 +104,11 @@ event_given_up line.PrinterRestart w after effect is happened =
 event_given_up (line.SetCondition condition) w after effect is happened =
     (note.Done, λ h. (refl, ap (λ l. line_of h (given_up (wire_of l))) (happened (fresh 0)).1))
 event_given_up line.LinkUp w after effect is happened = absurd (let bad : false ≡ true = is in cc)
+event_given_up line.LinkUpReporting w after effect is happened = absurd (let bad : false ≡ true = is in cc)
 event_given_up line.Nudge w after effect is happened = absurd (let bad : false ≡ true = is in cc)
 event_given_up (line.Submit receipt) w after effect is happened = absurd (let bad : false ≡ true = is in cc)
 event_given_up (line.Ask kind) w after effect is happened = absurd (let bad : false ≡ true = is in cc)
+event_given_up line.AskReports w after effect is happened = absurd (let bad : false ≡ true = is in cc)
 event_given_up (line.Move most) w after effect is happened = absurd (let bad : false ≡ true = is in cc)
 event_given_up (line.Answer most) w after effect is happened = absurd (let bad : false ≡ true = is in cc)
 event_given_up line.HostDrops w after effect is happened = absurd (let bad : false ≡ true = is in cc)
@@ -160,9 +162,11 @@ event_with_more line.PrinterRestart bytes w after effect is happened =
 event_with_more (line.SetCondition condition) bytes w after effect is happened =
     (note.Done, λ h. (refl, ap (λ l. line_of h (with_more bytes (wire_of l))) (happened (fresh 0)).1))
 event_with_more line.LinkUp bytes w after effect is happened = absurd (let bad : false ≡ true = is in cc)
+event_with_more line.LinkUpReporting bytes w after effect is happened = absurd (let bad : false ≡ true = is in cc)
 event_with_more line.Nudge bytes w after effect is happened = absurd (let bad : false ≡ true = is in cc)
 event_with_more (line.Submit receipt) bytes w after effect is happened = absurd (let bad : false ≡ true = is in cc)
 event_with_more (line.Ask kind) bytes w after effect is happened = absurd (let bad : false ≡ true = is in cc)
+event_with_more line.AskReports bytes w after effect is happened = absurd (let bad : false ≡ true = is in cc)
 event_with_more (line.Move most) bytes w after effect is happened = absurd (let bad : false ≡ true = is in cc)
 event_with_more (line.Answer most) bytes w after effect is happened = absurd (let bad : false ≡ true = is in cc)
 event_with_more line.HostDrops bytes w after effect is happened = absurd (let bad : false ≡ true = is in cc)

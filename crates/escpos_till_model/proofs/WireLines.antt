@@ -81,9 +81,11 @@ event_none line.PrinterRestart w after effect is happened none =
     ap (λ l. l.live) same ∙ left_none w.ended w.live none
 event_none (line.SetCondition condition) w after effect is happened none = ap (λ l. l.live) (happened (fresh 0)).1 ∙ none
 event_none line.LinkUp w after effect is happened none = absurd (let bad : false ≡ true = is in cc)
+event_none line.LinkUpReporting w after effect is happened none = absurd (let bad : false ≡ true = is in cc)
 event_none line.Nudge w after effect is happened none = absurd (let bad : false ≡ true = is in cc)
 event_none (line.Submit receipt) w after effect is happened none = absurd (let bad : false ≡ true = is in cc)
 event_none (line.Ask kind) w after effect is happened none = absurd (let bad : false ≡ true = is in cc)
+event_none line.AskReports w after effect is happened none = absurd (let bad : false ≡ true = is in cc)
 event_none (line.Move most) w after effect is happened none = absurd (let bad : false ≡ true = is in cc)
 event_none (line.Answer most) w after effect is happened none = absurd (let bad : false ≡ true = is in cc)
 event_none line.HostDrops w after effect is happened none = absurd (let bad : false ≡ true = is in cc)

@@ -24,14 +24,18 @@ use Rattle.escpos_till.specs.Copy.{copy_line, sent_of}
 use Rattle.escpos_till.specs.Delivers.{marks_taken}
 use Rattle.escpos_receipt.specs.Whole.{Whole}
 use Rattle.escpos_till.specs.Delivers.{FirstWaits}
-use Rattle.escpos_till.specs.Machine.{Cancels, Delivers, Drops, Ended, IsNext, MachineView, Queues, Raises, SameEntries, after_note, at, connected, hung_up as machine_hung_up, lost, not_connected, told}
+use Rattle.escpos_till.specs.Machine.{Cancels, Delivers, Drops, Ended, IsNext, MachineView, Queues, Raises, SameEntries, after_note, at, connected, ended_by_pause, hung_up as machine_hung_up, lost, not_connected, told, with_pause}
 use Rattle.escpos_till.proofs.EntryLemmas.{length-taken}
 use Rattle.escpos_till_model.proofs.EntryFacts.{among_cons, among_filtered, among_last, among_nothing, first_among, first_is_taken}
 use Rattle.escpos_till_model.proofs.Keeping.{gone_keeps}
 use Rattle.escpos_till_model.specs.Receipts.{Among, IsReceipt}
 use Rattle.escpos_till_model.specs.Kept.{Hand}
 use Rattle.escpos_till_model.specs.Known.{Accounted, BookMayLag, Holds, IsHostOf, IsMachineIn, IsToSend, IsWorld}
-use Rattle.escpos_till_model.specs.World.{Calls, FitsLine, IsCopy, IsSendable, IsSo, Tells, Wired, World, running}
+use Rattle.escpos_till.specs.Pauses.{no_news}
+use Rattle.escpos_till.specs.declared.pause.Pause.{Pause}
+use Rattle.escpos_host.specs.declared.send.SendFault.TheVariants as fault
+use Rattle.escpos_till.specs.declared.machine.Talk.{Talk}
+use Rattle.escpos_till_model.specs.World.{Calls, FitsLine, IsCopy, IsSendable, IsSo, Tells, TellsPause, Wired, World, running}
 use Rattle.escpos_till_model.specs.Late.{HasJustBegun, LateAnswers}
 use Rattle.escpos_till_model.proofs.LateLemmas.{drops_late, first_is_least}
 use Rattle.escpos_till_model.proofs.LinesKept.{LineLaws, Right, down_or_up, goes, same_wire, drops_right, drops_hung}
@@ -247,6 +251,8 @@ told_lag (note_kind.Cancelled number tried) live lost = lost
 told_lag (note_kind.Recorded number) live lost = lost
 told_lag (note_kind.NoLink number) live lost = lost
 told_lag (note_kind.Waiting number why) live lost = lost
+told_lag (note_kind.Paused number why) live lost = lost
+told_lag (note_kind.StillPaused number why) live lost = lost
 told_lag (note_kind.NotKept why) live lost = live tt
 
 pub told_holds : (n : TillNote) (kept : List Entry) (hand : Option Hand) (h : HostView) → hand ≡ None → Holds kept hand h (after_note n)
@@ -256,6 +262,8 @@ told_holds (note_kind.Cancelled number tried) kept hand h none = none
 told_holds (note_kind.Recorded number) kept hand h none = none
 told_holds (note_kind.NoLink number) kept hand h none = none
 told_holds (note_kind.Waiting number why) kept hand h none = none
+told_holds (note_kind.Paused number why) kept hand h none = none
+told_holds (note_kind.StillPaused number why) kept hand h none = none
 told_holds (note_kind.NotKept why) kept hand h none = none
 
 pub told_parts : (m after : MachineView) (kept : List Entry) (w new : WireView) (n : TillNote) → m.stage ≡ stage.Telling n → Parts m kept w → after ≡ told m.stage m → IsSound after.host
@@ -264,6 +272,13 @@ told_parts m after kept w new n is p same sound wired =
     restaged m after kept w new (stage.Telling n) (after_note n) is p (same ∙ ap (λ s. told s m) is) sound wired (told_lag n)
     (λ book holds. told_holds n kept p.hand (with_earlier p.earlier m.host) holds.0)
 
+-- The owner is told of a pause: the same receipt is sent on.
+pub paused_parts : (m after : MachineView) (kept : List Entry) (w new : WireView) (talk : Talk) → m.stage ≡ stage.Talking talk → Parts m kept w → after ≡ told m.stage m → IsSound after.host
+    → Wired m.host after.host w new → Parts after kept new
+paused_parts m after kept w new talk is p same sound wired =
+    restaged m after kept w new (stage.Talking talk) (stage.Talking (with_pause talk (no_news talk.paused))) is p (same ∙ ap (λ s. told s m) is) sound wired (λ live lost. lost)
+    (λ book holds. holds)
+
 pub hung_lag : (n : TillNote) → (BookMayLag (stage.Telling n) → ⊥) → BookMayLag (stage.HangingUp n) → ⊥
 hung_lag (note_kind.Queued number) live lost = lost
 hung_lag note_kind.Raised live lost = lost
@@ -271,6 +286,8 @@ hung_lag (note_kind.Cancelled number tried) live lost = lost
 hung_lag (note_kind.Recorded number) live lost = lost
 hung_lag (note_kind.NoLink number) live lost = lost
 hung_lag (note_kind.Waiting number why) live lost = lost
+hung_lag (note_kind.Paused number why) live lost = lost
+hung_lag (note_kind.StillPaused number why) live lost = lost
 hung_lag (note_kind.NotKept why) live lost = live lost
 
 pub hung_parts : (m after : MachineView) (kept : List Entry) (w new : WireView) (s : Stage) → m.stage ≡ s → Parts m kept w → after ≡ machine_hung_up s m → IsSound after.host
@@ -341,11 +358,22 @@ let_go laws m after kept w new p drops sound wired book holds = record {
   holds = holds;
 }
 
+-- Whatever ended a link, no note of that says what isn't so.
+pub ended_so : (kept : List Entry) (number : ℕ) (why : SendFault) (pause : Option Pause) → IsSo kept (ended_by_pause number why pause)
+ended_so kept number fault.TimedOut (Some p) = tt
+ended_so kept number fault.TimedOut None = tt
+ended_so kept number fault.Ended pause = tt
+ended_so kept number fault.ReadFault pause = tt
+ended_so kept number fault.WriteFault pause = tt
+ended_so kept number fault.TooLong pause = tt
+ended_so kept number fault.BadAnswer pause = tt
+ended_so kept number (fault.Refused e) pause = tt
+
 pub ended_parts : LineLaws → (why : SendFault) (m after : MachineView) (kept : List Entry) (w new : WireView) (s : Stage) → m.stage ≡ s → Parts m kept w → Ended s why m after → IsSound after.host
     → Wired m.host after.host w new → Parts after kept new
 ended_parts laws why m after kept w new (stage.Talking talk) is p (drops, book, now) sound wired =
     let_go laws m after kept w new p drops sound wired (λ live. subst (λ b. IsBookOf b kept) (sym book) (p.book (λ lost. subst BookMayLag is lost)))
-    (subst (λ s. Holds kept None (with_earlier p.earlier after.host) s) (sym now) (refl, tt))
+    (subst (λ s. Holds kept None (with_earlier p.earlier after.host) s) (sym now) (refl, ended_so kept talk.number why talk.paused.why))
 ended_parts laws why m after kept w new stage.AtRest is p same sound wired = unchanged m after kept w new p same sound wired
 ended_parts laws why m after kept w new (stage.Connecting due) is p same sound wired = unchanged m after kept w new p same sound wired
 ended_parts laws why m after kept w new (stage.HangingUp n) is p same sound wired = unchanged m after kept w new p same sound wired
@@ -372,6 +400,9 @@ told_world w new known v =
     let holds = subst (λ s. Holds w.kept p.hand (with_earlier p.earlier moves.m.host) s) is p.holds in
     subst IsWorld (sym moves.is) (whole moves.after w.kept moves.wire (w.told ++ v.note ∷ []) (so_more w.kept w.told v.note known.told holds.1)
     (told_parts moves.m moves.after w.kept w.wire moves.wire v.note is p same moves.sound moves.wired))
+
+pub paused_world : (w new : World) → IsWorld w → Calls TellsPause w new → IsWorld new
+paused_world w new known v = moved _ w new known v (λ p. paused_parts v.m v.after w.kept w.wire v.wire v.goes.talk v.goes.talks p v.goes.told v.sound v.wired)
 
 pub hung_world : (w new : World) → IsWorld w → Calls (λ m after. after ≡ machine_hung_up m.stage m) w new → IsWorld new
 hung_world w new known v = moved _ w new known v (λ p. hung_parts v.m v.after w.kept w.wire v.wire v.m.stage refl p v.goes v.sound v.wired)

@@ -5,7 +5,7 @@ use Rattle.escpos_command.specs.declared.command.Command.{Command}
 use Rattle.escpos_host.specs.declared.send.SendFault.{SendFault}
 use Rattle.escpos_command.specs.Digits.{mark_count, mark_of}
 use Rattle.escpos_host.specs.Earlier.{with_earlier}
-use Rattle.escpos_host.specs.Machine.{HostView, Phase, Down, Opening, Open, IsSound, in_flight, most_in_flight, submitted, HasMark, InFlight}
+use Rattle.escpos_host.specs.Machine.{HostView, Phase, Down, Opening, Open, IsSound, in_flight, most_in_flight, submitted, HasMark, InFlight, reports_asked}
 use Rattle.escpos_command.specs.declared.answer.Answer.{Answer}
 use Rattle.escpos_command.specs.Answers.{HalfAnswer}
 use Rattle.escpos_host.specs.declared.host.HostEvent.{HostEvent}
@@ -34,10 +34,10 @@ use Rattle.escpos_till.specs.declared.entry.Entry.TheVariants as entry
 use Rattle.escpos_till.specs.declared.machine.Talk.{Talk}
 use Rattle.escpos_till.specs.declared.machine.Then.TheVariants as then
 use Rattle.escpos_till.specs.declared.machine.TillNote.TheVariants as note_kind
-use Rattle.escpos_till.specs.Machine.{Came, Drops, GoesOn as MachineGoesOn, MachineView, Submits, Turns as MachineTurns, printed}
+use Rattle.escpos_till.specs.Machine.{Came, Drops, GoesOn as MachineGoesOn, MachineView, Sends, Submits, Turns as MachineTurns, printed, with_left, with_pause, with_sent}
 use Rattle.escpos_till_model.proofs.GoesOn.{answered_on}
 use Rattle.escpos_till_model.proofs.EntryFacts.{zip_length}
-use Rattle.escpos_till_model.proofs.Keeping.{nothing_before, on_keeps, submitted_keeps}
+use Rattle.escpos_till_model.proofs.Keeping.{asked_keeps, nothing_before, on_keeps, submitted_keeps}
 use Rattle.escpos_till_model.proofs.LateLemmas.{late_host, late_on, other_mark, which_try}
 use Rattle.escpos_till_model.specs.Kept.{Hand, IsSent, Reserves}
 use Rattle.escpos_till_model.specs.Known.{Accounted, Holds, IsWorld}
@@ -301,8 +301,8 @@ Unrecorded kept earlier host = length (earlier ++ host.records) ≡ length (reco
 
 -- The talk is over.
 pub over : LineLaws → (m after : MachineView) (kept : List Entry) (w wire : WireView) (talk : Talk) (consumed : ℕ) (host : HostView) (e : HostEvent) (why : SendFault) → (x : Heard m after kept w wire talk consumed host e)
-    → Drops host after.host → after.stage ≡ stage.HangingUp (note_kind.Waiting talk.number why) → Parts after kept wire
-over laws m after kept w wire talk consumed host e why x drops now = record {
+    → Drops host after.host → (n : ℕ) → after.stage ≡ stage.HangingUp (note_kind.Waiting n why) → Parts after kept wire
+over laws m after kept w wire talk consumed host e why x drops n now = record {
   earlier = x.earlier;
   sound = x.after_sound;
   right = drops_right laws x.earlier host after.host w wire x.sound drops x.wired x.right;
@@ -315,8 +315,8 @@ over laws m after kept w wire talk consumed host e why x drops now = record {
 
 -- The talk goes on, with the host as it is.
 pub onward : (m after : MachineView) (kept : List Entry) (w wire : WireView) (talk : Talk) (consumed left : ℕ) (host : HostView) (e : HostEvent) → (x : Heard m after kept w wire talk consumed host e)
-    → Unrecorded kept x.earlier host → after.host ≡ host → after.stage ≡ stage.Talking (record { number = talk.number; receipt = talk.receipt; left = left }) → Parts after kept wire
-onward m after kept w wire talk consumed left host e x none same now =
+    → Unrecorded kept x.earlier host → after.host ≡ host → (later : Talk) → later.number ≡ talk.number → later.receipt ≡ talk.receipt → after.stage ≡ stage.Talking later → Parts after kept wire
+onward m after kept w wire talk consumed left host e x none same later number receipt now =
     let stays : wire ≡ w = same_wire host after.host w wire same x.wired in
     record {
       earlier = x.earlier;
@@ -328,14 +328,28 @@ onward m after kept w wire talk consumed left host e x none same now =
       begun = subst HasJustBegun (sym same) x.begun;
       book = λ live. x.book;
       holds = subst (λ s. Holds kept (Some x.held) (with_earlier x.earlier after.host) s) (sym now)
-          (subst (λ h. Holds kept (Some x.held) (with_earlier x.earlier h) (stage.Talking (record { number = talk.number; receipt = talk.receipt; left = left }))) (sym same)
-          (x.held, refl, x.number, x.receipt, x.follows, none, x.up, x.reserved));
+          (subst (λ h. Holds kept (Some x.held) (with_earlier x.earlier h) (stage.Talking later)) (sym same) (
+            x.held,
+            refl,
+            x.number ∙ sym number,
+            x.receipt ∙ sym receipt,
+            subst (λ n. MayFollow kept (entry.Recorded n)) (sym number) x.follows,
+            none,
+            x.up,
+            λ r is. x.reserved r (sym receipt ∙ is),
+          ));
     }
+
+-- The same for a talk that differs in what the printer has told.
+pub goes_on_as : LineLaws → (m after : MachineView) (kept : List Entry) (w wire : WireView) (talk later : Talk) (consumed left : ℕ) (host : HostView) (e : HostEvent) → (x : Heard m after kept w wire talk consumed host e)
+    → Unrecorded kept x.earlier host → later.number ≡ talk.number → later.receipt ≡ talk.receipt → MachineGoesOn later left host after.host after.stage → Parts after kept wire
+goes_on_as laws m after kept w wire talk later consumed zero host e x none number receipt so = over laws m after kept w wire talk consumed host e _ x so.0 later.number so.1
+goes_on_as laws m after kept w wire talk later consumed (suc left) host e x none number receipt so =
+    onward m after kept w wire talk consumed (suc left) host e x none so.0 (with_left later (suc left)) number receipt so.1
 
 pub goes_on_parts : LineLaws → (m after : MachineView) (kept : List Entry) (w wire : WireView) (talk : Talk) (consumed left : ℕ) (host : HostView) (e : HostEvent) → (x : Heard m after kept w wire talk consumed host e)
     → Unrecorded kept x.earlier host → MachineGoesOn talk left host after.host after.stage → Parts after kept wire
-goes_on_parts laws m after kept w wire talk consumed zero host e x none so = over laws m after kept w wire talk consumed host e _ x so.0 so.1
-goes_on_parts laws m after kept w wire talk consumed (suc left) host e x none so = onward m after kept w wire talk consumed (suc left) host e x none so.0 so.1
+goes_on_parts laws m after kept w wire talk consumed left host e x none so = goes_on_as laws m after kept w wire talk talk consumed left host e x none refl refl so
 
 -- What was submitted is the try in hand, closed by the last of its numbers.
 own_try : (kept : List Entry) (hand : Hand) (k : ℕ) (number closing : ℕ) → IsLedger kept → (r : Reserves kept hand.number k hand.limit) → k < hand.limit → HasTry (tries kept) number closing
@@ -393,23 +407,39 @@ submitted_late laws kept hand h w receipt flight sound right new_right happened 
           ];
     }
 
--- The receipt goes to the host.
-pub given : LineLaws → (m after : MachineView) (kept : List Entry) (w wire : WireView) (talk : Talk) (consumed left : ℕ) (host : HostView) (e : HostEvent) (receipt : List Command) (flight : List InFlight)
-    → (x : Heard m after kept w wire talk consumed host e) → Unrecorded kept x.earlier host → talk.receipt ≡ Some receipt → host.phase ≡ Open flight → length flight < most_in_flight
-    → HasMark host → after.host ≡ submitted host flight receipt → after.stage ≡ stage.Talking (record { number = talk.number; receipt = None; left = left }) → Parts after kept wire
-given laws m after kept w wire talk consumed left host e receipt flight x none has phase few mark same now =
+asked_sound : (h : HostView) → h.phase ≡ Open [] → IsSound h → IsSound (reports_asked h)
+asked_sound h ready sound = record {
+  quiet = λ down. absurd (let bad : Open [] ≡ Down = sym ready ∙ down in cc);
+  none_left = sound.none_left;
+  few = sound.few;
+  half = sound.half;
+}
+
+-- The receipt goes to the host, after a request for automatic status.
+pub given : LineLaws → (m after : MachineView) (kept : List Entry) (w wire : WireView) (talk : Talk) (consumed left : ℕ) (host : HostView) (e : HostEvent) (receipt : List Command)
+    → (x : Heard m after kept w wire talk consumed host e) → Unrecorded kept x.earlier host → talk.receipt ≡ Some receipt → Sends receipt host after.host
+    → after.stage ≡ stage.Talking (with_sent talk left) → Parts after kept wire
+given laws m after kept w wire talk consumed left host e receipt x none has (phase, mark, same) now =
     let before : HostView = with_earlier x.earlier host in
+    let asked : HostView = reports_asked before in
     let hand : Hand = record { number = x.held.number; receipt = None; limit = x.held.limit } in
     let (within, sendable) = x.reserved receipt has in
     let fits = sendable.fits in
-    let up : after.host.phase ≢ Down = λ down. let bad : Open (flight ++ record { receipt = receipt; mark = mark_of host.next } ∷ []) ≡ Down = ap (λ v. v.phase) (sym same) ∙ down in cc in
+    let up : after.host.phase ≢ Down = λ down. let bad : Open (record { receipt = receipt; mark = mark_of host.next } ∷ []) ≡ Down = ap (λ v. v.phase) (sym same) ∙ down in cc in
     let stays : wire ≡ w = x.wired.stays_up x.up up in
     let sound = earlier_sound x.earlier host x.sound in
-    let happened : After (event.Submit receipt) (line_of before w) note.Done (line_of (submitted before flight receipt) w) = (flight, refl, phase, few, mark, refl) in
-    let right = goes laws (event.Submit receipt) (line_of before w) (line_of (submitted before flight receipt) w) note.Done fits sound x.right happened in
-    let account : Accounted kept (Some hand) (submitted before flight receipt) w = record {
-      keeps = submitted_keeps kept x.held before flight receipt (x.receipt ∙ has) phase within x.so.account.keeps;
-      late = submitted_late laws kept x.held before w receipt flight sound x.right right happened fits (x.receipt ∙ has) phase mark within x.so.account;
+    let asks : After event.AskReports (line_of before w) note.Done (line_of asked w) = (refl, phase, refl) in
+    let ready = goes laws event.AskReports (line_of before w) (line_of asked w) note.Done tt sound x.right asks in
+    let first : Accounted kept (Some x.held) asked w = record {
+      keeps = asked_keeps kept x.held before x.so.account.keeps;
+      late = late_on laws kept x.so.account.keeps.receipts event.AskReports (line_of before w) (line_of asked w) note.Done tt sound x.right asks (λ number closing waits few. tt) x.so.account.late;
+    } in
+    let then_sound = asked_sound before phase sound in
+    let happened : After (event.Submit receipt) (line_of asked w) note.Done (line_of (submitted asked [] receipt) w) = ([], refl, phase, omega arith, mark, refl) in
+    let right = goes laws (event.Submit receipt) (line_of asked w) (line_of (submitted asked [] receipt) w) note.Done fits then_sound ready happened in
+    let account : Accounted kept (Some hand) (submitted asked [] receipt) w = record {
+      keeps = submitted_keeps kept x.held asked [] receipt (x.receipt ∙ has) phase within first.keeps;
+      late = submitted_late laws kept x.held asked w receipt [] then_sound ready right happened fits (x.receipt ∙ has) phase mark within first;
     } in
     record {
       earlier = x.earlier;
@@ -419,7 +449,7 @@ given laws m after kept w wire talk consumed left host e receipt flight x none h
       account = subst (λ v. Accounted kept (Some hand) (with_earlier x.earlier after.host) v) (sym stays)
           (subst (λ h. Accounted kept (Some hand) (with_earlier x.earlier h) w) (sym same) account);
       begun = λ first opening.
-          absurd (let bad : Open (flight ++ record { receipt = receipt; mark = mark_of host.next } ∷ []) ≡ Opening first = ap (λ v. v.phase) (sym same) ∙ opening in cc);
+          absurd (let bad : Open (record { receipt = receipt; mark = mark_of host.next } ∷ []) ≡ Opening first = ap (λ v. v.phase) (sym same) ∙ opening in cc);
       book = λ live. x.book;
       holds = subst (λ s. Holds kept (Some hand) (with_earlier x.earlier after.host) s) (sym now)
           (hand, refl, x.number, refl, x.follows, ap (λ h. length (x.earlier ++ h.records)) same ∙ none, up, λ r is. absurd (let bad : None ≡ Some r = is in cc));
@@ -427,9 +457,9 @@ given laws m after kept w wire talk consumed left host e receipt flight x none h
 
 pub submits_parts : LineLaws → (m after : MachineView) (kept : List Entry) (w wire : WireView) (talk : Talk) (consumed left : ℕ) (host : HostView) (e : HostEvent) (receipt : Option (List Command))
     → (x : Heard m after kept w wire talk consumed host e) → Unrecorded kept x.earlier host → talk.receipt ≡ receipt → Submits talk receipt left host after.host after.stage → Parts after kept wire
-submits_parts laws m after kept w wire talk consumed (suc left) host e (Some receipt) x none has (inl (flight, phase, few, mark, same, now)) =
-    given laws m after kept w wire talk consumed (suc left) host e receipt flight x none has phase few mark same now
-submits_parts laws m after kept w wire talk consumed (suc left) host e (Some receipt) x none has (inr (why, refuses, drops, now)) = over laws m after kept w wire talk consumed host e _ x drops now
+submits_parts laws m after kept w wire talk consumed (suc left) host e (Some receipt) x none has (inl (sends, now)) =
+    given laws m after kept w wire talk consumed (suc left) host e receipt x none has sends now
+submits_parts laws m after kept w wire talk consumed (suc left) host e (Some receipt) x none has (inr (why, refuses, drops, now)) = over laws m after kept w wire talk consumed host e _ x drops talk.number now
 submits_parts laws m after kept w wire talk consumed zero host e (Some receipt) x none has so = goes_on_parts laws m after kept w wire talk consumed zero host e x none so
 submits_parts laws m after kept w wire talk consumed left host e None x none has so = goes_on_parts laws m after kept w wire talk consumed left host e x none so
 
@@ -494,8 +524,8 @@ turned_parts laws m after kept w wire talk consumed left host heard.None b old b
     goes_on_parts laws m after kept w wire talk consumed left host heard.None x (ap (λ rs. length (x.earlier ++ rs)) more ∙ count) so
 turned_parts laws m after kept w wire talk consumed left host (heard.Status byte) b old book x count more on so =
     goes_on_parts laws m after kept w wire talk consumed left host (heard.Status byte) x (ap (λ rs. length (x.earlier ++ rs)) more ∙ count) so
-turned_parts laws m after kept w wire talk consumed left host (heard.Condition block) b old book x count more on so =
-    goes_on_parts laws m after kept w wire talk consumed left host (heard.Condition block) x (ap (λ rs. length (x.earlier ++ rs)) more ∙ count) so
+turned_parts laws m after kept w wire talk consumed left host (heard.Condition block) b old book x count more on (p, told, so) =
+    goes_on_as laws m after kept w wire talk (with_pause talk p) consumed left host (heard.Condition block) x (ap (λ rs. length (x.earlier ++ rs)) more ∙ count) refl refl so
 turned_parts laws m after kept w wire talk consumed left host (heard.Late id) b old book x count more on (inl (closes, same, now)) =
     late_parts laws m after kept w wire talk consumed left host id x (ap (λ rs. length (x.earlier ++ rs)) more ∙ count) (subst (λ ts. ClosesTry ts talk.number id) book closes) same now
 turned_parts laws m after kept w wire talk consumed left host (heard.Late id) b old book x count more on (inr (other, so)) =

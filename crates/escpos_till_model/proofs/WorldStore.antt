@@ -6,10 +6,10 @@ use Rattle.escpos_host.specs.declared.send.SendFault.{SendFault}
 use Rattle.escpos_command.specs.declared.command.Command.{Command}
 use Rattle.escpos_command.specs.Digits.{mark_count, mark_of}
 use Rattle.escpos_host.specs.Earlier.{with_earlier}
-use Rattle.escpos_host.specs.Machine.{HostView, Phase, Down, Opening, IsSound, gone_down, in_flight, linked, most_in_flight, nudged, taken_out}
+use Rattle.escpos_host.specs.Machine.{HostView, Phase, Down, Opening, IsSound, gone_down, in_flight, linked_reporting, most_in_flight, nudged, taken_out}
 use Rattle.escpos_host.specs.declared.host.HostError.{HostError}
 use Rattle.escpos_host.specs.declared.host.HostError.TheVariants as error
-use Rattle.escpos_host.specs.Awaits.{RefusesOpening, dialled}
+use Rattle.escpos_host.specs.Awaits.{RefusesOpening, dialled_reporting}
 use Rattle.escpos_host.proofs.Dialling.{dialled_first, dialled_more}
 use Rattle.escpos_link.specs.declared.event.Event.{Event}
 use Rattle.escpos_link.specs.declared.event.Event.TheVariants as event
@@ -38,13 +38,13 @@ use Rattle.escpos_till.specs.declared.store.StoreFault.{StoreFault}
 use Rattle.escpos_till.specs.declared.machine.Then.TheVariants as then
 use Rattle.escpos_till.specs.Delivers.{fresh, marks_taken}
 use Rattle.escpos_till.specs.Tries.{HasTry, tries}
-use Rattle.escpos_till.specs.Machine.{Drops, Ended, Follows, Kept, MachineView, Opens, Unsure, lost, put}
+use Rattle.escpos_till.specs.Machine.{Drops, Ended, Follows, Kept, MachineView, Opens, Unsure, first_talk, lost, put}
 use Rattle.escpos_till.proofs.EntryLemmas.{count_states, next_after_tried, some_state}
 use Rattle.escpos_till.proofs.MachineLemmas.{waits_tried}
 use Rattle.escpos_till_model.proofs.Accounts.{same_times, times_stay}
 use Rattle.escpos_till_model.proofs.EntryFacts.{among_more, cancelled_append, recorded_append, recorded_same, taken_append, zip_length}
 use Rattle.escpos_till_model.proofs.GoesOn.{GoesOn, taken_on}
-use Rattle.escpos_till_model.proofs.Keeping.{entry_keeps, front_of, gone_keeps, linked_keeps, nudged_keeps, on_keeps, record_keeps, take_keeps}
+use Rattle.escpos_till_model.proofs.Keeping.{entry_keeps, front_of, gone_keeps, linked_reporting_keeps, nudged_keeps, on_keeps, record_keeps, take_keeps}
 use Rattle.escpos_till_model.specs.Receipts.{Among, IsReceiptOf}
 use Rattle.escpos_till_model.specs.Kept.{Hand, Keeps}
 use Rattle.escpos_till_model.specs.Known.{Accounted, BookMayLag, Holds, IsHostOf, IsToKeep, IsToSend, IsWorld}
@@ -52,7 +52,7 @@ use Rattle.escpos_till_model.specs.Late.{HasJustBegun, LateAnswers}
 use Rattle.escpos_till_model.specs.World.{Breaks, Crashes, GoesOnWire, Idles, IsSendable, IsSo, Puts, Starts, Stores, Wired, World, is_printer_event, off, running, with_entry, with_wire, without_entry}
 use Rattle.escpos_till_model.proofs.LateLemmas.{are_below, has_last, has_tried, late_fresh, late_host, late_idle, late_more, late_on, late_recorded, late_tried, other_mark}
 use Rattle.escpos_till_model.proofs.LinesKept.{LineLaws, Right, goes, down_or_up, same_wire, none_given_up, drops_right, drops_hung}
-use Rattle.escpos_till_model.proofs.WorldCalls.{AreSo, Parts, whole, parts, let_go, gone_account, gone_begun}
+use Rattle.escpos_till_model.proofs.WorldCalls.{ended_so, AreSo, Parts, whole, parts, let_go, gone_account, gone_begun}
 
 -- ## A host that has sent nothing
 
@@ -122,6 +122,8 @@ so_grows kept e (note_kind.Cancelled number tried) follows (among, times) = (
 )
 so_grows kept e (note_kind.NoLink number) follows so = so
 so_grows kept e (note_kind.Waiting number why) follows so = so
+so_grows kept e (note_kind.Paused number why) follows so = so
+so_grows kept e (note_kind.StillPaused number why) follows so = so
 so_grows kept e (note_kind.NotKept why) follows so = so
 
 pub so_later : (kept : List Entry) (e : Entry) (notes : List TillNote) → MayFollow kept e → AreSo kept notes → AreSo (kept ++ e ∷ []) notes
@@ -131,9 +133,11 @@ so_later kept e notes follows so n among = so_grows kept e n follows (so n among
 
 pub fits_wire : (e : Event) → is_printer_event e ≡ true → IsFitting e
 fits_wire event.LinkUp at_printer = tt
+fits_wire event.LinkUpReporting at_printer = tt
 fits_wire event.Nudge at_printer = tt
 fits_wire (event.Submit receipt) at_printer = absurd (let bad : false ≡ true = at_printer in cc)
 fits_wire (event.Ask kind) at_printer = absurd (let bad : false ≡ true = at_printer in cc)
+fits_wire event.AskReports at_printer = tt
 fits_wire (event.HostRestart first) at_printer = tt
 fits_wire (event.Move k) at_printer = tt
 fits_wire (event.Deliver k) at_printer = tt
@@ -147,9 +151,11 @@ fits_wire (event.SetCondition condition) at_printer = tt
 -- Nothing is put out at the printer's end.
 pub puts_none : (e : Event) (h : HostView) (id : List ℕ) → is_printer_event e ≡ true → PutsOther e h id
 puts_none event.LinkUp h id at_printer = absurd (let bad : false ≡ true = at_printer in cc)
+puts_none event.LinkUpReporting h id at_printer = absurd (let bad : false ≡ true = at_printer in cc)
 puts_none event.Nudge h id at_printer = absurd (let bad : false ≡ true = at_printer in cc)
 puts_none (event.Submit receipt) h id at_printer = absurd (let bad : false ≡ true = at_printer in cc)
 puts_none (event.Ask kind) h id at_printer = tt
+puts_none event.AskReports h id at_printer = tt
 puts_none (event.HostRestart first) h id at_printer = tt
 puts_none (event.Move k) h id at_printer = tt
 puts_none (event.Deliver k) h id at_printer = tt
@@ -340,7 +346,7 @@ breaks laws w new most fewer why known v =
       });
       begun = gone_begun h v.after.host (λ down. absurd (up down), λ u. gone);
       book = λ live. subst (λ b. IsBookOf b w.kept) (sym book) (talking_book v.m w.kept w.wire v.talk v.talks p);
-      holds = subst (λ s. Holds w.kept None (with_earlier p.earlier v.after.host) s) (sym now) (refl, tt);
+      holds = subst (λ s. Holds w.kept None (with_earlier p.earlier v.after.host) s) (sym now) (refl, ended_so w.kept v.talk.number why v.talk.paused.why);
     }))
 
 -- ## An entry is to be kept
@@ -467,23 +473,23 @@ apart laws kept f limit n are from below within number closing has few = elim (a
 
 pub dials : LineLaws → (kept : List Entry) (hand : Hand) (receipts : List (List Command)) (w : WireView) (f c : ℕ) → f + (c + 1) < hand.limit → hand.limit ≤ mark_count
     → AreApart kept f hand.limit → Right (line_of (with_earlier receipts (fresh f)) w) → Accounted kept (Some hand) (with_earlier receipts (fresh f)) w → IsSound (fresh f)
-    → Dialled kept hand receipts (dialled (fresh f) (c + 1)) (with_link w)
+    → Dialled kept hand receipts (dialled_reporting (fresh f) (c + 1)) (with_link w)
 dials laws kept hand receipts w f zero below within are right a sound =
-    subst (λ h. Dialled kept hand receipts h (with_link w)) (dialled_first (fresh f)) (record {
-      right = goes laws event.LinkUp (line_of (with_earlier receipts (fresh f)) w) (line_of (with_earlier receipts (linked (fresh f))) (with_link w)) note.Done tt
+    subst (λ h. Dialled kept hand receipts h (with_link w)) (dialled_first true (fresh f)) (record {
+      right = goes laws event.LinkUpReporting (line_of (with_earlier receipts (fresh f)) w) (line_of (with_earlier receipts (linked_reporting (fresh f))) (with_link w)) note.Done tt
           (earlier_sound receipts (fresh f) sound) right (refl, refl, omega (arith, below, within), refl);
       account = record {
-        keeps = linked_keeps kept hand (with_earlier receipts (fresh f)) refl (omega (arith, below)) a.keeps;
-        late = late_on laws kept a.keeps.receipts event.LinkUp (line_of (with_earlier receipts (fresh f)) w) (line_of (with_earlier receipts (linked (fresh f))) (with_link w)) note.Done tt
+        keeps = linked_reporting_keeps kept hand (with_earlier receipts (fresh f)) refl (omega (arith, below)) a.keeps;
+        late = late_on laws kept a.keeps.receipts event.LinkUpReporting (line_of (with_earlier receipts (fresh f)) w) (line_of (with_earlier receipts (linked_reporting (fresh f))) (with_link w)) note.Done tt
             (earlier_sound receipts (fresh f) sound) right (refl, refl, omega (arith, below, within), refl)
             (λ number closing has few. apart laws kept f hand.limit f are (omega arith) (omega (arith, below)) within number closing has few) a.late;
       };
-      sound = dialled_sound (linked (fresh f)) f refl refl refl;
+      sound = dialled_sound (linked_reporting (fresh f)) f refl refl refl;
     })
 dials laws kept hand receipts w f (suc c) below within are right a sound =
     let d = dials laws kept hand receipts w f c (omega (arith, below)) within are right a sound in
-    let h : HostView = dialled (fresh f) (c + 1) in
-    let more : nudged h ≡ dialled (fresh f) (suc c + 1) = dialled_more (fresh f) (c + 1) ∙ ap (dialled (fresh f)) (omega arith) in
+    let h : HostView = dialled_reporting (fresh f) (c + 1) in
+    let more : nudged h ≡ dialled_reporting (fresh f) (suc c + 1) = dialled_more true (fresh f) (c + 1) ∙ ap (dialled_reporting (fresh f)) (omega arith) in
     subst (λ h. Dialled kept hand receipts h (with_link w)) more (record {
       right = goes laws event.Nudge (line_of (with_earlier receipts h) (with_link w)) (line_of (with_earlier receipts (nudged h)) (with_link w)) note.Done tt
           (earlier_sound receipts h d.sound) d.right (refl, tt, omega (arith, below, within), refl);
@@ -545,14 +551,14 @@ sent_parts laws m after kept w new e due p book follows (none, send, is) (inl (h
     let (c, count) = max_is due.openings in
     let d = dials laws more hand keeps.receipts w f c (omega (arith, count)) send.within (tried_apart kept due.number limit keeps.ledger) right
     (subst (λ v. Accounted more (Some hand) v w) (resumed_is p.earlier m.host kept None f keeps) taken) (fresh_sound f) in
-    let at_wire : after.host ≡ dialled (fresh f) (c + 1) = host ∙ ap (λ n. dialled (fresh n) (max due.openings 1)) book.next ∙ ap (dialled (fresh f)) count in
+    let at_wire : after.host ≡ dialled_reporting (fresh f) (c + 1) = host ∙ ap (λ n. dialled_reporting (fresh n) (max due.openings 1)) book.next ∙ ap (dialled_reporting (fresh f)) count in
     let up : after.host.phase ≢ Down = λ gone. let bad : Opening f ≡ Down = ap (λ v. v.phase) (sym at_wire) ∙ gone in cc in
     let linked_up : new ≡ with_link w = wired.goes_up down up in
     let tried = waits_tried kept due.number limit send.follows.0 in
     let same_records : recorded more ≡ recorded kept = recorded_same kept (entry.Tried due.number limit) refl in
     let counts : length (keeps.receipts ++ []) ≡ length (recorded more) =
     ap length (append-nil keeps.receipts) ∙ sym (zip_length (IsReceiptOf kept) (recorded kept) keeps.receipts keeps.are) ∙ ap length (sym same_records) in
-    let holds : Holds more (Some hand) (with_earlier keeps.receipts (dialled (fresh f) (c + 1))) (stage.Talking (record { number = due.number; receipt = Some due.receipt; left = due.most })) = (
+    let holds : Holds more (Some hand) (with_earlier keeps.receipts (dialled_reporting (fresh f) (c + 1))) (stage.Talking (first_talk due)) = (
       hand,
       refl,
       refl,
@@ -573,7 +579,7 @@ sent_parts laws m after kept w new e due p book follows (none, send, is) (inl (h
       begun = λ first opening. ap (λ v. v.records) at_wire;
       book = λ live. subst (λ x. IsBookOf after.book (kept ++ x ∷ [])) is known;
       holds = subst (λ s. Holds more (Some hand) (with_earlier keeps.receipts after.host) s) (sym now)
-          (subst (λ h. Holds more (Some hand) (with_earlier keeps.receipts h) (stage.Talking (record { number = due.number; receipt = Some due.receipt; left = due.most }))) (sym at_wire) holds);
+          (subst (λ h. Holds more (Some hand) (with_earlier keeps.receipts h) (stage.Talking (first_talk due))) (sym at_wire) holds);
     })
 sent_parts laws m after kept w new e due p book follows (none, send, is) (inr (why, refuses, now)) known sound wired =
     let f : ℕ = next_free kept in

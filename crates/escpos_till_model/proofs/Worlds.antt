@@ -21,11 +21,12 @@ use Rattle.escpos_till_model.specs.Late.{LateAnswers}
 use Rattle.escpos_till_model.specs.Known.{IsHostOf, IsMachineIn, IsWorld}
 use Rattle.escpos_till_model.specs.World.{Begins, Happens, Runs, World}
 use Rattle.escpos_till_model.specs.declared.event.Happening.{Happening}
+use Rattle.escpos_till_model.specs.declared.event.Happening.TheVariants as event
 use Rattle.escpos_till_model.specs.declared.event.Happening.TheVariants.{Break, Cancel, Connect, Crash, Deliver, End, FailWith, FailWithout, HangUp, Hear, Idle, Keep, Miss, OnWire, Put, Queue, Raise, Refuse, Start, Tell}
 use Rattle.escpos_till_model.proofs.LateLemmas.{late_fresh, late_off}
 use Rattle.escpos_till_model.proofs.LinesKept.{LineLaws, Right, none_given_up}
 use Rattle.escpos_till_model.proofs.EntryFacts.{among_nothing, zip_length}
-use Rattle.escpos_till_model.proofs.WorldCalls.{cancels, queued, raised, refused, delivers, told_world, hung_world, connected_world, missed_world, ended_world}
+use Rattle.escpos_till_model.proofs.WorldCalls.{cancels, connected_world, delivers, ended_world, hung_world, missed_world, paused_world, queued, raised, refused, told_world}
 use Rattle.escpos_till_model.proofs.WorldStore.{started, on_wire, idled, crashed, puts, breaks, failed_with, failed_without, fresh_begun, fresh_right, fresh_sound, kept_world}
 use Rattle.escpos_till_model.proofs.WorldHears.{hears}
 
@@ -48,6 +49,7 @@ whatever laws w new (Break taken count why) known happened = breaks laws w new t
 whatever laws w new (Hear most) known happened = hears laws w new most known happened
 whatever laws w new (End why) known happened = ended_world laws w new why known happened
 whatever laws w new HangUp known happened = hung_world w new known happened
+whatever laws w new event.Pause known happened = paused_world w new known happened
 whatever laws w new Tell known happened = told_world w new known happened
 whatever laws w new (OnWire e) known happened = on_wire laws w new e known happened
 whatever laws w new Idle known happened = idled laws w new known happened
@@ -89,6 +91,7 @@ entries_stay w new (Break taken count why) happened = same_entries w.kept new.ke
 entries_stay w new (Hear most) happened = same_entries w.kept new.kept (ap (λ v. v.kept) happened.is)
 entries_stay w new (End why) happened = same_entries w.kept new.kept (ap (λ v. v.kept) happened.is)
 entries_stay w new HangUp happened = same_entries w.kept new.kept (ap (λ v. v.kept) happened.is)
+entries_stay w new event.Pause happened = same_entries w.kept new.kept (ap (λ v. v.kept) happened.is)
 entries_stay w new Tell happened = same_entries w.kept new.kept (ap (λ v. v.kept) happened.moves.is)
 entries_stay w new (OnWire e) happened = same_entries w.kept new.kept (ap (λ v. v.kept) happened.is)
 entries_stay w new Idle happened = same_entries w.kept new.kept (ap (λ v. v.kept) happened.is)

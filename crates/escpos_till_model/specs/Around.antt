@@ -12,7 +12,7 @@ use Rattle.escpos_till.specs.declared.machine.Stage.{Stage}
 use Rattle.escpos_till.specs.declared.machine.Stage.TheVariants as stage
 use Rattle.escpos_till.specs.declared.machine.Then.TheVariants as then
 use Rattle.escpos_till.specs.declared.machine.TillNote.{TillNote}
-use Rattle.escpos_till.specs.Driver.{Breaks, Deed, Ends, Gives, HangsUp, Keeps, Links, Loses, Misses, Puts, Tells}
+use Rattle.escpos_till.specs.Driver.{Breaks, Deed, Ends, Gives, HangsUp, Keeps, Links, Loses, Misses, Pauses, Puts, Tells}
 use Rattle.escpos_till.specs.Machine.{MachineView}
 use Rattle.escpos_till_model.specs.World.{Runs, World, is_printer_event}
 use Rattle.escpos_till_model.specs.declared.event.Happening.{Happening}
@@ -42,6 +42,7 @@ Does a (Breaks bytes why) new = (count : ℕ) × (count ≤ length bytes) × (ne
 Does a (Gives room bytes) new = (bytes ≡ take (length bytes) a.wire.coming) × (new ≡ around a.kept (heard_from a.wire (length bytes)) a.told)
 Does a (Ends why) new = new ≡ a
 Does a HangsUp new = new ≡ around a.kept (given_up a.wire) a.told
+Does a (Pauses number why) new = new ≡ a
 Does a (Tells note) new = new ≡ around a.kept a.wire (a.told ++ note ∷ [])
 
 -- The same, after what happened at the printer's end.

@@ -10,7 +10,7 @@ use Rattle.escpos_till.specs.declared.machine.Stage.TheVariants as stage
 use Rattle.escpos_till.specs.declared.machine.Talk.{Talk}
 use Rattle.escpos_till.specs.declared.machine.Then.{Then}
 use Rattle.escpos_till.specs.declared.machine.TillNote.{TillNote}
-use Rattle.escpos_till.specs.Machine.{MachineView}
+use Rattle.escpos_till.specs.Machine.{MachineView, news_of}
 use Rattle.escpos_till_model.specs.declared.event.Happening.{Happening}
 use Rattle.escpos_till_model.specs.declared.event.Happening.TheVariants as event
 use Rattle.escpos_till_model.specs.declared.event.NotPossible.{NotPossible}
@@ -27,6 +27,9 @@ Talks s = (talk : Talk) × (s ≡ stage.Talking talk)
 abbrev pub HasNote : Stage → Type 0
 HasNote s = (n : TillNote) × (s ≡ stage.Telling n)
 
+abbrev pub HasNews : Stage → Type 0
+HasNews s = (talk : Talk) × (n : TillNote) × (s ≡ stage.Talking talk) × (news_of talk ≡ Some n)
+
 -- The machine asks for it at this stage, if it is something that it asks for.
 abbrev pub IsFor : Happening → Stage → Type 0
 IsFor event.Keep s = KeepsEntry s
@@ -35,6 +38,7 @@ IsFor (event.FailWithout cause) s = KeepsEntry s
 IsFor (event.Put most) s = Talks s
 IsFor (event.Break most fewer cause) s = Talks s
 IsFor (event.Hear most) s = Talks s
+IsFor event.Pause s = HasNews s
 IsFor event.Tell s = HasNote s
 IsFor e s = Unit {0}
 

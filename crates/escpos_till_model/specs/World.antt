@@ -30,7 +30,7 @@ use Rattle.escpos_till.specs.declared.machine.TillNote.TheVariants as note
 use Rattle.escpos_till.specs.Book.{IsBookOf}
 use Rattle.escpos_till.specs.Copy.{IsCopyText}
 use Rattle.escpos_till.specs.Entries.{IsLedger, cancelled, next_free, recorded, taken, times_tried}
-use Rattle.escpos_till.specs.Machine.{Came, Cancels, Delivers, Ended, IsStarted, Kept, MachineView, Queues, Raises, SameEntries, Unsure, connected, hung_up, not_connected, put, told}
+use Rattle.escpos_till.specs.Machine.{Came, Cancels, Delivers, Ended, IsStarted, Kept, MachineView, Queues, Raises, SameEntries, Unsure, connected, hung_up, news_of, not_connected, put, told}
 use Rattle.escpos_till_model.specs.Late.{LateAnswers}
 use Rattle.escpos_till_model.specs.Receipts.{Among, AreReceipts}
 use Rattle.escpos_till_model.specs.declared.event.Happening.{Happening}
@@ -114,6 +114,14 @@ without_entry kept e = kept
 pub record Tells (w : World) (new : World) : Type 0 where
   pub note : TillNote
   pub moves : Moves (λ m after. (m.stage ≡ stage.Telling note) × (after ≡ told m.stage m)) w w.kept (w.told ++ note ∷ []) new
+
+-- Its owner is told that the printer prints nothing for now, while a receipt is being sent. That is no note of what came of a call.
+pub record TellsPause (m after : MachineView) : Type 0 where
+  pub talk : Talk
+  pub note : TillNote
+  pub talks : m.stage ≡ stage.Talking talk
+  pub news : news_of talk ≡ Some note
+  pub told : after ≡ told m.stage m
 
 -- A receipt may be sent, as every one may: it fits the line, and no real-time command stands in its bytes.
 pub record IsSendable (receipt : List Command) : Type 0 where
@@ -223,6 +231,7 @@ Happens w (event.Break most fewer why) new = Breaks w most fewer why new
 Happens w (event.Hear most) new = Hears w most new
 Happens w (event.End why) new = Calls (λ m after. Ended m.stage why m after) w new
 Happens w event.HangUp new = Calls (λ m after. after ≡ hung_up m.stage m) w new
+Happens w event.Pause new = Calls TellsPause w new
 Happens w event.Tell new = Tells w new
 Happens w (event.OnWire e) new = GoesOnWire e w new
 Happens w event.Idle new = Idles w new

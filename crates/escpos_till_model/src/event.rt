@@ -48,6 +48,8 @@ pub enum Happening {
     End(SendFault),
     /// The link is given up.
     HangUp,
+    /// The till's owner is told that the printer prints nothing for now, while a receipt is being sent.
+    Pause,
     /// The till's owner is told a note.
     Tell,
     /// Something happens at the printer's end of the wire.

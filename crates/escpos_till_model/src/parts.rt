@@ -12,7 +12,7 @@ ghost use Rattle.escpos_till.specs.declared.machine.Then.{Then};
 ghost use Rattle.escpos_till.specs.declared.machine.TillNote.{TillNote};
 ghost use Rattle.escpos_till.specs.Machine.{Delivers, Ended, Kept, MachineView, Unsure, put};
 ghost use Rattle.escpos_till_model.specs.declared.event.Happening.TheVariants as event;
-ghost use Rattle.escpos_till_model.specs.Instead.{Instead, IsUnwanted, KeepsEntry};
+ghost use Rattle.escpos_till_model.specs.Instead.{HasNews, Instead, IsUnwanted, KeepsEntry};
 ghost use Rattle.escpos_till_model.specs.Known.{IsWorld, Linked};
 ghost use Rattle.escpos_till_model.specs.World.{Calls, FitsLine, GoesOnWire, Happens};
 
@@ -72,6 +72,7 @@ impl TillParts {
             Happening::Hear(most) => self.hear(most),
             Happening::End(why) => self.end(why),
             Happening::HangUp => self.hang_up(),
+            Happening::Pause => self.pause(),
             Happening::Tell => self.tell(),
             Happening::OnWire(event) => self.on_wire(event),
             Happening::Idle => self.idle(),
@@ -236,6 +237,22 @@ impl TillParts {
             return Err(NotPossible::SwitchedOff);
         };
         machine.hung_up();
+        // Proof only: its host is sound.
+        machine.is_sound();
+        Ok(())
+    }
+
+    fn pause(&mut self) -> Result<(), NotPossible>
+        ensures happened { OnOk result (Happens self.old event.Pause self.new) }
+        ensures refused { IfErr result (λ why. Instead why event.Pause self.old self.new) }
+    {
+        let Some(machine) = &mut self.machine else {
+            return Err(NotPossible::SwitchedOff);
+        };
+        if !has_news(machine) {
+            return Err(NotPossible::NotAsked);
+        }
+        machine.told();
         // Proof only: its host is sound.
         machine.is_sound();
         Ok(())
@@ -533,10 +550,20 @@ fn has_entry(machine: &TillMachine) -> bool
     matches!(machine.asks(), Action::Append(_))
 }
 
+// Whether the machine is to tell its owner that the printer pauses.
+fn has_news(machine: &TillMachine) -> bool
+    ensures { IsTrue result ↔ HasNews machine.now.stage }
+{
+    machine.talks() && matches!(machine.asks(), Action::Tell(_))
+}
+
 // The note that the machine has for its owner.
 fn note_of(machine: &TillMachine) -> Option<TillNote>
     ensures { MatchOption result ((note : TillNote) → machine.now.stage ≢ stage.Telling note) (λ note. machine.now.stage ≡ stage.Telling note) }
 {
+    if machine.talks() {
+        return None;
+    }
     match machine.asks() {
         Action::Tell(note) => Some(note),
         _ => None,
@@ -547,8 +574,10 @@ fn note_of(machine: &TillMachine) -> Option<TillNote>
 fn is_linked(machine: &TillMachine) -> bool
     ensures { IsTrue result ↔ Linked machine.now.stage }
 {
+    if machine.talks() {
+        return true;
+    }
     match machine.asks() {
-        Action::Put | Action::Wait(_) => true,
         Action::Append(entry) => matches!(entry, Entry::Recorded { .. }),
         _ => false,
     }

@@ -81,14 +81,14 @@ impl PrinterLine for WireLine {
         true
     }
 
-    fn put(&mut self, bytes: &[u8]) -> Result<(), SendFault> {
+    fn put(&mut self, bytes: &[u8], _patient: bool) -> Result<(), SendFault> {
         if self.wire.put(bytes).is_err() {
             return Err(SendFault::WriteFault);
         }
         Ok(())
     }
 
-    fn pull(&mut self, room: &mut [u8]) -> Result<usize, SendFault> {
+    fn pull(&mut self, room: &mut [u8], _patient: bool) -> Result<usize, SendFault> {
         print(&mut self.wire);
         let answers = self.wire.front(room.len());
         let count = answers.len();

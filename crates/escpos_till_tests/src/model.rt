@@ -38,7 +38,7 @@ fn whole(at: usize) -> Plain {
     }
 }
 
-const WHOLE: usize = 18;
+const WHOLE: usize = 22;
 
 fn events_of(rt: &impl Abort, alloc: Global) -> Vec<Happening> {
     let mut events = Vec::new(alloc);
@@ -105,7 +105,7 @@ fn goes_on(rt: &impl Abort, alloc: Global, till: &mut Till) {
 // The paper after a crash that came after so many happenings: S is printed again where the printer had it, and that wasn't kept.
 fn paper_of(count: usize) -> &'static [u8] {
     match count {
-        13..=15 => TWICE,
+        15..=19 => TWICE,
         _ => ONCE,
     }
 }
@@ -147,7 +147,7 @@ fn store_fails(rt: HostRuntime) {
         &rt,
         rt.alloc(),
         &mut till,
-        15,
+        19,
         &[Plain::FailWith, Plain::HangUp, Plain::Tell],
         TillNote::NotKept(StoreFault::Failed),
     );
@@ -157,7 +157,7 @@ fn store_fails(rt: HostRuntime) {
         &rt,
         rt.alloc(),
         &mut till,
-        15,
+        19,
         &[Plain::FailWithout, Plain::HangUp, Plain::Tell],
         TillNote::NotKept(StoreFault::Failed),
     );
@@ -187,7 +187,7 @@ fn links_end(rt: HostRuntime) {
         &rt,
         rt.alloc(),
         &mut till,
-        13,
+        15,
         &[Plain::End, Plain::HangUp, Plain::Tell],
         ended,
     );
@@ -201,7 +201,7 @@ fn links_end(rt: HostRuntime) {
         &rt,
         rt.alloc(),
         &mut till,
-        11,
+        13,
         &[
             Plain::Break,
             Plain::HangUp,
@@ -220,7 +220,7 @@ fn links_end(rt: HostRuntime) {
 fn answered_late(rt: HostRuntime) {
     let (alloc, first) = (rt.alloc(), number(&rt, 1));
     let mut till = till_at_last(&rt, alloc);
-    for at in 0..12 {
+    for at in 0..14 {
         all_happen(&rt, alloc, &mut till, &[whole(at)]);
     }
     all_happen(
@@ -236,7 +236,14 @@ fn answered_late(rt: HostRuntime) {
         &rt,
         alloc,
         &mut till,
-        &[Plain::Feed, Plain::Leave, Plain::HandOver, Plain::Hear],
+        &[
+            Plain::Feed,
+            Plain::Leave,
+            Plain::HandOver,
+            Plain::Hear,
+            Plain::HandOver,
+            Plain::Hear,
+        ],
     );
     all_happen(
         &rt,
@@ -254,7 +261,7 @@ fn answered_late(rt: HostRuntime) {
 fn cancelled(rt: HostRuntime) {
     let (alloc, first) = (rt.alloc(), number(&rt, 1));
     let mut till = till_at_last(&rt, alloc);
-    for at in 0..13 {
+    for at in 0..15 {
         all_happen(&rt, alloc, &mut till, &[whole(at)]);
     }
     all_happen(

@@ -28,17 +28,17 @@ fn wire_at_last(rt: &impl Abort, alloc: Global) -> Wire {
 
 // The mark is put. Where memory is refused, no byte of it is.
 fn puts(rt: &impl Abort, line: &mut WireLine) {
-    if line.put(MARK).is_err() {
-        assert!(rt; line.put(MARK).is_ok());
+    if line.put(MARK, false).is_err() {
+        assert!(rt; line.put(MARK, false).is_ok());
     }
 }
 
 // The answer comes. Where memory is refused, none does.
 fn is_answered(rt: &impl Abort, line: &mut WireLine) {
     let mut room = [0; 16];
-    let first = line.pull(&mut room);
+    let first = line.pull(&mut room, false);
     let came = if first == Ok(0) {
-        line.pull(&mut room)
+        line.pull(&mut room, false)
     } else {
         first
     };

@@ -51,8 +51,8 @@ pub enum Plain {
 // The till is switched on, and S is taken.
 pub const TAKEN: [Plain; 4] = [Plain::Start, Plain::Queue, Plain::Keep, Plain::Tell];
 
-// S is delivered: the opening mark is answered, and then the closing mark.
-pub const DELIVERY: [Plain; 14] = [
+// S is delivered: the opening mark is answered, and then the closing mark. Before each the printer tells its condition, as it is asked to.
+pub const DELIVERY: [Plain; 18] = [
     Plain::Deliver,
     Plain::Connect,
     Plain::Keep,
@@ -60,8 +60,12 @@ pub const DELIVERY: [Plain; 14] = [
     Plain::Feed,
     Plain::HandOver,
     Plain::Hear,
+    Plain::HandOver,
+    Plain::Hear,
     Plain::Put,
     Plain::Feed,
+    Plain::HandOver,
+    Plain::Hear,
     Plain::HandOver,
     Plain::Hear,
     Plain::Keep,

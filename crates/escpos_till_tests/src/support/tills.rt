@@ -34,7 +34,11 @@ pub struct Line {
     pub answers: Answers,
     // how often a link was given up
     pub hang_ups: usize,
-    // what was put on the last link
+    // how often the printer was asked on the last link to tell its condition unasked
+    pub requests: usize,
+    // how often it was waited for on the last link with patience
+    pub patient_waits: usize,
+    // what else was put on the last link
     out: [u8; ROOM_BYTES],
     count: usize,
 }
@@ -46,12 +50,14 @@ impl Line {
             has_link: true,
             answers: &[],
             hang_ups: 0,
+            requests: 0,
+            patient_waits: 0,
             out: [0; ROOM_BYTES],
             count: 0,
         }
     }
 
-    // What was put on the last link.
+    // What was put on the last link, but for the requests for automatic status.
     pub fn sent(&self) -> &[u8] {
         &self.out[..self.count.min(ROOM_BYTES)]
     }
@@ -62,10 +68,19 @@ impl PrinterLine for Line {
 
     fn connect(&mut self) -> bool {
         self.count = 0;
+        self.requests = 0;
+        self.patient_waits = 0;
         self.has_link
     }
 
-    fn put(&mut self, bytes: &[u8]) -> Result<(), SendFault> {
+    fn put(&mut self, bytes: &[u8], _patient: bool) -> Result<(), SendFault> {
+        let bytes = match bytes {
+            [0x1D, b'a', 0x0E, others @ ..] => {
+                self.requests = self.requests.saturating_add(1);
+                others
+            }
+            bytes => bytes,
+        };
         let from = self.count.min(ROOM_BYTES);
         if bytes.len() > ROOM_BYTES - from {
             return Err(SendFault::WriteFault);
@@ -76,7 +91,10 @@ impl PrinterLine for Line {
         Ok(())
     }
 
-    fn pull(&mut self, room: &mut [u8]) -> Result<usize, SendFault> {
+    fn pull(&mut self, room: &mut [u8], patient: bool) -> Result<usize, SendFault> {
+        if patient {
+            self.patient_waits = self.patient_waits.saturating_add(1);
+        }
         match self.answers {
             [] => Err(SendFault::Ended),
             [bytes, others @ ..] => {

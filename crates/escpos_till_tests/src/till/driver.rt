@@ -2,11 +2,11 @@
 
 use crate::support::tills::{
     ANSWERS_01, ANSWERS_23, Answers, DrivenTill, SENT_AGAIN, delivers, drives, has_sent, new_till,
-    nothing_waits, number, opened_again, refuses_all, stands, starts, takes,
+    nothing_waits, number, opened_again, refuses_all, stands, starts, takes, tells,
 };
 use escpos_host::SendFault;
 use escpos_test_receipts::{S, SENT};
-use escpos_till::{Failure, ReceiptState, Store, StoreFault, TillNote};
+use escpos_till::{Failure, Pause, ReceiptState, Store, StoreFault, TillNote};
 use std::alloc::Global;
 use std::process::Abort;
 
@@ -27,6 +27,18 @@ const IN_BYTES: Answers = &[
     b"1",
     b"\x00",
 ];
+
+// Between the answers to marks 0 and 1 a block says that the paper has ended, the same once more, and that it is in again.
+const PAPER_IS_PUT_IN: Answers = &[
+    b"\x37\x220000\x00",
+    b"\x18\x00\x0C\x00",
+    b"\x18\x00\x0C\x00",
+    b"\x10\x00\x00\x00",
+    b"\x37\x220001\x00",
+];
+
+// After the answer to mark 0 a block says that the cover is open; then the link ends.
+const COVER_IS_OPENED: Answers = &[b"\x37\x220000\x00", b"\x38\x00\x00\x00"];
 
 // The answer to mark 0 among statuses.
 const AMONG_STATUSES: Answers = &[b"\x12\x12\x37\x220000\x00\x12\x12"];
@@ -62,9 +74,44 @@ fn driver_records(rt: HostRuntime) {
     starts(&rt, &mut till, 1, None, IN_BYTES);
     drives_in(&rt, &mut till, 15, TillNote::Recorded(number(&rt, 1)));
     has_sent(&rt, &till, SENT);
+    assert!(&rt; till.around.line.requests == 2);
     assert!(&rt; till.around.line.hang_ups == 1);
     has_kept(&rt, rt.alloc(), &mut till, 3);
     stands(&rt, &till, &[RECORDED], 2);
+}
+
+// Its paper ends while the receipt is printed, and is put in: the first is told, and until the second the printer is waited for with
+// patience.
+#[test]
+fn driver_tells_a_pause(rt: HostRuntime) {
+    let mut till = till_with_one(&rt, rt.alloc(), Failure::Never);
+    starts(&rt, &mut till, 1, None, PAPER_IS_PUT_IN);
+    let number = number(&rt, 1);
+    let why = Pause::PaperEnded;
+    assert!(&rt; drives(&mut till, 1_000) == Some(TillNote::Paused { number, why }));
+    assert!(&rt; till.machine.is_paused());
+    assert!(&rt; till.around.line.patient_waits == 0);
+    tells(&rt, &mut till, TillNote::Recorded(number));
+    assert!(&rt; till.around.line.patient_waits == 2);
+    has_sent(&rt, &till, SENT);
+    stands(&rt, &till, &[RECORDED], 2);
+}
+
+// Its cover is open, and then it ends the link: that is what is told.
+#[test]
+fn driver_loses_a_paused_printer(rt: HostRuntime) {
+    let mut till = till_with_one(&rt, rt.alloc(), Failure::Never);
+    starts(&rt, &mut till, 1, None, COVER_IS_OPENED);
+    let number = number(&rt, 1);
+    let why = Pause::CoverOpen;
+    assert!(&rt; drives(&mut till, 1_000) == Some(TillNote::Paused { number, why }));
+    let waiting = TillNote::Waiting {
+        number,
+        why: SendFault::Ended,
+    };
+    tells(&rt, &mut till, waiting);
+    assert!(&rt; !till.machine.is_paused());
+    stands(&rt, &till, &[ONCE], 2);
 }
 
 // The answer to an opening mark comes among statuses, in one piece; then the answers end.

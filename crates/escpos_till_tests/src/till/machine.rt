@@ -4,8 +4,8 @@ use crate::support::tills::{machine_of, number, receipt};
 use escpos_host::SendFault;
 use escpos_test_receipts::{S, SENT};
 use escpos_till::{
-    Action, Content, CopyText, Entry, ReceiptContent, ReceiptNumber, ReceiptState, StoreFault,
-    TillMachine, TillNote, TillRefusal,
+    Action, Content, CopyText, Entry, Pause, ReceiptContent, ReceiptNumber, ReceiptState,
+    StoreFault, TillMachine, TillNote, TillRefusal,
 };
 use std::alloc::Global;
 use std::process::Abort;
@@ -67,7 +67,7 @@ fn hangs_up(rt: &impl Abort, machine: &mut TillMachine) {
     }
 }
 
-// It asks for these bytes to be put, and then waits.
+// It asks the printer to tell its condition unasked, then for these bytes to be put, and then waits.
 fn puts(rt: &impl Abort, machine: &mut TillMachine, wanted: &[u8]) {
     let mut room = [0; 64];
     match machine.asks() {
@@ -75,7 +75,10 @@ fn puts(rt: &impl Abort, machine: &mut TillMachine, wanted: &[u8]) {
         _ => panic!(rt; "nothing to put"),
     }
     let count = machine.take_out(&mut room);
-    assert!(rt; &room[..count.min(64)] == wanted);
+    match &room[..count.min(64)] {
+        [0x1D, b'a', 0x0E, others @ ..] => assert!(rt; others == wanted),
+        _ => panic!(rt; "no request for automatic status"),
+    }
 }
 
 // It waits for so many bytes of answers, and hears these.
@@ -200,6 +203,62 @@ fn machine_hears_late(rt: HostRuntime) {
     keeps(&rt, &mut machine);
     assert!(&rt; machine.states() == [ReceiptState::Recorded { place: 0 }].as_slice());
     assert!(&rt; machine.next_mark() == 4);
+}
+
+// It tells that the printer pauses for this reason.
+fn tells_pause(rt: &impl Abort, machine: &mut TillMachine, why: Pause) {
+    let number = number(rt, 1);
+    match machine.asks() {
+        Action::Tell(note) => assert!(rt; note == TillNote::Paused { number, why }),
+        _ => panic!(rt; "nothing to tell"),
+    }
+    machine.told();
+    assert!(rt; machine.is_paused());
+}
+
+// A block says that the printer prints nothing: why is told where that is new, and it waits on. Once the printer is online no more is
+// told, and a link that ends ends as any other.
+#[test]
+fn machine_tells_pauses(rt: HostRuntime) {
+    let mut machine = machine_of(&rt, rt.alloc(), &[]);
+    takes(&rt, rt.alloc(), &mut machine, 1);
+    tries(&rt, &mut machine, None, 2);
+    puts(&rt, &mut machine, &SENT[..11]);
+    hears(&rt, &mut machine, 100, b"\x10\x00\x00\x00");
+    assert!(&rt; !machine.is_paused());
+    hears(&rt, &mut machine, 96, b"\x18\x00\x00\x00");
+    tells_pause(&rt, &mut machine, Pause::Offline);
+    hears(&rt, &mut machine, 92, b"\x38\x00\x00\x00");
+    tells_pause(&rt, &mut machine, Pause::CoverOpen);
+    hears(&rt, &mut machine, 88, b"\x38\x00\x0C\x00");
+    tells_pause(&rt, &mut machine, Pause::PaperEnded);
+    hears(&rt, &mut machine, 84, b"\x18\x00\x0C\x00");
+    hears(&rt, &mut machine, 80, b"\x10\x00\x03\x00");
+    assert!(&rt; !machine.is_paused());
+    hears(&rt, &mut machine, 76, b"\x18\x00\x0F\x00");
+    tells_pause(&rt, &mut machine, Pause::PaperEnded);
+    hears(&rt, &mut machine, 72, b"\x10\x00\x00\x00");
+    machine.link_ended(SendFault::TimedOut);
+    waits(&rt, &mut machine, SendFault::TimedOut);
+    assert!(&rt; !machine.is_paused());
+}
+
+// The link ends while the printer prints nothing.
+#[test]
+fn machine_is_left_paused(rt: HostRuntime) {
+    let mut machine = machine_of(&rt, rt.alloc(), &[]);
+    takes(&rt, rt.alloc(), &mut machine, 1);
+    tries(&rt, &mut machine, None, 2);
+    puts(&rt, &mut machine, &SENT[..11]);
+    hears(&rt, &mut machine, 100, b"\x37\x220000\x00");
+    puts(&rt, &mut machine, &SENT[11..]);
+    hears(&rt, &mut machine, 93, b"\x18\x00\x0C\x00");
+    let (number, why) = (number(&rt, 1), Pause::PaperEnded);
+    tells_pause(&rt, &mut machine, why);
+    machine.link_ended(SendFault::TimedOut);
+    hangs_up(&rt, &mut machine);
+    tells(&rt, &mut machine, TillNote::StillPaused { number, why });
+    assert!(&rt; machine.states() == [ReceiptState::Waiting { tried: 1 }].as_slice());
 }
 
 // The second receipt is tried. A late answer to the closing mark of the first says nothing of it.

@@ -1,0 +1,162 @@
+//! What a till's machine does while it talks with its printer: how a talk begins, and what each event does to it.
+//!
+//! When a machine talks, and what follows that, is left to `machine`.
+
+ghost use Rattle.std.specs.Prelude.{◌≡◌, ◌⊎◌, ◌-◌, ℕ, [], IfErr, OnOk};
+ghost use Rattle.escpos_host.specs.Machine.{Open, reports_asked};
+ghost use Rattle.escpos_till.specs.Delivers.{fresh};
+ghost use Rattle.escpos_till.specs.Machine.{Drops, GoesOn, Hears, Opens, RefusesSending, Sends, Submits, Turns, printed};
+
+use crate::book::Book;
+use crate::entry::Entry;
+use crate::machine::{Due, Stage, Talk, Then, TillNote};
+use crate::number::ReceiptNumber;
+use crate::tries::closes_try;
+use escpos_command::AutomaticStatus;
+use escpos_host::{Host, HostError, HostEvent, SendFault, open_link_reporting};
+use escpos_receipt::Receipt;
+
+// A host that has sent nothing puts its opening marks out.
+pub(crate) fn opened(host: &mut Host, due: Due) -> Stage
+    ensures { (first : ℕ) → host.old ≡ fresh first → Opens due first host.new result }
+{
+    match open_link_reporting(host, due.openings) {
+        Ok(()) => Stage::Talking(Talk::first(due)),
+        Err(why) => Stage::HangingUp(TillNote::Waiting {
+            number: due.number,
+            why: SendFault::Refused(why),
+        }),
+    }
+}
+
+// What an event does, where so many bytes of answers may still be read.
+pub(crate) fn turned(book: &Book, host: &mut Host, event: HostEvent, talk: Talk, left: u32) -> Stage
+    ensures { Turns book.now event talk left host.old host.new result }
+{
+    match event {
+        HostEvent::None | HostEvent::Status(_) => going_on(host, talk, left),
+        HostEvent::Condition(block) => told_of(host, block, talk, left),
+        HostEvent::Opened => submitted(host, talk, left),
+        HostEvent::Recorded(_) => printed(talk.number),
+        HostEvent::Late(id) => {
+            if closes_try(&book.tries, talk.number, id) {
+                printed(talk.number)
+            } else {
+                going_on(host, talk, left)
+            }
+        }
+        HostEvent::BadAnswer { .. } => given_up(host, talk.number, SendFault::BadAnswer),
+    }
+}
+
+// The printer has told its condition, and the talk goes on.
+fn told_of(host: &mut Host, block: AutomaticStatus, talk: Talk, left: u32) -> Stage
+    ensures { Hears talk block left host.old host.new result }
+{
+    let Talk {
+        number,
+        receipt,
+        left: before,
+        paused,
+    } = talk;
+    let paused = paused.after(block);
+    going_on(
+        host,
+        Talk {
+            number,
+            receipt,
+            left: before,
+            paused,
+        },
+        left,
+    )
+}
+
+// The receipt is printed: that is to be kept.
+fn printed(number: ReceiptNumber) -> Stage
+    ensures { result ≡ printed number }
+{
+    Stage::Keeping {
+        entry: Entry::Recorded { number },
+        then: Then::Recorded(number),
+    }
+}
+
+// The host gives the link up, since the receipt isn't known to be printed for this reason.
+fn given_up(host: &mut Host, number: ReceiptNumber, why: SendFault) -> Stage
+    ensures host { Drops host.old host.new }
+    ensures stage { result ≡ Stage.HangingUp (TillNote.Waiting number why) }
+{
+    host.link_down();
+    Stage::HangingUp(TillNote::Waiting { number, why })
+}
+
+// The talk goes on, if more bytes of answers may be read.
+fn going_on(host: &mut Host, talk: Talk, left: u32) -> Stage
+    ensures { GoesOn talk left host.old host.new result }
+{
+    if left == 0 {
+        return given_up(host, talk.number, SendFault::TooLong);
+    }
+    Stage::Talking(Talk {
+        number: talk.number,
+        receipt: talk.receipt,
+        left,
+        paused: talk.paused,
+    })
+}
+
+// The host is given the receipt, if more bytes of answers may be read. The printer is asked once more to tell its condition.
+fn submitted(host: &mut Host, talk: Talk, left: u32) -> Stage
+    ensures { Submits talk talk.receipt left host.old host.new result }
+{
+    let Talk {
+        number,
+        receipt,
+        left: before,
+        paused,
+    } = talk;
+    match receipt {
+        Some(receipt) if left > 0 => match sent(host, receipt) {
+            Ok(()) => Stage::Talking(Talk {
+                number,
+                receipt: None,
+                left,
+                paused,
+            }),
+            Err(why) => given_up(host, number, SendFault::Refused(why)),
+        },
+        receipt => going_on(
+            host,
+            Talk {
+                number,
+                receipt,
+                left: before,
+                paused,
+            },
+            left,
+        ),
+    }
+}
+
+// A host whose link is open is given the receipt, after a request for automatic status.
+fn sent(host: &mut Host, receipt: Receipt) -> Result<(), HostError>
+    ensures sent { OnOk result (Sends receipt host.old host.new) }
+    ensures refused { IfErr result (λ why. RefusesSending why host.old × ((host.new ≡ host.old) ⊎ ((host.old.phase ≡ Open []) × (host.new ≡ reports_asked host.old)))) }
+{
+    host.ask_reports()?;
+    match host.submit(receipt) {
+        Ok(()) => Ok(()),
+        Err((why, _)) => Err(why),
+    }
+}
+
+// How many bytes may still be read, where so many more were.
+pub(crate) fn less(left: u32, count: usize) -> u32
+    ensures { result ≡ left - count }
+{
+    match u32::try_from(count) {
+        Ok(count) => left.saturating_sub(count),
+        Err(_) => 0,
+    }
+}
