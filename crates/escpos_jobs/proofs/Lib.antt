@@ -15,3 +15,4 @@ pub mod TornParts
 pub mod Plays
 mod PrinterStatusLemmas
 pub mod RealTimeNotes
+mod Watching

@@ -30,3 +30,5 @@ pub mod DrawSteps
 pub mod LastText
 pub mod ScriptLines
 pub mod Waits
+pub mod Watched
+pub mod WatchSteps

@@ -29,7 +29,7 @@ pub enum Address {
 }
 
 /// The text of an address: a host's name and a port, as `printer.shop:9100`, or a device file, as `file:/dev/usb/lp0`. A name is looked up at each
-/// connection. The model is the list of its bytes.
+/// connection. Or a file's path that is as short. The model is the list of its bytes.
 #[derive(Clone, Copy, Debug, Drop, PartialEq, Eq)]
 pub struct AddressText {
     bytes: [u8; MOST_TEXT],
@@ -66,6 +66,18 @@ impl AddressText {
         AddressText {
             bytes,
             len: text.len(),
+        }
+    }
+
+    /// This text, if it has at most 259 bytes.
+    pub fn of(text: &str) -> Option<Self>
+        ensures read { IfSome result (λ same. (same ≡ text.now) × (length text.now ≤ MOST_TEXT)) }
+        ensures taken { length text.now ≤ MOST_TEXT → result ≡ Some text.now }
+    {
+        if text.len() <= MOST_TEXT {
+            Some(AddressText::new(text))
+        } else {
+            None
         }
     }
 
@@ -153,11 +165,7 @@ fn device(text: &str) -> Option<Address>
     ensures read { IfSome result (λ address. (length text.now ≤ MOST_TEXT) × (Address.Device text.now ≡ address)) }
     ensures taken { length text.now ≤ MOST_TEXT → result ≡ Some (Address.Device text.now) }
 {
-    if text.len() <= MOST_TEXT {
-        Some(Address::Device(AddressText::new(text)))
-    } else {
-        None
-    }
+    Some(Address::Device(AddressText::of(text)?))
 }
 
 // What follows the first colon of a device file's text: its path.

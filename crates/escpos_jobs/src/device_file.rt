@@ -83,6 +83,13 @@ impl DeviceEnd {
         })
     }
 
+    /// From now on no wait lasts longer than `limit`, if there is one.
+    pub(crate) fn wait_within(&mut self, limit: Option<Duration>)
+        ensures { self.new.limit ≡ limit }
+    {
+        self.limit = limit;
+    }
+
     // Waits until the device is ready.
     fn wait(&mut self) -> io::Result<()> {
         self.poll.poll(&mut self.events, self.limit)?;

@@ -15,10 +15,13 @@ ghost use Rattle.escpos_printer.specs.Serves.{Serves, link};
 ghost use Rattle.escpos_jobs.specs.Links.{link_line, torn};
 
 use crate::address::Address;
+use crate::condition_file::pause_time;
 use crate::ending::{MEMORY, say};
 use crate::lines::SPACE;
 use crate::paper_text::PaperText;
 use crate::status::Status;
+use crate::watch::{Conditions, Steady};
+use crate::watched_link::{follow_watched, watch_and_tell};
 use escpos_command::{LF, LineWidth};
 use escpos_io::{
     ByteIn, ByteOut, Device, GATHERED_BYTES, Gather, Incoming, Outgoing, append_number, laws,
@@ -131,8 +134,24 @@ fn emulate_in_on<W: ByteOut>(
     let Ok(mut printer) = Printer::new(alloc, condition, width) else {
         return say(MEMORY, output, Status::Memory);
     };
+    let mut unwatched: Option<Steady> = None;
+    emulate_as(alloc, &mut printer, listener, links, &mut unwatched, output)
+}
+
+// Serves `links` links as this printer, whose sensors are watched if there are any, and prints its paper at the end.
+pub(crate) fn emulate_as<C: Conditions, W: ByteOut>(
+    alloc: Global,
+    printer: &mut Printer,
+    listener: &TcpListener,
+    links: u32,
+    watched: &mut Option<C>,
+    output: &mut W,
+) -> Status
+    ensures never_usage { result ≢ Status.Usage }
+    ensures not_hidden { result ≢ Status.Device → ¬ IsTrue (W.failed output.old) → ¬ IsTrue (W.failed output.new) }
+{
     let mut paper = PaperText::new(alloc);
-    let status = serve_links(alloc, &mut printer, &mut paper, listener, links, output);
+    let status = serve_links(alloc, printer, &mut paper, listener, links, watched, output);
     if paper.put_above(printer.items(), output).is_err() {
         return Status::Device;
     }
@@ -143,12 +162,13 @@ fn emulate_in_on<W: ByteOut>(
 }
 
 // Serves `links` links, up to the first that can't be accepted, or that ends because memory ran out.
-fn serve_links<W: ByteOut>(
+fn serve_links<C: Conditions, W: ByteOut>(
     alloc: Global,
     printer: &mut Printer,
     paper: &mut PaperText,
     listener: &TcpListener,
     links: u32,
+    watched: &mut Option<C>,
     output: &mut W,
 ) -> Status
     ensures never_usage { result ≢ Status.Usage }
@@ -158,7 +178,7 @@ fn serve_links<W: ByteOut>(
         let Ok((stream, _)) = listener.accept() else {
             return Status::Device;
         };
-        match serve_stream(alloc, printer, paper, number, &stream, output) {
+        match serve_stream(alloc, printer, paper, number, &stream, watched, output) {
             Ok(LinkEnd::Memory) => return Status::Memory,
             Ok(_) => {}
             Err(_) => return Status::Device,
@@ -204,11 +224,26 @@ pub fn follow_on<W: ByteOut>(
     let Ok(mut printer) = Printer::new(alloc, condition, width) else {
         return say(MEMORY, output, Status::Memory);
     };
+    let mut unwatched: Option<Steady> = None;
+    follow_as(alloc, &mut printer, listener, &mut unwatched, output)
+}
+
+// Serves links as this printer, whose sensors are watched if there are any, until it is ended.
+pub(crate) fn follow_as<C: Conditions, W: ByteOut>(
+    alloc: Global,
+    printer: &mut Printer,
+    listener: &TcpListener,
+    watched: &mut Option<C>,
+    output: &mut W,
+) -> Status
+    ensures never_usage { result ≢ Status.Usage }
+    ensures not_hidden { result ≢ Status.Device → ¬ IsTrue (W.failed output.old) → ¬ IsTrue (W.failed output.new) }
+{
     for number in 1..=u32::MAX {
         let Ok((stream, _)) = listener.accept() else {
             return Status::Device;
         };
-        match follow_stream(alloc, &mut printer, number, &stream, output) {
+        match follow_stream(alloc, printer, number, &stream, watched, output) {
             Ok(LinkEnd::Memory) => return say(MEMORY, output, Status::Memory),
             Ok(_) => {}
             Err(_) => return Status::Device,
@@ -218,20 +253,37 @@ pub fn follow_on<W: ByteOut>(
 }
 
 // Serves the link of a stream, as `serve_stream` does, and prints what it printed.
-fn follow_stream<W: ByteOut>(
+fn follow_stream<C: Conditions, W: ByteOut>(
     alloc: Global,
     printer: &mut Printer,
     number: u32,
     stream: &TcpStream,
+    watched: &mut Option<C>,
     output: &mut W,
 ) -> Result<LinkEnd, Device>
     ensures failed { OnErr result (IsTrue (W.failed output.new)) }
     ensures not_failed { OnOk result (¬ IsTrue (W.failed output.old) → ¬ IsTrue (W.failed output.new)) }
 {
     let _ = stream.set_nodelay(true);
-    let mut reader = Incoming::new(buffered(alloc, stream));
     let mut writer = Outgoing::new(stream);
-    let served = follow_link(alloc, printer, number, &mut reader, &mut writer, output)?;
+    let served = match watched {
+        Some(conditions) => {
+            let mut reader = looking(alloc, stream);
+            follow_watched(
+                alloc,
+                printer,
+                number,
+                &mut reader,
+                &mut writer,
+                conditions,
+                output,
+            )?
+        }
+        None => {
+            let mut reader = Incoming::new(buffered(alloc, stream));
+            follow_link(alloc, printer, number, &mut reader, &mut writer, output)?
+        }
+    };
     Ok(served.end)
 }
 
@@ -262,22 +314,45 @@ pub fn follow_link<R: ByteIn, A: ByteOut, W: ByteOut>(
 
 // Serves the link of a stream. An answer has a few bytes and the host waits for it, so it is sent at once; a stream that
 // can't do so is served as it is.
-fn serve_stream<W: ByteOut>(
+fn serve_stream<C: Conditions, W: ByteOut>(
     alloc: Global,
     printer: &mut Printer,
     paper: &mut PaperText,
     number: u32,
     stream: &TcpStream,
+    watched: &mut Option<C>,
     output: &mut W,
 ) -> Result<LinkEnd, Device>
     ensures failed { OnErr result (IsTrue (W.failed output.new)) }
     ensures not_failed { OnOk result (¬ IsTrue (W.failed output.old) → ¬ IsTrue (W.failed output.new)) }
 {
     let _ = stream.set_nodelay(true);
-    let mut reader = Incoming::new(buffered(alloc, stream));
     let mut writer = Outgoing::new(stream);
-    let served = serve_and_tell(printer, paper, number, &mut reader, &mut writer, output)?;
+    let served = match watched {
+        Some(conditions) => {
+            let mut reader = looking(alloc, stream);
+            watch_and_tell(
+                printer,
+                paper,
+                number,
+                &mut reader,
+                &mut writer,
+                conditions,
+                output,
+            )?
+        }
+        None => {
+            let mut reader = Incoming::new(buffered(alloc, stream));
+            serve_and_tell(printer, paper, number, &mut reader, &mut writer, output)?
+        }
+    };
     Ok(served.end)
+}
+
+// The same stream, no read of which waits for longer than a moment. One that can't do so is read as it is.
+fn looking(alloc: Global, stream: &TcpStream) -> BufReader<&TcpStream> {
+    let _ = stream.set_read_timeout(Some(pause_time()));
+    buffered(alloc, stream)
 }
 
 // A stream that is read in large pieces, since the printer asks for small ones. If there is no memory for that, it is read
@@ -305,13 +380,26 @@ pub fn serve_and_tell<R: ByteIn, A: ByteOut, W: ByteOut>(
     ensures failed { OnErr result (IsTrue (W.failed output.new)) }
     ensures not_failed { OnOk result (¬ IsTrue (W.failed output.old) → ¬ IsTrue (W.failed output.new)) }
 {
+    let served = serve_in_parts(printer, paper, reader, writer);
+    tell_link(number, served, output)?;
+    Ok(served)
+}
+
+/// Prints the line of a link. `Err` comes only if `output` has failed.
+pub(crate) fn tell_link<W: ByteOut>(
+    number: u32,
+    served: Served,
+    output: &mut W,
+) -> Result<(), Device>
+    ensures told { OnOk result (Appends (W.written output.old) (W.written output.new) (link_line number served)) }
+    ensures failed { OnErr result (IsTrue (W.failed output.new)) }
+    ensures not_failed { OnOk result (¬ IsTrue (W.failed output.old) → ¬ IsTrue (W.failed output.new)) }
+{
     // Proof only: appended bytes count as given.
     laws::given_in_place();
-    let served = serve_in_parts(printer, paper, reader, writer);
     let mut gather = Gather::new();
     append_link(&mut gather, number, served);
-    gather.flush(output)?;
-    Ok(served)
+    gather.flush(output)
 }
 
 // Serves a link, and tears its paper off.

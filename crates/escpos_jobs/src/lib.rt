@@ -2,7 +2,9 @@
 //!
 //! `task` has what may be asked for, `address` where a printer is reached, `printer_link` and `device_file` the links to it, and `perform` does what is asked; `usage` has the texts of usage and help. `check`, `render`,
 //! `encode`, `image` and `play` are the jobs over any source and sink, and `emulate`, `send`, `printer_status` and `loop_link` those
-//! over a link; over the network of `wait` no wait lasts longer than a given time. `job` has what `check` and `render` share,
+//! over a link; over the network of `wait` no wait lasts longer than a given time.
+//! `watch` serves a link to a printer whose sensors are watched, which `condition_file` has read from a file, and `watched_link` prints
+//! what came of it. `job` has what `check` and `render` share,
 //! `script` reads the lines of a script and `script_output` has those that `play` prints, `lines` has the lines of a listing,
 //! `notes` the note on a wrong check digit, `real_time` that on a real-time command in the data of another, `item_form` the two texts of an item on paper, and `paper_text` keeps the paper of `emulate`. `input`, `hexadecimal` and
 //! `receipt_input` read the input, `byte_form` has the two forms in which `encode` writes, `refusal` has the line that refuses
@@ -13,6 +15,7 @@
 pub mod address;
 mod byte_form;
 pub mod check;
+pub mod condition_file;
 pub mod device_file;
 pub mod draw;
 pub mod emulate;
@@ -43,3 +46,5 @@ pub mod status;
 pub mod task;
 pub mod usage;
 pub mod wait;
+pub mod watch;
+pub mod watched_link;

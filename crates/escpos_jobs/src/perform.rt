@@ -17,6 +17,7 @@ ghost use Rattle.escpos_receipt.specs.declared.options.ReceiptOptions.{ReceiptOp
 ghost use Rattle.escpos_receipt.specs.Options.{usual_options};
 
 use crate::check::{check, check_raw};
+use crate::condition_file::ConditionFile;
 use crate::draw::{draw, draw_raw};
 use crate::emulate::{ONLINE, emulate_in, follow};
 use crate::encode::{encode, encode_raw};
@@ -32,6 +33,7 @@ use crate::status::Status;
 use crate::task::{NoTask, Task};
 use crate::usage::{HELP, USAGE};
 use crate::wait::Within;
+use crate::watched_link::emulate_by;
 use escpos_command::LineWidth;
 use escpos_io::{ByteIn, ByteOut};
 use escpos_receipt::ReceiptOptions;
@@ -169,6 +171,18 @@ pub fn perform<N: Printers + Net<Listener = TcpListener>, R: ByteIn, W: ByteOut>
                 width,
             },
         ) => follow(net, alloc, *address, *condition, *width, output),
+        Ok(
+            Task::EmulateBy {
+                address,
+                links,
+                condition,
+                width,
+                file,
+            },
+        ) => {
+            let sensors = ConditionFile::new(net, *file, *condition);
+            emulate_by(net, alloc, *address, *links, *width, sensors, output)
+        }
         Ok(
             Task::Send {
                 address,

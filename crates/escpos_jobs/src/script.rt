@@ -72,6 +72,8 @@ fn word_and_value(line: &[u8]) -> (&[u8], Option<&[u8]>) {
 fn plain_event(word: &[u8]) -> Option<Event> {
     match word {
         b"linkup" => Some(Event::LinkUp),
+        b"linkup-reports" => Some(Event::LinkUpReporting),
+        b"ask-reports" => Some(Event::AskReports),
         b"nudge" => Some(Event::Nudge),
         b"handover" => Some(Event::HandOver),
         b"leave" => Some(Event::PrinterLeaves),

@@ -1,6 +1,6 @@
 //! What the program may be asked to do, and why arguments name no task. `perform` does it.
 
-use crate::address::Address;
+use crate::address::{Address, AddressText};
 use escpos_command::LineWidth;
 use escpos_printer::Condition;
 use escpos_receipt::ReceiptOptions;
@@ -90,6 +90,15 @@ pub enum Task {
         address: Address,
         condition: Condition,
         width: LineWidth,
+    },
+    /// Be such a printer whose sensors say what this file says, and `condition` until it is first read: for `links` links, and
+    /// write its paper; or, where no number is given, until it is ended, and write what each link printed once it has ended.
+    EmulateBy {
+        address: Address,
+        links: Option<u32>,
+        condition: Condition,
+        width: LineWidth,
+        file: AddressText,
     },
     /// Send a receipt to the printer at this address, with `openings` opening marks from the number `first` on.
     Send {

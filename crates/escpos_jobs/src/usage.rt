@@ -18,16 +18,16 @@ usage: escpos_cli check [--raw] < STREAM
        escpos_cli image [--width D] [--threshold T] < PICTURE
        escpos_cli play < SCRIPT
        escpos_cli emulate ADDRESS [--links N | --follow] [--condition CNP]
-                                  [--width D]
+                                  [--condition-file PATH] [--width D]
        escpos_cli send ADDRESS --first F [--openings N] [--wait S]
                                [--width D] [--replace C] < RECEIPT
        escpos_cli status ADDRESS [--wait S]
        escpos_cli probe ADDRESS [--wait S]
        escpos_cli loop [--width D] < RECEIPT
-       escpos_cli queue LEDGER [--width D] [--replace C] < RECEIPT
+       escpos_cli queue LEDGER [--width D] [--raw | --replace C] < RECEIPT
        escpos_cli queue LEDGER --again N
        escpos_cli deliver LEDGER ADDRESS [--openings N] [--copy TEXT]
-                                         [--wait S]
+                                         [--wait S] [--patience P]
        escpos_cli cancel LEDGER N
        escpos_cli ledger LEDGER [--first F]
        escpos_cli completions bash|zsh|fish
@@ -326,6 +326,9 @@ line `memory` says that the program ran out of memory.
       a printer. Each of its lines is an event, and gives one line:
 
           linkup            `ok`: the host opens a link, with an opening mark
+          linkup-reports    `ok`: it does so after it has the printer tell its
+                            condition unasked
+          ask-reports       `ok`: it asks for that on an open link
           nudge             `ok`: it puts one more opening mark out
           submit RECEIPT    `ok`: it puts a receipt out, in JSON as for `encode`
           ask N             `ok`: it asks for the status N, 1 to 4
@@ -336,8 +339,8 @@ line `memory` says that the program ran out of memory.
           handover          `handed on`, `handed lost` or `handed none`: the
                             oldest answer leaves the printer
           answer K          `heard C` and `opened`, `recorded N`, `status HH`,
-                            `bad` or `none`: up to K bytes of answers reach the
-                            host
+                            `condition HH HH HH HH`, `bad` or `none`: up to K
+                            bytes of answers reach the host
           leave             `ok`: the printer leaves the oldest link
           printer-restart   `ok`: it is switched off and on
           drop              `ok`: the host gives its link up
@@ -387,7 +390,7 @@ line `memory` says that the program ran out of memory.
                                       records 1
 
   escpos_cli emulate ADDRESS [--links N | --follow] [--condition CNP]
-                             [--width D]
+                             [--condition-file PATH] [--width D]
       Is a printer that listens at ADDRESS: an IP address or a host's name, and
       a port, as in 127.0.0.1:9100, [::1]:9100 or printer.shop:9100. It serves N
       links one after another, 1 to 1000; one without --links. When a link has
@@ -404,6 +407,12 @@ line `memory` says that the program ran out of memory.
       see: cover open, paper near its end, paper ended; a digit 0 or 1 each. It
       is offline while its cover is open or its paper has ended. Without
       --condition it is 000.
+
+      With --condition-file its sensors see what stands in a file, three such
+      digits, which is looked at before each byte and ten times a second:
+      --condition until it is read, and then what it said last. Offline, it
+      keeps its link and holds what comes, status requests too; online again
+      it prints that, also if the host has left. PATH has at most 259 bytes.
 
           $ escpos_cli emulate 127.0.0.1:9100 --follow
           link 1 read 49 consumed 49 written 28 Ended
@@ -480,7 +489,7 @@ line `memory` says that the program ran out of memory.
           feed 1
           recorded 0
 
-  escpos_cli queue LEDGER [--again N | [--width D] [--replace C]]
+  escpos_cli queue LEDGER [--again N | [--width D] [--raw | --replace C]]
       Reads a receipt in JSON as `encode` does, takes it into the file LEDGER,
       and prints `queued N`: its number, from 1. From then on it is kept,
       whatever is switched off, and --width and --replace, which are those of
@@ -488,16 +497,26 @@ line `memory` says that the program ran out of memory.
       ledger, and a ledger one printer. If it can't be used, the line is that
       of `ledger`.
 
+      With --raw it reads a stream of bytes, as python-escpos, escpos-php and
+      others make it. That is a receipt if its commands are one without each
+      ESC @ at the beginning and at the end, GS a and DLE EOT. Otherwise the
+      line is that of `encode`, where the place counts bytes; or, where a byte
+      is refused, `refused`, the number of `check` plus 20, its name and the
+      place; or `refused 26 CutShort P`, if the command at P isn't whole.
+
       With --again N nothing is read: receipt N, whatever became of it, is taken
       once more, with a number of its own. If no receipt N was taken, the line
       is `refused NotTaken N`.
 
           $ echo '[{\"line\":\"Hi\"}]' | escpos_cli queue shop.ledger
           queued 1
-          $ escpos_cli queue shop.ledger --again 1
+          $ printf '\\x1b@Hi\\n' | escpos_cli queue shop.ledger --raw
           queued 2
+          $ escpos_cli queue shop.ledger --again 1
+          queued 3
 
   escpos_cli deliver LEDGER ADDRESS [--openings N] [--copy TEXT] [--wait S]
+                                    [--patience P]
       Sends each receipt that waits to the printer at ADDRESS, in the order of
       their numbers, each over a link of its own, as `send` does; the ledger
       keeps the mark numbers. `recorded N` says that receipt N is on paper, and
@@ -505,6 +524,11 @@ line `memory` says that the program ran out of memory.
       WHY`, where WHY is `no link` or that of `send`, and ends it. If none
       waits, nothing is printed. ADDRESS and --wait are those of `send`. If the
       ledger can't be used, the line is that of `ledger`.
+
+      When the printer says that it prints nothing for now, `paused N WHY` tells
+      it: `paper ended`, `cover open` or `offline`. Then P seconds instead of S
+      end a link on which nothing comes, 1 to 3600; 600 without --patience, and
+      WHY is PaperEnded, CoverOpen or Offline.
 
       A receipt that was sent before may be on paper already. It is printed
       again as it is; or, with --copy, after a line with TEXT, 1 to 42

@@ -5,6 +5,7 @@ ghost use Rattle.escpos_jobs.specs.Waits.{IsWithin};
 
 use crate::device_file::DeviceFile;
 use crate::printer_link::Printers;
+use std::fs::File;
 use std::io;
 use std::net::{Net, SocketAddr, TcpStream};
 use std::time::Duration;
@@ -57,5 +58,14 @@ impl<N: Printers> Printers for Within<'_, N> {
             return Err(io::Error::from(io::ErrorKind::InvalidInput));
         }
         self.net.open_device(path, Some(self.time))
+    }
+
+    fn open_file(&self, path: &str) -> io::Result<File> {
+        self.net.open_file(path)
+    }
+
+    // A pause is no wait for a printer.
+    fn pause(&self, time: Duration) {
+        self.net.pause(time);
     }
 }

@@ -77,7 +77,7 @@ const RESYNCHRONISED_STORE: Row = (
     Status::Good,
 );
 
-const ROWS: [Row; 25] = [
+const ROWS: [Row; 26] = [
     // a host that is restarted with any number from its next mark's on: with none that is left, and with the greatest
     (
         b"host-restart 1679615\nlinkup\nmove 11\ndeliver 11\nhandover\nanswer 7\nhost-restart 1679616\nlinkup\nhost-restart 1679615\n",
@@ -147,6 +147,12 @@ const ROWS: [Row; 25] = [
     (
         b"linkup\nmove 11\ndeliver 11\nhandover\nanswer 7\ncondition 111\nask 4\nmove 99\ndeliver 99\nhandover\nanswer 9\n",
         b"ok\nmoved 11\nfed 11 all\nhanded on\nheard 7 opened\nok\nok\nmoved 3\nfed 3 all\nhanded on\nheard 1 status 7e\npaper\nrecords 0\n",
+        Status::Good,
+    ),
+    // a printer that is asked to tell its condition: it answers at once, and tells that its paper has ended, as the paper ends
+    (
+        b"ask-reports\nlinkup-reports\nmove 14\ndeliver 14\nhandover\nanswer 4\nhandover\nanswer 7\nask-reports\nmove 3\ndeliver 3\nhandover\nanswer 9\ncondition 001\nhandover\nanswer 4\nlinkup-reports\n",
+        b"refused 1 NotReady\nok\nmoved 14\nfed 14 all\nhanded on\nheard 4 condition 10 00 00 00\nhanded on\nheard 7 opened\nok\nmoved 3\nfed 3 all\nhanded on\nheard 4 condition 10 00 00 00\nok\nhanded on\nheard 4 condition 18 00 0c 00\nrefused 3 AlreadyUp\npaper\nrecords 0\n",
         Status::Good,
     ),
     // a printer that is offline, and is not

@@ -27,4 +27,6 @@ mod support;
 #[cfg(test)]
 mod waiting;
 #[cfg(test)]
+mod watching;
+#[cfg(test)]
 mod widths;

@@ -5,3 +5,4 @@
 //! allocation succeeds; `bench/starve` lets the first, the second and so on of a test's allocations fail.
 
 mod links;
+mod watched;

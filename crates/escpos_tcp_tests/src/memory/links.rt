@@ -23,10 +23,10 @@ use std::net::{Net, SocketAddrV4, TcpListener, TcpStream};
 use std::process::Abort;
 
 // The link of a printer: a request and `STREAM`; the line and the paper that are put of it; and its answer.
-const EMULATED_BYTES: &[u8] =
+pub const EMULATED_BYTES: &[u8] =
     b"\x10\x04\x01Hi\n\x1Dk\x035512345\x00\x1Dv0\x00\x01\x00\x02\x00\xF0\x0F";
 
-const EMULATED_LINK: &[u8] =
+pub const EMULATED_LINK: &[u8] =
     b"link 1 read 27 consumed 27 written 1 Ended\nrow left Hi\nfeed 1\nbars left ean8 162 3 none A 55123457\nraster left normal 1 2 f00f\n";
 
 // A link was served, and this line is put. Answers no where memory is refused: then the line says so.
@@ -193,7 +193,7 @@ fn send_over_refused(rt: HostRuntime) {
 }
 
 // A client that has written `EMULATED_BYTES` and ends its writing.
-fn client_of_link<N: Net<Stream = TcpStream, Listener = TcpListener> + Abort>(
+pub fn client_of_link<N: Net<Stream = TcpStream, Listener = TcpListener> + Abort>(
     rt: &N,
     address: SocketAddrV4,
 ) -> TcpStream {

@@ -1,5 +1,5 @@
 use Rattle.std.proofs.Common.{IsTrue}
-use Rattle.escpos_jobs.proofs.emulate.follow_on.Given as goal
+use Rattle.escpos_jobs.proofs.emulate.follow_as.Given as goal
 
 -- every line so far was printed
 abbrev pub invariant-loop-number : goal.invariant-loop-number
