@@ -12,7 +12,7 @@ use Rattle.escpos_command.specs.declared.line_width.TheConstants.{USUAL_LINE_DOT
 use Rattle.escpos_text.specs.Replacements.{is_replacement}
 use Rattle.escpos_jobs.specs.declared.task.NoTask.{NoTask}
 use Rattle.escpos_jobs.specs.declared.task.Task.{Task}
-use Rattle.escpos_jobs.specs.declared.task.Task.TheVariants.{Check, CheckRaw, Render, RenderRaw, RenderAt, RenderRawAt, Draw, DrawRaw, DrawAt, DrawRawAt, RenderText, Encode, EncodeRaw, EncodeWith, Image, Play, Emulate, EmulateIn, EmulateAt, Follow, FollowAt, Send, SendWithin, SendWith, Status, Loop, LoopAt}
+use Rattle.escpos_jobs.specs.declared.task.Task.TheVariants.{Check, CheckRaw, Render, RenderRaw, RenderAt, RenderRawAt, Draw, DrawRaw, DrawAt, DrawRawAt, RenderText, Encode, EncodeRaw, EncodeWith, Image, Play, Emulate, EmulateIn, EmulateAt, EmulateBy, Follow, FollowAt, Send, SendWithin, SendWith, Status, Loop, LoopAt}
 use Rattle.escpos_arguments.specs.ClapAnswers.{IsNumber, IsNumberIn}
 
 -- what a typed getter gives for a number
@@ -86,6 +86,7 @@ wait_of_send rows Play r why asks range is taken = let e = ap head asks in absur
 wait_of_send rows (Emulate address links) r why asks range is taken = let bad = asks.0 in absurd cc
 wait_of_send rows (EmulateIn address links condition) r why asks range is taken = let bad = asks.0 in absurd cc
 wait_of_send rows (EmulateAt address links condition width) r why asks range is taken = let e = ap head asks.0 in absurd (omega (arith, e))
+wait_of_send rows (EmulateBy address links condition width file) r why asks range is taken = let e = ap head asks.0 in absurd (omega (arith, e))
 wait_of_send rows (Follow address condition) r why asks range is taken = let bad = asks.0 in absurd cc
 wait_of_send rows (FollowAt address condition width) r why asks range is taken = let e = ap head asks.0 in absurd (omega (arith, e))
 wait_of_send rows (Send address first openings) r why asks range is taken =

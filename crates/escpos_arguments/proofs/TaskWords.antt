@@ -20,7 +20,7 @@ use Rattle.escpos_arguments.specs.ClapAnswers.{no_task_of}
 use Rattle.escpos_jobs.specs.declared.task.NoTask.{NoTask}
 use Rattle.escpos_jobs.specs.declared.task.NoTask.TheVariants.{Help, Memory}
 use Rattle.escpos_jobs.specs.declared.task.Task.{Task}
-use Rattle.escpos_jobs.specs.declared.task.Task.TheVariants.{Check, CheckRaw, Render, RenderRaw, RenderAt, RenderRawAt, Draw, DrawRaw, DrawAt, DrawRawAt, RenderText, Encode, EncodeRaw, EncodeWith, Image, Play, Emulate, EmulateIn, EmulateAt, Follow, FollowAt, Send, SendWithin, SendWith, Status, Loop, LoopAt}
+use Rattle.escpos_jobs.specs.declared.task.Task.TheVariants.{Check, CheckRaw, Render, RenderRaw, RenderAt, RenderRawAt, Draw, DrawRaw, DrawAt, DrawRawAt, RenderText, Encode, EncodeRaw, EncodeWith, Image, Play, Emulate, EmulateIn, EmulateAt, EmulateBy, Follow, FollowAt, Send, SendWithin, SendWith, Status, Loop, LoopAt}
 use Rattle.std.proofs.lemmas.Slice.Eq.{bytes_eq-Decides}
 
 pub is_exact : is_simple_and_free command_words ≡ true
@@ -386,6 +386,7 @@ task_met Play alone = play_met
 task_met (Emulate address links) alone = absurd alone
 task_met (EmulateIn address links condition) alone = absurd alone
 task_met (EmulateAt address links condition width) alone = absurd alone
+task_met (EmulateBy address links condition width file) alone = absurd alone
 task_met (Follow address condition) alone = absurd alone
 task_met (FollowAt address condition width) alone = absurd alone
 task_met (Send address first openings) alone = absurd alone
@@ -415,6 +416,7 @@ task_passes Play alone = play_passes
 task_passes (Emulate address links) alone = absurd alone
 task_passes (EmulateIn address links condition) alone = absurd alone
 task_passes (EmulateAt address links condition width) alone = absurd alone
+task_passes (EmulateBy address links condition width file) alone = absurd alone
 task_passes (Follow address condition) alone = absurd alone
 task_passes (FollowAt address condition width) alone = absurd alone
 task_passes (Send address first openings) alone = absurd alone
@@ -445,6 +447,7 @@ plain_name Play name rows alone asks = asks
 plain_name (Emulate address links) name rows alone asks = absurd alone
 plain_name (EmulateIn address links condition) name rows alone asks = absurd alone
 plain_name (EmulateAt address links condition width) name rows alone asks = absurd alone
+plain_name (EmulateBy address links condition width file) name rows alone asks = absurd alone
 plain_name (Follow address condition) name rows alone asks = absurd alone
 plain_name (FollowAt address condition width) name rows alone asks = absurd alone
 plain_name (Send address first openings) name rows alone asks = absurd alone
@@ -534,6 +537,7 @@ bare_task Play alone rows e = bare_of rows _ _ _ _ (e ∙ play_said) none_off no
 bare_task (Emulate address links) alone rows e = absurd alone
 bare_task (EmulateIn address links condition) alone rows e = absurd alone
 bare_task (EmulateAt address links condition width) alone rows e = absurd alone
+bare_task (EmulateBy address links condition width file) alone rows e = absurd alone
 bare_task (Follow address condition) alone rows e = absurd alone
 bare_task (FollowAt address condition width) alone rows e = absurd alone
 bare_task (Send address first openings) alone rows e = absurd alone

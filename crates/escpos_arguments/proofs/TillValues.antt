@@ -2,7 +2,7 @@
 use Rattle.std.proofs.Common.{◌≡◌, ◌∙◌, ℕ, List, Option, Some, None, Result, Ok, Err, refl, sym, ap, subst, codes}
 use Rattle.std.specs.Prelude.{◌<◌, ◌≤◌, IfSome, IsSomeAnd}
 use Rattle.clap.specs.Words.{Row, first_of, one_of}
-use Rattle.escpos_arguments.specs.declared.arguments.TheConstants.{OPENINGS, MOST_OPENINGS}
+use Rattle.escpos_arguments.specs.declared.arguments.TheConstants.{OPENINGS, MOST_OPENINGS, PATIENCE}
 use Rattle.escpos_arguments.specs.Arguments.{IsNumberOr, IsWait}
 use Rattle.escpos_arguments.specs.ClapAnswers.{IsNumberIn}
 use Rattle.escpos_arguments.proofs.TaskValues.{no_error, number_in}
@@ -13,18 +13,19 @@ use Rattle.escpos_jobs.specs.declared.address.Address.{Address}
 use Rattle.escpos_jobs.specs.declared.task.NoTask.{NoTask}
 use Rattle.escpos_till_jobs.specs.declared.deliver.Delivery.{Delivery}
 use Rattle.escpos_till_jobs.specs.declared.task.TillTask.{TillTask}
-use Rattle.escpos_till_jobs.specs.declared.task.TillTask.TheVariants.{Queue, QueueAgain, Deliver, DeliverWithin, Cancel, List as listing}
+use Rattle.escpos_till_jobs.specs.declared.task.TillTask.TheVariants.{Queue, QueueAgain, QueueRaw, Deliver, DeliverWithin, Cancel, List as listing}
 
 -- An address that is asked for is taken.
 pub taken_address : (rows : List Row) (task : TillTask) (r : Result Address NoTask) (why : NoTask) → AsksTillBy (codes "deliver") rows task → r ≡ Err why
     → ((a : Address) → IsSomeAnd (first_of (codes "address") rows) (λ text. IsAddress text a) → r ≡ Ok a) → ⊥
 taken_address rows (Queue ledger options) r why asks is taken = let bad = asks.0 in absurd cc
+taken_address rows (QueueRaw ledger width) r why asks is taken = let bad = asks.0 in absurd cc
 taken_address rows (QueueAgain ledger number) r why asks is taken = let bad = asks.0 in absurd cc
 taken_address rows (Deliver ledger d) r why asks is taken =
-    let (name, path, address, openings, copy, none) = asks in
+    let (name, path, address, openings, patience, copy, none) = asks in
     no_error r d.address why (taken d.address address) is
 taken_address rows (DeliverWithin ledger d wait) r why asks is taken =
-    let (name, path, address, openings, copy, is_wait) = asks in
+    let (name, path, address, openings, patience, copy, is_wait) = asks in
     no_error r d.address why (taken d.address address) is
 taken_address rows (Cancel ledger number) r why asks is taken = let bad = asks.0 in absurd cc
 taken_address rows (listing ledger first) r why asks is taken = let bad = asks.0 in absurd cc
@@ -33,13 +34,14 @@ taken_address rows (listing ledger first) r why asks is taken = let bad = asks.0
 pub taken_wait : (rows : List Row) (task : TillTask) (r : Result (Option ℕ) NoTask) (why : NoTask) → AsksTillBy (codes "deliver") rows task → IsTillInRange task → r ≡ Err why
     → ((wait : Option ℕ) → IsNumberIn (one_of (codes "wait") rows) wait → IfSome wait IsWait → r ≡ Ok wait) → ⊥
 taken_wait rows (Queue ledger options) r why asks range is taken = let bad = asks.0 in absurd cc
+taken_wait rows (QueueRaw ledger width) r why asks range is taken = let bad = asks.0 in absurd cc
 taken_wait rows (QueueAgain ledger number) r why asks range is taken = let bad = asks.0 in absurd cc
 taken_wait rows (Deliver ledger d) r why asks range is taken =
-    let (name, path, address, openings, copy, none) = asks in
+    let (name, path, address, openings, patience, copy, none) = asks in
     no_error r None why (taken None (subst (λ o. IsNumberIn o None) (sym none) refl) tt) is
 taken_wait rows (DeliverWithin ledger d wait) r why asks range is taken =
-    let (name, path, address, openings, copy, is_wait) = asks in
-    let (low, high, fits, in_range) = range in
+    let (name, path, address, openings, patience, copy, is_wait) = asks in
+    let (low, high, within, fits, in_range) = range in
     no_error r (Some wait) why (taken (Some wait) (number_in _ wait is_wait) in_range) is
 taken_wait rows (Cancel ledger number) r why asks range is taken = let bad = asks.0 in absurd cc
 taken_wait rows (listing ledger first) r why asks range is taken = let bad = asks.0 in absurd cc
@@ -48,10 +50,13 @@ taken_wait rows (listing ledger first) r why asks range is taken = let bad = ask
 pub taken_again : (rows : List Row) (task : TillTask) (r : Result (Option ℕ) NoTask) (why : NoTask) → AsksTillBy (codes "queue") rows task → IsTillInRange task → r ≡ Err why
     → ((again : Option ℕ) → IsNumberIn (one_of (codes "again") rows) again → IfSome again (λ n. 0 < n) → r ≡ Ok again) → ⊥
 taken_again rows (Queue ledger options) r why asks range is taken =
-    let (name, path, none, gives) = asks in
+    let (name, path, none, gives, bare) = asks in
+    no_error r None why (taken None (subst (λ o. IsNumberIn o None) (sym none) refl) tt) is
+taken_again rows (QueueRaw ledger width) r why asks range is taken =
+    let (name, path, none, dots, replaced, raw) = asks in
     no_error r None why (taken None (subst (λ o. IsNumberIn o None) (sym none) refl) tt) is
 taken_again rows (QueueAgain ledger number) r why asks range is taken =
-    let (name, path, given, none) = asks in
+    let (name, path, given, none, bare) = asks in
     no_error r (Some number) why (taken (Some number) (number_in _ number given) range) is
 taken_again rows (Deliver ledger d) r why asks range is taken = let bad = asks.0 in absurd cc
 taken_again rows (DeliverWithin ledger d wait) r why asks range is taken = let bad = asks.0 in absurd cc
@@ -63,33 +68,37 @@ abbrev pub delivery_task : List ℕ → Delivery → Option ℕ → TillTask
 delivery_task ledger d None = Deliver ledger d
 delivery_task ledger d (Some wait) = DeliverWithin ledger d wait
 
-same_delivery : (ledger path : List ℕ) (a : Address) (n : ℕ) (copy : Option (List ℕ)) (wait other : Option ℕ) (d : Delivery) → ledger ≡ path → a ≡ d.address → n ≡ d.openings
-    → copy ≡ d.copy → wait ≡ other → delivery_task ledger (record { address = a; openings = n; copy = copy }) wait ≡ delivery_task path d other
-same_delivery ledger path a n copy wait other d e f g h k =
-    ap (λ l. delivery_task l (record { address = a; openings = n; copy = copy }) wait) e ∙ ap (λ x. delivery_task path (record { address = x; openings = n; copy = copy }) wait) f
-    ∙ ap (λ x. delivery_task path (record { address = d.address; openings = x; copy = copy }) wait) g
-    ∙ ap (λ x. delivery_task path (record { address = d.address; openings = d.openings; copy = x }) wait) h
+same_delivery : (ledger path : List ℕ) (a : Address) (n s : ℕ) (copy : Option (List ℕ)) (wait other : Option ℕ) (d : Delivery) → ledger ≡ path → a ≡ d.address → n ≡ d.openings
+    → s ≡ d.patience → copy ≡ d.copy → wait ≡ other → delivery_task ledger (record { address = a; openings = n; patience = s; copy = copy }) wait ≡ delivery_task path d other
+same_delivery ledger path a n s copy wait other d e f g p h k =
+    ap (λ l. delivery_task l (record { address = a; openings = n; patience = s; copy = copy }) wait) e
+    ∙ ap (λ x. delivery_task path (record { address = x; openings = n; patience = s; copy = copy }) wait) f
+    ∙ ap (λ x. delivery_task path (record { address = d.address; openings = x; patience = s; copy = copy }) wait) g
+    ∙ ap (λ x. delivery_task path (record { address = d.address; openings = d.openings; patience = x; copy = copy }) wait) p
+    ∙ ap (λ x. delivery_task path (record { address = d.address; openings = d.openings; patience = d.patience; copy = x }) wait) h
     ∙ ap (λ x. delivery_task path d x) k
 
 -- The values that were read are those that are asked for.
-pub taken_task : (rows : List Row) (task : TillTask) (ledger : List ℕ) (a : Address) (n : ℕ) (copy : Option (List ℕ)) (wait : Option ℕ) → AsksTillBy (codes "deliver") rows task → IsTillInRange task
+pub taken_task : (rows : List Row) (task : TillTask) (ledger : List ℕ) (a : Address) (n s : ℕ) (copy : Option (List ℕ)) (wait : Option ℕ) → AsksTillBy (codes "deliver") rows task → IsTillInRange task
     → ((path : List ℕ) → first_of (codes "ledger") rows ≡ Some path → ledger ≡ path)
     → ((b : Address) → IsSomeAnd (first_of (codes "address") rows) (λ text. IsAddress text b) → a ≡ b)
     → ((m : ℕ) → IsNumberOr OPENINGS (one_of (codes "openings") rows) m → 1 ≤ m → m ≤ MOST_OPENINGS → n ≡ m)
+    → ((m : ℕ) → IsNumberOr PATIENCE (one_of (codes "patience") rows) m → IsWait m → s ≡ m)
     → ((text : Option (List ℕ)) → first_of (codes "copy") rows ≡ text → IfSome text IsCopyText → copy ≡ text)
     → ((other : Option ℕ) → IsNumberIn (one_of (codes "wait") rows) other → IfSome other IsWait → wait ≡ other)
-    → delivery_task ledger (record { address = a; openings = n; copy = copy }) wait ≡ task
-taken_task rows (Queue path options) ledger a n copy wait asks range l b m k w = let bad = asks.0 in absurd cc
-taken_task rows (QueueAgain path number) ledger a n copy wait asks range l b m k w = let bad = asks.0 in absurd cc
-taken_task rows (Deliver path d) ledger a n copy wait asks range l b m k w =
-    let (name, is_path, address, openings, is_copy, none) = asks in
-    let (low, high, fits) = range in
-    same_delivery ledger path a n copy wait None d (l path is_path) (b d.address address) (m d.openings openings low high) (k d.copy is_copy fits)
+    → delivery_task ledger (record { address = a; openings = n; patience = s; copy = copy }) wait ≡ task
+taken_task rows (Queue path options) ledger a n s copy wait asks range l b m p k w = let bad = asks.0 in absurd cc
+taken_task rows (QueueRaw path width) ledger a n s copy wait asks range l b m p k w = let bad = asks.0 in absurd cc
+taken_task rows (QueueAgain path number) ledger a n s copy wait asks range l b m p k w = let bad = asks.0 in absurd cc
+taken_task rows (Deliver path d) ledger a n s copy wait asks range l b m p k w =
+    let (name, is_path, address, openings, patience, is_copy, none) = asks in
+    let (low, high, within, fits) = range in
+    same_delivery ledger path a n s copy wait None d (l path is_path) (b d.address address) (m d.openings openings low high) (p d.patience patience within) (k d.copy is_copy fits)
     (w None (subst (λ o. IsNumberIn o None) (sym none) refl) tt)
-taken_task rows (DeliverWithin path d given) ledger a n copy wait asks range l b m k w =
-    let (name, is_path, address, openings, is_copy, is_wait) = asks in
-    let (low, high, fits, in_range) = range in
-    same_delivery ledger path a n copy wait (Some given) d (l path is_path) (b d.address address) (m d.openings openings low high) (k d.copy is_copy fits)
+taken_task rows (DeliverWithin path d given) ledger a n s copy wait asks range l b m p k w =
+    let (name, is_path, address, openings, patience, is_copy, is_wait) = asks in
+    let (low, high, within, fits, in_range) = range in
+    same_delivery ledger path a n s copy wait (Some given) d (l path is_path) (b d.address address) (m d.openings openings low high) (p d.patience patience within) (k d.copy is_copy fits)
     (w (Some given) (number_in _ given is_wait) in_range)
-taken_task rows (Cancel path number) ledger a n copy wait asks range l b m k w = let bad = asks.0 in absurd cc
-taken_task rows (listing path first) ledger a n copy wait asks range l b m k w = let bad = asks.0 in absurd cc
+taken_task rows (Cancel path number) ledger a n s copy wait asks range l b m p k w = let bad = asks.0 in absurd cc
+taken_task rows (listing path first) ledger a n s copy wait asks range l b m p k w = let bad = asks.0 in absurd cc

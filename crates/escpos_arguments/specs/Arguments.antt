@@ -1,5 +1,5 @@
 -- The arguments of the command line, and what they ask for.
-use Rattle.std.specs.Prelude.{◌≡◌, ◌<◌, ◌≤◌, ℕ, ⊤, List, [], ◌∷◌, Option, Some, None, IfSome, IsSomeAnd, IsTrue, codes, Bool, true, false}
+use Rattle.std.specs.Prelude.{◌≡◌, ◌<◌, ◌≤◌, ℕ, ⊤, List, [], ◌∷◌, Option, Some, None, IfSome, IsSomeAnd, IsTrue, codes, length, Bool, true, false}
 use Rattle.clap.specs.Words.{App, Row, Rule, Shape, Text, first_of, new_app, new_rule, one_of, with_rule, with_subcommand}
 use Rattle.clap.specs.Simple.{new_shape, on_top}
 use Rattle.clap.specs.declared.builder.action.ArgAction.TheVariants.{Set, SetTrue}
@@ -12,8 +12,9 @@ use Rattle.escpos_arguments.specs.declared.arguments.TheConstants.{LINKS, MOST_L
 use Rattle.escpos_arguments.specs.declared.image.TheConstants.{MOST_THRESHOLD}
 use Rattle.escpos_printer.specs.declared.condition.Condition.{Condition}
 use Rattle.escpos_jobs.specs.Address.{IsAddress}
+use Rattle.escpos_jobs.specs.declared.address.TheConstants.{MOST_TEXT}
 use Rattle.escpos_jobs.specs.declared.task.Task.{Task}
-use Rattle.escpos_jobs.specs.declared.task.Task.TheVariants.{Check, CheckRaw, Render, RenderRaw, RenderAt, RenderRawAt, Draw, DrawRaw, DrawAt, DrawRawAt, RenderText, Encode, EncodeRaw, EncodeWith, Image, Play, Emulate, EmulateIn, EmulateAt, Follow, FollowAt, Send, SendWithin, SendWith, Status, Loop, LoopAt}
+use Rattle.escpos_jobs.specs.declared.task.Task.TheVariants.{Check, CheckRaw, Render, RenderRaw, RenderAt, RenderRawAt, Draw, DrawRaw, DrawAt, DrawRawAt, RenderText, Encode, EncodeRaw, EncodeWith, Image, Play, Emulate, EmulateIn, EmulateAt, EmulateBy, Follow, FollowAt, Send, SendWithin, SendWith, Status, Loop, LoopAt}
 use Rattle.escpos_jobs.specs.Conditions.{condition_text, online}
 use Rattle.escpos_arguments.specs.ClapAnswers.{IsNumber, IsNumberIn}
 
@@ -47,6 +48,7 @@ name_of Play = codes "play"
 name_of (Emulate address links) = codes "emulate"
 name_of (EmulateIn address links condition) = codes "emulate"
 name_of (EmulateAt address links condition width) = codes "emulate"
+name_of (EmulateBy address links condition width file) = codes "emulate"
 name_of (Follow address condition) = codes "emulate"
 name_of (FollowAt address condition width) = codes "emulate"
 name_of (Send address first openings) = codes "send"
@@ -72,6 +74,7 @@ IsPlain (Image width threshold) = ⊥
 IsPlain (Emulate address links) = ⊥
 IsPlain (EmulateIn address links condition) = ⊥
 IsPlain (EmulateAt address links condition width) = ⊥
+IsPlain (EmulateBy address links condition width file) = ⊥
 IsPlain (Follow address condition) = ⊥
 IsPlain (FollowAt address condition width) = ⊥
 IsPlain (Send address first openings) = ⊥
@@ -140,6 +143,19 @@ IsConditionOr (Some text) condition = text ≡ condition_text condition
 abbrev pub HasWidth : List Row → ℕ → Type 0
 HasWidth rows width = IsSomeAnd (one_of (codes "width") rows) (λ text. IsNumber text width)
 
+-- no file of a condition is among the values
+abbrev pub HasNoFile : List Row → Type 0
+HasNoFile rows = first_of (codes "condition-file") rows ≡ None
+
+-- how many links are to be served: a number, or, with the flag `--follow`, none
+abbrev pub IsLinks : List Row → Option ℕ → Type 0
+IsLinks rows None = (one_of (codes "links") rows ≡ None) × HasFlag (codes "follow") rows
+IsLinks rows (Some links) = IsNumberOr LINKS (one_of (codes "links") rows) links × (¬ HasFlag (codes "follow") rows)
+
+-- as many links as may be served
+abbrev pub IsLinkCount : ℕ → Type 0
+IsLinkCount links = (1 ≤ links) × (links ≤ MOST_LINKS)
+
 -- this name, with the values that were given after it, asks for the task
 abbrev pub AsksBy : Text → List Row → Task → Type 0
 AsksBy name rows Check = name ≡ codes "check"
@@ -167,30 +183,41 @@ AsksBy name rows (Emulate address links) = (name ≡ codes "emulate")
     × (first_of (codes "condition") rows ≡ None)
     × (¬ HasFlag (codes "follow") rows)
     × HasNoWidth rows
+    × HasNoFile rows
 AsksBy name rows (EmulateIn address links condition) = (name ≡ codes "emulate")
     × IsSomeAnd (first_of (codes "address") rows) (λ text. IsAddress text address)
     × IsNumberOr LINKS (one_of (codes "links") rows) links
     × IsSomeAnd (first_of (codes "condition") rows) (λ text. text ≡ condition_text condition)
     × (¬ HasFlag (codes "follow") rows)
     × HasNoWidth rows
+    × HasNoFile rows
 AsksBy name rows (EmulateAt address links condition width) = (name ≡ codes "emulate")
     × IsSomeAnd (first_of (codes "address") rows) (λ text. IsAddress text address)
     × IsNumberOr LINKS (one_of (codes "links") rows) links
     × IsConditionOr (first_of (codes "condition") rows) condition
     × (¬ HasFlag (codes "follow") rows)
     × HasWidth rows width
+    × HasNoFile rows
+AsksBy name rows (EmulateBy address links condition width file) = (name ≡ codes "emulate")
+    × IsSomeAnd (first_of (codes "address") rows) (λ text. IsAddress text address)
+    × IsLinks rows links
+    × IsConditionOr (first_of (codes "condition") rows) condition
+    × IsNumberOr USUAL_LINE_DOTS (one_of (codes "width") rows) width
+    × (first_of (codes "condition-file") rows ≡ Some file)
 AsksBy name rows (Follow address condition) = (name ≡ codes "emulate")
     × IsSomeAnd (first_of (codes "address") rows) (λ text. IsAddress text address)
     × (one_of (codes "links") rows ≡ None)
     × IsConditionOr (first_of (codes "condition") rows) condition
     × HasFlag (codes "follow") rows
     × HasNoWidth rows
+    × HasNoFile rows
 AsksBy name rows (FollowAt address condition width) = (name ≡ codes "emulate")
     × IsSomeAnd (first_of (codes "address") rows) (λ text. IsAddress text address)
     × (one_of (codes "links") rows ≡ None)
     × IsConditionOr (first_of (codes "condition") rows) condition
     × HasFlag (codes "follow") rows
     × HasWidth rows width
+    × HasNoFile rows
 AsksBy name rows (Send address first openings) = (name ≡ codes "send")
     × IsSomeAnd (first_of (codes "address") rows) (λ text. IsAddress text address)
     × IsSomeAnd (one_of (codes "first") rows) (λ text. IsNumber text first)
@@ -236,6 +263,7 @@ abbrev pub InRange : Task → Type 0
 InRange (Emulate address links) = (1 ≤ links) × (links ≤ MOST_LINKS)
 InRange (EmulateIn address links condition) = (1 ≤ links) × (links ≤ MOST_LINKS)
 InRange (EmulateAt address links condition width) = (1 ≤ links) × (links ≤ MOST_LINKS) × IsTrue (is_line_width width)
+InRange (EmulateBy address links condition width file) = IfSome links IsLinkCount × IsTrue (is_line_width width) × (length file ≤ MOST_TEXT)
 InRange (FollowAt address condition width) = IsTrue (is_line_width width)
 InRange (RenderAt width) = IsTrue (is_line_width width)
 InRange (RenderRawAt width) = IsTrue (is_line_width width)
@@ -311,8 +339,8 @@ loop_words = (with_rule (new_app (codes "loop")) width_rule).top
 
 -- what may follow `emulate`
 abbrev pub emulate_words : Shape
-emulate_words = (with_rule (with_rule (with_rule (with_rule (with_rule (new_app (codes "emulate")) address_rule) (option_rule (codes "links") false))
-    (flag_rule (codes "follow"))) (option_rule (codes "condition") false)) width_rule).top
+emulate_words = (with_rule (with_rule (with_rule (with_rule (with_rule (with_rule (new_app (codes "emulate")) address_rule) (option_rule (codes "links") false))
+    (flag_rule (codes "follow"))) (option_rule (codes "condition") false)) (option_rule (codes "condition-file") false)) width_rule).top
 
 -- what may follow `send`
 abbrev pub send_words : Shape

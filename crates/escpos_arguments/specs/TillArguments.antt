@@ -1,16 +1,18 @@
 -- The arguments of a till's words, `queue`, `deliver`, `cancel` and `ledger`, and what they ask for.
-use Rattle.std.specs.Prelude.{◌≡◌, ◌<◌, ◌≤◌, List, [], ◌∷◌, Option, Some, None, IfSome, IsSomeAnd, codes, true, false}
+use Rattle.std.specs.Prelude.{◌≡◌, ◌<◌, ◌≤◌, List, [], ◌∷◌, Option, Some, None, IfSome, IsSomeAnd, IsTrue, codes, true, false}
 use Rattle.clap.specs.Words.{App, Row, Rule, Shape, Text, first_of, new_app, new_rule, one_of, with_rule, with_subcommand}
 use Rattle.clap.specs.Simple.{on_top}
 use Rattle.clap.specs.declared.builder.action.ArgAction.TheVariants.{Set}
 use Rattle.escpos_command.specs.Digits.{mark_count}
-use Rattle.escpos_arguments.specs.declared.arguments.TheConstants.{OPENINGS, MOST_OPENINGS}
-use Rattle.escpos_arguments.specs.Arguments.{IsNumberOr, IsOptions, IsWait, GivesOptions, HasNoOptions, address_rule, option_rule, replace_rule, width_rule}
+use Rattle.escpos_command.specs.LineWidths.{is_line_width}
+use Rattle.escpos_command.specs.declared.line_width.TheConstants.{USUAL_LINE_DOTS}
+use Rattle.escpos_arguments.specs.declared.arguments.TheConstants.{OPENINGS, MOST_OPENINGS, PATIENCE}
+use Rattle.escpos_arguments.specs.Arguments.{IsNumberOr, IsOptions, IsWait, GivesOptions, HasNoOptions, HasNoReplacement, HasRaw, address_rule, flag_rule, option_rule, replace_rule, width_rule}
 use Rattle.escpos_arguments.specs.ClapAnswers.{IsNumber, IsNumberIn}
 use Rattle.escpos_jobs.specs.Address.{IsAddress}
 use Rattle.escpos_till.specs.Copy.{IsCopyText}
 use Rattle.escpos_till_jobs.specs.declared.task.TillTask.{TillTask}
-use Rattle.escpos_till_jobs.specs.declared.task.TillTask.TheVariants.{Queue, QueueAgain, Deliver, DeliverWithin, Cancel, List as listing}
+use Rattle.escpos_till_jobs.specs.declared.task.TillTask.TheVariants.{Queue, QueueAgain, QueueRaw, Deliver, DeliverWithin, Cancel, List as listing}
 
 -- ---- what the arguments ask for
 
@@ -24,20 +26,30 @@ AsksTillBy name rows (Queue ledger options) = (name ≡ codes "queue")
     × (first_of (codes "ledger") rows ≡ Some ledger)
     × (one_of (codes "again") rows ≡ None)
     × GivesOptions rows options
+    × (¬ HasRaw rows)
+AsksTillBy name rows (QueueRaw ledger width) = (name ≡ codes "queue")
+    × (first_of (codes "ledger") rows ≡ Some ledger)
+    × (one_of (codes "again") rows ≡ None)
+    × IsNumberOr USUAL_LINE_DOTS (one_of (codes "width") rows) width
+    × HasNoReplacement rows
+    × HasRaw rows
 AsksTillBy name rows (QueueAgain ledger number) = (name ≡ codes "queue")
     × (first_of (codes "ledger") rows ≡ Some ledger)
     × IsSomeAnd (one_of (codes "again") rows) (λ text. IsNumber text number)
     × HasNoOptions rows
+    × (¬ HasRaw rows)
 AsksTillBy name rows (Deliver ledger delivery) = (name ≡ codes "deliver")
     × (first_of (codes "ledger") rows ≡ Some ledger)
     × IsSomeAnd (first_of (codes "address") rows) (λ text. IsAddress text delivery.address)
     × IsNumberOr OPENINGS (one_of (codes "openings") rows) delivery.openings
+    × IsNumberOr PATIENCE (one_of (codes "patience") rows) delivery.patience
     × (first_of (codes "copy") rows ≡ delivery.copy)
     × (one_of (codes "wait") rows ≡ None)
 AsksTillBy name rows (DeliverWithin ledger delivery wait) = (name ≡ codes "deliver")
     × (first_of (codes "ledger") rows ≡ Some ledger)
     × IsSomeAnd (first_of (codes "address") rows) (λ text. IsAddress text delivery.address)
     × IsNumberOr OPENINGS (one_of (codes "openings") rows) delivery.openings
+    × IsNumberOr PATIENCE (one_of (codes "patience") rows) delivery.patience
     × (first_of (codes "copy") rows ≡ delivery.copy)
     × IsSomeAnd (one_of (codes "wait") rows) (λ text. IsNumber text wait)
 AsksTillBy name rows (Cancel ledger number) = (name ≡ codes "cancel")
@@ -54,9 +66,10 @@ AsksTill found task = IsSomeAnd found (λ p. AsksTillBy p.0 p.1 task)
 -- the values of the task are in range
 abbrev pub IsTillInRange : TillTask → Type 0
 IsTillInRange (Queue ledger options) = IsOptions options
+IsTillInRange (QueueRaw ledger width) = IsTrue (is_line_width width)
 IsTillInRange (QueueAgain ledger number) = 0 < number
-IsTillInRange (Deliver ledger delivery) = (1 ≤ delivery.openings) × (delivery.openings ≤ MOST_OPENINGS) × IfSome delivery.copy IsCopyText
-IsTillInRange (DeliverWithin ledger delivery wait) = (1 ≤ delivery.openings) × (delivery.openings ≤ MOST_OPENINGS) × IfSome delivery.copy IsCopyText × IsWait wait
+IsTillInRange (Deliver ledger delivery) = (1 ≤ delivery.openings) × (delivery.openings ≤ MOST_OPENINGS) × IsWait delivery.patience × IfSome delivery.copy IsCopyText
+IsTillInRange (DeliverWithin ledger delivery wait) = (1 ≤ delivery.openings) × (delivery.openings ≤ MOST_OPENINGS) × IsWait delivery.patience × IfSome delivery.copy IsCopyText × IsWait wait
 IsTillInRange (Cancel ledger number) = 0 < number
 IsTillInRange (listing ledger first) = IfSome first (λ n. n < mark_count)
 
@@ -72,12 +85,13 @@ number_rule = record (new_rule (codes "number")) { required = true; action = Som
 
 -- what may follow `queue`
 abbrev pub queue_words : Shape
-queue_words = (with_rule (with_rule (with_rule (with_rule (new_app (codes "queue")) ledger_rule) width_rule) replace_rule) (option_rule (codes "again") false)).top
+queue_words = (with_rule (with_rule (with_rule (with_rule (with_rule (new_app (codes "queue")) ledger_rule) width_rule) replace_rule) (option_rule (codes "again") false))
+    (flag_rule (codes "raw"))).top
 
 -- what may follow `deliver`
 abbrev pub deliver_words : Shape
-deliver_words = (with_rule (with_rule (with_rule (with_rule (with_rule (new_app (codes "deliver")) ledger_rule) address_rule)
-    (option_rule (codes "openings") false)) (option_rule (codes "copy") false)) (option_rule (codes "wait") false)).top
+deliver_words = (with_rule (with_rule (with_rule (with_rule (with_rule (with_rule (new_app (codes "deliver")) ledger_rule) address_rule)
+    (option_rule (codes "openings") false)) (option_rule (codes "copy") false)) (option_rule (codes "wait") false)) (option_rule (codes "patience") false)).top
 
 -- what may follow `cancel`
 abbrev pub cancel_words : Shape

@@ -3,26 +3,21 @@
 ghost use Rattle.std.specs.Prelude.{◌≡◌, ◌≢◌, ◌⊎◌, ◌≤◌, ◌<◌, ◌↔◌, ℕ, Option, Some, None, [], ◌∷◌, false, IfErr, IfOk, IfSome, IsSomeAnd, unwrap_or, IsTrue, Contains, codes, drop, map};
 ghost use Rattle.clap.specs.Words.{HasKind, IsAmong, app_of, fault_of, first_of, found_of, kind_of, one_of, rows_of, rule_of, subcommand_of, subcommand_rows_of};
 ghost use Rattle.escpos_command.specs.Digits.{mark_count};
-ghost use Rattle.escpos_printer.specs.declared.condition.Condition.{Condition};
 ghost use Rattle.escpos_jobs.specs.Address.{IsAddress};
 ghost use Rattle.escpos_jobs.specs.declared.address.Address.{Address};
 ghost use Rattle.escpos_jobs.specs.declared.task.Task.{Task};
-ghost use Rattle.escpos_jobs.specs.Conditions.{condition_text, online};
 ghost use Rattle.escpos_arguments.specs.Arguments.{Asks, AsksBy, HasFlag, InRange, IsConditionOr, IsNumberOr, IsBare, IsPlain, IsWait, address_rule, asking_words, command_words, emulate_words, encode_words, flag_rule, help_words, image_words, loop_words, name_of, option_rule, paper_words, raw_words, render_words, send_words, stream_words, words_of};
-ghost use Rattle.escpos_arguments.specs.EmulateTasks.{follow_task, links_task};
 ghost use Rattle.escpos_arguments.specs.ClapAnswers.{IsNumber, IsNumberIn, no_task_of};
 
+use crate::emulate::emulate_asked;
 use crate::image::image_asked;
 use crate::options::{encode_asked, options_given};
-use crate::width::{draw_asked, loop_asked, render_asked, width_given};
+use crate::width::{draw_asked, loop_asked, render_asked};
 use clap::error::ErrorKind;
 use clap::{Arg, ArgAction, ArgMatches, Command};
-use escpos_command::{LineWidth, MarkId};
+use escpos_command::MarkId;
 use escpos_jobs::address::Address;
-use escpos_jobs::emulate::ONLINE;
-use escpos_jobs::script::condition_of;
 use escpos_jobs::task::{NoTask, Task};
-use escpos_printer::Condition;
 use std::alloc::{AllocError, Global};
 use std::convert::AsStr;
 
@@ -41,6 +36,9 @@ pub const MOST_OPENINGS: u32 = 99;
 /// The longest wait that may be asked for, in seconds.
 pub const MOST_WAIT: u32 = 3_600;
 
+/// How many seconds `deliver` waits, without `--patience`, for a printer that says that it prints nothing for now.
+pub const PATIENCE: u32 = 600;
+
 const _: () = prove!(LINKS == 1);
 
 const _: () = prove!(MOST_LINKS == 1_000);
@@ -50,6 +48,8 @@ const _: () = prove!(OPENINGS == 3);
 const _: () = prove!(MOST_OPENINGS == 99);
 
 const _: () = prove!(MOST_WAIT == 3_600);
+
+const _: () = prove!(PATIENCE == 600);
 
 /// The arguments after the first, which is the program's name. Where there are no arguments, nothing.
 pub fn without_name<S>(words: &[S]) -> &[S]
@@ -145,92 +145,6 @@ pub(crate) fn has_flag(given: &ArgMatches, name: &str) -> bool
     match given.get_str(name) {
         Some(text) => text == "true",
         None => false,
-    }
-}
-
-// The task of `emulate` with the arguments that follow it.
-fn emulate_asked(given: &ArgMatches) -> Result<Task, NoTask>
-    ensures asks { IfOk result (AsksBy (codes "emulate") (rows_of (found_of given.now))) }
-    ensures ranges { IfOk result InRange }
-    ensures values { IfOk result (λ task. ¬ IsPlain task) }
-    ensures taken { (task : Task) → AsksBy (codes "emulate") (rows_of (found_of given.now)) task → InRange task
-        → result ≡ Ok task }
-    ensures usage { IfErr result (λ why. why ≡ NoTask.Usage) }
-{
-    let address = address_of(given)?;
-    let condition = condition_given(given)?;
-    let width = width_given(given)?;
-    if has_flag(given, "follow") {
-        return follow_asked(given, address, condition, width);
-    }
-    let links = count_of(given, "links", LINKS, MOST_LINKS)?;
-    Ok(links_asked(address, links, condition, width))
-}
-
-// The task of `emulate` for this many links.
-fn links_asked(
-    address: Address,
-    links: u32,
-    condition: Option<Condition>,
-    width: Option<LineWidth>,
-) -> Task
-    ensures { result ≡ links_task address links condition width }
-{
-    match (width, condition) {
-        (Some(width), condition) => Task::EmulateAt {
-            address,
-            links,
-            condition: condition.unwrap_or(ONLINE),
-            width,
-        },
-        (None, Some(condition)) => Task::EmulateIn {
-            address,
-            links,
-            condition,
-        },
-        (None, None) => Task::Emulate { address, links },
-    }
-}
-
-// The task of `emulate --follow`, with which no number of links may be given.
-fn follow_asked(
-    given: &ArgMatches,
-    address: Address,
-    condition: Option<Condition>,
-    width: Option<LineWidth>,
-) -> Result<Task, NoTask>
-    ensures follows { IfOk result (λ task. (task ≡ follow_task address (unwrap_or condition online) width) × (one_of (codes "links") (rows_of (found_of given.now)) ≡ None)) }
-    ensures taken { one_of (codes "links") (rows_of (found_of given.now)) ≡ None → result ≡ Ok (follow_task address (unwrap_or condition online) width) }
-    ensures usage { IfErr result (λ why. why ≡ NoTask.Usage) }
-{
-    let condition = condition.unwrap_or(ONLINE);
-    match (number_given(given, "links")?, width) {
-        (Some(_), _) => Err(NoTask::Usage),
-        (None, Some(width)) => Ok(Task::FollowAt {
-            address,
-            condition,
-            width,
-        }),
-        (None, None) => Ok(Task::Follow { address, condition }),
-    }
-}
-
-// What the sensors say, if that is given.
-fn condition_given(given: &ArgMatches) -> Result<Option<Condition>, NoTask>
-    ensures none { result ≡ Ok None → first_of (codes "condition") (rows_of (found_of given.now)) ≡ None }
-    ensures read { (condition : Condition) → result ≡ Ok (Some condition)
-        → first_of (codes "condition") (rows_of (found_of given.now)) ≡ Some (condition_text condition) }
-    ensures taken_none { first_of (codes "condition") (rows_of (found_of given.now)) ≡ None → result ≡ Ok None }
-    ensures taken { (condition : Condition) → first_of (codes "condition") (rows_of (found_of given.now)) ≡ Some (condition_text condition)
-        → result ≡ Ok (Some condition) }
-    ensures usage { IfErr result (λ why. why ≡ NoTask.Usage) }
-{
-    match given.get_str("condition") {
-        Some(text) => match condition_of(text.as_bytes()) {
-            Some(condition) => Ok(Some(condition)),
-            None => Err(NoTask::Usage),
-        },
-        None => Ok(None),
     }
 }
 
@@ -487,6 +401,7 @@ fn emulate_command<'a>(alloc: Global) -> Result<Command<'a>, AllocError>
         .arg(option(alloc, "links", false))?
         .arg(flag(alloc, "follow"))?
         .arg(option(alloc, "condition", false))?
+        .arg(option(alloc, "condition-file", false))?
         .arg(option(alloc, "width", false))?;
     Ok(command)
 }
@@ -537,7 +452,7 @@ pub(crate) fn option<'a>(alloc: Global, name: &'a str, required: bool) -> Arg<'a
 }
 
 // A flag: two dashes and this name.
-fn flag<'a>(alloc: Global, name: &'a str) -> Arg<'a>
+pub(crate) fn flag<'a>(alloc: Global, name: &'a str) -> Arg<'a>
     ensures rule { rule_of result ≡ flag_rule name.entry.now }
     ensures local { result.global ≡ false }
 {

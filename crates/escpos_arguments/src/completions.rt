@@ -84,12 +84,12 @@ _escpos_cli() {
         encode) given='--raw --width --replace --help' ;;
         image) given='--width --threshold --help' ;;
         play) given='--help' ;;
-        emulate) given='--links --follow --condition --width --help' ;;
+        emulate) given='--links --follow --condition --condition-file --width --help' ;;
         send) given='--first --openings --wait --width --replace --help' ;;
         status | probe) given='--wait --help' ;;
         loop) given='--width --help' ;;
-        queue) given='--width --replace --again --help' ;;
-        deliver) given='--openings --copy --wait --help' ;;
+        queue) given='--raw --width --replace --again --help' ;;
+        deliver) given='--openings --copy --wait --patience --help' ;;
         cancel) given='--help' ;;
         ledger) given='--first --help' ;;
         completions) given='bash zsh fish' ;;
@@ -133,12 +133,12 @@ draw) compadd -- --raw --width --help ;;
 encode) compadd -- --raw --width --replace --help ;;
 image) compadd -- --width --threshold --help ;;
 play) compadd -- --help ;;
-emulate) compadd -- --links --follow --condition --width --help ;;
+emulate) compadd -- --links --follow --condition --condition-file --width --help ;;
 send) compadd -- --first --openings --wait --width --replace --help ;;
 status | probe) compadd -- --wait --help ;;
 loop) compadd -- --width --help ;;
-queue) compadd -- --width --replace --again --help ;;
-deliver) compadd -- --openings --copy --wait --help ;;
+queue) compadd -- --raw --width --replace --again --help ;;
+deliver) compadd -- --openings --copy --wait --patience --help ;;
 cancel) compadd -- --help ;;
 ledger) compadd -- --first --help ;;
 completions) compadd bash zsh fish ;;
@@ -179,6 +179,7 @@ complete -c escpos_cli -n '__fish_seen_subcommand_from image' -l threshold -x
 complete -c escpos_cli -n '__fish_seen_subcommand_from emulate' -l links -x
 complete -c escpos_cli -n '__fish_seen_subcommand_from emulate' -l follow
 complete -c escpos_cli -n '__fish_seen_subcommand_from emulate' -l condition -x
+complete -c escpos_cli -n '__fish_seen_subcommand_from emulate' -l condition-file -r
 complete -c escpos_cli -n '__fish_seen_subcommand_from emulate' -l width -x
 complete -c escpos_cli -n '__fish_seen_subcommand_from send' -l first -x
 complete -c escpos_cli -n '__fish_seen_subcommand_from send' -l openings -x
@@ -191,9 +192,11 @@ complete -c escpos_cli -n '__fish_seen_subcommand_from loop' -l width -x
 complete -c escpos_cli -n '__fish_seen_subcommand_from queue' -l width -x
 complete -c escpos_cli -n '__fish_seen_subcommand_from queue' -l replace -x
 complete -c escpos_cli -n '__fish_seen_subcommand_from queue' -l again -x
+complete -c escpos_cli -n '__fish_seen_subcommand_from queue' -l raw
 complete -c escpos_cli -n '__fish_seen_subcommand_from deliver' -l openings -x
 complete -c escpos_cli -n '__fish_seen_subcommand_from deliver' -l copy -x
 complete -c escpos_cli -n '__fish_seen_subcommand_from deliver' -l wait -x
+complete -c escpos_cli -n '__fish_seen_subcommand_from deliver' -l patience -x
 complete -c escpos_cli -n '__fish_seen_subcommand_from ledger' -l first -x
 complete -c escpos_cli -f -n '__fish_seen_subcommand_from completions' -a 'bash zsh fish'
 ";

@@ -1,14 +1,16 @@
-//! The arguments of `queue`: a receipt is read and taken, or one that was taken is taken once more.
+//! The arguments of `queue`: a receipt, or a stream of bytes, is read and taken, or one that was taken is taken once more.
 
-ghost use Rattle.std.specs.Prelude.{◌≡◌, ◌<◌, ℕ, Ok, Option, IfErr, IfOk, IfSome, codes};
+ghost use Rattle.std.specs.Prelude.{◌≡◌, ◌<◌, ℕ, Ok, Option, IfErr, IfOk, IfSome, IsTrue, codes};
 ghost use Rattle.clap.specs.Words.{found_of, one_of, rows_of};
-ghost use Rattle.escpos_arguments.specs.Arguments.{GivesOptions, HasNoOptions, IsOptions};
+ghost use Rattle.escpos_arguments.specs.Arguments.{GivesOptions, HasNoOptions, HasNoReplacement, IsNumberOr, IsOptions};
 ghost use Rattle.escpos_arguments.specs.ClapAnswers.{IsNumberIn};
 ghost use Rattle.escpos_arguments.specs.TillArguments.{AsksTillBy, IsTillInRange};
+ghost use Rattle.escpos_command.specs.LineWidths.{is_line_width};
+ghost use Rattle.escpos_command.specs.declared.line_width.TheConstants.{USUAL_LINE_DOTS};
 ghost use Rattle.escpos_receipt.specs.declared.options.ReceiptOptions.{ReceiptOptions as Options};
 ghost use Rattle.escpos_till_jobs.specs.declared.task.TillTask.{TillTask};
 
-use crate::arguments::number_given;
+use crate::arguments::{has_flag, number_given};
 use crate::options::{options_given, options_or_usual};
 use crate::till::ledger_path;
 use clap::ArgMatches;
@@ -25,8 +27,11 @@ pub(crate) fn queue_asked<'a>(given: &ArgMatches<'a>) -> Result<TillTask<'a>, No
     ensures usage { IfErr result (λ why. why ≡ NoTask.Usage) }
 {
     let ledger = ledger_path(given)?;
+    let raw = has_flag(given, "raw");
     match again_given(given)? {
+        Some(_) if raw => Err(NoTask::Usage),
         Some(number) => again_asked(given, ledger, number),
+        None if raw => raw_asked(given, ledger),
         None => read_asked(given, ledger),
     }
 }
@@ -55,6 +60,24 @@ fn read_asked<'a>(given: &ArgMatches<'a>, ledger: LedgerPath<'a>) -> Result<Till
 {
     let options = options_or_usual(given)?;
     Ok(TillTask::Queue { ledger, options })
+}
+
+// The task to read a stream of bytes and take it. It has no characters to replace, so no replacement may be given.
+fn raw_asked<'a>(given: &ArgMatches<'a>, ledger: LedgerPath<'a>) -> Result<TillTask<'a>, NoTask>
+    ensures asks { IfOk result (λ task. (width : ℕ) × (task ≡ TillTask.QueueRaw ledger.entry width) × IsNumberOr USUAL_LINE_DOTS (one_of (codes "width") (rows_of (found_of given.now))) width
+        × HasNoReplacement (rows_of (found_of given.now)) × IsTrue (is_line_width width)) }
+    ensures taken { (width : ℕ) → IsNumberOr USUAL_LINE_DOTS (one_of (codes "width") (rows_of (found_of given.now))) width → HasNoReplacement (rows_of (found_of given.now))
+        → IsTrue (is_line_width width) → result ≡ Ok (TillTask.QueueRaw ledger.entry width) }
+    ensures usage { IfErr result (λ why. why ≡ NoTask.Usage) }
+{
+    let options = options_or_usual(given)?;
+    if options.replacement.is_some() {
+        return Err(NoTask::Usage);
+    }
+    Ok(TillTask::QueueRaw {
+        ledger,
+        width: options.width,
+    })
 }
 
 // The number of the receipt that is taken once more, if it is given, and a receipt may have it.

@@ -9,8 +9,8 @@ ghost use Rattle.escpos_arguments.specs.ClapAnswers.{IsNumber, IsNumberIn};
 ghost use Rattle.escpos_arguments.specs.TillArguments.{AsksTill, AsksTillBy, IsTillInRange, cancel_words, deliver_words, ledger_rule, ledger_words, number_rule, queue_words, till_names, till_words};
 
 use crate::arguments::{
-    MOST_OPENINGS, OPENINGS, address, address_of, count_of, no_task, number_given, option,
-    wait_given,
+    MOST_OPENINGS, MOST_WAIT, OPENINGS, PATIENCE, address, address_of, count_of, flag, no_task,
+    number_given, option, wait_given,
 };
 use crate::queue::queue_asked;
 use clap::error::ErrorKind;
@@ -80,10 +80,12 @@ fn deliver_asked<'a>(given: &ArgMatches<'a>) -> Result<TillTask<'a>, NoTask>
     let ledger = ledger_path(given)?;
     let address = address_of(given)?;
     let openings = count_of(given, "openings", OPENINGS, MOST_OPENINGS)?;
+    let patience = count_of(given, "patience", PATIENCE, MOST_WAIT)?;
     let copy = copy_given(given)?;
     let delivery = Delivery {
         address,
         openings,
+        patience,
         copy,
     };
     match wait_given(given)? {
@@ -224,7 +226,8 @@ fn queue_command<'a>(alloc: Global) -> Result<Command<'a>, AllocError>
         .arg(ledger_argument(alloc))?
         .arg(option(alloc, "width", false))?
         .arg(option(alloc, "replace", false))?
-        .arg(option(alloc, "again", false))?;
+        .arg(option(alloc, "again", false))?
+        .arg(flag(alloc, "raw"))?;
     Ok(command)
 }
 
@@ -237,7 +240,8 @@ fn deliver_command<'a>(alloc: Global) -> Result<Command<'a>, AllocError>
         .arg(address(alloc))?
         .arg(option(alloc, "openings", false))?
         .arg(option(alloc, "copy", false))?
-        .arg(option(alloc, "wait", false))?;
+        .arg(option(alloc, "wait", false))?
+        .arg(option(alloc, "patience", false))?;
     Ok(command)
 }
 

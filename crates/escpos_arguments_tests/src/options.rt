@@ -3,11 +3,13 @@
 use crate::support::asking::{asks_for, printer};
 use escpos_arguments::task_of;
 use escpos_command::LineWidth;
+use escpos_jobs::address::AddressText;
 use escpos_jobs::emulate::ONLINE;
 use escpos_jobs::task::{NoTask, Task};
 use escpos_printer::Condition;
 use escpos_receipt::ReceiptOptions;
 use escpos_text::Replacement;
+use std::alloc::Global;
 use std::process::Abort;
 
 fn wide(rt: &impl Abort, dots: u16) -> LineWidth {
@@ -97,6 +99,117 @@ fn widths_of_emulate(rt: HostRuntime) {
             Ok(task),
         );
     }
+}
+
+// The file of a condition, with a condition until it is read, a width, and for so many links or to be followed.
+#[test]
+fn files_of_emulate(rt: HostRuntime) {
+    let open = Condition {
+        cover_open: true,
+        ..ONLINE
+    };
+    let usual = LineWidth::usual();
+    let width = wide(&rt, 576);
+    let rows: [(&[&str], Option<u32>, Condition, LineWidth); 7] = [
+        (&["--condition-file", "paper"], Some(1), ONLINE, usual),
+        (&["--condition-file=paper"], Some(1), ONLINE, usual),
+        (
+            &["--condition-file", "paper", "--links", "9"],
+            Some(9),
+            ONLINE,
+            usual,
+        ),
+        (
+            &["--condition=100", "--condition-file", "paper"],
+            Some(1),
+            open,
+            usual,
+        ),
+        (
+            &["--follow", "--condition-file", "paper"],
+            None,
+            ONLINE,
+            usual,
+        ),
+        (
+            &["--condition-file", "paper", "--width", "576"],
+            Some(1),
+            ONLINE,
+            width,
+        ),
+        (
+            &[
+                "--width=576",
+                "--condition-file=paper",
+                "--condition",
+                "100",
+                "--follow",
+            ],
+            None,
+            open,
+            width,
+        ),
+    ];
+    let file = AddressText::of("paper").expect(&rt, "a path");
+    for (words, links, condition, width) in rows {
+        let task = Task::EmulateBy {
+            address: printer(),
+            links,
+            condition,
+            width,
+            file,
+        };
+        asks_after(&rt, rt.alloc(), words, Ok(task));
+    }
+}
+
+// What `emulate` at a printer's address asks for with these words.
+fn asks_after(rt: &impl Abort, alloc: Global, words: &[&str], asked: Result<Task, NoTask>) {
+    let mut given = Vec::new(alloc);
+    given.push("emulate").expect(rt, "memory");
+    given.push("127.0.0.1:9100").expect(rt, "memory");
+    given.extend_from_slice(words).expect(rt, "memory");
+    asks_for(rt, alloc, given.as_slice(), asked);
+}
+
+// What `emulate` with the file of a condition at this path asks for.
+fn asks_with_path<'a>(rt: &impl Abort, alloc: Global, path: &'a str, asked: Result<Task, NoTask>) {
+    let mut given = Vec::new(alloc);
+    given.push("emulate").expect(rt, "memory");
+    given.push("127.0.0.1:9100").expect(rt, "memory");
+    given.push("--condition-file").expect(rt, "memory");
+    given.push(path).expect(rt, "memory");
+    asks_for(rt, alloc, given.as_slice(), asked);
+}
+
+// Words with the file of a condition that ask for nothing.
+const NO_FILES: [&'static [&'static str]; 6] = [
+    &["--condition-file"],
+    &["--condition-file", "a", "--condition-file", "a"],
+    &["--condition-file", "a", "--condition", "2"],
+    &["--condition-file", "a", "--links", "0"],
+    &["--condition-file", "a", "--links", "1", "--follow"],
+    &["--condition-file", "a", "--width", "0"],
+];
+
+// A path has at most 259 bytes, and stands once; the other words are refused as without it.
+#[test]
+fn files_that_ask_for_nothing(rt: HostRuntime) {
+    for words in &NO_FILES {
+        asks_after(&rt, rt.alloc(), words, Err(NoTask::Usage));
+    }
+    let bytes = [b'p'; 260];
+    let long = str::from_utf8(&bytes).expect(&rt, "text");
+    asks_with_path(&rt, rt.alloc(), long, Err(NoTask::Usage));
+    let longest = str::from_utf8(&bytes[1..]).expect(&rt, "text");
+    let task = Task::EmulateBy {
+        address: printer(),
+        links: Some(1),
+        condition: ONLINE,
+        width: LineWidth::usual(),
+        file: AddressText::of(longest).expect(&rt, "a path"),
+    };
+    asks_with_path(&rt, rt.alloc(), longest, Ok(task));
 }
 
 // Words with a width that ask for nothing.

@@ -17,13 +17,17 @@ const LONG: &str = "0123456789 0123456789 0123456789 012345678";
 
 const TOO_LONG: &str = "0123456789 0123456789 0123456789 0123456789";
 
-// The arguments after `deliver till 127.0.0.1:9100`, with how many opening marks they ask for, and whether for a copy's line.
-const DELIVERIES: [(&'static [&'static str], u32, bool); 5] = [
-    (&[], 3, false),
-    (&["--openings", "1"], 1, false),
-    (&["--openings=99"], 99, false),
-    (&["--copy", LONG], 3, true),
-    (&["--copy=~", "--openings", "2"], 2, true),
+// The arguments after `deliver till 127.0.0.1:9100`, with how many opening marks and how much patience they ask for, and whether for a
+// copy's line.
+const DELIVERIES: [(&'static [&'static str], u32, u32, bool); 8] = [
+    (&[], 3, 600, false),
+    (&["--openings", "1"], 1, 600, false),
+    (&["--openings=99"], 99, 600, false),
+    (&["--copy", LONG], 3, 600, true),
+    (&["--copy=~", "--openings", "2"], 2, 600, true),
+    (&["--patience", "1"], 3, 1, false),
+    (&["--patience=3600"], 3, 3_600, false),
+    (&["--patience", "20", "--openings", "7"], 7, 20, false),
 ];
 
 fn asks_for_delivery(rt: &impl Abort, alloc: Global, given: &[&'static str], wanted: Plain) {
@@ -36,26 +40,34 @@ fn asks_for_delivery(rt: &impl Abort, alloc: Global, given: &[&'static str], wan
 
 #[test]
 fn deliveries(rt: HostRuntime) {
-    for (given, openings, has_copy) in &DELIVERIES {
-        let wanted = Plain::Deliver("till", Some(printer_address()), *openings, *has_copy);
+    for (given, openings, patience, has_copy) in &DELIVERIES {
+        let wanted = Plain::Deliver(
+            "till",
+            Some(printer_address()),
+            *openings,
+            *patience,
+            *has_copy,
+        );
         asks_for_delivery(&rt, rt.alloc(), given, wanted);
     }
 }
 
 // The same with `--wait`, and how many seconds a wait may last.
-const WAITING: [(&'static [&'static str], u32, bool, u32); 3] = [
-    (&["--wait", "1"], 3, false, 1),
-    (&["--wait=3600", "--openings", "2"], 2, false, 3_600),
-    (&["--copy", "COPY", "--wait", "30"], 3, true, 30),
+const WAITING: [(&'static [&'static str], u32, u32, bool, u32); 4] = [
+    (&["--wait", "1"], 3, 600, false, 1),
+    (&["--wait=3600", "--openings", "2"], 2, 600, false, 3_600),
+    (&["--copy", "COPY", "--wait", "30"], 3, 600, true, 30),
+    (&["--wait", "5", "--patience", "60"], 3, 60, false, 5),
 ];
 
 #[test]
 fn deliveries_that_wait(rt: HostRuntime) {
-    for (given, openings, has_copy, seconds) in &WAITING {
+    for (given, openings, patience, has_copy, seconds) in &WAITING {
         let wanted = Plain::Within(
             "till",
             Some(printer_address()),
             *openings,
+            *patience,
             *has_copy,
             *seconds,
         );
@@ -63,7 +75,7 @@ fn deliveries_that_wait(rt: HostRuntime) {
     }
 }
 
-const ASKED: [(&'static [&'static str], Result<Plain<'static>, NoTask>); 24] = [
+const ASKED: [(&'static [&'static str], Result<Plain<'static>, NoTask>); 27] = [
     (&["queue", "till"], Ok(Plain::Queue("till", 512, None))),
     (
         &["queue", "a/till.db"],
@@ -85,6 +97,12 @@ const ASKED: [(&'static [&'static str], Result<Plain<'static>, NoTask>); 24] = [
         &["queue", "--replace", " ", "till"],
         Ok(Plain::Queue("till", 512, Some(' '))),
     ),
+    (&["queue", "till", "--raw"], Ok(Plain::Raw("till", 512))),
+    (
+        &["queue", "--raw", "till", "--width", "384"],
+        Ok(Plain::Raw("till", 384)),
+    ),
+    (&["queue", "till", "--raw", "-h"], Err(NoTask::Help)),
     (
         &["queue", "till", "--again", "1"],
         Ok(Plain::Again("till", 1)),
@@ -127,7 +145,7 @@ const ASKED: [(&'static [&'static str], Result<Plain<'static>, NoTask>); 24] = [
 ];
 
 // Words that ask for nothing.
-const USAGE: [&'static [&'static str]; 56] = [
+const USAGE: [&'static [&'static str]; 69] = [
     &[],
     &["check"],
     &["queue"],
@@ -140,6 +158,13 @@ const USAGE: [&'static [&'static str]; 56] = [
     &["queue", "till", "--replace", ""],
     &["queue", "till", "--replace", "??"],
     &["queue", "till", "--replace", "é"],
+    &["queue", "--raw"],
+    &["queue", "till", "--raw", "--raw"],
+    &["queue", "till", "--raw", "1"],
+    &["queue", "till", "--raw", "--replace", "?"],
+    &["queue", "till", "--raw", "--again", "1"],
+    &["queue", "till", "--raw", "--width", "0"],
+    &["ledger", "till", "--raw"],
     &["queue", "--again", "1"],
     &["queue", "till", "--again"],
     &["queue", "till", "--again", "0"],
@@ -167,6 +192,12 @@ const USAGE: [&'static [&'static str]; 56] = [
     &["deliver", "till", ADDRESS, "--wait", "0"],
     &["deliver", "till", ADDRESS, "--wait", "3601"],
     &["deliver", "till", ADDRESS, "--wait", "1", "--wait", "1"],
+    &["deliver", "till", ADDRESS, "--patience"],
+    &["deliver", "till", ADDRESS, "--patience", "0"],
+    &["deliver", "till", ADDRESS, "--patience", "3601"],
+    &["deliver", "till", ADDRESS, "--patience", "ten"],
+    &["send", ADDRESS, "--first", "1", "--patience", "1"],
+    &["ledger", "till", "--patience", "1"],
     &["ledger", "till", "--wait", "1"],
     &["cancel"],
     &["cancel", "till"],

@@ -1,7 +1,9 @@
 pub mod StateLines
 pub mod LinkLines
 pub mod Outcomes
+pub mod Pausing
 pub mod Rounds
 pub mod Tasks
+pub mod RawTasks
 pub mod Contents
 mod RefusalLines

@@ -2,8 +2,10 @@ pub mod Lines
 pub mod Opening
 pub mod Outcomes
 pub mod Outputs
+pub mod Pauses
 pub mod Delivering
 pub mod LinkLine
 pub mod Again
 pub mod Words
+pub mod Raw
 pub mod Performing

@@ -12,12 +12,14 @@ use Rattle.escpos_till.specs.declared.machine.TillNote.{TillNote}
 use Rattle.escpos_till.specs.declared.machine.TillNote.TheVariants as note
 use Rattle.escpos_till.specs.declared.machine.TillRefusal.{TillRefusal}
 use Rattle.escpos_till.specs.declared.machine.TillRefusal.TheVariants as refusal
+use Rattle.escpos_till.specs.declared.pause.Pause.{Pause}
 use Rattle.escpos_till.specs.declared.state.ReceiptState.{ReceiptState}
 use Rattle.escpos_till.specs.declared.state.ReceiptState.TheVariants as state
 use Rattle.escpos_till.specs.declared.store.NoStore.{NoStore}
 use Rattle.escpos_till.specs.declared.store.NoStore.TheVariants as none
 use Rattle.escpos_till.specs.declared.store.StoreFault.TheVariants as store
 use Rattle.escpos_till.specs.Entries.{next_free, states}
+use Rattle.escpos_till.specs.Pauses.{name_of, told_name}
 use Rattle.escpos_till_jobs.specs.declared.outcome.Outcome.{Outcome}
 use Rattle.escpos_till_jobs.specs.declared.outcome.Outcome.TheVariants as outcome
 
@@ -59,6 +61,20 @@ cancelled_line number tried =
 abbrev pub waiting_line : ℕ → List ℕ → List ℕ
 waiting_line number why = codes "waiting " ++ decimal number ++ codes " " ++ why ++ LF ∷ []
 
+-- The printer prints nothing for now, while the receipt with this number is being sent.
+abbrev pub pause_line : ℕ → Pause → List ℕ
+pause_line number why = codes "paused " ++ decimal number ++ codes " " ++ told_name why ++ LF ∷ []
+
+-- The note says that.
+abbrev pub IsPauseNote : TillNote → Type 0
+IsPauseNote (note.Paused number why) = Unit {0}
+IsPauseNote n = ⊥
+
+-- Its line; a note that says something else has none here.
+abbrev pub pause_text : TillNote → List ℕ
+pause_text (note.Paused number why) = pause_line number why
+pause_text n = []
+
 -- Why a call was refused. That nothing waits gives no line.
 abbrev pub refusal_text : TillRefusal → List ℕ
 refusal_text refusal.Busy = failed_line
@@ -94,6 +110,8 @@ note_line (note.Cancelled number tried) = cancelled_line number tried
 note_line (note.Recorded number) = recorded_line number
 note_line (note.NoLink number) = waiting_line number (codes "no link")
 note_line (note.Waiting number why) = if is_memory_fault why then memory_line else waiting_line number (fault_name why)
+note_line (note.Paused number why) = waiting_line number (name_of why)
+note_line (note.StillPaused number why) = waiting_line number (name_of why)
 note_line (note.NotKept store.Memory) = memory_line
 note_line (note.NotKept store.Failed) = failed_line
 
@@ -104,6 +122,8 @@ note_status (note.Cancelled number tried) = Good
 note_status (note.Recorded number) = Good
 note_status (note.NoLink number) = Device
 note_status (note.Waiting number why) = status_of_fault why
+note_status (note.Paused number why) = Device
+note_status (note.StillPaused number why) = Device
 note_status (note.NotKept store.Memory) = Memory
 note_status (note.NotKept store.Failed) = Device
 

@@ -8,6 +8,7 @@ use Rattle.escpos_till.specs.Driver.{Breaks, Deed, Ends, Gives, HangsUp, Links, 
 use Rattle.escpos_till_jobs.specs.declared.link_line.AtAddress.{AtAddress}
 use Rattle.escpos_till_jobs.specs.declared.link_line.Link.{Link}
 use Rattle.escpos_till_jobs.specs.declared.link_line.LinkLine.{LinkLine}
+use Rattle.escpos_till_jobs.specs.declared.link_line.Waits.{Waits}
 
 -- What is known of sources, and of sinks.
 pub record Source (R : Type 0) : Type 0 where
@@ -52,14 +53,21 @@ LinkDid from to old (Gives room bytes) new = (new.writer ≡ old.writer) × Cons
 LinkDid from to old (Ends why) new = (new.writer ≡ old.writer) × Consumes (from.to_come old.reader) (from.to_come new.reader) [] × SourceSays from new.reader why
 LinkDid from to old deed new = ⊥
 
--- It is done with the link that is open, which stays open.
-pub record WithLink {R W D : Type 0} (from : Source R) (to : Sink W) (old : LinkLine R W D) (deed : Deed) (new : LinkLine R W D) : Type 0 where
+-- The dialler made the link wait in another way, or it was left as it was.
+abbrev pub IsPaced : {R W D : Type 0} → (D → Link R W → Bool → Link R W → D → Type 0) → D → Link R W → Link R W → D → Type 0
+IsPaced paced old before after new = ((after ≡ before) × (new ≡ old)) ⊎ ((patient : Bool) × paced old before patient after new)
+
+-- It is done with the link that is open, once that waits as it is to; the link stays open.
+pub record WithLink {R W D : Type 0} (from : Source R) (to : Sink W) (paced : D → Link R W → Bool → Link R W → D → Type 0) (old : LinkLine R W D) (deed : Deed) (new : LinkLine R W D) : Type 0 where
   pub before : Link R W
+  pub waiting : Link R W
   pub after : Link R W
   pub was : old.link ≡ Some before
   pub is : new.link ≡ Some after
-  pub dialler : new.dialler ≡ old.dialler
-  pub done : LinkDid from to before deed after
+  pub waits : IsPaced paced old.dialler before waiting new.dialler
+  pub to_come : from.to_come waiting.reader ≡ from.to_come before.reader
+  pub written : to.written waiting.writer ≡ to.written before.writer
+  pub done : LinkDid from to waiting deed after
 
 -- There is no link.
 abbrev pub LacksLink : {R W D : Type 0} → LinkLine R W D → LinkLine R W D → Type 0
@@ -78,21 +86,21 @@ pub record Dialled {R W D : Type 0} (dialled : D → Option (Link R W) → D →
   pub is : new.link ≡ link
 
 -- What each deed does; where there is no link, nothing is put, and nothing comes. A deed of the store or of the owner isn't the line's.
-abbrev pub OverLink : {R W D : Type 0} → Source R → Sink W → (D → Option (Link R W) → D → Type 0) → (D → Link R W → D → Type 0) → LinkLine R W D → Deed → LinkLine R W D → Type 0
-OverLink from to dialled closed old Links new = (link : Link _ _) × Dialled dialled old (Some link) new
-OverLink from to dialled closed old Misses new = Dialled dialled old None new
-OverLink from to dialled closed old (Puts bytes) new = WithLink from to old (Puts bytes) new
-OverLink from to dialled closed old (Breaks bytes why) new = (LacksLink old new × (why ≡ fault.WriteFault)) ⊎ WithLink from to old (Breaks bytes why) new
-OverLink from to dialled closed old (Gives room bytes) new = WithLink from to old (Gives room bytes) new
-OverLink from to dialled closed old (Ends why) new = (LacksLink old new × (why ≡ fault.Ended)) ⊎ WithLink from to old (Ends why) new
-OverLink from to dialled closed old HangsUp new = LacksLink old new ⊎ TakenBack closed old new
-OverLink from to dialled closed old deed new = ⊥
+abbrev pub OverLink : {R W D : Type 0} → Source R → Sink W → (D → Option (Link R W) → D → Type 0) → (D → Link R W → Bool → Link R W → D → Type 0) → (D → Link R W → D → Type 0) → LinkLine R W D → Deed → LinkLine R W D → Type 0
+OverLink from to dialled paced closed old Links new = (link : Link _ _) × Dialled dialled old (Some link) new
+OverLink from to dialled paced closed old Misses new = Dialled dialled old None new
+OverLink from to dialled paced closed old (Puts bytes) new = WithLink from to paced old (Puts bytes) new
+OverLink from to dialled paced closed old (Breaks bytes why) new = (LacksLink old new × (why ≡ fault.WriteFault)) ⊎ WithLink from to paced old (Breaks bytes why) new
+OverLink from to dialled paced closed old (Gives room bytes) new = WithLink from to paced old (Gives room bytes) new
+OverLink from to dialled paced closed old (Ends why) new = (LacksLink old new × (why ≡ fault.Ended)) ⊎ WithLink from to paced old (Ends why) new
+OverLink from to dialled paced closed old HangsUp new = LacksLink old new ⊎ TakenBack closed old new
+OverLink from to dialled paced closed old deed new = ⊥
 
--- The dialler dials this address over this network; if a number is given, with waits of at most so many seconds.
-pub record Dials {N : Type 0} (net : N) (address : Address) (wait : Option ℕ) (d : AtAddress N) : Type 0 where
+-- The dialler dials this address over this network, with links that wait so.
+pub record Dials {N : Type 0} (net : N) (address : Address) (waits : Waits) (d : AtAddress N) : Type 0 where
   pub to : d.address ≡ address
   pub over : d.net.now ≡ net
-  pub within : d.wait ≡ wait
+  pub within : d.waits ≡ waits
 
 -- This is all that can be done where there never is a link.
 abbrev pub HasNoLink : Deed → Type 0

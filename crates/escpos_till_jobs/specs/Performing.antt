@@ -13,9 +13,10 @@ use Rattle.escpos_receipt.specs.declared.json.JsonError.TheVariants as json
 use Rattle.escpos_receipt.specs.declared.options.ReceiptOptions.{ReceiptOptions}
 use Rattle.escpos_receipt.specs.Describes.{IsFaultWith}
 use Rattle.escpos_till.specs.declared.entry.Content.{Content}
-use Rattle.escpos_till.specs.Contents.{GivesReceipt, content_with}
+use Rattle.escpos_till.specs.Contents.{GivesReceipt, TextGives, content_with}
 use Rattle.escpos_till.specs.Driver.{Deed}
 use Rattle.escpos_till_jobs.specs.declared.deliver.Delivery.{Delivery}
+use Rattle.escpos_till_jobs.specs.declared.link_line.Waits.{Waits}
 use Rattle.escpos_till_jobs.specs.declared.task.TillTask.{TillTask}
 use Rattle.escpos_till_jobs.specs.declared.task.TillTask.TheVariants as task
 use Rattle.escpos_till_jobs.specs.declared.word.Word.TheVariants as word
@@ -28,6 +29,7 @@ use Rattle.escpos_till_jobs.specs.Words.{InLedger, Place}
 pub record Reads (options : ReceiptOptions) (came : Option (List ℕ)) (content : Content) : Type 0 where
   pub text : IfSome came (λ bytes. (length bytes ≤ INPUT_LIMIT) × (content ≡ content_with options bytes))
   pub receipt : GivesReceipt content
+  pub described : TextGives options content.text
 
 -- Why the input gives none, and what is printed; where the input itself has failed, nothing is.
 abbrev pub RefusesFor : NoReceipt → ReceiptOptions → Option (List ℕ) → Bool → Output → Output → Status → Type 0
@@ -53,16 +55,16 @@ QueuesAgainAt {F} {S} {L} p did ledgers before after end status path number = (l
 
 -- What is known of lines.
 pub record Way (P L : Type 0) : Type 1 where
-  pub made : P → Address → Option ℕ → L → P → Type 0
+  pub made : P → Address → Waits → L → P → Type 0
   pub ended : P → L → P → Type 0
 
-abbrev pub way : {P L : Type 0} → (P → Address → Option ℕ → L → P → Type 0) → (P → L → P → Type 0) → Way P L
+abbrev pub way : {P L : Type 0} → (P → Address → Waits → L → P → Type 0) → (P → L → P → Type 0) → Way P L
 way made ended = record { made = made; ended = ended }
 
--- A line is made for the delivery's address and this wait, the receipts that wait are delivered over it, and it is taken back. No other is made.
+-- A line is made for the delivery's address, with this wait and the delivery's patience, the receipts that wait are delivered over it, and it is taken back. No other is made.
 abbrev pub DeliversAt : {F S P L : Type 0} → Place F S → Way P L → (L → Deed → L → Type 0) → Option ℕ → F → P → Output → F → P → Output → Status → List ℕ → Delivery → Type 0
 DeliversAt {F} {S} {P} {L} p by did wait ledgers lines before after lines_after end status path delivery =
-    (line new : L) × (mid : P) × by.made lines delivery.address wait line mid × InLedger p did path (word.Deliver delivery) ledgers line before after new end status × by.ended mid new lines_after
+    (line new : L) × (mid : P) × by.made lines delivery.address (record { wait = wait; patience = delivery.patience }) line mid × InLedger p did path (word.Deliver delivery) ledgers line before after new end status × by.ended mid new lines_after
 
 abbrev pub CancelsAt : {F S L : Type 0} → Place F S → (L → Deed → L → Type 0) → F → Output → F → Output → Status → List ℕ → ℕ → Type 0
 CancelsAt {F} {S} {L} p did ledgers before after end status path number = (line new : L) × InLedger p did path (word.Cancel number) ledgers line before after new end status
@@ -76,6 +78,10 @@ ListsAt {F} {S} {L} p did ledgers before after end status path first = (line new
 abbrev pub OfQueue : (List ℕ → ReceiptOptions → Type 0) → TillTask → Type 0
 OfQueue Holds (task.Queue path options) = Holds path options
 OfQueue Holds t = Unit {0}
+
+abbrev pub OfQueueRaw : (List ℕ → ℕ → Type 0) → TillTask → Type 0
+OfQueueRaw Holds (task.QueueRaw path width) = Holds path width
+OfQueueRaw Holds t = Unit {0}
 
 abbrev pub OfQueueAgain : (List ℕ → ℕ → Type 0) → TillTask → Type 0
 OfQueueAgain Holds (task.QueueAgain path number) = Holds path number
@@ -103,7 +109,14 @@ UnlessDeliver Holds (task.Deliver path delivery) = Unit {0}
 UnlessDeliver Holds (task.DeliverWithin path delivery wait) = Unit {0}
 UnlessDeliver Holds t = Holds
 
+-- This holds if the task is to take a receipt that is read.
+abbrev pub OfReading : Type 0 → TillTask → Type 0
+OfReading Holds (task.Queue path options) = Holds
+OfReading Holds (task.QueueRaw path width) = Holds
+OfReading Holds t = Unit {0}
+
 -- This holds unless the task is to take a receipt that is read.
-abbrev pub UnlessQueue : Type 0 → TillTask → Type 0
-UnlessQueue Holds (task.Queue path options) = Unit {0}
-UnlessQueue Holds t = Holds
+abbrev pub UnlessReading : Type 0 → TillTask → Type 0
+UnlessReading Holds (task.Queue path options) = Unit {0}
+UnlessReading Holds (task.QueueRaw path width) = Unit {0}
+UnlessReading Holds t = Holds

@@ -81,15 +81,15 @@ fn content_again(
     read_again(alloc, content)
 }
 
-// Reads a content's text once more.
+// Reads a content once more.
 fn read_again(alloc: Global, content: &Content) -> Result<ReceiptContent, NotAgain>
     ensures same { IfOk result (λ again. (again ≡ content.now) × GivesReceipt again) }
     ensures none { IfErr result (λ why. (error : JsonError) × (why ≡ NotAgain.Text error) × WhyNone error content.now) }
 {
-    let Ok(text) = content.bytes().to_vec(alloc) else {
+    let Ok(content) = content.copy(alloc) else {
         return Err(NotAgain::Text(JsonError::Memory));
     };
-    match ReceiptContent::read(alloc, &content.options, text) {
+    match ReceiptContent::again(alloc, content) {
         Ok(again) => Ok(again),
         Err(error) => Err(NotAgain::Text(error)),
     }

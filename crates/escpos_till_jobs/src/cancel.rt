@@ -7,7 +7,8 @@ ghost use Rattle.escpos_till.specs.Machine.{RefusesCancel};
 ghost use Rattle.escpos_till.specs.Surroundings.{Did};
 ghost use Rattle.escpos_till_jobs.specs.Outcomes.{Becomes, BecomesAndTells};
 
-use crate::outcome::{Outcome, follow, tell};
+use crate::following::follow;
+use crate::outcome::{Outcome, tell};
 use escpos_io::ByteOut;
 use escpos_jobs::status::Status;
 use escpos_till::{PrinterLine, ReceiptNumber, Store, Surroundings, TillMachine};

@@ -3,18 +3,15 @@
 //! Each goes over a link of its own. What a machine does for one, and in which order, is left to escpos_till; here it is asked for
 //! one receipt after another, and what it tells is printed.
 
-ghost use Rattle.std.specs.Prelude.{◌≡◌, ◌≢◌, ℕ, IfErr, OnOk, IsTrue};
-ghost use Rattle.escpos_till.specs.Driver.{Deliver, Serves};
-ghost use Rattle.escpos_till.specs.declared.machine.TillNote.TheVariants as note;
+ghost use Rattle.std.specs.Prelude.{◌≡◌, ◌≢◌, IfErr, OnOk, IsTrue};
 ghost use Rattle.escpos_till.specs.Machine.{RefusesDeliver};
 ghost use Rattle.escpos_till.specs.Surroundings.{Did};
-ghost use Rattle.escpos_till_jobs.specs.Delivering.{DeliversAndTells, RoundEnds, asked};
-ghost use Rattle.escpos_till_jobs.specs.Lines.{recorded_line};
-ghost use Rattle.escpos_till_jobs.specs.Outcomes.{Becomes};
-ghost use Rattle.escpos_till_jobs.specs.Outputs.{Took, output_of};
-ghost use Rattle.escpos_till_jobs.specs.declared.outcome.TheConstants.{MOST_DEEDS};
+ghost use Rattle.escpos_till_jobs.specs.Delivering.{DeliversAndTells, RoundEnds, RoundGoes, asked};
+ghost use Rattle.escpos_till_jobs.specs.Outputs.{output_of};
+ghost use Rattle.escpos_till_jobs.specs.Pauses.{BecomesTelling};
 
-use crate::outcome::{Outcome, follow, tell, tell_if_recorded};
+use crate::following::{Followed, follow_telling};
+use crate::outcome::{Outcome, tell, tell_if_recorded};
 use escpos_io::ByteOut;
 use escpos_jobs::address::Address;
 use escpos_jobs::send::ANSWERS_LIMIT;
@@ -28,6 +25,8 @@ pub struct Delivery<'a> {
     pub address: Address,
     /// How many opening marks are sent on each link; 0 counts as 1.
     pub openings: u32,
+    /// How many seconds a printer is waited for that says that it prints nothing for now.
+    pub patience: u32,
     /// The text of a line that is put before a receipt which was tried before, and so may be on the paper already.
     pub copy: Option<CopyText<'a>>,
 }
@@ -35,7 +34,7 @@ pub struct Delivery<'a> {
 /// Sends each receipt that waits, in the order of their numbers, until one isn't recorded.
 ///
 /// Each gives one line: `recorded N` once that would outlive a crash; for the first that isn't recorded `waiting N WHY`, or
-/// `ledger failed`, or `memory`. The status is `Good` if none waits any more. It is `Refused` if too few mark numbers are
+/// `ledger failed`, or `memory`. Before it a line `paused N WHY` is printed each time that the printer says that it prints nothing for now. The status is `Good` if none waits any more. It is `Refused` if too few mark numbers are
 /// left, or the ledger's text gives no receipt; `Memory` if an allocation failed; and `Device` for every other reason, and
 /// if `output` has failed.
 pub fn deliver_waiting<S: Store, L: PrinterLine, W: ByteOut>(
@@ -64,33 +63,43 @@ fn deliver_next<S: Store, L: PrinterLine, W: ByteOut>(
     delivery: &Delivery<'_>,
     output: &mut W,
 ) -> Result<(), Status>
-    ensures recorded { OnOk result ((number : ℕ) × Serves (Did S.faithful S.holds S.leaves S.says L.did) machine.old around.old (asked delivery.now) (note.Recorded number) MOST_DEEDS machine.new around.new
-        × Took (output_of (W.written output.old) (W.failed output.old)) (recorded_line number) (output_of (W.written output.new) (W.failed output.new))) }
+    ensures recorded { OnOk result (RoundGoes (Did S.faithful S.holds S.leaves S.says L.did) delivery.now machine.old around.old (output_of (W.written output.old) (W.failed output.old))
+        machine.new around.new (output_of (W.written output.new) (W.failed output.new))) }
     ensures ended { IfErr result (λ status. RoundEnds (Did S.faithful S.holds S.leaves S.says L.did) delivery.now machine.old around.old (output_of (W.written output.old) (W.failed output.old))
         machine.new around.new (output_of (W.written output.new) (W.failed output.new)) status) }
     ensures not_hidden { IfErr result (λ status. status ≢ Status.Device → ¬ IsTrue (W.failed output.old) → ¬ IsTrue (W.failed output.new)) }
     ensures never_usage { IfErr result (λ status. status ≢ Status.Usage) }
 {
-    match delivered(machine, around, delivery) {
+    let Followed { outcome, told } = delivered(machine, around, delivery, output);
+    if !told {
+        return Err(Status::Device);
+    }
+    match outcome {
         Outcome::Told(note) => tell_if_recorded(note, output),
         outcome => Err(tell(outcome, output)),
     }
 }
 
-// Sends the first receipt that waits.
-fn delivered<S: Store, L: PrinterLine>(
+// Sends the first receipt that waits, and prints each pause of the printer.
+fn delivered<S: Store, L: PrinterLine, W: ByteOut>(
     machine: &mut TillMachine,
     around: &mut Surroundings<S, L>,
     delivery: &Delivery<'_>,
-) -> Outcome
-    ensures { Becomes (Did S.faithful S.holds S.leaves S.says L.did) (RefusesDeliver machine.old delivery.now.openings) machine.old around.old (asked delivery.now) result machine.new around.new }
+    output: &mut W,
+) -> Followed
+    ensures not_hidden { IsTrue result.told → ¬ IsTrue (W.failed output.old) → ¬ IsTrue (W.failed output.new) }
+    ensures becomes { BecomesTelling (Did S.faithful S.holds S.leaves S.says L.did) (RefusesDeliver machine.old delivery.now.openings) machine.old around.old (asked delivery.now)
+        (output_of (W.written output.old) (W.failed output.old)) result machine.new around.new (output_of (W.written output.new) (W.failed output.new)) }
 {
     match machine.deliver(delivery.openings, delivery.copy.as_ref(), ANSWERS_LIMIT) {
         Ok(()) => {
             // Proof only: what is to be sent is a receipt.
             machine.is_sound();
-            follow(machine, around)
+            follow_telling(machine, around, output)
         }
-        Err(why) => Outcome::Refused(why),
+        Err(why) => Followed {
+            outcome: Outcome::Refused(why),
+            told: true,
+        },
     }
 }

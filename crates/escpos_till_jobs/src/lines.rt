@@ -1,25 +1,26 @@
 //! How lines to printers are made: over a network, a line for each address.
 
-ghost use Rattle.std.specs.Prelude.{◌≡◌, ℕ, None, Option};
+ghost use Rattle.std.specs.Prelude.{◌≡◌, None};
 ghost use Rattle.escpos_jobs.specs.declared.address.Address.{Address as Where};
+ghost use Rattle.escpos_till_jobs.specs.declared.link_line.Waits.{Waits as HowLong};
 ghost use Rattle.escpos_till_jobs.specs.LinkLine.{Dials};
 
-use crate::link_line::{AtAddress, LinkLine};
+use crate::link_line::{AtAddress, LinkLine, Waits};
 use escpos_io::{Incoming, Outgoing};
 use escpos_jobs::address::Address;
 use escpos_jobs::printer_link::{LinkReader, LinkWriter, Printers};
 
 /// How lines to printers are made.
 pub trait Lines<L> {
-    // For this address, and with waits of at most so many seconds if a number is given, it made this line, and then it is so.
-    ghost made: { Self → Where → Option ℕ → L → Self → Type 0 };
+    // For this address, and with these waits, it made this line, and then it is so.
+    ghost made: { Self → Where → HowLong → L → Self → Type 0 };
 
     // It took this line back, and then it is so.
     ghost ended: { Self → L → Self → Type 0 };
 
-    /// Makes a line to the printer at an address. If `wait` is given, no wait over it lasts longer than so many seconds.
-    fn line(&mut self, address: Address, wait: Option<u32>) -> L
-        ensures { made self.old address wait result self.new };
+    /// Makes a line to the printer at an address, with waits so long.
+    fn line(&mut self, address: Address, waits: Waits) -> L
+        ensures { made self.old address waits result self.new };
 
     /// Takes a line back that it made.
     fn end(&mut self, line: L)
@@ -49,12 +50,12 @@ impl<'n, N: Printers> NetworkLines<'n, N> {
 }
 
 impl<'n, N: Printers> Lines<NetworkLine<'n, N>> for NetworkLines<'n, N> {
-    ghost made = { λ old address wait line new. (new ≡ old) × (line.link ≡ None) × Dials old.net.now address wait line.dialler };
+    ghost made = { λ old address waits line new. (new ≡ old) × (line.link ≡ None) × Dials old.net.now address waits line.dialler };
 
     ghost ended = { λ old line new. new ≡ old };
 
-    fn line(&mut self, address: Address, wait: Option<u32>) -> NetworkLine<'n, N> {
-        LinkLine::new(AtAddress::new(self.net, address, wait))
+    fn line(&mut self, address: Address, waits: Waits) -> NetworkLine<'n, N> {
+        LinkLine::new(AtAddress::new(self.net, address, waits))
     }
 
     // A link that is open over it is closed.

@@ -2,10 +2,10 @@
 //!
 //! How a link is opened is left to whoever dials: over a network to a printer's address, or in memory.
 
-ghost use Rattle.std.specs.Prelude.{◌≡◌, ◌≤◌, length, take, Option, None, Some, IfErr, IfOk, OnOk, IsTrue};
+ghost use Rattle.std.specs.Prelude.{◌≡◌, ◌≤◌, Bool, length, take, Option, None, Some, IfErr, IfOk, IfSome, OnOk, IsTrue};
 ghost use Rattle.escpos_till.specs.Driver.{Breaks, Ends, Gives, HangsUp, Links, Misses, Puts};
 ghost use Rattle.escpos_till_jobs.specs.declared.link_line.Link.{Link as Opened};
-ghost use Rattle.escpos_till_jobs.specs.LinkLine.{Dials, HasNoLink, LinkDid, OverLink, sink, source};
+ghost use Rattle.escpos_till_jobs.specs.LinkLine.{Dials, HasNoLink, IsPaced, LinkDid, OverLink, sink, source};
 
 use escpos_host::SendFault;
 use escpos_io::{ByteIn, ByteOut, Failed, Incoming, Outgoing, put_all};
@@ -13,6 +13,7 @@ use escpos_jobs::address::Address;
 use escpos_jobs::printer_link::{LinkReader, LinkWriter, PrinterLink, Printers};
 use escpos_jobs::wait::Within;
 use escpos_till::PrinterLine;
+use std::time::Duration;
 
 /// A link: a source of answers, and a sink.
 #[derive(Drop)]
@@ -50,9 +51,12 @@ impl<R: ByteIn, W: ByteOut> Link<R, W> {
 }
 
 /// Opens links to a printer.
-pub trait Dial<R, W> {
+pub trait Dial<R: ByteIn, W: ByteOut> {
     // It opened this link, or none, and then it is so.
     ghost dialled: { Self → Option (Opened R W) → Self → Type 0 };
+
+    // It made this link wait so, which is that one then, and then it is so.
+    ghost paced: { Self → Opened R W → Bool → Opened R W → Self → Type 0 };
 
     // It closed this link, and then it is so.
     ghost closed: { Self → Opened R W → Self → Type 0 };
@@ -60,6 +64,13 @@ pub trait Dial<R, W> {
     /// Opens a link; `None` if there is none.
     fn dial(&mut self) -> Option<Link<R, W>>
         ensures { dialled self.old result self.new };
+
+    /// Makes a link that it opened wait for a printer that says that it prints nothing for now, if `patient` is true, and for any other
+    /// printer otherwise. What is put stays so, and so does what is to come.
+    fn pace(&mut self, link: Link<R, W>, patient: bool) -> Link<R, W>
+        ensures paced { paced self.old link patient result self.new }
+        ensures source { R.to_come result.reader ≡ R.to_come link.reader }
+        ensures sink { W.written result.writer ≡ W.written link.writer };
 
     /// Closes a link that it opened.
     fn close(&mut self, link: Link<R, W>)
@@ -71,6 +82,8 @@ pub trait Dial<R, W> {
 pub struct LinkLine<R: ByteIn, W: ByteOut, D: Dial<R, W>> {
     dialler: D,
     link: Option<Link<R, W>>,
+    // the link waits for a printer that prints nothing for now
+    patient: bool,
 }
 
 impl<R: ByteIn, W: ByteOut, D: Dial<R, W>> LinkLine<R, W, D> {
@@ -82,7 +95,23 @@ impl<R: ByteIn, W: ByteOut, D: Dial<R, W>> LinkLine<R, W, D> {
         LinkLine {
             dialler,
             link: None,
+            patient: false,
         }
+    }
+
+    // Takes the link out, if one is open, and makes it wait so.
+    fn take_paced(&mut self, patient: bool) -> Option<Link<R, W>>
+        ensures none { result ≡ None → (self.old.link ≡ None) × (self.new ≡ self.old) }
+        ensures some { IfSome result (λ link. (self.new.link ≡ None) × ((before : Opened R W) × (self.old.link ≡ Some before)
+            × IsPaced D.paced self.old.dialler before link self.new.dialler
+            × (R.to_come link.reader ≡ R.to_come before.reader) × (W.written link.writer ≡ W.written before.writer))) }
+    {
+        let link = self.link.take()?;
+        if patient == self.patient {
+            return Some(link);
+        }
+        self.patient = patient;
+        Some(self.dialler.pace(link, patient))
     }
 }
 
@@ -91,15 +120,17 @@ impl<R: ByteIn + Drop, W: ByteOut + Drop, D: Dial<R, W>> PrinterLine for LinkLin
         (source R.to_come R.ended R.failed R.timed_out)
         (sink W.written W.failed W.timed_out)
         D.dialled
+        D.paced
         D.closed };
 
     fn connect(&mut self) -> bool {
+        self.patient = false;
         self.link = self.dialler.dial();
         self.link.is_some()
     }
 
-    fn put(&mut self, bytes: &[u8]) -> Result<(), SendFault> {
-        let Some(mut link) = self.link.take() else {
+    fn put(&mut self, bytes: &[u8], patient: bool) -> Result<(), SendFault> {
+        let Some(mut link) = self.take_paced(patient) else {
             return Err(SendFault::WriteFault);
         };
         let put = link.put(bytes);
@@ -107,8 +138,8 @@ impl<R: ByteIn + Drop, W: ByteOut + Drop, D: Dial<R, W>> PrinterLine for LinkLin
         put
     }
 
-    fn pull(&mut self, room: &mut [u8]) -> Result<usize, SendFault> {
-        let Some(mut link) = self.link.take() else {
+    fn pull(&mut self, room: &mut [u8], patient: bool) -> Result<usize, SendFault> {
+        let Some(mut link) = self.take_paced(patient) else {
             return Err(SendFault::Ended);
         };
         let pulled = link.pull(room);
@@ -123,31 +154,59 @@ impl<R: ByteIn + Drop, W: ByteOut + Drop, D: Dial<R, W>> PrinterLine for LinkLin
     }
 }
 
+/// How long a printer is waited for, in seconds.
+#[derive(Clone, Copy, Debug, PartialEq, Eq)]
+pub struct Waits {
+    /// No wait lasts longer; `None` if each lasts as long as it takes.
+    pub wait: Option<u32>,
+    /// No wait lasts longer than this while the printer says that it prints nothing for now.
+    pub patience: u32,
+}
+
+impl Waits {
+    // No wait lasts longer, for a printer that prints nothing for now or for any other.
+    fn limit(self, patient: bool) -> Option<Duration> {
+        let seconds = if patient {
+            Some(self.patience)
+        } else {
+            self.wait
+        };
+        seconds.map(|seconds| Duration::from_secs(u64::from(seconds)))
+    }
+}
+
 /// Dials a printer's address over a network, or opens its device file.
 #[derive(Drop)]
 pub struct AtAddress<'n, N> {
     net: &'n N,
     address: Address,
-    wait: Option<u32>,
+    waits: Waits,
 }
 
 impl<'n, N: Printers> AtAddress<'n, N> {
-    /// Dials this address. If `wait` is given, no wait over its links lasts longer than so many seconds.
-    pub fn new(net: &'n N, address: Address, wait: Option<u32>) -> Self
-        ensures { Dials net.now address wait result }
+    /// Dials this address, with links that wait so.
+    pub fn new(net: &'n N, address: Address, waits: Waits) -> Self
+        ensures { Dials net.now address waits result }
     {
-        AtAddress { net, address, wait }
+        AtAddress {
+            net,
+            address,
+            waits,
+        }
     }
 }
 
 impl<N: Printers> Dial<Incoming<LinkReader>, Outgoing<LinkWriter>> for AtAddress<'_, N> {
-    // Which link it opens is the system's own; address, network and wait stay.
+    // Which link it opens is the system's own; address, network and waits stay.
     ghost dialled = { λ old link new. new ≡ old };
+
+    // What a link waits for is the system's own; it stays between the same ends.
+    ghost paced = { λ old link patient paced new. new ≡ old };
 
     ghost closed = { λ old link new. new ≡ old };
 
     fn dial(&mut self) -> Option<Link<Incoming<LinkReader>, Outgoing<LinkWriter>>> {
-        let connected = match self.wait {
+        let connected = match self.waits.wait {
             Some(seconds) => self.address.connect(&Within::new(self.net, seconds)),
             None => self.address.connect(self.net),
         };
@@ -157,6 +216,30 @@ impl<N: Printers> Dial<Incoming<LinkReader>, Outgoing<LinkWriter>> for AtAddress
                 writer: Outgoing::new(writer),
             }),
             Err(_) => None,
+        }
+    }
+
+    fn pace(
+        &mut self,
+        link: Link<Incoming<LinkReader>, Outgoing<LinkWriter>>,
+        patient: bool,
+    ) -> Link<Incoming<LinkReader>, Outgoing<LinkWriter>>
+        ensures paced { self.new ≡ self.old }
+        ensures source { ⟦<Incoming<LinkReader> as ByteIn>⟧.to_come result.reader ≡ ⟦<Incoming<LinkReader> as ByteIn>⟧.to_come link.reader }
+        ensures sink { ⟦<Outgoing<LinkWriter> as ByteOut>⟧.written result.writer ≡ ⟦<Outgoing<LinkWriter> as ByteOut>⟧.written link.writer }
+    {
+        if link.reader.has_failed() || link.reader.has_ended() || link.writer.has_failed() {
+            return link;
+        }
+        let limit = self.waits.limit(patient);
+        let Link { reader, writer } = link;
+        let mut reader = reader.into_inner();
+        reader.wait_within(limit);
+        let mut writer = writer.into_inner();
+        writer.wait_within(limit);
+        Link {
+            reader: Incoming::new(reader),
+            writer: Outgoing::new(writer),
         }
     }
 
@@ -179,11 +262,11 @@ impl PrinterLine for NoLine {
         false
     }
 
-    fn put(&mut self, _bytes: &[u8]) -> Result<(), SendFault> {
+    fn put(&mut self, _bytes: &[u8], _patient: bool) -> Result<(), SendFault> {
         Err(SendFault::WriteFault)
     }
 
-    fn pull(&mut self, _room: &mut [u8]) -> Result<usize, SendFault> {
+    fn pull(&mut self, _room: &mut [u8], _patient: bool) -> Result<usize, SendFault> {
         Err(SendFault::Ended)
     }
 

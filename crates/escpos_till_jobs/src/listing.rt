@@ -10,7 +10,8 @@ ghost use Rattle.escpos_till.specs.Surroundings.{Did};
 ghost use Rattle.escpos_till_jobs.specs.Lines.{next_line, state_line, state_lines, state_text};
 ghost use Rattle.escpos_till_jobs.specs.Outcomes.{Becomes, Lists, RaisesAndLists};
 
-use crate::outcome::{Outcome, follow, tell};
+use crate::following::follow;
+use crate::outcome::{Outcome, tell};
 use escpos_command::LF;
 use escpos_io::{ByteOut, Device, GATHERED_BYTES, Gather, append_number, laws};
 use escpos_jobs::status::Status;

@@ -3,11 +3,8 @@
 ghost use Rattle.std.specs.Prelude.{ℕ, ◌≡◌, ◌≢◌, ◌+◌, ◌≤◌, ◌++◌, [], ◌∷◌, decimal, length, IfErr, OnOk, IsTrue};
 ghost use Rattle.std.specs.Io.KnownBytes.{Appends};
 ghost use Rattle.escpos_jobs.specs.Ending.{Tells, job_end};
-ghost use Rattle.escpos_till.specs.Driver.{RanFor, RanTo};
-ghost use Rattle.escpos_till.specs.Machine.{Rests};
-ghost use Rattle.escpos_till.specs.Surroundings.{Did};
 ghost use Rattle.escpos_till_jobs.specs.Lines.{cancelled_line, note_line, note_status, number_line, outcome_line, outcome_status, recorded_line, refusal_status, refusal_text, waiting_line};
-ghost use Rattle.escpos_till_jobs.specs.Outcomes.{Follows, NoteEnds};
+ghost use Rattle.escpos_till_jobs.specs.Outcomes.{NoteEnds};
 
 use escpos_command::LF;
 use escpos_host::SendFault;
@@ -15,9 +12,7 @@ use escpos_io::{ByteOut, Gather, append_number, laws, put_all};
 use escpos_jobs::ending::MEMORY;
 use escpos_jobs::send::{is_memory_fault, status_of_fault};
 use escpos_jobs::status::Status;
-use escpos_till::{
-    PrinterLine, Store, StoreFault, Surroundings, TillMachine, TillNote, TillRefusal, drive,
-};
+use escpos_till::{StoreFault, TillNote, TillRefusal};
 
 /// What is printed where the store of a ledger failed.
 pub const LEDGER_FAILED: &[u8] = b"ledger failed\n";
@@ -36,20 +31,6 @@ pub enum Outcome {
     Told(TillNote),
     /// So many things were done for it that no more are, and the machine still asks for something.
     GivenUp,
-}
-
-/// Does what a machine asks for since a call.
-pub(crate) fn follow<S: Store, L: PrinterLine>(
-    machine: &mut TillMachine,
-    around: &mut Surroundings<S, L>,
-) -> Outcome
-    requires { Rests machine.old.stage → ⊥ }
-    ensures { Follows (Did S.faithful S.holds S.leaves S.says L.did) machine.old around.old result machine.new around.new }
-{
-    match drive(machine, around, MOST_DEEDS) {
-        Some(note) => Outcome::Told(note),
-        None => Outcome::GivenUp,
-    }
 }
 
 /// Prints the line that says what came of a call, if there is one, and returns the status that goes with it; `Device` if `output` has
@@ -123,6 +104,9 @@ fn tell_note<W: ByteOut>(note: TillNote, output: &mut W) -> Status
         }
         TillNote::NoLink(number) => tell_waiting(number.get(), b"no link", Status::Device, output),
         TillNote::Waiting { number, why } => tell_fault(number.get(), why, output),
+        TillNote::Paused { number, why } | TillNote::StillPaused { number, why } => {
+            tell_waiting(number.get(), why.name().as_bytes(), Status::Device, output)
+        }
         TillNote::NotKept(fault) => tell_not_kept(fault, output),
     }
 }

@@ -6,14 +6,16 @@ ghost use Rattle.std.specs.Prelude.{◌≡◌, ◌≢◌, ◌+◌, ◌≤◌, �
 ghost use Rattle.escpos_jobs.specs.declared.input.TheConstants.{INPUT_LIMIT};
 ghost use Rattle.escpos_till.specs.declared.store.NoStore.{NoStore as WhyNone};
 ghost use Rattle.escpos_till_jobs.specs.Outputs.{output_of};
-ghost use Rattle.escpos_till_jobs.specs.Performing.{CancelsAt, DeliversAt, ListsAt, OfCancel, OfDeliver, OfDeliverWithin, OfList, OfQueue, OfQueueAgain, QueuesAgainAt, QueuesAt, UnlessDeliver, UnlessQueue, way};
+ghost use Rattle.escpos_till_jobs.specs.Performing.{CancelsAt, DeliversAt, ListsAt, OfCancel, OfDeliver, OfDeliverWithin, OfList, OfQueue, OfQueueAgain, OfQueueRaw, OfReading, QueuesAgainAt, QueuesAt, UnlessDeliver, UnlessReading, way};
+ghost use Rattle.escpos_till_jobs.specs.Raw.{QueuesRawAt};
 ghost use Rattle.escpos_till_jobs.specs.Words.{InLedger, place};
 
 use crate::deliver::Delivery;
 use crate::lines::Lines;
-use crate::link_line::NoLine;
+use crate::link_line::{NoLine, Waits};
 use crate::opening::refuse_store;
 use crate::queue::read_content;
+use crate::raw::{read_raw, refuse_raw};
 use crate::task::{LedgerPath, TillTask};
 use crate::word::{Word, do_with};
 use escpos_io::{ByteIn, ByteOut};
@@ -60,6 +62,8 @@ pub fn perform_till<
 ) -> Status
     ensures queue { OfQueue (QueuesAt (place F.opened F.closed S.faithful S.holds S.leaves S.says) ⟦<NoLine as PrinterLine>⟧.did (R.to_come input.old) (R.failed input.new)
         ledgers.old (output_of (W.written output.old) (W.failed output.old)) ledgers.new (output_of (W.written output.new) (W.failed output.new)) result) task.entry }
+    ensures queue_raw { OfQueueRaw (QueuesRawAt (place F.opened F.closed S.faithful S.holds S.leaves S.says) ⟦<NoLine as PrinterLine>⟧.did (R.to_come input.old) (R.failed input.new)
+        ledgers.old (output_of (W.written output.old) (W.failed output.old)) ledgers.new (output_of (W.written output.new) (W.failed output.new)) result) task.entry }
     ensures queue_again { OfQueueAgain (QueuesAgainAt (place F.opened F.closed S.faithful S.holds S.leaves S.says) ⟦<NoLine as PrinterLine>⟧.did
         ledgers.old (output_of (W.written output.old) (W.failed output.old)) ledgers.new (output_of (W.written output.new) (W.failed output.new)) result) task.entry }
     ensures deliver { OfDeliver (DeliversAt (place F.opened F.closed S.faithful S.holds S.leaves S.says) (way P.made P.ended) L.did None
@@ -71,9 +75,9 @@ pub fn perform_till<
     ensures list { OfList (ListsAt (place F.opened F.closed S.faithful S.holds S.leaves S.says) ⟦<NoLine as PrinterLine>⟧.did
         ledgers.old (output_of (W.written output.old) (W.failed output.old)) ledgers.new (output_of (W.written output.new) (W.failed output.new)) result) task.entry }
     ensures no_line { UnlessDeliver (lines.new ≡ lines.old) task.entry }
-    ensures unread { UnlessQueue (input.new ≡ input.old) task.entry }
-    ensures input_not_hidden { OfQueue (λ path options. IsTrue (R.failed input.new) → result ≡ Status.Device) task.entry }
-    ensures pulls { OfQueue (λ path options. R.pull_count input.new ≤ R.pull_count input.old + INPUT_LIMIT + 1) task.entry }
+    ensures unread { UnlessReading (input.new ≡ input.old) task.entry }
+    ensures input_not_hidden { OfReading (IsTrue (R.failed input.new) → result ≡ Status.Device) task.entry }
+    ensures pulls { OfReading (R.pull_count input.new ≤ R.pull_count input.old + INPUT_LIMIT + 1) task.entry }
     ensures not_hidden { result ≢ Status.Device → ¬ IsTrue (W.failed output.old) → ¬ IsTrue (W.failed output.new) }
     ensures never_usage { result ≢ Status.Usage }
 {
@@ -91,6 +95,20 @@ pub fn perform_till<
                 .1
             }
             Err(fault) => refuse_input(fault, output),
+        },
+        TillTask::QueueRaw { ledger, width } => match read_raw(alloc, width, input) {
+            Ok(content) => {
+                do_at(
+                    alloc,
+                    ledgers,
+                    &ledger,
+                    NoLine,
+                    Word::Queue(content),
+                    output,
+                )
+                .1
+            }
+            Err(fault) => refuse_raw(fault, output),
         },
         TillTask::QueueAgain { ledger, number } => {
             do_at(alloc, ledgers, &ledger, NoLine, Word::Again(number), output).1
@@ -121,7 +139,7 @@ pub fn perform_till<
 }
 
 // Delivers the receipts that wait in the ledger at a path, over a line to the printer at the delivery's address. If a wait is given, no wait over
-// that lasts longer than so many seconds.
+// that lasts longer than so many seconds, but for a printer that says that it prints nothing for now.
 fn deliver_at<S: Store, F: Ledgers<S>, L: PrinterLine + Drop, P: Lines<L>, W: ByteOut>(
     alloc: Global,
     ledgers: &mut F,
@@ -136,7 +154,11 @@ fn deliver_at<S: Store, F: Ledgers<S>, L: PrinterLine + Drop, P: Lines<L>, W: By
     ensures not_hidden { result ≢ Status.Device → ¬ IsTrue (W.failed output.old) → ¬ IsTrue (W.failed output.new) }
     ensures never_usage { result ≢ Status.Usage }
 {
-    let line = lines.line(delivery.address, wait);
+    let waits = Waits {
+        wait,
+        patience: delivery.patience,
+    };
+    let line = lines.line(delivery.address, waits);
     let (line, status) = do_at(alloc, ledgers, path, line, Word::Deliver(delivery), output);
     lines.end(line);
     status

@@ -8,13 +8,14 @@ ghost use Rattle.escpos_jobs.specs.Ending.{job_end};
 ghost use Rattle.escpos_receipt.specs.declared.json.JsonError.{JsonError};
 ghost use Rattle.escpos_receipt.specs.declared.json.JsonFault.{JsonFault};
 ghost use Rattle.escpos_receipt.specs.Describes.{IsFaultWith};
-ghost use Rattle.escpos_till.specs.Contents.{GivesReceipt, content_with};
+ghost use Rattle.escpos_till.specs.Contents.{GivesReceipt, TextGives, content_with};
 ghost use Rattle.escpos_till.specs.Driver.{Queue};
 ghost use Rattle.escpos_till.specs.Machine.{RefusesAny};
 ghost use Rattle.escpos_till.specs.Surroundings.{Did};
 ghost use Rattle.escpos_till_jobs.specs.Outcomes.{Becomes, BecomesAndTells};
 
-use crate::outcome::{Outcome, follow, tell};
+use crate::following::follow;
+use crate::outcome::{Outcome, tell};
 use escpos_io::{ByteIn, ByteOut, read_to_end};
 use escpos_jobs::input::INPUT_LIMIT;
 use escpos_jobs::receipt_input::NoReceipt;
@@ -31,6 +32,7 @@ pub fn read_content<R: ByteIn>(
 ) -> Result<ReceiptContent, NoReceipt>
     ensures text { IfOk result (λ content. IfSome (R.to_come input.old) (λ bytes. (length bytes ≤ INPUT_LIMIT) × (content ≡ content_with options.now bytes))) }
     ensures receipt { IfOk result (λ content. GivesReceipt content) }
+    ensures described { IfOk result (λ content. TextGives options.now content.text) }
     ensures refused { (fault : JsonFault) → IsErrOf result (NoReceipt.Text (JsonError.Refused fault)) →
         IfSome (R.to_come input.old) (λ text. (length text ≤ INPUT_LIMIT) × IsFaultWith options.now fault text) }
     ensures too_long { IsErrOf result (NoReceipt.Input InputFault.TooLong) → IfSome (R.to_come input.old) (λ text. INPUT_LIMIT < length text) }

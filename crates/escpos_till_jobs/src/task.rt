@@ -3,6 +3,7 @@
 ghost use Rattle.std.specs.Prelude.{◌≡◌};
 
 use crate::deliver::Delivery;
+use escpos_command::LineWidth;
 use escpos_receipt::ReceiptOptions;
 use escpos_till::ReceiptNumber;
 use std::marker::Model;
@@ -44,6 +45,11 @@ pub enum TillTask<'a> {
     Queue {
         ledger: LedgerPath<'a>,
         options: ReceiptOptions,
+    },
+    /// Take a stream of bytes, as another library makes it, into this ledger, as a receipt for lines of this width.
+    QueueRaw {
+        ledger: LedgerPath<'a>,
+        width: LineWidth,
     },
     /// Take the receipt of this ledger that has this number once more.
     QueueAgain {

@@ -3,7 +3,7 @@
 //! They stand apart from what they test because tests are proved together with the functions of their crate: here no function
 //! is proved a second time for them. A test that looks into a value stands in the crate of that value.
 //!
-//! `words` is of what a till's words print, over a store in memory, `again` of a receipt that is taken once more, and `failing` of those over a store that fails; `tasks` is of what
+//! `words` is of what a till's words print, over a store in memory, `again` of a receipt that is taken once more, `raw` of streams of bytes, and `failing` of those over a store that fails; `tasks` is of what
 //! is asked for, done with a ledger at a path; `memory` lets each allocation of a call fail in turn. What they share is in `support`.
 #![tactic(auto)]
 
@@ -13,6 +13,8 @@ mod again;
 mod failing;
 #[cfg(test)]
 mod memory;
+#[cfg(test)]
+mod raw;
 #[cfg(test)]
 mod support;
 #[cfg(test)]

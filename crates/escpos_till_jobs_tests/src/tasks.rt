@@ -3,6 +3,7 @@
 use crate::support::tills::{
     A, Nobody, OneLedger, S, Told, delivery_to, is_told, number, printer_address, store_of,
 };
+use escpos_command::LineWidth;
 use escpos_io::{MemoryIn, MemoryOut};
 use escpos_jobs::status::Status;
 use escpos_receipt::ReceiptOptions;
@@ -45,6 +46,21 @@ fn queues(
         options: ReceiptOptions::usual(),
     };
     performs(rt, alloc, ledger, (task, text), wanted);
+}
+
+// A stream of bytes is taken into the ledger at a path.
+fn queues_raw(
+    rt: &impl Abort,
+    alloc: Global,
+    ledger: &mut OneLedger,
+    (path, stream): (&str, &[u8]),
+    wanted: Told,
+) {
+    let task = TillTask::QueueRaw {
+        ledger: LedgerPath::new(path),
+        width: LineWidth::usual(),
+    };
+    performs(rt, alloc, ledger, (task, stream), wanted);
 }
 
 // The ledger at a path is listed.
@@ -119,6 +135,25 @@ fn taken_and_listed(rt: HostRuntime) {
     let again = ("queued 2\n", Status::Good);
     takes_again(&rt, rt.alloc(), &mut ledger, "a", again);
     let listed = ("1 cancelled\n2 waiting\nnext 0\n", Status::Good);
+    lists(&rt, rt.alloc(), &mut ledger, "a", listed);
+}
+
+// A stream that is no receipt is refused before a ledger is opened, and one that begins with ESC @ is no text in JSON.
+#[test]
+fn taken_as_a_stream(rt: HostRuntime) {
+    let mut ledger = OneLedger {
+        path: "a",
+        store: Some(store_of(&rt, rt.alloc(), &[])),
+    };
+    let stream = b"\x1b@Hi\n".as_slice();
+    let refused = ("refused 3 TextLeft\n", Status::Refused);
+    let not_json = ("refused 5 NotJson\n", Status::Refused);
+    queues_raw(&rt, rt.alloc(), &mut ledger, ("b", b"Hi"), refused);
+    queues_raw(&rt, rt.alloc(), &mut ledger, ("b", stream), NO_LEDGER);
+    queues(&rt, rt.alloc(), &mut ledger, ("a", stream), not_json);
+    let queued = ("queued 1\n", Status::Good);
+    queues_raw(&rt, rt.alloc(), &mut ledger, ("a", stream), queued);
+    let listed = ("1 waiting\nnext 0\n", Status::Good);
     lists(&rt, rt.alloc(), &mut ledger, "a", listed);
 }
 

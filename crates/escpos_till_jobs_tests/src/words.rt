@@ -14,7 +14,9 @@ use escpos_jobs::status::Status;
 use escpos_receipt::ReceiptOptions;
 use escpos_text::Replacement;
 use escpos_till::{CopyText, Entry, Failure, MemoryStore, NoStore};
-use escpos_till_jobs::{AtAddress, Delivery, LinkLine, NoLine, Word, read_content, refuse_store};
+use escpos_till_jobs::{
+    AtAddress, Delivery, LinkLine, NoLine, Waits, Word, read_content, refuse_store,
+};
 use std::alloc::Global;
 use std::net::SocketAddrV4;
 use std::process::Abort;
@@ -191,7 +193,11 @@ fn delivers<N: Printers>(
     wanted: Told,
 ) -> MemoryStore {
     let delivery = delivery_to(address);
-    let line = LinkLine::new(AtAddress::new(net, delivery.address, None));
+    let waits = Waits {
+        wait: None,
+        patience: delivery.patience,
+    };
+    let line = LinkLine::new(AtAddress::new(net, delivery.address, waits));
     let mut room = [0; 64];
     let mut output = MemoryOut::new(&mut room);
     let (store, status) = done_with(alloc, (store, line), Word::Deliver(delivery), &mut output);
@@ -232,7 +238,8 @@ fn delivered_over_a_link(rt: HostRuntime) {
     let _store = lists(&rt, rt.alloc(), store, None, listed);
 }
 
-// What is put on a link starts with this, and nothing follows.
+// What is put on a link starts with this, and nothing follows. The printer is asked to tell its condition unasked, before the opening
+// marks and before the receipt.
 fn is_put(rt: &impl Abort, room: &[u8; 100], out: &[u8]) {
     let count = out.len().min(100);
     assert!(rt; &room[..count] == out);
@@ -253,6 +260,7 @@ fn delivers_over_memory(
     let delivery = Delivery {
         address: printer_address().into(),
         openings: 2,
+        patience: 600,
         copy: CopyText::new(b"AGAIN"),
     };
     let (mut sent, mut room) = ([0; 100], [0; 64]);
@@ -268,13 +276,13 @@ fn delivers_over_memory(
 #[test]
 fn sent_again_as_a_copy(rt: HostRuntime) {
     let store = store_of(&rt, rt.alloc(), &[Plain::Taken]);
-    let marks = b"\x1D(H\x06\x00000000\x1D(H\x06\x00000001";
+    let marks = b"\x1Da\x0E\x1D(H\x06\x00000000\x1D(H\x06\x00000001";
     let ended = ("waiting 1 Ended\n", Status::Device);
     let store = delivers_over_memory(&rt, rt.alloc(), store, (b"", marks), ended);
     let tried = ("1 tried 1\nnext 3\n", Status::Good);
     let store = lists(&rt, rt.alloc(), store, None, tried);
     let again =
-        b"\x1D(H\x06\x00000003\x1D(H\x06\x00000004\x1B@\x1Ba\x01\x1BE\x01AGAIN\n\x1BE\x00\x1Ba\x00Hi\n\x1D(H\x06\x00000005";
+        b"\x1Da\x0E\x1D(H\x06\x00000003\x1D(H\x06\x00000004\x1Da\x0E\x1B@\x1Ba\x01\x1BE\x01AGAIN\n\x1BE\x00\x1Ba\x00Hi\n\x1D(H\x06\x00000005";
     let answers = b"\x37\x220003\x00\x37\x220005\x00";
     let told = ("recorded 1\n", Status::Good);
     let store = delivers_over_memory(&rt, rt.alloc(), store, (answers, again), told);
@@ -287,18 +295,47 @@ fn sent_again_as_a_copy(rt: HostRuntime) {
 #[test]
 fn recorded_late(rt: HostRuntime) {
     let store = store_of(&rt, rt.alloc(), &[Plain::Taken]);
-    let out = b"\x1D(H\x06\x00000000\x1D(H\x06\x00000001\x1B@Hi\n\x1D(H\x06\x00000002";
+    let out =
+        b"\x1Da\x0E\x1D(H\x06\x00000000\x1D(H\x06\x00000001\x1Da\x0E\x1B@Hi\n\x1D(H\x06\x00000002";
     let ended = ("waiting 1 Ended\n", Status::Device);
     let first = (b"\x37\x220000\x00".as_slice(), out.as_slice());
     let store = delivers_over_memory(&rt, rt.alloc(), store, first, ended);
     let tried = ("1 tried 1\nnext 3\n", Status::Good);
     let store = lists(&rt, rt.alloc(), store, None, tried);
-    let marks = b"\x1D(H\x06\x00000003\x1D(H\x06\x00000004";
+    let marks = b"\x1Da\x0E\x1D(H\x06\x00000003\x1D(H\x06\x00000004";
     let answers = b"\x14\x00\x00\x0F\x37\x220001\x00\x37\x220002\x00";
     let told = ("recorded 1\n", Status::Good);
     let store = delivers_over_memory(&rt, rt.alloc(), store, (answers, marks), told);
     let recorded = ("1 recorded 0\nnext 6\n", Status::Good);
     let _store = lists(&rt, rt.alloc(), store, None, recorded);
+}
+
+// The paper ends before the receipt's mark is answered, the cover is opened, the paper is in again, and the mark is answered: each pause
+// is told, and then that the receipt is recorded. Statuses fill each read, so that no block comes with another.
+#[test]
+fn told_that_it_pauses(rt: HostRuntime) {
+    let store = store_of(&rt, rt.alloc(), &[Plain::Taken]);
+    let out =
+        b"\x1Da\x0E\x1D(H\x06\x00000000\x1D(H\x06\x00000001\x1Da\x0E\x1B@Hi\n\x1D(H\x06\x00000002";
+    let answers =
+        b"\x37\x220000\x00\x18\x00\x0C\x00\x12\x12\x12\x38\x00\x00\x00\x12\x12\x12\x10\x00\x00\x00\x12\x12\x12\x37\x220002\x00";
+    let told = (
+        "paused 1 paper ended\npaused 1 cover open\nrecorded 1\n",
+        Status::Good,
+    );
+    let _store = delivers_over_memory(&rt, rt.alloc(), store, (answers, out), told);
+}
+
+// The printer goes offline, and then the link ends: that is why the receipt waits.
+#[test]
+fn ended_while_it_pauses(rt: HostRuntime) {
+    let store = store_of(&rt, rt.alloc(), &[Plain::Taken]);
+    let out = b"\x1Da\x0E\x1D(H\x06\x00000000\x1D(H\x06\x00000001";
+    let told = ("paused 1 offline\nwaiting 1 Ended\n", Status::Device);
+    let answers = b"\x18\x00\x00\x00";
+    let store = delivers_over_memory(&rt, rt.alloc(), store, (answers, out), told);
+    let tried = ("1 tried 1\nnext 3\n", Status::Good);
+    let _store = lists(&rt, rt.alloc(), store, None, tried);
 }
 
 // A text for a line of 384 dots, with a character that no code table has: it is refused unless there is a replacement, and sent as
@@ -315,7 +352,7 @@ fn sent_with_options(rt: HostRuntime) {
     let queued = ("queued 1\n", Status::Good);
     let store = queues_so(&rt, rt.alloc(), store, (&options, text), queued);
     let out =
-        b"\x1D(H\x06\x00000000\x1D(H\x06\x00000001\x1B@?!\n--------------------------------\n\x1D(H\x06\x00000002";
+        b"\x1Da\x0E\x1D(H\x06\x00000000\x1D(H\x06\x00000001\x1Da\x0E\x1B@?!\n--------------------------------\n\x1D(H\x06\x00000002";
     let answers = b"\x37\x220000\x00\x37\x220001\x00\x37\x220002\x00";
     let told = ("recorded 1\n", Status::Good);
     let _store = delivers_over_memory(&rt, rt.alloc(), store, (answers, out), told);
@@ -328,7 +365,8 @@ fn next_sent_after_a_cancel(rt: HostRuntime) {
     let store = queues(&rt, rt.alloc(), store, S, ("queued 1\n", Status::Good));
     let store = queues(&rt, rt.alloc(), store, A, ("queued 2\n", Status::Good));
     let store = cancels(&rt, rt.alloc(), store, 1, ("cancelled 1\n", Status::Good));
-    let out = b"\x1D(H\x06\x00000000\x1D(H\x06\x00000001\x1B@A\n\x1D(H\x06\x00000002";
+    let out =
+        b"\x1Da\x0E\x1D(H\x06\x00000000\x1D(H\x06\x00000001\x1Da\x0E\x1B@A\n\x1D(H\x06\x00000002";
     let answers = b"\x37\x220000\x00\x37\x220001\x00\x37\x220002\x00";
     let told = ("recorded 2\n", Status::Good);
     let store = delivers_over_memory(&rt, rt.alloc(), store, (answers, out), told);
@@ -348,7 +386,7 @@ fn sent_after_twelve_tries(rt: HostRuntime) {
     let store = store_of(&rt, rt.alloc(), &entries);
     let tried = ("1 tried 12\nnext 12\n", Status::Good);
     let store = lists(&rt, rt.alloc(), store, None, tried);
-    let marks = b"\x1D(H\x06\x0000000C\x1D(H\x06\x0000000D";
+    let marks = b"\x1Da\x0E\x1D(H\x06\x0000000C\x1D(H\x06\x0000000D";
     let ended = ("waiting 1 Ended\n", Status::Device);
     let store = delivers_over_memory(&rt, rt.alloc(), store, (b"", marks), ended);
     let tried = ("1 tried 13\nnext 15\n", Status::Good);

@@ -15,14 +15,15 @@ pub fn asks_for(rt: &impl Abort, alloc: Global, words: &[&str], asked: Result<Ta
 }
 
 // A task with its ledger's path: the dots of a line, and what is printed in place of a character that no code table has; the
-// printer's address, how many opening marks, and whether there is a text for copies, with how many seconds a wait may last, if
-// that is given; the number of a receipt; or the number that the next mark number is raised to.
+// printer's address, how many opening marks, for how many seconds a printer that prints nothing is waited for, and whether there
+// is a text for copies, with how many seconds any other wait may last, if that is given; the number of a receipt; or the number that the next mark number is raised to.
 #[derive(Clone, Copy, PartialEq)]
 pub enum Plain<'a> {
     Queue(&'a str, u16, Option<char>),
+    Raw(&'a str, u16),
     Again(&'a str, usize),
-    Deliver(&'a str, Option<SocketAddrV4>, u32, bool),
-    Within(&'a str, Option<SocketAddrV4>, u32, bool, u32),
+    Deliver(&'a str, Option<SocketAddrV4>, u32, u32, bool),
+    Within(&'a str, Option<SocketAddrV4>, u32, u32, bool, u32),
     Cancel(&'a str, usize),
     List(&'a str, Option<u32>),
 }
@@ -49,11 +50,13 @@ fn plain_of<'a>(task: TillTask<'a>) -> Plain<'a> {
             options.width.dots(),
             replacement_of(&options),
         ),
+        TillTask::QueueRaw { ledger, width } => Plain::Raw(ledger.text(), width.dots()),
         TillTask::QueueAgain { ledger, number } => Plain::Again(ledger.text(), number.get()),
         TillTask::Deliver { ledger, delivery } => Plain::Deliver(
             ledger.text(),
             v4_of(&delivery.address),
             delivery.openings,
+            delivery.patience,
             delivery.copy.is_some(),
         ),
         TillTask::DeliverWithin {
@@ -64,6 +67,7 @@ fn plain_of<'a>(task: TillTask<'a>) -> Plain<'a> {
             ledger.text(),
             v4_of(&delivery.address),
             delivery.openings,
+            delivery.patience,
             delivery.copy.is_some(),
             wait,
         ),

@@ -2,7 +2,7 @@
 
 ghost use Rattle.std.specs.Prelude.{◌≡◌};
 
-use escpos_io::{ByteOut, MemoryIn, MemoryOut};
+use escpos_io::{ByteIn, ByteOut, MemoryIn, MemoryOut};
 use escpos_jobs::printer_link::Printers;
 use escpos_jobs::status::Status;
 use escpos_receipt::ReceiptOptions;
@@ -47,6 +47,7 @@ pub fn delivery_to(address: SocketAddrV4) -> Delivery<'static> {
     Delivery {
         address: address.into(),
         openings: 1,
+        patience: 600,
         copy: None,
     }
 }
@@ -103,10 +104,24 @@ pub struct InMemory<'a> {
 impl<'a> Dial<MemoryIn<'a>, MemoryOut<'a>> for InMemory<'a> {
     ghost dialled = { λ old link new. Unit {0} };
 
+    ghost paced = { λ old link patient result new. Unit {0} };
+
     ghost closed = { λ old link new. Unit {0} };
 
     fn dial(&mut self) -> Option<Link<MemoryIn<'a>, MemoryOut<'a>>> {
         self.link.take()
+    }
+
+    fn pace(
+        &mut self,
+        link: Link<MemoryIn<'a>, MemoryOut<'a>>,
+        _patient: bool,
+    ) -> Link<MemoryIn<'a>, MemoryOut<'a>>
+        ensures paced { Unit {0} }
+        ensures source { ⟦<MemoryIn<'a> as ByteIn>⟧.to_come result.reader ≡ ⟦<MemoryIn<'a> as ByteIn>⟧.to_come link.entry.reader }
+        ensures sink { ⟦<MemoryOut<'a> as ByteOut>⟧.written result.writer ≡ ⟦<MemoryOut<'a> as ByteOut>⟧.written link.entry.writer }
+    {
+        link
     }
 
     fn close(&mut self, link: Link<MemoryIn<'a>, MemoryOut<'a>>)

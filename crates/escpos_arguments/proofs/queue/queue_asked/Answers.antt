@@ -2,6 +2,6 @@ use Rattle.clap.specs.Words.{found_of, rows_of}
 use Rattle.escpos_arguments.proofs.TillValues.{taken_again}
 use Rattle.escpos_arguments.proofs.queue.queue_asked.Goals as goal
 
-pub returns-in_err-number-clause-taken : goal.returns-in_err-number-clause-taken
-returns-in_err-number-clause-taken c = λ task asks range.
-    absurd (taken_again (rows_of (found_of c.args.given.now)) task c.again_given.result c.in_err-number.field-0.0 asks range c.in_err-number.was c.again_given.ensures.taken)
+pub returns-in_err-again_given-clause-taken : goal.returns-in_err-again_given-clause-taken
+returns-in_err-again_given-clause-taken c = λ task asks range.
+    absurd (taken_again (rows_of (found_of c.args.given.now)) task c.again_given.result c.in_err-again_given.field-0.0 asks range c.in_err-again_given.was c.again_given.ensures.taken)

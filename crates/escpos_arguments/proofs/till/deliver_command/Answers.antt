@@ -6,12 +6,13 @@ use Rattle.escpos_arguments.proofs.till.deliver_command.Goals as goal
 
 pub returns : goal.returns
 returns c =
-    let app_is : app_of c.in_ok-command.command ≡ with_rule (with_rule (with_rule (with_rule (with_rule (new_app (codes "deliver")) ledger_rule) address_rule)
-    (option_rule (codes "openings") false)) (option_rule (codes "copy") false)) (option_rule (codes "wait") false) =
-    c.in_ok-command.ensures.shape c.option-3.ensures.local
+    let app_is : app_of c.in_ok-command.command ≡ with_rule (with_rule (with_rule (with_rule (with_rule (with_rule (new_app (codes "deliver")) ledger_rule) address_rule)
+    (option_rule (codes "openings") false)) (option_rule (codes "copy") false)) (option_rule (codes "wait") false)) (option_rule (codes "patience") false) =
+    c.in_ok-command.ensures.shape c.option-4.ensures.local
+    ∙ ap₂ with_rule (c.in_ok-arg-5.ensures.shape c.option-3.ensures.local
     ∙ ap₂ with_rule (c.in_ok-arg-4.ensures.shape c.option-2.ensures.local
     ∙ ap₂ with_rule (c.in_ok-arg-3.ensures.shape c.option.ensures.local
     ∙ ap₂ with_rule (c.in_ok-arg-2.ensures.shape c.address.ensures.local
     ∙ ap₂ with_rule (c.in_ok-arg.ensures.shape c.ledger_argument.ensures.local
-    ∙ ap₂ with_rule c.new.ensures.app c.ledger_argument.ensures.rule) c.address.ensures.rule) c.option.ensures.rule) c.option-2.ensures.rule) c.option-3.ensures.rule in
+    ∙ ap₂ with_rule c.new.ensures.app c.ledger_argument.ensures.rule) c.address.ensures.rule) c.option.ensures.rule) c.option-2.ensures.rule) c.option-3.ensures.rule) c.option-4.ensures.rule in
     record { shape = ap (λ (a : App). a.top) app_is }

@@ -21,13 +21,13 @@ returns-in-Err-clause-delivers g c =
 
 pub loop-preserved : goal.loop-preserved
 loop-preserved g c =
-    let (number, serves, told) = c.in_default.ensures.recorded in
+    let goes = c.in_default.ensures.recorded in
     record {
       so_far = one_more (Did g.S.Store.faithful g.S.Store.holds g.S.Store.leaves g.S.Store.says g.L.PrinterLine.did) c.args.delivery.now c.args.machine.now c.args.around.now
           (output_of (g.W.ByteOut.written c.args.output.now) (g.W.ByteOut.failed c.args.output.now)) c.loop.machine c.loop.around (output_of (g.W.ByteOut.written c.loop.output) (g.W.ByteOut.failed c.loop.output))
           c.deliver_next.new.machine c.deliver_next.new.around (output_of (g.W.ByteOut.written c.deliver_next.new.output) (g.W.ByteOut.failed c.deliver_next.new.output))
-          c.loop.counter number c.loop.invariant.so_far serves told;
-      well = λ well. told.well (c.loop.invariant.well well);
+          c.loop.counter c.loop.invariant.so_far goes;
+      well = λ well. goes.told.well (c.loop.invariant.well well);
     }
 
 pub returns-clause-delivers : goal.returns-clause-delivers

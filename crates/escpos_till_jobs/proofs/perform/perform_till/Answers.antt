@@ -1,14 +1,15 @@
 -- Each task is done as it says.
 use Rattle.std.proofs.Common.{sym, ◌∙◌, ap, subst, inl, inr, refl, Err}
 use Rattle.escpos_till_jobs.specs.Outputs.{output_of}
-use Rattle.escpos_till_jobs.specs.Performing.{OfCancel, OfDeliver, OfDeliverWithin, OfList, OfQueue, OfQueueAgain}
+use Rattle.escpos_till_jobs.specs.Performing.{OfCancel, OfDeliver, OfDeliverWithin, OfList, OfQueue, OfQueueAgain, OfQueueRaw}
+use Rattle.escpos_till_jobs.proofs.RawTasks.{refuses_raw}
 use Rattle.escpos_till_jobs.proofs.Tasks.{refuses_for}
 use Rattle.escpos_till_jobs.proofs.perform.perform_till.Goals as goal
 
 pub returns-in-Ok-clause-queue : goal.returns-in-Ok-clause-queue
 returns-in-Ok-clause-queue g c =
     subst (OfQueue _) (sym c.in-Queue.is)
-    (inr (c.in-Ok.content, record { text = c.in-Ok.ensures.text; receipt = c.in-Ok.ensures.receipt }, _, c.do_at.result.0, c.do_at.ensures.does))
+    (inr (c.in-Ok.content, record { text = c.in-Ok.ensures.text; receipt = c.in-Ok.ensures.receipt; described = c.in-Ok.ensures.described }, _, c.do_at.result.0, c.do_at.ensures.does))
 
 pub returns-in-Err-clause-queue : goal.returns-in-Err-clause-queue
 returns-in-Err-clause-queue g c =
@@ -21,6 +22,19 @@ returns-in-Err-clause-queue g c =
           (λ same. c.read_content.ensures.too_long (c.in-Err.is ∙ ap Err same)) (λ same. c.read_content.ensures.device (c.in-Err.is ∙ ap Err same)) (λ same. c.read_content.ensures.bytes (c.in-Err.is ∙ ap Err same))
           c.refuse_input.ensures.too_long c.refuse_input.ensures.refused c.refuse_input.ensures.memory
           (λ same. ((c.refuse_input.ensures.device same).0, ap (λ o. output_of (g.W.ByteOut.written o) (g.W.ByteOut.failed o)) (c.refuse_input.ensures.device same).1)),
+    ))
+
+pub returns-in-Err-read_raw-clause-queue_raw : goal.returns-in-Err-read_raw-clause-queue_raw
+returns-in-Err-read_raw-clause-queue_raw g c =
+    subst (OfQueueRaw _) (sym c.in-QueueRaw.is)
+    (inl (
+      c.in-Err-read_raw.fault,
+      refl,
+      refuses_raw c.in-Err-read_raw.fault c.in-QueueRaw.width _ _ (output_of (g.W.ByteOut.written c.args.output.now) (g.W.ByteOut.failed c.args.output.now))
+          (output_of (g.W.ByteOut.written c.refuse_raw.new.output) (g.W.ByteOut.failed c.refuse_raw.new.output)) _ (λ why same. c.read_raw.ensures.refused why (c.in-Err-read_raw.is ∙ ap Err same))
+          (λ same. c.read_raw.ensures.too_long (c.in-Err-read_raw.is ∙ ap Err same)) (λ same. c.read_raw.ensures.device (c.in-Err-read_raw.is ∙ ap Err same))
+          (λ same. c.read_raw.ensures.as_they_are (c.in-Err-read_raw.is ∙ ap Err same)) c.refuse_raw.ensures.too_long c.refuse_raw.ensures.refused c.refuse_raw.ensures.memory
+          (λ same. ((c.refuse_raw.ensures.device same).0, ap (λ o. output_of (g.W.ByteOut.written o) (g.W.ByteOut.failed o)) (c.refuse_raw.ensures.device same).1)),
     ))
 
 pub returns-in-QueueAgain-clause-queue_again : goal.returns-in-QueueAgain-clause-queue_again

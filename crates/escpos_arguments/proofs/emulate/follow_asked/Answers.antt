@@ -1,6 +1,6 @@
 use Rattle.std.proofs.Common.{None, sym, subst, refl}
 use Rattle.escpos_arguments.specs.ClapAnswers.{IsNumberIn}
-use Rattle.escpos_arguments.proofs.arguments.follow_asked.Goals as goal
+use Rattle.escpos_arguments.proofs.emulate.follow_asked.Goals as goal
 
 pub returns-in_err-number_given-clause-taken : goal.returns-in_err-number_given-clause-taken
 returns-in_err-number_given-clause-taken c = λ none.

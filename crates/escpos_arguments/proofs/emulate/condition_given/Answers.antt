@@ -3,7 +3,7 @@ use Rattle.std.proofs.Common.{◌≡◌, ◌∙◌, Some, None, Ok, ap, sym, cod
 use Rattle.clap.specs.Words.{found_of}
 use Rattle.clap.proofs.WalkLemmas.{first_value-rows}
 use Rattle.escpos_jobs.specs.Conditions.{condition_text}
-use Rattle.escpos_arguments.proofs.arguments.condition_given.Goals as goal
+use Rattle.escpos_arguments.proofs.emulate.condition_given.Goals as goal
 
 pub returns-in-Some-condition_of-clause-read : goal.returns-in-Some-condition_of-clause-read
 returns-in-Some-condition_of-clause-read c = λ condition e.

@@ -1,0 +1,155 @@
+//! Streams of bytes of other libraries: what is sent of those that are receipts, and where the others are refused.
+
+use crate::support::tills::{
+    Told, delivery_to, done_with, is_told, line_over, number, printer_address, store_of,
+};
+use escpos_command::LineWidth;
+use escpos_io::{MemoryIn, MemoryOut};
+use escpos_jobs::status::Status;
+use escpos_till::{MemoryStore, ReceiptContent};
+use escpos_till_jobs::{NoLine, Word, read_raw, refuse_raw};
+use std::alloc::Global;
+use std::process::Abort;
+
+// The stream is read as a receipt.
+fn read(rt: &impl Abort, alloc: Global, stream: &[u8]) -> ReceiptContent {
+    match read_raw(alloc, LineWidth::usual(), &mut MemoryIn::new(stream, 7)) {
+        Ok(content) => content,
+        Err(_) => panic!(rt; "no receipt"),
+    }
+}
+
+fn does(
+    rt: &impl Abort,
+    alloc: Global,
+    store: MemoryStore,
+    word: Word<'_>,
+    wanted: Told,
+) -> MemoryStore {
+    let mut room = [0; 64];
+    let mut output = MemoryOut::new(&mut room);
+    let (store, status) = done_with(alloc, (store, NoLine), word, &mut output);
+    is_told(rt, (output.written(), status), wanted);
+    store
+}
+
+// These bytes, after an opening mark and ESC @, and before a closing mark. The printer is asked twice to tell its condition.
+fn between_marks(rt: &impl Abort, alloc: Global, bytes: &[u8]) -> Vec<u8> {
+    let mut all = Vec::new(alloc);
+    for part in [
+        b"\x1da\x0e\x1d(H\x06\x00000000\x1da\x0e\x1b@".as_slice(),
+        bytes,
+        b"\x1d(H\x06\x00000001".as_slice(),
+    ] {
+        all.extend_from_slice(part).expect(rt, "memory");
+    }
+    all
+}
+
+// The first receipt that waits is delivered over a link on which its two marks are answered.
+fn sends(rt: &impl Abort, alloc: Global, store: MemoryStore, wanted: &[u8]) {
+    let (mut sent, mut room) = ([0; 200], [0; 64]);
+    let mut output = MemoryOut::new(&mut room);
+    let answers = b"\x37\x220000\x00\x37\x220001\x00".as_slice();
+    let line = line_over(answers, &mut sent);
+    let delivery = delivery_to(printer_address());
+    let (_store, _status) = done_with(alloc, (store, line), Word::Deliver(delivery), &mut output);
+    assert!(rt; output.written().starts_with(b"recorded 1\n"));
+    assert!(rt; sent.starts_with(&between_marks(rt, alloc, wanted)));
+}
+
+// A stream, and what is sent of it.
+const TAKEN: [(&[u8], &[u8]); 7] = [
+    // python-escpos: ESC t before a text, ESC d 6 before a cut
+    (
+        b"\x1b@\x1bt\x00Hello World\n\x1bd\x06\x1dV\x00",
+        b"\x1bt\x00Hello World\n\x1bd\x06\x1dV\x00",
+    ),
+    // python-escpos: styles, and a paper status in between
+    (
+        b"\x1b@\x1ba\x01\x1bE\x01Total\n\x10\x04\x04\x1bE\x00\x1dVA\x03",
+        b"\x1ba\x01\x1bE\x01Total\n\x1bE\x00\x1dVA\x03",
+    ),
+    // escpos-php: ESC @ as a printer is opened, ESC ! and ESC a before a text, GS V A 3
+    (
+        b"\x1b@\x1b!\x00\x1ba\x00Hello World!\n\x1dVA\x03",
+        b"\x1b!\x00\x1ba\x00Hello World!\n\x1dVA\x03",
+    ),
+    // ESC @ twice, GS a before it and after it
+    (b"\x1da\x0f\x1b@\x1b@Hi\n\x1b@\x1da\x00\x1b@", b"Hi\n"),
+    // no ESC @ at all
+    (b"Hi\n", b"Hi\n"),
+    // a text in JSON is a stream of characters
+    (b"[{\"line\":\"Hi\"}]\n", b"[{\"line\":\"Hi\"}]\n"),
+    // a status asked for within a line
+    (b"\x1b@H\x10\x04\x01i\n", b"Hi\n"),
+];
+
+#[test]
+fn sent_as_they_are(rt: HostRuntime) {
+    for (stream, wanted) in TAKEN {
+        let store = store_of(&rt, rt.alloc(), &[]);
+        let content = read(&rt, rt.alloc(), stream);
+        let queued = ("queued 1\n", Status::Good);
+        let store = does(&rt, rt.alloc(), store, Word::Queue(content), queued);
+        let queued = ("queued 2\n", Status::Good);
+        let again = Word::Again(number(&rt, 1));
+        let store = does(&rt, rt.alloc(), store, again, queued);
+        sends(&rt, rt.alloc(), store, wanted);
+    }
+}
+
+// A stream that is no receipt, and the line that says why.
+const REFUSED: [(&[u8], &str); 16] = [
+    (b"", "refused 1 Empty\n"),
+    (b"\x1b@\x1da\x0f\x10\x04\x01\x1b@", "refused 1 Empty\n"),
+    (b"Hi\n\x1b@Ho\n", "refused 2 Forbidden 3\n"),
+    (b"\x1b@\x1d(H\x06\x00000000", "refused 2 Forbidden 2\n"),
+    (b"\x1b@Hi", "refused 3 TextLeft\n"),
+    (b"\x1b@\x10\x04\x01Hi\x1dV\x00", "refused 4 MidLine 7\n"),
+    (
+        b"\x1b@\x1dv0\x00\x03\x00\x01\x00\x10\x14\x01",
+        "refused 9 RealTime 2\n",
+    ),
+    (
+        b"\x1dw\x06\x1dk\x04ABCDEFGHIJ\x00",
+        "refused 10 NotPrintable 3\n",
+    ),
+    (b"\x1b@\x01", "refused 21 UnknownByte 2\n"),
+    (b"\x1b@Hi\n\x1b\x01", "refused 22 UnknownCommand 6\n"),
+    (b"\x1ba\x07", "refused 23 BadParameter 2\n"),
+    (b"\x1dk\x021\x00", "refused 24 BadBarcode 4\n"),
+    (b"\x1dv0\x00\x00", "refused 25 BadSize 4\n"),
+    (b"Hi\n\x1dV", "refused 26 CutShort 3\n"),
+    // the first byte that is refused comes before what is no receipt
+    (b"Hi\n\x1b@Ho\n\x01", "refused 21 UnknownByte 8\n"),
+    (b"Hi\n\x1b@Ho\n\x1d", "refused 26 CutShort 8\n"),
+];
+
+#[test]
+fn refused_at_their_places(rt: HostRuntime) {
+    for (stream, line) in REFUSED {
+        let mut room = [0; 64];
+        let mut output = MemoryOut::new(&mut room);
+        let status = match read_raw(
+            rt.alloc(),
+            LineWidth::usual(),
+            &mut MemoryIn::new(stream, 7),
+        ) {
+            Ok(_) => panic!(&rt; "a receipt"),
+            Err(fault) => refuse_raw(fault, &mut output),
+        };
+        is_told(&rt, (output.written(), status), (line, Status::Refused));
+    }
+}
+
+// A barcode of three characters with wide modules fits on a wide line alone.
+#[test]
+fn printed_at_a_width(rt: HostRuntime) {
+    let stream = b"\x1dw\x04\x1dk\x04A\x00".as_slice();
+    for (dots, fits) in [(1_024, true), (512, true), (64, false)] {
+        let width = LineWidth::new(dots).expect(&rt, "a width");
+        let found = read_raw(rt.alloc(), width, &mut MemoryIn::new(stream, 7));
+        assert!(&rt; found.is_ok() == fits);
+    }
+}
