@@ -19,6 +19,7 @@ void escpos_host_free(kolatennis_host *host);
 int escpos_host_link_up(kolatennis_host *host, uint32_t *reason);
 int escpos_host_nudge(kolatennis_host *host, uint32_t *reason);
 int escpos_host_submit_with(kolatennis_host *host, const kolatennis_options *options, const uint8_t *json, size_t json_len, uint32_t *reason, uint32_t *fault, size_t *at);
+int escpos_host_submit_raw(kolatennis_host *host, uint16_t width, const uint8_t *stream, size_t len, uint32_t *reason, uint32_t *fault, size_t *at);
 int escpos_host_ask(kolatennis_host *host, uint8_t kind, uint32_t *reason);
 int escpos_host_link_down(kolatennis_host *host);
 int escpos_host_take_out(kolatennis_host *host, uint8_t *out, size_t capacity, size_t *written);
@@ -49,6 +50,7 @@ typedef struct {
 int escpos_till_open(kolatennis_till *till, const uint8_t *lines, size_t len, uint32_t *reason, size_t *at);
 void escpos_till_free(kolatennis_till *till);
 int escpos_till_queue(kolatennis_till *till, const kolatennis_options *options, const uint8_t *json, size_t json_len, till_told *told);
+int escpos_till_queue_raw(kolatennis_till *till, uint16_t width, const uint8_t *stream, size_t len, till_told *told);
 int escpos_till_raise(kolatennis_till *till, uint32_t first, till_told *told);
 int escpos_till_cancel(kolatennis_till *till, size_t number, till_told *told);
 int escpos_till_deliver(kolatennis_till *till, uint32_t openings, const uint8_t *copy, size_t copy_len, uint32_t most, till_told *told);
@@ -63,6 +65,7 @@ int escpos_till_hung_up(kolatennis_till *till);
 int escpos_till_told(kolatennis_till *till);
 int escpos_till_receipts(kolatennis_till *till, size_t *receipts);
 int escpos_till_standing(kolatennis_till *till, size_t number, till_standing *standing);
+int escpos_till_is_paused(kolatennis_till *till, bool *is);
 int escpos_till_next_mark(kolatennis_till *till, uint32_t *mark);
 
 /* ---- what stands for a NULL ---- */
@@ -87,10 +90,13 @@ static bool is_buffer(const uint8_t *at, size_t len) { return at || !len; }
 
 /* ---- the families of numbers ---- */
 
-enum { RECEIPT = 100, HOST = 200, FAULT = 300, EVENT = 400, STATE = 500, STOP = 600, TILL = 700, ASK = 800, NOTE = 900, LINK = 1000, STANDS = 1100, BAD_ARGUMENT = KOLATENNIS_STATUS_BAD_ARGUMENT };
+enum { RECEIPT = 100, HOST = 200, FAULT = 300, EVENT = 400, STATE = 500, STOP = 600, TILL = 700, ASK = 800, NOTE = 900, LINK = 1000, STANDS = 1100, PAUSE = 1200, BAD_ARGUMENT = KOLATENNIS_STATUS_BAD_ARGUMENT };
 
 /* A reason of a family, or 0 for none. */
 static uint32_t reason_in(uint32_t family, uint32_t number) { return number ? family + number : 0; }
+
+/* Why a receipt is refused. A byte of a stream that is refused has the reason of its own family. */
+static uint32_t receipt_reason(uint32_t number) { return number > 20 && number < 26 ? reason_in(FAULT, number - 20) : reason_in(RECEIPT, number); }
 
 const char *kolatennis_version(void) { return KOLATENNIS_VERSION; }
 
@@ -115,6 +121,7 @@ const char *kolatennis_error_name(uint32_t reason) {
         case KOLATENNIS_RECEIPT_NOT_PRINTABLE: return "NotPrintable";
         case KOLATENNIS_RECEIPT_TOO_LONG: return "TooLong";
         case KOLATENNIS_RECEIPT_BAD_OPTIONS: return "BadOptions";
+        case KOLATENNIS_RECEIPT_CUT_SHORT: return "CutShort";
         case KOLATENNIS_HOST_NOT_READY: return "NotReady";
         case KOLATENNIS_HOST_MARKS_USED_UP: return "MarksUsedUp";
         case KOLATENNIS_HOST_ALREADY_UP: return "AlreadyUp";
@@ -141,6 +148,9 @@ const char *kolatennis_error_name(uint32_t reason) {
         case KOLATENNIS_LINK_TIMED_OUT: return "TimedOut";
         case KOLATENNIS_LINK_TOO_MANY_ANSWERS: return "TooManyAnswers";
         case KOLATENNIS_LINK_BAD_ANSWER: return "BadAnswer";
+        case KOLATENNIS_PAUSE_PAPER_ENDED: return "PaperEnded";
+        case KOLATENNIS_PAUSE_COVER_OPEN: return "CoverOpen";
+        case KOLATENNIS_PAUSE_OFFLINE: return "Offline";
         default: return "unknown";
     }
 }
@@ -225,6 +235,15 @@ int kolatennis_host_submit(kolatennis_host *host, const kolatennis_options *opti
     size_t place = KOLATENNIS_NO_PLACE;
     int status = host && is_buffer(json, json_len) ? escpos_host_submit_with(host, or_usual(options), or_none(json), json_len, &why, &fault, &place) : BAD_ARGUMENT;
     TELL(reason, fault ? reason_in(RECEIPT, fault) : reason_in(HOST, why));
+    TELL(at, place);
+    return status;
+}
+
+int kolatennis_host_submit_raw(kolatennis_host *host, uint16_t width, const uint8_t *bytes, size_t len, uint32_t *reason, size_t *at) {
+    uint32_t why = 0, fault = 0;
+    size_t place = KOLATENNIS_NO_PLACE;
+    int status = host && is_buffer(bytes, len) ? escpos_host_submit_raw(host, width, or_none(bytes), len, &why, &fault, &place) : BAD_ARGUMENT;
+    TELL(reason, fault ? receipt_reason(fault) : reason_in(HOST, why));
     TELL(at, place);
     return status;
 }
@@ -332,13 +351,14 @@ static const till_told NOTHING_TOLD = {0, 0, KOLATENNIS_NO_PLACE, 0};
 
 /* Why a till refuses: a receipt's fault has its own reason, and so have mark numbers that are used up. */
 static uint32_t till_reason(const till_told *told) {
-    if (told->fault) return reason_in(RECEIPT, told->fault);
+    if (told->fault) return receipt_reason(told->fault);
     return told->reason == 5 ? KOLATENNIS_HOST_MARKS_USED_UP : reason_in(TILL, told->reason);
 }
 
 /* Why a receipt waits: what a host refused has its own reason, and out of memory a status. That a store failed has none. */
 static uint32_t link_fault(uint32_t fault) {
     if (fault == 14 || fault == 21) return KOLATENNIS_STATUS_MEMORY;
+    if (fault > 30) return PAUSE + fault - 30;
     if (fault > 20) return 0;
     return fault > 10 ? HOST + fault - 10 : reason_in(LINK, fault);
 }
@@ -362,6 +382,14 @@ void kolatennis_till_free(kolatennis_till *till) {
 int kolatennis_till_queue(kolatennis_till *till, const kolatennis_options *options, const uint8_t *json, size_t json_len, uint32_t *reason, size_t *at) {
     till_told told = NOTHING_TOLD;
     int status = till && is_buffer(json, json_len) ? escpos_till_queue(till, or_usual(options), or_none(json), json_len, &told) : BAD_ARGUMENT;
+    TELL(reason, till_reason(&told));
+    TELL(at, told.at);
+    return status;
+}
+
+int kolatennis_till_queue_raw(kolatennis_till *till, uint16_t width, const uint8_t *bytes, size_t len, uint32_t *reason, size_t *at) {
+    till_told told = NOTHING_TOLD;
+    int status = till && is_buffer(bytes, len) ? escpos_till_queue_raw(till, width, or_none(bytes), len, &told) : BAD_ARGUMENT;
     TELL(reason, till_reason(&told));
     TELL(at, told.at);
     return status;
@@ -446,6 +474,13 @@ int kolatennis_till_state(kolatennis_till *till, size_t number, uint32_t *state,
     int status = till ? escpos_till_standing(till, number, &standing) : BAD_ARGUMENT;
     TELL(state, STANDS + standing.kind);
     TELL(count, standing.number);
+    return status;
+}
+
+int kolatennis_till_is_paused(kolatennis_till *till, bool *is) {
+    bool paused = false;
+    int status = till ? escpos_till_is_paused(till, &paused) : BAD_ARGUMENT;
+    TELL(is, paused);
     return status;
 }
 

@@ -60,7 +60,8 @@ enum kolatennis_status {
     KOLATENNIS_STATUS_BAD_ARGUMENT = 7 /* a pointer is NULL that may not be */
 };
 
-/* Why a text gives no receipt. The place counts entries of the text, or (102, 104, 109 and 110) commands, from 0. */
+/* Why a text gives no receipt, or a stream is none. The place counts entries of the text, or (102, 104, 109 and 110) commands, from 0; in
+ * a stream it counts bytes. */
 enum kolatennis_receipt {
     KOLATENNIS_RECEIPT_EMPTY = 101,        /* it has no command */
     KOLATENNIS_RECEIPT_FORBIDDEN = 102,    /* a command that a receipt may not have */
@@ -73,7 +74,8 @@ enum kolatennis_receipt {
     KOLATENNIS_RECEIPT_REAL_TIME = 109,    /* a command whose data hold a real-time command, which the printer would carry out */
     KOLATENNIS_RECEIPT_NOT_PRINTABLE = 110, /* a barcode or QR code that a printer with lines of this width leaves out */
     KOLATENNIS_RECEIPT_TOO_LONG = 111,     /* more than 16,777,216 bytes */
-    KOLATENNIS_RECEIPT_BAD_OPTIONS = 112   /* not the text: the options are out of range */
+    KOLATENNIS_RECEIPT_BAD_OPTIONS = 112,  /* not the text: the options are out of range */
+    KOLATENNIS_RECEIPT_CUT_SHORT = 126     /* the stream ends within the command that begins at the place */
 };
 
 /* Why a host refuses a call. */
@@ -218,6 +220,11 @@ KOLATENNIS_API int kolatennis_host_nudge(kolatennis_host *host, uint32_t *reason
  * now: `reason` is a HOST reason. `options` may be NULL. */
 KOLATENNIS_API int kolatennis_host_submit(kolatennis_host *host, const kolatennis_options *options, const uint8_t *json, size_t json_len, uint32_t *reason, size_t *at);
 
+/* The same of a stream of bytes, as another library makes it for lines of `width` dots (0 stands for 512): it is a receipt if its
+ * commands are one without each ESC @ at the beginning and at the end, GS a and DLE EOT. At 1 `reason` may also be a FAULT reason, of a
+ * byte that is refused, and `at` counts the bytes of the stream, up to the first one of the command. */
+KOLATENNIS_API int kolatennis_host_submit_raw(kolatennis_host *host, uint16_t width, const uint8_t *bytes, size_t len, uint32_t *reason, size_t *at);
+
 /* Puts a status request of a kind from 1 to 4 out; possible while the link is open and no receipt is in flight. */
 KOLATENNIS_API int kolatennis_host_ask(kolatennis_host *host, uint8_t kind, uint32_t *reason);
 
@@ -335,14 +342,23 @@ enum kolatennis_note {
     KOLATENNIS_NOTE_NO_LINK = 904,  /* there was no link. The receipt waits, and nothing of it was sent this time */
     KOLATENNIS_NOTE_WAITING = 905,  /* the receipt waits. It may be printed or not: `fault` is a LINK or HOST reason, or STATUS_MEMORY */
     KOLATENNIS_NOTE_NOT_KEPT = 906, /* it isn't known whether the entry is kept. The till has failed */
-    KOLATENNIS_NOTE_CANCELLED = 907 /* the receipt is cancelled */
+    KOLATENNIS_NOTE_CANCELLED = 907, /* the receipt is cancelled */
+    KOLATENNIS_NOTE_PAUSED = 908,   /* the printer says that it prints nothing for now: `fault` is a PAUSE reason. The till goes on; wait longer for the printer */
+    KOLATENNIS_NOTE_STILL_PAUSED = 909 /* the same after LINK_TIMED_OUT, while the printer said that it prints nothing: `fault` is a PAUSE reason */
+};
+
+/* Why a printer prints nothing for now. */
+enum kolatennis_pause {
+    KOLATENNIS_PAUSE_PAPER_ENDED = 1201, /* its paper has ended */
+    KOLATENNIS_PAUSE_COVER_OPEN = 1202, /* its cover is open, and it has paper */
+    KOLATENNIS_PAUSE_OFFLINE = 1203 /* it is offline for another reason */
 };
 
 /* What a till asks for. */
 typedef struct {
     uint32_t ask;   /* an ASK */
     uint32_t note;  /* at ASK_TELL a NOTE */
-    uint32_t fault; /* at NOTE_WAITING why, otherwise 0 */
+    uint32_t fault; /* at NOTE_WAITING, NOTE_PAUSED and NOTE_STILL_PAUSED why, otherwise 0 */
     size_t number;  /* at ASK_WAIT the most bytes, at ASK_TELL the receipt's number, if the note has one; otherwise 0 */
 } kolatennis_asked;
 
@@ -365,6 +381,9 @@ KOLATENNIS_API void kolatennis_till_free(kolatennis_till *till);
 /* Takes the receipt that a text in JSON describes. At 1 either the text gives none: `reason` is a RECEIPT reason, `at` its place; or
  * `reason` is TILL_BUSY or TILL_FAILED. `options` may be NULL. */
 KOLATENNIS_API int kolatennis_till_queue(kolatennis_till *till, const kolatennis_options *options, const uint8_t *json, size_t json_len, uint32_t *reason, size_t *at);
+
+/* The same of a stream of bytes, which is read, and refused, as kolatennis_host_submit_raw does it. */
+KOLATENNIS_API int kolatennis_till_queue_raw(kolatennis_till *till, uint16_t width, const uint8_t *bytes, size_t len, uint32_t *reason, size_t *at);
 
 /* Raises the number of the next mark to `first`, where those below it were used elsewhere. At 1 `reason` is TILL_BUSY, TILL_FAILED;
  * TILL_MARK_REUSED, and then `next` the next number; or TILL_MARK_TOO_HIGH, and then `next` the last that leaves enough for a try. */
@@ -405,6 +424,10 @@ KOLATENNIS_API int kolatennis_till_link_ended(kolatennis_till *till, uint32_t wh
 /* The link is given up; and the note is read. */
 KOLATENNIS_API int kolatennis_till_hung_up(kolatennis_till *till);
 KOLATENNIS_API int kolatennis_till_told(kolatennis_till *till);
+
+/* Whether the printer says, over the link that there is, that it prints nothing for now. It may take minutes until somebody puts paper
+ * in: at ASK_WAIT, wait for it so long. */
+KOLATENNIS_API int kolatennis_till_is_paused(kolatennis_till *till, bool *is);
 
 /* How many receipts were taken: they have the numbers from 1 to this. Where one of them stands. The number of the next mark. */
 KOLATENNIS_API int kolatennis_till_receipts(kolatennis_till *till, size_t *receipts);

@@ -670,8 +670,10 @@ static kolatennis_till waits(int tries) {
     return till;
 }
 
-#define OPENINGS_FROM_0 "\x1D(H\x06\x00" "000000" "\x1D(H\x06\x00" "000001" "\x1D(H\x06\x00" "000002"
-#define OPENINGS_FROM_4 "\x1D(H\x06\x00" "000004" "\x1D(H\x06\x00" "000005" "\x1D(H\x06\x00" "000006"
+/* The printer is asked to tell its condition unasked, before the opening marks and before a receipt. */
+#define REPORTS "\x1D" "a\x0E"
+#define OPENINGS_FROM_0 REPORTS "\x1D(H\x06\x00" "000000" "\x1D(H\x06\x00" "000001" "\x1D(H\x06\x00" "000002"
+#define OPENINGS_FROM_4 REPORTS "\x1D(H\x06\x00" "000004" "\x1D(H\x06\x00" "000005" "\x1D(H\x06\x00" "000006"
 
 static void takes_a_receipt(void) {
     kolatennis_till till = KOLATENNIS_INIT;
@@ -760,7 +762,7 @@ static void delivers_a_receipt(void) {
         came(&till, BYTES("00\x00\x37\"0001\x00"), 3);
     }
     if (asks(&till).ask == KOLATENNIS_ASK_PUT) {
-        takes_out(&till, BYTES("\x1B@Hi\n\x1D(H\x06\x00" "000003"));
+        takes_out(&till, BYTES(REPORTS "\x1B@Hi\n\x1D(H\x06\x00" "000003"));
         ASKS(&till, WAIT, 93);
         came(&till, BYTES("\x37\"0001\x00\x37\"0002\x00\x37\"0003\x00"), 21);
         APPENDS(&till, RECORDED_LINE);
@@ -797,7 +799,7 @@ static void tries_a_receipt(void) {
             else came(&till, BYTES("\x37\"0006\x00"), 7);
         }
         if (asks(&till).ask == KOLATENNIS_ASK_PUT) {
-            takes_out(&till, BYTES("\x1B@\x1B" "a\x01\x1B" "E\x01" "COPY\n\x1B" "E\x00\x1B" "a\x00" "Hi\n\x1D(H\x06\x00" "000007"));
+            takes_out(&till, BYTES(REPORTS "\x1B@\x1B" "a\x01\x1B" "E\x01" "COPY\n\x1B" "E\x00\x1B" "a\x00" "Hi\n\x1D(H\x06\x00" "000007"));
             uint8_t many[200];
             size_t consumed = 77;
             memset(many, 0x12, sizeof many);
@@ -809,6 +811,56 @@ static void tries_a_receipt(void) {
         knows(&till, 1, 8, KOLATENNIS_STANDS_WAITING, 2);
         kolatennis_till_free(&till);
     }
+}
+
+static bool is_paused(kolatennis_till *till) {
+    bool paused = true;
+    IS(kolatennis_till_is_paused(till, &paused) == KOLATENNIS_STATUS_GOOD);
+    return paused;
+}
+
+/* The printer says that it prints nothing, and why, each time that this changes; once it is online, a link that ends ends as any other. */
+static void tells_pauses(void) {
+    static const struct {
+        const char *block;
+        uint32_t why;
+    } ROWS[] = {
+        {"\x18\x00\x0C\x00", KOLATENNIS_PAUSE_PAPER_ENDED}, {"\x38\x00\x0C\x00", KOLATENNIS_PAUSE_PAPER_ENDED}, {"\x38\x00\x00\x00", KOLATENNIS_PAUSE_COVER_OPEN}, {"\x18\x00\x00\x00", KOLATENNIS_PAUSE_OFFLINE},
+    };
+    for (size_t row = 0; row < COUNT(ROWS); row++)
+        for (int goes_on = 0; goes_on < 2; goes_on++) {
+            kolatennis_till till = waits(1);
+            uint32_t reason = 77;
+            size_t at = 77;
+            IS(!is_paused(&till));
+            IS(delivers(&till, "", &reason, &at) == KOLATENNIS_STATUS_GOOD && kolatennis_till_connected(&till, true) == KOLATENNIS_STATUS_GOOD);
+            APPENDS(&till, "tried 000000000000000100000008\n");
+            if (asks(&till).ask == KOLATENNIS_ASK_PUT) {
+                takes_out(&till, BYTES(OPENINGS_FROM_4));
+                came(&till, BYTES("\x10\x00\x00\x00"), 4);
+                ASKS(&till, WAIT, 96);
+                IS(!is_paused(&till));
+                came(&till, ROWS[row].block, 4, 4);
+                NOTES(&till, PAUSED, 1, ROWS[row].why);
+                ASKS(&till, WAIT, 92);
+                IS(is_paused(&till));
+                came(&till, ROWS[row].block, 4, 4);
+                ASKS(&till, WAIT, 88);
+                if (goes_on) {
+                    came(&till, BYTES("\x10\x00\x00\x00"), 4);
+                    ASKS(&till, WAIT, 84);
+                    IS(!is_paused(&till));
+                }
+                IS(kolatennis_till_link_ended(&till, KOLATENNIS_LINK_TIMED_OUT) == KOLATENNIS_STATUS_GOOD);
+            }
+            hangs_up(&till);
+            if (failing && asks(&till).fault == KOLATENNIS_STATUS_MEMORY) NOTES(&till, WAITING, 1, KOLATENNIS_STATUS_MEMORY);
+            else if (goes_on) NOTES(&till, WAITING, 1, KOLATENNIS_LINK_TIMED_OUT);
+            else NOTES(&till, STILL_PAUSED, 1, ROWS[row].why);
+            IS(!is_paused(&till));
+            knows(&till, 1, 8, KOLATENNIS_STANDS_WAITING, 2);
+            kolatennis_till_free(&till);
+        }
 }
 
 struct damaged {
@@ -873,6 +925,8 @@ static void holds_no_till(void) {
     count = 77;
     IS(kolatennis_till_state(&till, 1, &number, &count) == KOLATENNIS_STATUS_EMPTY && number == KOLATENNIS_STANDS_UNKNOWN && count == 0);
     IS(kolatennis_till_next_mark(&till, &number) == KOLATENNIS_STATUS_EMPTY && number == 0);
+    bool paused = true;
+    IS(kolatennis_till_is_paused(&till, &paused) == KOLATENNIS_STATUS_EMPTY && !paused);
     kolatennis_till_free(&till);
 }
 
@@ -947,6 +1001,7 @@ static void results_stay(void) {
         IS(kolatennis_till_receipts(&till, count_at(0)) == wanted && stays(0, s));
         IS(kolatennis_till_state(&till, 1, number_at(0), count_at(1)) == wanted && STAY_2(u, s));
         IS(kolatennis_till_next_mark(&till, number_at(0)) == wanted && stays(0, u));
+        IS(kolatennis_till_is_paused(&till, flag_at(0)) == wanted && stays(0, 1));
     }
     kolatennis_till_free(&till);
     kolatennis_host_free(&host);
@@ -1035,6 +1090,7 @@ static void all(void) {
     takes_a_receipt();
     delivers_a_receipt();
     tries_a_receipt();
+    tells_pauses();
     opens_entries();
     holds_no_till();
     prints_a_receipt();

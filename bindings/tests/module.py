@@ -46,6 +46,7 @@ class Numbers(unittest.TestCase):
         reasons = {
             "RECEIPT": kolatennis.RECEIPT_REASONS, "HOST": kolatennis.HOST_REASONS, "FAULT": kolatennis.FAULT_REASONS,
             "TILL": kolatennis.TILL_REASONS, "LINK": kolatennis.LINK_REASONS,
+            "PAUSE": kolatennis.PAUSES,
         }
         for family, names in reasons.items():
             wanted = {number: name.title().replace("_", "") for name, number in enumeration(family).items()}

@@ -50,12 +50,12 @@ static void has_names(void) {
     IS(sscanf(KOLATENNIS_VERSION, "%u.%u.%u", &major, &minor, &patch) == 3);
     IS(KOLATENNIS_VERSION_NUMBER == 10000 * major + 100 * minor + patch);
     unsigned known = 0;
-    for (uint32_t one = 0; one < 1200; one++) {
+    for (uint32_t one = 0; one < 1300; one++) {
         if (!strcmp(kolatennis_error_name(one), "unknown")) continue;
         known++;
         for (uint32_t other = 0; other < one; other++) IS(strcmp(kolatennis_error_name(one), kolatennis_error_name(other)));
     }
-    IS(known == 7 + 12 + 5 + 5 + 6 + 10);
+    IS(known == 7 + 13 + 5 + 5 + 6 + 10 + 3);
     IS(!strcmp(kolatennis_error_name(KOLATENNIS_RECEIPT_TEXT_LEFT), "TextLeft"));
     IS(!strcmp(kolatennis_error_name(UINT32_MAX), "unknown") && !strcmp(kolatennis_error_name(KOLATENNIS_EVENT_OPENED), "unknown"));
 }
@@ -85,6 +85,12 @@ static void takes_null_of_a_host(void) {
     IS(kolatennis_host_submit(&host, NULL, HI, NULL, NULL) == REFUSED);
     IS(kolatennis_host_submit(&host, NULL, NULL, 0, &reason, NULL) == REFUSED && reason == KOLATENNIS_RECEIPT_NOT_JSON);
     IS(kolatennis_host_submit(&host, NULL, HI, &reason, NULL) == REFUSED && reason == KOLATENNIS_HOST_NOT_READY);
+    IS(kolatennis_host_submit_raw(&host, 0, NULL, 0, &reason, &at) == REFUSED && reason == KOLATENNIS_RECEIPT_EMPTY && at == KOLATENNIS_NO_PLACE);
+    IS(kolatennis_host_submit_raw(&host, 0, TEXT("Hi\n\x1D"), &reason, &at) == REFUSED && reason == KOLATENNIS_RECEIPT_CUT_SHORT && at == 3);
+    IS(kolatennis_host_submit_raw(&host, 0, TEXT("Hi\n\x1D\x01"), &reason, &at) == REFUSED && reason == KOLATENNIS_FAULT_UNKNOWN_COMMAND && at == 4);
+    IS(kolatennis_host_submit_raw(&host, 0, TEXT("\x1B@Hi\n\x1B@A\n"), &reason, &at) == REFUSED && reason == KOLATENNIS_RECEIPT_FORBIDDEN && at == 5);
+    IS(kolatennis_host_submit_raw(&host, 1025, TEXT("Hi\n"), &reason, NULL) == REFUSED && reason == KOLATENNIS_RECEIPT_BAD_OPTIONS);
+    IS(kolatennis_host_submit_raw(&host, 0, TEXT("Hi\n"), &reason, NULL) == REFUSED && reason == KOLATENNIS_HOST_NOT_READY);
     IS(kolatennis_host_link_up(&host, NULL) == GOOD && kolatennis_host_link_up(&host, NULL) == REFUSED);
     IS(kolatennis_host_has_out(&host, NULL) == GOOD && kolatennis_host_state(&host, NULL) == GOOD);
     IS(kolatennis_host_next_mark(&host, NULL) == GOOD && kolatennis_host_records(&host, NULL) == GOOD);
@@ -93,6 +99,8 @@ static void takes_null_of_a_host(void) {
     IS(kolatennis_host_heard(&host, NULL, 0, &count, &event, &number) == GOOD && count == 0 && event == KOLATENNIS_EVENT_NONE && number == 0);
     IS(kolatennis_host_heard(&host, TEXT("\x37\"0007\x00"), NULL, NULL, NULL) == GOOD);
     IS(kolatennis_host_submit(&host, NULL, HI, NULL, NULL) == GOOD);
+    IS(kolatennis_host_take_out(&host, buffer, sizeof buffer, &count) == GOOD && count == 16 && !memcmp(buffer, "\x1B@Hi\n", 5));
+    IS(kolatennis_host_submit_raw(&host, 0, TEXT("\x1B@\x1D" "a\xFF" "Hi\n\x10\x04\x01\x1B@"), NULL, NULL) == GOOD);
     IS(kolatennis_host_take_out(&host, buffer, sizeof buffer, &count) == GOOD && count == 16 && !memcmp(buffer, "\x1B@Hi\n", 5));
     kolatennis_host_free(&host);
     memset(&host, 0x5A, sizeof host);
@@ -137,6 +145,12 @@ static void takes_null_of_a_till(void) {
     IS(kolatennis_till_appended(&till, true) == GOOD && kolatennis_till_take_out(&till, NULL, 0, NULL) == GOOD);
     IS(kolatennis_till_came(&till, NULL, 0, NULL) == GOOD && kolatennis_till_receipts(&till, NULL) == GOOD);
     IS(kolatennis_till_state(&till, 1, NULL, NULL) == GOOD && kolatennis_till_next_mark(&till, NULL) == GOOD);
+    IS(kolatennis_till_is_paused(&till, NULL) == GOOD);
+    kolatennis_till_free(&till);
+    IS(kolatennis_till_new(&till) == GOOD && kolatennis_till_queue_raw(&till, 0, NULL, 0, NULL, NULL) == REFUSED);
+    IS(kolatennis_till_queue_raw(&till, 0, TEXT("A\x1DV\x01"), &reason, &at) == REFUSED && reason == KOLATENNIS_RECEIPT_MID_LINE && at == 1);
+    IS(kolatennis_till_queue_raw(&till, 0, TEXT("Hi\n"), NULL, NULL) == GOOD && kolatennis_till_append(&till, buffer, sizeof buffer, NULL) == GOOD);
+    IS(!memcmp(buffer, "queued 0200001b4048690a\n", 24));
     kolatennis_till_free(&till);
     memset(&till, 0x5A, sizeof till);
     IS(kolatennis_till_open(&till, bytes("x"), 1, NULL, NULL) == REFUSED && kolatennis_till_told(&till) == KOLATENNIS_STATUS_EMPTY);
@@ -168,6 +182,8 @@ static void refuses_null(void) {
     reset();
     IS(kolatennis_host_submit(NULL, NULL, HI, &reason, &at) == BAD && reason == 0 && at == KOLATENNIS_NO_PLACE);
     IS(kolatennis_host_submit(&host, NULL, NULL, 1, NULL, NULL) == BAD);
+    reset();
+    IS(kolatennis_host_submit_raw(NULL, 0, HI, &reason, &at) == BAD && reason == 0 && at == KOLATENNIS_NO_PLACE && kolatennis_host_submit_raw(&host, 0, NULL, 1, NULL, NULL) == BAD);
     IS(kolatennis_host_take_out(NULL, buffer, 9, &count) == BAD && count == 0 && kolatennis_host_take_out(&host, NULL, 1, NULL) == BAD);
     reset();
     IS(kolatennis_host_heard(NULL, TEXT("A"), &count, &event, &number) == BAD && count == 0 && event == KOLATENNIS_EVENT_NONE && number == 0);
@@ -188,6 +204,8 @@ static void refuses_null(void) {
     reset();
     IS(kolatennis_till_queue(NULL, NULL, HI, &reason, &at) == BAD && reason == 0 && at == KOLATENNIS_NO_PLACE && kolatennis_till_queue(&till, NULL, NULL, 1, NULL, NULL) == BAD);
     reset();
+    IS(kolatennis_till_queue_raw(NULL, 0, HI, &reason, &at) == BAD && reason == 0 && at == KOLATENNIS_NO_PLACE && kolatennis_till_queue_raw(&till, 0, NULL, 1, NULL, NULL) == BAD);
+    reset();
     IS(kolatennis_till_deliver(NULL, 1, NULL, 0, 9, &reason, &at) == BAD && reason == 0 && at == KOLATENNIS_NO_PLACE && kolatennis_till_deliver(&till, 1, NULL, 1, 9, NULL, NULL) == BAD);
     reset();
     IS(kolatennis_till_cancel(NULL, 1, &reason) == BAD && reason == 0);
@@ -201,6 +219,7 @@ static void refuses_null(void) {
     IS(kolatennis_till_hung_up(NULL) == BAD && kolatennis_till_told(NULL) == BAD);
     reset();
     IS(kolatennis_till_receipts(NULL, &count) == BAD && count == 0 && kolatennis_till_next_mark(NULL, &reason) == BAD && reason == 0);
+    IS(kolatennis_till_is_paused(NULL, &has) == BAD && !has);
     reset();
     IS(kolatennis_till_state(NULL, 1, &reason, &count) == BAD && reason == KOLATENNIS_STANDS_UNKNOWN && count == 0);
     kolatennis_till_free(&till);

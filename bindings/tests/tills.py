@@ -142,6 +142,24 @@ def delivers_what_waits(till, folder):
     Run(till, folder, Printer(prints).port, receipt=os.devnull).ends(DELIVERED, "recorded 1\nrecorded 2\n")
 
 
+def tells_that_the_printer_pauses(till, folder):
+    """Its paper has ended while a receipt comes, and is put in; then its cover is open, and it leaves."""
+
+    def serves(link):
+        answers(link, takes(link, 3))
+        receipt = takes(link, 1)
+        if printer.links == 1:
+            link.sendall(b"\x18\x00\x0c\x00" b"\x10\x00\x00\x00")
+            answers(link, receipt)
+            is_ended(link)
+        else:
+            link.sendall(b"\x38\x00\x00\x00")
+
+    printer = Printer(serves)
+    Run(till, folder, printer.port).ends(DELIVERED, "paused 1 PaperEnded\nrecorded 1\n")
+    Run(till, folder, printer.port).ends(MAY_BE_PRINTED, "paused 2 CoverOpen\nwaiting 2 Ended\n")
+
+
 def refuses_what_is_no_till(till, folder):
     """It is as it was. (To the till in Python none of these is a database.)"""
     printer = Printer(prints)
@@ -330,7 +348,7 @@ def is_stopped_for_a_while(till, folder):
 
 
 ROWS = [
-    records, goes_on_with_the_entries, keeps_the_entry_before_a_byte_is_sent, delivers_what_waits, refuses_what_is_no_till,
+    records, goes_on_with_the_entries, keeps_the_entry_before_a_byte_is_sent, delivers_what_waits, tells_that_the_printer_pauses, refuses_what_is_no_till,
     refuses_damaged_entries, cannot_keep_an_entry, shares_no_file, is_no_receipt, wants_arguments, finds_no_printer, output_is_full,
     output_is_closed, link_is_closed, answer_is_bad, is_never_accepted, is_never_answered, receipt_is_never_answered,
     is_answered_bit_by_bit, is_taken_bit_by_bit, is_stopped_for_a_while,
@@ -396,10 +414,10 @@ def rows_of(printed):
 
 
 def prints_after_a_link_was_cut(program, till, folder):
-    """An older link ended in the middle of a raster: the first opening marks are its dots."""
+    """An older link ended in the middle of a raster: the request for automatic status and the first opening marks are its dots."""
     with emulate(program, 2, os.path.join(folder, "printed")) as port:
         with socket.create_connection(("127.0.0.1", port)) as link:
-            link.sendall(b"\x1dv0\x00\x02\x00\x0a\x00AB")
+            link.sendall(b"\x1dv0\x00\x02\x00\x0c\x00ABC")
         Run(till, folder, port).ends(DELIVERED, "recorded 1\n")
 
 

@@ -10,7 +10,8 @@
  *   ./till 127.0.0.1 9100 entries.txt < examples/gate_ticket.json
  *
  * With no receipt (</dev/null) it delivers what waits. It prints `recorded N` or `waiting N WHY` of the receipt number N. All that it
- * does for one receipt takes at most ten seconds. The exit status:
+ * does for one receipt takes at most ten seconds; but once the printer says that its paper has ended, or its cover is open, that is told
+ * by `paused N WHY`, and the receipt is given ten minutes more. The exit status:
  *   0  no receipt waits
  *   1  refused: the text is no receipt, and wasn't taken
  *   2  the caller's own fault (arguments, input, the file)
@@ -35,7 +36,7 @@
 #include <unistd.h>
 
 enum { DELIVERED, REFUSED, FAULT, NOT_SENT, MAY_BE_PRINTED, UNSAID };
-enum { SECONDS = 10, OPENINGS = 3, MOST_ANSWERS = 65536 };
+enum { SECONDS = 10, PATIENCE = 600, OPENINGS = 3, MOST_ANSWERS = 65536 };
 static kolatennis_till till = KOLATENNIS_INIT;
 static uint8_t receipt[16777217]; /* a byte more than a receipt's text may have */
 static uint8_t answer[256];
@@ -143,7 +144,8 @@ static uint32_t hears(int link, size_t most, long long end) {
 static void tells(uint32_t note, size_t number, uint32_t why) {
     if (note == KOLATENNIS_NOTE_NOT_KEPT) outcome = ends(FAULT, "an entry may not be kept: ", "the next run finds it, or it doesn't");
     if (note == KOLATENNIS_NOTE_NO_LINK) outcome = NOT_SENT;
-    if (note == KOLATENNIS_NOTE_WAITING) outcome = MAY_BE_PRINTED;
+    if (note == KOLATENNIS_NOTE_WAITING || note == KOLATENNIS_NOTE_STILL_PAUSED) outcome = MAY_BE_PRINTED;
+    if (note == KOLATENNIS_NOTE_PAUSED) printf("paused %zu %s\n", number, kolatennis_error_name(why));
     if (note == KOLATENNIS_NOTE_RECORDED) printf("recorded %zu\n", number);
     if (outcome >= NOT_SENT) printf("waiting %zu %s\n", number, outcome == NOT_SENT ? "NoLink" : kolatennis_error_name(why));
     is_unsaid |= fflush(stdout);
@@ -165,6 +167,7 @@ static void runs(const struct addrinfo *printer) {
             kolatennis_till_hung_up(&till);
         } else if (asked.ask == KOLATENNIS_ASK_TELL) {
             tells(asked.note, asked.number, asked.fault);
+            if (asked.note == KOLATENNIS_NOTE_PAUSED) end = now() + PATIENCE * 1000LL;
             kolatennis_till_told(&till);
         } else if ((why = asked.ask == KOLATENNIS_ASK_PUT ? sends(link, end) : hears(link, asked.number, end))) {
             kolatennis_till_link_ended(&till, why);

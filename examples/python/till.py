@@ -10,7 +10,8 @@ a line that says so. One till at a time may have the database.
     examples/python/till.py 127.0.0.1 9100 till.db < examples/gate_ticket.json
 
 With no receipt (</dev/null) it delivers what waits. It prints `recorded N` or `waiting N WHY` of the receipt number N. All that it does
-for one receipt takes at most ten seconds. The exit status:
+for one receipt takes at most ten seconds; but once the printer says that its paper has ended, or its cover is open, that is told by
+`paused N WHY`, and the receipt is given ten minutes more. The exit status:
     0  no receipt waits
     1  refused: the text is no receipt, and wasn't taken
     2  the caller's own fault (arguments, input, the database)
@@ -23,7 +24,7 @@ import ipaddress, os, re, socket, sqlite3, sys, time
 import kolatennis
 
 DELIVERED, REFUSED, FAULT, NOT_SENT, MAY_BE_PRINTED, UNSAID = range(6)
-SECONDS = 10
+SECONDS, PATIENCE = 10, 600
 
 
 class Fault(Exception):
@@ -104,6 +105,8 @@ def run(store, place):
                 till.hung_up()
             else:
                 status = tell(asked) or status
+                if asked.note == "paused":
+                    link.end = time.monotonic() + PATIENCE
                 till.told()
         except OSError as why:
             if asked.ask == "connect":
@@ -117,7 +120,9 @@ def tell(asked):
     """Prints what became of a receipt, and returns the exit status that it stands for."""
     if asked.note == "recorded":
         return say(f"recorded {asked.number}", sys.stdout)
-    if asked.note in ("no link", "waiting"):
+    if asked.note == "paused":
+        return say(f"paused {asked.number} {asked.why}", sys.stdout)
+    if asked.note in ("no link", "waiting", "still paused"):
         say(f"waiting {asked.number} {asked.why or 'NoLink'}", sys.stdout)
         return MAY_BE_PRINTED if asked.why else NOT_SENT
     if asked.note == "not kept":

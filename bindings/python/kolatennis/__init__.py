@@ -20,7 +20,7 @@ feed 1
 """
 from ._errors import Closed, Damaged, Error, Forked, NoPillow, NotNow, OutOfMemory, OutOfRange, Refused, TooLong
 from ._line import Event, Fed, Host, Printer
-from ._numbers import ASKS, EVENTS, FAULT_REASONS, HOST_REASONS, LINK_REASONS, NOTES, RECEIPT_REASONS, STANDS, STATES, STOPS, TILL_REASONS
+from ._numbers import ASKS, EVENTS, FAULT_REASONS, HOST_REASONS, LINK_REASONS, NOTES, PAUSES, RECEIPT_REASONS, STANDS, STATES, STOPS, TILL_REASONS
 from ._texts import Paper, Receipt, Text, encode, image, listing, paper, picture
 from ._till import Asked, Standing, Till
 from ._version import __version__
@@ -28,6 +28,6 @@ from ._version import __version__
 __all__ = [
     "encode", "image", "listing", "paper", "picture", "Till", "Host", "Printer", "Receipt", "Text", "Paper", "Asked", "Standing", "Event",
     "Fed", "Error", "Closed", "Damaged", "Forked", "NoPillow", "NotNow", "OutOfMemory", "OutOfRange", "Refused", "TooLong",
-    "RECEIPT_REASONS", "HOST_REASONS", "FAULT_REASONS", "TILL_REASONS", "LINK_REASONS", "EVENTS", "STATES", "STOPS", "ASKS", "NOTES",
+    "RECEIPT_REASONS", "HOST_REASONS", "FAULT_REASONS", "TILL_REASONS", "LINK_REASONS", "EVENTS", "STATES", "STOPS", "ASKS", "NOTES", "PAUSES",
     "STANDS", "__version__",
 ]

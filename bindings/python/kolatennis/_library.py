@@ -59,6 +59,7 @@ _CALLS = {
     "kolatennis_host_link_up": [_HANDLE, _U32],
     "kolatennis_host_nudge": [_HANDLE, _U32],
     "kolatennis_host_submit": [_HANDLE, _OPTIONS, *_BUFFER, _U32, _SIZE],
+    "kolatennis_host_submit_raw": [_HANDLE, ctypes.c_uint16, *_BUFFER, _U32, _SIZE],
     "kolatennis_host_ask": [_HANDLE, ctypes.c_uint8, _U32],
     "kolatennis_host_link_down": [_HANDLE],
     "kolatennis_host_take_out": [_HANDLE, *_BUFFER, _SIZE],
@@ -78,6 +79,7 @@ _CALLS = {
     "kolatennis_till_open": [_HANDLE, *_BUFFER, _U32, _SIZE],
     "kolatennis_till_free": [_HANDLE],
     "kolatennis_till_queue": [_HANDLE, _OPTIONS, *_BUFFER, _U32, _SIZE],
+    "kolatennis_till_queue_raw": [_HANDLE, ctypes.c_uint16, *_BUFFER, _U32, _SIZE],
     "kolatennis_till_raise": [_HANDLE, ctypes.c_uint32, _U32, _U32],
     "kolatennis_till_cancel": [_HANDLE, ctypes.c_size_t, _U32],
     "kolatennis_till_deliver": [_HANDLE, ctypes.c_uint32, *_BUFFER, ctypes.c_uint32, _U32, _SIZE],
@@ -92,6 +94,7 @@ _CALLS = {
     "kolatennis_till_told": [_HANDLE],
     "kolatennis_till_receipts": [_HANDLE, _SIZE],
     "kolatennis_till_state": [_HANDLE, ctypes.c_size_t, _U32, _SIZE],
+    "kolatennis_till_is_paused": [_HANDLE, _BOOL],
     "kolatennis_till_next_mark": [_HANDLE, _U32],
 }
 

@@ -145,11 +145,27 @@ class Host(_Held):
     def submit(self, receipt: Receipt, width: int = 512, replacement: Optional[str] = None) -> None:
         """Puts a receipt out; possible while the link is open and fewer than four are in flight. Raises Refused where it is no
         receipt, and NotNow where the host takes none. `width` and `replacement` are those of `encode`."""
-        chosen, text, reason, at = options(width, replacement), as_json(receipt), ctypes.c_uint32(), ctypes.c_size_t()
-        arguments = (ctypes.byref(chosen), text, len(text), ctypes.byref(reason), ctypes.byref(at))
-        if self._do(library.kolatennis_host_submit, *arguments) == Status.REFUSED:
-            if reason.value in RECEIPT_REASONS:
-                raise Refused(RECEIPT_REASONS[reason.value], place(at.value))
+        chosen, text = options(width, replacement), as_json(receipt)
+        self._submit(library.kolatennis_host_submit, ctypes.byref(chosen), text, len(text))
+
+    def submit_raw(self, stream: Bytes, width: int = 512) -> None:
+        """The same of a stream of bytes, as another library makes it: it is a receipt if its commands are one without each ESC @ at the
+        beginning and at the end, GS a and DLE EOT. The place of a refusal is that of a byte.
+
+        >>> Host().submit_raw(b"\\x1b@Hi\\n\\x1b@Ho\\n")
+        Traceback (most recent call last):
+        ...
+        kolatennis.Refused: Forbidden at 5
+        """
+        given = as_bytes(stream)
+        self._submit(library.kolatennis_host_submit_raw, dots(width), given, len(given))
+
+    def _submit(self, call: Callable[..., int], *arguments: Any) -> None:
+        reason, at = ctypes.c_uint32(), ctypes.c_size_t()
+        if self._do(call, *arguments, ctypes.byref(reason), ctypes.byref(at)) == Status.REFUSED:
+            why = {**RECEIPT_REASONS, **FAULT_REASONS}.get(reason.value)
+            if why is not None:
+                raise Refused(why, place(at.value))
             raise NotNow(HOST_REASONS[reason.value])
 
     def link_down(self) -> None:

@@ -21,6 +21,7 @@ class Status(enum.IntEnum):
 RECEIPT_REASONS: Dict[int, str] = {
     101: "Empty", 102: "Forbidden", 103: "TextLeft", 104: "MidLine", 105: "NotJson", 106: "BadShape", 107: "ControlByte",
     108: "NoCharacter", 109: "RealTime", 110: "NotPrintable", 111: "TooLong", 112: "BadOptions",
+    126: "CutShort",
 }
 #: Why a host takes no call, by number.
 HOST_REASONS: Dict[int, str] = {201: "NotReady", 202: "MarksUsedUp", 203: "AlreadyUp", 206: "InFlightFull", 209: "NoKind"}
@@ -42,10 +43,13 @@ ASKS: Dict[int, str] = {800: "nothing", 801: "append", 802: "connect", 803: "put
 #: What a till tells its owner, by number.
 NOTES: Dict[int, str] = {
     900: "none", 901: "queued", 902: "raised", 903: "recorded", 904: "no link", 905: "waiting", 906: "not kept", 907: "cancelled",
+    908: "paused", 909: "still paused",
 }
 #: Why a link ended, by number.
 LINK_REASONS: Dict[int, str] = {
     1001: "Ended", 1002: "ReadFault", 1003: "WriteFault", 1004: "TimedOut", 1005: "TooManyAnswers", 1006: "BadAnswer",
 }
+#: Why a printer prints nothing for now, by number.
+PAUSES: Dict[int, str] = {1201: "PaperEnded", 1202: "CoverOpen", 1203: "Offline"}
 #: Where a receipt of a till stands, by number.
 STANDS: Dict[int, str] = {1100: "unknown", 1101: "waiting", 1102: "recorded", 1103: "cancelled"}

@@ -5,9 +5,9 @@ import ctypes
 from typing import Callable, Iterator, NamedTuple, Optional, Union
 
 from ._errors import Damaged, NotNow, OutOfRange, Refused
-from ._library import NO_PLACE, Asks, Bytes, as_bytes, in_range, library, options, place
+from ._library import NO_PLACE, Asks, Bytes, as_bytes, dots, in_range, library, options, place
 from ._line import _Held
-from ._numbers import ASKS, HOST_REASONS, LINK_REASONS, NOTES, RECEIPT_REASONS, STANDS, TILL_REASONS, Status
+from ._numbers import ASKS, FAULT_REASONS, HOST_REASONS, LINK_REASONS, NOTES, RECEIPT_REASONS, STANDS, TILL_REASONS, Status
 from ._texts import Receipt, as_json
 
 #: A mark number has 32 bits, and so has the number of answers' bytes.
@@ -16,7 +16,7 @@ _MOST = 2**32 - 1
 
 class Asked(NamedTuple):
     """What a till asks for: a name of ASKS. At "tell" `note` is a name of NOTES, `number` the receipt's, if the note has one, and `why` at
-    "waiting" a name of LINK_REASONS or HOST_REASONS, or "out of memory". At "wait" `number` is the most bytes that are read."""
+    "waiting" a name of LINK_REASONS or HOST_REASONS, or "out of memory", at "paused" and "still paused" one of PAUSES. At "wait" `number` is the most bytes that are read."""
 
     ask: str
     note: str = "none"
@@ -96,8 +96,9 @@ class Till(_Held):
     def _does(self, call: Callable[..., int], *arguments: object) -> None:
         reason, at = ctypes.c_uint32(), ctypes.c_size_t()
         if self._do(call, *arguments, ctypes.byref(reason), ctypes.byref(at)) == Status.REFUSED:
-            if reason.value in RECEIPT_REASONS:
-                raise Refused(RECEIPT_REASONS[reason.value], place(at.value))
+            why = {**RECEIPT_REASONS, **FAULT_REASONS}.get(reason.value)
+            if why is not None:
+                raise Refused(why, place(at.value))
             raise NotNow({**TILL_REASONS, **HOST_REASONS}[reason.value])
 
     def queue(self, receipt: Receipt, width: int = 512, replacement: Optional[str] = None) -> None:
@@ -111,6 +112,17 @@ class Till(_Held):
         """
         chosen, text = options(width, replacement), as_json(receipt)
         self._does(library.kolatennis_till_queue, ctypes.byref(chosen), text, len(text))
+
+    def queue_raw(self, stream: Bytes, width: int = 512) -> None:
+        """Takes a stream of bytes, as another library makes it, as a receipt; as `Host.submit_raw` reads and refuses it.
+
+        >>> Till().queue_raw(b"\\x1b@Hi\\n\\x1d\\x00")
+        Traceback (most recent call last):
+        ...
+        kolatennis.Refused: UnknownCommand at 6
+        """
+        given = as_bytes(stream)
+        self._does(library.kolatennis_till_queue_raw, dots(width), given, len(given))
 
     def raise_mark(self, first: int) -> None:
         """Raises the number of the next mark, where those below it were used elsewhere. Raises NotNow where it is higher already."""
@@ -210,6 +222,11 @@ class Till(_Held):
         told = (in_range(number, NO_PLACE, "number"), ctypes.byref(state), ctypes.byref(count))
         self._do(library.kolatennis_till_state, *told)
         return Standing(STANDS[state.value], count.value)
+
+    @property
+    def is_paused(self) -> bool:
+        """Whether the printer says, over the link that there is, that it prints nothing for now. At "wait", wait longer for it then."""
+        return bool(self._number(library.kolatennis_till_is_paused, ctypes.c_bool))
 
     @property
     def next_mark(self) -> int:

@@ -17,3 +17,4 @@ pub mod TillLines
 pub mod TillTexts
 pub mod TillNumbers
 pub mod TillCalls
+pub mod RawCalls

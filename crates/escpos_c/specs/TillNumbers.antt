@@ -8,6 +8,8 @@ use Rattle.escpos_till.specs.declared.machine.Action.{Action}
 use Rattle.escpos_till.specs.declared.machine.Action.TheVariants as action
 use Rattle.escpos_till.specs.declared.machine.TillNote.{TillNote}
 use Rattle.escpos_till.specs.declared.machine.TillNote.TheVariants as note
+use Rattle.escpos_till.specs.declared.pause.Pause.{Pause}
+use Rattle.escpos_till.specs.declared.pause.Pause.TheVariants as pause
 use Rattle.escpos_till.specs.declared.machine.TillRefusal.{TillRefusal}
 use Rattle.escpos_till.specs.declared.machine.TillRefusal.TheVariants as refusal
 use Rattle.escpos_till.specs.declared.state.ReceiptState.{ReceiptState}
@@ -40,6 +42,11 @@ abbrev pub store_number : StoreFault → ℕ
 store_number store.Memory = 21
 store_number store.Failed = 22
 
+abbrev pub pause_number : Pause → ℕ
+pause_number pause.PaperEnded = 31
+pause_number pause.CoverOpen = 32
+pause_number pause.Offline = 33
+
 abbrev pub only : ℕ → Asked
 only ask = record { ask = ask; note = 0; fault = NO_REASON; number = 0 }
 
@@ -54,6 +61,8 @@ note_asked (note.NoLink number) = telling 4 NO_REASON number
 note_asked (note.Waiting number why) = telling 5 (fault_number why) number
 note_asked (note.NotKept why) = telling 6 (store_number why) 0
 note_asked (note.Cancelled number tried) = telling 7 NO_REASON number
+note_asked (note.Paused number why) = telling 8 (pause_number why) number
+note_asked (note.StillPaused number why) = telling 9 (pause_number why) number
 
 abbrev pub asked_of : Action → Asked
 asked_of action.Nothing = only 0

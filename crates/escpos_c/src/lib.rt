@@ -2,7 +2,7 @@
 //! a printer and the machine of a till in handles.
 //!
 //! The functions that C calls are those of `encode`, `stateless` and `image`, which keep nothing, of `host` and `submit`, which
-//! work on a host that a handle holds, of `printer`, and of `till`. `options` has the numbers in which C says the width of a line and a
+//! work on a host that a handle holds, of `printer`, of `till`, and of `raw`, which takes the bytes of other libraries. `options` has the numbers in which C says the width of a line and a
 //! receipt's options; `call_status`, `refusal`, `host_core`, `printer_core` and `till_numbers` have those in which C is told what came of a call,
 //! `no_receipt` why a text gives no receipt. `spelling` has the bytes of a receipt, `limited_text` the text of a job, and `buffer` moves
 //! them into the caller's buffer. `till_lines` writes and reads the entries of a till as lines of text, and `till_texts` makes a
@@ -25,6 +25,7 @@ mod options;
 mod printer;
 mod printer_core;
 mod printer_handle;
+mod raw;
 mod refusal;
 mod slot;
 mod spelling;

@@ -2,14 +2,16 @@
 
 ghost use Rattle.std.specs.Prelude.{◌≡◌, Option};
 ghost use Rattle.escpos_receipt.specs.Refusals.{json_number, json_place};
+ghost use Rattle.escpos_stream.specs.Refusals.{stream_number, stream_place};
 ghost use Rattle.escpos_c.specs.EncodeCalls.{place_number};
 
 use escpos_receipt::JsonFault;
+use escpos_stream::StreamFault;
 
 /// The reason where nothing is refused.
 pub const NO_REASON: u32 = 0;
 
-/// The reason of a text that is longer than 16,777,216 bytes. Those of other texts are 1 to 10.
+/// The reason of a text or a stream that is longer than 16,777,216 bytes. Those of others are 1 to 10, and of streams 21 to 26 too.
 pub const TOO_LONG: u32 = 11;
 
 /// The reason where the options of a receipt are out of range.
@@ -31,7 +33,7 @@ const _: () = prove!(NO_KIND == 9);
 
 const _: () = prove!(NO_PLACE == 18_446_744_073_709_551_615);
 
-/// Why a receipt is refused: a number, and the place of the entry or the command, counted from 0.
+/// Why a receipt is refused: a number, and the place of the entry, the command or, in a stream, the byte, counted from 0.
 #[derive(Clone, Copy, Debug, PartialEq, Eq)]
 pub struct Refusal {
     pub reason: u32,
@@ -87,5 +89,15 @@ impl From<JsonFault> for Refusal {
             reason: u32::from(fault.number()),
             at: fault.place().unwrap_or(NO_PLACE),
         }
+    }
+}
+
+impl From<StreamFault> for Refusal {
+    ghost from_gives = { λ fault refusal. (refusal.reason ≡ stream_number fault) × (refusal.at ≡ place_number (stream_place fault)) };
+
+    fn from(fault: StreamFault) -> Self {
+        let at = fault.place().unwrap_or(NO_PLACE);
+        let reason = u32::from(fault.number());
+        Refusal { reason, at }
     }
 }

@@ -1,10 +1,10 @@
 //! The till that a handle holds: what its owner asks of it, what it asks for, and what it is told.
 
-ghost use Rattle.std.specs.Prelude.{◌≡◌, ℕ, List, length, pos, None, IfErr, IfOk, IsTrue, MatchOption};
+ghost use Rattle.std.specs.Prelude.{◌≡◌, ◌↔◌, ℕ, List, length, pos, None, IfErr, IfOk, IsTrue, MatchOption, false};
 ghost use Rattle.escpos_till.specs.declared.entry.Entry.{Entry};
 ghost use Rattle.escpos_till.specs.Book.{IsBookOf};
 ghost use Rattle.escpos_till.specs.Entries.{states};
-ghost use Rattle.escpos_till.specs.Machine.{Came, hung_up, told};
+ghost use Rattle.escpos_till.specs.Machine.{Came, IsPausing, hung_up, told};
 ghost use Rattle.escpos_c.specs.declared.refusal.TheConstants.{NO_REASON};
 ghost use Rattle.escpos_c.specs.Given.{receipt_options};
 ghost use Rattle.escpos_c.specs.Handles.{OnHandle};
@@ -339,6 +339,22 @@ pub extern "C" fn escpos_till_standing(
         return CallStatus::Empty.number();
     };
     *standing = core.standing(number);
+    till.put(alloc, core);
+    CallStatus::Good.number()
+}
+
+/// Whether the printer says, over the link that there is, that it prints nothing for now.
+#[unsafe(no_mangle)]
+pub extern "C" fn escpos_till_is_paused(alloc: Global, till: &mut TillHandle, is: &mut bool) -> i32
+    ensures same { till.new.value ≡ till.old.value }
+    ensures told { MatchOption till.old.value ((result ≡ pos 2) × (is.new ≡ false))
+        (λ core. (result ≡ pos 0) × (IsTrue is.new ↔ IsPausing core.machine.stage)) }
+{
+    let Some(core) = till.take(alloc) else {
+        *is = false;
+        return CallStatus::Empty.number();
+    };
+    *is = core.machine.is_paused();
     till.put(alloc, core);
     CallStatus::Good.number()
 }

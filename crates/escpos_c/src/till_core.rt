@@ -71,8 +71,8 @@ impl TillCore {
         }
     }
 
-    // Takes a receipt that was read.
-    fn take(&mut self, content: ReceiptContent) -> Result<(), TillRefusal>
+    /// Takes a receipt that was read.
+    pub fn take(&mut self, content: ReceiptContent) -> Result<(), TillRefusal>
         ensures taken { OnOk result (Queues self.old.machine content self.new.machine) }
         ensures refused { IfErr result (λ why. RefusesAny self.old.machine why × SameEntries self.old.machine self.new.machine) }
     {

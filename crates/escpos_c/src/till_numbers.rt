@@ -2,12 +2,12 @@
 
 ghost use Rattle.std.specs.Prelude.{◌≡◌, None, IfErr, OnOk};
 ghost use Rattle.escpos_c.specs.declared.refusal.TheConstants.{NO_REASON, NO_PLACE};
-ghost use Rattle.escpos_c.specs.TillNumbers.{fault_number, fault_of, note_asked, nothing_told, only, refused_for, standing_at, standing_of, store_number, telling, till_status, told_of};
+ghost use Rattle.escpos_c.specs.TillNumbers.{fault_number, fault_of, note_asked, nothing_told, only, pause_number, refused_for, standing_at, standing_of, store_number, telling, till_status, told_of};
 
 use crate::call_status::CallStatus;
 use crate::refusal::{NO_PLACE, NO_REASON, Refusal};
 use escpos_host::SendFault;
-use escpos_till::{ReceiptState, StoreFault, TillNote, TillRefusal};
+use escpos_till::{Pause, ReceiptState, StoreFault, TillNote, TillRefusal};
 
 /// The reason of a copy's text that isn't 1 to 42 characters from 20 to 7E hexadecimal. Those of a machine are less.
 pub const BAD_COPY: u32 = 7;
@@ -31,9 +31,10 @@ pub struct Asked {
     /// 0 nothing, 1 an entry to be kept, 2 a link, 3 bytes to be put, 4 answers, 5 the link to be given up, 6 its owner to be told.
     pub ask: u32,
     /// At 6 what its owner is to be told: 1 a receipt is taken, 2 the next mark number is raised, 3 a receipt is recorded, 4 there
-    /// was no link, 5 a receipt isn't known to be printed, 6 an entry may not be kept, 7 a receipt is cancelled; otherwise 0.
+    /// was no link, 5 a receipt isn't known to be printed, 6 an entry may not be kept, 7 a receipt is cancelled, 8 the printer prints
+    /// nothing for now, 9 it was waited for as long as may be meanwhile, and a receipt isn't known to be printed; otherwise 0.
     pub note: u32,
-    /// At the notes 5 and 6 why; otherwise 0.
+    /// At the notes 5, 6, 8 and 9 why; otherwise 0.
     pub fault: u32,
     /// At 4 the most bytes of answers that are read; at 6 the number of the receipt, if there is one; otherwise 0.
     pub number: usize,
@@ -101,6 +102,8 @@ pub fn note_asked(note: TillNote) -> Asked
         TillNote::Waiting { number, why } => telling(5, fault_number(why), number.get()),
         TillNote::NotKept(why) => telling(6, store_number(why), 0),
         TillNote::Cancelled { number, .. } => telling(7, NO_REASON, number.get()),
+        TillNote::Paused { number, why } => telling(8, pause_number(why), number.get()),
+        TillNote::StillPaused { number, why } => telling(9, pause_number(why), number.get()),
     }
 }
 
@@ -138,6 +141,17 @@ fn store_number(fault: StoreFault) -> u32
     match fault {
         StoreFault::Memory => 21,
         StoreFault::Failed => 22,
+    }
+}
+
+// The number of why a printer prints nothing for now.
+fn pause_number(why: Pause) -> u32
+    ensures { result ≡ pause_number why }
+{
+    match why {
+        Pause::PaperEnded => 31,
+        Pause::CoverOpen => 32,
+        Pause::Offline => 33,
     }
 }
 
