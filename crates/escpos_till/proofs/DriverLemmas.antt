@@ -7,6 +7,8 @@ use Rattle.escpos_host.specs.declared.host.HostEvent.{HostEvent}
 use Rattle.escpos_host.specs.declared.host.HostEvent.TheVariants as event
 use Rattle.escpos_host.specs.declared.send.SendFault.{SendFault}
 use Rattle.escpos_host.specs.declared.send.SendFault.TheVariants as fault
+use Rattle.escpos_host.specs.declared.host.HostError.TheVariants as error
+use Rattle.escpos_till.specs.Delivers.{marks_taken}
 use Rattle.escpos_host.specs.Heard.{IsHeard}
 use Rattle.escpos_host.specs.Machine.{HostView, IsSound, Phase, Down, Open, Opening}
 use Rattle.escpos_till.specs.declared.book.Book.{Book}
@@ -20,11 +22,13 @@ use Rattle.escpos_till.specs.declared.machine.Then.{Then}
 use Rattle.escpos_till.specs.declared.machine.Then.TheVariants as then
 use Rattle.escpos_till.specs.declared.machine.TillNote.{TillNote}
 use Rattle.escpos_till.specs.declared.machine.TillNote.TheVariants as note
+use Rattle.escpos_till.specs.declared.machine.Action.{Action}
 use Rattle.escpos_till.specs.declared.machine.Action.TheVariants as action
 use Rattle.escpos_till.specs.declared.pause.Pause.{Pause}
 use Rattle.escpos_till.specs.declared.store.StoreFault.{StoreFault}
-use Rattle.escpos_till.specs.Driver.{Breaks, Deed, DidAll, Ends, Gives, HangsUp, HearsAll, IsGiven, IsSaid, IsTelling, IsTold, Keeps, Links, Loses, Misses, Pauses, Puts, RanQuietly, RanUpTo, SaysNothing, Tells, TellsNothing, Turns}
-use Rattle.escpos_till.specs.Machine.{Asks, AsksIn, Came, Ended, EndsFinally, Follows, IsFinal, news_in, news_of, told, GoesOn, HearsOne, Kept, MachineView, Opens, Rests, Submits, Turns as Turned, Unsure, connected, ended_by, first_talk, hung_up, lost, not_connected, printed, put, with_left, with_pause, with_sent}
+use Rattle.escpos_till.specs.Driver.{Breaks, Deed, DidAll, Ends, Gives, HangsUp, HearsAll, IsGiven, IsSaid, IsTelling, IsTold, Keeps, Learns, Links, Loses, Misses, Pauses, Puts, RanQuietly, RanUpTo, SaysNothing, Tells, TellsNothing, Turns}
+use Rattle.escpos_till.specs.Learning.{Learned, Revises}
+use Rattle.escpos_till.specs.Machine.{Asks, AsksIn, PutsFirst, Came, Ended, EndsFinally, Follows, IsFinal, news_in, news_of, told, GoesOn, HearsOne, Kept, MachineView, Opens, Rests, Submits, Turns as Turned, Unsure, connected, ended_by, first_talk, hung_up, lost, not_connected, printed, put, with_left, with_pause, with_sent}
 
 -- 1 while a machine talks.
 abbrev pub is_talking : Stage → ℕ
@@ -168,6 +172,23 @@ kept_not s e next m after is kept = follows_not next m.host m.book.next after.bo
 unsure_not : (s : Stage) (e : Entry) (next : Then) (why : StoreFault) (m after : MachineView) → s ≡ stage.Keeping e next → Unsure s why m after → Rests after.stage → ⊥
 unsure_not s e next why m after is unsure = not_at after.stage (lost next why) (subst (λ at. Unsure at why m after) is unsure).2 (lost_not next why)
 
+revised_not : (next : Then) (b : Book) (before h : HostView) (s : Stage) → Revises next b before h s → Rests s → ⊥
+revised_not (then.Send due) b before h s (inl (waits, marks, same, is)) = not_at s (stage.Keeping (entry.Tried due.number (b.next + marks_taken due.openings)) (then.Send due)) is (λ h. h)
+revised_not (then.Send due) b before h s (inr (inl (none, drops, is))) = not_at s (stage.HangingUp (note.Waiting due.number (fault.Refused error.MarksUsedUp))) is (λ h. h)
+revised_not (then.Send due) b before h s (inr (inr (tried, cancelled, drops, is))) = not_at s (stage.HangingUp (note.Cancelled due.number tried)) is (λ h. h)
+revised_not (then.Recorded n) b before h s (inl (waits, same, is)) = not_at s (printed n) is (λ h. h)
+revised_not (then.Recorded n) b before h s (inr (tried, cancelled, drops, is)) = not_at s (stage.HangingUp (note.Cancelled n tried)) is (λ h. h)
+revised_not then.Queued b before h s none = absurd none
+revised_not then.Raised b before h s none = absurd none
+revised_not (then.Cancelled n tried) b before h s none = absurd none
+
+keeps_learned : (e : Entry) (next : Then) (others : List Entry) (m after : MachineView) → Learned (stage.Keeping e next) others m after → Rests after.stage → ⊥
+keeps_learned e next others m after (inl (each, notes, revises)) = revised_not next after.book m.host after.host after.stage revises
+keeps_learned e next others m after (inr (why, none, drops, is)) = not_at after.stage (lost next why) is (lost_not next why)
+
+learned_not : (s : Stage) (e : Entry) (next : Then) (others : List Entry) (m after : MachineView) → s ≡ stage.Keeping e next → Learned s others m after → Rests after.stage → ⊥
+learned_not s e next others m after is learned = keeps_learned e next others m after (subst (λ at. Learned at others m after) is learned)
+
 ended_not : (s : Stage) (talk : Talk) (why : SendFault) (m after : MachineView) → s ≡ stage.Talking talk → Ended s why m after → Rests after.stage → ⊥
 ended_not s talk why m after is ended = not_at after.stage (stage.HangingUp (ended_by talk why)) (subst (λ at. Ended at why m after) is ended).2 (λ h. h)
 
@@ -209,6 +230,7 @@ given_not m talk (b ∷ bs) after is (counts, hears) = hears_not m (b ∷ bs) co
 pub goes_on : (m : MachineView) (d : Deed) (after : MachineView) → (IsTold d → ⊥) → Turns m d after → Rests after.stage → ⊥
 goes_on m (Keeps e) after never (next, is, kept) = kept_not m.stage e next m after is kept
 goes_on m (Loses e why) after never (next, is, unsure) = unsure_not m.stage e next why m after is unsure
+goes_on m (Learns others) after never (e, next, is, learned) = learned_not m.stage e next others m after is learned
 goes_on m Links after never (due, is, done) =
     λ rests. subst (λ (k : MachineView). Rests k.stage) (done ∙ ap (λ s. connected s m) is) rests
 goes_on m Misses after never (due, is, done) =
@@ -228,6 +250,7 @@ not_told : (d : Deed) → (IsSaid d → ⊥) → IsTold d → ⊥
 not_told (Tells n) never told = never tt
 not_told (Keeps e) never told = told
 not_told (Loses e why) never told = told
+not_told (Learns others) never told = told
 not_told Links never told = told
 not_told Misses never told = told
 not_told (Puts bytes) never told = told
@@ -314,6 +337,7 @@ ran_to did m old mid between count (Pauses number why) n most left after new (ra
     )
 ran_to did m old mid between count (Keeps e) n most left after new ran all is turns sound done = absurd is
 ran_to did m old mid between count (Loses e why) n most left after new ran all is turns sound done = absurd is
+ran_to did m old mid between count (Learns others) n most left after new ran all is turns sound done = absurd is
 ran_to did m old mid between count Links n most left after new ran all is turns sound done = absurd is
 ran_to did m old mid between count Misses n most left after new ran all is turns sound done = absurd is
 ran_to did m old mid between count (Puts bytes) n most left after new ran all is turns sound done = absurd is
@@ -321,6 +345,34 @@ ran_to did m old mid between count (Breaks bytes why) n most left after new ran 
 ran_to did m old mid between count (Gives room bytes) n most left after new ran all is turns sound done = absurd is
 ran_to did m old mid between count (Ends why) n most left after new ran all is turns sound done = absurd is
 ran_to did m old mid between count HangsUp n most left after new ran all is turns sound done = absurd is
+
+-- An entry is asked for.
+abbrev pub IsAppend : Action → Type 0
+IsAppend (action.Append asked) = Unit {0}
+IsAppend a = ⊥
+
+puts_first_not : (h : HostView) (left : ℕ) (a : Action) → PutsFirst h a left → IsAppend a → ⊥
+puts_first_not h left (action.Append asked) puts is = puts
+puts_first_not h left action.Put puts is = is
+puts_first_not h left (action.Wait most) puts is = is
+puts_first_not h left action.Nothing puts is = is
+puts_first_not h left action.Connect puts is = is
+puts_first_not h left action.HangUp puts is = is
+puts_first_not h left (action.Tell n) puts is = is
+
+asks_in_not : (h : HostView) (news : Option TillNote) (left : ℕ) (a : Action) → AsksIn h news left a → IsAppend a → ⊥
+asks_in_not h (Some n) left a asks is = subst IsAppend asks is
+asks_in_not h None left a asks is = puts_first_not h left a asks is
+
+-- Only a machine that is to keep an entry asks for that.
+pub asked_to_keep : (m : MachineView) (s : Stage) (a : Action) → Asks m s a → IsAppend a → (e : Entry) × (next : Then) × (s ≡ stage.Keeping e next)
+asked_to_keep m (stage.Keeping e next) a asks is = (e, next, refl)
+asked_to_keep m (stage.Connecting due) a asks is = absurd (subst IsAppend asks is)
+asked_to_keep m (stage.Talking talk) a asks is = absurd (asks_in_not m.host (news_of talk) talk.left a asks is)
+asked_to_keep m (stage.HangingUp n) a asks is = absurd (subst IsAppend asks is)
+asked_to_keep m (stage.Telling n) a asks is = absurd (subst IsAppend asks is)
+asked_to_keep m stage.AtRest a asks is = absurd (subst IsAppend asks is)
+asked_to_keep m stage.Failed a asks is = absurd (subst IsAppend asks is)
 
 same_note : (x n : TillNote) → action.Tell x ≡ action.Tell n → x ≡ n
 same_note x n is = cc is

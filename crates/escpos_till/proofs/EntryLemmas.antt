@@ -236,7 +236,7 @@ state_at es others m n place cancel times =
     ap (λ p. state_by p (cancel_place_of es m) (times_tried es m)) place ∙ ap (λ p. state_by (place_of others n) p (times_tried es m)) cancel
     ∙ ap (state_by (place_of others n) (cancel_place_of others n)) times
 
-state_waits : (es : List Entry) (n : ℕ) → place_of es n ≡ None → cancel_place_of es n ≡ None → state_of es n ≡ state.Waiting (times_tried es n)
+pub state_waits : (es : List Entry) (n : ℕ) → place_of es n ≡ None → cancel_place_of es n ≡ None → state_of es n ≡ state.Waiting (times_tried es n)
 state_waits es n place cancel = ap (λ p. state_by p (cancel_place_of es n) (times_tried es n)) place ∙ ap (λ p. state_by None p (times_tried es n)) cancel
 
 pub states_after_queued : (es : List Entry) (content : Content) → IsLedger es → states (es ++ Queued content ∷ []) ≡ states es ++ state.Waiting 0 ∷ []

@@ -6,3 +6,4 @@ pub mod DriverLemmas
 pub mod BookLemmas
 pub mod TryLemmas
 pub mod MachineLemmas
+pub mod LearningLemmas

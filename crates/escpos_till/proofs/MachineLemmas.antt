@@ -48,7 +48,7 @@ fits_submits b es talk (Some receipt) zero before h s waits tried few so = fits_
 fits_submits b es talk None left before h s waits tried few so = fits_going_on b es talk left before h s waits tried few so
 
 -- A receipt that was tried may be recorded.
-fits_printed : (b : Book) (es : List Entry) (n : ℕ) → Waits es n → 0 < times_tried es n → length es < most_entries → Fits b es (printed n)
+pub fits_printed : (b : Book) (es : List Entry) (n : ℕ) → Waits es n → 0 < times_tried es n → length es < most_entries → Fits b es (printed n)
 fits_printed b es n waits tried few = (
   (waits, tried),
   refl,

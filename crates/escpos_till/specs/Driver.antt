@@ -12,6 +12,7 @@ use Rattle.escpos_till.specs.declared.machine.TillNote.{TillNote}
 use Rattle.escpos_till.specs.declared.machine.TillNote.TheVariants as note
 use Rattle.escpos_till.specs.declared.pause.Pause.{Pause}
 use Rattle.escpos_till.specs.declared.store.StoreFault.{StoreFault}
+use Rattle.escpos_till.specs.Learning.{Learned}
 use Rattle.escpos_till.specs.Machine.{Came, Cancels, Delivers, Ended, IsFinal, Kept, MachineView, Queues, Raises, Rests, SendsReceipt, Unsure, connected, hung_up, news_of, not_connected, put, told}
 
 -- ## One turn
@@ -21,6 +22,8 @@ pub data Deed : Type 0 where
   -- the entry is kept; or the store couldn't tell whether it is
   Keeps : Entry → Deed
   Loses : Entry → StoreFault → Deed
+  -- no entry is kept, since others have added these
+  Learns : List Entry → Deed
   -- a link is opened; or there is none
   Links : Deed
   Misses : Deed
@@ -90,6 +93,7 @@ pub record IsWaiting (m : MachineView) (room : ℕ) : Type 0 where
 abbrev pub Turns : MachineView → Deed → MachineView → Type 0
 Turns m (Keeps e) after = (next : Then) × (m.stage ≡ stage.Keeping e next) × Kept m.stage m after
 Turns m (Loses e why) after = (next : Then) × (m.stage ≡ stage.Keeping e next) × Unsure m.stage why m after
+Turns m (Learns others) after = (e : Entry) × (next : Then) × (m.stage ≡ stage.Keeping e next) × Learned m.stage others m after
 Turns m Links after = (due : Due) × (m.stage ≡ stage.Connecting due) × (after ≡ connected m.stage m)
 Turns m Misses after = (due : Due) × (m.stage ≡ stage.Connecting due) × (after ≡ not_connected m.stage m)
 Turns m (Puts bytes) after = (count : ℕ) × IsNextOut m bytes count × (after ≡ put m.stage count m)

@@ -1,4 +1,5 @@
 pub mod Contents
+pub mod Appending
 pub mod Entries
 pub mod Tries
 pub mod Pauses
@@ -9,3 +10,4 @@ pub mod Driver
 pub mod Surroundings
 pub mod Book
 pub mod Machine
+pub mod Learning

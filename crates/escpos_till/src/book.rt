@@ -12,6 +12,7 @@ ghost use Rattle.escpos_till.specs.Contents.{content_with};
 ghost use Rattle.escpos_till.specs.Book.{HasRoom, HasTryRoom, IsBookOf, Notes};
 ghost use Rattle.escpos_till.specs.Entries.{IsLedger, MayFollow, Waits, state_of, taken, times_tried, waiting};
 ghost use Rattle.escpos_till.specs.Delivers.{FirstWaits};
+ghost use Rattle.escpos_till.specs.Learning.{FollowAll, NotesAll};
 
 use crate::entry::{Content, Entry};
 use crate::number::ReceiptNumber;
@@ -19,6 +20,11 @@ use crate::state::{ReceiptState, first_waiting_from, once_cancelled, one_try_mor
 use crate::tries::Try;
 use crate::waiting::WaitingReceipt;
 use std::alloc::{AllocError, Global};
+
+/// No more entries than these are taken.
+pub(crate) const MOST_ENTRIES: usize = 4_611_686_018_427_387_904;
+
+const _: () = prove!(MOST_ENTRIES == 4_611_686_018_427_387_904);
 
 /// Why there is no book of some entries.
 #[derive(Clone, Copy)]
@@ -71,19 +77,10 @@ impl Book {
         ensures damaged { IsErrOf result NoBook.Damaged → ¬ IsLedger entries.now }
     {
         let mut book = Book::new(alloc);
-        for entry in entries {
-            if !book.may_follow(entry) {
-                return Err(NoBook::Damaged);
-            }
-            let Ok(entry) = entry.copy(alloc) else {
-                return Err(NoBook::Memory);
-            };
-            if book.reserve().is_err() || book.reserve_try().is_err() {
-                return Err(NoBook::Memory);
-            }
-            book.note(entry);
+        match book.take_in(alloc, entries) {
+            Ok(()) => Ok(book),
+            Err(why) => Err(why),
         }
-        Ok(book)
     }
 
     /// The number of the receipt that was taken last.
@@ -178,6 +175,31 @@ impl Book {
 }
 
 impl Book {
+    /// Takes more entries into account, one after another. At `Err` some of them are.
+    pub(crate) fn take_in(&mut self, alloc: Global, more: &[Entry]) -> Result<(), NoBook>
+        requires { (entries : List Entry) × IsBookOf self.old entries × IsLedger entries }
+        ensures all { OnOk result (NotesAll self.old more.now self.new) }
+        ensures some { (entries : List Entry) × IsBookOf self.new entries × IsLedger entries }
+        ensures damaged { IsErrOf result NoBook.Damaged → (entries : List Entry) → IsBookOf self.old entries → IsLedger entries → ¬ FollowAll entries more.now }
+    {
+        for entry in more {
+            if !self.may_follow(entry) {
+                return Err(NoBook::Damaged);
+            }
+            if self.count >= MOST_ENTRIES {
+                return Err(NoBook::Memory);
+            }
+            let Ok(entry) = entry.copy(alloc) else {
+                return Err(NoBook::Memory);
+            };
+            if self.reserve().is_err() || self.reserve_try().is_err() {
+                return Err(NoBook::Memory);
+            }
+            self.note(entry);
+        }
+        Ok(())
+    }
+
     /// Takes one more entry into account.
     pub(crate) fn note(&mut self, entry: Entry)
         requires follows { (entries : List Entry) × IsBookOf self.old entries × IsLedger entries × MayFollow entries entry × (length entries < 2 ^ 63) }

@@ -12,7 +12,7 @@ ghost use Rattle.escpos_till.specs.Machine.{Rests, news_of};
 ghost use Rattle.escpos_till.specs.Surroundings.{Did};
 
 use crate::machine::{Action, TillMachine, TillNote};
-use crate::store::Store;
+use crate::store::{Appended, Store};
 use crate::surroundings::{PrinterLine, Surroundings};
 
 // The most bytes that are put or read at a time.
@@ -94,10 +94,11 @@ fn act<S: Store, L: PrinterLine>(
 {
     match machine.asks() {
         Action::Nothing => return Turned::Rests,
-        Action::Append(entry) => {
-            let kept = around.append(entry);
-            machine.appended(kept);
-        }
+        Action::Append(entry) => match around.append(entry) {
+            Ok(Appended::Done) => machine.appended(Ok(())),
+            Ok(Appended::Others(others)) => machine.learned(&others),
+            Err(why) => machine.appended(Err(why)),
+        },
         Action::Connect => {
             let is = around.connect();
             machine.connected(is);

@@ -1,7 +1,7 @@
 //! A till with one printer: its ledger, and the machine that says what is to be done for it.
 //!
 //! `entry`, `state` and `waiting` have what a ledger says, `book` what a machine knows of it, and `store` where its entries are
-//! kept. `machine` is the till itself, over values alone, and `talking` what it does with a printer on a link; `driver` does what it asks for, over the store and the line of
+//! kept. `machine` is the till itself, over values alone, `talking` what it does with a printer on a link, and `learning` what it does with entries that others have added; `driver` does what it asks for, over the store and the line of
 //! `surroundings`.
 #![tactic(auto)]
 
@@ -9,6 +9,7 @@ mod book;
 mod copy;
 mod driver;
 mod entry;
+mod learning;
 mod machine;
 mod memory_store;
 mod number;
@@ -30,6 +31,6 @@ pub use number::ReceiptNumber;
 pub use pause::{Pause, Paused};
 pub use receipt_content::ReceiptContent;
 pub use state::ReceiptState;
-pub use store::{NoStore, Store, StoreFault};
+pub use store::{Appended, NoStore, Store, StoreFault};
 pub use surroundings::{PrinterLine, Surroundings};
 pub use tries::Try;

@@ -26,12 +26,14 @@ ghost use Rattle.escpos_till.specs.Entries.{IsLedger, states as states_of};
 ghost use Rattle.escpos_till.specs.Book.{IsBookOf, Notes};
 ghost use Rattle.escpos_host.specs.Machine.{IsSound};
 ghost use Rattle.escpos_till.specs.Delivers.{fresh, marks_taken};
+ghost use Rattle.escpos_till.specs.Learning.{Learned};
 ghost use Rattle.escpos_till.specs.declared.machine.Talk.{Talk};
 ghost use Rattle.escpos_till.specs.Machine.{Asks, AsksIn, Came, Cancels, Delivers, Ended, EndsFinally, Fits, Follows, IsNext, IsPausing, IsStarted, Kept, MayTry, Queues, Raises, RefusesAny, RefusesCancel, RefusesDeliver, RefusesRaise, Rests, SameEntries, SendsReceipt, Unsure, connected, ended_by, first_talk, hung_up, lost, news_of, not_connected, put, told};
 
-use crate::book::{Book, NoBook};
+use crate::book::{Book, MOST_ENTRIES, NoBook};
 use crate::copy::CopyText;
 use crate::entry::Entry;
+use crate::learning::{learn, revised};
 use crate::number::ReceiptNumber;
 use crate::pause::{Pause, Paused};
 use crate::receipt_content::ReceiptContent;
@@ -45,7 +47,7 @@ use std::marker::Model;
 use std::mem::replace;
 
 // How many mark numbers there are.
-const MARK_COUNT: u32 = 36 * 36 * 36 * 36;
+pub(crate) const MARK_COUNT: u32 = 36 * 36 * 36 * 36;
 
 const _: () = prove!(MARK_COUNT == 1_679_616);
 
@@ -53,11 +55,6 @@ const _: () = prove!(MARK_COUNT == 1_679_616);
 const LAST_FIRST: u32 = MARK_COUNT - 2;
 
 const _: () = prove!(LAST_FIRST == 1_679_614);
-
-// No more entries than these are taken.
-const MOST_ENTRIES: usize = 4_611_686_018_427_387_904;
-
-const _: () = prove!(MOST_ENTRIES == 4_611_686_018_427_387_904);
 
 /// What a machine tells its owner.
 #[derive(Clone, Copy, Debug, PartialEq, Eq)]
@@ -517,6 +514,33 @@ impl TillMachine {
         self.stage = following(self.alloc, &self.book, &mut self.host, first, then);
     }
 
+    /// Learns that others have added these entries before the one that it asked for, which isn't kept. Others may take receipts, raise the
+    /// next mark number and cancel receipts. Then it asks for what is to be kept now: the try of a receipt with the mark numbers that are free
+    /// now, or that a receipt is recorded; or, where a receipt is cancelled, it gives the link up and tells that.
+    ///
+    /// It fails where they aren't such entries, where an allocation fails, and where it delivers nothing: nobody else may add entries then.
+    pub fn learned(&mut self, others: &[Entry])
+        ensures { Learned self.old.stage others.now self.old self.new }
+    {
+        match replace(&mut self.stage, Stage::AtRest) {
+            Stage::Keeping { entry, then } => self.learn(others, &entry, then),
+            other => self.stage = other,
+        }
+    }
+
+    // The same for a machine that was to keep an entry, after which this follows.
+    fn learn(&mut self, others: &[Entry], _entry: &Entry, then: Then)
+        requires fits { (entries : List Entry) × IsBookOf self.old.book entries × IsLedger entries × Fits self.old.book entries (Stage.Keeping _entry.now then) }
+        ensures { Learned (Stage.Keeping _entry.now then) others.now self.old self.new }
+    {
+        if let Err(why) = learn(self.alloc, &mut self.book, others, &then) {
+            self.host.link_down();
+            self.stage = lost(then, why);
+            return;
+        }
+        self.stage = revised(&self.book, &mut self.host, then);
+    }
+
     /// Whether there is a link.
     pub fn connected(&mut self, is: bool)
         ensures connected { IsTrue is → self.new ≡ connected self.old.stage self.old }
@@ -663,9 +687,9 @@ fn following(alloc: Global, book: &Book, host: &mut Host, first: u32, then: Then
     }
 }
 
-// How many mark numbers a try takes: one for each opening mark, at least one, and one for the closing mark. If that can't be counted,
-// it is more than there are.
-fn marks_taken(openings: u32) -> u32
+/// How many mark numbers a try takes: one for each opening mark, at least one, and one for the closing mark. If that can't be counted,
+/// it is more than there are.
+pub(crate) fn marks_taken(openings: u32) -> u32
     ensures { result ≡ min (marks_taken openings) (2 ^ 32 - 1) }
 {
     openings.max(1).saturating_add(1)

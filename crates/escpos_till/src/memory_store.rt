@@ -4,7 +4,7 @@ ghost use Rattle.std.specs.Prelude.{◌≡◌, ◌⊎◌, List, [], ◌∷◌, �
 ghost use Rattle.escpos_till.specs.declared.entry.Entry.{Entry};
 
 use crate::entry::Entry;
-use crate::store::{Store, StoreFault};
+use crate::store::{Appended, Store, StoreFault};
 use std::alloc::Global;
 use std::marker::Model;
 
@@ -84,7 +84,7 @@ impl Store for MemoryStore {
     // Whatever it was told to, and memory: the model knows of neither.
     ghost says = { λ s added why new. Unit {0} };
 
-    fn append(&mut self, entry: &Entry) -> Result<(), StoreFault> {
+    fn append(&mut self, entry: &Entry) -> Result<Appended, StoreFault> {
         let failure = self.next_failure();
         if let Failure::BeforeKeeping { calls: 0 } = failure {
             return Err(StoreFault::Failed);
@@ -98,8 +98,11 @@ impl Store for MemoryStore {
         if let Failure::AfterKeeping { calls: 0 } = failure {
             return Err(StoreFault::Failed);
         }
-        Ok(())
+        Ok(Appended::Done)
     }
+
+    // Nobody else has it.
+    fn let_go(&mut self) {}
 
     fn entries(&mut self, alloc: Global) -> Result<Vec<Entry>, StoreFault> {
         match copies(alloc, &self.entries) {

@@ -7,8 +7,9 @@
 //! A crash in the middle of a call is seen as a call that isn't answered with `Ok`: what it leaves is what a crash may leave
 //! after `Err`.
 
-ghost use Rattle.std.specs.Prelude.{◌≡◌, ◌⊎◌, List, [], ◌∷◌, ◌++◌, IfErr, IfOk, OnOk, OnErr};
+ghost use Rattle.std.specs.Prelude.{◌≡◌, ◌⊎◌, List, [], ◌∷◌, ◌++◌, IfErr, IfOk, OnErr};
 ghost use Rattle.escpos_till.specs.declared.entry.Entry.{Entry};
+ghost use Rattle.escpos_till.specs.Appending.{IfDone, IfOthers};
 ghost use Rattle.escpos_till.specs.declared.store.StoreFault.{StoreFault as Why};
 
 use crate::entry::Entry;
@@ -36,7 +37,19 @@ pub enum NoStore {
     Memory,
 }
 
+/// What came of an entry that a store was to add.
+#[derive(Debug, Drop)]
+pub enum Appended {
+    /// The store has it, after those that it held.
+    Done,
+    /// The store doesn't have it: others have added these entries before, which it holds now after those that it held.
+    Others(Vec<Entry>),
+}
+
 /// A list of entries that outlives the program.
+///
+/// A store may be held by one machine alone, from its opening to its end. Or it is held for an entry at a time, and others may add entries
+/// meanwhile.
 pub trait Store {
     // The premise: what the store had at first was a list of entries, and since then it has done what it was asked to.
     ghost faithful: { Self → Type 0 };
@@ -51,11 +64,14 @@ pub trait Store {
     // none where they were to be read.
     ghost says: { Self → List Entry → Why → Self → Type 0 };
 
-    /// Adds an entry after those that are there. At `Ok` it would outlive a crash. At `Err` it may have been added or not.
-    fn append(&mut self, entry: &Entry) -> Result<(), StoreFault>
+    /// Adds an entry after those that are there. At `Done` it would outlive a crash. If others have added entries since, it isn't added, and
+    /// the answer is `Others` with those; it is added where it is to be added once more. At `Err` it may have been added or not.
+    fn append(&mut self, entry: &Entry) -> Result<Appended, StoreFault>
         ensures was_faithful { faithful self.new → faithful self.old }
-        ensures kept { OnOk result (faithful self.new → (entries : List Entry) → holds self.old entries
-            → holds self.new (entries ++ entry.now ∷ [])) }
+        ensures kept { IfOk result (λ it. IfDone it (faithful self.new → (entries : List Entry) → holds self.old entries
+            → holds self.new (entries ++ entry.now ∷ []))) }
+        ensures others { IfOk result (λ it. IfOthers it (λ others. faithful self.new → (entries : List Entry) → holds self.old entries
+            → holds self.new (entries ++ others))) }
         ensures kept_or_not { OnErr result (faithful self.new → (entries left : List Entry) → holds self.old entries
             → leaves self.new left → (left ≡ entries) ⊎ (left ≡ entries ++ entry.now ∷ [])) }
         ensures says { IfErr result (λ why. says self.old (entry.now ∷ []) why self.new) };
@@ -67,6 +83,11 @@ pub trait Store {
         ensures unread { OnErr result (faithful self.new → (entries left : List Entry) → holds self.old entries
             → leaves self.new left → left ≡ entries) }
         ensures says { IfErr result (λ why. says self.old [] why self.new) };
+
+    /// Lets others add entries, until the next call. The store holds what it held.
+    fn let_go(&mut self)
+        ensures was_faithful { faithful self.new → faithful self.old }
+        ensures held { faithful self.new → (entries : List Entry) → holds self.old entries → holds self.new entries };
 
     // A store holds one list of entries.
     ghost one_list: { (s : Self) (entries others : List Entry) → faithful s → holds s entries → holds s others → entries ≡ others };

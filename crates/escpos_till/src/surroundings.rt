@@ -6,11 +6,12 @@
 ghost use Rattle.std.specs.Prelude.{◌≡◌, ◌≤◌, ℕ, length, take, IfErr, IfOk, OnOk, IsTrue};
 ghost use Rattle.escpos_till.specs.declared.machine.TillNote.{TillNote};
 ghost use Rattle.escpos_till.specs.declared.pause.Pause.{Pause};
-ghost use Rattle.escpos_till.specs.Driver.{Breaks, Deed, Ends, Gives, HangsUp, Keeps, Links, Loses, Misses, Pauses, Puts, Tells};
+ghost use Rattle.escpos_till.specs.Driver.{Breaks, Deed, Ends, Gives, HangsUp, Keeps, Learns, Links, Loses, Misses, Pauses, Puts, Tells};
+ghost use Rattle.escpos_till.specs.Appending.{IfDone, IfOthers};
 ghost use Rattle.escpos_till.specs.Surroundings.{Did};
 
 use crate::entry::Entry;
-use crate::store::{Store, StoreFault};
+use crate::store::{Appended, Store, StoreFault};
 use escpos_host::SendFault;
 
 /// A line to a printer. At most one link is open over it.
@@ -36,6 +37,12 @@ pub trait PrinterLine {
         ensures gives { IfOk result (λ count. did self.old (Gives (length room.old) (take count room.new)) self.new) }
         ensures ends { IfErr result (λ why. did self.old (Ends why) self.new) };
 
+    /// Whether as many bytes as are put at a time would be taken at once.
+    fn takes_at_once(&self) -> bool;
+
+    /// Whether bytes of answers are there, or come within a moment.
+    fn gives_soon(&self) -> bool;
+
     /// Gives the link up.
     fn hang_up(&mut self)
         ensures { did self.old HangsUp self.new };
@@ -51,40 +58,48 @@ pub struct Surroundings<S: Store, L: PrinterLine> {
 }
 
 impl<S: Store, L: PrinterLine> Surroundings<S, L> {
-    /// Keeps an entry in the store.
+    /// Keeps an entry in the store, unless others have added some.
     #[tactic(auto, unfolding(crate::specs::Surroundings::Did))]
-    pub(crate) fn append(&mut self, entry: &Entry) -> Result<(), StoreFault>
-        ensures keeps { OnOk result (Did S.faithful S.holds S.leaves S.says L.did self.old (Keeps entry.now) self.new) }
+    pub(crate) fn append(&mut self, entry: &Entry) -> Result<Appended, StoreFault>
+        ensures keeps { IfOk result (λ it. IfDone it (Did S.faithful S.holds S.leaves S.says L.did self.old (Keeps entry.now) self.new)) }
+        ensures learns { IfOk result (λ it. IfOthers it (λ others. Did S.faithful S.holds S.leaves S.says L.did self.old (Learns others) self.new)) }
         ensures loses { IfErr result (λ why. Did S.faithful S.holds S.leaves S.says L.did self.old (Loses entry.now why) self.new) }
     {
         self.store.append(entry)
     }
 
-    /// Opens a link over the line.
+    /// Opens a link over the line. The store lets others add entries meanwhile.
     #[tactic(auto, unfolding(crate::specs::Surroundings::Did))]
     pub(crate) fn connect(&mut self) -> bool
         ensures links { IsTrue result → Did S.faithful S.holds S.leaves S.says L.did self.old Links self.new }
         ensures misses { ¬ IsTrue result → Did S.faithful S.holds S.leaves S.says L.did self.old Misses self.new }
     {
+        self.store.let_go();
         self.line.connect()
     }
 
-    /// Puts bytes on the link.
+    /// Puts bytes on the link. Unless they are taken at once, the store lets others add entries meanwhile.
     #[tactic(auto, unfolding(crate::specs::Surroundings::Did))]
     pub(crate) fn put(&mut self, bytes: &[u8], patient: bool) -> Result<(), SendFault>
         ensures puts { OnOk result (Did S.faithful S.holds S.leaves S.says L.did self.old (Puts bytes.now) self.new) }
         ensures breaks { IfErr result (λ why. Did S.faithful S.holds S.leaves S.says L.did self.old (Breaks bytes.now why) self.new) }
     {
+        if !self.line.takes_at_once() {
+            self.store.let_go();
+        }
         self.line.put(bytes, patient)
     }
 
-    /// Waits for bytes of answers.
+    /// Waits for bytes of answers. Unless some come soon, the store lets others add entries meanwhile.
     #[tactic(auto, unfolding(crate::specs::Surroundings::Did))]
     pub(crate) fn pull(&mut self, room: &mut [u8], patient: bool) -> Result<usize, SendFault>
         ensures within { IfOk result (λ count. count ≤ length room.old) }
         ensures gives { IfOk result (λ count. Did S.faithful S.holds S.leaves S.says L.did self.old (Gives (length room.old) (take count room.new)) self.new) }
         ensures ends { IfErr result (λ why. Did S.faithful S.holds S.leaves S.says L.did self.old (Ends why) self.new) }
     {
+        if !self.line.gives_soon() {
+            self.store.let_go();
+        }
         self.line.pull(room, patient)
     }
 
