@@ -183,8 +183,8 @@ revised_not then.Raised b before h s none = absurd none
 revised_not (then.Cancelled n tried) b before h s none = absurd none
 
 keeps_learned : (e : Entry) (next : Then) (others : List Entry) (m after : MachineView) → Learned (stage.Keeping e next) others m after → Rests after.stage → ⊥
-keeps_learned e next others m after (inl (each, notes, revises)) = revised_not next after.book m.host after.host after.stage revises
-keeps_learned e next others m after (inr (why, none, drops, is)) = not_at after.stage (lost next why) is (lost_not next why)
+keeps_learned e next others m after (inl learns) = revised_not next after.book m.host after.host after.stage learns.2
+keeps_learned e next others m after (inr (why, fails)) = not_at after.stage (lost next why) fails.2 (lost_not next why)
 
 learned_not : (s : Stage) (e : Entry) (next : Then) (others : List Entry) (m after : MachineView) → s ≡ stage.Keeping e next → Learned s others m after → Rests after.stage → ⊥
 learned_not s e next others m after is learned = keeps_learned e next others m after (subst (λ at. Learned at others m after) is learned)

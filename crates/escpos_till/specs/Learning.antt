@@ -93,9 +93,20 @@ abbrev pub NotLearned : Then → List Entry → Book → StoreFault → Type 0
 NotLearned next others b store.Memory = Unit {0}
 NotLearned next others b store.Failed = IsDelivering next → (entries : List Entry) → IsBookOf b entries → IsLedger entries → ¬ AreOthers entries others
 
+-- It takes them into account, and asks for what is to be kept then.
+abbrev pub LearnsAll : Then → List Entry → MachineView → MachineView → Type 0
+LearnsAll next others m after = AllByRecursion IsOthers others × NotesAll m.book others after.book × Revises next after.book m.host after.host after.stage
+
+-- It fails.
+abbrev pub FailsToLearn : Then → List Entry → StoreFault → MachineView → MachineView → Type 0
+FailsToLearn next others why m after = NotLearned next others m.book why × Drops m.host after.host × (after.stage ≡ lost next why)
+
 -- Others have added these entries before the one that the machine asked for, which isn't kept.
 abbrev pub Learned : Stage → List Entry → MachineView → MachineView → Type 0
-Learned (stage.Keeping e next) others m after =
-    (AllByRecursion IsOthers others × NotesAll m.book others after.book × Revises next after.book m.host after.host after.stage)
-    ⊎ ((why : StoreFault) × NotLearned next others m.book why × Drops m.host after.host × (after.stage ≡ lost next why))
+Learned (stage.Keeping e next) others m after = LearnsAll next others m after ⊎ ((why : StoreFault) × FailsToLearn next others why m after)
 Learned s others m after = after ≡ m
+
+-- A machine that is to keep an entry, after which this follows: this holds.
+abbrev pub IfKeeping : Stage → (Then → Type 0) → Type 0
+IfKeeping (stage.Keeping e next) Holds = Holds next
+IfKeeping s Holds = Unit {0}

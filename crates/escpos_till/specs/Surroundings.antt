@@ -3,6 +3,7 @@ use Rattle.std.specs.Prelude.{◌≡◌, ◌⊎◌, List, [], ◌∷◌, ◌++�
 use Rattle.escpos_till.specs.declared.entry.Entry.{Entry}
 use Rattle.escpos_till.specs.declared.store.StoreFault.{StoreFault}
 use Rattle.escpos_till.specs.declared.surroundings.Surroundings.{Surroundings}
+use Rattle.escpos_till.specs.Learning.{AreOthers}
 use Rattle.escpos_till.specs.Driver.{Deed, HangsUp, Keeps, Learns, Loses, Pauses, Tells}
 
 -- If the store has done what it was asked to, it holds the entry after the others.
@@ -10,10 +11,10 @@ pub record Appends {S : Type 0} (faithful : S → Type 0) (holds : S → List En
   pub was_faithful : faithful new → faithful old
   pub kept : faithful new → (entries : List Entry) → holds old entries → holds new (entries ++ e ∷ [])
 
--- If it has done what it was asked to, it holds these entries after the others, which somebody else has added.
+-- If it has done what it was asked to, it holds these entries after those that it held, and others may have added them.
 pub record TakesIn {S : Type 0} (faithful : S → Type 0) (holds : S → List Entry → Type 0) (old : S) (others : List Entry) (new : S) : Type 0 where
   pub was_faithful : faithful new → faithful old
-  pub took : faithful new → (entries : List Entry) → holds old entries → holds new (entries ++ others)
+  pub took : faithful new → (entries : List Entry) → holds old entries → AreOthers entries others × holds new (entries ++ others)
 
 -- If it has done what it was asked to, it holds what it held, though it may have let go of it.
 pub record Stays {S : Type 0} (faithful : S → Type 0) (holds : S → List Entry → Type 0) (old : S) (new : S) : Type 0 where

@@ -96,7 +96,9 @@ fn act<S: Store, L: PrinterLine>(
         Action::Nothing => return Turned::Rests,
         Action::Append(entry) => match around.append(entry) {
             Ok(Appended::Done) => machine.appended(Ok(())),
-            Ok(Appended::Others(others)) => machine.learned(&others),
+            Ok(Appended::Others(others)) => {
+                let _ = machine.learned(&others);
+            }
             Err(why) => machine.appended(Err(why)),
         },
         Action::Connect => {

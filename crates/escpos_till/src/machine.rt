@@ -26,7 +26,7 @@ ghost use Rattle.escpos_till.specs.Entries.{IsLedger, states as states_of};
 ghost use Rattle.escpos_till.specs.Book.{IsBookOf, Notes};
 ghost use Rattle.escpos_host.specs.Machine.{IsSound};
 ghost use Rattle.escpos_till.specs.Delivers.{fresh, marks_taken};
-ghost use Rattle.escpos_till.specs.Learning.{Learned};
+ghost use Rattle.escpos_till.specs.Learning.{FailsToLearn, IfKeeping, Learned, LearnsAll};
 ghost use Rattle.escpos_till.specs.declared.machine.Talk.{Talk};
 ghost use Rattle.escpos_till.specs.Machine.{Asks, AsksIn, Came, Cancels, Delivers, Ended, EndsFinally, Fits, Follows, IsNext, IsPausing, IsStarted, Kept, MayTry, Queues, Raises, RefusesAny, RefusesCancel, RefusesDeliver, RefusesRaise, Rests, SameEntries, SendsReceipt, Unsure, connected, ended_by, first_talk, hung_up, lost, news_of, not_connected, put, told};
 
@@ -518,27 +518,35 @@ impl TillMachine {
     /// next mark number and cancel receipts. Then it asks for what is to be kept now: the try of a receipt with the mark numbers that are free
     /// now, or that a receipt is recorded; or, where a receipt is cancelled, it gives the link up and tells that.
     ///
-    /// It fails where they aren't such entries, where an allocation fails, and where it delivers nothing: nobody else may add entries then.
-    pub fn learned(&mut self, others: &[Entry])
-        ensures { Learned self.old.stage others.now self.old self.new }
+    /// It fails where they aren't such entries, where an allocation fails, and where it delivers nothing: nobody else may add entries then. The
+    /// error says why, and the machine tells it too.
+    pub fn learned(&mut self, others: &[Entry]) -> Result<(), StoreFault>
+        ensures learned { Learned self.old.stage others.now self.old self.new }
+        ensures all { OnOk result (IfKeeping self.old.stage (λ next. LearnsAll next others.now self.old self.new)) }
+        ensures fails { IfErr result (λ why. IfKeeping self.old.stage (λ next. FailsToLearn next others.now why self.old self.new)) }
     {
         match replace(&mut self.stage, Stage::AtRest) {
             Stage::Keeping { entry, then } => self.learn(others, &entry, then),
-            other => self.stage = other,
+            other => {
+                self.stage = other;
+                Ok(())
+            }
         }
     }
 
     // The same for a machine that was to keep an entry, after which this follows.
-    fn learn(&mut self, others: &[Entry], _entry: &Entry, then: Then)
+    fn learn(&mut self, others: &[Entry], _entry: &Entry, then: Then) -> Result<(), StoreFault>
         requires fits { (entries : List Entry) × IsBookOf self.old.book entries × IsLedger entries × Fits self.old.book entries (Stage.Keeping _entry.now then) }
-        ensures { Learned (Stage.Keeping _entry.now then) others.now self.old self.new }
+        ensures all { OnOk result (LearnsAll then others.now self.old self.new) }
+        ensures fails { IfErr result (λ why. FailsToLearn then others.now why self.old self.new) }
     {
         if let Err(why) = learn(self.alloc, &mut self.book, others, &then) {
             self.host.link_down();
             self.stage = lost(then, why);
-            return;
+            return Err(why);
         }
         self.stage = revised(&self.book, &mut self.host, then);
+        Ok(())
     }
 
     /// Whether there is a link.

@@ -10,6 +10,7 @@
 ghost use Rattle.std.specs.Prelude.{◌≡◌, ◌⊎◌, List, [], ◌∷◌, ◌++◌, IfErr, IfOk, OnErr};
 ghost use Rattle.escpos_till.specs.declared.entry.Entry.{Entry};
 ghost use Rattle.escpos_till.specs.Appending.{IfDone, IfOthers};
+ghost use Rattle.escpos_till.specs.Learning.{AreOthers};
 ghost use Rattle.escpos_till.specs.declared.store.StoreFault.{StoreFault as Why};
 
 use crate::entry::Entry;
@@ -65,13 +66,13 @@ pub trait Store {
     ghost says: { Self → List Entry → Why → Self → Type 0 };
 
     /// Adds an entry after those that are there. At `Done` it would outlive a crash. If others have added entries since, it isn't added, and
-    /// the answer is `Others` with those; it is added where it is to be added once more. At `Err` it may have been added or not.
+    /// the answer is `Others` with those; then it may be added by another call. At `Err` it may have been added or not.
     fn append(&mut self, entry: &Entry) -> Result<Appended, StoreFault>
         ensures was_faithful { faithful self.new → faithful self.old }
         ensures kept { IfOk result (λ it. IfDone it (faithful self.new → (entries : List Entry) → holds self.old entries
             → holds self.new (entries ++ entry.now ∷ []))) }
         ensures others { IfOk result (λ it. IfOthers it (λ others. faithful self.new → (entries : List Entry) → holds self.old entries
-            → holds self.new (entries ++ others))) }
+            → AreOthers entries others × holds self.new (entries ++ others))) }
         ensures kept_or_not { OnErr result (faithful self.new → (entries left : List Entry) → holds self.old entries
             → leaves self.new left → (left ≡ entries) ⊎ (left ≡ entries ++ entry.now ∷ [])) }
         ensures says { IfErr result (λ why. says self.old (entry.now ∷ []) why self.new) };

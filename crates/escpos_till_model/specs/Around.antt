@@ -12,7 +12,8 @@ use Rattle.escpos_till.specs.declared.machine.Stage.{Stage}
 use Rattle.escpos_till.specs.declared.machine.Stage.TheVariants as stage
 use Rattle.escpos_till.specs.declared.machine.Then.TheVariants as then
 use Rattle.escpos_till.specs.declared.machine.TillNote.{TillNote}
-use Rattle.escpos_till.specs.Driver.{Breaks, Deed, Ends, Gives, HangsUp, Keeps, Links, Loses, Misses, Pauses, Puts, Tells}
+use Rattle.escpos_till.specs.Driver.{Breaks, Deed, Ends, Gives, HangsUp, Keeps, Learns, Links, Loses, Misses, Pauses, Puts, Tells}
+use Rattle.escpos_till.specs.Learning.{AreOthers}
 use Rattle.escpos_till.specs.Machine.{MachineView}
 use Rattle.escpos_till_model.specs.World.{Runs, World, is_printer_event}
 use Rattle.escpos_till_model.specs.declared.event.Happening.{Happening}
@@ -35,6 +36,7 @@ GoesOnBy w (e ∷ es) after = (mid : WireView) × (effect : Note) × (is_printer
 abbrev pub Does : Around → Deed → Around → Type 0
 Does a (Keeps e) new = new ≡ around (a.kept ++ e ∷ []) a.wire a.told
 Does a (Loses e why) new = (new ≡ a) ⊎ (new ≡ around (a.kept ++ e ∷ []) a.wire a.told)
+Does a (Learns others) new = AreOthers a.kept others × (new ≡ around (a.kept ++ others) a.wire a.told)
 Does a Links new = new ≡ around a.kept (with_link a.wire) a.told
 Does a Misses new = (new ≡ a) ⊎ (new ≡ around a.kept (given_up (with_link a.wire)) a.told)
 Does a (Puts bytes) new = new ≡ around a.kept (with_bytes a.wire bytes) a.told

@@ -7,7 +7,7 @@ use Rattle.escpos_till.specs.declared.machine.Stage.TheVariants as stage
 use Rattle.escpos_till.specs.declared.machine.TillNote.{TillNote}
 use Rattle.escpos_till.specs.declared.surroundings.Surroundings.{Surroundings}
 use Rattle.escpos_till.specs.declared.store.StoreFault.{StoreFault}
-use Rattle.escpos_till.specs.Driver.{Answered, Call, Deed, Deliver, GivesUp, Keeps, Loses, Pauses, Serves, ServesAll, Tells}
+use Rattle.escpos_till.specs.Driver.{Answered, Call, Deed, Deliver, GivesUp, Keeps, Learns, Loses, Pauses, Serves, ServesAll, Tells}
 use Rattle.escpos_till.specs.Machine.{MachineView, after_note}
 use Rattle.escpos_till.specs.Surroundings.{Did}
 use Rattle.escpos_till_model.specs.Around.{Around, CrashesTo, DoesInTime, IsAround, around}
@@ -27,6 +27,7 @@ pub record IsFaithful {S : Type 0} (faithful : S → Type 0) (holds : S → List
 abbrev pub IsOnLine : Deed → Type 0
 IsOnLine (Keeps e) = ⊥
 IsOnLine (Loses e why) = ⊥
+IsOnLine (Learns others) = ⊥
 IsOnLine (Pauses number why) = ⊥
 IsOnLine (Tells note) = ⊥
 IsOnLine d = Unit {0}
@@ -40,6 +41,7 @@ abbrev pub AllOnWire : WireView → List Deed → WireView → Type 0
 AllOnWire w [] after = after ≡ w
 AllOnWire w (Keeps e ∷ ds) after = AllOnWire w ds after
 AllOnWire w (Loses e why ∷ ds) after = AllOnWire w ds after
+AllOnWire w (Learns others ∷ ds) after = AllOnWire w ds after
 AllOnWire w (Pauses number why ∷ ds) after = AllOnWire w ds after
 AllOnWire w (Tells note ∷ ds) after = AllOnWire w ds after
 AllOnWire w (d ∷ ds) after = (mid : WireView) × OnWire w d mid × AllOnWire mid ds after

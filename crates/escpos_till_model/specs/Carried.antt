@@ -12,7 +12,7 @@ use Rattle.escpos_till.specs.declared.machine.Stage.{Stage}
 use Rattle.escpos_till.specs.declared.machine.Stage.TheVariants as stage
 use Rattle.escpos_till.specs.declared.machine.Then.{Then}
 use Rattle.escpos_till.specs.declared.machine.Then.TheVariants as then
-use Rattle.escpos_till.specs.Driver.{Breaks, Deed, Keeps, Puts}
+use Rattle.escpos_till.specs.Driver.{Breaks, Deed, Keeps, Learns, Puts}
 use Rattle.escpos_till.specs.Entries.{next_free}
 use Rattle.escpos_till.specs.Machine.{MachineView}
 use Rattle.escpos_till_model.specs.declared.event.Happening.{Happening}
@@ -95,10 +95,11 @@ link_for kept (entry.Tried number limit) = record { first = next_free kept; limi
 link_for kept e = []
 
 -- The links after these deeds, where the store had these entries and these links were there before: one for each entry by which a receipt is
--- tried, with what was put since then. Nothing is put before there is one. Where a link broke, some of the bytes were put, or none or all.
+-- tried, with what was put since then; for what others add there is none. Nothing is put before there is one. Where a link broke, some of the bytes were put, or none or all.
 abbrev pub CarriesBy : List Entry → List Deed → List Carried → List Carried → Type 0
 CarriesBy kept [] before links = links ≡ before
 CarriesBy kept (Keeps e ∷ ds) before links = CarriesBy (kept ++ e ∷ []) ds (link_for kept e ++ before) links
+CarriesBy kept (Learns others ∷ ds) before links = CarriesBy (kept ++ others) ds before links
 CarriesBy kept (Puts bytes ∷ ds) before links = (before ≢ []) × CarriesBy kept ds (with_put bytes before) links
 CarriesBy kept (Breaks bytes why ∷ ds) before links = (count : ℕ) × (count ≤ length bytes) × (before ≢ []) × CarriesBy kept ds (with_put (take count bytes) before) links
 CarriesBy kept (d ∷ ds) before links = CarriesBy kept ds before links

@@ -35,6 +35,8 @@ abbrev pub IsFor : Happening → Stage → Type 0
 IsFor event.Keep s = KeepsEntry s
 IsFor (event.FailWith cause) s = KeepsEntry s
 IsFor (event.FailWithout cause) s = KeepsEntry s
+IsFor (event.Learn others) s = KeepsEntry s
+IsFor (event.FailLearning others cause) s = KeepsEntry s
 IsFor (event.Put most) s = Talks s
 IsFor (event.Break most fewer cause) s = Talks s
 IsFor (event.Hear most) s = Talks s

@@ -6,9 +6,12 @@
 -- that is opened and closed again with no byte on it is `Idle`, and a link that the host gives up has ended at that moment, though a
 -- program may close its socket a little later. A crash within an append is `FailWith` or `FailWithout`, and then `Crash`.
 --
+-- Others may add entries to the ledger while this till's machine delivers: receipts that they take, mark numbers that they raise and receipts that
+-- they cancel. Here that happens where the machine learns it, just before it keeps an entry.
+--
 -- Not in this world: other writers to the printer, and bytes from it that nobody asked for; a store that loses an entry that it kept, or
--- that is put back from a backup; two machines over one ledger at the same time; and an answer that was on its way on an old link and
--- comes on a new one, as it may on a serial line. (An answer that waited in the printer does come on a new link.)
+-- that is put back from a backup; two machines that deliver from one ledger at the same time; and an answer that was on its way on an old
+-- link and comes on a new one, as it may on a serial line. (An answer that waited in the printer does come on a new link.)
 use Rattle.std.specs.Prelude.{ℕ, Bool, true, false, ◌≡◌, ◌≢◌, ◌<◌, ◌≤◌, Option, Some, None, List, [], ◌∷◌, ◌++◌, length, min, take}
 use Rattle.escpos_command.specs.declared.command.Command.{Command}
 use Rattle.escpos_receipt.specs.Whole.{HoldNoRealTime}
@@ -30,6 +33,7 @@ use Rattle.escpos_till.specs.declared.machine.TillNote.TheVariants as note
 use Rattle.escpos_till.specs.Book.{IsBookOf}
 use Rattle.escpos_till.specs.Copy.{IsCopyText}
 use Rattle.escpos_till.specs.Entries.{IsLedger, cancelled, next_free, recorded, taken, times_tried}
+use Rattle.escpos_till.specs.Learning.{AreOthers, FailsToLearn, LearnsAll}
 use Rattle.escpos_till.specs.Machine.{Came, Cancels, Delivers, Ended, IsStarted, Kept, MachineView, Queues, Raises, SameEntries, Unsure, connected, hung_up, news_of, not_connected, put, told}
 use Rattle.escpos_till_model.specs.Late.{LateAnswers}
 use Rattle.escpos_till_model.specs.Receipts.{Among, AreReceipts}
@@ -109,6 +113,13 @@ with_entry kept e = kept ++ e ∷ []
 
 abbrev pub without_entry : List Entry → Entry → List Entry
 without_entry kept e = kept
+
+-- Others have added these entries before the one that it is to keep, and it learns that.
+pub record Learns (Goes : Then → MachineView → MachineView → Type 0) (w : World) (others : List Entry) (new : World) : Type 0 where
+  pub entry : Entry
+  pub next : Then
+  pub added : AreOthers w.kept others
+  pub moves : Moves (λ m after. (m.stage ≡ stage.Keeping entry next) × Goes next m after) w (w.kept ++ others) w.told new
 
 -- It has a note for its owner, who is told that.
 pub record Tells (w : World) (new : World) : Type 0 where
@@ -224,6 +235,8 @@ Happens w event.Refuse new = Calls SameEntries w new
 Happens w event.Keep new = Stores (λ m after. Kept m.stage m after) with_entry w new
 Happens w (event.FailWith why) new = Stores (λ m after. Unsure m.stage why m after) with_entry w new
 Happens w (event.FailWithout why) new = Stores (λ m after. Unsure m.stage why m after) without_entry w new
+Happens w (event.Learn others) new = Learns (λ next m after. LearnsAll next others m after) w others new
+Happens w (event.FailLearning others why) new = Learns (λ next m after. FailsToLearn next others why m after) w others new
 Happens w event.Connect new = Calls (λ m after. after ≡ connected m.stage m) w new
 Happens w event.Miss new = Calls (λ m after. after ≡ not_connected m.stage m) w new
 Happens w (event.Put most) new = Puts w most new

@@ -1,5 +1,5 @@
 -- Once the others are learned of, the machine is that of all entries.
-use Rattle.std.proofs.Common.{◌++◌, inl, sym, subst, ap}
+use Rattle.std.proofs.Common.{◌++◌, sym, subst}
 use Rattle.escpos_till.specs.Book.{IsBookOf}
 use Rattle.escpos_till.specs.Learning.{NotesAll, Revises}
 use Rattle.escpos_till.proofs.LearningLemmas.{fits_revised, ledger_of, stands_then}
@@ -25,8 +25,8 @@ invariant_of-self-2 c =
           (c.in_default.ensures.few (entries ++ c.args.others.now) noted) c.in_default.ensures.room c.revised.ensures;
     }
 
-pub returns : goal.returns
-returns c = inl (
+pub returns-clause-all : goal.returns-clause-all
+returns-clause-all c = (
   c.in_default.ensures.others,
   subst (λ m. NotesAll m.book c.args.others.now c.learn.new.book) c.self.view_is c.in_default.ensures.all,
   subst (λ m. Revises c.args.then c.learn.new.book m.host c.revised.new.host c.revised.result) c.self.view_is c.revised.ensures,
