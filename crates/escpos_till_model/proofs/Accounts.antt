@@ -38,11 +38,11 @@ given_step : (n k i x : ℕ) (xs : List ℕ) (b : Bool) → (x == n) ≡ b → (
 given_step n k i x xs true is later e = among_first n x xs (are_same x n is)
 given_step n k i x xs false is later e = among_later n x xs (later e)
 
-place_given : (n k i : ℕ) (xs : List ℕ) → position_from (is_it n) i xs ≡ Some k → Among n xs
+pub place_given : (n k i : ℕ) (xs : List ℕ) → position_from (is_it n) i xs ≡ Some k → Among n xs
 place_given n k i [] e = absurd (let bad : None ≡ Some k = e in cc)
 place_given n k i (x ∷ xs) e = given_step n k i x xs (x == n) refl (place_given n k (i + 1) xs) e
 
-no_place : (numbers : List ℕ) (number : ℕ) → place_in numbers number ≡ None → ¬ Among number numbers
+pub no_place : (numbers : List ℕ) (number : ℕ) → place_in numbers number ≡ None → ¬ Among number numbers
 no_place numbers number none (before, following, is) =
     place_found number 0 before following (ap (position_from (is_it number) 0) (sym is) ∙ none)
 

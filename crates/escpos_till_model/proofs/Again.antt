@@ -14,21 +14,25 @@ use Rattle.escpos_till.specs.declared.machine.Talk.{Talk}
 use Rattle.escpos_till.specs.declared.machine.TillNote.{TillNote}
 use Rattle.escpos_till.specs.declared.machine.Then.{Then}
 use Rattle.escpos_till.specs.declared.machine.Then.TheVariants as then
-use Rattle.escpos_till.specs.Entries.{IsLedger, Waits}
+use Rattle.std.specs.List.{AllByRecursion}
+use Rattle.escpos_till.specs.Book.{IsBookOf}
+use Rattle.escpos_till.specs.Entries.{IsLedger, Waits, cancelled}
+use Rattle.escpos_till.specs.Learning.{IsOthers, LearnsAll}
 use Rattle.escpos_till.specs.Machine.{Ended, MachineView, Turns as MachineTurns, connected, hung_up, not_connected, printed}
 use Rattle.escpos_till.specs.Tries.{ClosesTry, HasTry, tries}
 use Rattle.escpos_till_model.specs.declared.event.Happening.{Happening}
 use Rattle.escpos_till_model.specs.declared.event.Happening.TheVariants as event
 use Rattle.escpos_till_model.specs.Again.{HearsAnswer, IsAnswerTo, IsLostFirst, IsNotTriedAgain}
 use Rattle.escpos_till_model.specs.Kept.{Hand}
-use Rattle.escpos_till_model.specs.Known.{Accounted, IsWorld}
-use Rattle.escpos_till_model.specs.Receipts.{Among, Extends}
+use Rattle.escpos_till_model.specs.Known.{Accounted, BookMayLag, Holds, IsWorld}
+use Rattle.escpos_till_model.specs.Receipts.{Among, Extends, IsEndOf}
 use Rattle.escpos_till_model.specs.World.{Happens, Runs, World, running}
-use Rattle.escpos_till_model.proofs.Accounts.{none_after}
-use Rattle.escpos_till_model.proofs.EntryFacts.{among_cons, among_nothing}
+use Rattle.escpos_till_model.proofs.Accounts.{no_place, none_after}
+use Rattle.escpos_till_model.proofs.EntryFacts.{among_cons, among_either, among_nothing, cancelled_append}
 use Rattle.escpos_till_model.proofs.LateLemmas.{has_tried}
 use Rattle.escpos_till_model.proofs.LinesKept.{LineLaws}
 use Rattle.escpos_till_model.proofs.WorldCalls.{parts}
+use Rattle.escpos_till_model.proofs.WorldLearns.{cancelled_so}
 use Rattle.escpos_till_model.proofs.WorldStore.{talking_book, talking_holds}
 use Rattle.escpos_till_model.proofs.Worlds.{entries_last, over_time, whatever}
 
@@ -37,12 +41,14 @@ use Rattle.escpos_till_model.proofs.Worlds.{entries_last, over_time, whatever}
 abbrev recording : ℕ → Stage
 recording number = stage.Keeping (entry.Recorded number) (then.Recorded number)
 
--- The machine is to keep that, and these entries are there.
+-- The machine is to keep that, and these entries are there, and after them only such as others add.
 record IsRecording (number : ℕ) (kept : List Entry) (now : World) : Type 0 where
   m : MachineView
   is : now.machine ≡ Some m
   at : m.stage ≡ recording number
-  same : now.kept ≡ kept
+  more : List Entry
+  each : AllByRecursion IsOthers more
+  same : now.kept ≡ kept ++ more
 
 one_machine : (a b : MachineView) → Some a ≡ Some b → a ≡ b
 one_machine a b e = cc e
@@ -55,7 +61,7 @@ stands_so number kept now m was r = subst (λ x. x.stage ≡ recording number) (
 still : (number : ℕ) (kept : List Entry) (now new : World) (after : MachineView) (wire : WireView) (notes : List TillNote) → IsRecording number kept now
     → new ≡ running after now.kept wire notes → after.stage ≡ recording number → IsRecording number kept new
 still number kept now new after wire notes r is at =
-    subst (IsRecording number kept) (sym is) (record { m = after; is = refl; at = at; same = r.same })
+    subst (IsRecording number kept) (sym is) (record { m = after; is = refl; at = at; more = r.more; each = r.each; same = r.same })
 
 connected_at : (number : ℕ) (s : Stage) (m : MachineView) → s ≡ recording number → (connected s m).stage ≡ m.stage
 connected_at number s m at = ap (λ x. (connected x m).stage) at
@@ -72,6 +78,8 @@ Stays event.Keep = ⊥
 Stays event.Crash = ⊥
 Stays (event.FailWith why) = ⊥
 Stays (event.FailWithout why) = ⊥
+Stays (event.Learn others) = ⊥
+Stays (event.FailLearning others why) = ⊥
 Stays e = Unit {0}
 
 stays_so : (number : ℕ) (kept : List Entry) (now new : World) (e : Happening) → Stays e → IsRecording number kept now → Happens now e new → IsRecording number kept new
@@ -89,6 +97,8 @@ stays_so number kept now new event.Refuse stays r h =
 stays_so number kept now new event.Keep stays r h = absurd stays
 stays_so number kept now new (event.FailWith why) stays r h = absurd stays
 stays_so number kept now new (event.FailWithout why) stays r h = absurd stays
+stays_so number kept now new (event.Learn others) stays r h = absurd stays
+stays_so number kept now new (event.FailLearning others why) stays r h = absurd stays
 stays_so number kept now new event.Connect stays r h =
     let at = stands_so number kept now h.m h.was r in
     still number kept now new h.after h.wire now.told r h.is (ap (λ x. x.stage) h.goes ∙ connected_at number h.m.stage h.m at ∙ at)
@@ -113,48 +123,137 @@ stays_so number kept now new event.Pause stays r h =
 stays_so number kept now new event.Tell stays r h =
     absurd (let bad : stage.Telling h.note ≡ recording number = sym h.moves.goes.0 ∙ stands_so number kept now h.moves.m h.moves.was r in cc)
 stays_so number kept now new (event.OnWire e) stays r h =
-    subst (IsRecording number kept) (sym h.is) (record { m = r.m; is = r.is; at = r.at; same = r.same })
+    subst (IsRecording number kept) (sym h.is) (record { m = r.m; is = r.is; at = r.at; more = r.more; each = r.each; same = r.same })
 stays_so number kept now new event.Idle stays r h =
-    subst (IsRecording number kept) (sym h.is) (record { m = r.m; is = r.is; at = r.at; same = r.same })
+    subst (IsRecording number kept) (sym h.is) (record { m = r.m; is = r.is; at = r.at; more = r.more; each = r.each; same = r.same })
 stays_so number kept now new event.Crash stays r h = absurd stays
+
+-- No entry after those says that the receipt is tried: there are only such as others add; or an entry by which it waits no more, after which none
+-- is about it.
+abbrev OnlyOthers : List Entry → List Entry → Type 0
+OnlyOthers kept after = (more : List Entry) × AllByRecursion IsOthers more × (after ≡ kept ++ more)
+
+abbrev HasEnded : ℕ → List Entry → List Entry → Type 0
+HasEnded number kept after = (before : List Entry) × (end : Entry) × (rest : List Entry) × AllByRecursion IsOthers before × IsEndOf number end × (after ≡ kept ++ (before ++ end ∷ rest))
+
+ends_on : (number : ℕ) (kept after later : List Entry) → HasEnded number kept after → Extends after later → HasEnded number kept later
+ends_on number kept after later (before, end, rest, each, ends, is) (more, later_is) = (
+  before,
+  end,
+  rest ++ more,
+  each,
+  ends,
+  later_is ∙ ap (λ v. v ++ more) is ∙ append_assoc kept (before ++ end ∷ rest) more ∙ ap (λ v. kept ++ v) (append_assoc before (end ∷ rest) more),
+)
+
+others_join : (a b : List Entry) → AllByRecursion IsOthers a → AllByRecursion IsOthers b → AllByRecursion IsOthers (a ++ b)
+others_join [] b each more = more
+others_join (e ∷ a) b (is, each) more = (is, others_join a b each more)
+
+-- Where others have cancelled it.
+cancels_in : (number : ℕ) (others : List Entry) → AllByRecursion IsOthers others → Among number (cancelled others)
+    → (before : List Entry) × (rest : List Entry) × AllByRecursion IsOthers before × (others ≡ before ++ entry.Cancelled number ∷ rest)
+cancels_in number [] each among = absurd (among_nothing number among)
+cancels_in number (entry.Queued content ∷ others) (is, each) among =
+    let (before, rest, all, split) = cancels_in number others each among in
+    (entry.Queued content ∷ before, rest, (tt, all), ap (λ v. entry.Queued content ∷ v) split)
+cancels_in number (entry.Raised next ∷ others) (is, each) among =
+    let (before, rest, all, split) = cancels_in number others each among in
+    (entry.Raised next ∷ before, rest, (tt, all), ap (λ v. entry.Raised next ∷ v) split)
+cancels_in number (entry.Cancelled n ∷ others) (is, each) among = elim (among_cons number n (cancelled others) among) [
+  | inl same ↦ ([], others, tt, ap (λ k. entry.Cancelled k ∷ others) same)
+  | inr later ↦
+      let (before, rest, all, split) = cancels_in number others each later in
+      (entry.Cancelled n ∷ before, rest, (tt, all), ap (λ v. entry.Cancelled n ∷ v) split)
+]
+cancels_in number (entry.Tried n next ∷ others) (is, each) among = absurd is
+cancels_in number (entry.Recorded n ∷ others) (is, each) among = absurd is
+
+one_entry : (a b : Entry) (x y : Then) → stage.Keeping a x ≡ stage.Keeping b y → a ≡ b
+one_entry a b x y e = cc e
+
+one_then : (a b : Entry) (x y : Then) → stage.Keeping a x ≡ stage.Keeping b y → x ≡ y
+one_then a b x y e = cc e
 
 -- So the first entry that is kept says that the receipt is recorded.
 kept_first : (number : ℕ) (kept : List Entry) (now mid new : World) (es : List Happening) → IsRecording number kept now → Happens now event.Keep mid → Runs mid es new
-    → Extends (kept ++ entry.Recorded number ∷ []) new.kept
+    → HasEnded number kept new.kept
 kept_first number kept now mid new es r h runs =
     let at = sym h.moves.goes.0 ∙ stands_so number kept now h.moves.m h.moves.was r in
     let is : h.entry ≡ entry.Recorded number = one_entry h.entry (entry.Recorded number) h.next (then.Recorded number) at in
-    let here : mid.kept ≡ kept ++ entry.Recorded number ∷ [] =
-    ap (λ v. v.kept) h.moves.is ∙ ap (λ es. es ++ h.entry ∷ []) r.same ∙ ap (λ x. kept ++ x ∷ []) is in
-    subst (λ old. Extends old new.kept) here (entries_last mid new es runs)
-  where
-    one_entry : (a b : Entry) (x y : Then) → stage.Keeping a x ≡ stage.Keeping b y → a ≡ b
-    one_entry a b x y e = cc e
+    let here : mid.kept ≡ kept ++ (r.more ++ entry.Recorded number ∷ []) =
+    ap (λ v. v.kept) h.moves.is ∙ ap (λ es. es ++ h.entry ∷ []) r.same ∙ ap (λ x. (kept ++ r.more) ++ x ∷ []) is ∙ append_assoc kept r.more (entry.Recorded number ∷ []) in
+    ends_on number kept mid.kept new.kept (r.more, entry.Recorded number, [], r.each, refl, here) (entries_last mid new es runs)
 
-goes : (number : ℕ) (kept : List Entry) (now new : World) (es : List Happening) → IsRecording number kept now → Runs now es new → (IsLostFirst es → ⊥)
-    → (new.kept ≡ kept) ⊎ Extends (kept ++ entry.Recorded number ∷ []) new.kept
-goes number kept now new [] r same kept_so = inl (ap (λ v. v.kept) same ∙ r.same)
-goes number kept now new (event.Keep ∷ es) r (mid, h, runs) kept_so = inr (kept_first number kept now mid new es r h runs)
-goes number kept now new (event.Crash ∷ es) r (mid, h, runs) kept_so = absurd (kept_so tt)
-goes number kept now new (event.FailWith why ∷ es) r (mid, h, runs) kept_so = absurd (kept_so tt)
-goes number kept now new (event.FailWithout why ∷ es) r (mid, h, runs) kept_so = absurd (kept_so tt)
-goes number kept now new (event.Start ∷ es) r (mid, h, runs) kept_so = goes number kept mid new es (stays_so number kept now mid event.Start tt r h) runs kept_so
-goes number kept now new ((event.Queue content) ∷ es) r (mid, h, runs) kept_so = goes number kept mid new es (stays_so number kept now mid (event.Queue content) tt r h) runs kept_so
-goes number kept now new ((event.Raise first) ∷ es) r (mid, h, runs) kept_so = goes number kept mid new es (stays_so number kept now mid (event.Raise first) tt r h) runs kept_so
-goes number kept now new ((event.Cancel other) ∷ es) r (mid, h, runs) kept_so = goes number kept mid new es (stays_so number kept now mid (event.Cancel other) tt r h) runs kept_so
-goes number kept now new ((event.Deliver openings most copy) ∷ es) r (mid, h, runs) kept_so = goes number kept mid new es (stays_so number kept now mid (event.Deliver openings most copy) tt r h) runs kept_so
-goes number kept now new (event.Refuse ∷ es) r (mid, h, runs) kept_so = goes number kept mid new es (stays_so number kept now mid event.Refuse tt r h) runs kept_so
-goes number kept now new (event.Connect ∷ es) r (mid, h, runs) kept_so = goes number kept mid new es (stays_so number kept now mid event.Connect tt r h) runs kept_so
-goes number kept now new (event.Miss ∷ es) r (mid, h, runs) kept_so = goes number kept mid new es (stays_so number kept now mid event.Miss tt r h) runs kept_so
-goes number kept now new ((event.Put most) ∷ es) r (mid, h, runs) kept_so = goes number kept mid new es (stays_so number kept now mid (event.Put most) tt r h) runs kept_so
-goes number kept now new ((event.Break most fewer why) ∷ es) r (mid, h, runs) kept_so = goes number kept mid new es (stays_so number kept now mid (event.Break most fewer why) tt r h) runs kept_so
-goes number kept now new ((event.Hear most) ∷ es) r (mid, h, runs) kept_so = goes number kept mid new es (stays_so number kept now mid (event.Hear most) tt r h) runs kept_so
-goes number kept now new ((event.End why) ∷ es) r (mid, h, runs) kept_so = goes number kept mid new es (stays_so number kept now mid (event.End why) tt r h) runs kept_so
-goes number kept now new (event.HangUp ∷ es) r (mid, h, runs) kept_so = goes number kept mid new es (stays_so number kept now mid event.HangUp tt r h) runs kept_so
-goes number kept now new (event.Pause ∷ es) r (mid, h, runs) kept_so = goes number kept mid new es (stays_so number kept now mid event.Pause tt r h) runs kept_so
-goes number kept now new (event.Tell ∷ es) r (mid, h, runs) kept_so = goes number kept mid new es (stays_so number kept now mid event.Tell tt r h) runs kept_so
-goes number kept now new ((event.OnWire e) ∷ es) r (mid, h, runs) kept_so = goes number kept mid new es (stays_so number kept now mid (event.OnWire e) tt r h) runs kept_so
-goes number kept now new (event.Idle ∷ es) r (mid, h, runs) kept_so = goes number kept mid new es (stays_so number kept now mid event.Idle tt r h) runs kept_so
+-- Others have added entries: it is still to be kept; or one of them has cancelled the receipt.
+learned_first : (number : ℕ) (kept others : List Entry) (now mid : World) → IsWorld now → IsRecording number kept now → Happens now (event.Learn others) mid
+    → IsRecording number kept mid ⊎ HasEnded number kept mid.kept
+learned_first number kept others now mid known r h =
+    let m : MachineView = h.moves.m in
+    let stands = stands_so number kept now m h.moves.was r in
+    let next : h.next ≡ then.Recorded number = one_then h.entry (entry.Recorded number) h.next (then.Recorded number) (sym h.moves.goes.0 ∙ stands) in
+    let (each, notes, revises) = subst (λ n. LearnsAll n others m h.moves.after) next h.moves.goes.1 in
+    let p = parts now m h.moves.was known in
+    let follows = (subst (λ s. Holds now.kept p.hand (with_earlier p.earlier m.host) s) stands p.holds).0 in
+    let book : IsBookOf m.book now.kept = p.book (λ lags. subst BookMayLag stands lags) in
+    let after_book = (notes now.kept book p.account.keeps.ledger).1 in
+    let here : mid.kept ≡ kept ++ (r.more ++ others) = ap (λ v. v.kept) h.moves.is ∙ ap (λ es. es ++ others) r.same ∙ append_assoc kept r.more others in
+    elim revises [
+      | inl (waits, same, at) ↦ inl (subst (IsRecording number kept) (sym h.moves.is) (record {
+        m = h.moves.after;
+        is = refl;
+        at = at;
+        more = r.more ++ others;
+        each = others_join r.more others r.each each;
+        same = ap (λ v. v.kept) (sym h.moves.is) ∙ here;
+      }))
+      | inr (tried, cancelled_there, drops, at) ↦
+          let among = (cancelled_so (now.kept ++ others) number tried (cancelled_there (now.kept ++ others) after_book)).0 in
+          let either = among_either number (cancelled now.kept) (cancelled others) (subst (λ ns. Among number ns) (cancelled_append now.kept others) among) in
+          elim either [
+            | inl before ↦ absurd (no_place (cancelled now.kept) number follows.0.not_cancelled before)
+            | inr since ↦
+                let (before, rest, all, split) = cancels_in number others each since in
+                inr (
+                  r.more ++ before,
+                  entry.Cancelled number,
+                  rest,
+                  others_join r.more before r.each all,
+                  refl,
+                  here ∙ ap (λ v. kept ++ (r.more ++ v)) split ∙ ap (λ v. kept ++ v) (sym (append_assoc r.more before (entry.Cancelled number ∷ rest))),
+                )
+          ]
+    ]
+
+goes : LineLaws → (number : ℕ) (kept : List Entry) (now new : World) (es : List Happening) → IsWorld now → IsRecording number kept now → Runs now es new → (IsLostFirst es → ⊥)
+    → OnlyOthers kept new.kept ⊎ HasEnded number kept new.kept
+goes laws number kept now new [] known r same kept_so = inl (r.more, r.each, ap (λ v. v.kept) same ∙ r.same)
+goes laws number kept now new (event.Keep ∷ es) known r (mid, h, runs) kept_so = inr (kept_first number kept now mid new es r h runs)
+goes laws number kept now new (event.Learn others ∷ es) known r (mid, h, runs) kept_so = elim (learned_first number kept others now mid known r h) [
+  | inl still_so ↦ goes laws number kept mid new es (whatever laws now mid (event.Learn others) known h) still_so runs kept_so
+  | inr ended ↦ inr (ends_on number kept mid.kept new.kept ended (entries_last mid new es runs))
+]
+goes laws number kept now new (event.FailLearning others why ∷ es) known r (mid, h, runs) kept_so = absurd (kept_so tt)
+goes laws number kept now new (event.Crash ∷ es) known r (mid, h, runs) kept_so = absurd (kept_so tt)
+goes laws number kept now new (event.FailWith why ∷ es) known r (mid, h, runs) kept_so = absurd (kept_so tt)
+goes laws number kept now new (event.FailWithout why ∷ es) known r (mid, h, runs) kept_so = absurd (kept_so tt)
+goes laws number kept now new (event.Start ∷ es) known r (mid, h, runs) kept_so = goes laws number kept mid new es (whatever laws now mid event.Start known h) (stays_so number kept now mid event.Start tt r h) runs kept_so
+goes laws number kept now new ((event.Queue content) ∷ es) known r (mid, h, runs) kept_so = goes laws number kept mid new es (whatever laws now mid (event.Queue content) known h) (stays_so number kept now mid (event.Queue content) tt r h) runs kept_so
+goes laws number kept now new ((event.Raise first) ∷ es) known r (mid, h, runs) kept_so = goes laws number kept mid new es (whatever laws now mid (event.Raise first) known h) (stays_so number kept now mid (event.Raise first) tt r h) runs kept_so
+goes laws number kept now new ((event.Cancel other) ∷ es) known r (mid, h, runs) kept_so = goes laws number kept mid new es (whatever laws now mid (event.Cancel other) known h) (stays_so number kept now mid (event.Cancel other) tt r h) runs kept_so
+goes laws number kept now new ((event.Deliver openings most copy) ∷ es) known r (mid, h, runs) kept_so = goes laws number kept mid new es (whatever laws now mid (event.Deliver openings most copy) known h) (stays_so number kept now mid (event.Deliver openings most copy) tt r h) runs kept_so
+goes laws number kept now new (event.Refuse ∷ es) known r (mid, h, runs) kept_so = goes laws number kept mid new es (whatever laws now mid event.Refuse known h) (stays_so number kept now mid event.Refuse tt r h) runs kept_so
+goes laws number kept now new (event.Connect ∷ es) known r (mid, h, runs) kept_so = goes laws number kept mid new es (whatever laws now mid event.Connect known h) (stays_so number kept now mid event.Connect tt r h) runs kept_so
+goes laws number kept now new (event.Miss ∷ es) known r (mid, h, runs) kept_so = goes laws number kept mid new es (whatever laws now mid event.Miss known h) (stays_so number kept now mid event.Miss tt r h) runs kept_so
+goes laws number kept now new ((event.Put most) ∷ es) known r (mid, h, runs) kept_so = goes laws number kept mid new es (whatever laws now mid (event.Put most) known h) (stays_so number kept now mid (event.Put most) tt r h) runs kept_so
+goes laws number kept now new ((event.Break most fewer why) ∷ es) known r (mid, h, runs) kept_so = goes laws number kept mid new es (whatever laws now mid (event.Break most fewer why) known h) (stays_so number kept now mid (event.Break most fewer why) tt r h) runs kept_so
+goes laws number kept now new ((event.Hear most) ∷ es) known r (mid, h, runs) kept_so = goes laws number kept mid new es (whatever laws now mid (event.Hear most) known h) (stays_so number kept now mid (event.Hear most) tt r h) runs kept_so
+goes laws number kept now new ((event.End why) ∷ es) known r (mid, h, runs) kept_so = goes laws number kept mid new es (whatever laws now mid (event.End why) known h) (stays_so number kept now mid (event.End why) tt r h) runs kept_so
+goes laws number kept now new (event.HangUp ∷ es) known r (mid, h, runs) kept_so = goes laws number kept mid new es (whatever laws now mid event.HangUp known h) (stays_so number kept now mid event.HangUp tt r h) runs kept_so
+goes laws number kept now new (event.Pause ∷ es) known r (mid, h, runs) kept_so = goes laws number kept mid new es (whatever laws now mid event.Pause known h) (stays_so number kept now mid event.Pause tt r h) runs kept_so
+goes laws number kept now new (event.Tell ∷ es) known r (mid, h, runs) kept_so = goes laws number kept mid new es (whatever laws now mid event.Tell known h) (stays_so number kept now mid event.Tell tt r h) runs kept_so
+goes laws number kept now new ((event.OnWire e) ∷ es) known r (mid, h, runs) kept_so = goes laws number kept mid new es (whatever laws now mid (event.OnWire e) known h) (stays_so number kept now mid (event.OnWire e) tt r h) runs kept_so
+goes laws number kept now new (event.Idle ∷ es) known r (mid, h, runs) kept_so = goes laws number kept mid new es (whatever laws now mid event.Idle known h) (stays_so number kept now mid event.Idle tt r h) runs kept_so
 
 -- ## An answer is heard
 
@@ -191,28 +290,38 @@ answer_heard w new most number known a =
     let at : v.after.stage ≡ recording number =
     answered_at w.kept v.m.book a.event v.talk (v.talk.left - v.consumed) number a.host v.after.host v.after.stage (talking_book v.m w.kept w.wire v.talk v.talks p).tries
     (λ closing waits has. one_tried w.kept p.hand held (with_earlier p.earlier v.m.host) w.wire v.talk number closing hand_is same p.account follows.0 waits has) a.is a.turns in
-    subst (IsRecording number w.kept) (sym v.is) (record { m = v.after; is = refl; at = at; same = refl })
+    subst (IsRecording number w.kept) (sym v.is) (record { m = v.after; is = refl; at = at; more = []; each = tt; same = sym (append-nil w.kept) })
 
 -- ## The law
 
-none_there : (number next : ℕ) (kept after more : List Entry) → IsLedger after → after ≡ (kept ++ entry.Recorded number ∷ []) ++ more
-    → Among (entry.Tried number next) (entry.Recorded number ∷ more) → ⊥
-none_there number next kept after more ledger is among =
-    elim (among_cons (entry.Tried number next) (entry.Recorded number) more among) [
-      | inl same ↦ (let bad : entry.Recorded number ≡ entry.Tried number next = same in absurd cc)
-      | inr later ↦
-          none_after kept more number (entry.Recorded number) (entry.Tried number next) (subst IsLedger (is ∙ append_assoc kept (entry.Recorded number ∷ []) more) ledger) refl later refl
-    ]
+not_of_others : (number next : ℕ) (more : List Entry) → AllByRecursion IsOthers more → ¬ Among (entry.Tried number next) more
+not_of_others number next [] each among = among_nothing (entry.Tried number next) among
+not_of_others number next (e ∷ more) (is, each) among = elim (among_cons (entry.Tried number next) e more among) [
+  | inl same ↦ subst IsOthers same is
+  | inr later ↦ not_of_others number next more each later
+]
+
+none_there : (number next : ℕ) (kept before rest after : List Entry) (end : Entry) → IsLedger after → AllByRecursion IsOthers before → IsEndOf number end → after ≡ kept ++ (before ++ end ∷ rest)
+    → ¬ Among (entry.Tried number next) (before ++ end ∷ rest)
+none_there number next kept before rest after end ledger each ends is among = elim (among_either (entry.Tried number next) before (end ∷ rest) among) [
+  | inl within ↦ not_of_others number next before each within
+  | inr beyond ↦ elim (among_cons (entry.Tried number next) end rest beyond) [
+    | inl same ↦ subst (IsEndOf number) same ends
+    | inr later ↦
+        none_after (kept ++ before) rest number end (entry.Tried number next) (subst IsLedger (is ∙ sym (append_assoc kept before (end ∷ rest))) ledger) ends later refl
+  ]
+]
 
 pub not_again : LineLaws → (w mid new : World) (most number : ℕ) (es : List Happening) → IsWorld w → HearsAnswer w most number mid → Runs mid es new → (IsLostFirst es → ⊥)
     → IsNotTriedAgain number w.kept new.kept
 not_again laws w mid new most number es known heard runs kept_so =
-    let world = over_time laws mid new es (whatever laws w mid (event.Hear most) known heard.hears) runs in
-    elim (goes number w.kept mid new es (answer_heard w mid most number known heard) runs kept_so) [
-      | inl same ↦ record { following = []; are = same ∙ sym (append-nil w.kept); none = λ next among. among_nothing (entry.Tried number next) among }
-      | inr (more, is) ↦ record {
-        following = entry.Recorded number ∷ more;
-        are = is ∙ append_assoc w.kept (entry.Recorded number ∷ []) more;
-        none = λ next among. none_there number next w.kept new.kept more world.account.keeps.ledger is among;
+    let at_mid = whatever laws w mid (event.Hear most) known heard.hears in
+    let world = over_time laws mid new es at_mid runs in
+    elim (goes laws number w.kept mid new es at_mid (answer_heard w mid most number known heard) runs kept_so) [
+      | inl (more, each, is) ↦ record { following = more; are = is; none = λ next among. not_of_others number next more each among }
+      | inr (before, end, rest, each, ends, is) ↦ record {
+        following = before ++ end ∷ rest;
+        are = is;
+        none = λ next among. none_there number next w.kept before rest new.kept end world.account.keeps.ledger each ends is among;
       }
     ]

@@ -36,6 +36,7 @@ use Rattle.escpos_till.specs.declared.store.StoreFault.{StoreFault}
 use Rattle.escpos_till.specs.Delivers.{fresh, marks_taken}
 use Rattle.escpos_till.specs.Book.{IsBookOf}
 use Rattle.escpos_till.specs.Entries.{MayFollow, next_free}
+use Rattle.escpos_till.specs.Learning.{FailsToLearn, FollowAll, Learned, LearnsAll, Revises}
 use Rattle.escpos_till.specs.Machine.{Came, Cancels, Delivers, Ended, Follows, GoesOn, HearsOne, Kept, MachineView, Queues, Raises, SameEntries, Submits, Turns as Turned, Unsure, after_note, connected, hung_up, lost, not_connected, put, told, with_pause}
 use Rattle.escpos_till.proofs.EntryLemmas.{next_after_cancelled, next_after_queued, next_after_raised, next_after_recorded, next_after_tried}
 use Rattle.escpos_till_model.specs.declared.event.Happening.{Happening}
@@ -43,7 +44,7 @@ use Rattle.escpos_till_model.specs.declared.event.Happening.TheVariants as event
 use Rattle.escpos_till_model.specs.Carried.{AreApart, Carried, Carries, HasOwnMarks, limit_of, link_at, link_by, link_of, links_after, numbers_from, out_of, with_put}
 use Rattle.escpos_till_model.specs.Known.{BookMayLag, Holds, IsMachineIn, IsToKeep, IsWorld}
 use Rattle.escpos_till_model.specs.Kept.{Hand}
-use Rattle.escpos_till_model.specs.World.{Breaks, FitsLine, Happens, Hears, IsSendable, Moves, Puts, Runs, Stores, TellsPause, World, with_entry, without_entry}
+use Rattle.escpos_till_model.specs.World.{Learns, Breaks, FitsLine, Happens, Hears, IsSendable, Moves, Puts, Runs, Stores, TellsPause, World, with_entry, without_entry}
 use Rattle.escpos_till_model.proofs.LinesKept.{LineLaws, down_or_up}
 use Rattle.escpos_till_model.proofs.Worlds.{whatever}
 
@@ -280,6 +281,41 @@ failed_carried w new low links why has known more c stores =
       own = c.own;
       talks = subst (λ k. MachineOn k.machine links) (sym stores.moves.is)
           (quiet_on stores.moves.after.stage stores.moves.after.host links (subst IsQuiet (sym unsure.2) (lost_quiet stores.next why)));
+    }
+
+-- Others have added entries: a machine that learns that puts nothing, and the next mark number doesn't fall.
+pub others_grow : (kept others : List Entry) → FollowAll kept others → next_free kept ≤ next_free (kept ++ others)
+others_grow kept [] follow = omega (arith, ap next_free (append-nil kept))
+others_grow kept (e ∷ others) (follows, follow) =
+    let first = grows kept e follows in
+    let rest = others_grow (kept ++ e ∷ []) others follow in
+    let same : next_free ((kept ++ e ∷ []) ++ others) ≡ next_free (kept ++ e ∷ others) = ap next_free (append_assoc kept (e ∷ []) others) in
+    omega (arith, first, rest, same)
+
+revised_quiet : (next : Then) (b : Book) (before h : HostView) (s : Stage) → Revises next b before h s → IsQuiet s
+revised_quiet (then.Send due) b before h s (inl (waits, marks, same, at)) = subst IsQuiet (sym at) tt
+revised_quiet (then.Send due) b before h s (inr (inl (few, drops, at))) = subst IsQuiet (sym at) tt
+revised_quiet (then.Send due) b before h s (inr (inr (tried, cancelled, drops, at))) = subst IsQuiet (sym at) tt
+revised_quiet (then.Recorded number) b before h s (inl (waits, same, at)) = subst IsQuiet (sym at) tt
+revised_quiet (then.Recorded number) b before h s (inr (tried, cancelled, drops, at)) = subst IsQuiet (sym at) tt
+revised_quiet then.Queued b before h s none = absurd none
+revised_quiet then.Raised b before h s none = absurd none
+revised_quiet (then.Cancelled number tried) b before h s none = absurd none
+
+pub learned_quiet : (e : Entry) (next : Then) (others : List Entry) (m after : MachineView) → Learned (stage.Keeping e next) others m after → IsQuiet after.stage
+learned_quiet e next others m after (inl learns) = revised_quiet next after.book m.host after.host after.stage learns.2
+learned_quiet e next others m after (inr (why, fails)) = subst IsQuiet (sym fails.2) (lost_quiet next why)
+
+learns_carried : (Goes : Then → MachineView → MachineView → Type 0) (w new : World) (others : List Entry) (low : ℕ) (links : List Carried)
+    → ((e : Entry) (next : Then) (m after : MachineView) → Goes next m after → IsQuiet after.stage) → AreCarried low w links → Learns Goes w others new → AreCarried low new links
+learns_carried Goes w new others low links quiet c learns =
+    let moves = learns.moves in
+    record {
+      apart = subst (λ k. AreApart low links (next_free k.kept)) (sym moves.is)
+          (apart_more low (next_free w.kept) (next_free (w.kept ++ others)) links (others_grow w.kept others learns.added.follow) c.apart);
+      own = c.own;
+      talks = subst (λ k. MachineOn k.machine links) (sym moves.is)
+          (quiet_on moves.after.stage moves.after.host links (quiet learns.entry learns.next moves.m moves.after moves.goes.1));
     }
 
 -- ## Bytes are put
@@ -545,6 +581,10 @@ step_carried ids event.Refuse w new low links known moves c =
 step_carried ids event.Keep w new low links known stores c = kept_carried ids w new low links known c stores
 step_carried ids (event.FailWith why) w new low links known stores c = failed_carried w new low links why with_entry known (grows w.kept) c stores
 step_carried ids (event.FailWithout why) w new low links known stores c = failed_carried w new low links why without_entry known (λ e may. omega arith) c stores
+step_carried ids (event.Learn others) w new low links known learns c =
+    learns_carried (λ next m after. LearnsAll next others m after) w new others low links (λ e next m after goes. learned_quiet e next others m after (inl goes)) c learns
+step_carried ids (event.FailLearning others why) w new low links known learns c =
+    learns_carried (λ next m after. FailsToLearn next others why m after) w new others low links (λ e next m after goes. learned_quiet e next others m after (inr (why, goes))) c learns
 step_carried ids event.Connect w new low links known moves c =
     moved_on (λ m after. after ≡ connected m.stage m) w new w.told low links moves (λ m after is. same_or_quiet m after links (connected_so m.stage m after is)) c
 step_carried ids event.Miss w new low links known moves c =

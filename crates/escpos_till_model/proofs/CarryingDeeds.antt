@@ -19,15 +19,16 @@ use Rattle.escpos_till.specs.declared.machine.Then.TheVariants as then
 use Rattle.escpos_till.specs.declared.machine.TillNote.{TillNote}
 use Rattle.escpos_till.specs.declared.store.StoreFault.{StoreFault}
 use Rattle.escpos_till.specs.Book.{IsBookOf}
-use Rattle.escpos_till.specs.Driver.{Breaks, Deed, DidAll, Ends, Gives, HangsUp, HearsAll, IsGiven, Keeps, Links, Loses, Misses, Pauses, Puts, Tells, Turns}
+use Rattle.escpos_till.specs.Driver.{Breaks, Deed, DidAll, Ends, Gives, HangsUp, HearsAll, IsGiven, Keeps, Learns, Links, Loses, Misses, Pauses, Puts, Tells, Turns}
 use Rattle.escpos_till.specs.Entries.{next_free}
+use Rattle.escpos_till.specs.Learning.{FollowAll, Learned}
 use Rattle.escpos_till.specs.Machine.{Came, Ended, GoesOn, Kept, MachineView, Submits, Turns as Turned, Unsure, put, told, with_pause}
 use Rattle.escpos_till_model.specs.Around.{Around, Does, DoesInTime, HasNoLink, IsAround, around}
 use Rattle.escpos_till_model.specs.Carried.{AreApart, Carried, CarriesBy, HasOwnMarks, UsesMarksOnce, link_for, link_of, with_put}
 use Rattle.escpos_till_model.specs.Kept.{Hand}
 use Rattle.escpos_till_model.specs.Known.{BookMayLag, Holds, IsMachineIn, IsToKeep, IsWorld}
 use Rattle.escpos_till_model.specs.World.{HasCome, IsSendable, World}
-use Rattle.escpos_till_model.proofs.Carrying.{IsQuiet, SaysOn, TalksOn, apart_more, came_says, connected_so, ended_so, grows, hung_so, kept_by, lost_quiet, missed_so, note_quiet, one_put, part_put, paused_on, quiet_on, same_or_quiet}
+use Rattle.escpos_till_model.proofs.Carrying.{IsQuiet, SaysOn, TalksOn, apart_more, came_says, connected_so, ended_so, grows, hung_so, kept_by, learned_quiet, lost_quiet, others_grow, missed_so, note_quiet, one_put, part_put, paused_on, quiet_on, same_or_quiet}
 use Rattle.escpos_till_model.proofs.Driven.{does, shows_around}
 use Rattle.escpos_till_model.proofs.DriverDoes.{IsEnding, ends_on, lags_ends, unsure_lags}
 use Rattle.escpos_till_model.proofs.Rows.{EveryWorld}
@@ -127,6 +128,14 @@ keeps_on ids low kept hand h m mid e before knows (next, is, keeps) on =
     let (apart, own, talks) = kept_by ids next low before kept hand h m mid e book.next holds.0 holds.1 so.1 on.apart on.own in
     subst (λ ls. OnLinks low (kept ++ e ∷ []) mid (ls ++ before)) (sym (same_link next kept hand h e holds.1)) (record { apart = apart; own = own; talks = talks })
 
+learns_on : (low : ℕ) (kept : List Entry) (m mid : MachineView) (others : List Entry) (before : List Carried) → FollowAll kept others → Turns m (Learns others) mid → OnLinks low kept m before
+    → OnLinks low (kept ++ others) mid before
+learns_on low kept m mid others before follow (e, next, is, learned) on = record {
+  apart = apart_more low (next_free kept) (next_free (kept ++ others)) before (others_grow kept others follow) on.apart;
+  own = on.own;
+  talks = quiet_on mid.stage mid.host before (learned_quiet e next others m mid (subst (λ s. Learned s others m mid) is learned));
+}
+
 loses_on : (low : ℕ) (kept : List Entry) (hand : Option Hand) (h : HostView) (m mid : MachineView) (e : Entry) (why : StoreFault) (before : List Carried) → Knows m kept hand h → Turns m (Loses e why) mid
     → OnLinks low kept m before → OnLinks low kept mid before × OnLinks low (kept ++ e ∷ []) mid before
 loses_on low kept hand h m mid e why before knows (next, is, unsure) on =
@@ -173,6 +182,7 @@ ends_alone did (HangsUp ∷ ds) m after old new kept others before links ending 
 ends_alone did (Tells n ∷ ds) m after old new kept others before links ending (mid, between, turns, sound, first, more) carries =
     ends_alone did ds mid after between new kept others before links (ends_on (Tells n) m mid ending turns).1 more carries
 ends_alone did (Keeps e ∷ ds) m after old new kept others before links ending (mid, between, turns, sound, first, more) carries = absurd (ends_on (Keeps e) m mid ending turns).0
+ends_alone did (Learns others' ∷ ds) m after old new kept others before links ending (mid, between, turns, sound, first, more) carries = absurd (ends_on (Learns others') m mid ending turns).0
 ends_alone did (Loses e why ∷ ds) m after old new kept others before links ending (mid, between, turns, sound, first, more) carries = absurd (ends_on (Loses e why) m mid ending turns).0
 ends_alone did (Links ∷ ds) m after old new kept others before links ending (mid, between, turns, sound, first, more) carries = absurd (ends_on Links m mid ending turns).0
 ends_alone did (Misses ∷ ds) m after old new kept others before links ending (mid, between, turns, sound, first, more) carries = absurd (ends_on Misses m mid ending turns).0
@@ -205,6 +215,8 @@ step ids (Loses e why) ds low m mid after a between new hand h before links know
       (loses_on low a.kept hand h m mid e why before knows turns on).1,
       ends_alone DoesInTime ds mid after between new a.kept (a.kept ++ e ∷ []) before links ending more carries,
     )
+step ids (Learns others) ds low m mid after a between new hand h before links knows turns (added, is) more on carries =
+    at_entries low mid ds links between _ is (before, learns_on low a.kept m mid others before added.follow turns on, carries)
 step ids Links ds low m mid after a between new hand h before links knows (due, at, mid_is) is more on carries =
     at_entries low mid ds links between _ is (passes low a.kept m mid ds before links on (same_or_quiet m mid before (connected_so m.stage m mid mid_is) on.talks) carries)
 step ids Misses ds low m mid after a between new hand h before links knows (due, at, mid_is) (inl is) more on carries =
@@ -277,6 +289,8 @@ has_step ids (Loses e why) ds low m mid after a between new hand h before knows 
       (loses_on low a.kept hand h m mid e why before knows turns on).1,
       λ links carries. ends_alone DoesInTime ds mid after between new (a.kept ++ e ∷ []) a.kept before links ending more carries,
     )
+has_step ids (Learns others) ds low m mid after a between new hand h before knows turns (added, is) more on =
+    has_at low a.kept mid (Learns others) ds before between _ is (before, learns_on low a.kept m mid others before added.follow turns on, λ links carries. carries)
 has_step ids (Puts bytes) ds low m mid after a between new hand h before knows (count, next, mid_is) is more on =
     has_at low a.kept mid (Puts bytes) ds before between _ is
     (with_put bytes before, puts_on low a.kept m mid bytes before (count, next, mid_is) on, λ links carries. (on_some low a.kept m next.talk before next.talks on, carries))

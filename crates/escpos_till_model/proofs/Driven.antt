@@ -5,7 +5,7 @@ use Rattle.escpos_link.specs.Wire.{WireView, given_up, with_link}
 use Rattle.escpos_till.specs.declared.machine.Stage.{Stage}
 use Rattle.escpos_till.specs.declared.machine.Stage.TheVariants as stage
 use Rattle.escpos_till.specs.declared.machine.Then.TheVariants as then
-use Rattle.escpos_till.specs.Driver.{Breaks, Deed, DidAll, Ends, Gives, HangsUp, Keeps, Links, Loses, Misses, Pauses, Puts, Ran, Tells, Turns}
+use Rattle.escpos_till.specs.Driver.{Breaks, Deed, DidAll, Ends, Gives, HangsUp, Keeps, Learns, Links, Loses, Misses, Pauses, Puts, Ran, Tells, Turns}
 use Rattle.escpos_till.specs.Machine.{MachineView}
 use Rattle.escpos_till_model.specs.Around.{Around, CrashesTo, Does, DoesInTime, HasNoLink, IsAround, Reaches, around}
 use Rattle.escpos_till_model.specs.declared.event.Happening.{Happening}
@@ -13,7 +13,7 @@ use Rattle.escpos_till_model.specs.declared.event.Happening.TheVariants.{Crash, 
 use Rattle.escpos_till_model.specs.World.{Runs, World, with_wire, Crashes, off}
 use Rattle.escpos_till_model.proofs.WireEvents.{goes_on_given_up}
 use Rattle.escpos_till_model.proofs.Shown.{DownIn, Leads, Shows, ShowsWire, events_of, later, leads_on, one, runs_events, runs_more}
-use Rattle.escpos_till_model.proofs.DrivenDeeds.{breaks, ends, gives, hangs_up, keeps, links, loses_with, loses_without, misses, misses_late, pauses, puts, tells}
+use Rattle.escpos_till_model.proofs.DrivenDeeds.{breaks, ends, gives, hangs_up, keeps, learns, links, loses_with, loses_without, misses, misses_late, pauses, puts, tells}
 
 -- ## A whole run
 
@@ -24,6 +24,7 @@ pub does : (d : Deed) (m mid : MachineView) (a new : Around) (w : World) → Sho
 does (Keeps e) m mid a new w shows turns sound is = to_new w mid _ new is (keeps m mid a w e shows turns sound)
 does (Loses e why) m mid a new w shows turns sound (inl is) = to_new w mid _ new is (loses_without m mid a w e why shows turns sound)
 does (Loses e why) m mid a new w shows turns sound (inr is) = to_new w mid _ new is (loses_with m mid a w e why shows turns sound)
+does (Learns others) m mid a new w shows turns sound (added, is) = to_new w mid _ new is (learns m mid a w others shows turns sound added)
 does Links m mid a new w shows turns sound is = to_new w mid _ new is (links m mid a w shows turns sound)
 does Misses m mid a new w shows turns sound (inl is) = to_new w mid _ new is (misses m mid a w shows turns sound)
 does Misses m mid a new w shows turns sound (inr is) = to_new w mid _ new is (misses_late m mid a w shows turns sound)

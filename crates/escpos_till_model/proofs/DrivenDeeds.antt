@@ -26,14 +26,15 @@ use Rattle.escpos_till.specs.declared.machine.TillNote.TheVariants as note_kind
 use Rattle.escpos_till.specs.declared.store.StoreFault.{StoreFault}
 use Rattle.std.proofs.Math.Nat.{min-eq_left}
 use Rattle.escpos_till.specs.Delivers.{fresh}
-use Rattle.escpos_till.specs.Driver.{Breaks, Ends, Gives, HangsUp, HearsAll, Keeps, Links, Loses, Misses, Pauses, Puts, Tells, Turns}
+use Rattle.escpos_till.specs.Driver.{Breaks, Ends, Gives, HangsUp, HearsAll, Keeps, Learns, Links, Loses, Misses, Pauses, Puts, Tells, Turns}
+use Rattle.escpos_till.specs.Learning.{AreOthers, FailsToLearn, Learned, LearnsAll, Revises}
 use Rattle.escpos_till.specs.Machine.{Came, Drops, Ended, Follows, GoesOn, Kept, MachineView, Submits, Turns as Turned, Unsure, after_note, connected, hung_up, lost, not_connected, put, told, with_pause}
 use Rattle.escpos_till_model.specs.Around.{Around, GoesOnBy, around}
 use Rattle.escpos_till_model.specs.declared.event.Happening.{Happening}
 use Rattle.escpos_till.specs.declared.pause.Pause.{Pause}
 use Rattle.escpos_till_model.specs.declared.event.Happening.TheVariants as event
-use Rattle.escpos_till_model.specs.declared.event.Happening.TheVariants.{Break, Connect, End, FailWith, FailWithout, HangUp, Hear, Idle, Keep, Miss, Put, Tell}
-use Rattle.escpos_till_model.specs.World.{Happens, Stores, TellsPause, Wired, World, running, with_entry, without_entry}
+use Rattle.escpos_till_model.specs.declared.event.Happening.TheVariants.{Break, Connect, End, FailLearning, FailWith, FailWithout, HangUp, Hear, Idle, Keep, Learn, Miss, Put, Tell}
+use Rattle.escpos_till_model.specs.World.{Happens, Learns as LearnsIn, Stores, TellsPause, Wired, World, running, with_entry, without_entry}
 use Rattle.escpos_till_model.proofs.WireEvents.{with_more}
 use Rattle.escpos_till_model.proofs.Shown.{DownIn, Leads, Shows, ShowsWire, arrive, events_of, gone, idle_shown, leads_on, move, one, runs_events, shows_at, wired_down, wired_off, wired_on, wired_up}
 
@@ -153,6 +154,58 @@ loses_without m mid a w e why shows (next, is, unsure) sound =
     } in
     let so = subst (λ s. Unsure s why m mid) is unsure in
     lost_so next why m mid w a e it shows.told (wire_at (stage.Keeping e next) m a w is shows) so.0 so.2
+
+-- Others have added entries, and the machine learns that.
+learned_as : (Goes : Then → MachineView → MachineView → Type 0) (w : World) (m mid : MachineView) (e : Entry) (next : Then) (others : List Entry) (wire : WireView) → w.machine ≡ Some m
+    → AreOthers w.kept others → m.stage ≡ stage.Keeping e next → Goes next m mid → IsSound mid.host → Wired m.host mid.host w.wire wire
+    → LearnsIn Goes w others (running mid (w.kept ++ others) wire w.told)
+learned_as Goes w m mid e next others wire was added is goes sound wired = record {
+  entry = e;
+  next = next;
+  added = added;
+  moves = move (λ k after. (k.stage ≡ stage.Keeping e next) × Goes next k after) w m mid (w.kept ++ others) w.told wire was (is, goes) sound wired;
+}
+
+revised_so : (next : Then) (m mid : MachineView) (w : World) (a : Around) (e : Entry) (it : Answers m mid w a) → w.told ≡ a.told → ShowsWire (stage.Keeping e next) m.host w.wire a.wire
+    → Revises next mid.book m.host mid.host mid.stage → Leads w mid a
+revised_so (then.Send due) m mid w a e it notes (down, (events, goes)) (inl (waits, marks, host, at)) =
+    let down' : mid.host.phase ≡ Down = ap (λ h. h.phase) host ∙ down in
+    answered m mid w a it _ w.wire notes at (wired_down m.host mid.host w.wire down down') (down', (events, goes))
+revised_so (then.Send due) m mid w a e it notes (down, (events, goes)) (inr (inl (few, drops, at))) = answered_unsent m mid w a it _ events notes down (gone m.host mid.host drops) goes at
+revised_so (then.Send due) m mid w a e it notes (down, (events, goes)) (inr (inr (tried, cancelled, drops, at))) =
+    answered_unsent m mid w a it _ events notes down (gone m.host mid.host drops) goes at
+revised_so (then.Recorded number) m mid w a e it notes (up, (dropped, same)) (inl (waits, host, at)) =
+    let up' : mid.host.phase ≢ Down = λ down. up (ap (λ h. h.phase) (sym host) ∙ down) in
+    answered m mid w a it _ w.wire notes at (wired_on m.host mid.host w.wire up up') (up', (dropped, same))
+revised_so (then.Recorded number) m mid w a e it notes (up, (dropped, same)) (inr (tried, cancelled, drops, at)) =
+    answered_off m mid w a it _ dropped notes up (gone m.host mid.host drops) same at
+revised_so then.Queued m mid w a e it notes shown none = absurd none
+revised_so then.Raised m mid w a e it notes shown none = absurd none
+revised_so (then.Cancelled number tried) m mid w a e it notes shown none = absurd none
+
+learns_by : (m mid : MachineView) (a : Around) (w : World) (others : List Entry) (e : Entry) (next : Then) → Shows m a w → m.stage ≡ stage.Keeping e next → AreOthers w.kept others
+    → Learned (stage.Keeping e next) others m mid → IsSound mid.host → Leads w mid (around (a.kept ++ others) a.wire a.told)
+learns_by m mid a w others e next shows is added (inl learns) sound =
+    let it : Answers m mid w (around (a.kept ++ others) a.wire a.told) = record {
+      e = Learn others;
+      kept = w.kept ++ others;
+      same = ap (λ k. k ++ others) shows.kept;
+      happens = λ wire wired. learned_as (λ n k after. LearnsAll n others k after) w m mid e next others wire shows.machine added is learns sound wired;
+    } in
+    revised_so next m mid w (around (a.kept ++ others) a.wire a.told) e it shows.told (wire_at (stage.Keeping e next) m a w is shows) learns.2
+learns_by m mid a w others e next shows is added (inr (why, fails)) sound =
+    let it : Answers m mid w (around (a.kept ++ others) a.wire a.told) = record {
+      e = FailLearning others why;
+      kept = w.kept ++ others;
+      same = ap (λ k. k ++ others) shows.kept;
+      happens = λ wire wired. learned_as (λ n k after. FailsToLearn n others why k after) w m mid e next others wire shows.machine added is fails sound wired;
+    } in
+    lost_so next why m mid w (around (a.kept ++ others) a.wire a.told) e it shows.told (wire_at (stage.Keeping e next) m a w is shows) fails.1 fails.2
+
+pub learns : (m mid : MachineView) (a : Around) (w : World) (others : List Entry) → Shows m a w → Turns m (Learns others) mid → IsSound mid.host → AreOthers a.kept others
+    → Leads w mid (around (a.kept ++ others) a.wire a.told)
+learns m mid a w others shows (e, next, is, learned) sound added =
+    learns_by m mid a w others e next shows is (subst (λ k. AreOthers k others) (sym shows.kept) added) (subst (λ s. Learned s others m mid) is learned) sound
 
 -- ## The link
 

@@ -12,7 +12,7 @@ use Rattle.escpos_till.specs.declared.machine.TillNote.{TillNote}
 use Rattle.escpos_till.specs.declared.machine.TillNote.TheVariants as note_kind
 use Rattle.escpos_till.specs.declared.store.StoreFault.{StoreFault}
 use Rattle.escpos_till.specs.declared.surroundings.Surroundings.{Surroundings}
-use Rattle.escpos_till.specs.Driver.{Breaks, Deed, DidAll, Ends, Gives, HangsUp, Keeps, Links, Loses, Misses, Pauses, Puts, RanTo, Tells, Turns}
+use Rattle.escpos_till.specs.Driver.{Breaks, Deed, DidAll, Ends, Gives, HangsUp, Keeps, Learns, Links, Loses, Misses, Pauses, Puts, RanTo, Tells, Turns}
 use Rattle.escpos_till.specs.Machine.{MachineView, Rests, Unsure, after_note, hung_up, lost, told}
 use Rattle.escpos_till.specs.Surroundings.{Did}
 use Rattle.escpos_till_model.specs.Around.{DoesInTime, HasNoLink, around}
@@ -26,14 +26,15 @@ faithful_before : {S L : Type 0} (faithful : S → Type 0) (holds leaves : S →
 unfolding Did
 faithful_before faithful holds leaves says did (Keeps e) old new (appends, line) done = appends.was_faithful done
 faithful_before faithful holds leaves says did (Loses e why) old new (may, line) done = may.was_faithful done
+faithful_before faithful holds leaves says did (Learns others) old new (takes, line) done = takes.was_faithful done
 faithful_before {S} {L} faithful holds leaves says did (Tells n) old new same done = subst (λ (k : Surroundings S L). faithful k.store) same done
 faithful_before {S} {L} faithful holds leaves says did (Pauses number why) old new same done = subst (λ (k : Surroundings S L). faithful k.store) same done
-faithful_before faithful holds leaves says did Links old new (so, same) done = subst faithful same done
-faithful_before faithful holds leaves says did Misses old new (so, same) done = subst faithful same done
-faithful_before faithful holds leaves says did (Puts bytes) old new (so, same) done = subst faithful same done
-faithful_before faithful holds leaves says did (Breaks bytes why) old new (so, same) done = subst faithful same done
-faithful_before faithful holds leaves says did (Gives room bytes) old new (so, same) done = subst faithful same done
-faithful_before faithful holds leaves says did (Ends why) old new (so, same) done = subst faithful same done
+faithful_before faithful holds leaves says did Links old new (so, stays) done = stays.was_faithful done
+faithful_before faithful holds leaves says did Misses old new (so, stays) done = stays.was_faithful done
+faithful_before faithful holds leaves says did (Puts bytes) old new (so, stays) done = stays.was_faithful done
+faithful_before faithful holds leaves says did (Breaks bytes why) old new (so, stays) done = stays.was_faithful done
+faithful_before faithful holds leaves says did (Gives room bytes) old new (so, stays) done = stays.was_faithful done
+faithful_before faithful holds leaves says did (Ends why) old new (so, stays) done = stays.was_faithful done
 faithful_before faithful holds leaves says did HangsUp old new (so, same) done = subst faithful same done
 
 pub was_faithful : {S L : Type 0} (faithful : S → Type 0) (holds leaves : S → List Entry → Type 0) (says : S → List Entry → StoreFault → S → Type 0) (did : L → Deed → L → Type 0) (ds : List Deed) (m after : MachineView) (old new : Surroundings S L)
@@ -79,6 +80,7 @@ ends_on (Tells n) m mid ending (is, mid_is) =
     (tt, subst IsEnding (sym (ap (λ v. v.stage) (mid_is ∙ ap (λ s. told s m) is))) (after_note_ends n))
 ends_on (Keeps e) m mid ending (next, is, kept) = absurd (ending_at m.stage _ is ending)
 ends_on (Loses e why) m mid ending (next, is, unsure) = absurd (ending_at m.stage _ is ending)
+ends_on (Learns others) m mid ending (e, next, is, learned) = absurd (ending_at m.stage _ is ending)
 ends_on Links m mid ending (due, is, mid_is) = absurd (ending_at m.stage _ is ending)
 ends_on Misses m mid ending (due, is, mid_is) = absurd (ending_at m.stage _ is ending)
 ends_on (Puts bytes) m mid ending (count, next, mid_is) = absurd (ending_at m.stage _ next.talks ending)
@@ -136,6 +138,7 @@ lags_on (Tells n) m mid lags (is, mid_is) =
     subst BookMayLag (sym (ap (λ v. v.stage) (mid_is ∙ ap (λ s. told s m) is))) (told_lags n (subst BookMayLag is lags))
 lags_on (Keeps e) m mid lags turns = absurd (ends_on (Keeps e) m mid (lags_ends m.stage lags) turns).0
 lags_on (Loses e why) m mid lags turns = absurd (ends_on (Loses e why) m mid (lags_ends m.stage lags) turns).0
+lags_on (Learns others) m mid lags turns = absurd (ends_on (Learns others) m mid (lags_ends m.stage lags) turns).0
 lags_on Links m mid lags turns = absurd (ends_on Links m mid (lags_ends m.stage lags) turns).0
 lags_on Misses m mid lags turns = absurd (ends_on Misses m mid (lags_ends m.stage lags) turns).0
 lags_on (Puts bytes) m mid lags turns = absurd (ends_on (Puts bytes) m mid (lags_ends m.stage lags) turns).0
@@ -178,6 +181,7 @@ ends_alone {S} {L} faithful holds leaves says did (Tells n ∷ ds) m after old n
     ends_alone faithful holds leaves says did ds mid after between new (ends_on (Tells n) m mid ending turns).1 more ∙ ap (λ (k : Surroundings S L). k.store) same
 ends_alone faithful holds leaves says did (Keeps e ∷ ds) m after old new ending (mid, between, turns, sound, first, more) = absurd (ends_on (Keeps e) m mid ending turns).0
 ends_alone faithful holds leaves says did (Loses e why ∷ ds) m after old new ending (mid, between, turns, sound, first, more) = absurd (ends_on (Loses e why) m mid ending turns).0
+ends_alone faithful holds leaves says did (Learns others ∷ ds) m after old new ending (mid, between, turns, sound, first, more) = absurd (ends_on (Learns others) m mid ending turns).0
 ends_alone faithful holds leaves says did (Links ∷ ds) m after old new ending (mid, between, turns, sound, first, more) = absurd (ends_on Links m mid ending turns).0
 ends_alone faithful holds leaves says did (Misses ∷ ds) m after old new ending (mid, between, turns, sound, first, more) = absurd (ends_on Misses m mid ending turns).0
 ends_alone faithful holds leaves says did (Puts bytes ∷ ds) m after old new ending (mid, between, turns, sound, first, more) = absurd (ends_on (Puts bytes) m mid ending turns).0
@@ -197,6 +201,7 @@ ends_all (Tells n ∷ ds) m after left w wire notes ending did old new (mid, bet
 ends_all (Keeps e ∷ ds) m after left w wire notes ending did old new (mid, between, turns, sound, first, more) on = absurd (ends_on (Keeps e) m mid ending turns).0
 ends_all (Loses e why ∷ ds) m after left w wire notes ending did old new (mid, between, turns, sound, first, more) on = absurd (ends_on (Loses e why) m mid ending turns).0
 ends_all (Links ∷ ds) m after left w wire notes ending did old new (mid, between, turns, sound, first, more) on = absurd (ends_on Links m mid ending turns).0
+ends_all (Learns others ∷ ds) m after left w wire notes ending did old new (mid, between, turns, sound, first, more) on = absurd (ends_on (Learns others) m mid ending turns).0
 ends_all (Misses ∷ ds) m after left w wire notes ending did old new (mid, between, turns, sound, first, more) on = absurd (ends_on Misses m mid ending turns).0
 ends_all (Puts bytes ∷ ds) m after left w wire notes ending did old new (mid, between, turns, sound, first, more) on = absurd (ends_on (Puts bytes) m mid ending turns).0
 ends_all (Breaks bytes why ∷ ds) m after left w wire notes ending did old new (mid, between, turns, sound, first, more) on = absurd (ends_on (Breaks bytes why) m mid ending turns).0
@@ -262,6 +267,11 @@ goes_all {S} {L} faithful holds leaves says did (Loses e why ∷ ds) m after old
           let so = appends.kept_or_not (subst faithful stays done) kept left held (subst (λ s. leaves s left) stays may) in
           (mid, around left w notes, turns, sound, loses_so kept left e why w notes so, ends_all ds mid after left w wire notes (lags_ends mid.stage lags) (Did faithful holds leaves says did) between new more on),
     )
+goes_all faithful holds leaves says did (Learns others ∷ ds) m after old new kept w wire notes (mid, between, turns, sound, (takes, line), more) done held on =
+    let (added, held_more) = takes.took (was_faithful faithful holds leaves says did ds mid after between new more done) kept held in
+    ends_so holds leaves new.store after.stage (Goes mid (kept ++ others) w notes ds after wire) (Goes m kept w notes (Learns others ∷ ds) after wire)
+    (λ entries goes. (mid, around (kept ++ others) w notes, turns, sound, record { events = []; wire = w; goes_on = refl; does = (added, refl) }, goes))
+    (goes_all faithful holds leaves says did ds mid after between new (kept ++ others) w wire notes more done held_more on)
 goes_all {S} {L} faithful holds leaves says did (Pauses number why ∷ ds) m after old new kept w wire notes (mid, between, turns, sound, same, more) done held on =
     ends_so holds leaves new.store after.stage (Goes mid kept w notes ds after wire) (Goes m kept w notes (Pauses number why ∷ ds) after wire)
     (λ entries goes. (mid, around kept w notes, turns, sound, record { events = []; wire = w; goes_on = refl; does = refl }, goes))
@@ -270,24 +280,24 @@ goes_all {S} {L} faithful holds leaves says did (Tells n ∷ ds) m after old new
     ends_so holds leaves new.store after.stage (Goes mid kept w (notes ++ n ∷ []) ds after wire) (Goes m kept w notes (Tells n ∷ ds) after wire)
     (λ entries goes. tells_first m mid after kept entries w wire notes n ds turns sound goes)
     (goes_all faithful holds leaves says did ds mid after between new kept w wire (notes ++ n ∷ []) more done (subst (λ (k : Surroundings S L). holds k.store kept) (sym same) held) on)
-goes_all faithful holds leaves says did (Links ∷ ds) m after old new kept w wire notes (mid, between, turns, sound, (so, same), more) done held (there, on, rest) =
+goes_all faithful holds leaves says did (Links ∷ ds) m after old new kept w wire notes (mid, between, turns, sound, (so, stays), more) done held (there, on, rest) =
     over_line holds leaves new.store Links ds m mid after kept w there wire notes refl turns sound on
-    (goes_all faithful holds leaves says did ds mid after between new kept there wire notes more done (subst (λ s. holds s kept) (sym same) held) rest)
-goes_all faithful holds leaves says did (Misses ∷ ds) m after old new kept w wire notes (mid, between, turns, sound, (so, same), more) done held (there, on, rest) =
+    (goes_all faithful holds leaves says did ds mid after between new kept there wire notes more done (stays.held (was_faithful faithful holds leaves says did ds mid after between new more done) kept held) rest)
+goes_all faithful holds leaves says did (Misses ∷ ds) m after old new kept w wire notes (mid, between, turns, sound, (so, stays), more) done held (there, on, rest) =
     over_line holds leaves new.store Misses ds m mid after kept w there wire notes refl turns sound on
-    (goes_all faithful holds leaves says did ds mid after between new kept there wire notes more done (subst (λ s. holds s kept) (sym same) held) rest)
-goes_all faithful holds leaves says did (Puts bytes ∷ ds) m after old new kept w wire notes (mid, between, turns, sound, (so, same), more) done held (there, on, rest) =
+    (goes_all faithful holds leaves says did ds mid after between new kept there wire notes more done (stays.held (was_faithful faithful holds leaves says did ds mid after between new more done) kept held) rest)
+goes_all faithful holds leaves says did (Puts bytes ∷ ds) m after old new kept w wire notes (mid, between, turns, sound, (so, stays), more) done held (there, on, rest) =
     over_line holds leaves new.store (Puts bytes) ds m mid after kept w there wire notes refl turns sound on
-    (goes_all faithful holds leaves says did ds mid after between new kept there wire notes more done (subst (λ s. holds s kept) (sym same) held) rest)
-goes_all faithful holds leaves says did (Breaks bytes why ∷ ds) m after old new kept w wire notes (mid, between, turns, sound, (so, same), more) done held (there, on, rest) =
+    (goes_all faithful holds leaves says did ds mid after between new kept there wire notes more done (stays.held (was_faithful faithful holds leaves says did ds mid after between new more done) kept held) rest)
+goes_all faithful holds leaves says did (Breaks bytes why ∷ ds) m after old new kept w wire notes (mid, between, turns, sound, (so, stays), more) done held (there, on, rest) =
     over_line holds leaves new.store (Breaks bytes why) ds m mid after kept w there wire notes refl turns sound on
-    (goes_all faithful holds leaves says did ds mid after between new kept there wire notes more done (subst (λ s. holds s kept) (sym same) held) rest)
-goes_all faithful holds leaves says did (Gives room bytes ∷ ds) m after old new kept w wire notes (mid, between, turns, sound, (so, same), more) done held (there, on, rest) =
+    (goes_all faithful holds leaves says did ds mid after between new kept there wire notes more done (stays.held (was_faithful faithful holds leaves says did ds mid after between new more done) kept held) rest)
+goes_all faithful holds leaves says did (Gives room bytes ∷ ds) m after old new kept w wire notes (mid, between, turns, sound, (so, stays), more) done held (there, on, rest) =
     over_line holds leaves new.store (Gives room bytes) ds m mid after kept w there wire notes refl turns sound on
-    (goes_all faithful holds leaves says did ds mid after between new kept there wire notes more done (subst (λ s. holds s kept) (sym same) held) rest)
-goes_all faithful holds leaves says did (Ends why ∷ ds) m after old new kept w wire notes (mid, between, turns, sound, (so, same), more) done held (there, on, rest) =
+    (goes_all faithful holds leaves says did ds mid after between new kept there wire notes more done (stays.held (was_faithful faithful holds leaves says did ds mid after between new more done) kept held) rest)
+goes_all faithful holds leaves says did (Ends why ∷ ds) m after old new kept w wire notes (mid, between, turns, sound, (so, stays), more) done held (there, on, rest) =
     over_line holds leaves new.store (Ends why) ds m mid after kept w there wire notes refl turns sound on
-    (goes_all faithful holds leaves says did ds mid after between new kept there wire notes more done (subst (λ s. holds s kept) (sym same) held) rest)
+    (goes_all faithful holds leaves says did ds mid after between new kept there wire notes more done (stays.held (was_faithful faithful holds leaves says did ds mid after between new more done) kept held) rest)
 goes_all faithful holds leaves says did (HangsUp ∷ ds) m after old new kept w wire notes (mid, between, turns, sound, (so, same), more) done held (there, on, rest) =
     over_line holds leaves new.store HangsUp ds m mid after kept w there wire notes refl turns sound on
     (goes_all faithful holds leaves says did ds mid after between new kept there wire notes more done (subst (λ s. holds s kept) (sym same) held) rest)
@@ -330,6 +340,8 @@ pub fits_all : {S L : Type 0} (faithful : S → Type 0) (holds leaves : S → Li
 unfolding Did
 fits_all {S} {L} faithful holds leaves says did fits does [] m after old new w (is, same) like = (w, refl, subst (λ (k : Surroundings S L). fits k.line w) (sym same) like)
 fits_all faithful holds leaves says did fits does (Keeps e ∷ ds) m after old new w (mid, between, turns, sound, (appends, same), more) like =
+    fits_all faithful holds leaves says did fits does ds mid after between new w more (subst (λ l. fits l w) (sym same) like)
+fits_all faithful holds leaves says did fits does (Learns others ∷ ds) m after old new w (mid, between, turns, sound, (takes, same), more) like =
     fits_all faithful holds leaves says did fits does ds mid after between new w more (subst (λ l. fits l w) (sym same) like)
 fits_all faithful holds leaves says did fits does (Loses e why ∷ ds) m after old new w (mid, between, turns, sound, (appends, same), more) like =
     fits_all faithful holds leaves says did fits does ds mid after between new w more (subst (λ l. fits l w) (sym same) like)
@@ -375,6 +387,7 @@ rests_so s other is rests = subst Rests is rests
 no_turn : (d : Deed) (m mid : MachineView) → Rests m.stage → Turns m d mid → ⊥
 no_turn (Keeps e) m mid rests (next, is, kept) = rests_so m.stage _ is rests
 no_turn (Loses e why) m mid rests (next, is, unsure) = rests_so m.stage _ is rests
+no_turn (Learns others) m mid rests (e, next, is, learned) = rests_so m.stage _ is rests
 no_turn Links m mid rests (due, is, mid_is) = rests_so m.stage _ is rests
 no_turn Misses m mid rests (due, is, mid_is) = rests_so m.stage _ is rests
 no_turn (Puts bytes) m mid rests (count, next, mid_is) = rests_so m.stage _ next.talks rests
@@ -418,6 +431,7 @@ pub one_note : {D : Type 0} (did : D → Deed → D → Type 0) (ds : List Deed)
 one_note did [] n m after old new all = refl
 one_note did (Tells x ∷ ds) n m after old new (mid, between, turns, sound, first, more) = absurd (no_more did ds n mid after between new (subst Rests (sym (told_stage m mid x turns)) (after_note_rests x)) more)
 one_note did (Keeps e ∷ ds) n m after old new (mid, between, turns, sound, first, more) = one_note did ds n mid after between new more
+one_note did (Learns others ∷ ds) n m after old new (mid, between, turns, sound, first, more) = one_note did ds n mid after between new more
 one_note did (Loses e why ∷ ds) n m after old new (mid, between, turns, sound, first, more) = one_note did ds n mid after between new more
 one_note did (Links ∷ ds) n m after old new (mid, between, turns, sound, first, more) = one_note did ds n mid after between new more
 one_note did (Misses ∷ ds) n m after old new (mid, between, turns, sound, first, more) = one_note did ds n mid after between new more

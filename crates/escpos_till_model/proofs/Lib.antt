@@ -7,6 +7,7 @@ pub mod LateLemmas
 pub mod WorldCalls
 pub mod WorldStore
 pub mod WorldHears
+pub mod WorldLearns
 pub mod Worlds
 mod Again
 mod WireEvents

@@ -1,5 +1,5 @@
 -- Why a call that only keeps an entry does nothing over the line.
-use Rattle.std.proofs.Common.{◌≡◌, List, [], ◌∷◌, refl, sym, ◌∙◌, ap, subst}
+use Rattle.std.proofs.Common.{◌≡◌, inl, inr, List, [], ◌∷◌, refl, sym, ◌∙◌, ap, subst}
 use Rattle.escpos_link.specs.Wire.{WireView}
 use Rattle.escpos_till.specs.declared.entry.Entry.{Entry}
 use Rattle.escpos_till.specs.declared.machine.Stage.{Stage}
@@ -9,7 +9,8 @@ use Rattle.escpos_till.specs.declared.machine.Then.TheVariants as then
 use Rattle.escpos_till.specs.declared.machine.TillNote.{TillNote}
 use Rattle.escpos_till.specs.declared.machine.TillNote.TheVariants as note_kind
 use Rattle.escpos_till.specs.declared.store.StoreFault.{StoreFault}
-use Rattle.escpos_till.specs.Driver.{Breaks, Call, Calls, Cancel, Deed, Deliver, DidAll, Ends, Gives, HangsUp, Keeps, Links, Loses, Misses, Pauses, Puts, Queue, Raise, Tells, Turns}
+use Rattle.escpos_till.specs.Driver.{Breaks, Call, Calls, Cancel, Deed, Deliver, DidAll, Ends, Gives, HangsUp, Keeps, Learns, Links, Loses, Misses, Pauses, Puts, Queue, Raise, Tells, Turns}
+use Rattle.escpos_till.specs.Learning.{Learned}
 use Rattle.escpos_till.specs.Machine.{Kept, MachineView, Unsure, after_note, lost, told}
 use Rattle.escpos_till_model.specs.Bridge.{AllOnWire, IsOffLine, IsOnLine}
 
@@ -54,11 +55,21 @@ lost_quiet e (then.Cancelled number tried) why quiet = tt
 lost_quiet e (then.Send due) why quiet = absurd quiet
 lost_quiet e (then.Recorded number) why quiet = absurd quiet
 
+learned_quiet : (e : Entry) (next : Then) (others : List Entry) (m mid : MachineView) → IsQuiet (stage.Keeping e next) → Learned (stage.Keeping e next) others m mid → IsQuiet mid.stage
+learned_quiet e next others m mid quiet (inr (why, fails)) = quiet_as mid.stage (lost next why) fails.2 (lost_quiet e next why quiet)
+learned_quiet e then.Queued others m mid quiet (inl learns) = absurd learns.2
+learned_quiet e then.Raised others m mid quiet (inl learns) = absurd learns.2
+learned_quiet e (then.Cancelled number tried) others m mid quiet (inl learns) = absurd learns.2
+learned_quiet e (then.Send due) others m mid quiet (inl learns) = absurd quiet
+learned_quiet e (then.Recorded number) others m mid quiet (inl learns) = absurd quiet
+
 -- It asks for nothing over the line, and goes on so.
 quiet_on : (d : Deed) (m mid : MachineView) → IsQuiet m.stage → Turns m d mid → (IsOnLine d → ⊥) × IsQuiet mid.stage
 quiet_on (Keeps e) m mid quiet (next, is, kept) = (λ on. on, kept_quiet e next m mid (quiet_at m.stage _ is quiet) (subst (λ s. Kept s m mid) is kept))
 quiet_on (Loses e why) m mid quiet (next, is, unsure) =
     (λ on. on, quiet_as mid.stage (lost next why) (subst (λ s. Unsure s why m mid) is unsure).2 (lost_quiet e next why (quiet_at m.stage _ is quiet)))
+quiet_on (Learns others) m mid quiet (e, next, is, learned) =
+    (λ on. on, learned_quiet e next others m mid (quiet_at m.stage _ is quiet) (subst (λ s. Learned s others m mid) is learned))
 quiet_on (Tells n) m mid quiet (is, mid_is) = (λ on. on, quiet_as mid.stage (after_note n) (ap (λ v. v.stage) (mid_is ∙ ap (λ s. told s m) is)) (note_quiet n))
 quiet_on Links m mid quiet (due, is, mid_is) = absurd (quiet_at m.stage _ is quiet)
 quiet_on Misses m mid quiet (due, is, mid_is) = absurd (quiet_at m.stage _ is quiet)
@@ -72,6 +83,7 @@ quiet_on (Pauses number why) m mid quiet (talk, is, news, mid_is) = absurd (quie
 quiet_first : (d : Deed) (ds : List Deed) (w : WireView) → (IsOnLine d → ⊥) → AllOnWire w ds w → AllOnWire w (d ∷ ds) w
 quiet_first (Keeps e) ds w never rest = rest
 quiet_first (Loses e why) ds w never rest = rest
+quiet_first (Learns others) ds w never rest = rest
 quiet_first (Tells n) ds w never rest = rest
 quiet_first (Pauses number why) ds w never rest = rest
 quiet_first Links ds w never rest = absurd (never tt)

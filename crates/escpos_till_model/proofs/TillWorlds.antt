@@ -81,6 +81,7 @@ unwanted_in why.SwitchedOn w v m e view was for is = absurd is
 unwanted_in why.Linked w v m e view was for is = absurd is
 unwanted_in why.NotCopyText w v m e view was for is = absurd is
 unwanted_in why.NotAtPrinter w v m e view was for is = absurd is
+unwanted_in why.Alone w v m e view was for is = absurd is
 unwanted_in (why.Machine cause) w v m e view was for is = absurd is
 
 pub fits_by : ((receipt : List Command) → Whole receipt → AreCommands receipt → IsFitting (line.Submit receipt)) → (s : Stage) → SendsReceipt s → FitsLine s
@@ -269,6 +270,7 @@ instead_runs why.Linked e w new (idle, is, same) = ([], same)
 instead_runs why.NotAsked e w new (is, same) = ([], same)
 instead_runs why.NotCopyText e w new (is, same) = ([], same)
 instead_runs why.NotAtPrinter e w new (is, same) = ([], same)
+instead_runs why.Alone e w new (is, same) = ([], same)
 instead_runs (why.Machine cause) e w new refuses = (event.Refuse ∷ [], (new, refuses, refl))
 instead_runs why.Memory e w new (inl same) = ([], same)
 instead_runs why.Memory e w new (inr (inl (most, fewer, is, less, fed))) = (event.OnWire (line.Deliver fewer) ∷ [], (new, fed, refl))

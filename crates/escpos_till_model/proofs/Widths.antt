@@ -54,6 +54,10 @@ step_width laws (event.FailWith why) w new known happened =
     ap (λ k. width_of k.wire) happened.moves.is ∙ wired_width happened.moves.m.host happened.moves.after.host w.wire happened.moves.wire happened.moves.wired
 step_width laws (event.FailWithout why) w new known happened =
     ap (λ k. width_of k.wire) happened.moves.is ∙ wired_width happened.moves.m.host happened.moves.after.host w.wire happened.moves.wire happened.moves.wired
+step_width laws (event.Learn others) w new known happened =
+    ap (λ k. width_of k.wire) happened.moves.is ∙ wired_width happened.moves.m.host happened.moves.after.host w.wire happened.moves.wire happened.moves.wired
+step_width laws (event.FailLearning others why) w new known happened =
+    ap (λ k. width_of k.wire) happened.moves.is ∙ wired_width happened.moves.m.host happened.moves.after.host w.wire happened.moves.wire happened.moves.wired
 step_width laws event.Connect w new known happened = ap (λ k. width_of k.wire) happened.is ∙ wired_width happened.m.host happened.after.host w.wire happened.wire happened.wired
 step_width laws event.Miss w new known happened = ap (λ k. width_of k.wire) happened.is ∙ wired_width happened.m.host happened.after.host w.wire happened.wire happened.wired
 step_width laws (event.Put most) w new known happened = ap (λ k. width_of k.wire) happened.is

@@ -27,6 +27,7 @@ use Rattle.escpos_till_model.proofs.LateLemmas.{late_fresh, late_off}
 use Rattle.escpos_till_model.proofs.LinesKept.{LineLaws, Right, none_given_up}
 use Rattle.escpos_till_model.proofs.EntryFacts.{among_nothing, zip_length}
 use Rattle.escpos_till_model.proofs.WorldCalls.{cancels, connected_world, delivers, ended_world, hung_world, missed_world, paused_world, queued, raised, refused, told_world}
+use Rattle.escpos_till_model.proofs.WorldLearns.{learned, not_learned}
 use Rattle.escpos_till_model.proofs.WorldStore.{started, on_wire, idled, crashed, puts, breaks, failed_with, failed_without, fresh_begun, fresh_right, fresh_sound, kept_world}
 use Rattle.escpos_till_model.proofs.WorldHears.{hears}
 
@@ -42,6 +43,8 @@ whatever laws w new Refuse known happened = refused w new known happened
 whatever laws w new Keep known happened = kept_world laws w new known happened
 whatever laws w new (FailWith why) known happened = failed_with laws w new why known happened
 whatever laws w new (FailWithout why) known happened = failed_without laws w new why known happened
+whatever laws w new (event.Learn others) known happened = learned laws w new others known happened
+whatever laws w new (event.FailLearning others why) known happened = not_learned laws w new others why known happened
 whatever laws w new Connect known happened = connected_world w new known happened
 whatever laws w new Miss known happened = missed_world w new known happened
 whatever laws w new (Put count) known happened = puts laws w new count known happened
@@ -83,6 +86,8 @@ entries_stay w new (Deliver openings most copy) happened = same_entries w.kept n
 entries_stay w new Refuse happened = same_entries w.kept new.kept (ap (λ v. v.kept) happened.is)
 entries_stay w new Keep happened = (happened.entry ∷ [], ap (λ v. v.kept) happened.moves.is)
 entries_stay w new (FailWith why) happened = (happened.entry ∷ [], ap (λ v. v.kept) happened.moves.is)
+entries_stay w new (event.Learn others) happened = (others, ap (λ v. v.kept) happened.moves.is)
+entries_stay w new (event.FailLearning others why) happened = (others, ap (λ v. v.kept) happened.moves.is)
 entries_stay w new (FailWithout why) happened = same_entries w.kept new.kept (ap (λ v. v.kept) happened.moves.is)
 entries_stay w new Connect happened = same_entries w.kept new.kept (ap (λ v. v.kept) happened.is)
 entries_stay w new Miss happened = same_entries w.kept new.kept (ap (λ v. v.kept) happened.is)

@@ -85,6 +85,12 @@ abbrev pub IsElsewhere : Happening → Type 0
 IsElsewhere (event.OnWire e) = is_printer_event e ≡ false
 IsElsewhere e = ⊥
 
+-- Others would have added entries.
+abbrev pub IsOfOthers : Happening → Type 0
+IsOfOthers (event.Learn others) = Unit {0}
+IsOfOthers (event.FailLearning others cause) = Unit {0}
+IsOfOthers e = ⊥
+
 abbrev pub Instead : NotPossible → Happening → World → World → Type 0
 Instead why.SwitchedOff e w new = NeedsMachine e × (w.machine ≡ None) × (new ≡ w)
 Instead why.SwitchedOn e w new = IsStart e × (w.machine ≢ None) × (new ≡ w)
@@ -92,6 +98,7 @@ Instead why.Linked e w new = IsIdle e × ((m : MachineView) × (w.machine ≡ So
 Instead why.NotAsked e w new = ((m : MachineView) × (w.machine ≡ Some m) × ¬ IsFor e m.stage) × (new ≡ w)
 Instead why.NotCopyText e w new = HasNoCopy e × (new ≡ w)
 Instead why.NotAtPrinter e w new = IsElsewhere e × (new ≡ w)
+Instead why.Alone e w new = IsOfOthers e × (new ≡ w)
 Instead (why.Machine cause) e w new = Happens w event.Refuse new
 Instead why.Memory e w new = LeftByMemory e w new
 

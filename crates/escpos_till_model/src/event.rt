@@ -1,8 +1,42 @@
 //! What may happen to a till, and why it doesn't.
 
+ghost use Rattle.std.specs.Prelude.{◌≡◌};
+
 use escpos_host::SendFault;
 use escpos_link::Event;
-use escpos_till::{ReceiptContent, ReceiptNumber, StoreFault, Text, TillRefusal};
+use escpos_till::{Entry, ReceiptContent, ReceiptNumber, StoreFault, Text, TillRefusal};
+use std::marker::Model;
+
+/// Entries that others add to a ledger. The model is their list.
+#[derive(Debug, Drop)]
+pub struct OthersEntries {
+    entries: Vec<Entry>,
+}
+
+impl Model for OthersEntries {
+    ghost use Rattle.std.specs.Prelude.{List};
+    ghost use Rattle.escpos_till.specs.declared.entry.Entry.{Entry};
+
+    ghost Value = { List Entry };
+
+    ghost view = { λ o. o.entries.items };
+}
+
+impl OthersEntries {
+    /// These entries. Allocates nothing.
+    pub fn new(entries: Vec<Entry>) -> Self
+        ensures { result ≡ entries.items }
+    {
+        OthersEntries { entries }
+    }
+
+    /// The entries. Allocates nothing.
+    pub fn as_slice(&self) -> &[Entry]
+        ensures { result.now ≡ self.now }
+    {
+        self.entries.as_slice()
+    }
+}
 
 /// What may happen. `specs/World.antt` says what it does.
 #[derive(Debug, Drop)]
@@ -30,6 +64,13 @@ pub enum Happening {
     FailWith(StoreFault),
     /// The store fails, and doesn't have the entry.
     FailWithout(StoreFault),
+    /// Others have added these entries before the one that the machine asks for, and it learns that.
+    Learn(OthersEntries),
+    /// The same, and the machine fails, since it can't learn it.
+    FailLearning {
+        others: OthersEntries,
+        why: StoreFault,
+    },
     /// There is a link.
     Connect,
     /// There is no link.
@@ -75,6 +116,8 @@ pub enum NotPossible {
     NotCopyText,
     /// It doesn't happen at the printer's end.
     NotAtPrinter,
+    /// A `Till` is alone with its ledger: nobody else adds entries to it.
+    Alone,
     /// The machine refuses the call.
     Machine(TillRefusal),
     /// Out of memory.

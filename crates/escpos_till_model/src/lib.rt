@@ -17,6 +17,6 @@ mod parts;
 mod till;
 mod wire_line;
 
-pub use event::{Happening, NotPossible};
+pub use event::{Happening, NotPossible, OthersEntries};
 pub use till::Till;
 pub use wire_line::{SameWire, WireLine};

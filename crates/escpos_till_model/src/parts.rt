@@ -65,6 +65,7 @@ impl TillParts {
             Happening::Keep => self.keep(alloc),
             Happening::FailWith(why) => self.fail_with(alloc, why),
             Happening::FailWithout(why) => self.fail_without(why),
+            Happening::Learn(_) | Happening::FailLearning { .. } => Err(NotPossible::Alone),
             Happening::Connect => self.connect(),
             Happening::Miss => self.miss(),
             Happening::Put(most) => self.put(alloc, most),

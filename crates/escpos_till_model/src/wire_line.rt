@@ -97,6 +97,14 @@ impl PrinterLine for WireLine {
         Ok(count)
     }
 
+    fn takes_at_once(&self) -> bool {
+        true
+    }
+
+    fn gives_soon(&self) -> bool {
+        true
+    }
+
     fn hang_up(&mut self) {
         self.wire.hang_up();
         self.linked = false;
