@@ -20,7 +20,7 @@ use Rattle.escpos_till.specs.Entries.{IsLedger, MayFollow, Taken, Waits, cancel_
 is_self : (n : ℕ) → (n == n) ≡ true
 is_self n = grind (arith, nat_tests)
 
-is_other : (m n : ℕ) → m ≢ n → (m == n) ≡ false
+pub is_other : (m n : ℕ) → m ≢ n → (m == n) ≡ false
 is_other m n h = grind (arith, nat_tests)
 
 position-miss : (t : ℕ → Bool) (i : ℕ) (xs : List ℕ) (x : ℕ) → t x ≡ false → position_from t i (xs ++ x ∷ []) ≡ position_from t i xs

@@ -1,8 +1,9 @@
 -- What entries that others have added do to what a machine knows, and to what it was to keep.
-use Rattle.std.proofs.Common.{ℕ, zero, suc, true, false, ◌==◌, ◌≡◌, ◌+◌, ◌-◌, ◌<◌, ◌≤◌, ◌⊎◌, inl, inr, cond, max, Option, Some, None, List, [], ◌∷◌, ◌++◌, length, take, get_or, refl, sym, ◌∙◌, ap, subst, append-nil, append_assoc, length-append, arith}
+use Rattle.std.proofs.Common.{ℕ, zero, suc, true, false, ◌==◌, ◌≡◌, ◌+◌, ◌-◌, ◌<◌, ◌≤◌, ◌⊎◌, inl, inr, cond, max, Option, Some, None, List, [], ◌∷◌, ◌++◌, length, length-drop, take, drop, get_or, refl, sym, ◌∙◌, ap, subst, append-nil, append_assoc, length-append, arith}
 use Rattle.std.specs.List.{AllByRecursion, filter_map, position_from}
 use Rattle.std.specs.Option.{MatchOption}
 use Rattle.std.proofs.Math.Nat.{le-max_right}
+use Rattle.std.proofs.lemmas.List.{take-append-drop, take_all}
 use Rattle.std.proofs.lemmas.List.Elements.{filter_map-append}
 use Rattle.std.proofs.lemmas.List.Sums.{sum_by-append}
 use Rattle.escpos_host.specs.Machine.{HostView}
@@ -21,9 +22,9 @@ use Rattle.escpos_till.specs.declared.state.ReceiptState.TheVariants as state
 use Rattle.escpos_till.specs.Book.{HasTryRoom, IsBookOf}
 use Rattle.escpos_till.specs.Delivers.{marks_taken}
 use Rattle.escpos_till.specs.Entries.{IsLedger, MayFollow, Waits, cancel_place_of, content_of, contents, is_try_of, next_free, place_of, record_of, recorded, state_by, state_of, taken, times_tried}
-use Rattle.escpos_till.specs.Learning.{FollowAll, IsDelivering, IsOthers, Revises, StandsIn, WaitsOrCancelled}
+use Rattle.escpos_till.specs.Learning.{AreOthers, FollowAll, IsOthers, Revises, StandsIn, WaitsOrCancelled}
 use Rattle.escpos_till.specs.Machine.{Fits, Suits, most_entries, printed}
-use Rattle.escpos_till.proofs.EntryLemmas.{ledger-snoc, length-taken, one_longer, state_waits}
+use Rattle.escpos_till.proofs.EntryLemmas.{is_other, ledger-snoc, length-taken, one_longer, state_waits}
 use Rattle.escpos_till.proofs.MachineLemmas.{fits_printed}
 
 -- ## Each of a list
@@ -175,3 +176,23 @@ fits_revised b es others e (then.Cancelled n tried) before h s book all follows 
 pub not_recorded : (es : List Entry) (n place tried : ℕ) (s : ReceiptState) → s ≡ state_of es n → s ≡ state.Recorded place → (state_of es n ≡ state.Waiting tried) ⊎ (state_of es n ≡ state.Cancelled tried) → ⊥
 not_recorded es n place tried s is recorded (inl waits) = let bad : state.Recorded place ≡ state.Waiting tried = sym recorded ∙ is ∙ waits in cc
 not_recorded es n place tried s is recorded (inr cancelled) = let bad : state.Recorded place ≡ state.Cancelled tried = sym recorded ∙ is ∙ cancelled in cc
+
+-- ## What was found
+
+-- Entries that begin with those that are known go on with such as others may have added.
+pub since_so : (known found rest items : List Entry) → take (length known) found ≡ known → rest ≡ take (length found - length known) (drop (length known) found) → items ≡ rest
+    → AllByRecursion IsOthers rest → IsLedger found ⊎ (rest ≡ []) → (found ≡ known ++ items) × (IsLedger known → AreOthers known items)
+since_so known found rest items same rest_is items_are each ledger =
+    let whole : take (length found - length known) (drop (length known) found) ≡ drop (length known) found =
+    take_all (length found - length known) (drop (length known) found) (omega (arith, length-drop (length known) found)) in
+    let is : items ≡ drop (length known) found = items_are ∙ rest_is ∙ whole in
+    let split : found ≡ known ++ items = sym (take-append-drop (length known) found) ∙ ap (λ v. v ++ drop (length known) found) same ∙ ap (λ v. known ++ v) (sym is) in
+    (split, λ well. record { each = subst (AllByRecursion IsOthers) (sym items_are) each; follow = follows_by items_are ledger split })
+  where
+    follows_by : items ≡ rest → IsLedger found ⊎ (rest ≡ []) → found ≡ known ++ items → FollowAll known items
+    follows_by items_are (inl ledger) split = followed known items (subst IsLedger split ledger)
+    follows_by items_are (inr none) split = subst (FollowAll known) (sym (items_are ∙ none)) tt
+
+pub no_entries : (es : List Entry) → true ≡ (length es == 0) → es ≡ []
+no_entries [] none = refl
+no_entries (e ∷ es) none = absurd (let bad : true ≡ false = none ∙ is_other (length (e ∷ es)) 0 (λ zero_is. omega (arith, zero_is)) in cc)

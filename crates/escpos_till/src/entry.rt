@@ -2,7 +2,7 @@
 //!
 //! What a list of entries says is defined in `specs/Entries.antt`, and which lists are ledgers.
 
-ghost use Rattle.std.specs.Prelude.{◌≡◌, ℕ, List, IfOk};
+ghost use Rattle.std.specs.Prelude.{◌≡◌, ◌↔◌, ℕ, List, IfOk, IsTrue};
 ghost use Rattle.escpos_till.specs.declared.entry.Content.{Content};
 ghost use Rattle.escpos_till.specs.declared.entry.Entry.{Entry};
 ghost use Rattle.escpos_till.specs.Contents.{content_with, plain};
@@ -39,6 +39,13 @@ impl Text {
         ensures { result.now ≡ self.now }
     {
         self.bytes.as_slice()
+    }
+
+    /// Whether this is that text.
+    pub fn is_same(&self, other: &Text) -> bool
+        ensures { IsTrue result ↔ self.now ≡ other.now }
+    {
+        self.bytes() == other.bytes()
     }
 
     /// The same text once more. The error is out of memory.
@@ -85,6 +92,13 @@ impl Content {
         self.text.bytes()
     }
 
+    /// Whether this is that content.
+    pub fn is_same(&self, other: &Content) -> bool
+        ensures { IsTrue result ↔ self.now ≡ other.now }
+    {
+        self.options == other.options && self.text.is_same(&other.text)
+    }
+
     /// The same content once more. The error is out of memory.
     pub fn copy(&self, alloc: Global) -> Result<Self, AllocError>
         ensures { IfOk result (λ content. content ≡ self.now) }
@@ -112,6 +126,26 @@ pub enum Entry {
 }
 
 impl Entry {
+    /// Whether this is that entry.
+    pub fn is_same(&self, other: &Entry) -> bool
+        ensures { IsTrue result ↔ self.now ≡ other.now }
+    {
+        match (self, other) {
+            (Entry::Queued { content }, Entry::Queued { content: other }) => content.is_same(other),
+            (
+                Entry::Tried { number, next },
+                Entry::Tried {
+                    number: other,
+                    next: last,
+                },
+            ) => number == other && next == last,
+            (Entry::Recorded { number }, Entry::Recorded { number: other }) => number == other,
+            (Entry::Raised { next }, Entry::Raised { next: other }) => next == other,
+            (Entry::Cancelled { number }, Entry::Cancelled { number: other }) => number == other,
+            _ => false,
+        }
+    }
+
     /// The same entry once more. The error is out of memory.
     pub fn copy(&self, alloc: Global) -> Result<Self, AllocError>
         ensures { IfOk result (λ entry. entry ≡ self.now) }

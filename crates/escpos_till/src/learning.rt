@@ -2,17 +2,18 @@
 //!
 //! `specs/Learning.antt` says which entries others may add. When a machine learns of them is left to its driver.
 
-ghost use Rattle.std.specs.Prelude.{◌≡◌, ◌⊎◌, ◌+◌, ◌<◌, ◌↔◌, ℕ, List, IfErr, OnOk, IsTrue, length};
+ghost use Rattle.std.specs.Prelude.{◌≡◌, ◌⊎◌, ◌+◌, ◌++◌, ◌<◌, ◌↔◌, ℕ, List, IfErr, IfOk, OnOk, IsTrue, length};
 ghost use Rattle.std.specs.List.{AllByRecursion};
 ghost use Rattle.escpos_till.specs.declared.entry.Entry.{Entry};
 ghost use Rattle.escpos_till.specs.declared.machine.Stage.TheVariants as stage;
 ghost use Rattle.escpos_till.specs.Book.{HasTryRoom, IsBookOf};
 ghost use Rattle.escpos_till.specs.Entries.{IsLedger};
-ghost use Rattle.escpos_till.specs.Learning.{IsDelivering, IsOthers, NotLearned, NotesAll, Revises, StandsIn, WaitsOrCancelled};
+ghost use Rattle.escpos_till.specs.Learning.{AreOthers, IsDelivering, IsOthers, NotLearned, NotesAll, Revises, StandsIn, WaitsOrCancelled};
 ghost use Rattle.escpos_till.specs.Machine.{Drops, most_entries};
 
 use crate::book::{Book, MOST_ENTRIES, NoBook};
 use crate::entry::Entry;
+use crate::memory_store::copies;
 use crate::machine::{Due, MARK_COUNT, Stage, Then, TillNote, marks_taken};
 use crate::number::ReceiptNumber;
 use crate::state::ReceiptState;
@@ -47,6 +48,63 @@ fn delivers(then: &Then) -> bool
     ensures { IsTrue result ↔ IsDelivering then.now }
 {
     matches!(then, Then::Send(_) | Then::Recorded(_))
+}
+
+// Whether these entries are those.
+fn are_same(entries: &[Entry], others: &[Entry]) -> bool
+    ensures { IsTrue result ↔ entries.now ≡ others.now }
+{
+    if entries.len() != others.len() {
+        return false;
+    }
+    for k in 0..entries.len() {
+        if !entries[k].is_same(&others[k]) {
+            return false;
+        }
+    }
+    true
+}
+
+/// The entries that others have added to a ledger since it had those that are known, by what is found in it now.
+///
+/// The errors are `Failed` if what is found isn't what is known with entries that others may have added, and `Memory`.
+pub fn others_since(
+    alloc: Global,
+    known: &[Entry],
+    found: &[Entry],
+) -> Result<Vec<Entry>, StoreFault>
+    ensures others { IfOk result (λ others. (found.now ≡ known.now ++ others.items) × (IsLedger known.now → AreOthers known.now others.items)) }
+    ensures failed { IfErr result (λ why. why ≡ StoreFault.Failed → IsLedger known.now → (others : List Entry) → found.now ≡ known.now ++ others → ¬ AreOthers known.now others) }
+{
+    let count = known.len();
+    if found.len() < count || !are_same(&found[..count], known) {
+        return Err(StoreFault::Failed);
+    }
+    let others = &found[count..];
+    if !are_others(others) {
+        return Err(StoreFault::Failed);
+    }
+    if !others.is_empty() {
+        if let Err(why) = check_ledger(alloc, found) {
+            return Err(why);
+        }
+    }
+    match copies(alloc, others) {
+        Ok(others) => Ok(others),
+        Err(_) => Err(StoreFault::Memory),
+    }
+}
+
+// Refuses entries that are no ledger.
+fn check_ledger(alloc: Global, entries: &[Entry]) -> Result<(), StoreFault>
+    ensures ledger { OnOk result (IsLedger entries.now) }
+    ensures failed { IfErr result (λ why. why ≡ StoreFault.Failed → ¬ IsLedger entries.now) }
+{
+    match Book::of(alloc, entries) {
+        Ok(_) => Ok(()),
+        Err(NoBook::Damaged) => Err(StoreFault::Failed),
+        Err(NoBook::Memory) => Err(StoreFault::Memory),
+    }
 }
 
 /// Takes entries into account that others have added to the ledger of a machine, before an entry was kept after which this follows. At `Err`

@@ -25,6 +25,7 @@ mod waiting;
 pub use copy::{COPY_CHARACTERS, CopyText};
 pub use driver::{drive, drive_within};
 pub use entry::{Content, Entry, Text};
+pub use learning::others_since;
 pub use machine::{Action, Due, NoMachine, Stage, Talk, Then, TillMachine, TillNote, TillRefusal};
 pub use memory_store::{Failure, MemoryStore};
 pub use number::ReceiptNumber;

@@ -5,7 +5,7 @@ ghost use Rattle.escpos_till.specs.declared.entry.Entry.{Entry};
 
 use crate::entry::Entry;
 use crate::store::{Appended, Store, StoreFault};
-use std::alloc::Global;
+use std::alloc::{AllocError, Global};
 use std::marker::Model;
 
 /// At which call of `append` a store in memory fails.
@@ -118,8 +118,8 @@ impl Store for MemoryStore {
     ghost outlives = { λ s entries left faithful held leaves. sym leaves ∙ held };
 }
 
-// The same entries once more.
-fn copies(alloc: Global, entries: &[Entry]) -> Result<Vec<Entry>, std::alloc::AllocError>
+/// The same entries once more. The error is out of memory.
+pub(crate) fn copies(alloc: Global, entries: &[Entry]) -> Result<Vec<Entry>, AllocError>
     ensures { IfOk result (λ copies. copies.items ≡ entries.now) }
 {
     let mut copies = Vec::new(alloc);
