@@ -246,7 +246,8 @@ goes_on m (Pauses number why) after never (talk, is, news, done) =
     λ rests. subst (λ (k : MachineView). Rests k.stage) (done ∙ ap (λ s. told s m) is) rests
 goes_on m (Tells n) after never turns = absurd (never tt)
 
-not_told : (d : Deed) → (IsSaid d → ⊥) → IsTold d → ⊥
+-- A deed by which nothing is said tells nothing.
+pub not_told : (d : Deed) → (IsSaid d → ⊥) → IsTold d → ⊥
 not_told (Tells n) never told = never tt
 not_told (Keeps e) never told = told
 not_told (Loses e why) never told = told

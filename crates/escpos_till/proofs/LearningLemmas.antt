@@ -181,13 +181,13 @@ not_recorded es n place tried s is recorded (inr cancelled) = let bad : state.Re
 
 -- Entries that begin with those that are known go on with such as others may have added.
 pub since_so : (known found rest items : List Entry) → take (length known) found ≡ known → rest ≡ take (length found - length known) (drop (length known) found) → items ≡ rest
-    → AllByRecursion IsOthers rest → IsLedger found ⊎ (rest ≡ []) → (found ≡ known ++ items) × (IsLedger known → AreOthers known items)
+    → AllByRecursion IsOthers rest → IsLedger found ⊎ (rest ≡ []) → (found ≡ known ++ items) × AreOthers known items
 since_so known found rest items same rest_is items_are each ledger =
     let whole : take (length found - length known) (drop (length known) found) ≡ drop (length known) found =
     take_all (length found - length known) (drop (length known) found) (omega (arith, length-drop (length known) found)) in
     let is : items ≡ drop (length known) found = items_are ∙ rest_is ∙ whole in
     let split : found ≡ known ++ items = sym (take-append-drop (length known) found) ∙ ap (λ v. v ++ drop (length known) found) same ∙ ap (λ v. known ++ v) (sym is) in
-    (split, λ well. record { each = subst (AllByRecursion IsOthers) (sym items_are) each; follow = follows_by items_are ledger split })
+    (split, record { each = subst (AllByRecursion IsOthers) (sym items_are) each; follow = follows_by items_are ledger split })
   where
     follows_by : items ≡ rest → IsLedger found ⊎ (rest ≡ []) → found ≡ known ++ items → FollowAll known items
     follows_by items_are (inl ledger) split = followed known items (subst IsLedger split ledger)

@@ -73,7 +73,7 @@ pub fn others_since(
     known: &[Entry],
     found: &[Entry],
 ) -> Result<Vec<Entry>, StoreFault>
-    ensures others { IfOk result (λ others. (found.now ≡ known.now ++ others.items) × (IsLedger known.now → AreOthers known.now others.items)) }
+    ensures others { IfOk result (λ others. (found.now ≡ known.now ++ others.items) × AreOthers known.now others.items) }
     ensures failed { IfErr result (λ why. why ≡ StoreFault.Failed → IsLedger known.now → (others : List Entry) → found.now ≡ known.now ++ others → ¬ AreOthers known.now others) }
 {
     let count = known.len();

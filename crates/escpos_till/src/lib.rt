@@ -27,7 +27,7 @@ pub use driver::{drive, drive_within};
 pub use entry::{Content, Entry, Text};
 pub use learning::others_since;
 pub use machine::{Action, Due, NoMachine, Stage, Talk, Then, TillMachine, TillNote, TillRefusal};
-pub use memory_store::{Failure, MemoryStore};
+pub use memory_store::{Failure, MemoryStore, copies};
 pub use number::ReceiptNumber;
 pub use pause::{Pause, Paused};
 pub use receipt_content::ReceiptContent;

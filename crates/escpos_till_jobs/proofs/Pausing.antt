@@ -6,7 +6,8 @@ use Rattle.escpos_till.specs.declared.machine.TillNote.{TillNote}
 use Rattle.escpos_till.specs.declared.machine.TillNote.TheVariants as note
 use Rattle.escpos_till.specs.declared.machine.TillRefusal.{TillRefusal}
 use Rattle.escpos_till.specs.declared.pause.Pause.{Pause}
-use Rattle.escpos_till.specs.Driver.{Breaks, Call, Calls, Deed, DidAll, Ends, Gives, HangsUp, IsSaid, IsTold, Keeps, Links, Loses, Misses, Pauses, Puts, RanQuietly, RanUpTo, SaysNothing, Tells, TellsNothing}
+use Rattle.escpos_till.specs.Driver.{Breaks, Call, Calls, Deed, DidAll, Ends, Gives, HangsUp, IsSaid, Keeps, Learns, Links, Loses, Misses, Pauses, Puts, RanQuietly, RanUpTo, SaysNothing, Tells, TellsNothing}
+use Rattle.escpos_till.proofs.DriverLemmas.{not_told as says_and_tells_nothing}
 use Rattle.escpos_till.specs.Machine.{IsFinal, MachineView, Rests}
 use Rattle.escpos_till_jobs.specs.declared.outcome.Outcome.{Outcome}
 use Rattle.escpos_till_jobs.specs.declared.outcome.Outcome.TheVariants as outcome
@@ -28,22 +29,9 @@ quiet_both : (ds es : List Deed) → TellsNothing ds → TellsNothing es → Tel
 quiet_both [] es some more = more
 quiet_both (d ∷ ds) es some more = (some.0, quiet_both ds es some.1 more)
 
-said_told : (d : Deed) → (IsSaid d → ⊥) → IsTold d → ⊥
-said_told (Tells n) never told = never tt
-said_told (Pauses number why) never told = told
-said_told (Keeps e) never told = told
-said_told (Loses e why) never told = told
-said_told Links never told = told
-said_told Misses never told = told
-said_told (Puts bytes) never told = told
-said_told (Breaks bytes why) never told = told
-said_told (Gives room bytes) never told = told
-said_told (Ends why) never told = told
-said_told HangsUp never told = told
-
 silent_quiet : (ds : List Deed) → SaysNothing ds → TellsNothing ds
 silent_quiet [] silent = tt
-silent_quiet (d ∷ ds) silent = (said_told d silent.0, silent_quiet ds silent.1)
+silent_quiet (d ∷ ds) silent = (says_and_tells_nothing d silent.0, silent_quiet ds silent.1)
 
 -- Deeds by which nothing is said have no line.
 silent_first : (d : Deed) (ds : List Deed) → (IsSaid d → ⊥) → pause_lines (d ∷ ds) ≡ pause_lines ds
@@ -51,6 +39,7 @@ silent_first (Tells n) ds never = absurd (never tt)
 silent_first (Pauses number why) ds never = absurd (never tt)
 silent_first (Keeps e) ds never = refl
 silent_first (Loses e why) ds never = refl
+silent_first (Learns others) ds never = refl
 silent_first Links ds never = refl
 silent_first Misses ds never = refl
 silent_first (Puts bytes) ds never = refl
@@ -68,6 +57,7 @@ first_lines (Pauses number why) ds es same = ap (λ v. pause_line number why ++ 
 first_lines (Tells n) ds es same = same
 first_lines (Keeps e) ds es same = same
 first_lines (Loses e why) ds es same = same
+first_lines (Learns others) ds es same = same
 first_lines Links ds es same = same
 first_lines Misses ds es same = same
 first_lines (Puts bytes) ds es same = same

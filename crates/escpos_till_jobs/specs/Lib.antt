@@ -9,3 +9,4 @@ pub mod Again
 pub mod Words
 pub mod Raw
 pub mod Performing
+pub mod SharedStores

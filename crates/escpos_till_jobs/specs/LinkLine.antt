@@ -102,6 +102,12 @@ pub record Dials {N : Type 0} (net : N) (address : Address) (waits : Waits) (d :
   pub over : d.net.now ≡ net
   pub within : d.waits ≡ waits
 
+-- It still does, whatever link it watches.
+pub record DialsTheSame {N : Type 0} (old new : AtAddress N) : Type 0 where
+  pub to : new.address ≡ old.address
+  pub over : new.net ≡ old.net
+  pub within : new.waits ≡ old.waits
+
 -- This is all that can be done where there never is a link.
 abbrev pub HasNoLink : Deed → Type 0
 HasNoLink Misses = Unit {0}

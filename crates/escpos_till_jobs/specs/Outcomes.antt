@@ -14,11 +14,15 @@ use Rattle.escpos_till_jobs.specs.declared.outcome.Outcome.TheVariants as outcom
 use Rattle.escpos_till_jobs.specs.declared.outcome.TheConstants.{MOST_DEEDS}
 use Rattle.escpos_till_jobs.specs.Lines.{listing_text, note_line, note_status, outcome_line, outcome_status}
 
--- The receipt is recorded, which the output didn't take; or it isn't, and the line says so.
+-- The receipt is recorded, or cancelled: it waits no more.
+abbrev pub Settles : TillNote → Type 0
+Settles (note.Recorded number) = Unit {0}
+Settles (note.Cancelled number tried) = Unit {0}
+Settles n = ⊥
+
+-- It is, which the output didn't take; or it isn't, and the line says so.
 abbrev pub NoteEnds : TillNote → JobEnd → Type 0
-NoteEnds n o =
-    ((number : ℕ) × (n ≡ note.Recorded number) × (o.status ≡ Device) × IsTrue o.failed)
-    ⊎ (((number : ℕ) → n ≢ note.Recorded number) × Tells o (note_line n) (note_status n))
+NoteEnds n o = (Settles n × (o.status ≡ Device) × IsTrue o.failed) ⊎ ((¬ Settles n) × Tells o (note_line n) (note_status n))
 
 -- What the machine asked for since a call was done.
 abbrev pub Follows : {D : Type 0} → (D → Deed → D → Type 0) → MachineView → D → Outcome → MachineView → D → Type 0

@@ -109,6 +109,12 @@ UnlessDeliver Holds (task.Deliver path delivery) = Unit {0}
 UnlessDeliver Holds (task.DeliverWithin path delivery wait) = Unit {0}
 UnlessDeliver Holds t = Holds
 
+-- This holds if it is.
+abbrev pub IfDeliver : Type 0 → TillTask → Type 0
+IfDeliver Holds (task.Deliver path delivery) = Holds
+IfDeliver Holds (task.DeliverWithin path delivery wait) = Holds
+IfDeliver Holds t = Unit {0}
+
 -- This holds if the task is to take a receipt that is read.
 abbrev pub OfReading : Type 0 → TillTask → Type 0
 OfReading Holds (task.Queue path options) = Holds

@@ -11,12 +11,17 @@ ghost use Rattle.escpos_till_jobs.specs.Outputs.{output_of};
 ghost use Rattle.escpos_till_jobs.specs.Pauses.{BecomesTelling};
 
 use crate::following::{Followed, follow_telling};
-use crate::outcome::{Outcome, tell, tell_if_recorded};
+use crate::outcome::{Outcome, tell, tell_if_settled};
 use escpos_io::ByteOut;
 use escpos_jobs::address::Address;
 use escpos_jobs::send::ANSWERS_LIMIT;
 use escpos_jobs::status::Status;
 use escpos_till::{CopyText, PrinterLine, Store, Surroundings, TillMachine};
+
+/// The most receipts that one delivery tells of: more than a ledger takes.
+pub const MOST_ROUNDS: usize = usize::MAX;
+
+const _: () = prove!(MOST_ROUNDS == 18_446_744_073_709_551_615);
 
 /// Where and how receipts are delivered.
 #[derive(Debug, Drop)]
@@ -31,10 +36,11 @@ pub struct Delivery<'a> {
     pub copy: Option<CopyText<'a>>,
 }
 
-/// Sends each receipt that waits, in the order of their numbers, until one isn't recorded.
+/// Sends each receipt that waits, in the order of their numbers, until one still waits then. Others may take receipts meanwhile, which are sent
+/// too, and cancel some.
 ///
-/// Each gives one line: `recorded N` once that would outlive a crash; for the first that isn't recorded `waiting N WHY`, or
-/// `ledger failed`, or `memory`. Before it a line `paused N WHY` is printed each time that the printer says that it prints nothing for now. The status is `Good` if none waits any more. It is `Refused` if too few mark numbers are
+/// Each gives one line: `recorded N` once that would outlive a crash, or `cancelled N` where somebody has cancelled it since it was to be sent,
+/// with ` tried K` if it was tried before that; for the first that still waits `waiting N WHY`, or `ledger failed`, or `memory`. Before it a line `paused N WHY` is printed each time that the printer says that it prints nothing for now. The status is `Good` if none waits any more. It is `Refused` if too few mark numbers are
 /// left, or the ledger's text gives no receipt; `Memory` if an allocation failed; and `Device` for every other reason, and
 /// if `output` has failed.
 pub fn deliver_waiting<S: Store, L: PrinterLine, W: ByteOut>(
@@ -48,7 +54,7 @@ pub fn deliver_waiting<S: Store, L: PrinterLine, W: ByteOut>(
     ensures not_hidden { result ≢ Status.Device → ¬ IsTrue (W.failed output.old) → ¬ IsTrue (W.failed output.new) }
     ensures never_usage { result ≢ Status.Usage }
 {
-    for _ in 0..machine.states().len() {
+    for _ in 0..MOST_ROUNDS {
         if let Err(status) = deliver_next(machine, around, delivery, output) {
             return status;
         }
@@ -75,7 +81,7 @@ fn deliver_next<S: Store, L: PrinterLine, W: ByteOut>(
         return Err(Status::Device);
     }
     match outcome {
-        Outcome::Told(note) => tell_if_recorded(note, output),
+        Outcome::Told(note) => tell_if_settled(note, output),
         outcome => Err(tell(outcome, output)),
     }
 }

@@ -19,7 +19,9 @@ mod outcome;
 mod perform;
 mod queue;
 mod raw;
+mod shared_store;
 mod task;
+mod watched;
 mod word;
 
 pub use again::{NotAgain, queue_again};
@@ -33,5 +35,6 @@ pub use outcome::Outcome;
 pub use perform::{Ledgers, do_at, perform_till};
 pub use queue::{queue_receipt, read_content};
 pub use raw::{NoStream, read_raw, refuse_raw};
+pub use shared_store::SharedStore;
 pub use task::{LedgerPath, TillTask};
 pub use word::{Word, do_with, do_word};

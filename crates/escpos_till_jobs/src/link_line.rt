@@ -5,8 +5,9 @@
 ghost use Rattle.std.specs.Prelude.{◌≡◌, ◌≤◌, Bool, length, take, Option, None, Some, IfErr, IfOk, IfSome, OnOk, IsTrue};
 ghost use Rattle.escpos_till.specs.Driver.{Breaks, Ends, Gives, HangsUp, Links, Misses, Puts};
 ghost use Rattle.escpos_till_jobs.specs.declared.link_line.Link.{Link as Opened};
-ghost use Rattle.escpos_till_jobs.specs.LinkLine.{Dials, HasNoLink, IsPaced, LinkDid, OverLink, sink, source};
+ghost use Rattle.escpos_till_jobs.specs.LinkLine.{Dials, DialsTheSame, HasNoLink, IsPaced, LinkDid, OverLink, sink, source};
 
+use crate::watched::Watched;
 use escpos_host::SendFault;
 use escpos_io::{ByteIn, ByteOut, Failed, Incoming, Outgoing, put_all};
 use escpos_jobs::address::Address;
@@ -71,6 +72,12 @@ pub trait Dial<R: ByteIn, W: ByteOut> {
         ensures paced { paced self.old link patient result self.new }
         ensures source { R.to_come result.reader ≡ R.to_come link.reader }
         ensures sink { W.written result.writer ≡ W.written link.writer };
+
+    /// Whether the link that it opened last takes as many bytes at once as are put at a time.
+    fn takes_at_once(&self) -> bool;
+
+    /// Whether bytes of answers are there on it, or come within a moment.
+    fn gives_soon(&self) -> bool;
 
     /// Closes a link that it opened.
     fn close(&mut self, link: Link<R, W>)
@@ -147,6 +154,14 @@ impl<R: ByteIn + Drop, W: ByteOut + Drop, D: Dial<R, W>> PrinterLine for LinkLin
         pulled
     }
 
+    fn takes_at_once(&self) -> bool {
+        self.dialler.takes_at_once()
+    }
+
+    fn gives_soon(&self) -> bool {
+        self.dialler.gives_soon()
+    }
+
     fn hang_up(&mut self) {
         if let Some(link) = self.link.take() {
             self.dialler.close(link);
@@ -181,6 +196,8 @@ pub struct AtAddress<'n, N> {
     net: &'n N,
     address: Address,
     waits: Waits,
+    // the link that it opened last
+    watched: Watched,
 }
 
 impl<'n, N: Printers> AtAddress<'n, N> {
@@ -192,18 +209,19 @@ impl<'n, N: Printers> AtAddress<'n, N> {
             net,
             address,
             waits,
+            watched: Watched::nothing(),
         }
     }
 }
 
 impl<N: Printers> Dial<Incoming<LinkReader>, Outgoing<LinkWriter>> for AtAddress<'_, N> {
     // Which link it opens is the system's own; address, network and waits stay.
-    ghost dialled = { λ old link new. new ≡ old };
+    ghost dialled = { λ old link new. DialsTheSame old new };
 
     // What a link waits for is the system's own; it stays between the same ends.
     ghost paced = { λ old link patient paced new. new ≡ old };
 
-    ghost closed = { λ old link new. new ≡ old };
+    ghost closed = { λ old link new. DialsTheSame old new };
 
     fn dial(&mut self) -> Option<Link<Incoming<LinkReader>, Outgoing<LinkWriter>>> {
         let connected = match self.waits.wait {
@@ -211,11 +229,17 @@ impl<N: Printers> Dial<Incoming<LinkReader>, Outgoing<LinkWriter>> for AtAddress
             None => self.address.connect(self.net),
         };
         match connected {
-            Ok(PrinterLink { reader, writer }) => Some(Link {
-                reader: Incoming::new(reader),
-                writer: Outgoing::new(writer),
-            }),
-            Err(_) => None,
+            Ok(PrinterLink { reader, writer }) => {
+                self.watched = Watched::link(&reader);
+                Some(Link {
+                    reader: Incoming::new(reader),
+                    writer: Outgoing::new(writer),
+                })
+            }
+            Err(_) => {
+                self.watched = Watched::nothing();
+                None
+            }
         }
     }
 
@@ -243,10 +267,19 @@ impl<N: Printers> Dial<Incoming<LinkReader>, Outgoing<LinkWriter>> for AtAddress
         }
     }
 
+    fn takes_at_once(&self) -> bool {
+        self.watched.takes_at_once()
+    }
+
+    fn gives_soon(&self) -> bool {
+        self.watched.gives_soon()
+    }
+
     // Both of its ways are closed.
     fn close(&mut self, link: Link<Incoming<LinkReader>, Outgoing<LinkWriter>>)
-        ensures { self.new ≡ self.old }
+        ensures { DialsTheSame self.old self.new }
     {
+        self.watched = Watched::nothing();
         drop(link);
     }
 }
@@ -268,6 +301,14 @@ impl PrinterLine for NoLine {
 
     fn pull(&mut self, _room: &mut [u8], _patient: bool) -> Result<usize, SendFault> {
         Err(SendFault::Ended)
+    }
+
+    fn takes_at_once(&self) -> bool {
+        true
+    }
+
+    fn gives_soon(&self) -> bool {
+        true
     }
 
     fn hang_up(&mut self) {}

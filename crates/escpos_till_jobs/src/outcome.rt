@@ -3,8 +3,8 @@
 ghost use Rattle.std.specs.Prelude.{ℕ, ◌≡◌, ◌≢◌, ◌+◌, ◌≤◌, ◌++◌, [], ◌∷◌, decimal, length, IfErr, OnOk, IsTrue};
 ghost use Rattle.std.specs.Io.KnownBytes.{Appends};
 ghost use Rattle.escpos_jobs.specs.Ending.{Tells, job_end};
-ghost use Rattle.escpos_till_jobs.specs.Lines.{cancelled_line, note_line, note_status, number_line, outcome_line, outcome_status, recorded_line, refusal_status, refusal_text, waiting_line};
-ghost use Rattle.escpos_till_jobs.specs.Outcomes.{NoteEnds};
+ghost use Rattle.escpos_till_jobs.specs.Lines.{cancelled_line, note_line, note_status, number_line, outcome_line, outcome_status, refusal_status, refusal_text, waiting_line};
+ghost use Rattle.escpos_till_jobs.specs.Outcomes.{NoteEnds, Settles};
 
 use escpos_command::LF;
 use escpos_host::SendFault;
@@ -146,28 +146,29 @@ fn tell_not_kept<W: ByteOut>(fault: StoreFault, output: &mut W) -> Status
     }
 }
 
-/// Prints what a machine's owner is told. The error is the status of any other note than that the receipt is recorded, or `Device` where
+/// Prints what a machine's owner is told. The error is the status of any note but that the receipt is recorded or cancelled, or `Device` where
 /// `output` has failed.
-pub(crate) fn tell_if_recorded<W: ByteOut>(note: TillNote, output: &mut W) -> Result<(), Status>
-    ensures recorded { OnOk result ((number : ℕ) × (note ≡ TillNote.Recorded number) × Appends (W.written output.old) (W.written output.new) (recorded_line number)) }
+pub(crate) fn tell_if_settled<W: ByteOut>(note: TillNote, output: &mut W) -> Result<(), Status>
+    ensures settled { OnOk result (Settles note × Appends (W.written output.old) (W.written output.new) (note_line note)) }
     ensures not_failed { OnOk result (¬ IsTrue (W.failed output.old) → ¬ IsTrue (W.failed output.new)) }
     ensures ended { IfErr result (λ status. NoteEnds note (job_end (W.written output.old) (W.written output.new) (W.failed output.new) status)) }
     ensures not_hidden { IfErr result (λ status. status ≢ Status.Device → ¬ IsTrue (W.failed output.old) → ¬ IsTrue (W.failed output.new)) }
     ensures never_usage { IfErr result (λ status. status ≢ Status.Usage) }
 {
     match note {
-        TillNote::Recorded(number) => tell_recorded(number.get(), output),
+        TillNote::Recorded(_) | TillNote::Cancelled { .. } => tell_settled(note, output),
         note => Err(tell_note(note, output)),
     }
 }
 
-// Prints that a receipt is recorded. The error is `Device`: `output` has failed.
-fn tell_recorded<W: ByteOut>(number: usize, output: &mut W) -> Result<(), Status>
-    ensures told { OnOk result (Appends (W.written output.old) (W.written output.new) (recorded_line number)) }
+// Prints that a receipt is recorded, or cancelled. The error is `Device`: `output` has failed.
+fn tell_settled<W: ByteOut>(note: TillNote, output: &mut W) -> Result<(), Status>
+    requires { Settles note }
+    ensures told { OnOk result (Appends (W.written output.old) (W.written output.new) (note_line note)) }
     ensures not_failed { OnOk result (¬ IsTrue (W.failed output.old) → ¬ IsTrue (W.failed output.new)) }
     ensures failed { IfErr result (λ status. (status ≡ Status.Device) × IsTrue (W.failed output.new)) }
 {
-    match tell_number(b"recorded ", number, Status::Good, output) {
+    match tell_note(note, output) {
         Status::Good => Ok(()),
         status => Err(status),
     }

@@ -6,7 +6,7 @@ ghost use Rattle.std.specs.Prelude.{◌≡◌, ◌≢◌, ◌+◌, ◌≤◌, �
 ghost use Rattle.escpos_jobs.specs.declared.input.TheConstants.{INPUT_LIMIT};
 ghost use Rattle.escpos_till.specs.declared.store.NoStore.{NoStore as WhyNone};
 ghost use Rattle.escpos_till_jobs.specs.Outputs.{output_of};
-ghost use Rattle.escpos_till_jobs.specs.Performing.{CancelsAt, DeliversAt, ListsAt, OfCancel, OfDeliver, OfDeliverWithin, OfList, OfQueue, OfQueueAgain, OfQueueRaw, OfReading, QueuesAgainAt, QueuesAt, UnlessDeliver, UnlessReading, way};
+ghost use Rattle.escpos_till_jobs.specs.Performing.{CancelsAt, DeliversAt, IfDeliver, ListsAt, OfCancel, OfDeliver, OfDeliverWithin, OfList, OfQueue, OfQueueAgain, OfQueueRaw, OfReading, QueuesAgainAt, QueuesAt, UnlessDeliver, UnlessReading, way};
 ghost use Rattle.escpos_till_jobs.specs.Raw.{QueuesRawAt};
 ghost use Rattle.escpos_till_jobs.specs.Words.{InLedger, place};
 
@@ -44,10 +44,13 @@ pub trait Ledgers<S> {
 /// Does what a till asks of a ledger, and returns how it went.
 ///
 /// A receipt is read before the ledger is opened, so that one that is refused leaves no new ledger; at most 16,777,217 bytes are pulled. For
-/// any other task the input isn't read, and only a delivery has a line made. `DeliverWithin` has one made with its wait.
+/// any other task the input isn't read, and only a delivery has a line made. `DeliverWithin` has one made with its wait. A delivery opens its ledger
+/// by `shared`, whose stores may let go of it meanwhile; any other task opens it by `ledgers`, and has it to itself.
 pub fn perform_till<
     S: Store,
     F: Ledgers<S>,
+    T: Store,
+    G: Ledgers<T>,
     L: PrinterLine + Drop,
     P: Lines<L>,
     R: ByteIn,
@@ -55,6 +58,7 @@ pub fn perform_till<
 >(
     alloc: Global,
     ledgers: &mut F,
+    shared: &mut G,
     lines: &mut P,
     task: TillTask<'_>,
     input: &mut R,
@@ -66,15 +70,16 @@ pub fn perform_till<
         ledgers.old (output_of (W.written output.old) (W.failed output.old)) ledgers.new (output_of (W.written output.new) (W.failed output.new)) result) task.entry }
     ensures queue_again { OfQueueAgain (QueuesAgainAt (place F.opened F.closed S.faithful S.holds S.leaves S.says) ⟦<NoLine as PrinterLine>⟧.did
         ledgers.old (output_of (W.written output.old) (W.failed output.old)) ledgers.new (output_of (W.written output.new) (W.failed output.new)) result) task.entry }
-    ensures deliver { OfDeliver (DeliversAt (place F.opened F.closed S.faithful S.holds S.leaves S.says) (way P.made P.ended) L.did None
-        ledgers.old lines.old (output_of (W.written output.old) (W.failed output.old)) ledgers.new lines.new (output_of (W.written output.new) (W.failed output.new)) result) task.entry }
-    ensures deliver_within { OfDeliverWithin (λ path delivery wait. DeliversAt (place F.opened F.closed S.faithful S.holds S.leaves S.says) (way P.made P.ended) L.did (Some wait)
-        ledgers.old lines.old (output_of (W.written output.old) (W.failed output.old)) ledgers.new lines.new (output_of (W.written output.new) (W.failed output.new)) result path delivery) task.entry }
+    ensures deliver { OfDeliver (DeliversAt (place G.opened G.closed T.faithful T.holds T.leaves T.says) (way P.made P.ended) L.did None
+        shared.old lines.old (output_of (W.written output.old) (W.failed output.old)) shared.new lines.new (output_of (W.written output.new) (W.failed output.new)) result) task.entry }
+    ensures deliver_within { OfDeliverWithin (λ path delivery wait. DeliversAt (place G.opened G.closed T.faithful T.holds T.leaves T.says) (way P.made P.ended) L.did (Some wait)
+        shared.old lines.old (output_of (W.written output.old) (W.failed output.old)) shared.new lines.new (output_of (W.written output.new) (W.failed output.new)) result path delivery) task.entry }
     ensures cancel { OfCancel (CancelsAt (place F.opened F.closed S.faithful S.holds S.leaves S.says) ⟦<NoLine as PrinterLine>⟧.did
         ledgers.old (output_of (W.written output.old) (W.failed output.old)) ledgers.new (output_of (W.written output.new) (W.failed output.new)) result) task.entry }
     ensures list { OfList (ListsAt (place F.opened F.closed S.faithful S.holds S.leaves S.says) ⟦<NoLine as PrinterLine>⟧.did
         ledgers.old (output_of (W.written output.old) (W.failed output.old)) ledgers.new (output_of (W.written output.new) (W.failed output.new)) result) task.entry }
-    ensures no_line { UnlessDeliver (lines.new ≡ lines.old) task.entry }
+    ensures no_line { UnlessDeliver ((lines.new ≡ lines.old) × (shared.new ≡ shared.old)) task.entry }
+    ensures no_other { IfDeliver (ledgers.new ≡ ledgers.old) task.entry }
     ensures unread { UnlessReading (input.new ≡ input.old) task.entry }
     ensures input_not_hidden { OfReading (IsTrue (R.failed input.new) → result ≡ Status.Device) task.entry }
     ensures pulls { OfReading (R.pull_count input.new ≤ R.pull_count input.old + INPUT_LIMIT + 1) task.entry }
@@ -114,13 +119,13 @@ pub fn perform_till<
             do_at(alloc, ledgers, &ledger, NoLine, Word::Again(number), output).1
         }
         TillTask::Deliver { ledger, delivery } => {
-            deliver_at(alloc, ledgers, lines, &ledger, delivery, None, output)
+            deliver_at(alloc, shared, lines, &ledger, delivery, None, output)
         }
         TillTask::DeliverWithin {
             ledger,
             delivery,
             wait,
-        } => deliver_at(alloc, ledgers, lines, &ledger, delivery, Some(wait), output),
+        } => deliver_at(alloc, shared, lines, &ledger, delivery, Some(wait), output),
         TillTask::Cancel { ledger, number } => {
             do_at(
                 alloc,

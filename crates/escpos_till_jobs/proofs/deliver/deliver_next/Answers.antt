@@ -19,17 +19,17 @@ pub returns-in-Told-clause-recorded : goal.returns-in-Told-clause-recorded
 returns-in-Told-clause-recorded g c =
     let told : c.delivered-outcome.result.told ≡ true = search rules in
     let became = subst (λ o. BecomesWith (Did g.S.Store.faithful g.S.Store.holds g.S.Store.leaves g.S.Store.says g.L.PrinterLine.did) (RefusesDeliver c.args.machine.now c.args.delivery.now.openings) c.args.machine.now c.args.around.now (asked c.args.delivery.now) (output_of (g.W.ByteOut.written c.args.output.now) (g.W.ByteOut.failed c.args.output.now)) o true c.delivered-outcome.new.machine c.delivered-outcome.new.around (output_of (g.W.ByteOut.written c.delivered-outcome.new.output) (g.W.ByteOut.failed c.delivered-outcome.new.output))) c.in-Told.is (subst (λ t. BecomesWith (Did g.S.Store.faithful g.S.Store.holds g.S.Store.leaves g.S.Store.says g.L.PrinterLine.did) (RefusesDeliver c.args.machine.now c.args.delivery.now.openings) c.args.machine.now c.args.around.now (asked c.args.delivery.now) (output_of (g.W.ByteOut.written c.args.output.now) (g.W.ByteOut.failed c.args.output.now)) c.delivered-outcome.result.outcome t c.delivered-outcome.new.machine c.delivered-outcome.new.around (output_of (g.W.ByteOut.written c.delivered-outcome.new.output) (g.W.ByteOut.failed c.delivered-outcome.new.output))) told c.delivered-outcome.ensures.becomes) in
-    ok_so c.tell_if_recorded.result
-    (λ (done, well). round_goes (Did g.S.Store.faithful g.S.Store.holds g.S.Store.leaves g.S.Store.says g.L.PrinterLine.did) c.args.delivery.now c.args.machine.now c.args.around.now (output_of (g.W.ByteOut.written c.args.output.now) (g.W.ByteOut.failed c.args.output.now)) c.in-Told.note done.0 c.delivered-outcome.new.machine c.delivered-outcome.new.around (output_of (g.W.ByteOut.written c.delivered-outcome.new.output) (g.W.ByteOut.failed c.delivered-outcome.new.output)) (output_of (g.W.ByteOut.written c.tell_if_recorded.new.output) (g.W.ByteOut.failed c.tell_if_recorded.new.output)) became done.1 (record { put = done.2; well = well }))
-    (both_ok _ _ c.tell_if_recorded.result c.tell_if_recorded.ensures.recorded c.tell_if_recorded.ensures.not_failed)
+    ok_so c.tell_if_settled.result
+    (λ (done, well). round_goes (Did g.S.Store.faithful g.S.Store.holds g.S.Store.leaves g.S.Store.says g.L.PrinterLine.did) c.args.delivery.now c.args.machine.now c.args.around.now (output_of (g.W.ByteOut.written c.args.output.now) (g.W.ByteOut.failed c.args.output.now)) c.in-Told.note c.delivered-outcome.new.machine c.delivered-outcome.new.around (output_of (g.W.ByteOut.written c.delivered-outcome.new.output) (g.W.ByteOut.failed c.delivered-outcome.new.output)) (output_of (g.W.ByteOut.written c.tell_if_settled.new.output) (g.W.ByteOut.failed c.tell_if_settled.new.output)) became done.0 (record { put = done.1; well = well }))
+    (both_ok _ _ c.tell_if_settled.result c.tell_if_settled.ensures.settled c.tell_if_settled.ensures.not_failed)
 
 pub returns-in-Told-clause-ended : goal.returns-in-Told-clause-ended
 returns-in-Told-clause-ended g c =
     let told : c.delivered-outcome.result.told ≡ true = search rules in
     let became = subst (λ o. BecomesWith (Did g.S.Store.faithful g.S.Store.holds g.S.Store.leaves g.S.Store.says g.L.PrinterLine.did) (RefusesDeliver c.args.machine.now c.args.delivery.now.openings) c.args.machine.now c.args.around.now (asked c.args.delivery.now) (output_of (g.W.ByteOut.written c.args.output.now) (g.W.ByteOut.failed c.args.output.now)) o true c.delivered-outcome.new.machine c.delivered-outcome.new.around (output_of (g.W.ByteOut.written c.delivered-outcome.new.output) (g.W.ByteOut.failed c.delivered-outcome.new.output))) c.in-Told.is (subst (λ t. BecomesWith (Did g.S.Store.faithful g.S.Store.holds g.S.Store.leaves g.S.Store.says g.L.PrinterLine.did) (RefusesDeliver c.args.machine.now c.args.delivery.now.openings) c.args.machine.now c.args.around.now (asked c.args.delivery.now) (output_of (g.W.ByteOut.written c.args.output.now) (g.W.ByteOut.failed c.args.output.now)) c.delivered-outcome.result.outcome t c.delivered-outcome.new.machine c.delivered-outcome.new.around (output_of (g.W.ByteOut.written c.delivered-outcome.new.output) (g.W.ByteOut.failed c.delivered-outcome.new.output))) told c.delivered-outcome.ensures.becomes) in
-    if_err_so c.tell_if_recorded.result
-    (λ status ends. note_ends (Did g.S.Store.faithful g.S.Store.holds g.S.Store.leaves g.S.Store.says g.L.PrinterLine.did) c.args.delivery.now c.args.machine.now c.args.around.now (output_of (g.W.ByteOut.written c.args.output.now) (g.W.ByteOut.failed c.args.output.now)) c.in-Told.note c.delivered-outcome.new.machine c.delivered-outcome.new.around (output_of (g.W.ByteOut.written c.delivered-outcome.new.output) (g.W.ByteOut.failed c.delivered-outcome.new.output)) (output_of (g.W.ByteOut.written c.tell_if_recorded.new.output) (g.W.ByteOut.failed c.tell_if_recorded.new.output)) status became ends)
-    c.tell_if_recorded.ensures.ended
+    if_err_so c.tell_if_settled.result
+    (λ status ends. note_ends (Did g.S.Store.faithful g.S.Store.holds g.S.Store.leaves g.S.Store.says g.L.PrinterLine.did) c.args.delivery.now c.args.machine.now c.args.around.now (output_of (g.W.ByteOut.written c.args.output.now) (g.W.ByteOut.failed c.args.output.now)) c.in-Told.note c.delivered-outcome.new.machine c.delivered-outcome.new.around (output_of (g.W.ByteOut.written c.delivered-outcome.new.output) (g.W.ByteOut.failed c.delivered-outcome.new.output)) (output_of (g.W.ByteOut.written c.tell_if_settled.new.output) (g.W.ByteOut.failed c.tell_if_settled.new.output)) status became ends)
+    c.tell_if_settled.ensures.ended
 
 pub returns-in_default : goal.returns-in_default
 returns-in_default g c =

@@ -1,8 +1,9 @@
 -- One receipt after another is recorded and told.
-use Rattle.std.proofs.Common.{◌≡◌, length, arith}
+use Rattle.std.proofs.Common.{◌≡◌, arith}
 use Rattle.escpos_till.specs.Surroundings.{Did}
+use Rattle.escpos_till_jobs.specs.declared.deliver.TheConstants.{MOST_ROUNDS}
 use Rattle.escpos_till_jobs.specs.Outputs.{output_of}
-use Rattle.escpos_till_jobs.proofs.Rounds.{all_recorded, none_so_far, one_more, round_ends}
+use Rattle.escpos_till_jobs.proofs.Rounds.{at_most, none_so_far, one_more, round_ends}
 use Rattle.escpos_till_jobs.proofs.deliver.deliver_waiting.Goals as goal
 
 pub loop-init : goal.loop-init
@@ -32,7 +33,7 @@ loop-preserved g c =
 
 pub returns-clause-delivers : goal.returns-clause-delivers
 returns-clause-delivers g c =
-    let all : c.loop.counter ≡ length c.states-end.result.now = omega (arith, c.loop.auto.counter-end, c.loop-test.false) in
-    all_recorded (Did g.S.Store.faithful g.S.Store.holds g.S.Store.leaves g.S.Store.says g.L.PrinterLine.did) c.args.delivery.now c.args.machine.now c.args.around.now
+    let all : c.loop.counter ≡ MOST_ROUNDS = omega (arith, c.loop.auto.counter-end, c.loop-test.false) in
+    at_most (Did g.S.Store.faithful g.S.Store.holds g.S.Store.leaves g.S.Store.says g.L.PrinterLine.did) c.args.delivery.now c.args.machine.now c.args.around.now
     (output_of (g.W.ByteOut.written c.args.output.now) (g.W.ByteOut.failed c.args.output.now)) c.loop.machine c.loop.around (output_of (g.W.ByteOut.written c.loop.output) (g.W.ByteOut.failed c.loop.output))
-    c.loop.counter c.states-end.result.now c.loop.invariant.so_far all c.states-end.ensures
+    c.loop.counter c.loop.invariant.so_far all
