@@ -1,11 +1,25 @@
 //! Where the program keeps a till's ledger: in a database file, with its log beside it.
+//!
+//! Whoever uses a ledger has its file to itself, and waits for its turn. A delivery lets go of the file while its printer is waited for, and has
+//! another file locked instead, the ledger's line, so that no two deliveries are made from one ledger at the same time.
 
 ghost use Rattle.std.specs.Prelude.{◌≡◌};
 
 use escpos_store::SqliteStore;
 use escpos_till::NoStore;
-use escpos_till_jobs::{LedgerPath, Ledgers};
+use escpos_till_jobs::{LedgerPath, Ledgers, SharedStore};
 use sqlite::{FileFrom, FileStore, Unknown};
+use std::fs;
+use std::fs::{File, OpenOptions, TryLockError};
+use std::io;
+use std::io::ErrorKind;
+use std::thread;
+use std::time::Duration;
+
+// So often it is tried to open a ledger that is in use, and so long it is waited between: 5 seconds.
+const TURNS: u32 = 2_500;
+
+const TURN_MILLISECONDS: u64 = 2;
 
 /// Ledgers in files. `Unknown` says that nothing is known of what a file holds before it is opened.
 #[derive(Drop)]
@@ -31,16 +45,119 @@ impl Ledgers<FileLedgerStore> for LedgerFiles<'_> {
 
     ghost closed = { λ old store new. new ≡ old };
 
-    // A file that isn't there is made.
+    // A file that isn't there is made. One that is in use is waited for, at most 5 seconds.
     fn open(&mut self, path: &LedgerPath<'_>) -> Result<FileLedgerStore, NoStore> {
-        match FileLedgerStore::open(self.rt, path.text(), Unknown) {
-            Ok(store) => Ok(store),
-            Err((why, _)) => Err(why),
+        for _ in 0..TURNS {
+            match FileLedgerStore::open(self.rt, path.text(), Unknown) {
+                Ok(store) => return Ok(store),
+                Err((NoStore::InUse, _)) => {
+                    thread::sleep(self.rt, Duration::from_millis(TURN_MILLISECONDS));
+                }
+                Err((why, _)) => return Err(why),
+            }
         }
+        Err(NoStore::InUse)
     }
 
     // Copies the log into the database file, and closes both. What was kept outlives a crash already, so nothing is lost where this fails.
     fn close(&mut self, store: FileLedgerStore) {
         let _ = store.into_files();
     }
+}
+
+/// Ledgers in files, for a delivery: from one of them no other delivery is made meanwhile.
+#[derive(Drop)]
+pub struct DeliveredFiles<'r> {
+    files: LedgerFiles<'r>,
+    // locked as long as it is open
+    _line: File,
+}
+
+impl Ledgers<FileLedgerStore> for DeliveredFiles<'_> {
+    ghost opened = { λ old path result new. new ≡ old };
+
+    ghost closed = { λ old store new. new ≡ old };
+
+    fn open(&mut self, path: &LedgerPath<'_>) -> Result<FileLedgerStore, NoStore> {
+        self.files.open(path)
+    }
+
+    fn close(&mut self, store: FileLedgerStore) {
+        self.files.close(store);
+    }
+}
+
+/// A store in a file that is let go while a printer is waited for.
+pub type SharedFileStore<'r> = SharedStore<DeliveredFiles<'r>, FileLedgerStore>;
+
+/// Ledgers that receipts are delivered from.
+#[derive(Drop)]
+pub struct SharedFiles<'r> {
+    rt: &'r HostRuntime,
+}
+
+impl<'r> SharedFiles<'r> {
+    /// The files that this program can reach.
+    pub fn new(rt: &'r HostRuntime) -> Self
+        ensures { result.rt.now ≡ rt.now }
+    {
+        SharedFiles { rt }
+    }
+}
+
+impl<'r> Ledgers<SharedFileStore<'r>> for SharedFiles<'r> {
+    ghost opened = { λ old path result new. new ≡ old };
+
+    ghost closed = { λ old store new. new ≡ old };
+
+    // `InUse` is answered where another delivery is being made from the ledger.
+    fn open(&mut self, path: &LedgerPath<'_>) -> Result<SharedFileStore<'r>, NoStore> {
+        let line = line_of(self.rt, path.text())?;
+        let files = LedgerFiles::new(self.rt);
+        SharedStore::open(
+            self.rt.alloc(),
+            DeliveredFiles { files, _line: line },
+            path,
+        )
+    }
+
+    // The ledger is closed where it is open, and then its line.
+    fn close(&mut self, store: SharedFileStore<'r>) {
+        let mut store = store;
+        store.end();
+    }
+}
+
+// The ledger's line, which is locked as long as it is open: the file beside the ledger whose name ends in `-line`.
+fn line_of(rt: &HostRuntime, path: &str) -> Result<File, NoStore> {
+    match line_beside(rt, path) {
+        Ok(line) => match line.try_lock() {
+            Ok(()) => Ok(line),
+            Err(TryLockError::WouldBlock) => Err(NoStore::InUse),
+            Err(TryLockError::Error(why)) => Err(no_line(&why)),
+        },
+        Err(why) => Err(no_line(&why)),
+    }
+}
+
+// Why there is no line.
+fn no_line(why: &io::Error) -> NoStore {
+    match why.kind() {
+        ErrorKind::OutOfMemory => NoStore::Memory,
+        _ => NoStore::Failed,
+    }
+}
+
+// Opens the ledger's line, which is made if it isn't there. Where the ledger's path leads elsewhere, it is beside the ledger.
+fn line_beside(rt: &HostRuntime, path: &str) -> io::Result<File> {
+    let real = match fs::canonicalize(rt, path) {
+        Ok(real) => format!(in rt.alloc(); "{}-line", real.as_str())?,
+        Err(why) if why.kind() == ErrorKind::NotFound => format!(in rt.alloc(); "{path}-line")?,
+        Err(why) => return Err(why),
+    };
+    OpenOptions::new()
+        .read(true)
+        .write(true)
+        .create(true)
+        .open(rt, real.as_str())
 }

@@ -9,7 +9,7 @@ ghost use Rattle.std.specs.Prelude.{◌≡◌, ◌≢◌, IfErr, IfOk, IsTrue};
 
 mod ledger;
 
-use crate::ledger::LedgerFiles;
+use crate::ledger::{LedgerFiles, SharedFiles};
 pub use escpos_arguments::{
     asks_version, completions_of, is_completions_word, is_probe_word, is_till_word, probe_task_of,
     task_of, till_task_of, without_name,
@@ -73,8 +73,17 @@ fn perform_word<R: ByteIn, W: ByteOut>(
     if is_till_word(word) {
         let task = till_task_of(rt.alloc(), words)?;
         let mut ledgers = LedgerFiles::new(rt);
+        let mut shared = SharedFiles::new(rt);
         let mut lines = NetworkLines::new(rt);
-        return Ok(perform_till(rt.alloc(), &mut ledgers, &mut lines, task, input, output));
+        return Ok(perform_till(
+            rt.alloc(),
+            &mut ledgers,
+            &mut shared,
+            &mut lines,
+            task,
+            input,
+            output,
+        ));
     }
     if is_probe_word(word) {
         let task = probe_task_of(rt.alloc(), words)?;

@@ -68,6 +68,17 @@ impl<F: Ledgers<S> + Drop, S: Store + Drop> SharedStore<F, S> {
 }
 
 impl<F: Ledgers<S> + Drop, S: Store + Drop> SharedStore<F, S> {
+    /// Closes the ledger, where it is open. The next call opens it again.
+    pub fn end(&mut self)
+        ensures known { self.new.known ≡ self.old.known }
+        ensures unsure { self.new.unsure ≡ self.old.unsure }
+        ensures none { self.new.held ≡ None }
+    {
+        if let Some(store) = self.held.take() {
+            self.ledgers.close(store);
+        }
+    }
+
     // Has a store open that holds what is known; the entries that others have added are known then, and returned, if there are any. Where there
     // is an error, none is open.
     fn take(&mut self) -> Result<Option<Vec<Entry>>, StoreFault>
@@ -174,9 +185,7 @@ impl<F: Ledgers<S> + Drop, S: Store + Drop> Store for SharedStore<F, S> {
     }
 
     fn let_go(&mut self) {
-        if let Some(store) = self.held.take() {
-            self.ledgers.close(store);
-        }
+        self.end();
     }
 
     fn entries(&mut self, alloc: Global) -> Result<Vec<Entry>, StoreFault> {
