@@ -1,13 +1,13 @@
 //! What a till asks for, done with a ledger at a path: it is opened and closed again.
 
 use crate::support::tills::{
-    A, Nobody, OneLedger, S, Told, delivery_to, is_told, number, printer_address, store_of,
+    A, OneLedger, S, Told, delivery_to, is_told, number, performed, printer_address, store_of,
 };
 use escpos_command::LineWidth;
 use escpos_io::{MemoryIn, MemoryOut};
 use escpos_jobs::status::Status;
 use escpos_receipt::ReceiptOptions;
-use escpos_till_jobs::{LedgerPath, NetworkLines, TillTask, perform_till};
+use escpos_till_jobs::{LedgerPath, TillTask};
 use std::alloc::Global;
 use std::process::Abort;
 
@@ -22,14 +22,7 @@ fn performs(
     let mut room = [0; 64];
     let mut input = MemoryIn::new(text, 7);
     let mut output = MemoryOut::new(&mut room);
-    let status = perform_till(
-        alloc,
-        ledger,
-        &mut NetworkLines::new(&Nobody),
-        task,
-        &mut input,
-        &mut output,
-    );
+    let status = performed(alloc, ledger, task, &mut input, &mut output);
     is_told(rt, (output.written(), status), wanted);
 }
 

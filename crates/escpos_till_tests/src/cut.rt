@@ -2,7 +2,7 @@
 
 use crate::support::stores::{Filed, closed, new_files, opened, refused};
 use escpos_store::{SqliteStore, close_until, open_until};
-use escpos_till::{Entry, Store};
+use escpos_till::{Appended, Entry, Store};
 use sqlite::{FileStore, Files, Options};
 use sqlite_disk::{Crash, Disk, Fuse, Memory};
 use std::alloc::Global;
@@ -14,7 +14,7 @@ const MOST_CALLS: u64 = 80;
 const NEXT: u32 = 7;
 
 fn raises(rt: &impl Abort, store: &mut Filed) {
-    assert!(rt; store.append(&Entry::Raised { next: NEXT }) == Ok(()));
+    assert!(rt; matches!(store.append(&Entry::Raised { next: NEXT }), Ok(Appended::Done)));
 }
 
 // How many entries the store has. They raise the next number to 7.

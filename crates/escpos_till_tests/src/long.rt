@@ -3,7 +3,7 @@
 use crate::support::stores::{closed, new_files, opened};
 use crate::support::tills::number;
 use escpos_store::SqliteStore;
-use escpos_till::{Content, Entry, Store};
+use escpos_till::{Appended, Content, Entry, Store};
 use sqlite::Alter;
 use std::alloc::Global;
 use std::process::Abort;
@@ -65,7 +65,7 @@ fn adds<S: Alter>(
         } else {
             entry_at(rt, alloc, at)
         };
-        assert!(rt; store.append(&entry) == Ok(()));
+        assert!(rt; matches!(store.append(&entry), Ok(Appended::Done)));
     }
 }
 

@@ -8,7 +8,7 @@ use escpos_receipt::ReceiptOptions;
 use escpos_store::SqliteStore;
 use escpos_test_receipts::S;
 use escpos_text::Replacement;
-use escpos_till::{Content, Entry, Store};
+use escpos_till::{Appended, Content, Entry, Store};
 use sqlite::Alter;
 use std::alloc::Global;
 use std::process::Abort;
@@ -72,7 +72,7 @@ fn are_alike(rt: &impl Abort, entry: &Entry, wanted: &Entry) {
 
 fn adds_all<S: Alter>(rt: &impl Abort, store: &mut SqliteStore<S>, entries: &[Entry]) {
     for entry in entries {
-        assert!(rt; store.append(entry) == Ok(()));
+        assert!(rt; matches!(store.append(entry), Ok(Appended::Done)));
     }
 }
 

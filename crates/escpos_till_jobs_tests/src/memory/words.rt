@@ -3,7 +3,7 @@
 //! A word that is refused memory prints `memory` and nothing else, and gives the store back; then the word is given again.
 
 use crate::support::tills::{
-    Nobody, OneLedger, S, delivery_to, done_with, line_over, number, printer_address,
+    OneLedger, S, delivery_to, done_with, line_over, number, performed, printer_address,
 };
 use escpos_io::{ByteIn, MemoryIn, MemoryOut};
 use escpos_jobs::ending::MEMORY;
@@ -15,7 +15,7 @@ use escpos_till::{
     Entry, Failure, MemoryStore, NoStore, ReceiptContent, ReceiptState, TillMachine,
 };
 use escpos_till_jobs::{
-    LedgerPath, NetworkLines, NoLine, TillTask, Word, open_machine, perform_till, read_content,
+    LedgerPath, NoLine, TillTask, Word, open_machine, read_content,
 };
 use std::alloc::Global;
 use std::process::Abort;
@@ -223,8 +223,7 @@ fn performs(
     let mut room = [0; 64];
     let mut input = MemoryIn::new(S, 7);
     let mut output = MemoryOut::new(&mut room);
-    let mut lines = NetworkLines::new(&Nobody);
-    let status = perform_till(alloc, ledger, &mut lines, task, &mut input, &mut output);
+    let status = performed(alloc, ledger, task, &mut input, &mut output);
     if status == Status::Memory {
         assert!(rt; output.written() == MEMORY);
         return false;

@@ -8,10 +8,11 @@ use escpos_jobs::status::Status;
 use escpos_receipt::ReceiptOptions;
 use escpos_till::{
     Content, Entry, Failure, MemoryStore, NoStore, PrinterLine, ReceiptContent, ReceiptNumber,
-    Surroundings,
+    Store, Surroundings,
 };
 use escpos_till_jobs::{
-    Delivery, Dial, LedgerPath, Ledgers, Link, LinkLine, Word, do_with, read_content,
+    Delivery, Dial, LedgerPath, Ledgers, Link, LinkLine, NetworkLines, TillTask, Word, do_with,
+    perform_till, read_content,
 };
 use std::alloc::Global;
 use std::io;
@@ -95,10 +96,11 @@ pub fn store_of(rt: &impl Abort, alloc: Global, entries: &[Plain]) -> MemoryStor
     MemoryStore::new(alloc, all, Failure::Never)
 }
 
-// Dials one link in memory.
+// Dials one link in memory, which is waited for, or isn't.
 #[derive(Drop)]
 pub struct InMemory<'a> {
     link: Option<Link<MemoryIn<'a>, MemoryOut<'a>>>,
+    is_slow: bool,
 }
 
 impl<'a> Dial<MemoryIn<'a>, MemoryOut<'a>> for InMemory<'a> {
@@ -122,6 +124,14 @@ impl<'a> Dial<MemoryIn<'a>, MemoryOut<'a>> for InMemory<'a> {
         ensures sink { ⟦<MemoryOut<'a> as ByteOut>⟧.written result.writer ≡ ⟦<MemoryOut<'a> as ByteOut>⟧.written link.entry.writer }
     {
         link
+    }
+
+    fn takes_at_once(&self) -> bool {
+        !self.is_slow
+    }
+
+    fn gives_soon(&self) -> bool {
+        !self.is_slow
     }
 
     fn close(&mut self, link: Link<MemoryIn<'a>, MemoryOut<'a>>)
@@ -152,6 +162,20 @@ pub fn line_over<'a>(
     let writer = MemoryOut::new(room);
     LinkLine::new(InMemory {
         link: Some(Link { reader, writer }),
+        is_slow: false,
+    })
+}
+
+// The same to a printer that is waited for each time.
+pub fn slow_line_over<'a>(
+    answers: &'a [u8],
+    room: &'a mut [u8],
+) -> LinkLine<MemoryIn<'a>, MemoryOut<'a>, InMemory<'a>> {
+    let reader = MemoryIn::new(answers, 7);
+    let writer = MemoryOut::new(room);
+    LinkLine::new(InMemory {
+        link: Some(Link { reader, writer }),
+        is_slow: true,
     })
 }
 
@@ -176,6 +200,86 @@ impl Ledgers<MemoryStore> for OneLedger {
             Some(store) => Ok(store),
             None => Err(NoStore::InUse),
         }
+    }
+
+    fn close(&mut self, store: MemoryStore) {
+        self.store = Some(store);
+    }
+}
+
+// What is asked of a ledger, where nobody is reached: its status.
+pub fn performed<R: ByteIn, W: ByteOut>(
+    alloc: Global,
+    ledger: &mut OneLedger,
+    task: TillTask<'_>,
+    input: &mut R,
+    output: &mut W,
+) -> Status {
+    let mut other = OneLedger {
+        path: "",
+        store: None,
+    };
+    let mut lines = NetworkLines::new(&Nobody);
+    match task {
+        TillTask::Deliver { .. } | TillTask::DeliverWithin { .. } => {
+            perform_till(alloc, &mut other, ledger, &mut lines, task, input, output)
+        }
+        task => perform_till(alloc, ledger, &mut other, &mut lines, task, input, output),
+    }
+}
+
+// A ledger in memory to which others add entries: all of these, just before it is opened for the time with this number. Or it loses all that it
+// has then.
+#[derive(Drop)]
+pub struct BusyLedger {
+    pub store: Option<MemoryStore>,
+    pub added: Vec<Entry>,
+    pub at: usize,
+    pub is_lost: bool,
+    pub opened: usize,
+}
+
+// It has these entries, and others add those.
+pub fn busy(
+    rt: &impl Abort,
+    alloc: Global,
+    entries: &[Plain],
+    (at, added): (usize, &[Plain]),
+) -> BusyLedger {
+    let mut others = Vec::new(alloc);
+    for plain in added {
+        let _ = others.push(entry(rt, alloc, *plain));
+    }
+    BusyLedger {
+        store: Some(store_of(rt, alloc, entries)),
+        added: others,
+        at,
+        is_lost: false,
+        opened: 0,
+    }
+}
+
+impl Ledgers<MemoryStore> for BusyLedger {
+    ghost opened = { λ old path result new. Unit {0} };
+
+    ghost closed = { λ old store new. Unit {0} };
+
+    // Until it is closed, it is in use.
+    fn open(&mut self, _path: &LedgerPath<'_>) -> Result<MemoryStore, NoStore> {
+        self.opened = self.opened.saturating_add(1);
+        let Some(mut store) = self.store.take() else {
+            return Err(NoStore::InUse);
+        };
+        if self.opened != self.at {
+            return Ok(store);
+        }
+        if self.is_lost {
+            return Err(NoStore::NoLedger);
+        }
+        for entry in &self.added {
+            let _ = store.append(entry);
+        }
+        Ok(store)
     }
 
     fn close(&mut self, store: MemoryStore) {

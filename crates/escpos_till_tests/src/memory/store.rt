@@ -5,7 +5,7 @@
 
 use crate::support::stores::{Filed, new_files};
 use escpos_store::SqliteStore;
-use escpos_till::{Entry, NoStore, Store, StoreFault};
+use escpos_till::{Appended, Entry, NoStore, Store, StoreFault};
 use sqlite::{Alter, Files, MemStore, Options};
 use sqlite_disk::{Disk, Memory};
 use std::alloc::Global;
@@ -14,7 +14,7 @@ use std::process::Abort;
 // An entry is added. Answers no where memory is refused.
 fn adds<S: Alter>(rt: &impl Abort, store: &mut SqliteStore<S>, next: u32) -> bool {
     match store.append(&Entry::Raised { next }) {
-        Ok(()) => true,
+        Ok(appended) => matches!(appended, Appended::Done),
         Err(fault) => {
             assert!(rt; fault == StoreFault::Memory || fault == StoreFault::Failed);
             false

@@ -106,6 +106,14 @@ impl PrinterLine for Line {
         }
     }
 
+    fn takes_at_once(&self) -> bool {
+        true
+    }
+
+    fn gives_soon(&self) -> bool {
+        true
+    }
+
     fn hang_up(&mut self) {
         self.hang_ups = self.hang_ups.saturating_add(1);
     }
