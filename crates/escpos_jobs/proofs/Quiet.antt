@@ -19,7 +19,7 @@ same h after e = let l = ap length e in omega (arith, l)
 dropped : (h after : HostView) → after.out ≡ [] → IsQuiet h after
 dropped h after e = let l : length after.out ≡ 0 = ap length e in omega (arith, l)
 
-turned : (h : HostView) (a : Answer) (at : ℕ) (e : HostEvent) (after : HostView) → Turns h a at e after → IsQuiet h after
+turned : (h : HostView) (a : Answer) (at : ℕ) (e : HostEvent) (after : HostView) → Turns h a e after → IsQuiet h after
 turned h a at event.None after t = same h after (ap out_of t.1)
 turned h a at event.Opened after (first, id, opening, mark, among, is) = same h after (ap out_of is)
 turned h a at (event.Recorded number) after (p, ps, sending, mark, count, is) = same h after (ap out_of is)

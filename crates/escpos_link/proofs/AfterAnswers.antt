@@ -63,7 +63,7 @@ ignored_stale (Opening first) next id q ps ignored is mark = cons_nil q ps is
 ignored_stale (Open flight) next id q ps ignored is mark = ignored (subst (λ v. IsClosing v id) (sym is) (inl mark))
 
 mark_told : (P : List (List Command) → List InFlight → Type 0) (h after : HostView) (id : List ℕ) (at : ℕ) (e : HostEvent) → h.phase ≢ Down
-    → Popped P h.records (flight_of h.phase) id → Turns h (answer.Mark id) at e after → Told P h after e
+    → Popped P h.records (flight_of h.phase) id → Turns h (answer.Mark id) e after → Told P h after e
 mark_told P h after id at event.None up (inl (stale, holds)) (ignored, same) = unchanged P h after event.None (λ ends. ends) up same holds
 mark_told P h after id at event.None up (inr (q, ps, is, mark, holds)) (ignored, same) = absurd (ignored_stale h.phase h.next id q ps ignored is mark)
 mark_told P h after id at event.Opened up (inl (stale, holds)) (first, other, opening, is, one, same) = record {
@@ -103,7 +103,7 @@ mark_told P h after id at (event.BadAnswer place) up (inr (q, qs, flight, mark, 
 
 -- ## A status, and where the host may hear only marks that it ignores
 
-status_told : (h after : HostView) (b at : ℕ) (e : HostEvent) → Turns h (answer.Status b) at e after → (EndsLink e → ⊥) × (after ≡ h)
+status_told : (h after : HostView) (b at : ℕ) (e : HostEvent) → Turns h (answer.Status b) e after → (EndsLink e → ⊥) × (after ≡ h)
 status_told h after b at event.None (ignored, same) = absurd ignored
 status_told h after b at event.Opened (first, id, opening, is, one, same) = absurd (no_status id b is)
 status_told h after b at (event.Recorded n) (p, ps, sending, is, number, same) = absurd (no_status p.mark b is)
@@ -112,7 +112,7 @@ status_told h after b at (event.Status c) (is, same) = (λ ends. ends, same)
 status_told h after b at (event.Condition block) (is, same) = (λ ends. ends, same)
 status_told h after b at (event.BadAnswer place) (p, ps, id, sending, is, not_first, later, here, same) = absurd (no_status id b is)
 
-block_told : (h after : HostView) (block : List ℕ) (at : ℕ) (e : HostEvent) → Turns h (answer.Condition block) at e after → (EndsLink e → ⊥) × (after ≡ h)
+block_told : (h after : HostView) (block : List ℕ) (at : ℕ) (e : HostEvent) → Turns h (answer.Condition block) e after → (EndsLink e → ⊥) × (after ≡ h)
 block_told h after block at event.None (ignored, same) = absurd ignored
 block_told h after block at event.Opened (first, id, opening, is, one, same) = absurd (no_block id block is)
 block_told h after block at (event.Recorded n) (p, ps, sending, is, number, same) = absurd (no_block p.mark block is)
@@ -128,7 +128,7 @@ not_open : (first : ℕ) (phase : Phase) (flight : List InFlight) → phase ≡ 
 not_open first phase flight is also = let bad : Opening first ≡ Open flight = sym is ∙ also in cc
 
 older_told : OfNumbers → (h after : HostView) (id : List ℕ) (first at : ℕ) (e : HostEvent) → h.phase ≡ Opening first → IsKnown first id
-    → Turns h (answer.Mark id) at e after → (EndsLink e → ⊥) × (after ≡ h)
+    → Turns h (answer.Mark id) e after → (EndsLink e → ⊥) × (after ≡ h)
 older_told of h after id first at event.None opening known (ignored, same) = (λ ends. ends, same)
 older_told of h after id first at event.Opened opening known (also, other, phase, is, one, same) =
     let begun : also ≡ first = first_is also first (sym phase ∙ opening) in
@@ -157,7 +157,7 @@ stays width sheet half ended live waiting h after others e on up same w = record
 
 mark_way : (width : ℕ) → OfNumbers → (sheet : Sheet) (half : List ℕ) (ended : List (List ℕ)) (live : Option (List ℕ)) (waiting : List Answer) (h after : HostView)
     (id : List ℕ) (others : List Answer) (at : ℕ) (e : HostEvent) → h.phase ≢ Down → InWay width sheet half ended live waiting h.phase h.out h.next h.records (answer.Mark id ∷ others)
-    → Turns h (answer.Mark id) at e after → Turned (InWay width sheet half ended live waiting) h after others e
+    → Turns h (answer.Mark id) e after → Turned (InWay width sheet half ended live waiting) h after others e
 mark_way width of sheet half ended None waiting h after id others at e up (inl w) turns =
     let rest = answered_marks (others ++ waiting) in
     let t = mark_told (λ rs f. Owed width rs f h.next sheet.items rest) h after id at e up (owed_turn width of h.records (flight_of h.phase) h.next sheet.items id rest w.owed) turns in
@@ -205,7 +205,7 @@ mark_way width of sheet half ended (Some bytes) waiting h after id others at e u
 
 pub turn_way : (width : ℕ) → OfNumbers → (sheet : Sheet) (half : List ℕ) (ended : List (List ℕ)) (live : Option (List ℕ)) (waiting : List Answer) (h after : HostView)
     (a : Answer) (others : List Answer) (at : ℕ) (e : HostEvent) → h.phase ≢ Down → InWay width sheet half ended live waiting h.phase h.out h.next h.records (a ∷ others)
-    → Turns h a at e after → Turned (InWay width sheet half ended live waiting) h after others e
+    → Turns h a e after → Turned (InWay width sheet half ended live waiting) h after others e
 turn_way width of sheet half ended live waiting h after (answer.Status b) others at e up w turns =
     let t = status_told h after b at e turns in stays width sheet half ended live waiting h after others e t.0 up t.1 w
 turn_way width of sheet half ended live waiting h after (answer.Condition block) others at e up w turns =

@@ -193,7 +193,7 @@ same_answers below bs xs ys h k =
     c.1 ∙ ap (λ v. ys ++ v) (none_left c.0 c.2) ∙ append-nil ys
 
 -- An answer that doesn't end the link puts nothing out.
-turned_out : (h after : HostView) (a : Answer) (at : ℕ) (e : HostEvent) → (EndsLink e → ⊥) → Turns h a at e after → after.out ≡ h.out
+turned_out : (h after : HostView) (a : Answer) (at : ℕ) (e : HostEvent) → (EndsLink e → ⊥) → Turns h a e after → after.out ≡ h.out
 turned_out h after a at heard.None on turns = ap (λ (v : HostView). v.out) turns.1
 turned_out h after a at heard.Opened on (first, id, phase, is, opening, same) = ap (λ (v : HostView). v.out) same
 turned_out h after a at (heard.Recorded number) on (q, qs, phase, is, place, same) = ap (λ (v : HostView). v.out) same
@@ -260,7 +260,7 @@ answered_promised width laws l rs p k consumed events host i (inr (up, hears)) t
 
 -- ## A late answer
 
-late_mark : (h : HostView) (a : Answer) (at : ℕ) (id : List ℕ) (after : HostView) → Turns h a at (heard.Late id) after → a ≡ answer.Mark id
+late_mark : (h : HostView) (a : Answer) (at : ℕ) (id : List ℕ) (after : HostView) → Turns h a (heard.Late id) after → a ≡ answer.Mark id
 late_mark h a at id after (first, phase, is, other, same) = is
 
 -- It is one of the answers that were to come.

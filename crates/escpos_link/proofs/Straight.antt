@@ -48,7 +48,7 @@ emptied h = record { phase = h.phase; out = []; half = h.half; next = h.next; re
 
 -- What the answer to the mark does to the host.
 abbrev pub Expects : HostView → List ℕ → HostView → Type 0
-Expects h id expected = (at : ℕ) (e : HostEvent) (after : HostView) → Turns h (answer.Mark id) at e after → (EndsLink e → ⊥) × (after ≡ expected)
+Expects h id expected = (at : ℕ) (e : HostEvent) (after : HostView) → Turns h (answer.Mark id) e after → (EndsLink e → ⊥) × (after ≡ expected)
 
 -- ## The events of an exchange
 

@@ -35,7 +35,7 @@ pub record Turned (P : Holding) (h after : HostView) (others : List Answer) (e :
 
 abbrev pub Turner : Holding → Type 0
 Turner P = (h after : HostView) (a : Answer) (others : List Answer) (at : ℕ) (e : HostEvent) → h.phase ≢ Down → P h.phase h.out h.next h.records (a ∷ others)
-    → Turns h a at e after → Turned P h after others e
+    → Turns h a e after → Turned P h after others e
 
 -- A host that is up, its half answer and the bytes to come, which are answers, and for which it holds.
 pub record Goes (P : Holding) (h : HostView) (bytes : List ℕ) : Type 0 where
@@ -155,7 +155,7 @@ pub record After (P : Holding) (next : HostView) (bytes more : List ℕ) (count 
 
 by_answer : (P : Holding) → OfAnswers → Turner P → (h next : HostView) (bytes more half : List ℕ) (at : ℕ) (e : HostEvent) (a : Answer) (others : List Answer)
     → h.phase ≢ Down → at < length bytes → P h.phase h.out h.next h.records others → Hears (half ++ slice_index bytes at ∷ (drop (at + 1) bytes ++ more)) others []
-    → AnswerSpells a (half ++ slice_index bytes at ∷ []) → Turns (with_half (with_half h half) []) a at e next → After P next bytes more (taken_at e at) e
+    → AnswerSpells a (half ++ slice_index bytes at ∷ []) → Turns (with_half (with_half h half) []) a e next → After P next bytes more (taken_at e at) e
 by_answer P below turner h next bytes more half at e a others up within holds hears spelled turns =
     let b = slice_index bytes at in
     let tail = drop (at + 1) bytes ++ more in
@@ -209,7 +209,7 @@ pub record ByOne (P : Holding) (h next : HostView) (bytes : List ℕ) (e : HostE
   pub split : g.answers ≡ before ++ answer ∷ others
   pub at : ℕ
   pub half : List ℕ
-  pub turns : Turns (with_half (with_half h half) []) answer at e next
+  pub turns : Turns (with_half (with_half h half) []) answer e next
 
 pub by_one : (P : Holding) → OfAnswers → (h next : HostView) (bytes more : List ℕ) (count : ℕ) (e : HostEvent) → e ≢ event.None → (g : Goes P h (bytes ++ more))
     → IsHeard h bytes count e next → ByOne P h next (bytes ++ more) e g

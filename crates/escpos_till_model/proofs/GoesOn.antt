@@ -85,7 +85,7 @@ is_recorded h p ps is = record {
   down = λ e. absurd (open_is_up h.phase (p ∷ ps) is e);
 }
 
-turned : (h after : HostView) (a : Answer) (at : ℕ) (e : HostEvent) → Turns h a at e after → GoesOn h after
+turned : (h after : HostView) (a : Answer) (at : ℕ) (e : HostEvent) → Turns h a e after → GoesOn h after
 turned h after a at heard.None (ignored, same) = stays_same h after same
 turned h after a at heard.Opened (first, id, is, answer, mark, same) = subst (GoesOn h) (sym same) (is_opened h first is)
 turned h after a at (heard.Recorded number) (p, ps, is, answer, place, same) = subst (GoesOn h) (sym same) (is_recorded h p ps is)

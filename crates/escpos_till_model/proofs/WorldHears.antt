@@ -72,7 +72,7 @@ take_whole (suc n) [] = refl
 take_whole (suc n) (x ∷ xs) = ap (λ v. x ∷ v) (take_whole n xs)
 
 -- After an event no half answer is left, and the host is as sound as before.
-pub sound_turned : (h after : HostView) (a : Answer) (at : ℕ) (e : HostEvent) → h.half ≡ [] → h.phase ≢ Down → IsSound h → Turns h a at e after → (EndsLink e → ⊥) → e ≢ heard.None
+pub sound_turned : (h after : HostView) (a : Answer) (at : ℕ) (e : HostEvent) → h.half ≡ [] → h.phase ≢ Down → IsSound h → Turns h a e after → (EndsLink e → ⊥) → e ≢ heard.None
     → (after.half ≡ []) × IsSound after × (after.phase ≢ Down)
 sound_turned h after a at heard.None half up sound t on some = absurd (some refl)
 sound_turned h after a at heard.Opened half up sound (first, id, phase, is, mark, same) on some = (
@@ -215,7 +215,7 @@ abbrev pub Grew : HostEvent → List (List Command) → List (List Command) → 
 Grew (heard.Recorded number) old new = length new ≡ length old + 1
 Grew e old new = new ≡ old
 
-pub grew_turned : (h after : HostView) (a : Answer) (at : ℕ) (e : HostEvent) → Turns h a at e after → (EndsLink e → ⊥) → Grew e h.records after.records
+pub grew_turned : (h after : HostView) (a : Answer) (at : ℕ) (e : HostEvent) → Turns h a e after → (EndsLink e → ⊥) → Grew e h.records after.records
 grew_turned h after a at heard.None (ignores, same) on = ap (λ v. v.records) same
 grew_turned h after a at heard.Opened (first, id, phase, is, mark, same) on = ap (λ v. v.records) same
 grew_turned h after a at (heard.Recorded number) (p, ps, phase, is, count, same) on =
@@ -241,7 +241,7 @@ StillOpening (heard.Late id) h = (first : ℕ) × (h.phase ≡ Opening first)
 StillOpening e h = Unit {0}
 
 -- A host that is opening its first link has recorded nothing yet, and is still opening it if the event says so.
-pub begun_turned : (h after : HostView) (a : Answer) (at : ℕ) (e : HostEvent) → Turns h a at e after → (EndsLink e → ⊥) → HasJustBegun h → HasJustBegun after × StillOpening e after
+pub begun_turned : (h after : HostView) (a : Answer) (at : ℕ) (e : HostEvent) → Turns h a e after → (EndsLink e → ⊥) → HasJustBegun h → HasJustBegun after × StillOpening e after
 begun_turned h after a at heard.None (ignores, same) on begun = (subst HasJustBegun (sym same) begun, tt)
 begun_turned h after a at heard.Opened (first, id, phase, is, mark, same) on begun =
     (λ f opening. absurd (let bad : Open [] ≡ Opening f = ap (λ v. v.phase) (sym same) ∙ opening in cc), tt)
