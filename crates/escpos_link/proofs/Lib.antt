@@ -16,6 +16,8 @@ pub mod Leaving
 pub mod AfterPutting
 pub mod Feeding
 pub mod AfterAnswers
+pub mod WayKept
+pub mod Hearing
 pub mod Trusting
 pub mod Promises
 pub mod Promising

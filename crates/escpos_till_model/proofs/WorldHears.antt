@@ -19,8 +19,9 @@ use Rattle.escpos_link.specs.declared.event.Note.TheVariants as note
 use Rattle.escpos_link.specs.EventTable.{After}
 use Rattle.escpos_link.specs.Line.{LineView}
 use Rattle.escpos_link.specs.Promised.{Promised}
+use Rattle.escpos_link.specs.Trusted.{IsFitting}
+use Rattle.escpos_link.specs.Ways.{flight_of}
 use Rattle.escpos_link.specs.Stands.{Stands}
-use Rattle.escpos_link.specs.Trusted.{IsFitting, flight_of}
 use Rattle.escpos_link.specs.Wire.{WireView, heard_from, line_of}
 use Rattle.escpos_link.proofs.AtTheEnd.{heard_on}
 use Rattle.escpos_host.proofs.Earlier.{earlier_hears, earlier_sound, ends_shifted, last_shifted}

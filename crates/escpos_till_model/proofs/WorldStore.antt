@@ -16,7 +16,7 @@ use Rattle.escpos_link.specs.declared.event.Event.TheVariants as event
 use Rattle.escpos_link.specs.declared.event.Note.TheVariants as note
 use Rattle.escpos_link.specs.EventTable.{hung_up}
 use Rattle.escpos_link.specs.Resumed.{resumed_host}
-use Rattle.escpos_link.specs.Promised.{PutsOther}
+use Rattle.escpos_link.specs.Promising.{PutsOther}
 use Rattle.escpos_link.specs.Trusted.{IsFitting}
 use Rattle.escpos_link.specs.Wire.{WireView, given_up, line_of, with_bytes, with_link}
 use Rattle.escpos_link.proofs.AtTheEnd.{hung_up_by, idle_kept, idle_trusted}

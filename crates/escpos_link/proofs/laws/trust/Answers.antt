@@ -1,5 +1,6 @@
 use Rattle.escpos_command.specs.Meanings.{all_but_drawer}
-use Rattle.escpos_link.proofs.Trusting.{Laws, leaves_trusted, none_bad, resumed_trusted, stands, still, trusted}
+use Rattle.escpos_link.proofs.WayKept.{Laws}
+use Rattle.escpos_link.proofs.Trusting.{leaves_trusted, none_bad, resumed_trusted, stands, still, trusted}
 use Rattle.escpos_link.specs.Resumed.{resumed}
 use Rattle.escpos_link.proofs.laws.trust.Goals as goal
 
