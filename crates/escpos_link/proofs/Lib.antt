@@ -19,6 +19,7 @@ pub mod AfterAnswers
 pub mod WayKept
 pub mod Hearing
 pub mod Trusting
+pub mod Taking
 pub mod Promises
 pub mod Promising
 pub mod PromisedEvents

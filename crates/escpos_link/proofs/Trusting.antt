@@ -199,7 +199,7 @@ bad_told width laws l after k consumed place n i t (events, count, host, told, h
 done_told : (consumed place : ℕ) (n : Note) → n ≡ note.Done → n ≡ note.Heard consumed (heard.BadAnswer place) → ⊥
 done_told consumed place n done bad = let both : note.Done ≡ note.Heard consumed (heard.BadAnswer place) = sym done ∙ bad in cc
 
--- No event reports a byte that fits no answer, or an answer out of turn.
+-- No event reports a byte that fits no answer.
 pub none_bad : (width : ℕ) → Laws → (e : Event) (l after : LineView) (n : Note) (consumed place : ℕ) → IsLine l → Trusted width l → After e l n after
     → n ≢ note.Heard consumed (heard.BadAnswer place)
 none_bad width laws event.LinkUp l after n consumed place i t (done, is_down, mark, same) bad = done_told consumed place n done bad

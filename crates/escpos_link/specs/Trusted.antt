@@ -9,7 +9,7 @@ use Rattle.escpos_command.specs.declared.command.Command.{Command}
 use Rattle.escpos_command.specs.declared.command.Command.TheVariants as kind
 use Rattle.escpos_command.specs.CommandTable.{AreCommands, IsCommand}
 use Rattle.escpos_command.specs.Marks.{marks}
-use Rattle.escpos_host.specs.Machine.{InFlight, IsSound, Phase, Open}
+use Rattle.escpos_host.specs.Machine.{HostView, InFlight, IsSound, Phase, Open, handed_out}
 use Rattle.escpos_link.specs.declared.event.Event.{Event}
 use Rattle.escpos_link.specs.declared.event.Event.TheVariants as event
 use Rattle.escpos_link.specs.declared.event.Note.{Note}
@@ -20,6 +20,7 @@ use Rattle.escpos_link.specs.Resumed.{resumed}
 use Rattle.escpos_link.specs.Stands.{Stands}
 use Rattle.escpos_link.specs.Steps.{IsInTurn}
 use Rattle.escpos_link.specs.Ways.{IsKnown, OnWay}
+use Rattle.escpos_link.specs.Wire.{WireView, line_of}
 
 -- Each of these receipts is promised after those before it, which come after the records. Their closing marks have numbers
 -- below the next one.
@@ -53,11 +54,12 @@ IsFitting (event.Ask n) = IsCommand (kind.Status n)
 IsFitting _ = Unit {0}
 
 -- The law of the line: where records can be trusted, they stand on the paper; they can still be trusted after any event and
--- after any refusal, and if the host goes on with fewer records; and the host hears no byte that fits no answer, and no answer
--- out of turn.
+-- after any refusal, if the host goes on with fewer records, and if a receipt that is left is taken; and the host hears no byte
+-- that fits no answer.
 pub record Trusting : Type 0 where
   pub stands : (l : LineView) → IsTrusted l → Stands l.printer.sheet.line_dots l.host.records l.printer.sheet.items
   pub kept : (e : Event) (l after : LineView) (n : Note) → IsFitting e → IsSound l.host → IsLine l → After e l n after → IsTrusted l → StillTrusted l after
   pub leaves : (e : Event) (l after : LineView) → IsSound l.host → IsLine l → Leaves e l after → IsTrusted l → StillTrusted l after
   pub in_turn : (e : Event) (l after : LineView) (n : Note) → IsLine l → IsTrusted l → After e l n after → IsInTurn n
   pub resumes : (l : LineView) (f count : ℕ) → l.host.next ≤ f → IsTrusted l → StillTrusted l (resumed l f count)
+  pub taken : (h : HostView) (w : WireView) → IsTrusted (line_of h w) → StillTrusted (line_of h w) (line_of (handed_out h) w)
