@@ -1,8 +1,8 @@
 //! What a host hears of itself: answers to marks of older links, and blocks of automatic status.
 
 use crate::support::hosts::{
-    ANSWER_0, ANSWER_1, ANSWER_2, gives_up, hears, leaves_line, leaves_no_more, links_up, mark, opens,
-    stands, submits, submits_two,
+    ANSWER_0, ANSWER_1, ANSWER_2, gives_up, hears, leaves_line, leaves_no_more, links_up, mark,
+    opens, stands, submits, submits_two,
 };
 use escpos_command::AutomaticStatus;
 use escpos_host::{Host, HostEvent, HostState};
@@ -26,7 +26,13 @@ fn hears_late(rt: &impl Abort, alloc: Global, host: &mut Host) {
     host.link_down();
     links_up(rt, host);
     hears(rt, host, ANSWER_0, 7, HostEvent::Late(mark(rt, *b"0000")));
-    hears(rt, host, b"\x37\x22 ~@!\x00", 7, HostEvent::Late(mark(rt, *b" ~@!")));
+    hears(
+        rt,
+        host,
+        b"\x37\x22 ~@!\x00",
+        7,
+        HostEvent::Late(mark(rt, *b" ~@!")),
+    );
     assert!(rt; host.records().is_empty());
     hears(rt, host, b"\x37\x2200", 4, HostEvent::None);
     hears(rt, host, b"01\x00", 3, HostEvent::Recorded(0));

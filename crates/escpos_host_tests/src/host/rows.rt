@@ -4,8 +4,8 @@
 //! of it.
 
 use crate::support::hosts::{
-    ANSWER_0, ANSWER_1, ANSWER_2, ANSWER_5, ANSWER_6, gives_up, hears, kind, leaves_line, leaves_no_more,
-    links_up, mark, opens, puts_out, records_two, stands, submits, submits_two,
+    ANSWER_0, ANSWER_1, ANSWER_2, ANSWER_5, ANSWER_6, gives_up, hears, kind, leaves_line,
+    leaves_no_more, links_up, mark, opens, puts_out, records_two, stands, submits, submits_two,
 };
 use crate::support::texts::is_shown_as;
 use escpos_host::{Heard, Host, HostError, HostEvent, HostState, open_link_reporting};
