@@ -163,9 +163,9 @@ KOLATENNIS_API int kolatennis_image(uint16_t width, uint8_t threshold, const uin
  *
  * It says what to send, and when a receipt is printed. A till opens a link, calls kolatennis_host_link_up, and then goes on like this:
  * it sends what kolatennis_host_take_out gives, and hands what it receives to kolatennis_host_heard, from where the last call stopped.
- * Once the event is EVENT_OPENED it submits receipts; EVENT_RECORDED says that the oldest one in flight is on the paper. If a link
- * breaks it calls kolatennis_host_link_down; a receipt that was in flight and isn't recorded may have been printed or not. Its mark's
- * number is kolatennis_host_next_mark less 1, once it is submitted: if EVENT_LATE tells that one on the next link, it is printed.
+ * Once the event is EVENT_OPENED it submits receipts; EVENT_RECORDED says that one in flight is on the paper, with those before it. If a
+ * link breaks it calls kolatennis_host_link_down; what was in flight and isn't recorded may have been printed or not. If the printer
+ * answers for it on the next link, before that is open, EVENT_RECORDED says that it is printed: don't submit it again then.
  *
  * No number of a mark may ever be used twice with a printer. So each time that kolatennis_host_take_out may give bytes, before the
  * first of them is sent, a till keeps what kolatennis_host_next_mark says where it survives a crash, and gives that to the host of its
@@ -184,11 +184,11 @@ typedef struct {
 enum kolatennis_event {
     KOLATENNIS_EVENT_NONE = 400,
     KOLATENNIS_EVENT_OPENED = 401,     /* the link is open */
-    KOLATENNIS_EVENT_RECORDED = 402,   /* the oldest receipt in flight is printed: `number` is its record, from 0 */
+    KOLATENNIS_EVENT_RECORDED = 402,   /* a receipt in flight is printed, or before the link is open one that was in flight when the last
+                                        * open link was lost, and so are those submitted before it: `number` is its record, from 0 */
     KOLATENNIS_EVENT_STATUS = 403,     /* the printer sent the status byte `number` */
-    KOLATENNIS_EVENT_BAD_ANSWER = 404, /* the byte at place `number` of these bytes fits no answer, or ends the answer to the mark of a
-                                        * later receipt than the oldest: the link is given up, close it */
-    KOLATENNIS_EVENT_LATE = 405,       /* before the link is open, the mark `number` of an older link is answered: all before it is
+    KOLATENNIS_EVENT_BAD_ANSWER = 404, /* the byte at place `number` of these bytes fits no answer: the link is given up, close it */
+    KOLATENNIS_EVENT_LATE = 405,       /* before the link is open, another mark `number` of an older link is answered: all before it is
                                         * printed; 0, which closes no receipt, where no mark has the answer's id */
     KOLATENNIS_EVENT_CONDITION = 406   /* the printer sent a block of automatic status: `number` is its four bytes, the first highest */
 };

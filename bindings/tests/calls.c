@@ -426,10 +426,13 @@ static void goes_through_a_link(void) {
     hears(&host, BYTES("\x37\"0007\x00\x37\"0008\x00"), 7, KOLATENNIS_EVENT_RECORDED, 3);
     hears(&host, BYTES("\x37\"0008\x00"), 7, KOLATENNIS_EVENT_RECORDED, 4);
     stands(&host, KOLATENNIS_STATE_SENDING, 11, 5);
-    hears(&host, BYTES("\x37\"000A\x00"), 6, KOLATENNIS_EVENT_BAD_ANSWER, 6);
+    hears(&host, BYTES("\x13"), 0, KOLATENNIS_EVENT_BAD_ANSWER, 0);
     stands(&host, KOLATENNIS_STATE_DOWN, 11, 5);
     hears(&host, BYTES("\x13\x13"), 2, KOLATENNIS_EVENT_NONE, 0);
     IS(CALL(kolatennis_host_link_up(&host, &reason)) == KOLATENNIS_STATUS_GOOD);
+    hears(&host, BYTES("\x37\"000A\x00"), 7, KOLATENNIS_EVENT_RECORDED, 6);
+    hears(&host, BYTES("\x37\"0009\x00"), 7, KOLATENNIS_EVENT_LATE, 9);
+    stands(&host, KOLATENNIS_STATE_OPENING, 12, 7);
     IS(kolatennis_host_link_down(&host) == KOLATENNIS_STATUS_GOOD);
     puts_out(&host, "", 0);
     kolatennis_host_free(&host);

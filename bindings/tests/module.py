@@ -225,6 +225,17 @@ class Handles(unittest.TestCase):
         heard = host.hear(b'\x37"0004\x00\x14\x00\x00\x0f\x37"0005\x00')
         self.assertEqual(heard, [kolatennis.Event("late", 4), kolatennis.Event("condition", 0x1400000F), kolatennis.Event("opened", 0)])
 
+    def test_hear_what_is_printed_late(self):
+        host = kolatennis.Host()
+        host.link_up()
+        host.hear(OPENED)
+        for _ in range(2):
+            host.submit([{"line": "Hi"}])
+        host.link_down()
+        host.link_up()
+        self.assertEqual(host.hear(b'\x37"0002\x00'), [kolatennis.Event("recorded", 1)])
+        self.assertEqual(host.records, 2)
+
     def test_made_again(self):
         host = kolatennis.Host(5)
         host.__init__(7)

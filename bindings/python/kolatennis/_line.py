@@ -169,7 +169,8 @@ class Host(_Held):
             raise NotNow(HOST_REASONS[reason.value])
 
     def link_down(self) -> None:
-        """Gives the link up. A receipt that was in flight and isn't recorded may have been printed or not."""
+        """Gives the link up. A receipt that was in flight and isn't recorded may have been printed or not: an event "recorded" on the next
+        link, before that is open, says that it is."""
         self._do(library.kolatennis_host_link_down)
 
     def take_out(self, most: int = 65536) -> bytes:

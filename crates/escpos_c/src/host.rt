@@ -103,8 +103,8 @@ pub extern "C" fn escpos_host_ask(
     status.number()
 }
 
-/// Gives the link up: what wasn't taken out is dropped. What was in flight may have been printed or not. With no link nothing
-/// changes.
+/// Gives the link up: what wasn't taken out is dropped. What was in flight may have been printed or not; an answer on the next link,
+/// before that is open, may still record it. With no link nothing changes.
 #[unsafe(no_mangle)]
 pub extern "C" fn escpos_host_link_down(alloc: Global, host: &mut HostHandle) -> i32
     ensures { OnHandle host.old.value host.new.value
@@ -156,9 +156,10 @@ pub extern "C" fn escpos_host_has_out(alloc: Global, host: &mut HostHandle, has:
 }
 
 /// Hears bytes of answers, up to the first event. `consumed` is how many were heard, `event` the kind of the event (0 none, 1 the
-/// link is open, 2 the oldest receipt in flight is recorded, 3 a status byte, 4 a bad answer, after which the link is down, 5 a late
-/// answer, 6 a condition), and `number` the record's number from 0, the status byte, the place of the bad answer, the number of the mark
-/// that was answered late (0 where none has its id), or the four bytes of the condition, the first highest.
+/// link is open, 2 a receipt in flight is recorded, or before the link is open one that an older link left, and with it those submitted
+/// before it, 3 a status byte, 4 a bad answer, after which the link is down, 5 another late answer, 6 a condition), and `number` the
+/// number from 0 of the last record, the status byte, the place of the bad answer, the number of the mark that was answered late (0
+/// where none has its id), or the four bytes of the condition, the first highest.
 #[unsafe(no_mangle)]
 pub extern "C" fn escpos_host_heard(
     alloc: Global,

@@ -22,7 +22,7 @@ before_marks true = row ask_reports
 before_marks false = []
 
 dialled_so : (reporting : Bool) (h : HostView) (n : ℕ)
-    → dialled_by reporting h n ≡ record { phase = Opening h.next; out = before_marks reporting ++ spell (marks_from n h.next); half = []; next = h.next + n; records = h.records; left = [] }
+    → dialled_by reporting h n ≡ record { phase = Opening h.next; out = before_marks reporting ++ spell (marks_from n h.next); half = []; next = h.next + n; records = h.records; left = h.left }
 dialled_so true h n = refl
 dialled_so false h n = refl
 
@@ -31,14 +31,14 @@ dialled_next true h n = refl
 dialled_next false h n = refl
 
 linked_so : (reporting : Bool) (h : HostView)
-    → linked_by reporting h ≡ record { phase = Opening h.next; out = before_marks reporting ++ row (kind.Mark (mark_of h.next)); half = []; next = h.next + 1; records = h.records; left = [] }
+    → linked_by reporting h ≡ record { phase = Opening h.next; out = before_marks reporting ++ row (kind.Mark (mark_of h.next)); half = []; next = h.next + 1; records = h.records; left = h.left }
 linked_so true h = refl
 linked_so false h = refl
 
 pub dialled_first : (reporting : Bool) (h : HostView) → linked_by reporting h ≡ dialled_by reporting h 1
 dialled_first reporting h =
     linked_so reporting h
-    ∙ ap (λ out. record { phase = Opening h.next; out = before_marks reporting ++ out; half = []; next = h.next + 1; records = h.records; left = [] }) (sym (append-nil (row (kind.Mark (mark_of h.next)))))
+    ∙ ap (λ out. record { phase = Opening h.next; out = before_marks reporting ++ out; half = []; next = h.next + 1; records = h.records; left = h.left }) (sym (append-nil (row (kind.Mark (mark_of h.next)))))
     ∙ sym (dialled_so reporting h 1)
 
 pub dialled_more : (reporting : Bool) (h : HostView) (n : ℕ) → nudged (dialled_by reporting h n) ≡ dialled_by reporting h (n + 1)
@@ -52,8 +52,8 @@ dialled_more reporting h n =
     ∙ sym (ap (λ k. before ++ spell (marks_from k h.next)) one ∙ ap (λ cs. before ++ spell cs) (marks-snoc n h.next)
     ∙ ap (λ v. before ++ v) (flat_map-append row (marks_from n h.next) (kind.Mark (mark_of (h.next + n)) ∷ []) ∙ ap (λ v. spell (marks_from n h.next) ++ v) (append-nil last))) in
     ap nudged (dialled_so reporting h n)
-    ∙ ap (λ out. record { phase = Opening h.next; out = out; half = []; next = (h.next + n) + 1; records = h.records; left = [] }) whole
-    ∙ ap (λ k. record { phase = Opening h.next; out = before ++ spell (marks_from (n + 1) h.next); half = []; next = k; records = h.records; left = [] }) count
+    ∙ ap (λ out. record { phase = Opening h.next; out = out; half = []; next = (h.next + n) + 1; records = h.records; left = h.left }) whole
+    ∙ ap (λ k. record { phase = Opening h.next; out = before ++ spell (marks_from (n + 1) h.next); half = []; next = k; records = h.records; left = h.left }) count
     ∙ sym (dialled_so reporting h (n + 1))
 
 pub refused_first : (why : HostError) (h after : HostView) (openings : ℕ) → RefusesLinkUp why h → after ≡ h → RefusesOpening why h openings after

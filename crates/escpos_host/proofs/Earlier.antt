@@ -1,5 +1,5 @@
 -- A host with more records before its own does the same.
-use Rattle.std.proofs.Common.{◌≡◌, ◌≢◌, ◌+◌, inl, inr, ℕ, List, [], ◌∷◌, length, length-append, map, drop, refl, sym, ◌∙◌, ap, append_assoc}
+use Rattle.std.proofs.Common.{◌≡◌, ◌≢◌, ◌+◌, inl, inr, ℕ, List, [], ◌∷◌, ◌++◌, arith, length, length-append, map, drop, refl, sym, ◌∙◌, ap, append_assoc}
 use Rattle.std.specs.Prelude.{◌↔◌, slice_index}
 use Rattle.escpos_command.specs.declared.answer.Answer.{Answer}
 use Rattle.escpos_command.specs.declared.command.Command.{Command}
@@ -7,7 +7,7 @@ use Rattle.escpos_host.specs.declared.host.HostEvent.{HostEvent}
 use Rattle.escpos_host.specs.declared.host.HostEvent.TheVariants as event
 use Rattle.escpos_host.specs.Earlier.{shifted, with_earlier}
 use Rattle.escpos_host.specs.Heard.{EndsLink, Grows, HearsAll, HearsByte, HearsInTurn, IsHeard, Misfits, Passed, Turns, last_of, taken_at, with_half}
-use Rattle.escpos_host.specs.Machine.{HostView, IsSound, Open}
+use Rattle.escpos_host.specs.Machine.{HostView, IsSound, Open, receipts_of}
 
 -- ## Events
 
@@ -45,24 +45,43 @@ last_shifted n (e ∷ f ∷ es) = last_shifted n (f ∷ es)
 
 -- ## One byte
 
-earlier_turns : (earlier : List (List Command)) (h after : HostView) (a : Answer) (at : ℕ) (e : HostEvent) → Turns h a at e after
-    → Turns (with_earlier earlier h) a at (shifted (length earlier) e) (with_earlier earlier after)
-earlier_turns earlier h after a at event.None (ignored, same) = (ignored, ap (with_earlier earlier) same)
-earlier_turns earlier h after a at event.Opened (first, id, phase, is, opening, same) = (first, id, phase, is, opening, ap (with_earlier earlier) same)
-earlier_turns earlier h after a at (event.Recorded number) (p, ps, phase, is, is_number, same) = (
-  p,
-  ps,
-  phase,
+earlier_turns : (earlier : List (List Command)) (h after : HostView) (a : Answer) (e : HostEvent) → Turns h a e after
+    → Turns (with_earlier earlier h) a (shifted (length earlier) e) (with_earlier earlier after)
+earlier_turns earlier h after a event.None (ignored, same) = (ignored, ap (with_earlier earlier) same)
+earlier_turns earlier h after a event.Opened (first, id, phase, is, opening, same) = (first, id, phase, is, opening, ap (with_earlier earlier) same)
+earlier_turns earlier h after a (event.Recorded number) (id, is, r) = (
+  id,
   is,
-  ap (λ n. length earlier + n) is_number ∙ sym (length-append earlier h.records),
-  ap (with_earlier earlier) same
-      ∙ ap (λ (rs : List (List Command)). record { phase = Open ps; out = h.out; half = h.half; next = h.next; records = rs; left = h.left }) (sym (append_assoc earlier h.records (p.receipt ∷ []))),
+  record {
+    before = r.before;
+    last = r.last;
+    others = r.others;
+    number_is = omega (arith, r.number_is, length-append earlier h.records);
+    way = elim r.way [
+      | inl (flight, phase, f, same) ↦ inl (
+        flight,
+        phase,
+        f,
+        ap (with_earlier earlier) same
+            ∙ ap (λ (rs : List (List Command)). record { phase = Open r.others; out = h.out; half = h.half; next = h.next; records = rs; left = h.left })
+            (sym (append_assoc earlier h.records (receipts_of (r.before ++ r.last ∷ [])))),
+      )
+      | inr (first, phase, other, f, same) ↦ inr (
+        first,
+        phase,
+        other,
+        f,
+        ap (with_earlier earlier) same
+            ∙ ap (λ (rs : List (List Command)). record { phase = h.phase; out = h.out; half = h.half; next = h.next; records = rs; left = r.others })
+            (sym (append_assoc earlier h.records (receipts_of (r.before ++ r.last ∷ [])))),
+      )
+    ];
+  },
 )
-earlier_turns earlier h after a at (event.Late id) (first, phase, is, other, same) = (first, phase, is, other, ap (with_earlier earlier) same)
-earlier_turns earlier h after a at (event.Status byte) (is, same) = (is, ap (with_earlier earlier) same)
-earlier_turns earlier h after a at (event.Condition block) (is, same) = (is, ap (with_earlier earlier) same)
-earlier_turns earlier h after a at (event.BadAnswer place) (p, ps, id, phase, is, other, closing, here, same) =
-    (p, ps, id, phase, is, other, closing, here, ap (with_earlier earlier) same)
+earlier_turns earlier h after a (event.Late id) (first, phase, is, other, unleft, same) = (first, phase, is, other, unleft, ap (with_earlier earlier) same)
+earlier_turns earlier h after a (event.Status byte) (is, same) = (is, ap (with_earlier earlier) same)
+earlier_turns earlier h after a (event.Condition block) (is, same) = (is, ap (with_earlier earlier) same)
+earlier_turns earlier h after a (event.BadAnswer place) turns = absurd turns
 
 earlier_grows : (earlier : List (List Command)) (n : ℕ) (h after : HostView) (byte : ℕ) (e : HostEvent) → Grows h byte e after
     → Grows (with_earlier earlier h) byte (shifted n e) (with_earlier earlier after)
@@ -88,7 +107,7 @@ earlier_byte : (earlier : List (List Command)) (h after : HostView) (byte at : �
     → HearsByte (with_earlier earlier h) byte at (shifted (length earlier) e) (with_earlier earlier after)
 earlier_byte earlier h after byte at e (inl grows) = inl (earlier_grows earlier (length earlier) h after byte e grows)
 earlier_byte earlier h after byte at e (inr (inl misfit)) = inr (inl (earlier_misfits earlier (length earlier) h after byte at e misfit))
-earlier_byte earlier h after byte at e (inr (inr (a, spelled, turns))) = inr (inr (a, spelled, earlier_turns earlier (with_half h []) after a at e turns))
+earlier_byte earlier h after byte at e (inr (inr (a, spelled, turns))) = inr (inr (a, spelled, earlier_turns earlier (with_half h []) after a e turns))
 
 -- ## A piece
 
@@ -142,4 +161,4 @@ earlier_hears earlier h after bytes events consumed (inr (up, heard)) = inr (up,
 -- ## What holds for every host
 
 pub earlier_sound : (earlier : List (List Command)) (h : HostView) → IsSound h → IsSound (with_earlier earlier h)
-earlier_sound earlier h sound = record { quiet = sound.quiet; none_left = sound.none_left; few = sound.few; half = sound.half }
+earlier_sound earlier h sound = record { quiet = sound.quiet; few = sound.few; few_left = sound.few_left; half = sound.half }

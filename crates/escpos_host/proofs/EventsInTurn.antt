@@ -9,6 +9,7 @@ use Rattle.escpos_host.specs.declared.host.HostEvent.TheVariants as event
 use Rattle.escpos_host.specs.Heard.{EndsLink, GoesOn, Grows, HearsAll, HearsByte, HearsInTurn, IsHeard, IsOff, Misfits, Passed, Turns, last_of, taken_at, with_half}
 use Rattle.escpos_host.specs.Machine.{HostView, Down, Open, gone_down}
 use Rattle.escpos_host.proofs.Passing.{Joined, whole_heard}
+use Rattle.escpos_host.proofs.Recording.{keeps}
 
 -- Whole answers may be cut anywhere.
 abbrev pub Cut : Type 0
@@ -34,21 +35,20 @@ pub record Up (h : HostView) (bytes : List ℕ) : Type 0 where
 -- ## One event
 
 -- An answer that brought an event leaves no half answer; it may end the link.
-pub turned : (h after : HostView) (a : Answer) (at : ℕ) (e : HostEvent) → h.phase ≢ Down → h.half ≡ [] → Turns h a at e after
+pub turned : (h after : HostView) (a : Answer) (e : HostEvent) → h.phase ≢ Down → h.half ≡ [] → Turns h a e after
     → (EndsLink e × Off after) ⊎ ((EndsLink e → ⊥) × (after.phase ≢ Down) × (after.half ≡ []))
-turned h after a at event.None up half (ignored, same) =
+turned h after a event.None up half (ignored, same) =
     inr (λ ends. ends, λ is_down. up (sym (ap (λ (v : HostView). v.phase) same) ∙ is_down), ap (λ (v : HostView). v.half) same ∙ half)
-turned h after a at event.Opened up half (first, id, phase, is, opening, same) =
+turned h after a event.Opened up half (first, id, phase, is, opening, same) =
     inr (λ ends. ends, λ is_down. let bad : Open [] ≡ Down = sym (ap (λ (v : HostView). v.phase) same) ∙ is_down in cc, ap (λ (v : HostView). v.half) same ∙ half)
-turned h after a at (event.Recorded number) up half (p, ps, phase, is, place, same) =
-    inr (λ ends. ends, λ is_down. let bad : Open ps ≡ Down = sym (ap (λ (v : HostView). v.phase) same) ∙ is_down in cc, ap (λ (v : HostView). v.half) same ∙ half)
-turned h after a at (event.Late id) up half (first, phase, is, other, same) =
+turned h after a (event.Recorded number) up half (id, is, r) = let k = keeps h after id number r in inr (λ ends. ends, k.up, k.half ∙ half)
+turned h after a (event.Late id) up half (first, phase, is, other, unleft, same) =
     inr (λ ends. ends, λ is_down. up (sym (ap (λ (v : HostView). v.phase) same) ∙ is_down), ap (λ (v : HostView). v.half) same ∙ half)
-turned h after a at (event.Status byte) up half (is, same) =
+turned h after a (event.Status byte) up half (is, same) =
     inr (λ ends. ends, λ is_down. up (sym (ap (λ (v : HostView). v.phase) same) ∙ is_down), ap (λ (v : HostView). v.half) same ∙ half)
-turned h after a at (event.Condition block) up half (is, same) =
+turned h after a (event.Condition block) up half (is, same) =
     inr (λ ends. ends, λ is_down. up (sym (ap (λ (v : HostView). v.phase) same) ∙ is_down), ap (λ (v : HostView). v.half) same ∙ half)
-turned h after a at (event.BadAnswer place) up half (p, ps, id, phase, is, other, closing, here, same) = inl (tt, off_by h after same)
+turned h after a (event.BadAnswer place) up half turns = absurd turns
 
 -- What one event leaves of a piece and the bytes after it.
 abbrev pub Left : HostEvent → ℕ → HostView → List ℕ → List ℕ → Type 0
@@ -104,8 +104,8 @@ misfit_ends h after byte at (event.BadAnswer place) (here, bad, same) = (tt, off
 
 -- An answer that brought an event.
 by_answer : (h after : HostView) (bytes more half : List ℕ) (at : ℕ) (e : HostEvent) (a : Answer) → h.phase ≢ Down → at < length bytes
-    → AreWholeAnswers (drop (at + 1) bytes ++ more) → Turns (with_half (with_half h half) []) a at e after → Left e (taken_at e at) after bytes more
-by_answer h after bytes more half at e a up within whole turns = elim (turned (with_half (with_half h half) []) after a at e up refl turns) [
+    → AreWholeAnswers (drop (at + 1) bytes ++ more) → Turns (with_half (with_half h half) []) a e after → Left e (taken_at e at) after bytes more
+by_answer h after bytes more half at e a up within whole turns = elim (turned (with_half (with_half h half) []) after a e up refl turns) [
   | inl (ends, off) ↦ inl (ends, off)
   | inr (on, still, none) ↦
       let count = counted e at on in
@@ -205,7 +205,7 @@ still_up : (h after : HostView) (half : List ℕ) (byte at : ℕ) (e : HostEvent
     → HearsByte (with_half h half) byte at e after → after.phase ≢ Down
 still_up h after half byte at e up some on (inl grows) = absurd (no_growth (with_half h half) after byte e some grows)
 still_up h after half byte at e up some on (inr (inl misfit)) = absurd (on (misfit_ends (with_half h half) after byte at e misfit).0)
-still_up h after half byte at e up some on (inr (inr (a, spelled, turns))) = elim (turned (with_half (with_half h half) []) after a at e up refl turns) [
+still_up h after half byte at e up some on (inr (inr (a, spelled, turns))) = elim (turned (with_half (with_half h half) []) after a e up refl turns) [
   | inl (ends, off) ↦ absurd (on ends)
   | inr (also, still, none) ↦ still
 ]

@@ -3,6 +3,7 @@ pub mod AnswerFronts
 pub mod Views
 pub mod MarkAnswers
 pub mod Passing
+pub mod Recording
 pub mod Said
 pub mod NoRealTime
 pub mod Waiting

@@ -1,17 +1,18 @@
--- What an answer to a mark does to what a host keeps, while its link is open.
-use Rattle.std.proofs.Common.{◌≡◌, inl, inr, ℕ, ◌+◌, ◌<◌, ◌≤◌, List, [], ◌∷◌, ◌++◌, length, length-drop, take, drop, refl, sym, ◌∙◌, ap, subst, arith}
-use Rattle.std.specs.List.{AllByRecursion}
+-- What an answer to a mark does to what a host keeps.
+use Rattle.std.proofs.Common.{◌≡◌, inl, inr, ℕ, ◌+◌, ◌<◌, ◌≤◌, List, [], ◌∷◌, ◌++◌, length, length-drop, length-take, take, drop, zero, suc, refl, sym, ◌∙◌, ap, subst, arith}
+use Rattle.std.specs.Prelude.{slice_index}
 use Rattle.std.proofs.lemmas.List.{drop-drop}
 use Rattle.std.proofs.Math.Seq.{take-add}
 use Rattle.escpos_command.specs.declared.command.Command.{Command}
 use Rattle.escpos_command.specs.Digits.{mark_count, mark_of}
 use Rattle.escpos_host.specs.declared.host.Stage.{Stage}
 use Rattle.escpos_host.specs.declared.host.Stage.TheVariants as stage
-use Rattle.escpos_host.specs.Heard.{IsClosing, recorded}
-use Rattle.escpos_host.specs.Kept.{IsConsistent, HasIdAmong, pairs, phase_of, view_of}
-use Rattle.escpos_host.specs.Machine.{HostView, InFlight, Phase, Open}
-use Rattle.escpos_host.specs.Out.{Pending}
-use Rattle.escpos_host.proofs.Views.{OpenHost, open_host}
+use Rattle.escpos_host.specs.Heard.{IsClosing, IsFirstWith, IsOpeningMark, RecordsUpTo, opened}
+use Rattle.escpos_host.specs.Kept.{AreMarks, IsConsistent, HasIdAmong, IsPlaceOf, pairs, phase_of, put_of, view_of}
+use Rattle.escpos_host.specs.Machine.{HostView, InFlight, Phase, Opening, Open, receipts_of}
+use Rattle.escpos_host.specs.Out.{Pending, Within, unsent}
+use Rattle.escpos_host.proofs.Pending.{more_receipts}
+use Rattle.escpos_host.proofs.Views.{OpenHost, enough_flying, enough_left, open_host, pairs_none}
 
 -- Only an open link has receipts in flight.
 pub stage_open : (s : Stage) (rest : List (List Command)) (marks : List ℕ) (flight : List InFlight) → phase_of s rest marks ≡ Open flight → s ≡ stage.Open
@@ -19,26 +20,28 @@ stage_open stage.Down rest marks flight e = cc e
 stage_open (stage.Opening first) rest marks flight e = cc e
 stage_open stage.Open rest marks flight e = refl
 
+pub stage_opening : (s : Stage) (rest : List (List Command)) (marks : List ℕ) (first : ℕ) → phase_of s rest marks ≡ Opening first → s ≡ stage.Opening first
+stage_opening stage.Down rest marks first e = cc e
+stage_opening (stage.Opening other) rest marks first e = cc e
+stage_opening stage.Open rest marks first e = cc e
+
 -- What a host keeps whose phase is that of an open link.
-pub open_phased : (s : Stage) (receipts : List (List Command)) (recorded : ℕ) (marks : List ℕ) (out : Pending) (half : List ℕ) (next : ℕ) (h : HostView) (flight : List InFlight)
-    → view_of s receipts recorded marks out half next ≡ h → h.phase ≡ Open flight → IsConsistent s receipts recorded marks out half
-    → OpenHost receipts recorded marks out half next h
-open_phased s receipts recorded marks out half next h flight is phase fits =
+pub open_phased : (s : Stage) (receipts : List (List Command)) (recorded : ℕ) (marks left : List ℕ) (out : Pending) (half : List ℕ) (next : ℕ) (h : HostView) (flight : List InFlight)
+    → view_of s receipts recorded marks left out half next ≡ h → h.phase ≡ Open flight → IsConsistent s receipts recorded marks left out half
+    → OpenHost receipts recorded marks left out half next h
+open_phased s receipts recorded marks left out half next h flight is phase fits =
     let up = stage_open s (drop recorded receipts) marks flight (ap (λ (v : HostView). v.phase) is ∙ phase) in
-    open_host s receipts recorded marks out half next h up is fits
+    open_host s receipts recorded marks left out half next h up is fits
 
--- A list with an element has a first.
-record First {X : Type 0} (xs : List X) : Type 0 where
-  pub first : X
-  pub others : List X
-  pub is : xs ≡ first ∷ others
-
-first_of : {X : Type 0} (xs : List X) → 1 ≤ length xs → First xs
-first_of [] h = absurd (omega (arith, h))
-first_of (x ∷ xs) h = record { first = x; others = xs; is = refl }
-
-abbrev AreMarks : List ℕ → Type 0
-AreMarks ns = AllByRecursion (λ n. n < mark_count) ns
+-- The link is opened, and no receipt is in flight.
+pub link_opened : (s : Stage) (first : ℕ) (receipts : List (List Command)) (recorded : ℕ) (marks left : List ℕ) (out : Pending) (half : List ℕ) (next : ℕ) → s ≡ stage.Opening first
+    → IsConsistent s receipts recorded marks left out half
+    → view_of stage.Open receipts recorded marks left out half next ≡ opened (view_of s receipts recorded marks left out half next)
+link_opened s first receipts recorded marks left out half next is fits =
+    let here : IsConsistent (stage.Opening first) receipts recorded marks left out half = subst (λ v. IsConsistent v receipts recorded marks left out half) is fits in
+    let v = view_of stage.Open receipts recorded marks left out half next in
+    ap (λ ps. record { phase = Open ps; out = v.out; half = half; next = next; records = v.records; left = v.left })
+    (ap (pairs (drop recorded receipts)) here.stage ∙ pairs_none (drop recorded receipts))
 
 closing_among : (rs : List (List Command)) (ns : List ℕ) (id : List ℕ) → AreMarks ns → IsClosing (pairs rs ns) id → HasIdAmong ns id
 closing_among [] [] id all h = h
@@ -47,72 +50,151 @@ closing_among (r ∷ rs) [] id all h = h
 closing_among (r ∷ rs) (n ∷ ns) id all (inl e) = inl (all.0, e)
 closing_among (r ∷ rs) (n ∷ ns) id all (inr later) = inr (closing_among rs ns id all.1 later)
 
-among_closing : (rs : List (List Command)) (ns : List ℕ) (id : List ℕ) → length rs ≡ length ns → HasIdAmong ns id → IsClosing (pairs rs ns) id
-among_closing rs [] id same h = absurd h
-among_closing [] (n ∷ ns) id same h = absurd (omega (arith, same))
-among_closing (r ∷ rs) (n ∷ ns) id same (inl e) = inl e.1
-among_closing (r ∷ rs) (n ∷ ns) id same (inr later) = inr (among_closing rs ns id (omega (arith, same)) later)
+-- The answer to any other mark.
+pub is_other : (rs : List (List Command)) (marks id : List ℕ) → AreMarks marks → (HasIdAmong marks id → ⊥) → IsClosing (pairs rs marks) id → ⊥
+is_other rs marks id all other closing = other (closing_among rs marks id all closing)
 
--- The answer to any other mark is ignored.
-pub is_ignored : (receipts : List (List Command)) (from : ℕ) (marks : List ℕ) (out : Pending) (half id : List ℕ)
-    → IsConsistent stage.Open receipts from marks out half → (HasIdAmong marks id → ⊥) → IsClosing (pairs (drop from receipts) marks) id → ⊥
-is_ignored receipts from marks out half id fits other closing = other (closing_among (drop from receipts) marks id fits.2 closing)
+-- ## The first receipts
 
--- The oldest receipt in flight, the others, and that they exist.
-pub record Oldest (phase : Phase) (n : ℕ) (ns : List ℕ) : Type 0 where
-  pub oldest : InFlight
-  pub later : List InFlight
-  pub is : phase ≡ Open (oldest ∷ later)
-  pub mark : oldest.mark ≡ mark_of n
-  pub of_later : (id : List ℕ) → HasIdAmong ns id → IsClosing later id
+cut_among : (n : ℕ) (ns front : List ℕ) (before : List InFlight) (id : List ℕ) (p : InFlight) → p.mark ≡ mark_of n → n < mark_count
+    → ((other : List ℕ) → IsClosing before other → HasIdAmong front other) → IsClosing (p ∷ before) id → HasIdAmong (n ∷ front) id
+cut_among n ns front before id p is some among (inl e) = inl (some, sym is ∙ e)
+cut_among n ns front before id p is some among (inr later) = inr (among id later)
 
-oldest_in : (rest rs : List (List Command)) (r : List Command) (marks ns : List ℕ) (n : ℕ) → rest ≡ r ∷ rs → marks ≡ n ∷ ns → length rs ≡ length ns
-    → Oldest (Open (pairs rest marks)) n ns
-oldest_in rest rs r marks ns n e f same = record {
-  oldest = record { receipt = r; mark = mark_of n };
-  later = pairs rs ns;
-  is = ap (λ xs. Open (pairs xs marks)) e ∙ ap (λ ks. Open (pairs (r ∷ rs) ks)) f;
+-- Pairs up to this place, and after it.
+pub record CutAt (rs : List (List Command)) (ns : List ℕ) (place : ℕ) : Type 0 where
+  pub before : List InFlight
+  pub last : InFlight
+  pub all_are : pairs rs ns ≡ before ++ last ∷ pairs (drop (suc place) rs) (drop (suc place) ns)
+  pub mark : last.mark ≡ mark_of (slice_index ns place)
+  pub printed : receipts_of (before ++ last ∷ []) ≡ take (suc place) rs
+  pub count : length before ≡ place
+  pub among : (id : List ℕ) → IsClosing before id → HasIdAmong (take place ns) id
+
+pub cut_at : (rs : List (List Command)) (ns : List ℕ) (place : ℕ) → place < length ns → length ns ≤ length rs → AreMarks ns → CutAt rs ns place
+cut_at rs [] place within few all = absurd (omega (arith, within))
+cut_at [] (n ∷ ns) place within few all = absurd (omega (arith, few))
+cut_at (r ∷ rs) (n ∷ ns) zero within few all = record {
+  before = [];
+  last = record { receipt = r; mark = mark_of n };
+  all_are = refl;
   mark = refl;
-  of_later = λ id h. among_closing rs ns id same h;
+  printed = refl;
+  count = refl;
+  among = λ id is. is;
 }
-
-pub oldest_of : (receipts : List (List Command)) (from : ℕ) (marks : List ℕ) (out : Pending) (half : List ℕ) (n : ℕ) (ns : List ℕ)
-    → IsConsistent stage.Open receipts from marks out half → marks ≡ n ∷ ns → Oldest (Open (pairs (drop from receipts) marks)) n ns
-oldest_of receipts from marks out half n ns fits e =
-    let long : length (drop from receipts) ≡ length ns + 1 = omega (arith, fits.1, ap length e, length-drop from receipts) in
-    let f = first_of (drop from receipts) (omega (arith, long)) in
-    oldest_in (drop from receipts) f.others f.first marks ns n f.is e (omega (arith, long, ap length f.is))
-
--- The oldest receipt in flight is recorded.
-pub record Recorded (h : HostView) (n : ℕ) (after : HostView) : Type 0 where
-  pub oldest : InFlight
-  pub later : List InFlight
-  pub is : h.phase ≡ Open (oldest ∷ later)
-  pub mark : oldest.mark ≡ mark_of n
-  pub after_is : after ≡ recorded h oldest later
-
-pub one_recorded : (receipts : List (List Command)) (from : ℕ) (marks fewer : List ℕ) (out : Pending) (half : List ℕ) (next n : ℕ) (ns : List ℕ)
-    → IsConsistent stage.Open receipts from marks out half → marks ≡ n ∷ ns → fewer ≡ ns
-    → Recorded (view_of stage.Open receipts from marks out half next) n (view_of stage.Open receipts (from + 1) fewer out half next)
-one_recorded receipts from marks fewer out half next n ns fits e gone =
-    let rest = drop from receipts in
-    let long : length rest ≡ length ns + 1 = omega (arith, fits.1, ap length e, length-drop from receipts) in
-    let f = first_of rest (omega (arith, long)) in
-    let tail : drop (from + 1) receipts ≡ f.others = sym (drop-drop 1 from receipts) ∙ ap (drop 1) f.is in
-    let front : take (from + 1) receipts ≡ take from receipts ++ f.first ∷ [] = take-add from 1 receipts ∙ ap (λ xs. take from receipts ++ take 1 xs) f.is in
+cut_at (r ∷ rs) (n ∷ ns) (suc place) within few all =
+    let c = cut_at rs ns place (omega (arith, within)) (omega (arith, few)) all.1 in
+    let p : InFlight = record { receipt = r; mark = mark_of n } in
     record {
-      oldest = record { receipt = f.first; mark = mark_of n };
-      later = pairs f.others ns;
-      is = ap (λ xs. Open (pairs xs marks)) f.is ∙ ap (λ ks. Open (pairs (f.first ∷ f.others) ks)) e;
-      mark = refl;
-      after_is = cc (tail, gone, front);
+      before = p ∷ c.before;
+      last = c.last;
+      all_are = ap (λ ps. p ∷ ps) c.all_are;
+      mark = c.mark;
+      printed = ap (λ rs. r ∷ rs) c.printed;
+      count = ap suc c.count;
+      among = λ id is. cut_among n ns (take place ns) c.before id p refl all.0 c.among is;
     }
 
--- What is kept fits together after a receipt was recorded.
-pub fits_recorded : (receipts : List (List Command)) (from : ℕ) (marks fewer : List ℕ) (out : Pending) (half : List ℕ) (n : ℕ) (ns : List ℕ)
-    → IsConsistent stage.Open receipts from marks out half → marks ≡ n ∷ ns → fewer ≡ ns → IsConsistent stage.Open receipts (from + 1) fewer out half
-fits_recorded receipts from marks fewer out half n ns fits e gone = (
-  fits.0,
-  omega (arith, fits.1, ap length e, ap length gone),
-  subst AreMarks (sym gone) (subst AreMarks e fits.2).1,
-)
+-- What is kept of a host after the receipts up to a place are recorded.
+all_after : (k : ℕ) (ns : List ℕ) → AreMarks ns → AreMarks (drop k ns)
+all_after zero ns all = all
+all_after (suc k) [] all = all
+all_after (suc k) (n ∷ ns) all = all_after k ns all.1
+
+-- Some of the receipts in flight are recorded.
+pub flight_recorded : (receipts : List (List Command)) (recorded : ℕ) (marks left : List ℕ) (out : Pending) (half : List ℕ) (next place : ℕ) (id fewer : List ℕ)
+    → IsConsistent stage.Open receipts recorded marks left out half → IsPlaceOf marks id place → fewer ≡ drop (place + 1) marks
+    → RecordsUpTo (view_of stage.Open receipts recorded marks left out half next) id (recorded + place) (view_of stage.Open receipts (recorded + (place + 1)) fewer left out half next)
+flight_recorded receipts recorded marks left out half next place id fewer fits is gone =
+    let rs = drop recorded receipts in
+    let step : place + 1 ≡ suc place = omega arith in
+    let c = cut_at rs marks place is.within (enough_flying stage.Open receipts recorded marks left out half fits) fits.closing in
+    let within = is.within in
+    let sum : (recorded + (place + 1)) + length fewer ≡ recorded + length marks = omega (arith, ap length gone, length-drop (place + 1) marks, within) in
+    let rest : drop (recorded + (place + 1)) receipts ≡ drop (suc place) rs = sym (drop-drop (place + 1) recorded receipts) ∙ ap (λ k. drop k rs) step in
+    let records : take (recorded + (place + 1)) receipts ≡ take recorded receipts ++ receipts_of (c.before ++ c.last ∷ []) =
+    take-add recorded (place + 1) receipts ∙ ap (λ k. take recorded receipts ++ take k rs) step ∙ ap (λ v. take recorded receipts ++ v) (sym c.printed) in
+    record {
+      before = c.before;
+      last = c.last;
+      others = pairs (drop (suc place) rs) (drop (suc place) marks);
+      number_is = omega (arith, c.count, length-take recorded receipts, fits.count);
+      way = inl (
+        pairs rs marks,
+        refl,
+        record { all_are = c.all_are; mark = c.mark ∙ is.mark; first = λ closing. is.first (c.among id closing) },
+        cc (ap (λ v. pairs v fewer) rest ∙ ap (pairs (drop (suc place) rs)) (gone ∙ ap (λ k. drop k marks) step), ap (λ n. take n receipts) sum, ap (λ n. drop n receipts) sum, records),
+      );
+    }
+
+pub fits_flight_recorded : (receipts : List (List Command)) (recorded : ℕ) (marks left : List ℕ) (out : Pending) (half : List ℕ) (place : ℕ) (fewer : List ℕ)
+    → IsConsistent stage.Open receipts recorded marks left out half → place < length marks → fewer ≡ drop (place + 1) marks
+    → IsConsistent stage.Open receipts (recorded + (place + 1)) fewer left out half
+fits_flight_recorded receipts recorded marks left out half place fewer fits within gone =
+    let sum : (recorded + (place + 1)) + length fewer ≡ recorded + length marks = omega (arith, ap length gone, length-drop (place + 1) marks, within) in
+    record {
+      count = omega (arith, fits.count, sum);
+      closing = subst AreMarks (sym gone) (all_after (place + 1) marks fits.closing);
+      closing_left = fits.closing_left;
+      within = subst (λ n. Within (take n receipts) out) (sym sum) fits.within;
+      stage = tt;
+    }
+
+-- Some of those that are left are recorded.
+more_put : (receipts : List (List Command)) (n k : ℕ) (out : Pending) → Within (take n receipts) out
+    → (unsent (take (n + k) receipts) out ≡ unsent (take n receipts) out) × Within (take (n + k) receipts) out
+more_put receipts n k out within =
+    let more = more_receipts (take n receipts) (take k (drop n receipts)) out within in
+    let all = take-add n k receipts in
+    (ap (λ rs. unsent rs out) all ∙ more.0, subst (λ rs. Within rs out) (sym all) more.1)
+
+pub left_recorded : (first : ℕ) (receipts : List (List Command)) (recorded : ℕ) (marks left : List ℕ) (out : Pending) (half : List ℕ) (next place : ℕ) (id fewer : List ℕ)
+    → IsConsistent (stage.Opening first) receipts recorded marks left out half → IsPlaceOf left id place → (IsOpeningMark first next id → ⊥) → fewer ≡ drop (place + 1) left
+    → RecordsUpTo (view_of (stage.Opening first) receipts recorded marks left out half next) id (recorded + place)
+    (view_of (stage.Opening first) receipts (recorded + (place + 1)) marks fewer out half next)
+left_recorded first receipts recorded marks left out half next place id fewer fits is other gone =
+    let none : length marks ≡ 0 = ap length fits.stage in
+    let n = recorded + length marks in
+    let k = suc place in
+    let step : place + 1 ≡ k = omega arith in
+    let rs = drop n receipts in
+    let enough = enough_left (stage.Opening first) receipts recorded marks left out half fits in
+    let c = cut_at rs left place is.within (omega (arith, enough)) fits.closing_left in
+    let sum : (recorded + (place + 1)) + length marks ≡ n + k = omega arith in
+    let whole : recorded + (place + 1) ≡ n + k = omega (arith, none) in
+    let same : recorded ≡ n = omega (arith, none) in
+    let rest : drop ((recorded + (place + 1)) + length marks) receipts ≡ drop k rs = ap (λ m. drop m receipts) sum ∙ sym (drop-drop k n receipts) in
+    let records : take (recorded + (place + 1)) receipts ≡ take recorded receipts ++ receipts_of (c.before ++ c.last ∷ []) =
+    ap (λ m. take m receipts) whole ∙ take-add n k receipts ∙ ap (λ v. take n receipts ++ v) (sym c.printed) ∙ ap (λ m. take m receipts ++ receipts_of (c.before ++ c.last ∷ [])) (sym same) in
+    record {
+      before = c.before;
+      last = c.last;
+      others = pairs (drop k rs) (drop k left);
+      number_is = omega (arith, c.count, length-take recorded receipts, fits.count);
+      way = inr (
+        first,
+        refl,
+        other,
+        record { all_are = c.all_are; mark = c.mark ∙ is.mark; first = λ closing. is.first (c.among id closing) },
+        cc (
+          ap (λ v. pairs v fewer) rest ∙ ap (pairs (drop k rs)) (gone ∙ ap (λ j. drop j left) step),
+          ap (λ m. unsent (take m receipts) out) sum ∙ (more_put receipts n k out fits.within).0,
+          records,
+        ),
+      );
+    }
+
+pub fits_left_recorded : (first : ℕ) (receipts : List (List Command)) (recorded : ℕ) (marks left : List ℕ) (out : Pending) (half : List ℕ) (place : ℕ) (fewer : List ℕ)
+    → IsConsistent (stage.Opening first) receipts recorded marks left out half → place < length left → fewer ≡ drop (place + 1) left
+    → IsConsistent (stage.Opening first) receipts (recorded + (place + 1)) marks fewer out half
+fits_left_recorded first receipts recorded marks left out half place fewer fits within gone =
+    let n = recorded + length marks in
+    let sum : (recorded + (place + 1)) + length marks ≡ n + (place + 1) = omega arith in
+    record {
+      count = omega (arith, fits.count, ap length gone, length-drop (place + 1) left, within);
+      closing = fits.closing;
+      closing_left = subst AreMarks (sym gone) (all_after (place + 1) left fits.closing_left);
+      within = subst (λ m. Within (take m receipts) out) (sym sum) (more_put receipts n (place + 1) out fits.within).1;
+      stage = fits.stage;
+    }

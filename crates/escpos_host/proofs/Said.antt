@@ -116,22 +116,30 @@ recorded_one next said p ps (first, count, opening, parts, few, opens, each, sen
           ∙ ap (λ cs. cs ++ rest) (append_assoc opening before (framed p) ∙ ap (λ cs. opening ++ cs) (ap (λ cs. before ++ cs) (sym (append-nil (framed p))) ∙ sym (flat_map-append said_by parts (Sent p ∷ [])))),
     )
 
-pub says_recorded : (phase : Phase) (next : ℕ) (said : List Command) (p : InFlight) (ps : List InFlight) → phase ≡ Open (p ∷ ps) → SaysIn phase next said → SaysIn (Open ps) next said
-says_recorded phase next said p ps open_phase says = recorded_one next said p ps (subst (λ f. SaysIn f next said) open_phase says)
+recorded_all : (next : ℕ) (said : List Command) (before : List InFlight) (p : InFlight) (ps : List InFlight) → SaysIn (Open (before ++ p ∷ ps)) next said → SaysIn (Open ps) next said
+recorded_all next said [] p ps says = recorded_one next said p ps says
+recorded_all next said (q ∷ before) p ps says = recorded_all next said before p ps (recorded_one next said q (before ++ p ∷ ps) says)
+
+pub says_recorded : (phase : Phase) (next : ℕ) (said : List Command) (before : List InFlight) (p : InFlight) (ps : List InFlight) → phase ≡ Open (before ++ p ∷ ps)
+    → SaysIn phase next said → SaysIn (Open ps) next said
+says_recorded phase next said before p ps open_phase says = recorded_all next said before p ps (subst (λ f. SaysIn f next said) open_phase says)
 
 -- One more byte is heard.
-says_turned : (h after : HostView) (a : Answer) (at : ℕ) (e : HostEvent) (out : List ℕ) (said : List Command) → after.phase ≢ Down → Talks h out said → Turns h a at e after → Talks after out said
-says_turned h after a at event.None out said up talks turns = subst (λ v. Talks v out said) (sym turns.1) talks
-says_turned h after a at event.Opened out said up talks (first, id, is_first, is_mark, is_opening, same) =
+says_turned : (h after : HostView) (a : Answer) (e : HostEvent) (out : List ℕ) (said : List Command) → after.phase ≢ Down → Talks h out said → Turns h a e after → Talks after out said
+says_turned h after a event.None out said up talks turns = subst (λ v. Talks v out said) (sym turns.1) talks
+says_turned h after a event.Opened out said up talks (first, id, is_first, is_mark, is_opening, same) =
     subst (λ v. Talks v out said) (sym same)
     (record { says = says_opened h.phase h.next said (subst Opens (sym is_first) tt) talks.says; whole = talks.whole })
-says_turned h after a at (event.Recorded number) out said up talks (p, ps, is_open, is_mark, is_number, same) =
-    subst (λ v. Talks v out said) (sym same) (record { says = says_recorded h.phase h.next said p ps is_open talks.says; whole = talks.whole })
-says_turned h after a at (event.Late id) out said up talks (first, phase, is, other, same) = subst (λ v. Talks v out said) (sym same) talks
-says_turned h after a at (event.Status byte) out said up talks turns = subst (λ v. Talks v out said) (sym turns.1) talks
-says_turned h after a at (event.Condition block) out said up talks turns = subst (λ v. Talks v out said) (sym turns.1) talks
-says_turned h after a at (event.BadAnswer place) out said up talks (p, ps, id, is_open, is_mark, other, later, is_place, same) =
-    absurd (up (ap (λ (v : HostView). v.phase) same))
+says_turned h after a (event.Recorded number) out said up talks (id, is_mark, r) = elim r.way [
+  | inl (flight, is_open, f, same) ↦
+      subst (λ v. Talks v out said) (sym same)
+      (record { says = says_recorded h.phase h.next said r.before r.last r.others (is_open ∙ ap Open f.all_are) talks.says; whole = talks.whole })
+  | inr (first, opening, other, f, same) ↦ subst (λ v. Talks v out said) (sym same) (record { says = talks.says; whole = talks.whole })
+]
+says_turned h after a (event.Late id) out said up talks (first, phase, is, other, unleft, same) = subst (λ v. Talks v out said) (sym same) talks
+says_turned h after a (event.Status byte) out said up talks turns = subst (λ v. Talks v out said) (sym turns.1) talks
+says_turned h after a (event.Condition block) out said up talks turns = subst (λ v. Talks v out said) (sym turns.1) talks
+says_turned h after a (event.BadAnswer place) out said up talks turns = absurd turns
 
 says_byte : (h after : HostView) (byte at : ℕ) (e : HostEvent) (out : List ℕ) (said : List Command) → after.phase ≢ Down → Talks h out said → HearsByte h byte at e after → Talks after out said
 says_byte h after byte at event.None out said up talks (inl grows) = subst (λ v. Talks v out said) (sym grows.0) (record { says = talks.says; whole = talks.whole })
@@ -149,7 +157,7 @@ says_byte h after byte at (event.Status b) out said up talks (inr (inl misfit)) 
 says_byte h after byte at (event.Condition block) out said up talks (inr (inl misfit)) = absurd misfit
 says_byte h after byte at (event.BadAnswer place) out said up talks (inr (inl misfit)) = absurd (up (ap (λ (v : HostView). v.phase) misfit.2))
 says_byte h after byte at e out said up talks (inr (inr (a, spelled, turns))) =
-    says_turned (with_half h []) after a at e out said up (record { says = talks.says; whole = talks.whole }) turns
+    says_turned (with_half h []) after a e out said up (record { says = talks.says; whole = talks.whole }) turns
 
 -- A piece is heard.
 pub says_heard : (h after : HostView) (bytes : List ℕ) (consumed : ℕ) (e : HostEvent) (out : List ℕ) (said : List Command) → after.phase ≢ Down → Talks h out said

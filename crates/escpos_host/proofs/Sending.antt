@@ -16,28 +16,29 @@ use Rattle.escpos_host.specs.declared.host.HostEvent.TheVariants as event
 use Rattle.escpos_host.specs.declared.send.Awaited.{Awaited}
 use Rattle.escpos_host.specs.declared.send.SendFault.{SendFault}
 use Rattle.escpos_host.specs.declared.send.SendFault.TheVariants as fault
-use Rattle.escpos_host.specs.Awaits.{Brought, Closes, HearsOut, IsBreak, IsOverlooked, IsSilence, IsStop, Lost, Opens, Overlooked, RefusesOpening, Silent, Stops, dialled, ready, sending, with_out}
-use Rattle.escpos_host.specs.Heard.{HearsByte, IsClosing, IsOpeningMark, recorded, opened, with_half}
-use Rattle.escpos_host.specs.Machine.{HostView, InFlight, Phase, Down, Opening, Open, RefusesSubmit, gone_down, handed_out, most_in_flight, submitted}
+use Rattle.escpos_host.specs.Awaits.{Brought, Closes, HearsOut, IsBreak, IsOverlooked, IsSilence, IsStop, Lost, Opens, Overlooked, RefusesOpening, Silent, Stops, dialled, ready, sending, starting, with_out}
+use Rattle.escpos_host.specs.Heard.{HearsByte, IsOpeningMark, RecordsUpTo, recorded, opened, with_half}
+use Rattle.escpos_host.specs.Machine.{HostView, InFlight, Phase, Down, Opening, Open, RefusesSubmit, gone_down, handed_out, most_in_flight, receipts_of, submitted, with_left}
 use Rattle.escpos_host.specs.Sends.{Call, CantPut, Closed, Fails, HasMarks, IsCut, IsToClosing, IsToOpening, Opened, RefusesSend, Unclosed, Unopened, Waits, closing, given_up, opening_bytes, receipt_bytes, recorded_by}
 use Rattle.escpos_host.proofs.Passing.{Joined, whole_heard}
+use Rattle.escpos_host.proofs.Recording.{none_has, one_has}
 use Rattle.escpos_host.proofs.Waiting.{split_at}
 
 -- The host during such a wait: what it had to say is said.
 abbrev pub asking : Call → HostView
-asking c = with_out (dialled c.before c.openings) []
+asking c = with_out (starting c) []
 
 abbrev pub hoping : Call → List ℕ → HostView
 hoping c half = with_out (sending c half) []
 
 -- ## Answers that are overlooked
 
-no_opening : (c : Call) (a : Answer) → IsOverlooked (Opening c.before.next) (c.before.next + c.openings) a → IsToOpening c a → ⊥
+no_opening : (c : Call) (a : Answer) → IsOverlooked (Opening c.before.next) [] (c.before.next + c.openings) a → IsToOpening c a → ⊥
 no_opening c (answer.Status b) h is = is
 no_opening c (answer.Condition block) h is = is
-no_opening c (answer.Mark id) h is = h is
+no_opening c (answer.Mark id) h is = h.0 is
 
-no_openings : (c : Call) (answers : List Answer) → AllByRecursion (IsOverlooked (Opening c.before.next) (c.before.next + c.openings)) answers
+no_openings : (c : Call) (answers : List Answer) → AllByRecursion (IsOverlooked (Opening c.before.next) [] (c.before.next + c.openings)) answers
     → AllByRecursion (λ a. IsToOpening c a → ⊥) answers
 no_openings c [] h = h
 no_openings c (a ∷ answers) h = (no_opening c a h.0, no_openings c answers h.1)
@@ -45,12 +46,12 @@ no_openings c (a ∷ answers) h = (no_opening c a h.0, no_openings c answers h.1
 pub unopened : (c : Call) (bytes half : List ℕ) → Overlooked (asking c) bytes half → Unopened c bytes half
 unopened c bytes half o = record { answers = o.answers; hears = o.hears; each = no_openings c o.answers o.each }
 
-no_closing : (c : Call) (next : ℕ) (a : Answer) → IsOverlooked (Open (record { receipt = c.receipt; mark = closing c } ∷ [])) next a → IsToClosing c a → ⊥
+no_closing : (c : Call) (next : ℕ) (a : Answer) → IsOverlooked (Open (record { receipt = c.receipt; mark = closing c } ∷ [])) [] next a → IsToClosing c a → ⊥
 no_closing c next (answer.Status b) h is = is
 no_closing c next (answer.Condition block) h is = is
 no_closing c next (answer.Mark id) h is = h (inl is)
 
-no_closings : (c : Call) (next : ℕ) (answers : List Answer) → AllByRecursion (IsOverlooked (Open (record { receipt = c.receipt; mark = closing c } ∷ [])) next) answers
+no_closings : (c : Call) (next : ℕ) (answers : List Answer) → AllByRecursion (IsOverlooked (Open (record { receipt = c.receipt; mark = closing c } ∷ [])) [] next) answers
     → AllByRecursion (λ a. IsToClosing c a → ⊥) answers
 no_closings c next [] h = h
 no_closings c next (a ∷ answers) h = (no_closing c next a h.0, no_closings c next answers h.1)
@@ -95,10 +96,6 @@ flight_of Down = []
 flight_of (Opening first) = []
 flight_of (Open flight) = flight
 
-abbrev tail_of : List InFlight → List InFlight
-tail_of [] = []
-tail_of (p ∷ ps) = ps
-
 pub fronted : Joined → (c : Call) (after : HostView) (bytes half : List ℕ) (byte place : ℕ) → Overlooked (asking c) bytes half
     → HearsByte (with_half (asking c) half) byte place event.Opened after → Front c (bytes ++ byte ∷ []) after
 fronted joined c after bytes half byte place o (inl grows) = absurd grows
@@ -136,22 +133,19 @@ misfit_waiting : (c : Call) (after : HostView) (half : List ℕ) (byte place at 
     → (ViableAnswer (half ++ byte ∷ []) → ⊥) × (after ≡ gone_down (asking c))
 misfit_waiting c after half byte place at (inl grows) = absurd grows
 misfit_waiting c after half byte place at (inr (inl misfit)) = (misfit.1, misfit.2)
-misfit_waiting c after half byte place at (inr (inr (a, spelled, (p, ps, id, is_open, is_mark, other, later, is_place, same_host)))) =
-    let none = ap flight_of is_open in absurd cc
+misfit_waiting c after half byte place at (inr (inr (a, spelled, turns))) = absurd turns
 
 misfit_ready : (c : Call) (h after : HostView) (half : List ℕ) (byte place at : ℕ) → h ≡ ready c [] → HearsByte (with_half h half) byte place (event.BadAnswer at) after
     → (ViableAnswer (half ++ byte ∷ []) → ⊥) × (after ≡ gone_down (asking c))
 misfit_ready c h after half byte place at same (inl grows) = absurd grows
 misfit_ready c h after half byte place at same (inr (inl misfit)) = (misfit.1, misfit.2 ∙ ap gone_down same)
-misfit_ready c h after half byte place at same (inr (inr (a, spelled, (p, ps, id, is_open, is_mark, other, later, is_place, same_host)))) =
-    let none = ap flight_of (sym (ap (λ (v : HostView). v.phase) same) ∙ is_open) in absurd cc
+misfit_ready c h after half byte place at same (inr (inr (a, spelled, turns))) = absurd turns
 
 misfit_hoping : (c : Call) (after : HostView) (early_half half : List ℕ) (byte place at : ℕ) → HearsByte (with_half (hoping c early_half) half) byte place (event.BadAnswer at) after
     → (ViableAnswer (half ++ byte ∷ []) → ⊥) × (after ≡ gone_down (hoping c early_half))
 misfit_hoping c after early_half half byte place at (inl grows) = absurd grows
 misfit_hoping c after early_half half byte place at (inr (inl misfit)) = (misfit.1, misfit.2)
-misfit_hoping c after early_half half byte place at (inr (inr (a, spelled, (p, ps, id, is_open, is_mark, other, later, is_place, same_host)))) =
-    let none : [] ≡ ps = ap tail_of (ap flight_of is_open) in absurd (subst (λ qs. IsClosing qs id) (sym none) later)
+misfit_hoping c after early_half half byte place at (inr (inr (a, spelled, turns))) = absurd turns
 
 -- ## How a wait ends
 
@@ -231,9 +225,8 @@ cut_second c why early half before a b most some is o marks put cut = record {
 
 -- ## Bytes that end a wait
 
-abbrev head_of : InFlight → List InFlight → InFlight
-head_of d [] = d
-head_of d (p ∷ ps) = p
+no_flight : (first : ℕ) (flight : List InFlight) → Opening first ≡ Open flight → ⊥
+no_flight first flight e = cc e
 
 -- Before an opening mark is answered an event is an opening or a byte that fits no answer.
 stopped_asking : (c : Call) (after : HostView) (half : List ℕ) (byte place : ℕ) (e : HostEvent) → IsStop e → e ≢ event.Opened → HearsByte (with_half (asking c) half) byte place e after
@@ -245,8 +238,10 @@ stopped_asking c after half byte place (event.Condition block) stop other heard 
 stopped_asking c after half byte place event.Opened stop other heard = absurd (other refl)
 stopped_asking c after half byte place (event.Recorded number) stop other (inl grows) = absurd grows
 stopped_asking c after half byte place (event.Recorded number) stop other (inr (inl misfit)) = absurd misfit
-stopped_asking c after half byte place (event.Recorded number) stop other (inr (inr (a, spelled, (p, ps, is_open, is_mark, is_number, same)))) =
-    let none = ap flight_of is_open in absurd cc
+stopped_asking c after half byte place (event.Recorded number) stop other (inr (inr (a, spelled, (id, is_mark, r)))) = absurd (elim r.way [
+  | inl (flight, is_open, f, same) ↦ no_flight c.before.next flight is_open
+  | inr (first, is_first, older, f, same) ↦ none_has r.before r.others r.last f.all_are
+])
 stopped_asking c after half byte place (event.BadAnswer at) stop other heard = misfit_waiting c after half byte place at heard
 
 -- Between the answer to an opening mark and the receipt any event is a byte that fits no answer.
@@ -262,8 +257,12 @@ stopped_ready c h after half byte place event.Opened same stop (inr (inr (a, spe
     let other : Open [] ≡ Opening first = sym (ap (λ (v : HostView). v.phase) same) ∙ is_first in absurd cc
 stopped_ready c h after half byte place (event.Recorded number) same stop (inl grows) = absurd grows
 stopped_ready c h after half byte place (event.Recorded number) same stop (inr (inl misfit)) = absurd misfit
-stopped_ready c h after half byte place (event.Recorded number) same stop (inr (inr (a, spelled, (p, ps, is_open, is_mark, is_number, gone)))) =
-    let none = ap flight_of (sym (ap (λ (v : HostView). v.phase) same) ∙ is_open) in absurd cc
+stopped_ready c h after half byte place (event.Recorded number) same stop (inr (inr (a, spelled, (id, is_mark, r)))) =
+    let ready_phase : Open [] ≡ h.phase = sym (ap (λ (v : HostView). v.phase) same) in
+    absurd (elim r.way [
+      | inl (flight, is_open, f, gone) ↦ none_has r.before r.others r.last (ap flight_of (ready_phase ∙ is_open) ∙ f.all_are)
+      | inr (first, is_first, older, f, gone) ↦ no_flight first [] (sym (ready_phase ∙ is_first))
+    ])
 stopped_ready c h after half byte place (event.BadAnswer at) same stop heard = misfit_ready c h after half byte place at same heard
 
 -- With the receipt in flight an event is its record or a byte that fits no answer.
@@ -413,16 +412,31 @@ bad_second c early early_half before left a b piece most awaited after opened pu
       bad.1,
     )
 
+-- The receipt is the only one in flight, and is recorded.
+only_closing : (c : Call) (early_half half : List ℕ) (after : HostView) (id : List ℕ) (number : ℕ) → RecordsUpTo (with_half (with_half (hoping c early_half) half) []) id number after
+    → (closing c ≡ id) × (number ≡ length c.before.records) × (after ≡ recorded_by c)
+only_closing c early_half half after id number r =
+    let p : InFlight = record { receipt = c.receipt; mark = closing c } in
+    let h : HostView = with_half (hoping c early_half) [] in
+    elim r.way [
+      | inl (flight, is_open, f, same) ↦
+          let one = one_has p r.last r.before r.others (ap flight_of is_open ∙ f.all_are) in
+          let none : length r.before ≡ 0 = ap length one.0 in (
+            ap (λ (v : InFlight). v.mark) (sym one.1) ∙ f.mark,
+            omega (arith, r.number_is, none),
+            same ∙ ap (λ v. recorded h (v ++ r.last ∷ []) r.others) one.0 ∙ ap (λ v. recorded h (v ∷ []) r.others) one.1 ∙ ap (recorded h (p ∷ [])) one.2,
+          )
+      | inr (first, is_first, older, f, same) ↦ absurd (no_flight first (p ∷ []) (sym is_first))
+    ]
+
 -- The closing mark's answer comes.
 pub closed : Joined → (c : Call) (early early_half bytes half tail : List ℕ) (byte place number : ℕ) (after : HostView) → Opened c early early_half → Overlooked (hoping c early_half) bytes half
     → length tail < 64 → HearsByte (with_half (hoping c early_half) half) byte place (event.Recorded number) after
     → Closed c (early ++ (bytes ++ byte ∷ tail)) × (number ≡ length c.before.records) × (after ≡ recorded_by c)
 closed joined c early early_half bytes half tail byte place number after early_opened o short (inl grows) = absurd grows
 closed joined c early early_half bytes half tail byte place number after early_opened o short (inr (inl misfit)) = absurd misfit
-closed joined c early early_half bytes half tail byte place number after early_opened o short (inr (inr (a, spelled, (p, ps, is_open, is_mark, is_number, same)))) =
-    let flight = ap flight_of is_open in
-    let first = ap (head_of p) flight in
-    let others = ap tail_of flight in (
+closed joined c early early_half bytes half tail byte place number after early_opened o short (inr (inr (a, spelled, (id, is_mark, r)))) =
+    let one = only_closing c early_half half after id number r in (
       record {
         early = early;
         early_half = early_half;
@@ -434,12 +448,11 @@ closed joined c early early_half bytes half tail byte place number after early_o
         last = a;
         hears = whole_on joined (hoping c early_half) bytes half byte a o spelled;
         each = no_closings c (c.before.next + c.openings + 1) o.answers o.each;
-        closing = subst (IsToClosing c) (sym is_mark) (ap (λ (v : InFlight). v.mark) first);
+        closing = subst (IsToClosing c) (sym is_mark) one.0;
         short = short;
       },
-      is_number,
-      same ∙ ap (λ v. recorded (with_half (hoping c early_half) []) v ps) (sym first)
-          ∙ ap (λ qs. recorded (with_half (hoping c early_half) []) (record { receipt = c.receipt; mark = closing c }) qs) (sym others),
+      one.1,
+      one.2,
     )
 
 pub gone_first : (c : Call) (before left : Option (List ℕ)) (piece : List ℕ) (awaited : Awaited) (after : HostView)
@@ -483,6 +496,10 @@ pub lost_up : (h after : HostView) → h.phase ≢ Down → after.phase ≡ h.ph
 lost_up h after up same gone = inr ((λ e. up (sym same ∙ e)), gone)
 
 -- ## A whole call
+
+-- The opening marks are put out, and what an older link left is dropped.
+pub started : (c : Call) (h after : HostView) → h ≡ dialled c.before c.openings → after ≡ with_left h [] → after ≡ starting c
+started c h after is dropped = dropped ∙ ap (λ v. with_left v []) is
 
 -- The link can't be opened.
 pub refused_opening : (c : Call) (why : HostError) (after : HostView) → RefusesOpening why c.before c.openings after → RefusesSend c why [] [] after
@@ -530,8 +547,8 @@ pub closed_from : (q r t known : HostView) → q ≡ known → Lost q r → (r.p
 closed_from q r t known same lost up down = closed_down q r t lost up down ∙ ap gone_down same
 
 -- The receipt that was in flight is handed out.
-pub one_left : (c : Call) (half : List ℕ) (q : HostView) → q ≡ gone_down (sending c half) → slice_get q.left 0 ≡ Some c.receipt
-one_left c half q gone = ap (λ (v : HostView). slice_get v.left 0) gone
+pub one_left : (c : Call) (half : List ℕ) (q : HostView) → q ≡ gone_down (sending c half) → slice_get (receipts_of q.left) 0 ≡ Some c.receipt
+one_left c half q gone = ap (λ (v : HostView). slice_get (receipts_of v.left) 0) gone
 
 pub none_left : (c : Call) (half : List ℕ) (q after : HostView) → q ≡ gone_down (sending c half) → after ≡ handed_out q → after ≡ given_up c (c.openings + 1)
 none_left c half q after gone handed =

@@ -13,7 +13,7 @@ use Rattle.escpos_host.specs.declared.host.HostEvent.{HostEvent}
 use Rattle.escpos_host.specs.declared.host.HostEvent.TheVariants as event
 use Rattle.escpos_host.specs.Awaits.{Brought, HearsOut, IsOverlooked, IsOverlookedEvent, IsStop, Overlooked}
 use Rattle.escpos_host.specs.Heard.{HearsByte, Ignores, IsHeard, Passed, Turns, taken_at, with_half}
-use Rattle.escpos_host.specs.Machine.{Down, HostView, Open, Opening, Phase}
+use Rattle.escpos_host.specs.Machine.{Down, HostView, InFlight, Open, Opening, Phase}
 use Rattle.escpos_receipt.proofs.Prefixes.{all_joined}
 use Rattle.escpos_host.proofs.Passing.{Joined, none_passed, whole_heard}
 
@@ -28,26 +28,27 @@ taken_one (event.Condition block) at over = refl
 taken_one (event.BadAnswer place) at over = absurd over
 
 -- What is ignored is overlooked.
-ignored_one : (phase : Phase) (next : ℕ) (a : Answer) → Ignores phase next a → IsOverlooked phase next a
-ignored_one phase next (answer.Status b) h = absurd h
-ignored_one phase next (answer.Condition block) h = absurd h
-ignored_one Down next (answer.Mark id) h = absurd h
-ignored_one (Opening first) next (answer.Mark id) h = absurd h
-ignored_one (Open flight) next (answer.Mark id) h = h
+ignored_one : (phase : Phase) (left : List InFlight) (next : ℕ) (a : Answer) → Ignores phase next a → IsOverlooked phase left next a
+ignored_one phase left next (answer.Status b) h = absurd h
+ignored_one phase left next (answer.Condition block) h = absurd h
+ignored_one Down left next (answer.Mark id) h = absurd h
+ignored_one (Opening first) left next (answer.Mark id) h = absurd h
+ignored_one (Open flight) left next (answer.Mark id) h = h
 
-ignored_all : (phase : Phase) (next : ℕ) (answers : List Answer) → AllByRecursion (Ignores phase next) answers → AllByRecursion (IsOverlooked phase next) answers
-ignored_all phase next [] h = h
-ignored_all phase next (a ∷ answers) h = (ignored_one phase next a h.0, ignored_all phase next answers h.1)
+ignored_all : (phase : Phase) (left : List InFlight) (next : ℕ) (answers : List Answer) → AllByRecursion (Ignores phase next) answers
+    → AllByRecursion (IsOverlooked phase left next) answers
+ignored_all phase left next [] h = h
+ignored_all phase left next (a ∷ answers) h = (ignored_one phase left next a h.0, ignored_all phase left next answers h.1)
 
 pub overlooked_of : (h : HostView) (bytes half : List ℕ) → Passed h bytes half → Overlooked h bytes half
-overlooked_of h bytes half p = record { answers = p.ignored; hears = p.hears; each = ignored_all h.phase h.next p.ignored p.each }
+overlooked_of h bytes half p = record { answers = p.ignored; hears = p.hears; each = ignored_all h.phase h.left h.next p.ignored p.each }
 
 -- More is overlooked.
 pub overlooked_on : Joined → (h : HostView) (x y half later : List ℕ) → Overlooked h x half → Overlooked (with_half h half) y later → Overlooked h (x ++ y) later
 overlooked_on joined h x y half later p q = record {
   answers = p.answers ++ q.answers;
   hears = subst (λ bs. Hears bs (p.answers ++ q.answers) later) (append_assoc h.half x y) (joined (h.half ++ x) y p.answers q.answers half later p.hears q.hears);
-  each = all_joined (IsOverlooked h.phase h.next) p.answers q.answers p.each q.each;
+  each = all_joined (IsOverlooked h.phase h.left h.next) p.answers q.answers p.each q.each;
 }
 
 pub overlooked_none : (h : HostView) → (h.half ≡ []) ⊎ HalfAnswer h.half → Overlooked h [] h.half
@@ -61,19 +62,19 @@ pub record Told (h : HostView) (bytes : List ℕ) (consumed : ℕ) (after : Host
   pub same : after ≡ with_half h after.half
 
 -- The answer that brings such an event is overlooked.
-turns_same : (h after : HostView) (a : Answer) (at : ℕ) (e : HostEvent) → IsOverlookedEvent e → Turns h a at e after → IsOverlooked h.phase h.next a × (after ≡ h)
-turns_same h after a at event.None over turns = absurd over
-turns_same h after a at event.Opened over turns = absurd over
-turns_same h after a at (event.Recorded number) over turns = absurd over
-turns_same h after a at (event.Late id) over (first, phase, is, other, same) =
-    (subst (λ p. IsOverlooked p h.next a) (sym phase) (subst (IsOverlooked (Opening first) h.next) (sym is) other), same)
-turns_same h after a at (event.Status byte) over (is, same) = (subst (IsOverlooked h.phase h.next) (sym is) tt, same)
-turns_same h after a at (event.Condition block) over (is, same) = (subst (IsOverlooked h.phase h.next) (sym is) tt, same)
-turns_same h after a at (event.BadAnswer place) over turns = absurd over
+turns_same : (h after : HostView) (a : Answer) (e : HostEvent) → IsOverlookedEvent e → Turns h a e after → IsOverlooked h.phase h.left h.next a × (after ≡ h)
+turns_same h after a event.None over turns = absurd over
+turns_same h after a event.Opened over turns = absurd over
+turns_same h after a (event.Recorded number) over turns = absurd over
+turns_same h after a (event.Late id) over (first, phase, is, other, unleft, same) =
+    (subst (λ p. IsOverlooked p h.left h.next a) (sym phase) (subst (IsOverlooked (Opening first) h.left h.next) (sym is) (other, unleft)), same)
+turns_same h after a (event.Status byte) over (is, same) = (subst (IsOverlooked h.phase h.left h.next) (sym is) tt, same)
+turns_same h after a (event.Condition block) over (is, same) = (subst (IsOverlooked h.phase h.left h.next) (sym is) tt, same)
+turns_same h after a (event.BadAnswer place) over turns = absurd over
 
 -- It comes with a whole answer.
 by_answer : (h after : HostView) (byte at : ℕ) (e : HostEvent) → IsOverlookedEvent e → HearsByte h byte at e after
-    → (a : Answer) × AnswerSpells a (h.half ++ byte ∷ []) × Turns (with_half h []) a at e after
+    → (a : Answer) × AnswerSpells a (h.half ++ byte ∷ []) × Turns (with_half h []) a e after
 by_answer h after byte at event.None over heard = absurd over
 by_answer h after byte at event.Opened over heard = absurd over
 by_answer h after byte at (event.Recorded number) over heard = absurd over
@@ -93,7 +94,7 @@ told joined h after bytes consumed e over (inl (none, all, passed, left)) = absu
 told joined h after bytes consumed e over (inr (at, half, inside, is, count, passed, heard)) =
     let next = slice_index bytes at in
     let brought = by_answer (with_half h half) after next at e over heard in
-    let turned = turns_same (with_half h []) after brought.0 at e over brought.2 in
+    let turned = turns_same (with_half h []) after brought.0 e over brought.2 in
     let shown : after.half ≡ [] = ap (λ (v : HostView). v.half) turned.1 in
     let whole : Overlooked (with_half h half) (next ∷ []) [] =
     record { answers = brought.0 ∷ []; hears = whole_heard (half ++ next ∷ []) brought.0 brought.1; each = (turned.0, tt) } in

@@ -82,7 +82,7 @@ pub record Brought (h : HostView) (a : Answer) (consumed : ℕ) (e : HostEvent) 
   pub at : ℕ
   pub last : at + 1 ≡ length (answer_bytes a)
   pub count : consumed ≡ taken_at e at
-  pub turns : Turns h a at e after
+  pub turns : Turns h a e after
 
 by_byte : Laws → (h after : HostView) (a : Answer) (half : List ℕ) (byte at consumed : ℕ) (e : HostEvent) → h.half ≡ [] → IsTrue (is_answer a) → e ≢ event.None
     → Inside a half byte at → consumed ≡ taken_at e at → HearsByte (with_half h half) byte at e after → Brought h a consumed e after
@@ -104,7 +104,7 @@ by_byte laws h after a half byte at consumed e none known some place count (inr 
       at = at;
       last = omega (arith, ap length whole, length-append half (byte ∷ []), place.place);
       count = count;
-      turns = subst (λ v. Turns v a at e after) back (subst (λ x. Turns (with_half (with_half h half) []) x at e after) same turns);
+      turns = subst (λ v. Turns v a e after) back (subst (λ x. Turns (with_half (with_half h half) []) x e after) same turns);
     }
 
 -- ## One answer in turn
@@ -133,30 +133,30 @@ nothing_left : (h next : HostView) (a : Answer) (count : ℕ) (e : HostEvent) �
 nothing_left h next a count e on b = drop_all count (answer_bytes a) (omega (arith, b.count, counted e b.at on, b.last))
 
 no_half : (h next : HostView) (a : Answer) (count : ℕ) (e : HostEvent) → h.phase ≢ Down → h.half ≡ [] → (EndsLink e → ⊥) → Brought h a count e next → next.half ≡ []
-no_half h next a count e up none on b = elim (turned h next a b.at e up none b.turns) [
+no_half h next a count e up none on b = elim (turned h next a e up none b.turns) [
   | inl (ends, off) ↦ absurd (on ends)
   | inr (also, still, half) ↦ half
 ]
 
 finish : Laws → (h next after : HostView) (a : Answer) (e : HostEvent) (es : List HostEvent) (count consumed : ℕ) → h.phase ≢ Down → h.half ≡ []
-    → Brought h a count e next → Later e es next after (answer_bytes a) count consumed → (at : ℕ) × Turns h a at (last_of (e ∷ es)) after
-finish laws h next after a e [] count consumed up none b (inl (ends, is, sum, same)) = (b.at, subst (λ v. Turns h a b.at e v) (sym same) b.turns)
+    → Brought h a count e next → Later e es next after (answer_bytes a) count consumed → Turns h a (last_of (e ∷ es)) after
+finish laws h next after a e [] count consumed up none b (inl (ends, is, sum, same)) = subst (λ v. Turns h a e v) (sym same) b.turns
 finish laws h next after a e (f ∷ es) count consumed up none b (inl (ends, is, sum, same)) = absurd (cc is)
 finish laws h next after a e [] count consumed up none b (inr (on, (rest, sum, heard))) =
     let left = nothing_left h next a count e on b in
     let same = heard_none laws next after rest (no_half h next a count e up none on b) (subst (λ bs. IsHeard next bs rest event.None after) left heard) in
-    (b.at, subst (λ v. Turns h a b.at e v) (sym same) b.turns)
+    subst (λ v. Turns h a e v) (sym same) b.turns
 finish laws h next after a e (f ∷ es) count consumed up none b (inr (on, (rest, sum, (k, mid, some, heard, later)))) =
     absurd (heard_some next mid k f some (subst (λ bs. IsHeard next bs k f mid) (nothing_left h next a count e on b) heard))
 
 one_in_turn : Laws → (h after : HostView) (a : Answer) (events : List HostEvent) (consumed : ℕ) → h.phase ≢ Down → h.half ≡ [] → IsTrue (is_answer a)
-    → HearsInTurn h (answer_bytes a) events consumed after → (at : ℕ) × Turns h a at (last_of events) after
-one_in_turn laws h after a [] consumed up none known (inl (no_event, all, passed, same)) = (0, passed_one laws h after a none known passed same)
+    → HearsInTurn h (answer_bytes a) events consumed after → Turns h a (last_of events) after
+one_in_turn laws h after a [] consumed up none known (inl (no_event, all, passed, same)) = passed_one laws h after a none known passed same
 one_in_turn laws h after a [] consumed up none known (inr (at, half, within, some, is_count, passed, heard)) = absurd (some refl)
 one_in_turn laws h after a (e ∷ es) consumed up none known (count, next, some, heard, later) =
     finish laws h next after a e es count consumed up none (first_brought laws h next a count e none known some heard) later
 
 pub one_answer_heard : Laws → (h after : HostView) (a : Answer) (events : List HostEvent) (consumed : ℕ) → h.phase ≢ Down → h.half ≡ [] → IsTrue (is_answer a)
-    → HearsAll h (answer_bytes a) events consumed after → (at : ℕ) × Turns h a at (last_of events) after
+    → HearsAll h (answer_bytes a) events consumed after → Turns h a (last_of events) after
 one_answer_heard laws h after a events consumed up none known (inl (is_down, no_events, all, same)) = absurd (up is_down)
 one_answer_heard laws h after a events consumed up none known (inr (also, heard)) = one_in_turn laws h after a events consumed up none known heard

@@ -17,7 +17,7 @@ use Rattle.escpos_host.specs.declared.send.Awaited.{Awaited}
 use Rattle.escpos_host.specs.declared.send.SendFault.{SendFault}
 use Rattle.escpos_host.specs.declared.send.SendFault.TheVariants as fault
 use Rattle.escpos_host.specs.Heard.{HearsByte, IsClosing, IsOpeningMark, taken_at, with_half}
-use Rattle.escpos_host.specs.Machine.{HostView, Phase, Down, Open, Opening, ask_reports, gone_down}
+use Rattle.escpos_host.specs.Machine.{HostView, InFlight, Phase, Down, Open, Opening, ask_reports, gone_down}
 use Rattle.escpos_host.specs.Says.{marks_from}
 use Rattle.escpos_host.specs.Sends.{Call, Closed, Fails, Opened, closing, given_up, most_in_piece, opening_bytes, receipt_bytes, recorded_by}
 
@@ -25,12 +25,12 @@ use Rattle.escpos_host.specs.Sends.{Call, Closed, Fails, Opened, closing, given_
 
 -- The host whose link is up, with this many opening marks put out.
 abbrev pub dialled : HostView → ℕ → HostView
-dialled h count = record { phase = Opening h.next; out = spell (marks_from count h.next); half = []; next = h.next + count; records = h.records; left = [] }
+dialled h count = record { phase = Opening h.next; out = spell (marks_from count h.next); half = []; next = h.next + count; records = h.records; left = h.left }
 
 -- The same, with a request for automatic status before them.
 abbrev pub dialled_reporting : HostView → ℕ → HostView
 dialled_reporting h count =
-    record { phase = Opening h.next; out = row ask_reports ++ spell (marks_from count h.next); half = []; next = h.next + count; records = h.records; left = [] }
+    record { phase = Opening h.next; out = row ask_reports ++ spell (marks_from count h.next); half = []; next = h.next + count; records = h.records; left = h.left }
 
 abbrev pub dialled_by : Bool → HostView → ℕ → HostView
 dialled_by true h count = dialled_reporting h count
@@ -38,7 +38,7 @@ dialled_by false h count = dialled h count
 
 -- The host whose link was given up after this many opening marks.
 abbrev pub given_up_after : HostView → ℕ → HostView
-given_up_after h count = record { phase = Down; out = []; half = []; next = h.next + count; records = h.records; left = [] }
+given_up_after h count = record { phase = Down; out = []; half = []; next = h.next + count; records = h.records; left = h.left }
 
 -- Why this many opening marks can't be put out.
 abbrev pub RefusesOpening : HostError → HostView → ℕ → HostView → Type 0
@@ -53,23 +53,23 @@ RefusesOpening _ h openings after = ⊥
 
 -- ## Hearing
 
--- The mark with this id is none of those whose answers a host in this phase waits for.
-abbrev pub IsOtherMark : Phase → ℕ → List ℕ → Type 0
-IsOtherMark Down next id = ⊥
-IsOtherMark (Opening first) next id = IsOpeningMark first next id → ⊥
-IsOtherMark (Open flight) next id = IsClosing flight id → ⊥
+-- The mark with this id is none of those whose answers a host in this phase waits for, where these receipts are left.
+abbrev pub IsOtherMark : Phase → List InFlight → ℕ → List ℕ → Type 0
+IsOtherMark Down left next id = ⊥
+IsOtherMark (Opening first) left next id = (IsOpeningMark first next id → ⊥) × (IsClosing left id → ⊥)
+IsOtherMark (Open flight) left next id = IsClosing flight id → ⊥
 
 -- An answer that leaves the host as it is: to another mark, a status or a condition.
-abbrev pub IsOverlooked : Phase → ℕ → Answer → Type 0
-IsOverlooked phase next (answer.Status b) = Unit {0}
-IsOverlooked phase next (answer.Condition block) = Unit {0}
-IsOverlooked phase next (answer.Mark id) = IsOtherMark phase next id
+abbrev pub IsOverlooked : Phase → List InFlight → ℕ → Answer → Type 0
+IsOverlooked phase left next (answer.Status b) = Unit {0}
+IsOverlooked phase left next (answer.Condition block) = Unit {0}
+IsOverlooked phase left next (answer.Mark id) = IsOtherMark phase left next id
 
 -- These bytes were read as such answers, and this half answer.
 pub record Overlooked (h : HostView) (bytes half : List ℕ) : Type 0 where
   pub answers : List Answer
   pub hears : Hears (h.half ++ bytes) answers half
-  pub each : AllByRecursion (IsOverlooked h.phase h.next) answers
+  pub each : AllByRecursion (IsOverlooked h.phase h.left h.next) answers
 
 -- An event that a call overlooks: a status, a condition, or the answer to a mark of an older link.
 abbrev pub IsOverlookedEvent : HostEvent → Type 0
@@ -142,6 +142,11 @@ abbrev pub with_out : HostView → List ℕ → HostView
 with_out h out = record { phase = h.phase; out = out; half = h.half; next = h.next; records = h.records; left = h.left }
 
 -- ## The two waits of a call
+
+-- The host with its opening marks to take out, and nothing left of an older link.
+abbrev pub starting : Call → HostView
+starting c =
+    record { phase = Opening c.before.next; out = opening_bytes c; half = []; next = c.before.next + c.openings; records = c.before.records; left = [] }
 
 -- The host once an opening mark is answered, and with the receipt submitted.
 abbrev pub ready : Call → List ℕ → HostView

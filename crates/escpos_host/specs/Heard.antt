@@ -7,7 +7,7 @@ use Rattle.escpos_command.specs.Answers.{AnswerSpells, AreWholeAnswers, HalfAnsw
 use Rattle.escpos_command.specs.Digits.{mark_count, mark_of}
 use Rattle.escpos_host.specs.declared.host.HostEvent.{HostEvent}
 use Rattle.escpos_host.specs.declared.host.HostEvent.TheVariants as event
-use Rattle.escpos_host.specs.Machine.{HostView, InFlight, Phase, Down, Opening, Open, gone_down}
+use Rattle.escpos_host.specs.Machine.{HostView, InFlight, Phase, Down, Opening, Open, gone_down, receipts_of}
 
 -- The id is that of a mark with a number from the first up to the next one, which isn't included.
 abbrev pub IsOpeningMark : ℕ → ℕ → List ℕ → Type 0
@@ -37,22 +37,44 @@ with_half h half = record { phase = h.phase; out = h.out; half = half; next = h.
 abbrev pub opened : HostView → HostView
 opened h = record { phase = Open []; out = h.out; half = h.half; next = h.next; records = h.records; left = h.left }
 
--- The oldest receipt in flight is recorded.
-abbrev pub recorded : HostView → InFlight → List InFlight → HostView
-recorded h p ps = record { phase = Open ps; out = h.out; half = h.half; next = h.next; records = h.records ++ p.receipt ∷ []; left = h.left }
+-- Of these receipts this is the first one whose closing mark has the id; these come before it, and the others after it.
+pub record IsFirstWith (id : List ℕ) (all before : List InFlight) (p : InFlight) (others : List InFlight) : Type 0 where
+  pub all_are : all ≡ before ++ p ∷ others
+  pub mark : p.mark ≡ id
+  pub first : IsClosing before id → ⊥
+
+-- These receipts are recorded, and the others stay in flight; or they were left, and the others still are.
+abbrev pub recorded : HostView → List InFlight → List InFlight → HostView
+recorded h printed others =
+    record { phase = Open others; out = h.out; half = h.half; next = h.next; records = h.records ++ receipts_of printed; left = h.left }
+
+abbrev pub recorded_late : HostView → List InFlight → List InFlight → HostView
+recorded_late h printed others =
+    record { phase = h.phase; out = h.out; half = h.half; next = h.next; records = h.records ++ receipts_of printed; left = others }
+
+-- The answer to the mark with this id records receipts in flight, or before an opening mark is answered such as are left: the
+-- last one has this number.
+pub record RecordsUpTo (h : HostView) (id : List ℕ) (number : ℕ) (after : HostView) : Type 0 where
+  pub before : List InFlight
+  pub last : InFlight
+  pub others : List InFlight
+  pub number_is : number ≡ length h.records + length before
+  pub way :
+      ((flight : List InFlight) × (h.phase ≡ Open flight) × IsFirstWith id flight before last others × (after ≡ recorded h (before ++ last ∷ []) others))
+      ⊎ ((first : ℕ) × (h.phase ≡ Opening first) × (IsOpeningMark first h.next id → ⊥) × IsFirstWith id h.left before last others
+      × (after ≡ recorded_late h (before ++ last ∷ []) others))
 
 -- What a whole answer does to a host that has a link, and the event that it brings.
-abbrev pub Turns : HostView → Answer → ℕ → HostEvent → HostView → Type 0
-Turns h a at event.None after = Ignores h.phase h.next a × (after ≡ h)
-Turns h a at event.Opened after =
+abbrev pub Turns : HostView → Answer → HostEvent → HostView → Type 0
+Turns h a event.None after = Ignores h.phase h.next a × (after ≡ h)
+Turns h a event.Opened after =
     (first : ℕ) × (id : List ℕ) × (h.phase ≡ Opening first) × (a ≡ answer.Mark id) × IsOpeningMark first h.next id × (after ≡ opened h)
-Turns h a at (event.Recorded number) after =
-    (p : InFlight) × (ps : List InFlight) × (h.phase ≡ Open (p ∷ ps)) × (a ≡ answer.Mark p.mark) × (number ≡ length h.records) × (after ≡ recorded h p ps)
-Turns h a at (event.Late id) after = (first : ℕ) × (h.phase ≡ Opening first) × (a ≡ answer.Mark id) × (IsOpeningMark first h.next id → ⊥) × (after ≡ h)
-Turns h a at (event.Status byte) after = (a ≡ answer.Status byte) × (after ≡ h)
-Turns h a at (event.Condition block) after = (a ≡ answer.Condition block) × (after ≡ h)
-Turns h a at (event.BadAnswer place) after =
-    (p : InFlight) × (ps : List InFlight) × (id : List ℕ) × (h.phase ≡ Open (p ∷ ps)) × (a ≡ answer.Mark id) × (p.mark ≢ id) × IsClosing ps id × (place ≡ at) × (after ≡ gone_down h)
+Turns h a (event.Recorded number) after = (id : List ℕ) × (a ≡ answer.Mark id) × RecordsUpTo h id number after
+Turns h a (event.Late id) after =
+    (first : ℕ) × (h.phase ≡ Opening first) × (a ≡ answer.Mark id) × (IsOpeningMark first h.next id → ⊥) × (IsClosing h.left id → ⊥) × (after ≡ h)
+Turns h a (event.Status byte) after = (a ≡ answer.Status byte) × (after ≡ h)
+Turns h a (event.Condition block) after = (a ≡ answer.Condition block) × (after ≡ h)
+Turns h a (event.BadAnswer place) after = ⊥
 
 -- What one more byte does to the host: it continues an answer, completes one, or fits none.
 abbrev pub Grows : HostView → ℕ → HostEvent → HostView → Type 0
@@ -65,7 +87,7 @@ Misfits h byte at _ after = ⊥
 
 abbrev pub HearsByte : HostView → ℕ → ℕ → HostEvent → HostView → Type 0
 HearsByte h byte at e after =
-    Grows h byte e after ⊎ Misfits h byte at e after ⊎ ((a : Answer) × AnswerSpells a (h.half ++ byte ∷ []) × Turns (with_half h []) a at e after)
+    Grows h byte e after ⊎ Misfits h byte at e after ⊎ ((a : Answer) × AnswerSpells a (h.half ++ byte ∷ []) × Turns (with_half h []) a e after)
 
 -- These bytes were read as answers, all of which are ignored, and this half answer.
 pub record Passed (h : HostView) (bytes : List ℕ) (half : List ℕ) : Type 0 where

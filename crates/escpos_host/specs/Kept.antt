@@ -1,12 +1,10 @@
 -- What a host keeps, and what it means. Only private clauses, invariants and proofs use these definitions.
-use Rattle.std.specs.Prelude.{ℕ, ◌≡◌, ◌+◌, ◌<◌, ◌≤◌, ◌⊎◌, List, [], ◌∷◌, length, take, drop}
+use Rattle.std.specs.Prelude.{ℕ, ◌≡◌, ◌+◌, ◌<◌, ◌⊎◌, List, [], ◌∷◌, length, take, drop, slice_index}
 use Rattle.std.specs.List.{AllByRecursion}
 use Rattle.escpos_command.specs.declared.command.Command.{Command}
 use Rattle.escpos_command.specs.Digits.{mark_count, mark_of}
 use Rattle.escpos_host.specs.declared.host.Stage.{Stage}
 use Rattle.escpos_host.specs.declared.host.Stage.TheVariants as stage
-use Rattle.escpos_host.specs.declared.host.Standing.{Standing}
-use Rattle.escpos_host.specs.declared.host.Standing.TheVariants as standing
 use Rattle.escpos_host.specs.Machine.{HostView, InFlight, Phase, Down, Opening, Open}
 use Rattle.escpos_host.specs.Out.{Pending, Within, unsent}
 
@@ -20,37 +18,44 @@ phase_of stage.Down rs marks = Down
 phase_of (stage.Opening first) rs marks = Opening first
 phase_of stage.Open rs marks = Open (pairs rs marks)
 
-abbrev pub left_of : Stage → List (List Command) → List (List Command)
-left_of stage.Down rs = rs
-left_of _ rs = []
+-- The receipts of a host are those that are recorded, then those that are in flight, then those that are left. The first two
+-- were or are to be put on its link.
+abbrev pub put_of : List (List Command) → ℕ → List ℕ → List (List Command)
+put_of receipts recorded marks = take (recorded + length marks) receipts
 
--- The receipts of a host are those that are recorded, then those that are in flight or left.
-abbrev pub view_of : Stage → List (List Command) → ℕ → List ℕ → Pending → List ℕ → ℕ → HostView
-view_of s receipts recorded marks out half next = record {
+abbrev pub view_of : Stage → List (List Command) → ℕ → List ℕ → List ℕ → Pending → List ℕ → ℕ → HostView
+view_of s receipts recorded marks left out half next = record {
   phase = phase_of s (drop recorded receipts) marks;
-  out = unsent receipts out;
+  out = unsent (put_of receipts recorded marks) out;
   half = half;
   next = next;
   records = take recorded receipts;
-  left = left_of s (drop recorded receipts);
+  left = pairs (drop (recorded + length marks) receipts) left;
 }
 
 -- What is kept fits together, by stage.
-abbrev pub IsConsistent : Stage → List (List Command) → ℕ → List ℕ → Pending → List ℕ → Type 0
-IsConsistent stage.Down receipts recorded marks out half =
-    (marks ≡ []) × ((rs : List (List Command)) → Within rs out × (unsent rs out ≡ [])) × (half ≡ []) × (recorded ≤ length receipts)
-IsConsistent (stage.Opening first) receipts recorded marks out half = (marks ≡ []) × Within receipts out × (length receipts ≡ recorded)
-IsConsistent stage.Open receipts recorded marks out half =
-    Within receipts out × (length receipts ≡ recorded + length marks) × AllByRecursion (λ n. n < mark_count) marks
+abbrev pub FitsStage : Stage → List ℕ → Pending → List ℕ → Type 0
+FitsStage stage.Down marks out half = (marks ≡ []) × ((rs : List (List Command)) → Within rs out × (unsent rs out ≡ [])) × (half ≡ [])
+FitsStage (stage.Opening first) marks out half = marks ≡ []
+FitsStage stage.Open marks out half = Unit {0}
+
+abbrev pub AreMarks : List ℕ → Type 0
+AreMarks numbers = AllByRecursion (λ n. n < mark_count) numbers
+
+pub record IsConsistent (s : Stage) (receipts : List (List Command)) (recorded : ℕ) (marks left : List ℕ) (out : Pending) (half : List ℕ) : Type 0 where
+  pub count : length receipts ≡ (recorded + length marks) + length left
+  pub closing : AreMarks marks
+  pub closing_left : AreMarks left
+  pub within : Within (put_of receipts recorded marks) out
+  pub stage : FitsStage s marks out half
 
 -- A mark with one of these numbers has this id.
 abbrev pub HasIdAmong : List ℕ → List ℕ → Type 0
 HasIdAmong [] id = ⊥
 HasIdAmong (n ∷ ns) id = ((n < mark_count) × (mark_of n ≡ id)) ⊎ HasIdAmong ns id
 
--- Where the mark with this id stands among the marks with these numbers.
-abbrev pub StandsSo : List ℕ → List ℕ → Standing → Type 0
-StandsSo numbers id standing.Oldest = (n : ℕ) × (ns : List ℕ) × (numbers ≡ n ∷ ns) × (mark_of n ≡ id)
-StandsSo numbers id standing.Later =
-    (n : ℕ) × (ns : List ℕ) × (numbers ≡ n ∷ ns) × ((n < mark_count) × (mark_of n ≡ id) → ⊥) × HasIdAmong ns id
-StandsSo numbers id standing.Other = HasIdAmong numbers id → ⊥
+-- Of these numbers the one at this place is the first whose mark has this id.
+pub record IsPlaceOf (numbers id : List ℕ) (place : ℕ) : Type 0 where
+  pub within : place < length numbers
+  pub mark : mark_of (slice_index numbers place) ≡ id
+  pub first : HasIdAmong (take place numbers) id → ⊥

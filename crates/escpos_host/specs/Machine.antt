@@ -6,20 +6,26 @@
 -- of an older link, and take the first bytes of a new one for the rest of it. So the host first sends other marks, its
 -- opening marks, and no receipt before one of them is answered: a mark that is answered was read at its own place, and from
 -- there on the printer reads what the host puts. The Init before each receipt resets styles that an older receipt left. No
--- number of a mark is ever used again, so an answer shows which mark it answers, however late it comes. Of the receipts in
--- flight only the closing mark of the oldest records: a printer answers in order, so an answer to a later one would mean
--- that it lost one between.
+-- number of a mark is ever used again, so an answer shows which mark it answers, however late it comes. A printer does
+-- everything in order. So what was put before a mark on the same link is done as well when the mark is answered: the
+-- answer to a closing mark records its receipt, and first all receipts in flight that were submitted before it.
 --
---   State     | link_up | nudge   | submit  | ask     | answer to a mark of this link
+--   State     | link_up | nudge   | submit  | ask     | answer to a mark
 --   Down      | Opening | refused | refused | refused | nothing is heard
---   Opening   | refused | Opening | refused | refused | to an opening mark: Ready
+--   Opening   | refused | Opening | refused | refused | to an opening mark of this link: Ready;
+--             |         |         |         |         | to the closing mark of a receipt that is left: recorded, and Opening
 --   Ready     | refused | refused | Sending | Ready   | ignored
---   Sending   | refused | refused | Sending | refused | to the oldest closing mark: recorded, and Ready or Sending;
---             |         |         |         |         | to a later one: Down
+--   Sending   | refused | refused | Sending | refused | to the closing mark of one in flight: recorded, and Ready or Sending
+--
+-- `link_down`, and a byte that fits no answer, lead to Down. What was in flight is left then, with the ids of its closing
+-- marks. Nobody knows yet whether it was printed; but the printer may still print it, and answer its marks on the next link.
+-- Such answers come before that of any mark of the newer link. So as long as no opening mark is answered, the answer to the
+-- closing mark of a receipt that is left records it, and first those that are left and were submitted before it. Once
+-- the link is open none of these answers can come any more. What is left then stays to be taken, until the link is gone: then
+-- what is in flight takes its place. A receipt that its caller has taken is left no more, and isn't recorded.
 --
 -- An answer to any other mark is ignored; but while the host is Opening it is an event, since a mark of an older link may
--- be answered late. A status byte and a block of automatic status are events in every state but Down. `link_down`, and a byte that
--- fits no answer, lead to Down; what was in flight then is left.
+-- be answered late. A status byte and a block of automatic status are events in every state but Down.
 --
 -- A host may ask a printer to tell unasked how it is (`ask_reports`): before its first opening mark, and while it is Ready.
 -- That request has no number, no answer and no place in the table; what the printer tells are blocks of automatic status.
@@ -48,14 +54,15 @@ pub data Phase : Type 0 where
   Open : List InFlight → Phase
 
 -- The model of a host: its phase, the bytes to take out, the half answer, the number of the next mark, the receipts that
--- are recorded, and those that were in flight when the link went down and weren't taken since.
+-- are recorded, and those that are left: they were in flight when the last link that was open was lost, and were neither
+-- recorded nor taken since. The oldest comes first.
 pub record HostView : Type 0 where
   pub phase : Phase
   pub out : List ℕ
   pub half : List ℕ
   pub next : ℕ
   pub records : List (List Command)
-  pub left : List (List Command)
+  pub left : List InFlight
 
 abbrev pub state_of : Phase → HostState
 state_of Down = state.Down
@@ -75,14 +82,14 @@ next_mark h = kind.Mark (mark_of h.next)
 abbrev pub ask_reports : Command
 ask_reports = kind.AutomaticStatus all_but_drawer
 
--- The link is up: one opening mark is put out. What was left is dropped.
+-- The link is up: one opening mark is put out.
 abbrev pub linked : HostView → HostView
-linked h = record { phase = Opening h.next; out = row (next_mark h); half = []; next = h.next + 1; records = h.records; left = [] }
+linked h = record { phase = Opening h.next; out = row (next_mark h); half = []; next = h.next + 1; records = h.records; left = h.left }
 
 -- The same, where a request for automatic status is put out before the mark.
 abbrev pub linked_reporting : HostView → HostView
 linked_reporting h =
-    record { phase = Opening h.next; out = row ask_reports ++ row (next_mark h); half = []; next = h.next + 1; records = h.records; left = [] }
+    record { phase = Opening h.next; out = row ask_reports ++ row (next_mark h); half = []; next = h.next + 1; records = h.records; left = h.left }
 
 abbrev pub linked_by : Bool → HostView → HostView
 linked_by true h = linked_reporting h
@@ -111,14 +118,24 @@ submitted h flight receipt = record {
   left = h.left;
 }
 
+-- The receipts themselves.
+abbrev pub receipts_of : List InFlight → List (List Command)
+receipts_of flight = map (λ (p : InFlight). p.receipt) flight
+
 -- The receipts that are in flight.
 abbrev pub in_flight : Phase → List (List Command)
-in_flight (Open flight) = map (λ p. p.receipt) flight
+in_flight (Open flight) = receipts_of flight
 in_flight _ = []
 
--- The link is gone: nothing is to be taken out, there is no half answer, and what was in flight is left.
+-- The receipts whose closing marks may still be answered, the oldest first: on an open link those that are in flight, and
+-- otherwise those that are left.
+abbrev pub unanswered : Phase → List InFlight → List InFlight
+unanswered (Open flight) left = flight
+unanswered _ left = left
+
+-- The link is gone: nothing is to be taken out, there is no half answer, and what may still be answered is left.
 abbrev pub gone_down : HostView → HostView
-gone_down h = record { phase = Down; out = []; half = []; next = h.next; records = h.records; left = in_flight h.phase }
+gone_down h = record { phase = Down; out = []; half = []; next = h.next; records = h.records; left = unanswered h.phase h.left }
 
 -- The first bytes are taken out.
 abbrev pub taken_out : HostView → ℕ → HostView
@@ -128,11 +145,15 @@ taken_out h count = record { phase = h.phase; out = drop count h.out; half = h.h
 abbrev pub handed_out : HostView → HostView
 handed_out h = record { phase = h.phase; out = h.out; half = h.half; next = h.next; records = h.records; left = drop 1 h.left }
 
+-- Other receipts are left.
+abbrev pub with_left : HostView → List InFlight → HostView
+with_left h left = record { phase = h.phase; out = h.out; half = h.half; next = h.next; records = h.records; left = left }
+
 -- What holds for every host.
 pub record IsSound (h : HostView) : Type 0 where
   pub quiet : h.phase ≡ Down → (h.out ≡ []) × (h.half ≡ [])
-  pub none_left : h.phase ≢ Down → h.left ≡ []
   pub few : length (in_flight h.phase) ≤ most_in_flight
+  pub few_left : length h.left ≤ most_in_flight
   pub half : (h.half ≡ []) ⊎ HalfAnswer h.half
 
 -- Why a call is refused. The first reason that applies counts.

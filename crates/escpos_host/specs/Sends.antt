@@ -111,9 +111,13 @@ pub record Closed (c : Call) (bytes : List ℕ) : Type 0 where
 abbrev pub HasMarks : Call → ℕ → Type 0
 HasMarks c used = c.before.next + used ≤ mark_count
 
--- The link is given up, and this many marks were used.
+-- The link is given up, and this many marks were used. What an older link left is dropped, unless not all of the opening
+-- marks could be put out.
 abbrev pub given_up : Call → ℕ → HostView
 given_up c used = record { phase = Down; out = []; half = []; next = c.before.next + used; records = c.before.records; left = [] }
+
+abbrev pub not_dialled : Call → ℕ → HostView
+not_dialled c used = record { phase = Down; out = []; half = []; next = c.before.next + used; records = c.before.records; left = c.before.left }
 
 -- The receipt is the last record, and the link stays open.
 abbrev pub recorded_by : Call → HostView
@@ -167,12 +171,12 @@ RefusesSend c error.AlreadyUp bytes out after = (c.before.phase ≢ Down) × Not
 RefusesSend c error.MarksUsedUp bytes out after =
     (c.before.phase ≡ Down)
     × (((mark_count ≤ c.before.next) × Nothing bytes out × (after ≡ c.before))
-    ⊎ ((used : ℕ) × (0 < used) × (used < c.openings) × (c.before.next + used ≡ mark_count) × Nothing bytes out × (after ≡ given_up c used))
+    ⊎ ((used : ℕ) × (0 < used) × (used < c.openings) × (c.before.next + used ≡ mark_count) × Nothing bytes out × (after ≡ not_dialled c used))
     ⊎ ((half : List ℕ) × (c.before.next + c.openings ≡ mark_count) × IsDue c bytes half out c.openings × (after ≡ given_up c c.openings)))
 RefusesSend c error.Memory bytes out after =
     (c.before.phase ≡ Down) × (c.before.next < mark_count)
     × ((Nothing bytes out × (after ≡ c.before))
-    ⊎ ((used : ℕ) × (0 < used) × (used < c.openings) × (c.before.next + used < mark_count) × Nothing bytes out × (after ≡ given_up c used))
+    ⊎ ((used : ℕ) × (0 < used) × (used < c.openings) × (c.before.next + used < mark_count) × Nothing bytes out × (after ≡ not_dialled c used))
     ⊎ ((half : List ℕ) × (c.before.next + c.openings < mark_count) × IsDue c bytes half out c.openings × (after ≡ given_up c c.openings)))
 RefusesSend c _ bytes out after = ⊥
 

@@ -3,12 +3,12 @@
 //! Everything that changes a host is in this module. The protocol is `specs/Machine.antt`; `outbox` keeps what is to be put
 //! out, and `answer_reader` reads answers.
 
-ghost use Rattle.std.specs.Prelude.{◌≡◌, ◌≢◌, ◌+◌, ◌<◌, ◌≤◌, ◌↔◌, min, not, List, [], ◌∷◌, ◌++◌, length, take, drop, slice_get, Ok, Err, OnOk, IfErr, IsTrue, IsOk};
+ghost use Rattle.std.specs.Prelude.{◌≡◌, ◌≢◌, ◌+◌, ◌<◌, ◌≤◌, ◌↔◌, min, not, List, [], ◌∷◌, ◌++◌, length, take, drop, slice_get, Ok, Err, OnOk, IfErr, IsTrue, IsOk, MatchOption, ℕ};
 ghost use Rattle.escpos_command.specs.Digits.{mark_count, mark_of};
 ghost use Rattle.escpos_command.specs.declared.answer.Answer.TheVariants as answer;
-ghost use Rattle.escpos_host.specs.Kept.{HasIdAmong, StandsSo};
+ghost use Rattle.escpos_host.specs.Kept.{HasIdAmong, IsPlaceOf};
 ghost use Rattle.escpos_host.specs.Heard.{HearsByte, IsHeard, IsOpeningMark, Turns};
-ghost use Rattle.escpos_host.specs.Machine.{HostView, InFlight, Down, Opening, Open, HasMark, IsOpening, IsSound, RefusesAsk, RefusesLinkUp, RefusesNudge, RefusesSubmit, asked, error_number, gone_down, linked, linked_by, linked_reporting, most_in_flight, nudged, reports_asked, state_of, submitted, taken_out, handed_out};
+ghost use Rattle.escpos_host.specs.Machine.{HostView, InFlight, Down, Opening, Open, HasMark, IsOpening, IsSound, RefusesAsk, RefusesLinkUp, RefusesNudge, RefusesSubmit, asked, error_number, gone_down, linked, linked_by, linked_reporting, most_in_flight, nudged, receipts_of, reports_asked, state_of, submitted, taken_out, handed_out, with_left};
 
 use crate::answer_reader::{AnswerReader, NoAnswer};
 use crate::outbox::{Out, OutPart};
@@ -17,6 +17,7 @@ use escpos_command::{Answer, AutomaticStatus, MarkId, StatusKind, laws};
 use escpos_receipt::Receipt;
 use std::alloc::Global;
 use std::marker::Model;
+use std::mem;
 
 /// The most receipts that may be in flight on a link.
 pub const MOST_IN_FLIGHT: usize = 4;
@@ -89,17 +90,18 @@ pub enum HostEvent {
     None,
     /// An opening mark of this link was answered.
     Opened,
-    /// The oldest receipt in flight is printed: it is the record with this number, counted from 0.
+    /// A closing mark was answered: that of a receipt in flight, or before an opening mark is answered that of a receipt that is
+    /// left. So its receipt is printed, and so are those that were submitted before it. All of them are recorded, in the order
+    /// in which they were submitted; the last one is the record with this number, counted from 0.
     Recorded(usize),
-    /// No opening mark of this link is answered yet, and a mark with this id is, which the link didn't put out: an older link
-    /// did, and everything that it put before that mark is done.
+    /// No opening mark of this link is answered yet, and a mark with this id is, which is neither one of them nor the closing mark
+    /// of a receipt that is left. An older link put it out, and everything that it put before that mark is done.
     Late(MarkId),
     /// The printer sent this status byte. (Reference: DLE EOT.)
     Status(u8),
     /// The printer sent unasked what its condition is. (Reference: GS a.)
     Condition(AutomaticStatus),
-    /// The byte at this place fits no answer, or it is the last one of an answer to a later closing mark. The link is given
-    /// up.
+    /// The byte at this place fits no answer. The link is given up.
     BadAnswer { at: usize },
 }
 
@@ -123,12 +125,13 @@ enum Stage {
 /// A host: the receipts that it has recorded, and what it says and hears on a link.
 #[derive(Drop)]
 pub struct Host {
-    // those that are recorded, then those that are in flight or left
+    // those that are recorded, then those that are in flight, then those that are left
     receipts: Vec<Receipt>,
     recorded: usize,
     stage: Stage,
-    // the numbers of the closing marks of the receipts in flight
+    // the numbers of the closing marks of the receipts in flight, and of those that are left
     closing: ArrayVec<u32, MOST_IN_FLIGHT>,
+    left: ArrayVec<u32, MOST_IN_FLIGHT>,
     next: u32,
     out: Out,
     reader: AnswerReader,
@@ -140,9 +143,9 @@ impl Model for Host {
 
     ghost Value = { HostView };
 
-    ghost view = { λ h. view_of h.stage h.receipts.items h.recorded h.closing.items h.out h.reader h.next };
+    ghost view = { λ h. view_of h.stage h.receipts.items h.recorded h.closing.items h.left.items h.out h.reader h.next };
 
-    ghost invariant = { λ h. IsConsistent h.stage h.receipts.items h.recorded h.closing.items h.out h.reader };
+    ghost invariant = { λ h. IsConsistent h.stage h.receipts.items h.recorded h.closing.items h.left.items h.out h.reader };
 }
 
 impl Host {
@@ -164,6 +167,7 @@ impl Host {
             receipts: records,
             stage: Stage::Down,
             closing: ArrayVec::new(),
+            left: ArrayVec::new(),
             next: first_mark,
             out: Out::new(alloc),
             reader: AnswerReader::new(),
@@ -204,17 +208,19 @@ impl Host {
         !self.out.is_empty()
     }
 
-    /// Proof only: gives the caller these facts: with no link there is nothing to take out, and no half answer; with a link
-    /// no receipt is left, and at most four are in flight.
+    /// Proof only: gives the caller these facts: with no link there is nothing to take out, and no half answer; at most four
+    /// receipts are in flight, and at most four are left.
     pub fn is_sound(&self)
         ensures { IsSound self.now }
     {
         // Proof only: the host's invariant.
         let _ = self.closing.len();
+        let _ = self.left.len();
         self.reader.is_sound();
     }
 
-    /// Opens a link: puts one opening mark out. Receipts left by the link before are dropped.
+    /// Opens a link: puts one opening mark out. What is left stays: until an opening mark is answered, an answer to the closing
+    /// mark of a receipt that is left records it.
     pub fn link_up(&mut self) -> Result<(), HostError>
         ensures up { OnOk result ((self.old.phase ≡ Down) × HasMark self.old × (self.new ≡ linked self.old)) }
         ensures refused { IfErr result (λ why. RefusesLinkUp why self.old × (self.new ≡ self.old)) }
@@ -245,7 +251,6 @@ impl Host {
         if self.out.push(OutPart::opening(mark, reporting)).is_err() {
             return Err(HostError::Memory);
         }
-        self.receipts.truncate(self.recorded);
         self.stage = Stage::Opening { first: self.next };
         self.next += 1;
         Ok(())
@@ -286,14 +291,13 @@ impl Host {
         let Some(closing) = MarkId::of_number(self.next) else {
             return Err((HostError::MarksUsedUp, receipt));
         };
-        if self.receipts.reserve(1).is_err() {
-            return Err((HostError::Memory, receipt));
+        let place = self.recorded + self.closing.len();
+        if let Err(failed) = self.receipts.insert(place, receipt) {
+            return Err((HostError::Memory, failed.value));
         }
-        let place = self.receipts.len();
         if self.out.push(OutPart::Receipt { place, closing }).is_err() {
-            return Err((HostError::Memory, receipt));
+            return Err((HostError::Memory, self.receipts.remove(place)));
         }
-        self.receipts.push_reserved(receipt);
         self.closing.push(self.next);
         self.next += 1;
         Ok(())
@@ -338,7 +342,8 @@ impl Host {
         if let Stage::Down = self.stage {
             return 0;
         }
-        self.out.take_out(&self.receipts, out)
+        let put = self.recorded + self.closing.len();
+        self.out.take_out(&self.receipts[..put], out)
     }
 
     /// Hears bytes of answers, up to the first event. With no link all of them are taken and ignored. Allocates nothing.
@@ -384,7 +389,7 @@ impl Host {
     {
         match self.reader.push(byte) {
             Ok(None) => HostEvent::None,
-            Ok(Some(answer)) => self.hear_answer(answer, at),
+            Ok(Some(answer)) => self.hear_answer(answer),
             Err(NoAnswer) => {
                 self.link_down();
                 HostEvent::BadAnswer { at }
@@ -392,56 +397,66 @@ impl Host {
         }
     }
 
-    // Hears an answer, whose last byte stands at this place.
-    fn hear_answer(&mut self, answer: Answer, at: usize) -> HostEvent
+    // Hears an answer.
+    fn hear_answer(&mut self, answer: Answer) -> HostEvent
         requires { self.old.phase ≢ Down }
-        ensures { Turns self.old answer at result self.new }
+        ensures { Turns self.old answer result self.new }
     {
         match answer {
             Answer::Status(byte) => HostEvent::Status(byte),
             Answer::Condition(block) => HostEvent::Condition(block),
-            Answer::Mark(id) => self.hear_mark(id, at),
+            Answer::Mark(id) => self.hear_mark(id),
         }
     }
 
-    // Hears the answer to a mark, whose last byte stands at this place.
-    fn hear_mark(&mut self, id: MarkId, at: usize) -> HostEvent
+    // Hears the answer to a mark.
+    fn hear_mark(&mut self, id: MarkId) -> HostEvent
         requires { self.old.phase ≢ Down }
-        ensures { Turns self.old (answer.Mark id) at result self.new }
+        ensures { Turns self.old (answer.Mark id) result self.new }
     {
         match self.stage {
             Stage::Opening { first } if is_opening(id, first, self.next) => {
                 self.stage = Stage::Open;
                 HostEvent::Opened
             }
-            Stage::Opening { .. } => HostEvent::Late(id),
-            Stage::Open => self.hear_closing(id, at),
+            Stage::Opening { .. } => self.hear_older(id),
+            Stage::Open => self.hear_closing(id),
             Stage::Down => HostEvent::None,
         }
     }
 
-    // Hears the answer to a mark while the link is open.
-    fn hear_closing(&mut self, id: MarkId, at: usize) -> HostEvent
-        requires { (flight : List InFlight) × (self.old.phase ≡ Open flight) }
-        ensures { Turns self.old (answer.Mark id) at result self.new }
+    // Hears the answer to a mark of an older link, before an opening mark is answered.
+    fn hear_older(&mut self, id: MarkId) -> HostEvent
+        requires { (first : ℕ) × (self.old.phase ≡ Opening first) × (IsOpeningMark first self.old.next id → ⊥) }
+        ensures { Turns self.old (answer.Mark id) result self.new }
     {
-        match standing_of(self.closing.as_slice(), id) {
-            Standing::Oldest => {
-                let number = self.recorded;
-                let _ = self.closing.remove(0);
-                self.recorded += 1;
-                HostEvent::Recorded(number)
+        match place_of(self.left.as_slice(), id) {
+            Some(place) => {
+                remove_first(&mut self.left, place + 1);
+                self.recorded += place + 1;
+                HostEvent::Recorded(self.recorded - 1)
             }
-            Standing::Later => {
-                self.link_down();
-                HostEvent::BadAnswer { at }
-            }
-            Standing::Other => HostEvent::None,
+            None => HostEvent::Late(id),
         }
     }
 
-    /// Gives the link up: what wasn't taken out and the half answer are dropped; what was in flight is left. With no link
-    /// nothing changes. Allocates nothing.
+    // Hears the answer to a mark while the link is open.
+    fn hear_closing(&mut self, id: MarkId) -> HostEvent
+        requires { (flight : List InFlight) × (self.old.phase ≡ Open flight) }
+        ensures { Turns self.old (answer.Mark id) result self.new }
+    {
+        match place_of(self.closing.as_slice(), id) {
+            Some(place) => {
+                remove_first(&mut self.closing, place + 1);
+                self.recorded += place + 1;
+                HostEvent::Recorded(self.recorded - 1)
+            }
+            None => HostEvent::None,
+        }
+    }
+
+    /// Gives the link up: what wasn't taken out and the half answer are dropped. If the link was open, what was in flight is left,
+    /// in place of what was left before; otherwise what was left stays. With no link nothing changes. Allocates nothing.
     pub fn link_down(&mut self)
         ensures up { self.old.phase ≢ Down → self.new ≡ gone_down self.old }
         ensures down { self.old.phase ≡ Down → self.new ≡ self.old }
@@ -449,25 +464,36 @@ impl Host {
         if let Stage::Down = self.stage {
             return;
         }
+        if let Stage::Open = self.stage {
+            self.receipts.truncate(self.recorded + self.closing.len());
+            mem::swap(&mut self.left, &mut self.closing);
+            self.closing.clear();
+        }
         self.stage = Stage::Down;
-        self.closing.clear();
         self.out.clear();
         self.reader.clear();
     }
 
-    /// Returns the receipts that were in flight when the link went down, one by one in the order in which they were
-    /// submitted. Allocates nothing.
+    /// Returns the receipts that are left, one by one in the order in which they were submitted: those that were in flight when
+    /// the last link that was open was lost, and that no late answer has recorded since. A receipt that is returned is the
+    /// caller's: the host doesn't record it any more. Allocates nothing.
     pub fn take_left(&mut self) -> Option<Receipt>
-        ensures receipt { result ≡ slice_get self.old.left 0 }
+        ensures receipt { result ≡ slice_get (receipts_of self.old.left) 0 }
         ensures rest { self.new ≡ handed_out self.old }
     {
-        let Stage::Down = self.stage else {
-            return None;
-        };
-        if self.recorded == self.receipts.len() {
+        if self.left.is_empty() {
             return None;
         }
-        Some(self.receipts.remove(self.recorded))
+        let _ = self.left.remove(0);
+        Some(self.receipts.remove(self.recorded + self.closing.len()))
+    }
+
+    // Drops the receipts that are left.
+    pub(crate) fn drop_left(&mut self)
+        ensures { self.new ≡ with_left self.old [] }
+    {
+        self.receipts.truncate(self.recorded + self.closing.len());
+        self.left.clear();
     }
 
     /// Ends the host, and returns the receipts that are recorded. Allocates nothing.
@@ -492,39 +518,25 @@ fn is_opening(id: MarkId, first: u32, next: u32) -> bool
     }
 }
 
-// Where a mark stands among the closing marks that are to be answered.
-#[derive(Clone, Copy)]
-enum Standing {
-    Oldest,
-    Later,
-    Other,
-}
-
-// Where the mark with this id stands among the marks with these numbers.
-fn standing_of(numbers: &[u32], id: MarkId) -> Standing
-    ensures { StandsSo numbers.now id result }
+// The place of the first of these numbers whose mark has this id.
+fn place_of(numbers: &[u32], id: MarkId) -> Option<usize>
+    ensures { MatchOption result (HasIdAmong numbers.now id → ⊥) (λ place. IsPlaceOf numbers.now id place) }
 {
-    match numbers {
-        [] => Standing::Other,
-        [first, others @ ..] => {
-            if is_id_of(*first, id) {
-                Standing::Oldest
-            } else if is_among(others, id) {
-                Standing::Later
-            } else {
-                Standing::Other
-            }
+    for (place, number) in numbers.iter().enumerate() {
+        if is_id_of(*number, id) {
+            return Some(place);
         }
     }
+    None
 }
 
-// Whether a mark with one of these numbers has this id.
-fn is_among(numbers: &[u32], id: MarkId) -> bool
-    ensures { IsTrue result ↔ HasIdAmong numbers.now id }
+// Removes the first `count` of these numbers.
+fn remove_first(numbers: &mut ArrayVec<u32, MOST_IN_FLIGHT>, count: usize)
+    requires { count ≤ length numbers.old.items }
+    ensures { numbers.new.items ≡ drop count numbers.old.items }
 {
-    match numbers {
-        [] => false,
-        [first, others @ ..] => is_id_of(*first, id) || is_among(others, id),
+    for _ in 0..count {
+        let _ = numbers.remove(0);
     }
 }
 

@@ -56,7 +56,7 @@ pub fn whole_answers()
 /// One answer: a host with no half answer that hears the bytes of an answer does what that answer does, and nothing else.
 pub fn one_answer()
     ensures { (h after : HostView) (a : Answer) (events : List HostEvent) (consumed : ℕ) → h.phase ≢ Down → h.half ≡ [] → IsTrue (is_answer a)
-        → HearsAll h (answer_bytes a) events consumed after → (at : ℕ) × Turns h a at (last_of events) after }
+        → HearsAll h (answer_bytes a) events consumed after → Turns h a (last_of events) after }
 {
     escpos_command::laws::answers();
 }

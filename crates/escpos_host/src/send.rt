@@ -7,7 +7,7 @@ ghost use Rattle.std.specs.Prelude.{◌≡◌, ◌≢◌, ◌↔◌, ◌⊎◌, 
 ghost use Rattle.std.specs.Io.KnownBytes.{Appends, Consumes};
 ghost use Rattle.escpos_command.specs.Digits.{mark_count};
 ghost use Rattle.escpos_host.specs.declared.send.SendFault.{SendFault};
-ghost use Rattle.escpos_host.specs.Awaits.{Brought, Closes, HearsOut, IsBreak, IsOverlookedEvent, IsSilence, Lost, Opens, RefusesOpening, Silent, Stops, dialled, dialled_by, dialled_reporting, sending, with_out};
+ghost use Rattle.escpos_host.specs.Awaits.{Brought, Closes, HearsOut, IsBreak, IsOverlookedEvent, IsSilence, Lost, Opens, RefusesOpening, Silent, Stops, dialled, dialled_by, dialled_reporting, sending, starting, with_out};
 ghost use Rattle.escpos_host.specs.Machine.{Down};
 ghost use Rattle.escpos_host.specs.Sends.{Call, HasMarks, IsCut, Opened, Sends, Why, most_in_piece, opening_bytes};
 
@@ -116,7 +116,8 @@ const _: () = prove!(PUT_BYTES == 512);
 /// all, with at most `max_bytes` + 1 calls of `pull`; what is left of the last piece is dropped.
 ///
 /// If the receipt isn't recorded, it is returned. Then the host's records are as before, and its link is down. If the
-/// host's link was up before the call, the host is left as it was, and nothing is read or written.
+/// host's link was up before the call, the host is left as it was, and nothing is read or written. Receipts that an older link
+/// left are dropped once the opening marks are put out.
 pub fn send_link<R: ByteIn, W: ByteOut>(
     host: &mut Host,
     receipt: Receipt,
@@ -145,6 +146,7 @@ pub fn send_link<R: ByteIn, W: ByteOut>(
             receipt,
         };
     }
+    host.drop_left();
     let most = max_bytes as usize;
     let read = match await_opened(host, reader, writer, most) {
         Ok(read) => read,
@@ -173,6 +175,7 @@ pub fn send_link<R: ByteIn, W: ByteOut>(
 }
 
 /// Brings a host's link up and puts out this many opening marks; 0 counts as 1. If one of them is refused, the link is given up.
+/// What an older link left stays.
 pub fn open_link(host: &mut Host, openings: u32) -> Result<(), HostError>
     ensures opened { OnOk result ((host.old.phase ≡ Down) × (host.new ≡ dialled host.old (max openings 1))) }
     ensures marks { OnOk result (host.old.next + max openings 1 ≤ mark_count) }
@@ -215,13 +218,13 @@ fn await_opened<R: ByteIn, W: ByteOut>(
     most: usize,
 ) -> Result<usize, SendFault>
     requires up { host.old.phase ≢ Down }
-    ensures opens { IfOk result (λ read. (c : Call) → host.old ≡ dialled c.before c.openings
+    ensures opens { IfOk result (λ read. (c : Call) → host.old ≡ starting c
         → Opens c (R.to_come reader.old) (R.to_come reader.new) (W.written writer.old) (W.written writer.new) read host.new) }
     ensures within { IfOk result (λ read. read ≤ most) }
     ensures pulls { IfOk result (λ read. R.pull_count reader.new ≤ R.pull_count reader.old + read) }
-    ensures stops { IfErr result (λ why. (c : Call) → host.old ≡ dialled c.before c.openings → HasMarks c c.openings → c.most ≡ most
+    ensures stops { IfErr result (λ why. (c : Call) → host.old ≡ starting c → HasMarks c c.openings → c.most ≡ most
         → Stops c [] [] (R.to_come reader.old) (R.to_come reader.new) (W.written writer.old) (W.written writer.new) most why c.openings) }
-    ensures lost { OnErr result ((c : Call) → host.old ≡ dialled c.before c.openings → Lost host.old host.new) }
+    ensures lost { OnErr result ((c : Call) → host.old ≡ starting c → Lost host.old host.new) }
     ensures pulls_err { OnErr result (R.pull_count reader.new ≤ R.pull_count reader.old + most + 1) }
     ensures ended { IsErrOf result SendFault.Ended → IsTrue (R.ended reader.new) }
     ensures read_fault { IsErrOf result SendFault.ReadFault → IsTrue (R.failed reader.new) × (¬ IsTrue (R.timed_out reader.new)) }

@@ -5,6 +5,7 @@ use Rattle.escpos_host.specs.declared.host.HostEvent.{HostEvent}
 use Rattle.escpos_host.specs.declared.host.HostEvent.TheVariants as event
 use Rattle.escpos_host.specs.Heard.{Grows, HearsByte, IsHeard, Misfits, Turns, with_half}
 use Rattle.escpos_host.specs.Machine.{HostView, Phase, Down, Opening, Open}
+use Rattle.escpos_host.proofs.Recording.{keeps}
 
 -- there is no more to take out than there was
 abbrev pub IsQuiet : HostView → HostView → Type 0
@@ -19,14 +20,14 @@ same h after e = let l = ap length e in omega (arith, l)
 dropped : (h after : HostView) → after.out ≡ [] → IsQuiet h after
 dropped h after e = let l : length after.out ≡ 0 = ap length e in omega (arith, l)
 
-turned : (h : HostView) (a : Answer) (at : ℕ) (e : HostEvent) (after : HostView) → Turns h a at e after → IsQuiet h after
-turned h a at event.None after t = same h after (ap out_of t.1)
-turned h a at event.Opened after (first, id, opening, mark, among, is) = same h after (ap out_of is)
-turned h a at (event.Recorded number) after (p, ps, sending, mark, count, is) = same h after (ap out_of is)
-turned h a at (event.Late id) after (first, opening, mark, other, is) = same h after (ap out_of is)
-turned h a at (event.Status byte) after t = same h after (ap out_of t.1)
-turned h a at (event.Condition block) after t = same h after (ap out_of t.1)
-turned h a at (event.BadAnswer place) after (p, ps, id, sending, mark, other, closing, here, is) = dropped h after (ap out_of is)
+turned : (h : HostView) (a : Answer) (e : HostEvent) (after : HostView) → Turns h a e after → IsQuiet h after
+turned h a event.None after t = same h after (ap out_of t.1)
+turned h a event.Opened after (first, id, opening, mark, among, is) = same h after (ap out_of is)
+turned h a (event.Recorded number) after (id, mark, records) = same h after (keeps h after id number records).out
+turned h a (event.Late id) after (first, opening, mark, other, unleft, is) = same h after (ap out_of is)
+turned h a (event.Status byte) after t = same h after (ap out_of t.1)
+turned h a (event.Condition block) after t = same h after (ap out_of t.1)
+turned h a (event.BadAnswer place) after turns = absurd turns
 
 grown : (h : HostView) (byte : ℕ) (e : HostEvent) (after : HostView) → Grows h byte e after → IsQuiet h after
 grown h byte event.None after t = same h after (ap out_of t.0)
@@ -51,7 +52,7 @@ hears_byte h byte at e after t = elim t [
   | inl grows ↦ grown h byte e after grows
   | inr other ↦ elim other [
     | inl bad ↦ misfits h byte at e after bad
-    | inr whole ↦ turned (with_half h []) whole.0 at e after whole.2
+    | inr whole ↦ turned (with_half h []) whole.0 e after whole.2
   ]
 ]
 

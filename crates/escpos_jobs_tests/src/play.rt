@@ -17,9 +17,9 @@ const STRAIGHT: Row = (
 const LOST_ANSWER: Row = (
     b"linkup\nmove 11\ndeliver 11\nhandover\nanswer 7\nsubmit [{\"line\":\"Hi\"}]\nmove 16\ndeliver 16\ndrop\nlinkup\nleave\nhandover\nanswer 7\n\
       move 11\ndeliver 11\nhandover\nanswer 7\nsubmit [{\"line\":\"Hi\"}]\nmove 16\ndeliver 16\nhandover\nanswer 7\n",
-    b"ok\nmoved 11\nfed 11 all\nhanded on\nheard 7 opened\nok\nmoved 16\nfed 16 all\nok\nok\nok\nhanded on\nheard 7 none\n\
-      moved 11\nfed 11 all\nhanded on\nheard 7 opened\nok\nmoved 16\nfed 16 all\nhanded on\nheard 7 recorded 0\n\
-      paper\nrow left Hi\nfeed 1\nrow left Hi\nfeed 1\nrecords 1\n",
+    b"ok\nmoved 11\nfed 11 all\nhanded on\nheard 7 opened\nok\nmoved 16\nfed 16 all\nok\nok\nok\nhanded on\nheard 7 recorded 0\n\
+      moved 11\nfed 11 all\nhanded on\nheard 7 opened\nok\nmoved 16\nfed 16 all\nhanded on\nheard 7 recorded 1\n\
+      paper\nrow left Hi\nfeed 1\nrow left Hi\nfeed 1\nrecords 2\n",
     Status::Good,
 );
 
@@ -38,6 +38,25 @@ const TWO_IN_FLIGHT: Row = (
     b"linkup\nmove 11\ndeliver 11\nhandover\nanswer 7\nsubmit [{\"line\":\"A\"}]\nsubmit [{\"line\":\"B\"}]\nmove 99\ndeliver 99\nhandover\nhandover\nanswer 14\n",
     b"ok\nmoved 11\nfed 11 all\nhanded on\nheard 7 opened\nok\nok\nmoved 30\nfed 30 all\nhanded on\nhanded on\nheard 14 recorded 1\n\
       paper\nrow left A\nfeed 1\nrow left B\nfeed 1\nrecords 2\n",
+    Status::Good,
+);
+
+// late_for_two: of two receipts that are left the answer for the first is lost, and that for the second comes late
+const LATE_FOR_TWO: Row = (
+    b"linkup\nmove 11\ndeliver 11\nhandover\nanswer 7\nsubmit [{\"line\":\"A\"}]\nsubmit [{\"line\":\"B\"}]\nmove 99\ndeliver 99\ndrop\nhandover\nlinkup\nleave\n\
+      handover\nanswer 7\n",
+    b"ok\nmoved 11\nfed 11 all\nhanded on\nheard 7 opened\nok\nok\nmoved 30\nfed 30 all\nok\nhanded lost\nok\nok\n\
+      handed on\nheard 7 recorded 1\npaper\nrow left A\nfeed 1\nrow left B\nfeed 1\nrecords 2\n",
+    Status::Good,
+);
+
+// late_for_two_of_three: the third isn't printed; once the link is open an answer of before would record nothing more
+const LATE_FOR_TWO_OF_THREE: Row = (
+    b"linkup\nmove 11\ndeliver 11\nhandover\nanswer 7\nsubmit [{\"line\":\"A\"}]\nsubmit [{\"line\":\"B\"}]\nsubmit [{\"line\":\"C\"}]\nmove 99\ndeliver 30\ndrop\n\
+      handover\nlinkup\nleave\nhandover\nanswer 7\nmove 11\ndeliver 11\nhandover\nanswer 7\nsubmit [{\"line\":\"C\"}]\nmove 99\ndeliver 99\nhandover\nanswer 7\n",
+    b"ok\nmoved 11\nfed 11 all\nhanded on\nheard 7 opened\nok\nok\nok\nmoved 45\nfed 30 all\nok\nhanded lost\nok\nok\n\
+      handed on\nheard 7 recorded 1\nmoved 11\nfed 11 all\nhanded on\nheard 7 opened\nok\nmoved 15\nfed 15 all\nhanded on\nheard 7 recorded 2\n\
+      paper\nrow left A\nfeed 1\nrow left B\nfeed 1\nrow left C\nfeed 1\nrecords 3\n",
     Status::Good,
 );
 
@@ -247,6 +266,12 @@ fn printer_restart(rt: HostRuntime) {
 #[test]
 fn two_in_flight(rt: HostRuntime) {
     assert!(&rt; performs_rows(rt.alloc(), Task::Play, &[TWO_IN_FLIGHT], &[512]));
+}
+
+#[test]
+fn late_for_two(rt: HostRuntime) {
+    let rows = [LATE_FOR_TWO, LATE_FOR_TWO_OF_THREE];
+    assert!(&rt; performs_rows(rt.alloc(), Task::Play, &rows, &[512]));
 }
 
 #[test]

@@ -11,7 +11,7 @@ use Rattle.std.specs.Prelude.{false, option_to_list}
 use Rattle.escpos_receipt.specs.Whole.{EachMayFollow, is_forbidden}
 use Rattle.escpos_host.specs.Machine.{InFlight, IsOpening, Phase, Down, Opening, Open}
 use Rattle.escpos_link.specs.EventTable.{put_on}
-use Rattle.escpos_link.specs.Trusted.{Course, Known, Newest, Owed, Way, flight_of}
+use Rattle.escpos_link.specs.Ways.{Course, Known, Newest, Owed, Way, flight_of}
 use Rattle.escpos_link.proofs.Aligning.{OfReadings}
 use Rattle.escpos_link.proofs.Claiming.{OfPaper, course_more, course_submit, owed_more, owed_submit}
 use Rattle.escpos_link.proofs.Links.{newest_add, step_add}

@@ -23,7 +23,7 @@ use Rattle.escpos_command.specs.Laws.{IsRead, IsRefused}
 use Rattle.escpos_command.specs.Marks.{IsMarkOrNone, mark_id, marks}
 use Rattle.escpos_command.specs.Parameters.{is_mark_id}
 use Rattle.escpos_host.specs.Machine.{ask_reports}
-use Rattle.escpos_link.specs.Trusted.{IsKnown, IsOpener, IsRest}
+use Rattle.escpos_link.specs.Ways.{IsKnown, IsOpener, IsRest}
 use Rattle.escpos_link.proofs.Numbers.{OfNumbers}
 
 -- What the layers below say of readings.

@@ -15,10 +15,13 @@ use Rattle.escpos_link.specs.declared.event.Note.TheVariants as note
 use Rattle.escpos_link.specs.declared.event.Refused.{Refused}
 use Rattle.escpos_link.specs.EventTable.{After, IsRefused, hung_up, told_at}
 use Rattle.escpos_link.specs.Line.{IsLine, LineView}
-use Rattle.escpos_link.specs.Trusted.{IsRest, IsTrusted, StillTrusted, Way}
+use Rattle.escpos_link.specs.Trusted.{IsTrusted, StillTrusted}
+use Rattle.escpos_link.specs.Ways.{IsRest, Way}
 use Rattle.escpos_link.specs.Wire.{AfterOnWire, IsRefusedOnWire, WireView, given_up, heard_from, line_of, with_link}
 use Rattle.escpos_link.proofs.AfterHearing.{heard_line_is, off_line_is}
+use Rattle.escpos_link.proofs.Hearing.{all_on}
 use Rattle.escpos_link.proofs.Links.{given_add, newest_next}
+use Rattle.escpos_link.proofs.PromisedEvents.{idle_promised}
 
 -- ## An event at the printer's end, for the line of this host
 
@@ -95,16 +98,21 @@ idle_way width phase out next records sheet half ended None pending none is_down
 
 pub idle_trusted : (h : HostView) (w : WireView) → h.phase ≡ Down → IsLine (line_of h w) → IsTrusted (line_of h w)
     → StillTrusted (line_of h w) (line_of h (given_up (with_link w)))
-idle_trusted h w is_down i t = (
-  record {
-    answers = t.answers;
-    hears = subst (λ v. Hears (h.half ++ v) t.answers []) (i.quiet is_down) t.hears;
-    half = t.half;
-    reached = t.reached;
-    way = idle_way w.printer.sheet.line_dots h.phase h.out h.next h.records w.printer.sheet w.printer.half w.ended w.live _ (i.down is_down) is_down t.half t.way;
-  },
-  refl,
-)
+idle_trusted h w is_down i trusted =
+    let t = trusted.on_way in (
+      record {
+        on_way = record {
+          answers = t.answers;
+          hears = subst (λ v. Hears (h.half ++ v) t.answers []) (i.quiet is_down) t.hears;
+          half = t.half;
+          reached = t.reached;
+          way = idle_way w.printer.sheet.line_dots h.phase h.out h.next h.records w.printer.sheet w.printer.half w.ended w.live _ (i.down is_down) is_down t.half t.way;
+        };
+        left = λ not_open. all_on w.printer.sheet.line_dots h.records h.left (line_of h w) (line_of h (given_up (with_link w))) (λ id known. known)
+            (λ rs p known promise. idle_promised h w rs p is_down i t promise) (trusted.left not_open);
+      },
+      refl,
+    )
 
 pub idle_kept : (h : HostView) (w : WireView) → h.phase ≡ Down → IsLine (line_of h w) → IsLine (line_of h (given_up (with_link w)))
 idle_kept h w is_down i = record {

@@ -18,9 +18,9 @@ use Rattle.escpos_command.specs.Marks.{marks}
 use Rattle.escpos_paper.specs.declared.item.Item.{Item}
 use Rattle.escpos_paper.specs.Printed.{printed}
 use Rattle.escpos_host.specs.Heard.{IsClosing}
-use Rattle.escpos_host.specs.Machine.{InFlight}
+use Rattle.escpos_host.specs.Machine.{InFlight, receipts_of}
 use Rattle.escpos_link.specs.Stands.{Stands}
-use Rattle.escpos_link.specs.Trusted.{Course, InOrder, IsKnown, Known, Owed, Printing, Rising, Stood, closing_marks, receipts, sends}
+use Rattle.escpos_link.specs.Ways.{Course, InOrder, IsKnown, Known, Owed, Printing, Rising, Stood, closing_marks, sends}
 use Rattle.escpos_link.proofs.Aligning.{head_same, marks_append, tail_same}
 use Rattle.escpos_link.proofs.Numbers.{OfNumbers, known_front, known_join, known_more, not_closing, rising_add, rising_known, rising_more, rising_within}
 use Rattle.escpos_link.proofs.Standing.{stands_add, stands_front, stands_more}
@@ -34,7 +34,7 @@ closing_append : (a b : List InFlight) → closing_marks (a ++ b) ≡ closing_ma
 closing_append [] b = refl
 closing_append (p ∷ a) b = ap (λ v. p.mark ∷ v) (closing_append a b)
 
-receipts_append : (a b : List InFlight) → receipts (a ++ b) ≡ receipts a ++ receipts b
+receipts_append : (a b : List InFlight) → receipts_of (a ++ b) ≡ receipts_of a ++ receipts_of b
 receipts_append [] b = refl
 receipts_append (p ∷ a) b = ap (λ v. p.receipt ∷ v) (receipts_append a b)
 
@@ -98,8 +98,8 @@ pub owed_front : (width : ℕ) (records : List (List Command)) (flight : List In
 owed_front width records flight next items xs ys w =
     let f = front_queue w.order.base w.order.old w.done xs ys w.order.known w.order.queue_is in
     let split : w.done ++ w.todo ≡ f.first ++ (f.more ++ w.todo) = ap (λ v. v ++ w.todo) f.done_is ∙ append_assoc f.first f.more w.todo in
-    let all : records ++ receipts w.done ≡ (records ++ receipts f.first) ++ receipts f.more =
-    ap (λ v. records ++ v) (ap receipts f.done_is ∙ receipts_append f.first f.more) ∙ sym (append_assoc records (receipts f.first) (receipts f.more)) in
+    let all : records ++ receipts_of w.done ≡ (records ++ receipts_of f.first) ++ receipts_of f.more =
+    ap (λ v. records ++ v) (ap receipts_of f.done_is ∙ receipts_append f.first f.more) ∙ sym (append_assoc records (receipts_of f.first) (receipts_of f.more)) in
     record {
       done = f.first;
       todo = f.more ++ w.todo;
@@ -111,7 +111,7 @@ owed_front width records flight next items xs ys w =
         rising = subst (λ v. Rising w.order.base v next) split w.order.rising;
         queue_is = f.front_is;
       };
-      stands = stands_front width (records ++ receipts f.first) (receipts f.more) items (subst (λ v. Stands width v items) all w.stands);
+      stands = stands_front width (records ++ receipts_of f.first) (receipts_of f.more) items (subst (λ v. Stands width v items) all w.stands);
     }
 
 -- ## What a course gives when nothing of it is run any more
@@ -147,8 +147,8 @@ settles width paper records flight done todo next kept ran pending rest is order
           rising = subst (λ v. Rising order.base v next) split order.rising;
           queue_is = append_cancel_right (pending ++ marks p.to_run) (order.old ++ closing_marks p.before) (id ∷ []) long;
         };
-        stands = subst (λ v. Stands width (records ++ receipts p.before) v) (printed_so width paper kept p.first p.run ran p.ran_is)
-            (stands_more width (records ++ receipts p.before) (kept ++ printed width p.first) (printed width p.run) p.stands);
+        stands = subst (λ v. Stands width (records ++ receipts_of p.before) v) (printed_so width paper kept p.first p.run ran p.ran_is)
+            (stands_more width (records ++ receipts_of p.before) (kept ++ printed width p.first) (printed width p.run) p.stands);
       },
     )
 
@@ -161,7 +161,7 @@ course_owed width paper records flight next kept ran xs ys due c =
 
 pub owed_stands : (width : ℕ) (records : List (List Command)) (flight : List InFlight) (next : ℕ) (items : List Item) (pending : List (List ℕ))
     → Owed width records flight next items pending → Stands width records items
-owed_stands width records flight next items pending w = stands_front width records (receipts w.done) items w.stands
+owed_stands width records flight next items pending w = stands_front width records (receipts_of w.done) items w.stands
 
 pub course_stands : (width : ℕ) → OfPaper → (records : List (List Command)) (flight : List InFlight) (next : ℕ) (kept : List Item) (ran : List Command) (pending : List (List ℕ))
     (due : List Command) → Course width records flight next kept ran pending due → Stands width records (kept ++ printed width ran)
@@ -289,21 +289,21 @@ more_printed width paper rs kept ran cs s =
 
 -- A receipt that is printed to its end stands.
 finished : (width : ℕ) → OfPaper → (records : List (List Command)) (done : List InFlight) (rest : List Command) (kept : List Item) (ran : List Command)
-    → (p : Printing width records done rest kept ran) → p.to_run ≡ [] → Stands width (records ++ receipts done) (kept ++ printed width ran)
+    → (p : Printing width records done rest kept ran) → p.to_run ≡ [] → Stands width (records ++ receipts_of done) (kept ++ printed width ran)
 finished width paper records done rest kept ran p none =
     let whole : p.run ≡ p.current.receipt = sym (append-nil p.run) ∙ ap (λ v. p.run ++ v) (sym none) ∙ sym p.receipt_is in
-    let all : (records ++ receipts p.before) ++ p.current.receipt ∷ [] ≡ records ++ receipts done =
-    append_assoc records (receipts p.before) (p.current.receipt ∷ [])
-    ∙ ap (λ v. records ++ v) (sym (receipts_append p.before (p.current ∷ [])) ∙ ap receipts (sym p.done_is)) in
+    let all : (records ++ receipts_of p.before) ++ p.current.receipt ∷ [] ≡ records ++ receipts_of done =
+    append_assoc records (receipts_of p.before) (p.current.receipt ∷ [])
+    ∙ ap (λ v. records ++ v) (sym (receipts_append p.before (p.current ∷ [])) ∙ ap receipts_of (sym p.done_is)) in
     subst (λ v. Stands width v (kept ++ printed width ran)) all
-    (subst (Stands width ((records ++ receipts p.before) ++ p.current.receipt ∷ []))
+    (subst (Stands width ((records ++ receipts_of p.before) ++ p.current.receipt ∷ []))
     (ap (λ v. (kept ++ printed width p.first) ++ printed width v) (sym whole) ∙ printed_so width paper kept p.first p.run ran p.ran_is)
-    (stands_add width (records ++ receipts p.before) p.current.receipt (kept ++ printed width p.first) p.stands))
+    (stands_add width (records ++ receipts_of p.before) p.current.receipt (kept ++ printed width p.first) p.stands))
 
 printing_on : (width : ℕ) → OfPaper → (records : List (List Command)) (done : List InFlight) (d : Command) (rest : List Command) (kept : List Item) (ran left : List Command)
     → (p : Printing width records done (d ∷ rest) kept ran) → p.to_run ≡ left → Stood width records done rest kept (ran ++ d ∷ [])
 printing_on width paper records done d rest kept ran [] p is =
-    inl (more_printed width paper (records ++ receipts done) kept ran (d ∷ []) (finished width paper records done (d ∷ rest) kept ran p is))
+    inl (more_printed width paper (records ++ receipts_of done) kept ran (d ∷ []) (finished width paper records done (d ∷ rest) kept ran p is))
 printing_on width paper records done d rest kept ran (l ∷ left) p is =
     let e : d ∷ rest ≡ l ∷ (left ++ kind.Mark p.current.mark ∷ []) = p.rest_is ∙ ap (λ v. v ++ kind.Mark p.current.mark ∷ []) is in
     let same = head_same d l rest (left ++ kind.Mark p.current.mark ∷ []) e in
@@ -322,7 +322,7 @@ printing_on width paper records done d rest kept ran (l ∷ left) p is =
 
 stood_on : (width : ℕ) → OfPaper → (records : List (List Command)) (done : List InFlight) (d : Command) (rest : List Command) (kept : List Item) (ran : List Command)
     → Stood width records done (d ∷ rest) kept ran → Stood width records done rest kept (ran ++ d ∷ [])
-stood_on width paper records done d rest kept ran (inl s) = inl (more_printed width paper (records ++ receipts done) kept ran (d ∷ []) s)
+stood_on width paper records done d rest kept ran (inl s) = inl (more_printed width paper (records ++ receipts_of done) kept ran (d ∷ []) s)
 stood_on width paper records done d rest kept ran (inr p) = printing_on width paper records done d rest kept ran p.to_run p refl
 
 -- The next command of what was begun.
@@ -343,7 +343,7 @@ step_on width paper records flight done todo next kept ran pending d rest due is
 -- The Init of the next receipt.
 step_init : (width : ℕ) (records : List (List Command)) (flight done todo : List InFlight) (q : InFlight) (next : ℕ) (kept : List Item) (ran : List Command)
     (pending : List (List ℕ)) → flight ≡ done ++ (q ∷ todo) → InOrder done (q ∷ todo) next (pending ++ []) → Unmarked (q ∷ todo)
-    → Stands width (records ++ receipts done) (kept ++ printed width ran)
+    → Stands width (records ++ receipts_of done) (kept ++ printed width ran)
     → Course width records flight next kept (ran ++ kind.Init ∷ []) (pending ++ []) (q.receipt ++ (kind.Mark q.mark ∷ sends todo))
 step_init width records flight done todo q next kept ran pending is order unmarked s =
     let split : done ++ (q ∷ todo) ≡ (done ++ q ∷ []) ++ todo = sym (append_assoc done (q ∷ []) todo) in
@@ -450,8 +450,8 @@ turn_order : OfNumbers → (done todo : List InFlight) (next : ℕ) (id : List �
 turn_order of done todo next id queue o = turn_at of o.base o.old done todo next id queue o.known o.rising o.queue_is
 
 shifted : (records : List (List Command)) (q : InFlight) (done others : List InFlight) → done ≡ q ∷ others
-    → records ++ receipts done ≡ (records ++ q.receipt ∷ []) ++ receipts others
-shifted records q done others is = ap (λ v. records ++ receipts v) is ∙ sym (append_assoc records (q.receipt ∷ []) (receipts others))
+    → records ++ receipts_of done ≡ (records ++ q.receipt ∷ []) ++ receipts_of others
+shifted records q done others is = ap (λ v. records ++ receipts_of v) is ∙ sym (append_assoc records (q.receipt ∷ []) (receipts_of others))
 
 pub owed_turn : (width : ℕ) → OfNumbers → (records : List (List Command)) (flight : List InFlight) (next : ℕ) (items : List Item) (id : List ℕ) (pending : List (List ℕ))
     → Owed width records flight next items (id ∷ pending) → Popped (λ rs f. Owed width rs f next items pending) records flight id

@@ -9,7 +9,7 @@ use Rattle.escpos_paper.specs.Printed.{printed}
 use Rattle.escpos_host.specs.Machine.{Phase, Down, Opening}
 use Rattle.escpos_link.specs.EventTable.{ended_fed, first_of, live_fed}
 use Rattle.escpos_link.specs.Stands.{Stands}
-use Rattle.escpos_link.specs.Trusted.{Course, IsKnown, IsRest, Known, Newest, Owed, ServedLink, Way, flight_of}
+use Rattle.escpos_link.specs.Ways.{Course, IsKnown, IsRest, Known, Newest, Owed, ServedLink, Way, flight_of}
 use Rattle.escpos_link.proofs.Aligning.{OfReadings, known_ids, none_read}
 use Rattle.escpos_link.proofs.Claiming.{OfPaper, course_run, more_printed, rested}
 use Rattle.escpos_link.proofs.Leaving.{items_are}

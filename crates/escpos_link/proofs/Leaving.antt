@@ -9,7 +9,7 @@ use Rattle.escpos_paper.specs.Printed.{printed}
 use Rattle.escpos_host.specs.Machine.{Phase, Down, Opening}
 use Rattle.escpos_link.specs.EventTable.{live_left}
 use Rattle.escpos_link.specs.Stands.{Stands}
-use Rattle.escpos_link.specs.Trusted.{Fresh, GivenUp, InStep, IsRest, Off, Owed, Way, flight_of}
+use Rattle.escpos_link.specs.Ways.{Fresh, GivenUp, InStep, IsRest, Off, Owed, Way, flight_of}
 use Rattle.escpos_link.proofs.Claiming.{OfPaper, course_known, course_owed, course_stands, owed_front, owed_known, owed_rested, owed_stands}
 use Rattle.escpos_link.proofs.Links.{given_add, given_more, given_next, newest_next}
 use Rattle.escpos_link.proofs.Numbers.{known_back, known_front, known_more}

@@ -16,7 +16,10 @@ pub mod Leaving
 pub mod AfterPutting
 pub mod Feeding
 pub mod AfterAnswers
+pub mod WayKept
+pub mod Hearing
 pub mod Trusting
+pub mod Taking
 pub mod Promises
 pub mod Promising
 pub mod PromisedEvents

@@ -8,7 +8,7 @@ use Rattle.escpos_command.specs.CommandTable.{AreCommands, row, spell}
 use Rattle.escpos_command.specs.Grammar.{Reads}
 use Rattle.escpos_command.specs.Marks.{marks}
 use Rattle.escpos_host.specs.Machine.{ask_reports}
-use Rattle.escpos_link.specs.Trusted.{Fresh, FreshOf, GivenUp, IsKnown, IsOpener, IsRest, Known, Late, LateOf, Newest, ServedLink, Unread, UnreadOf}
+use Rattle.escpos_link.specs.Ways.{Fresh, FreshOf, GivenUp, IsKnown, IsOpener, IsRest, Known, Late, LateOf, Newest, ServedLink, Unread, UnreadOf}
 use Rattle.escpos_link.proofs.Aligning.{OfIds, OfReadings, known_ids, marks_append, may_turn, reads_all}
 use Rattle.escpos_link.proofs.Numbers.{OfNumbers, known_back, known_front, known_more}
 

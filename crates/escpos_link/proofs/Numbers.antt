@@ -4,7 +4,7 @@ use Rattle.escpos_command.specs.Digits.{mark_count, mark_of}
 use Rattle.escpos_command.specs.Parameters.{is_mark_id}
 use Rattle.escpos_host.specs.Heard.{IsClosing, IsOpeningMark}
 use Rattle.escpos_host.specs.Machine.{InFlight}
-use Rattle.escpos_link.specs.Trusted.{IsKnown, Known, Rising, closing_marks}
+use Rattle.escpos_link.specs.Ways.{IsKnown, Known, Rising, closing_marks}
 
 -- What the layers below say of mark numbers.
 pub record OfNumbers : Type 0 where

@@ -17,7 +17,7 @@ use Rattle.escpos_printer.specs.Feeds.{Feeds, PrinterView, Took}
 use Rattle.escpos_host.specs.declared.host.HostEvent.{HostEvent}
 use Rattle.escpos_host.specs.declared.host.HostEvent.TheVariants as heard
 use Rattle.escpos_host.specs.Heard.{EndsLink, HearsAll, HearsInTurn, IsHeard, Turns, last_of}
-use Rattle.escpos_host.specs.Machine.{HasMark, HostView, InFlight, IsSound, Phase, Down, Opening, Open, ask_reports, asked, gone_down, linked, linked_reporting, nudged, reports_asked, submitted}
+use Rattle.escpos_host.specs.Machine.{HasMark, HostView, InFlight, IsSound, Phase, Down, Opening, Open, ask_reports, asked, gone_down, linked, linked_reporting, nudged, reports_asked, submitted, receipts_of}
 use Rattle.escpos_link.specs.declared.event.Event.{Event}
 use Rattle.escpos_link.specs.declared.event.Event.TheVariants as event
 use Rattle.escpos_link.specs.declared.event.Handed.{Handed}
@@ -26,20 +26,22 @@ use Rattle.escpos_link.specs.declared.event.Note.{Note}
 use Rattle.escpos_link.specs.declared.event.Note.TheVariants as note
 use Rattle.escpos_link.specs.EventTable.{After, HandsOver, Leaves, Restarted, answers_left, delivered, ended_fed, first_link, heard_to, hung_up, left_by, live_fed, off_link, on_its_way, restarted, told_at, with_host, with_new_link, with_printer, without_first}
 use Rattle.escpos_link.specs.Line.{IsLine, LineView}
-use Rattle.escpos_link.specs.Promised.{IsIn, IsOther, PromisedBy, PromisedIn, PutsOther, with_records}
+use Rattle.escpos_link.specs.Promised.{IsIn, IsOther, PromisedBy, PromisedIn}
+use Rattle.escpos_link.specs.Promising.{PutsOther, with_records}
+use Rattle.escpos_link.specs.Trusted.{AllPromised, IsFitting, IsNotOpen, Trusted}
+use Rattle.escpos_link.specs.Ways.{FreshOf, IsKnown, IsRest, Known, OnWay, answered, answered_marks, closing_marks, flight_of}
 use Rattle.escpos_link.specs.Stands.{Stands}
-use Rattle.escpos_link.specs.Trusted.{FreshOf, IsFitting, IsRest, Trusted, answered, answered_marks, flight_of}
 use Rattle.escpos_link.specs.Wire.{WireView, given_up, line_of, with_link}
 use Rattle.escpos_link.proofs.Aligning.{marks_append}
-use Rattle.escpos_link.proofs.AfterAnswers.{InWay, turn_way}
-use Rattle.escpos_link.proofs.AfterHearing.{drop-nil, dropped, heard_line, heard_line_is}
+use Rattle.escpos_link.proofs.Hearing.{Staying, all_on, answered_promised, goes_first, same_answers, staying}
 use Rattle.escpos_link.proofs.Feeding.{Read}
 use Rattle.escpos_link.proofs.Leaving.{items_are}
 use Rattle.escpos_link.proofs.Links.{mark_fresh, request_fresh}
 use Rattle.escpos_link.proofs.Promises.{fed_for, fewer_for, idle_for, in_back, in_front, in_join, leaves_for, moved_for, nudged_for, off_for, opened_for}
-use Rattle.escpos_link.proofs.Promising.{in_flight_for, made_for, put_open_for, recorded_way}
-use Rattle.escpos_link.proofs.Trusting.{changed_marks, Laws, are_join, grown, marks_join, none_heard, stopped, width_is}
-use Rattle.escpos_link.proofs.Turning.{Goes, Holding, OfAnswers, Turner, by_one, heard_in_turn, no_bytes, one_heard}
+use Rattle.escpos_link.proofs.Numbers.{OfNumbers, known_one}
+use Rattle.escpos_link.proofs.Promising.{flight_known, in_flight_for, made_for, put_open_for, receipts_join, recorded_way}
+use Rattle.escpos_link.proofs.WayKept.{changed_marks, Laws, are_join, grown, marks_join, none_heard, stopped, width_is}
+use Rattle.escpos_link.proofs.Turning.{Goes, Holding, OfAnswers, by_one, one_heard}
 
 -- ## What the host does
 
@@ -58,7 +60,7 @@ put_promised : (width : ℕ) (l : LineView) (rs : List (List Command)) (p : InFl
 put_promised width l rs p host w same by = record { answers = w.answers; hears = subst (λ v. Hears (v ++ l.coming) w.answers []) (sym same) w.hears; by = by }
 
 submitted_promised : (width : ℕ) → Laws → (l : LineView) (rs : List (List Command)) (p : InFlight) (flight : List InFlight) (receipt : List Command) → l.host.phase ≡ Open flight → HasMark l.host
-    → IsFitting (event.Submit receipt) → mark_of l.host.next ≢ p.mark → Trusted width l → PromisedIn width rs p l → PromisedIn width rs p (with_host l (submitted l.host flight receipt))
+    → IsFitting (event.Submit receipt) → mark_of l.host.next ≢ p.mark → OnWay width l → PromisedIn width rs p l → PromisedIn width rs p (with_host l (submitted l.host flight receipt))
 submitted_promised width laws l rs p flight receipt is few fits other t w =
     let m = kind.Mark (mark_of l.host.next) in
     let id = laws.numbers.ids l.host.next few in
@@ -71,7 +73,7 @@ submitted_promised width laws l rs p flight receipt is few fits other t w =
     (subst (AllByRecursion (IsOther p.mark)) (sym only) ((id, other), tt)) t.way w.by)
 
 asked_promised : (width : ℕ) → Laws → (l : LineView) (host : HostView) (rs : List (List Command)) (p : InFlight) (c : Command) → l.host.phase ≡ Open [] → IsCommand c → mark_id c ≡ None
-    → host.half ≡ l.host.half → host.out ≡ l.host.out ++ row c → Trusted width l → PromisedIn width rs p l → PromisedIn width rs p (with_host l host)
+    → host.half ≡ l.host.half → host.out ≡ l.host.out ++ row c → OnWay width l → PromisedIn width rs p l → PromisedIn width rs p (with_host l host)
 asked_promised width laws l host rs p c is fits none half out t w =
     put_promised width l rs p host w half
     (subst (λ v. PromisedBy width p rs v l.printer.sheet l.printer.half l.ended l.live (answered_marks (w.answers ++ l.printer.waiting)))
@@ -107,7 +109,7 @@ left_promised width l rs p printer same rest w ys split = record {
       (subst (PromisedBy width p rs l.host.out l.printer.sheet l.printer.half l.ended l.live) split w.by);
 }
 
-restarted_promised : (width : ℕ) (l : LineView) (rs : List (List Command)) (p : InFlight) (printer : PrinterView) → Restarted l.printer printer → Trusted width l → PromisedIn width rs p l
+restarted_promised : (width : ℕ) (l : LineView) (rs : List (List Command)) (p : InFlight) (printer : PrinterView) → Restarted l.printer printer → OnWay width l → PromisedIn width rs p l
     → PromisedIn width rs p (without_first (with_printer l printer))
 restarted_promised width l rs p printer r t w =
     let sheet : SheetIs width printer.sheet l.printer.sheet.items [] = subst (λ v. SheetIs v printer.sheet l.printer.sheet.items []) (width_is width l t) r.sheet in
@@ -116,7 +118,7 @@ restarted_promised width l rs p printer r t w =
     ∙ ap (λ v. answered_marks v ++ answered_marks l.printer.waiting) (sym (append-nil w.answers) ∙ ap (λ v. w.answers ++ v) (sym r.waiting)))
 
 taken_promised : (width : ℕ) → Laws → (l : LineView) (rs : List (List Command)) (p : InFlight) (k n : ℕ) (cs : List Command) (printer : PrinterView) → k ≤ length (take n (first_link l))
-    → Took l.printer (take k (take n (first_link l))) cs printer → Trusted width l → PromisedIn width rs p l → PromisedIn width rs p (delivered l k printer)
+    → Took l.printer (take k (take n (first_link l))) cs printer → OnWay width l → PromisedIn width rs p l → PromisedIn width rs p (delivered l k printer)
 taken_promised width laws l rs p k n cs printer few took t w =
     let ran = took.ran in
     let read : Read width l.printer.sheet printer.sheet l.printer.half printer.half (take k (take n (first_link l))) cs =
@@ -138,7 +140,7 @@ stopped_promised width l rs p k (stop.Fault at why) taken w =
     left_promised width (delivered l k taken) rs p (stopped (stop.Fault at why) taken) refl (inl refl) w [] (sym (append-nil _))
 
 fed_promised : (width : ℕ) → Laws → (l : LineView) (rs : List (List Command)) (p : InFlight) (k n : ℕ) (why : FeedStop) (printer : PrinterView) → Feeds l.printer (take n (first_link l)) k why printer
-    → Trusted width l → PromisedIn width rs p l → PromisedIn width rs p (left_by why (delivered l k printer))
+    → OnWay width l → PromisedIn width rs p l → PromisedIn width rs p (left_by why (delivered l k printer))
 fed_promised width laws l rs p k n why printer feeds t w =
     subst (λ q. PromisedIn width rs p (left_by why (delivered l k q))) (sym feeds.leaves)
     (stopped_promised width l rs p k why feeds.taken (taken_promised width laws l rs p k n feeds.commands feeds.taken feeds.within feeds.took t w))
@@ -182,113 +184,37 @@ hands_promised width laws l after rs p handed.None i (none, same) w = subst (Pro
 hands_promised width laws l after rs p handed.Lost i (a, answers, waits, links, same) w = subst (PromisedIn width rs p) (sym same) (lost_promised width l rs p a answers waits w)
 hands_promised width laws l after rs p handed.On i (a, answers, waits, links, live, same) w = subst (PromisedIn width rs p) (sym same) (handed_promised width laws l rs p a answers i waits w)
 
--- Bytes are heard in one way.
-none_left : (answers : List Answer) → Hears [] answers [] → answers ≡ []
-none_left [] h = refl
-none_left (a ∷ answers) h = absurd (no_bytes a (spell_answers answers ++ []) h.in_range.0 (sym (append_assoc (answer_bytes a) (spell_answers answers) []) ∙ sym h.whole))
-
-same_answers : OfAnswers → (bs : List ℕ) (xs ys : List Answer) → Hears bs xs [] → Hears bs ys [] → xs ≡ ys
-same_answers below bs xs ys h k =
-    let c = below.cut bs [] xs ys [] (subst (λ v. Hears v xs []) (sym (append-nil bs)) h) k in
-    c.1 ∙ ap (λ v. ys ++ v) (none_left c.0 c.2) ∙ append-nil ys
-
--- An answer that doesn't end the link puts nothing out.
-turned_out : (h after : HostView) (a : Answer) (at : ℕ) (e : HostEvent) → (EndsLink e → ⊥) → Turns h a at e after → after.out ≡ h.out
-turned_out h after a at heard.None on turns = ap (λ (v : HostView). v.out) turns.1
-turned_out h after a at heard.Opened on (first, id, phase, is, opening, same) = ap (λ (v : HostView). v.out) same
-turned_out h after a at (heard.Recorded number) on (q, qs, phase, is, place, same) = ap (λ (v : HostView). v.out) same
-turned_out h after a at (heard.Late id) on (first, phase, is, other, same) = ap (λ (v : HostView). v.out) same
-turned_out h after a at (heard.Status byte) on turns = ap (λ (v : HostView). v.out) turns.1
-turned_out h after a at (heard.Condition block) on turns = ap (λ (v : HostView). v.out) turns.1
-turned_out h after a at (heard.BadAnswer place) on turns = absurd (on tt)
-
--- What stays from answer to answer: the way of the line, and what was put out; and these are the last of the answers that were to come.
-record Staying (width : ℕ) (l : LineView) (all : List Answer) (phase : Phase) (out : List ℕ) (next : ℕ) (records : List (List Command)) (answers : List Answer) : Type 0 where
-  pub way : InWay width l.printer.sheet l.printer.half l.ended l.live l.printer.waiting phase out next records answers
-  pub same : out ≡ l.host.out
-  pub before : List Answer
-  pub split : all ≡ before ++ answers
-
-staying : (width : ℕ) → Laws → (l : LineView) (all : List Answer) → Turner (Staying width l all)
-staying width laws l all h after a others at e up s turns =
-    let t = turn_way width laws.numbers l.printer.sheet l.printer.half l.ended l.live l.printer.waiting h after a others at e up s.way turns in
-    record {
-      on = t.on;
-      up = t.up;
-      half = t.half;
-      holds = record {
-        way = t.holds;
-        same = turned_out h after a at e t.on turns ∙ s.same;
-        before = s.before ++ a ∷ [];
-        split = s.split ∙ sym (append_assoc s.before (a ∷ []) others);
-      };
-    }
-
-goes_first : (width : ℕ) (l : LineView) (k : ℕ) → l.host.phase ≢ Down → (t : Trusted width l) → Goes (Staying width l t.answers) l.host (take k l.coming ++ drop k l.coming)
-goes_first width l k up t = record {
-  up = up;
-  answers = t.answers;
-  hears = subst (λ v. Hears (l.host.half ++ v) t.answers []) (sym (take-append-drop k l.coming)) t.hears;
-  holds = record { way = t.way; same = refl; before = []; split = refl };
-}
-
--- The host hears answers, and records none.
-answered_promised : (width : ℕ) → Laws → (l : LineView) (rs : List (List Command)) (p : InFlight) (k consumed : ℕ) (events : List HostEvent) (host : HostView) → IsLine l
-    → HearsAll l.host (take k l.coming) events consumed host → Trusted width l → PromisedIn width rs p l
-    → PromisedIn width rs p (heard_to (last_of events) l consumed host)
-answered_promised width laws l rs p k consumed events host i (inl (is_down, none, all, same)) t w =
-    subst (λ es. PromisedIn width rs p (heard_to (last_of es) l consumed host)) (sym none)
-    (subst (λ h. PromisedIn width rs p (heard_line l h (drop consumed l.coming))) (sym same)
-    (subst (λ bs. PromisedIn width rs p (heard_line l l.host bs)) (sym (drop-nil consumed l.coming (i.quiet is_down)))
-    (record { answers = w.answers; hears = w.hears; by = w.by })))
-answered_promised width laws l rs p k consumed events host i (inr (up, hears)) t w =
-    let r = heard_in_turn (Staying width l t.answers) laws.answers (staying width laws l t.answers) events l.host host (take k l.coming) (drop k l.coming) consumed (goes_first width l k up t) hears in
-    let rest : drop consumed l.coming ≡ drop k l.coming = ap (λ n. drop n l.coming) r.all ∙ dropped k l.coming in
-    let line = heard_line_is (last_of events) l consumed host r.on in
-    let one = same_answers laws.answers (l.host.half ++ l.coming) w.answers t.answers w.hears t.hears in
-    let s = r.goes.holds in
-    let marked : answered_marks (w.answers ++ l.printer.waiting) ≡ answered_marks s.before ++ answered_marks (r.goes.answers ++ l.printer.waiting) =
-    ap (λ v. answered_marks (v ++ l.printer.waiting)) (one ∙ s.split) ∙ ap answered_marks (append_assoc s.before r.goes.answers l.printer.waiting)
-    ∙ marks_join s.before (r.goes.answers ++ l.printer.waiting) in
-    subst (PromisedIn width rs p) (sym line) (record {
-      answers = r.goes.answers;
-      hears = subst (λ v. Hears (host.half ++ v) r.goes.answers []) (sym rest) r.goes.hears;
-      by = subst (λ v. PromisedBy width p rs v l.printer.sheet l.printer.half l.ended l.live (answered_marks (r.goes.answers ++ l.printer.waiting))) (sym s.same)
-          (fewer_for width p rs l.host.out l.printer.sheet l.printer.half l.ended l.live _ _
-          (λ is. subst (IsIn p.mark) (sym marked) (in_back p.mark (answered_marks s.before) (answered_marks (r.goes.answers ++ l.printer.waiting)) is)) w.by);
-    })
-
 -- ## A late answer
 
-late_mark : (h : HostView) (a : Answer) (at : ℕ) (id : List ℕ) (after : HostView) → Turns h a at (heard.Late id) after → a ≡ answer.Mark id
-late_mark h a at id after (first, phase, is, other, same) = is
+late_mark : (h : HostView) (a : Answer) (id : List ℕ) (after : HostView) → Turns h a (heard.Late id) after → a ≡ answer.Mark id
+late_mark h a id after (first, phase, is, other, unleft, same) = is
 
 -- It is one of the answers that were to come.
 one_late : (P : Holding) → OfAnswers → (h next : HostView) (bytes more : List ℕ) (count : ℕ) (id : List ℕ) (g : Goes P h (bytes ++ more)) → IsHeard h bytes count (heard.Late id) next
     → IsIn id (answered_marks g.answers)
 one_late P below h next bytes more count id g came =
     let b = by_one P below h next bytes more count (heard.Late id) (λ none. cc none) g came in
-    let is = late_mark _ b.answer b.at id next b.turns in
+    let is = late_mark _ b.answer id next b.turns in
     subst (IsIn id) (sym (ap answered_marks b.split ∙ marks_join b.before (b.answer ∷ b.others)))
     (in_back id (answered_marks b.before) (answered_marks (b.answer ∷ b.others))
     (subst (λ a. IsIn id (answered a ++ answered_marks b.others)) (sym is) (inl refl)))
 
-in_all : (width : ℕ) (l : LineView) (all : List Answer) (phase : Phase) (out : List ℕ) (next : ℕ) (records : List (List Command)) (answers : List Answer) (id : List ℕ)
-    → Staying width l all phase out next records answers → IsIn id (answered_marks answers) → IsIn id (answered_marks all)
-in_all width l all phase out next records answers id s is =
+in_all : (width : ℕ) (l : LineView) (all : List Answer) (phase : Phase) (out : List ℕ) (next : ℕ) (records : List (List Command)) (left : List InFlight) (answers : List Answer)
+    (id : List ℕ) → Staying width l all phase out next records left answers → IsIn id (answered_marks answers) → IsIn id (answered_marks all)
+in_all width l all phase out next records left answers id s is =
     subst (IsIn id) (sym (ap answered_marks s.split ∙ marks_join s.before answers)) (in_back id (answered_marks s.before) (answered_marks answers) is)
 
-late_in_turn : (width : ℕ) → Laws → (l : LineView) (all : List Answer) (events : List HostEvent) (h after : HostView) (bytes more : List ℕ) (consumed : ℕ) (id : List ℕ)
-    → Goes (Staying width l all) h (bytes ++ more) → HearsInTurn h bytes events consumed after → last_of events ≡ heard.Late id → IsIn id (answered_marks all)
-late_in_turn width laws l all [] h after bytes more consumed id g hears last = absurd (cc last)
-late_in_turn width laws l all (e ∷ es) h after bytes more consumed id g (count, next, some, came, inl (ends, none, same_count, same)) last =
-    let one = one_heard (Staying width l all) laws.answers (staying width laws l all) h next bytes more count e some g came in absurd (one.on ends)
-late_in_turn width laws l all (e ∷ []) h after bytes more consumed id g (count, next, some, came, inr (on, later)) last =
-    in_all width l all h.phase h.out h.next h.records g.answers id g.holds
-    (one_late (Staying width l all) laws.answers h next bytes more count id g (subst (λ v. IsHeard h bytes count v next) last came))
-late_in_turn width laws l all (e ∷ f ∷ es) h after bytes more consumed id g (count, next, some, came, inr (on, (rest, sum, others))) last =
-    let one = one_heard (Staying width l all) laws.answers (staying width laws l all) h next bytes more count e some g came in
-    late_in_turn width laws l all (f ∷ es) next after (drop count bytes) more rest id one.goes others last
+late_in_turn : (width : ℕ) → Laws → (l : LineView) (t : Trusted width l) (events : List HostEvent) (h after : HostView) (bytes more : List ℕ) (consumed : ℕ) (id : List ℕ)
+    → Goes (Staying width l t.on_way.answers) h (bytes ++ more) → HearsInTurn h bytes events consumed after → last_of events ≡ heard.Late id → IsIn id (answered_marks t.on_way.answers)
+late_in_turn width laws l t [] h after bytes more consumed id g hears last = absurd (cc last)
+late_in_turn width laws l t (e ∷ es) h after bytes more consumed id g (count, next, some, came, inl (ends, none, same_count, same)) last =
+    let one = one_heard (Staying width l t.on_way.answers) laws.answers (staying width laws l t) h next bytes more count e some g came in absurd (one.on ends)
+late_in_turn width laws l t (e ∷ []) h after bytes more consumed id g (count, next, some, came, inr (on, later)) last =
+    in_all width l t.on_way.answers h.phase h.out h.next h.records h.left g.answers id g.holds
+    (one_late (Staying width l t.on_way.answers) laws.answers h next bytes more count id g (subst (λ v. IsHeard h bytes count v next) last came))
+late_in_turn width laws l t (e ∷ f ∷ es) h after bytes more consumed id g (count, next, some, came, inr (on, (rest, sum, others))) last =
+    let one = one_heard (Staying width l t.on_way.answers) laws.answers (staying width laws l t) h next bytes more count e some g came in
+    late_in_turn width laws l t (f ∷ es) next after (drop count bytes) more rest id one.goes others last
 
 last_late : (e : HostEvent) (consumed : ℕ) (id : List ℕ) → told_at e consumed ≡ heard.Late id → e ≡ heard.Late id
 last_late heard.None consumed id is = is
@@ -303,11 +229,11 @@ told_same : (c d : ℕ) (e f : HostEvent) → note.Heard c e ≡ note.Heard d f 
 told_same c d e f is = cc is
 
 late_in : (width : ℕ) → Laws → (l : LineView) (k consumed : ℕ) (events : List HostEvent) (host : HostView) (id : List ℕ) (t : Trusted width l)
-    → HearsAll l.host (take k l.coming) events consumed host → last_of events ≡ heard.Late id → IsIn id (answered_marks t.answers)
+    → HearsAll l.host (take k l.coming) events consumed host → last_of events ≡ heard.Late id → IsIn id (answered_marks t.on_way.answers)
 late_in width laws l k consumed events host id t (inl (is_down, none, all, same)) last =
     absurd (let bad : heard.None ≡ heard.Late id = ap last_of (sym none) ∙ last in cc)
 late_in width laws l k consumed events host id t (inr (up, hears)) last =
-    late_in_turn width laws l t.answers events l.host host (take k l.coming) (drop k l.coming) consumed id (goes_first width l k up t) hears last
+    late_in_turn width laws l t events l.host host (take k l.coming) (drop k l.coming) consumed id (goes_first width l k up t) hears last
 
 -- ## Every event
 
@@ -315,33 +241,33 @@ pub promised : (width : ℕ) → Laws → (e : Event) (l after : LineView) (n : 
     → PutsOther e l.host p.mark → PromisedIn width rs p l → PromisedIn width rs p after
 promised width laws event.LinkUp l after n rs p fits sound i (done, is_down, few, same) t other w =
     subst (PromisedIn width rs p) (sym same)
-    (opened_promised width l (linked l.host) rs p i is_down refl (mark_fresh (IsOther p.mark) (mark_of l.host.next) (laws.numbers.ids l.host.next few, other)) t.half w)
+    (opened_promised width l (linked l.host) rs p i is_down refl (mark_fresh (IsOther p.mark) (mark_of l.host.next) (laws.numbers.ids l.host.next few, other)) t.on_way.half w)
 promised width laws event.LinkUpReporting l after n rs p fits sound i (done, is_down, few, same) t other w =
     subst (PromisedIn width rs p) (sym same)
-    (opened_promised width l (linked_reporting l.host) rs p i is_down refl (request_fresh (IsOther p.mark) (mark_of l.host.next) (laws.numbers.ids l.host.next few, other)) t.half w)
+    (opened_promised width l (linked_reporting l.host) rs p i is_down refl (request_fresh (IsOther p.mark) (mark_of l.host.next) (laws.numbers.ids l.host.next few, other)) t.on_way.half w)
 promised width laws event.Nudge l after n rs p fits sound i (done, opening, few, same) t other w =
     subst (PromisedIn width rs p) (sym same)
     (put_promised width l rs p (nudged l.host) w refl
     (nudged_for width laws.readings laws.paper p rs l.host.out l.printer.sheet l.printer.half (mark_of l.host.next) l.ended l.live _ (laws.numbers.ids l.host.next few, other) w.by))
 promised width laws (event.Submit receipt) l after n rs p fits sound i (flight, done, is, room, few, same) t other w =
-    subst (PromisedIn width rs p) (sym same) (submitted_promised width laws l rs p flight receipt is few fits other t w)
+    subst (PromisedIn width rs p) (sym same) (submitted_promised width laws l rs p flight receipt is few fits other t.on_way w)
 promised width laws (event.Ask asks) l after n rs p fits sound i (done, is, same) t other w =
-    subst (PromisedIn width rs p) (sym same) (asked_promised width laws l (asked l.host asks) rs p (kind.Status asks) is fits refl refl refl t w)
+    subst (PromisedIn width rs p) (sym same) (asked_promised width laws l (asked l.host asks) rs p (kind.Status asks) is fits refl refl refl t.on_way w)
 promised width laws event.AskReports l after n rs p fits sound i (done, is, same) t other w =
-    subst (PromisedIn width rs p) (sym same) (asked_promised width laws l (reports_asked l.host) rs p ask_reports is refl refl refl refl t w)
+    subst (PromisedIn width rs p) (sym same) (asked_promised width laws l (reports_asked l.host) rs p ask_reports is refl refl refl refl t.on_way w)
 promised width laws (event.Move k) l after n rs p fits sound i (count, told, is, same) t other w =
     subst (PromisedIn width rs p) (sym same)
     (record { answers = w.answers; hears = w.hears; by = moved_for width p rs l.host.out l.printer.sheet l.printer.half l.ended l.live _ count w.by })
 promised width laws (event.Deliver k) l after n rs p fits sound i (fed, printer, told, feeds, memory, same) t other w =
-    subst (PromisedIn width rs p) (sym same) (fed_promised width laws l rs p fed.consumed k fed.stop printer feeds t w)
+    subst (PromisedIn width rs p) (sym same) (fed_promised width laws l rs p fed.consumed k fed.stop printer feeds t.on_way w)
 promised width laws event.HandOver l after n rs p fits sound i (what, told, hands) t other w = hands_promised width laws l after rs p what i hands w
 promised width laws (event.Answer k) l after n rs p fits sound i (events, consumed, host, told, hears, same) t other w =
     subst (PromisedIn width rs p) (sym same)
     (answered_promised width laws l rs p k consumed events host i hears t w)
 promised width laws event.PrinterLeaves l after n rs p fits sound i (done, same) t other w =
-    subst (PromisedIn width rs p) (sym same) (left_promised width l rs p l.printer refl t.half w [] (sym (append-nil _)))
+    subst (PromisedIn width rs p) (sym same) (left_promised width l rs p l.printer refl t.on_way.half w [] (sym (append-nil _)))
 promised width laws event.PrinterRestart l after n rs p fits sound i (printer, done, restart, same) t other w =
-    subst (PromisedIn width rs p) (sym same) (restarted_promised width l rs p printer restart t w)
+    subst (PromisedIn width rs p) (sym same) (restarted_promised width l rs p printer restart t.on_way w)
 promised width laws event.HostDrops l after n rs p fits sound i (done, same) t other w =
     subst (PromisedIn width rs p) (sym same) (hung_promised width l rs p l.host.phase refl sound w)
 promised width laws (event.HostRestart f) l after n rs p fits sound i (done, least, same) t other w =
@@ -378,11 +304,11 @@ leaves_promised width laws (event.SetCondition condition) l after rs p sound i s
 -- ## The law
 
 -- The width is the same.
-pub still_promised : (l after : LineView) (rs : List (List Command)) (p : InFlight) → Trusted l.printer.sheet.line_dots after → PromisedIn l.printer.sheet.line_dots rs p after
+pub still_promised : (l after : LineView) (rs : List (List Command)) (p : InFlight) → OnWay l.printer.sheet.line_dots after → PromisedIn l.printer.sheet.line_dots rs p after
     → PromisedIn after.printer.sheet.line_dots rs p after
 still_promised l after rs p t w = subst (λ v. PromisedIn v rs p after) (sym (width_is l.printer.sheet.line_dots after t)) w
 
-pub made_promised : (width : ℕ) → Laws → (l : LineView) (rs : List (List Command)) (p : InFlight) (n : ℕ) → Trusted width l → l.host.next ≤ n → n < mark_count → p.mark ≡ mark_of n → PromisedIn width rs p l
+pub made_promised : (width : ℕ) → Laws → (l : LineView) (rs : List (List Command)) (p : InFlight) (n : ℕ) → OnWay width l → l.host.next ≤ n → n < mark_count → p.mark ≡ mark_of n → PromisedIn width rs p l
 made_promised width laws l rs p n t least few mark = record {
   answers = t.answers;
   hears = t.hears;
@@ -390,14 +316,39 @@ made_promised width laws l rs p n t least few mark = record {
       t.way;
 }
 
-pub flying_promised : (width : ℕ) → Laws → (l : LineView) (p : InFlight) → Trusted width l → l.host.phase ≡ Open (p ∷ []) → PromisedIn width l.host.records p l
-flying_promised width laws l p t is = record {
+-- Each receipt in flight is promised after those before it.
+pub flying_promised : (width : ℕ) → Laws → (l : LineView) (flight before : List InFlight) (p : InFlight) (others : List InFlight) → OnWay width l → l.host.phase ≡ Open flight
+    → flight ≡ before ++ p ∷ others → PromisedIn width (l.host.records ++ receipts_of before) p l
+flying_promised width laws l flight before p others t is split = record {
   answers = t.answers;
   hears = t.hears;
-  by = in_flight_for width laws.numbers laws.paper l.host.phase l.host.out l.host.next p l.host.records l.printer.sheet l.printer.half l.ended l.live _ is t.way;
+  by = in_flight_for width laws.numbers laws.paper l.host.phase l.host.out l.host.next flight before p others l.host.records l.printer.sheet l.printer.half l.ended l.live _ is split t.way;
 }
 
-pub idle_promised : (h : HostView) (w : WireView) (rs : List (List Command)) (p : InFlight) → h.phase ≡ Down → IsLine (line_of h w) → Trusted w.printer.sheet.line_dots (line_of h w)
+pub only_promised : (width : ℕ) → Laws → (l : LineView) (p : InFlight) → OnWay width l → l.host.phase ≡ Open (p ∷ []) → PromisedIn width l.host.records p l
+only_promised width laws l p t is = subst (λ rs. PromisedIn width rs p l) (append-nil l.host.records) (flying_promised width laws l (p ∷ []) [] p [] t is refl)
+
+known_after : (width : ℕ) (l : LineView) (flight : List InFlight) → OnWay width l → l.host.phase ≡ Open flight → Known l.host.next (closing_marks flight)
+known_after width l flight t is =
+    flight_known width l.host.phase l.host.out l.host.next l.host.records l.printer.sheet l.printer.half l.ended l.live (answered_marks (t.answers ++ l.printer.waiting)) flight is t.way
+
+all_from : (width : ℕ) → Laws → (l : LineView) (flight before rest : List InFlight) → OnWay width l → l.host.phase ≡ Open flight → flight ≡ before ++ rest
+    → Known l.host.next (closing_marks rest) → AllPromised width (l.host.records ++ receipts_of before) rest l
+all_from width laws l flight before [] t is split known = tt
+all_from width laws l flight before (p ∷ rest) t is split known =
+    let more : (l.host.records ++ receipts_of before) ++ p.receipt ∷ [] ≡ l.host.records ++ receipts_of (before ++ p ∷ []) =
+    append_assoc l.host.records (receipts_of before) (p.receipt ∷ []) ∙ ap (λ v. l.host.records ++ v) (sym (receipts_join before (p ∷ []))) in (
+      known.0,
+      flying_promised width laws l flight before p rest t is split,
+      subst (λ rs. AllPromised width rs rest l) (sym more)
+          (all_from width laws l flight (before ++ p ∷ []) rest t is (split ∙ sym (append_assoc before (p ∷ []) rest)) known.1),
+    )
+
+pub all_flying : (width : ℕ) → Laws → (l : LineView) (flight : List InFlight) → OnWay width l → l.host.phase ≡ Open flight → AllPromised width l.host.records flight l
+all_flying width laws l flight t is =
+    subst (λ rs. AllPromised width rs flight l) (append-nil l.host.records) (all_from width laws l flight [] flight t is refl (known_after width l flight t is))
+
+pub idle_promised : (h : HostView) (w : WireView) (rs : List (List Command)) (p : InFlight) → h.phase ≡ Down → IsLine (line_of h w) → OnWay w.printer.sheet.line_dots (line_of h w)
     → PromisedIn w.printer.sheet.line_dots rs p (line_of h w) → PromisedIn w.printer.sheet.line_dots rs p (line_of h (given_up (with_link w)))
 idle_promised h w rs p is_down i t promise = record {
   answers = promise.answers;
@@ -408,11 +359,14 @@ idle_promised h w rs p is_down i t promise = record {
 pub recorded_trusted : (l : LineView) (records : List (List Command)) → Trusted l.printer.sheet.line_dots l → flight_of l.host.phase ≡ []
     → Stands l.printer.sheet.line_dots records l.printer.sheet.items → Trusted l.printer.sheet.line_dots (with_records l records)
 recorded_trusted l records t none s = record {
-  answers = t.answers;
-  hears = t.hears;
-  half = t.half;
-  reached = t.reached;
-  way = recorded_way l.printer.sheet.line_dots l.host.phase l.host.out l.host.next l.host.records records l.printer.sheet l.printer.half l.ended l.live _ none s t.way;
+  on_way = record {
+    answers = t.on_way.answers;
+    hears = t.on_way.hears;
+    half = t.on_way.half;
+    reached = t.on_way.reached;
+    way = recorded_way l.printer.sheet.line_dots l.host.phase l.host.out l.host.next l.host.records records l.printer.sheet l.printer.half l.ended l.live _ none s t.on_way.way;
+  };
+  left = λ not_open. tt;
 }
 
 heard_printer : (e : HostEvent) (l : LineView) (consumed : ℕ) (host : HostView) → (heard_to e l consumed host).printer ≡ l.printer
@@ -431,7 +385,7 @@ late_stands laws l after k consumed id rs p i t (events, count, host, told, hear
     let width = l.printer.sheet.line_dots in
     let last = last_late (last_of events) count id (sym (told_same consumed count _ _ told)) in
     let is = late_in width laws l k count events host id t hears last in
-    let one = same_answers laws.answers (l.host.half ++ l.coming) t.answers w.answers t.hears w.hears in
+    let one = same_answers laws.answers (l.host.half ++ l.coming) t.on_way.answers w.answers t.on_way.hears w.hears in
     let pending : IsIn p.mark (answered_marks (w.answers ++ l.printer.waiting)) =
     subst (λ v. IsIn v (answered_marks (w.answers ++ l.printer.waiting))) (sym mark)
     (subst (IsIn id) (sym (marks_join w.answers l.printer.waiting))

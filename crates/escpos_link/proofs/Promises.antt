@@ -13,7 +13,7 @@ use Rattle.escpos_paper.specs.Printed.{printed}
 use Rattle.escpos_host.specs.Machine.{InFlight}
 use Rattle.escpos_link.specs.EventTable.{ended_fed, first_of, live_fed, live_left, put_on}
 use Rattle.escpos_link.specs.Promised.{Fulfils, GivenUpFor, IsIn, IsOther, KeepsOn, LiveFor, NewestFor, PromisedBy, ServedFor, StandsNext}
-use Rattle.escpos_link.specs.Trusted.{FreshOf, IsRest, LateOf, UnreadOf}
+use Rattle.escpos_link.specs.Ways.{FreshOf, IsRest, LateOf, UnreadOf}
 use Rattle.escpos_link.proofs.AfterPutting.{kept_bytes}
 use Rattle.escpos_link.proofs.Aligning.{OfIds, OfReadings, fronts, marks_append, none_read}
 use Rattle.escpos_link.proofs.Claiming.{OfPaper, more_printed}

@@ -1,5 +1,5 @@
--- A promise is made, holds for the receipt in flight, stays after each event, and is kept when a late answer comes.
-use Rattle.std.proofs.Common.{◌≡◌, ◌⊎◌, ◌<◌, ◌≤◌, inl, inr, ℕ, List, [], ◌∷◌, ◌++◌, Option, Some, None, refl, sym, ◌∙◌, ap, subst, arith, append-nil, IsTrue}
+-- A promise is made, and holds for the receipts in flight; and other records that stand may be those of a host with none in flight.
+use Rattle.std.proofs.Common.{◌≡◌, ◌⊎◌, ◌<◌, ◌≤◌, inl, inr, ℕ, List, [], ◌∷◌, ◌++◌, Option, Some, None, refl, sym, ◌∙◌, ap, subst, arith, append-nil, append_assoc, ◌+◌, IsTrue}
 use Rattle.std.specs.List.{AllByRecursion}
 use Rattle.escpos_command.specs.declared.command.Command.{Command}
 use Rattle.escpos_command.specs.CommandTable.{AreCommands, spell}
@@ -9,15 +9,18 @@ use Rattle.escpos_command.specs.Parameters.{is_mark_id}
 use Rattle.escpos_paper.specs.declared.item.Item.{Item}
 use Rattle.escpos_paper.specs.Page.{Sheet, SheetIs}
 use Rattle.escpos_paper.specs.Printed.{printed}
-use Rattle.escpos_host.specs.Machine.{InFlight, Phase, Down, Opening, Open}
+use Rattle.escpos_host.specs.Machine.{InFlight, Phase, Down, Opening, Open, receipts_of}
+use Rattle.escpos_host.specs.Heard.{IsClosing}
+use Rattle.escpos_host.proofs.Recording.{is_closing}
 use Rattle.escpos_link.specs.Promised.{GivenUpFor, IsIn, IsOther, LiveFor, PromisedBy, StandsNext}
+use Rattle.escpos_link.specs.Ways.{Course, FreshOf, GivenUp, InOrder, IsKnown, IsOpener, Known, LateOf, Newest, Owed, Rising, UnreadOf, Way, closing_marks, flight_of}
 use Rattle.escpos_link.specs.Stands.{Stands}
-use Rattle.escpos_link.specs.Trusted.{Course, FreshOf, GivenUp, IsKnown, IsOpener, Known, LateOf, Newest, Owed, Rising, UnreadOf, Way, closing_marks, flight_of, receipts}
-use Rattle.escpos_link.proofs.Aligning.{OfReadings, head_same, tail_same, nothing_first}
+use Rattle.escpos_link.proofs.Aligning.{OfReadings, head_same, tail_same}
 use Rattle.escpos_link.proofs.Claiming.{OfPaper, course_known, course_owed, course_run, owed_known, owed_rested, rested}
 use Rattle.escpos_link.proofs.Leaving.{items_are}
-use Rattle.escpos_link.proofs.Numbers.{OfNumbers, known_back, known_front}
-use Rattle.escpos_link.proofs.Promises.{fulfils_none, in_back, lost_for, not_in, put_for}
+use Rattle.escpos_link.proofs.Numbers.{OfNumbers, known_back, known_front, not_closing, rising_known}
+use Rattle.escpos_link.proofs.Standing.{stands_front}
+use Rattle.escpos_link.proofs.Promises.{fulfils_none, in_back, in_join, lost_for, not_in, put_for}
 
 -- ## A promise is made
 
@@ -132,46 +135,72 @@ made_for width of phase out next n p records rs sheet half ended (Some bytes) pe
       newest = made_newest width of next n p rs sheet half ended bytes out least few mark w.newest;
     }
 
--- ## The only receipt in flight
+-- ## Receipts in flight
 
-only_done : (p : InFlight) (done todo : List InFlight) → p ∷ [] ≡ done ++ todo → ((done ≡ []) × (todo ≡ p ∷ [])) ⊎ (done ≡ p ∷ [])
-only_done p [] todo is = inl (refl, sym is)
-only_done p (d ∷ done) todo is =
-    let rest = nothing_first done todo (sym (tail_same p d [] (done ++ todo) is)) in
-    inr (ap (λ v. v ∷ done) (sym (head_same p d [] (done ++ todo) is)) ∙ ap (λ v. p ∷ v) rest)
+-- Its mark is one that is answered only once all before it are.
+in_known : (base : ℕ) (id : List ℕ) (old : List (List ℕ)) → Known base old → IsIn id old → IsKnown base id
+in_known base id [] known is = absurd is
+in_known base id (x ∷ old) known (inl same) = subst (IsKnown base) same known.0
+in_known base id (x ∷ old) known (inr later) = in_known base id old known.1 later
 
--- Its mark is below none of the older ones.
-not_old : OfNumbers → (base next : ℕ) (p : InFlight) (old : List (List ℕ)) → Known base old → Rising base (p ∷ []) next → IsIn p.mark old → ⊥
-not_old of base next p old known (n, from, few, mark, rest) = not_known of base n p old from few mark known
+done_first : OfNumbers → (base next : ℕ) (done todo before : List InFlight) (p : InFlight) (others : List InFlight) → done ++ todo ≡ before ++ p ∷ others
+    → Rising base (done ++ todo) next → IsIn p.mark (closing_marks done) → (more : List InFlight) × (done ≡ before ++ p ∷ more)
+done_first of base next [] todo before p others is rising in_done = absurd in_done
+done_first of base next (d ∷ done) todo [] p others is rising in_done = (done, ap (λ v. v ∷ done) (head_same d p (done ++ todo) others is))
+done_first of base next (d ∷ done) todo (b ∷ before) p others is (n, from, few, mark, rising) (inl same) =
+    let rest = tail_same d b (done ++ todo) (before ++ p ∷ others) is in
+    absurd (not_closing of (n + 1) next (done ++ todo) p.mark (n, omega arith, few, sym mark ∙ same) rising
+    (subst (λ v. IsClosing v p.mark) (sym rest) (is_closing p.mark before p others refl)))
+done_first of base next (d ∷ done) todo (b ∷ before) p others is (n, from, few, mark, rising) (inr later) =
+    let rest = tail_same d b (done ++ todo) (before ++ p ∷ others) is in
+    let r = done_first of (n + 1) next done todo before p others rest rising later in
+    (r.0, ap (λ v. v ∷ done) (head_same d b (done ++ todo) (before ++ p ∷ others) is) ∙ ap (λ v. b ∷ v) r.1)
 
-owed_promise : (width : ℕ) → OfNumbers → (p : InFlight) (records : List (List Command)) (next : ℕ) (items : List Item) (pending : List (List ℕ))
-    → Owed width records (p ∷ []) next items pending → IsIn p.mark pending → StandsNext width p records items
-owed_promise width of p records next items pending w is = elim (only_done p w.done w.todo w.flight_is) [
-  | inl (none, all) ↦
-      let queue : pending ≡ w.order.old = w.order.queue_is ∙ ap (λ v. w.order.old ++ closing_marks v) none ∙ append-nil w.order.old in
-      absurd (not_old of w.order.base next p w.order.old w.order.known (subst (λ v. Rising w.order.base v next) (ap (λ v. v ++ w.todo) none ∙ all) w.order.rising)
-      (subst (IsIn p.mark) queue is))
-  | inr one ↦ subst (λ v. Stands width (records ++ receipts v) items) one w.stands
-]
+pub receipts_join : (a b : List InFlight) → receipts_of (a ++ b) ≡ receipts_of a ++ receipts_of b
+receipts_join [] b = refl
+receipts_join (p ∷ a) b = ap (λ v. p.receipt ∷ v) (receipts_join a b)
 
-pub in_flight_for : (width : ℕ) → OfNumbers → OfPaper → (phase : Phase) (out : List ℕ) (next : ℕ) (p : InFlight) (records : List (List Command)) (sheet : Sheet) (half : List ℕ)
-    (ended : List (List ℕ)) (live : Option (List ℕ)) (pending : List (List ℕ)) → phase ≡ Open (p ∷ []) → Way width phase out next records sheet half ended live pending
-    → PromisedBy width p records out sheet half ended live pending
-in_flight_for width of paper phase out next p records sheet half ended None pending is (inl w) = record {
-  answered = owed_promise width of p records next sheet.items pending (subst (λ v. Owed width records v next sheet.items pending) (ap flight_of is) w.owed);
-  given_up = subst (GivenUpFor width p records sheet half) (sym w.only) tt;
+-- What is done of a flight, up to this receipt.
+done_upto : (records : List (List Command)) (before : List InFlight) (p : InFlight) (more : List InFlight)
+    → records ++ receipts_of (before ++ p ∷ more) ≡ ((records ++ receipts_of before) ++ p.receipt ∷ []) ++ receipts_of more
+done_upto records before p more =
+    ap (λ v. records ++ v) (receipts_join before (p ∷ more)) ∙ sym (append_assoc records (receipts_of before) (p.receipt ∷ receipts_of more))
+    ∙ sym (append_assoc (records ++ receipts_of before) (p.receipt ∷ []) (receipts_of more))
+
+owed_promise : (width : ℕ) → OfNumbers → (flight before : List InFlight) (p : InFlight) (others : List InFlight) (records : List (List Command)) (next : ℕ) (items : List Item)
+    (pending : List (List ℕ)) → flight ≡ before ++ p ∷ others → Owed width records flight next items pending → IsIn p.mark pending
+    → StandsNext width p (records ++ receipts_of before) items
+owed_promise width of flight before p others records next items pending split w is =
+    let all : w.done ++ w.todo ≡ before ++ p ∷ others = sym w.flight_is ∙ split in
+    elim (in_join p.mark w.order.old (closing_marks w.done) (subst (IsIn p.mark) w.order.queue_is is)) [
+      | inl old ↦
+          absurd (not_closing of w.order.base next (w.done ++ w.todo) p.mark (in_known w.order.base p.mark w.order.old w.order.known old) w.order.rising
+          (subst (λ v. IsClosing v p.mark) (sym all) (is_closing p.mark before p others refl)))
+      | inr done ↦
+          let d = done_first of w.order.base next w.done w.todo before p others all w.order.rising done in
+          stands_front width ((records ++ receipts_of before) ++ p.receipt ∷ []) (receipts_of d.0) items
+          (subst (λ v. Stands width v items) (ap (λ v. records ++ receipts_of v) d.1 ∙ done_upto records before p d.0) w.stands)
+    ]
+
+pub in_flight_for : (width : ℕ) → OfNumbers → OfPaper → (phase : Phase) (out : List ℕ) (next : ℕ) (flight before : List InFlight) (p : InFlight) (others : List InFlight)
+    (records : List (List Command)) (sheet : Sheet) (half : List ℕ) (ended : List (List ℕ)) (live : Option (List ℕ)) (pending : List (List ℕ)) → phase ≡ Open flight
+    → flight ≡ before ++ p ∷ others → Way width phase out next records sheet half ended live pending
+    → PromisedBy width p (records ++ receipts_of before) out sheet half ended live pending
+in_flight_for width of paper phase out next flight before p others records sheet half ended None pending is split (inl w) = record {
+  answered = owed_promise width of flight before p others records next sheet.items pending split (subst (λ v. Owed width records v next sheet.items pending) (ap flight_of is) w.owed);
+  given_up = subst (GivenUpFor width p (records ++ receipts_of before) sheet half) (sym w.only) tt;
   newest = tt;
 }
-in_flight_for width of paper phase out next p records sheet half ended None pending is (inr w) =
-    absurd (let bad : Open (p ∷ []) ≡ Down = sym is ∙ w.down in cc)
-in_flight_for width of paper phase out next p records sheet half [] (Some bytes) pending is (inl w) =
+in_flight_for width of paper phase out next flight before p others records sheet half ended None pending is split (inr w) =
+    absurd (let bad : Open flight ≡ Down = sym is ∙ w.down in cc)
+in_flight_for width of paper phase out next flight before p others records sheet half [] (Some bytes) pending is split (inl w) =
     let course = subst (λ v. Course width records v next w.kept w.ran pending w.due) (ap flight_of is) w.course in
-    let now : Owed width records (p ∷ []) next sheet.items pending =
-    subst (λ v. Owed width records (p ∷ []) next v pending) (sym (items_are width sheet w.kept w.ran w.sheet_is))
-    (course_owed width paper records (p ∷ []) next w.kept w.ran pending [] w.due
-    (subst (λ v. Course width records (p ∷ []) next w.kept w.ran v w.due) (sym (append-nil pending)) course)) in
+    let now : Owed width records flight next sheet.items pending =
+    subst (λ v. Owed width records flight next v pending) (sym (items_are width sheet w.kept w.ran w.sheet_is))
+    (course_owed width paper records flight next w.kept w.ran pending [] w.due
+    (subst (λ v. Course width records flight next w.kept w.ran v w.due) (sym (append-nil pending)) course)) in
     record {
-      answered = owed_promise width of p records next sheet.items pending now;
+      answered = owed_promise width of flight before p others records next sheet.items pending split now;
       given_up = tt;
       newest = inr (record {
         due = w.due;
@@ -179,17 +208,31 @@ in_flight_for width of paper phase out next p records sheet half [] (Some bytes)
         kept = w.kept;
         ran = w.ran;
         sheet_is = w.sheet_is;
-        fulfils = λ a b split one.
-            let on = course_run width paper records (p ∷ []) next w.kept w.ran pending a b (subst (Course width records (p ∷ []) next w.kept w.ran pending) split course) in
-            owed_promise width of p records next (w.kept ++ printed width (w.ran ++ a)) (pending ++ marks a)
-            (course_owed width paper records (p ∷ []) next w.kept (w.ran ++ a) (pending ++ marks a) [] b
-            (subst (λ v. Course width records (p ∷ []) next w.kept (w.ran ++ a) v b) (sym (append-nil (pending ++ marks a))) on))
+        fulfils = λ a b cut one.
+            let on = course_run width paper records flight next w.kept w.ran pending a b (subst (Course width records flight next w.kept w.ran pending) cut course) in
+            owed_promise width of flight before p others records next (w.kept ++ printed width (w.ran ++ a)) (pending ++ marks a) split
+            (course_owed width paper records flight next w.kept (w.ran ++ a) (pending ++ marks a) [] b
+            (subst (λ v. Course width records flight next w.kept (w.ran ++ a) v b) (sym (append-nil (pending ++ marks a))) on))
             (in_back p.mark pending (marks a) one);
       });
     }
-in_flight_for width of paper phase out next p records sheet half (first ∷ others) (Some bytes) pending is (inl w) = absurd (cc w.only)
-in_flight_for width of paper phase out next p records sheet half ended (Some bytes) pending is (inr w) =
-    absurd (let bad : Open (p ∷ []) ≡ Opening w.first = sym is ∙ w.opening in cc)
+in_flight_for width of paper phase out next flight before p others records sheet half (first ∷ more) (Some bytes) pending is split (inl w) = absurd (cc w.only)
+in_flight_for width of paper phase out next flight before p others records sheet half ended (Some bytes) pending is split (inr w) =
+    absurd (let bad : Open flight ≡ Opening w.first = sym is ∙ w.opening in cc)
+
+-- Their marks have numbers below the next one.
+in_order_known : (done todo : List InFlight) (next : ℕ) (queue : List (List ℕ)) → InOrder done todo next queue → Known next (closing_marks (done ++ todo))
+in_order_known done todo next queue o = rising_known o.base next (done ++ todo) o.rising
+
+pub flight_known : (width : ℕ) (phase : Phase) (out : List ℕ) (next : ℕ) (records : List (List Command)) (sheet : Sheet) (half : List ℕ) (ended : List (List ℕ))
+    (live : Option (List ℕ)) (pending : List (List ℕ)) (flight : List InFlight) → phase ≡ Open flight → Way width phase out next records sheet half ended live pending
+    → Known next (closing_marks flight)
+flight_known width phase out next records sheet half ended None pending flight is (inl w) =
+    subst (λ v. Known next (closing_marks v)) (sym w.owed.flight_is ∙ ap flight_of is) (in_order_known w.owed.done w.owed.todo next pending w.owed.order)
+flight_known width phase out next records sheet half ended None pending flight is (inr w) = absurd (let bad : Open flight ≡ Down = sym is ∙ w.down in cc)
+flight_known width phase out next records sheet half ended (Some bytes) pending flight is (inl w) =
+    subst (λ v. Known next (closing_marks v)) (sym w.course.flight_is ∙ ap flight_of is) (in_order_known w.course.done w.course.todo next (pending ++ marks w.course.rest) w.course.order)
+flight_known width phase out next records sheet half ended (Some bytes) pending flight is (inr w) = absurd (let bad : Open flight ≡ Opening w.first = sym is ∙ w.opening in cc)
 
 -- ## Commands are put out on an open link
 

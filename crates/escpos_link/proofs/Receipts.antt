@@ -17,9 +17,10 @@ use Rattle.escpos_printer.specs.Blocks.{most_waiting, others}
 use Rattle.escpos_printer.specs.ReadyFor.{IsReadyFor}
 use Rattle.escpos_printer.specs.Replies.{is_offline, replies, reply}
 use Rattle.escpos_host.specs.declared.host.HostEvent.TheVariants as heard
-use Rattle.escpos_host.specs.Heard.{IsClosing, opened as opened_host, recorded}
+use Rattle.escpos_host.specs.Heard.{IsFirstWith, opened as opened_host, recorded}
 use Rattle.escpos_host.specs.Machine.{HostView, InFlight, IsSound, Down, Opening, Open, linked, next_mark, submitted}
 use Rattle.escpos_receipt.specs.Whole.{Whole, is_forbidden}
+use Rattle.escpos_host.proofs.Recording.{one_has}
 use Rattle.escpos_link.specs.declared.event.Event.TheVariants as event
 use Rattle.escpos_link.specs.declared.event.Note.{Note}
 use Rattle.escpos_link.specs.EventTable.{After, answers_left, with_host}
@@ -95,17 +96,26 @@ opening_loaded laws h p few half none online = record {
   short = omega arith;
 }
 
+not_open : (first : ℕ) (flight : List InFlight) → Opening first ≡ Open flight → ⊥
+not_open first flight e = cc e
+
 opening_expects : (h : HostView) → h.next < mark_count → Expects (emptied (linked h)) (mark_of h.next) (opened_host (emptied (linked h)))
-opening_expects h few at heard.None after (ignores, same) = absurd ignores
-opening_expects h few at heard.Opened after (first, id, phase, is, opening, same) = (λ ends. ends, same)
-opening_expects h few at (heard.Recorded n) after (p, ps, phase, is, number, same) = let bad : Opening h.next ≡ Open (p ∷ ps) = phase in absurd cc
-opening_expects h few at (heard.Late id) after (first, phase, is, other, same) =
+opening_expects h few heard.None after (ignores, same) = absurd ignores
+opening_expects h few heard.Opened after (first, id, phase, is, opening, same) = (λ ends. ends, same)
+opening_expects h few (heard.Recorded n) after (id, is, r) = absurd (elim r.way [
+  | inl (flight, phase, f, same) ↦ not_open h.next flight phase
+  | inr (first, phase, other, f, same) ↦
+      let begun : h.next ≡ first = cc phase in
+      let one : mark_of h.next ≡ id = cc is in
+      other (h.next, omega (arith, begun), omega arith, few, one)
+])
+opening_expects h few (heard.Late id) after (first, phase, is, other, unleft, same) =
     let begun : h.next ≡ first = cc phase in
     let one : mark_of h.next ≡ id = cc is in
     absurd (other (h.next, omega (arith, begun), omega arith, few, one))
-opening_expects h few at (heard.Status b) after (is, same) = let bad : answer.Mark (mark_of h.next) ≡ answer.Status b = is in absurd cc
-opening_expects h few at (heard.Condition block) after (is, same) = let bad : answer.Mark (mark_of h.next) ≡ answer.Condition block = is in absurd cc
-opening_expects h few at (heard.BadAnswer place) after (p, ps, id, phase, is, other, closing, here, same) = let bad : Opening h.next ≡ Open (p ∷ ps) = phase in absurd cc
+opening_expects h few (heard.Status b) after (is, same) = let bad : answer.Mark (mark_of h.next) ≡ answer.Status b = is in absurd cc
+opening_expects h few (heard.Condition block) after (is, same) = let bad : answer.Mark (mark_of h.next) ≡ answer.Condition block = is in absurd cc
+opening_expects h few (heard.BadAnswer place) after turns = absurd turns
 
 -- A printer from which the answers were taken, otherwise as it was but for what it took.
 taken_ready : (expected : HostView) (before after : PrinterView) (cs : List Command) → Took before (spell cs) cs after → after.half ≡ [] → is_offline before.condition ≡ false
@@ -196,26 +206,27 @@ sent_loaded laws h p receipt few whole known out half short no_half none online 
 abbrev in_flight : HostView → List Command → InFlight
 in_flight h receipt = record { receipt = receipt; mark = mark_of h.next }
 
+only_recorded : (h : HostView) (receipt : List Command) (after : HostView) (id : List ℕ) (flight before : List InFlight) (last : InFlight) (others : List InFlight)
+    → Open (in_flight h receipt ∷ []) ≡ Open flight → IsFirstWith id flight before last others → after ≡ recorded (emptied (submitted h [] receipt)) (before ++ last ∷ []) others
+    → (⊥ → ⊥) × (after ≡ recorded (emptied (submitted h [] receipt)) (in_flight h receipt ∷ []) [])
+only_recorded h receipt after id flight before last others phase f same =
+    let now : HostView = emptied (submitted h [] receipt) in
+    let flying : in_flight h receipt ∷ [] ≡ flight = cc phase in
+    let one = one_has (in_flight h receipt) last before others (flying ∙ f.all_are) in
+    (λ ends. ends, same ∙ ap (λ v. recorded now (v ++ last ∷ []) others) one.0 ∙ ap (λ v. recorded now (v ∷ []) others) one.1 ∙ ap (recorded now (in_flight h receipt ∷ [])) one.2)
+
 sent_expects : (h : HostView) (receipt : List Command)
-    → Expects (emptied (submitted h [] receipt)) (mark_of h.next) (recorded (emptied (submitted h [] receipt)) (in_flight h receipt) [])
-sent_expects h receipt at heard.None after (ignores, same) = absurd (ignores (inl refl))
-sent_expects h receipt at heard.Opened after (first, id, phase, is, opening, same) = let bad : Open (in_flight h receipt ∷ []) ≡ Opening first = phase in absurd cc
-sent_expects h receipt at (heard.Recorded n) after (p, ps, phase, is, number, same) =
-    let flight : Open (in_flight h receipt ∷ []) ≡ Open (p ∷ ps) = phase in
-    let one : p ≡ in_flight h receipt = cc flight in
-    let others : ps ≡ [] = cc flight in
-    (λ ends. ends, same ∙ ap (λ q. recorded (emptied (submitted h [] receipt)) q ps) one ∙ ap (λ qs. recorded (emptied (submitted h [] receipt)) (in_flight h receipt) qs) others)
-sent_expects h receipt at (heard.Late id) after (first, phase, is, other, same) = let bad : Open (in_flight h receipt ∷ []) ≡ Opening first = phase in absurd cc
-sent_expects h receipt at (heard.Status b) after (is, same) = let bad : answer.Mark (mark_of h.next) ≡ answer.Status b = is in absurd cc
-sent_expects h receipt at (heard.Condition block) after (is, same) = let bad : answer.Mark (mark_of h.next) ≡ answer.Condition block = is in absurd cc
-sent_expects h receipt at (heard.BadAnswer place) after (p, ps, id, phase, is, other, closing, here, same) =
-    let flight : Open (in_flight h receipt ∷ []) ≡ Open (p ∷ ps) = phase in
-    let others : ps ≡ [] = cc flight in
-    absurd (none_closing ps id others closing)
-  where
-    none_closing : (ps : List InFlight) (id : List ℕ) → ps ≡ [] → IsClosing ps id → ⊥
-    none_closing [] id e closing = closing
-    none_closing (q ∷ qs) id e closing = cc e
+    → Expects (emptied (submitted h [] receipt)) (mark_of h.next) (recorded (emptied (submitted h [] receipt)) (in_flight h receipt ∷ []) [])
+sent_expects h receipt heard.None after (ignores, same) = absurd (ignores (inl refl))
+sent_expects h receipt heard.Opened after (first, id, phase, is, opening, same) = let bad : Open (in_flight h receipt ∷ []) ≡ Opening first = phase in absurd cc
+sent_expects h receipt (heard.Recorded n) after (id, is, r) = elim r.way [
+  | inl (flight, phase, f, same) ↦ only_recorded h receipt after id flight r.before r.last r.others phase f same
+  | inr (first, phase, other, f, same) ↦ absurd (not_open first (in_flight h receipt ∷ []) (sym phase))
+]
+sent_expects h receipt (heard.Late id) after (first, phase, is, other, unleft, same) = let bad : Open (in_flight h receipt ∷ []) ≡ Opening first = phase in absurd cc
+sent_expects h receipt (heard.Status b) after (is, same) = let bad : answer.Mark (mark_of h.next) ≡ answer.Status b = is in absurd cc
+sent_expects h receipt (heard.Condition block) after (is, same) = let bad : answer.Mark (mark_of h.next) ≡ answer.Condition block = is in absurd cc
+sent_expects h receipt (heard.BadAnswer place) after turns = absurd turns
 
 -- A receipt that was recorded: the line is ready, and it was run between an Init and a mark.
 pub record IsSentOn (m after : LineView) (receipt : List Command) : Type 0 where
@@ -233,7 +244,7 @@ sending_done laws m after receipt ready whole known short (n, m1, ((flight, done
     let plain : m1 ≡ plain_line (submitted h [] receipt) p [] [] =
     same ∙ ap (λ f. with_host m (submitted h f receipt)) none ∙ ap (λ v. with_host v (submitted h [] receipt)) ready.line in
     let happened = subst (λ v. Happened v exchange after) plain rest in
-    let expected = recorded (emptied (submitted h [] receipt)) (in_flight h receipt) [] in
+    let expected = recorded (emptied (submitted h [] receipt)) (in_flight h receipt ∷ []) [] in
     let x = exchanged laws (plain_line (submitted h [] receipt) p [] []) after (sent_with receipt (mark_of h.next)) (mark_of h.next) expected
     (sent_loaded laws h p receipt mark whole known ready.out ready.half short ready.no_half ready.none ready.online) (sent_expects h receipt) happened in
     record {

@@ -48,7 +48,7 @@ emptied h = record { phase = h.phase; out = []; half = h.half; next = h.next; re
 
 -- What the answer to the mark does to the host.
 abbrev pub Expects : HostView → List ℕ → HostView → Type 0
-Expects h id expected = (at : ℕ) (e : HostEvent) (after : HostView) → Turns h (answer.Mark id) at e after → (EndsLink e → ⊥) × (after ≡ expected)
+Expects h id expected = (e : HostEvent) (after : HostView) → Turns h (answer.Mark id) e after → (EndsLink e → ⊥) × (after ≡ expected)
 
 -- ## The events of an exchange
 
@@ -125,7 +125,7 @@ heard_all : Laws → (h host expected : HostView) (p : PrinterView) (id : List �
 heard_all laws h host expected p id events consumed up half known expects hears =
     let bytes = answer_bytes (answer.Mark id) in
     let turn = laws.one_answer h host (answer.Mark id) events consumed up half known hears in
-    let told = expects turn.0 (last_of events) host turn.1 in
+    let told = expects (last_of events) host turn in
     let whole = subst (λ x. AreWholeAnswers (x ++ (bytes ++ []))) (sym half) (one_whole (answer.Mark id) known) in
     elim (laws.leaves h host bytes [] events consumed up whole hears) [
       | inl off ↦ absurd (told.0 off.ends)

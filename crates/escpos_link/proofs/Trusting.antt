@@ -1,431 +1,158 @@
 -- What lets records be trusted holds for a line after each event, and after each refusal; and no answer ends the host's
 -- link.
-use Rattle.std.proofs.Common.{◌≡◌, ◌≢◌, ◌<◌, ◌+◌, ◌≤◌, inl, inr, ℕ, List, [], ◌∷◌, ◌++◌, length, take, drop, Option, Some, None, refl, sym, ◌∙◌, ap, subst, arith, append-nil, append_assoc, take-append-drop, IsTrue}
-use Rattle.std.specs.Prelude.{Bool, true, false, ◌&&◌, if◌then◌else◌}
-use Rattle.std.proofs.lemmas.Grind.{flat_map-append}
-use Rattle.std.specs.List.{AllByRecursion}
-use Rattle.escpos_command.specs.declared.answer.Answer.{Answer}
-use Rattle.escpos_command.specs.declared.answer.Answer.TheVariants as answer
+use Rattle.std.proofs.Common.{◌≡◌, ◌≢◌, ◌<◌, ◌≤◌, ◌+◌, inl, inr, ℕ, List, [], ◌∷◌, ◌++◌, take, refl, sym, ◌∙◌, ap, subst, arith, None}
 use Rattle.escpos_command.specs.declared.command.Command.{Command}
-use Rattle.escpos_command.specs.declared.command.Command.TheVariants as kind
-use Rattle.escpos_command.specs.Answers.{Hears, answer_bytes, is_answer, spell_answers}
-use Rattle.escpos_command.specs.CommandTable.{AreCommands}
 use Rattle.escpos_command.specs.Digits.{mark_count, mark_of}
-use Rattle.escpos_command.specs.Marks.{marks}
-use Rattle.escpos_command.specs.Meanings.{reports}
-use Rattle.escpos_paper.specs.declared.item.Item.{Item}
-use Rattle.escpos_paper.specs.Page.{Sheet, SheetIs}
-use Rattle.escpos_printer.specs.declared.condition.Condition.{Condition}
-use Rattle.escpos_printer.specs.declared.printer.FeedStop.{FeedStop}
-use Rattle.escpos_printer.specs.declared.printer.FeedStop.TheVariants as stop
-use Rattle.escpos_printer.specs.Feeds.{Feeds, PrinterView, Took, left_half}
-use Rattle.escpos_printer.specs.Blocks.{others, with_one_block}
-use Rattle.escpos_printer.specs.Replies.{after_change, condition_block, is_change, replies, reply}
+use Rattle.escpos_paper.specs.Page.{SheetIs}
+use Rattle.escpos_printer.specs.Feeds.{PrinterView}
 use Rattle.escpos_host.specs.declared.host.HostEvent.{HostEvent}
 use Rattle.escpos_host.specs.declared.host.HostEvent.TheVariants as heard
-use Rattle.escpos_host.specs.Heard.{EndsLink, HearsAll, last_of}
-use Rattle.escpos_host.specs.Machine.{HasMark, HostView, InFlight, IsOpening, IsSound, Phase, Down, Opening, Open, ask_reports, asked, gone_down, linked, linked_reporting, nudged, reports_asked, submitted}
+use Rattle.escpos_host.specs.Heard.{EndsLink, last_of}
+use Rattle.escpos_host.specs.Machine.{HasMark, HostView, InFlight, IsOpening, IsSound, Phase, Down, Opening, Open, gone_down, linked, linked_reporting, unanswered}
 use Rattle.escpos_link.specs.declared.event.Event.{Event}
 use Rattle.escpos_link.specs.declared.event.Event.TheVariants as event
-use Rattle.escpos_link.specs.declared.event.Handed.{Handed}
-use Rattle.escpos_link.specs.declared.event.Handed.TheVariants as handed
 use Rattle.escpos_link.specs.declared.event.Note.{Note}
 use Rattle.escpos_link.specs.declared.event.Note.TheVariants as note
-use Rattle.escpos_link.specs.EventTable.{After, HandsOver, Leaves, Restarted, answers_left, delivered, ended_fed, first_link, heard_to, hung_up, left_by, live_fed, moved, off_link, on_its_way, restarted, told_at, with_host, with_new_link, with_printer, without_first}
+use Rattle.escpos_link.specs.declared.event.Handed.{Handed}
+use Rattle.escpos_link.specs.declared.event.Handed.TheVariants as handed
+use Rattle.escpos_link.specs.EventTable.{After, HandsOver, Leaves, delivered, hung_up, left_by, off_link, told_at, with_host}
+use Rattle.escpos_printer.specs.declared.printer.FeedStop.{FeedStop}
+use Rattle.escpos_printer.specs.declared.printer.FeedStop.TheVariants as stop
 use Rattle.escpos_link.specs.Line.{IsLine, LineView}
-use Rattle.escpos_link.specs.Resumed.{resumed, resumed_host}
+use Rattle.escpos_link.specs.Promised.{PromisedIn}
+use Rattle.escpos_link.specs.Promising.{PutsOther}
+use Rattle.escpos_link.specs.Resumed.{resumed}
 use Rattle.escpos_link.specs.Stands.{Stands}
-use Rattle.escpos_link.specs.Trusted.{Fresh, IsFitting, IsKnown, IsRest, Known, IsTrusted, Off, StillTrusted, Trusted, Way, answered, answered_marks, flight_of}
-use Rattle.escpos_link.proofs.Aligning.{OfReadings, marks_append}
-use Rattle.escpos_link.proofs.AfterAnswers.{InWay, turn_way}
-use Rattle.escpos_link.proofs.Claiming.{OfPaper, course_stands, owed_stands}
-use Rattle.escpos_link.proofs.Feeding.{Read, fed_way}
-use Rattle.escpos_link.proofs.Standing.{stands_front}
-use Rattle.escpos_link.proofs.AfterHearing.{dropped, drop-nil, heard_line, heard_line_is}
-use Rattle.escpos_link.proofs.Leaving.{items_are, leaves_way, off_way, opened_way}
-use Rattle.escpos_link.proofs.Links.{mark_fresh, request_fresh}
-use Rattle.escpos_link.proofs.Numbers.{OfNumbers, known_back, known_front, known_join}
-use Rattle.escpos_link.proofs.AfterPutting.{asked_way, moved_way, nudged_way, submitted_way}
-use Rattle.escpos_link.proofs.Turning.{Goes, OfAnswers, heard_in_turn}
-
--- What the laws of the layers below say.
-pub record Laws : Type 0 where
-  pub readings : OfReadings
-  pub numbers : OfNumbers
-  pub paper : OfPaper
-  pub answers : OfAnswers
-
--- The way of a line with these answers on their way to its host.
-abbrev pub WayOf : ℕ → LineView → List Answer → Type 0
-WayOf width l answers =
-    Way width l.host.phase l.host.out l.host.next l.host.records l.printer.sheet l.printer.half l.ended l.live (answered_marks (answers ++ l.printer.waiting))
-
-pub marks_join : (some others : List Answer) → answered_marks (some ++ others) ≡ answered_marks some ++ answered_marks others
-marks_join some others = flat_map-append answered some others
-
-pub none_heard : Hears [] [] []
-none_heard = record { in_range = tt; whole = refl; rest_is = inl refl }
-
--- The width is that of the line's printer.
-pub width_is : (width : ℕ) (l : LineView) → Trusted width l → l.printer.sheet.line_dots ≡ width
-width_is width l t = ap (λ (s : Sheet). s.line_dots) t.reached.2
+use Rattle.escpos_link.specs.Trusted.{AllPromised, IsFitting, IsNotOpen, IsTrusted, StillTrusted, Trusted}
+use Rattle.escpos_link.specs.Ways.{IsKnown, OnWay}
+use Rattle.escpos_link.proofs.Claiming.{OfPaper}
+use Rattle.escpos_link.proofs.Hearing.{all_on, answered_trusted}
+use Rattle.escpos_link.proofs.Numbers.{OfNumbers, known_one}
+use Rattle.escpos_link.proofs.PromisedEvents.{all_flying, off_promised, promised}
+use Rattle.escpos_link.proofs.WayKept.{Laws, begun_on_way, on_way, on_way_stands, resumed_on_way, width_is}
 
 -- So where a line is still trusted for the width of before, it is for its own, which is the same.
 pub still : (l after : LineView) → Trusted l.printer.sheet.line_dots after → StillTrusted l after
 still l after t =
-    let same = width_is l.printer.sheet.line_dots after t in
+    let same = width_is l.printer.sheet.line_dots after t.on_way in
     (subst (λ v. Trusted v after) (sym same) t, same)
 
 -- ## The headline
 
-way_stands : (width : ℕ) → OfPaper → (phase : Phase) (out : List ℕ) (next : ℕ) (records : List (List Command)) (sheet : Sheet) (half : List ℕ) (ended : List (List ℕ))
-    (live : Option (List ℕ)) (pending : List (List ℕ)) → Way width phase out next records sheet half ended live pending → Stands width records sheet.items
-way_stands width paper phase out next records sheet half ended None pending (inl w) = owed_stands width records (flight_of phase) next sheet.items pending w.owed
-way_stands width paper phase out next records sheet half ended None pending (inr w) = w.stands
-way_stands width paper phase out next records sheet half ended (Some bytes) pending (inl w) =
-    subst (Stands width records) (sym (items_are width sheet w.kept w.ran w.sheet_is)) (course_stands width paper records (flight_of phase) next w.kept w.ran pending w.due w.course)
-way_stands width paper phase out next records sheet half ended (Some bytes) pending (inr w) = w.stands
-
 pub stands : (width : ℕ) → OfPaper → (l : LineView) → Trusted width l → Stands width l.host.records l.printer.sheet.items
-stands width paper l t = way_stands width paper _ _ _ _ _ _ _ l.live _ t.way
+stands width paper l t = on_way_stands width paper l t.on_way
 
--- ## What the host does
+-- ## What is left
 
-opened_trusted : (width : ℕ) → Laws → (l : LineView) (bytes : List ℕ) → IsSound l.host → IsLine l → l.host.phase ≡ Down → Fresh (l.host.next + 1) bytes → Trusted width l
-    → Trusted width (with_new_link l (record { phase = Opening l.host.next; out = bytes; half = []; next = l.host.next + 1; records = l.host.records; left = [] }))
-opened_trusted width laws l bytes sound i is_down fresh t = record {
-  answers = [];
-  hears = subst (λ v. Hears v [] []) (sym (i.quiet is_down)) none_heard;
-  half = t.half;
-  reached = t.reached;
-  way = opened_way width laws.paper l.host.phase l.host.out l.host.next l.host.records l.printer.sheet l.printer.half l.ended l.live (answered_marks t.answers)
-      (answered_marks l.printer.waiting) bytes (i.down is_down) is_down fresh t.half
-      (subst (Way width l.host.phase l.host.out l.host.next l.host.records l.printer.sheet l.printer.half l.ended l.live) (marks_join t.answers l.printer.waiting) t.way);
-}
+next_other : OfNumbers → (next : ℕ) (id : List ℕ) → next < mark_count → IsKnown next id → mark_of next ≢ id
+next_other of next id few (k, less, small, mark) same = let one = of.one_number k next small few (mark ∙ sym same) in omega (arith, less, one)
 
--- The host put something out, and nothing else happened.
-put_trusted : (width : ℕ) (l : LineView) (host : HostView) (t : Trusted width l) → host.half ≡ l.host.half → WayOf width (with_host l host) t.answers → Trusted width (with_host l host)
-put_trusted width l host t same way = record {
-  answers = t.answers;
-  hears = subst (λ v. Hears (v ++ l.coming) t.answers []) (sym same) t.hears;
-  half = t.half;
-  reached = t.reached;
-  way = way;
-}
+-- A mark with a number below the next one isn't the one that an event puts out.
+puts_other : OfNumbers → (e : Event) (l after : LineView) (n : Note) (id : List ℕ) → After e l n after → IsKnown l.host.next id → PutsOther e l.host id
+puts_other of event.LinkUp l after n id (done, is_down, few, same) known = next_other of l.host.next id few known
+puts_other of event.LinkUpReporting l after n id (done, is_down, few, same) known = next_other of l.host.next id few known
+puts_other of event.Nudge l after n id (done, opening, few, same) known = next_other of l.host.next id few known
+puts_other of (event.Submit receipt) l after n id (flight, done, is, room, few, same) known = next_other of l.host.next id few known
+puts_other of (event.Ask kind) l after n id happened known = tt
+puts_other of event.AskReports l after n id happened known = tt
+puts_other of (event.Move k) l after n id happened known = tt
+puts_other of (event.Deliver k) l after n id happened known = tt
+puts_other of event.HandOver l after n id happened known = tt
+puts_other of (event.Answer k) l after n id happened known = tt
+puts_other of event.PrinterLeaves l after n id happened known = tt
+puts_other of event.PrinterRestart l after n id happened known = tt
+puts_other of event.HostDrops l after n id happened known = tt
+puts_other of (event.HostRestart f) l after n id happened known = tt
+puts_other of (event.SetCondition condition) l after n id happened known = tt
 
-nudged_trusted : (width : ℕ) → Laws → (l : LineView) → IsOpening l.host.phase → HasMark l.host → Trusted width l → Trusted width (with_host l (nudged l.host))
-nudged_trusted width laws l is few t =
-    put_trusted width l (nudged l.host) t refl
-    (nudged_way width laws.readings laws.numbers laws.paper l.host.phase l.host.out l.host.next l.host.records l.printer.sheet l.printer.half l.ended l.live _ is few t.way)
+-- What is left stays promised, where it and the records are the same.
+left_stays : (width : ℕ) → Laws → (e : Event) (l after : LineView) (n : Note) → IsFitting e → IsSound l.host → IsLine l → After e l n after → Trusted width l
+    → after.host.left ≡ l.host.left → after.host.records ≡ l.host.records → l.host.next ≤ after.host.next → IsNotOpen l.host.phase
+    → AllPromised width after.host.records after.host.left after
+left_stays width laws e l after n fits sound i happened t left records more not_open =
+    subst (λ rs. AllPromised width rs after.host.left after) (sym records)
+    (subst (λ ps. AllPromised width l.host.records ps after) (sym left)
+    (all_on width l.host.records l.host.left l after (λ id known. known_one l.host.next after.host.next id more known)
+    (λ rs p known w. promised width laws e l after n rs p fits sound i happened t (puts_other laws.numbers e l after n p.mark happened known) w) (t.left not_open)))
 
-pub are_join : (some others : List Command) → AreCommands some → AreCommands others → AreCommands (some ++ others)
-are_join [] others a b = b
-are_join (c ∷ some) others a b = (a.0, are_join some others a.1 b)
+-- The same where the host is as it was.
+host_stays : (width : ℕ) → Laws → (e : Event) (l after : LineView) (n : Note) → IsFitting e → IsSound l.host → IsLine l → After e l n after → Trusted width l
+    → after.host ≡ l.host → IsNotOpen after.host.phase → AllPromised width after.host.records after.host.left after
+host_stays width laws e l after n fits sound i happened t same not_open =
+    left_stays width laws e l after n fits sound i happened t (ap (λ (h : HostView). h.left) same) (ap (λ (h : HostView). h.records) same)
+    (subst (λ k. l.host.next ≤ k) (sym (ap (λ (h : HostView). h.next) same)) (omega arith)) (subst IsNotOpen (ap (λ (h : HostView). h.phase) same) not_open)
 
-submitted_trusted : (width : ℕ) → Laws → (l : LineView) (flight : List InFlight) (receipt : List Command) → l.host.phase ≡ Open flight → HasMark l.host
-    → IsFitting (event.Submit receipt) → Trusted width l → Trusted width (with_host l (submitted l.host flight receipt))
-submitted_trusted width laws l flight receipt is few fits t =
-    let all : AreCommands (kind.Init ∷ (receipt ++ kind.Mark (mark_of l.host.next) ∷ [])) =
-    (refl, are_join receipt (kind.Mark (mark_of l.host.next) ∷ []) fits.1 (laws.numbers.ids l.host.next few, tt)) in
-    put_trusted width l (submitted l.host flight receipt) t refl
-    (submitted_way width laws.readings laws.numbers l.host.phase l.host.out l.host.next l.host.records l.printer.sheet l.printer.half l.ended l.live _ flight receipt is few
-    fits.0 fits.1 all t.way)
+left_by_host : (why : FeedStop) (m : LineView) → (left_by why m).host ≡ m.host
+left_by_host stop.All m = refl
+left_by_host stop.AnswersFull m = refl
+left_by_host stop.Offline m = refl
+left_by_host stop.Memory m = refl
+left_by_host (stop.Fault at why) m = refl
 
-asked_trusted : (width : ℕ) → Laws → (l : LineView) (n : ℕ) → l.host.phase ≡ Open [] → IsFitting (event.Ask n) → Trusted width l → Trusted width (with_host l (asked l.host n))
-asked_trusted width laws l n is fits t =
-    put_trusted width l (asked l.host n) t refl
-    (asked_way width laws.readings laws.paper l.host.phase l.host.out l.host.next l.host.records l.printer.sheet l.printer.half l.ended l.live _ (kind.Status n) is fits refl t.way)
+hands_host : (l after : LineView) (what : Handed) → HandsOver l what after → after.host ≡ l.host
+hands_host l after handed.None (none, same) = ap (λ (v : LineView). v.host) same
+hands_host l after handed.Lost (a, answers, waits, links, same) = ap (λ (v : LineView). v.host) same
+hands_host l after handed.On (a, answers, waits, links, live, same) = ap (λ (v : LineView). v.host) same
 
-reports_trusted : (width : ℕ) → Laws → (l : LineView) → l.host.phase ≡ Open [] → Trusted width l → Trusted width (with_host l (reports_asked l.host))
-reports_trusted width laws l is t =
-    put_trusted width l (reports_asked l.host) t refl
-    (asked_way width laws.readings laws.paper l.host.phase l.host.out l.host.next l.host.records l.printer.sheet l.printer.half l.ended l.live _ ask_reports is refl refl t.way)
+-- What was in flight is left, each promised after those before it.
+flight_left : (width : ℕ) → Laws → (l : LineView) (flight : List InFlight) → l.host.phase ≡ Open flight → Trusted width l
+    → AllPromised width l.host.records flight (off_link (with_host l (gone_down l.host)))
+flight_left width laws l flight is t =
+    all_on width l.host.records flight l (off_link (with_host l (gone_down l.host))) (λ id known. known) (λ rs p known w. off_promised width l rs p (gone_down l.host) refl w)
+    (all_flying width laws l flight t.on_way is)
 
-next_known : (next : ℕ) → next < mark_count → IsKnown (next + 1) (mark_of next)
-next_known next few = (next, omega arith, few, refl)
+hung_left : (width : ℕ) → Laws → (l after : LineView) (n : Note) (phase : Phase) → IsSound l.host → IsLine l → After event.HostDrops l n after → Trusted width l → l.host.phase ≡ phase
+    → after ≡ off_link (with_host l (hung_up phase l.host)) → IsNotOpen after.host.phase → AllPromised width after.host.records after.host.left after
+hung_left width laws l after n Down sound i happened t is same not_open =
+    host_stays width laws event.HostDrops l after n tt sound i happened t (ap (λ (v : LineView). v.host) same) not_open
+hung_left width laws l after n (Opening first) sound i happened t is same not_open =
+    left_stays width laws event.HostDrops l after n tt sound i happened t (ap (λ (v : LineView). v.host.left) same ∙ ap (λ p. unanswered p l.host.left) is)
+    (ap (λ (v : LineView). v.host.records) same) (subst (λ k. l.host.next ≤ k) (sym (ap (λ (v : LineView). v.host.next) same)) (omega arith)) (subst IsNotOpen (sym is) tt)
+hung_left width laws l after n (Open flight) sound i happened t is same not_open =
+    subst (λ (v : LineView). AllPromised width v.host.records v.host.left v) (sym same)
+    (subst (λ ps. AllPromised width l.host.records ps (off_link (with_host l (gone_down l.host)))) (sym (ap (λ p. unanswered p l.host.left) is)) (flight_left width laws l flight is t))
 
-moved_trusted : (width : ℕ) (l : LineView) (n : ℕ) → Trusted width l → Trusted width (moved l n)
-moved_trusted width l n t = record {
-  answers = t.answers;
-  hears = t.hears;
-  half = t.half;
-  reached = t.reached;
-  way = moved_way width l.host.phase l.host.out l.host.next l.host.records l.printer.sheet l.printer.half l.ended l.live _ n t.way;
-}
-
--- The host is off its link, with the first of its records and a next number that isn't below the one it had.
-off_trusted : (width : ℕ) → Laws → (l : LineView) (host : HostView) (forgotten : List (List Command)) → host.phase ≡ Down → host.half ≡ []
-    → l.host.records ≡ host.records ++ forgotten → l.host.next ≤ host.next → Trusted width l → Trusted width (off_link (with_host l host))
-off_trusted width laws l host forgotten is_down none split more t =
-    let off = off_way width laws.paper l.host.phase l.host.out l.host.next host.next l.host.records l.printer.sheet l.printer.half l.ended l.live (answered_marks t.answers)
-    (answered_marks l.printer.waiting) more
-    (subst (Way width l.host.phase l.host.out l.host.next l.host.records l.printer.sheet l.printer.half l.ended l.live) (marks_join t.answers l.printer.waiting) t.way) in
-    record {
-      answers = [];
-      hears = subst (λ v. Hears (v ++ []) [] []) (sym none) none_heard;
-      half = t.half;
-      reached = t.reached;
-      way = inr (record {
-        down = is_down;
-        stands = stands_front width host.records forgotten l.printer.sheet.items (subst (λ v. Stands width v l.printer.sheet.items) split off.stands);
-        known = off.known;
-        given_up = off.given_up;
-      });
-    }
-
-hung_trusted : (width : ℕ) → Laws → (l : LineView) (phase : Phase) → l.host.phase ≡ phase → IsSound l.host → Trusted width l → Trusted width (off_link (with_host l (hung_up phase l.host)))
-hung_trusted width laws l Down is sound t = off_trusted width laws l l.host [] is (sound.quiet is).1 (sym (append-nil l.host.records)) (omega arith) t
-hung_trusted width laws l (Opening first) is sound t = off_trusted width laws l (gone_down l.host) [] refl refl (sym (append-nil l.host.records)) (omega arith) t
-hung_trusted width laws l (Open flight) is sound t = off_trusted width laws l (gone_down l.host) [] refl refl (sym (append-nil l.host.records)) (omega arith) t
-
--- The host goes on with the first of its records.
-pub resumed_trusted : (width : ℕ) → Laws → (l : LineView) (f count : ℕ) → l.host.next ≤ f → Trusted width l → Trusted width (resumed l f count)
-resumed_trusted width laws l f count least t =
-    off_trusted width laws l (resumed_host l.host f count) (drop count l.host.records) refl refl (sym (take-append-drop count l.host.records)) least t
-
--- ## What the printer does
-
--- The printer leaves its first link; it may have been switched off and on.
-left_trusted : (width : ℕ) → Laws → (l : LineView) (printer : PrinterView) (kept : List Item) (ran : List Command) → SheetIs width printer.sheet kept ran
-    → printer.sheet.items ≡ l.printer.sheet.items → IsRest printer.half → (t : Trusted width l) (ys : List (List ℕ))
-    → answered_marks (t.answers ++ l.printer.waiting) ≡ answered_marks (t.answers ++ printer.waiting) ++ ys → Trusted width (without_first (with_printer l printer))
-left_trusted width laws l printer kept ran is same rest t ys split = record {
-  answers = t.answers;
-  hears = t.hears;
-  half = rest;
-  reached = (kept, ran, is);
-  way = leaves_way width laws.paper l.host.phase l.host.out l.host.next l.host.records l.printer.sheet printer.sheet l.printer.half printer.half l.ended l.live
-      (answered_marks (t.answers ++ printer.waiting)) ys same rest
-      (subst (Way width l.host.phase l.host.out l.host.next l.host.records l.printer.sheet l.printer.half l.ended l.live) split t.way);
-}
-
-restarted_trusted : (width : ℕ) → Laws → (l : LineView) (printer : PrinterView) → Restarted l.printer printer → Trusted width l → Trusted width (without_first (with_printer l printer))
-restarted_trusted width laws l printer r t =
-    let sheet : SheetIs width printer.sheet l.printer.sheet.items [] = subst (λ v. SheetIs v printer.sheet l.printer.sheet.items []) (width_is width l t) r.sheet in
-    left_trusted width laws l printer l.printer.sheet.items [] sheet (items_are width printer.sheet l.printer.sheet.items [] sheet ∙ append-nil l.printer.sheet.items) (inl r.half) t
-    (answered_marks l.printer.waiting)
-    (marks_join t.answers l.printer.waiting
-    ∙ ap (λ v. answered_marks v ++ answered_marks l.printer.waiting) (sym (append-nil t.answers) ∙ ap (λ v. t.answers ++ v) (sym r.waiting)))
-
--- Blocks have no mark: the marks are those of the answers that wait, and those of before the sensors said something new.
-other_marks : (answers : List Answer) → answered_marks (others answers) ≡ answered_marks answers
-other_marks [] = refl
-other_marks (answer.Status b ∷ answers) = other_marks answers
-other_marks (answer.Mark id ∷ answers) = ap (λ v. id ∷ v) (other_marks answers)
-other_marks (answer.Condition block ∷ answers) = other_marks answers
-
-block_marks : (answers : List Answer) → answered_marks (with_one_block answers) ≡ answered_marks answers
-block_marks [] = refl
-block_marks (answer.Status b ∷ answers) = block_marks answers
-block_marks (answer.Mark id ∷ answers) = ap (λ v. id ∷ v) (block_marks answers)
-block_marks (answer.Condition block ∷ answers) = other_marks answers
-
-told_marks : (b : Bool) (block : List ℕ) (waiting : List Answer)
-    → answered_marks (if b then with_one_block (waiting ++ answer.Condition block ∷ []) else waiting) ≡ answered_marks waiting
-told_marks true block waiting = block_marks (waiting ++ answer.Condition block ∷ []) ∙ marks_join waiting (answer.Condition block ∷ []) ∙ append-nil (answered_marks waiting)
-told_marks false block waiting = refl
-
-pub changed_marks : (answers : List Answer) (automatic : ℕ) (old new : Condition) (waiting : List Answer)
-    → answered_marks (answers ++ waiting) ≡ answered_marks (answers ++ after_change automatic old new waiting)
-changed_marks answers automatic old new waiting =
-    marks_join answers waiting ∙ ap (λ v. answered_marks answers ++ v) (sym (told_marks (reports automatic && is_change old new) (condition_block new) waiting))
-    ∙ sym (marks_join answers (after_change automatic old new waiting))
-
-no_mark : (b : Bool) (block : List ℕ) → answered_marks (if b then answer.Condition block ∷ [] else []) ≡ []
-no_mark true block = refl
-no_mark false block = refl
-
--- The marks that a printer answers are those that it ran.
-one_answered : (condition : Condition) (c : Command) → answered_marks (reply condition c) ≡ marks (c ∷ [])
-one_answered condition (kind.Status n) = refl
-one_answered condition (kind.Mark id) = refl
-one_answered condition (kind.AutomaticStatus n) = no_mark (reports n) (condition_block condition)
-one_answered condition c = refl
-
-pub answered_replies : (condition : Condition) (cs : List Command) → answered_marks (replies condition cs) ≡ marks cs
-answered_replies condition [] = refl
-answered_replies condition (c ∷ cs) =
-    marks_join (reply condition c) (replies condition cs) ∙ ap (λ v. v ++ answered_marks (replies condition cs)) (one_answered condition c)
-    ∙ ap (λ v. marks (c ∷ []) ++ v) (answered_replies condition cs) ∙ sym (marks_append (c ∷ []) cs)
-
--- The marks that are answered once the printer took bytes.
-pub grown : (answers : List Answer) (before after : PrinterView) (bytes : List ℕ) (cs : List Command) → Took before bytes cs after
-    → answered_marks (answers ++ before.waiting) ++ marks cs ≡ answered_marks (answers ++ after.waiting)
-grown answers before after bytes cs took =
-    ap (λ v. answered_marks (answers ++ before.waiting) ++ v) (sym (answered_replies before.condition cs))
-    ∙ sym (marks_join (answers ++ before.waiting) (replies before.condition cs))
-    ∙ ap answered_marks (append_assoc answers before.waiting (replies before.condition cs))
-    ∙ marks_join answers (before.waiting ++ replies before.condition cs)
-    ∙ ap (λ v. answered_marks answers ++ v) (sym (block_marks (before.waiting ++ replies before.condition cs)) ∙ ap answered_marks (sym took.answers))
-    ∙ sym (marks_join answers after.waiting)
-
--- Bytes of the first link reached the printer, which took all of them.
-taken_trusted : (width : ℕ) → Laws → (l : LineView) (k n : ℕ) (cs : List Command) (printer : PrinterView) → k ≤ length (take n (first_link l))
-    → Took l.printer (take k (take n (first_link l))) cs printer → Trusted width l → Trusted width (delivered l k printer)
-taken_trusted width laws l k n cs printer few took t =
-    let ran = took.ran in
-    let read : Read width l.printer.sheet printer.sheet l.printer.half printer.half (take k (take n (first_link l))) cs =
-    record { kept = t.reached.0; ran = t.reached.1; before = t.reached.2; page = ran.page width; was = t.half; reads = ran.reads } in
-    record {
-      answers = t.answers;
-      hears = t.hears;
-      half = ran.reads.rest_is;
-      reached = (t.reached.0, t.reached.1 ++ cs, ran.page width t.reached.0 t.reached.1 t.reached.2);
-      way = subst (Way width l.host.phase l.host.out l.host.next l.host.records printer.sheet printer.half (ended_fed l.ended k) (live_fed l.ended l.live k)) (grown t.answers l.printer printer _ cs took)
-          (fed_way width laws.readings laws.numbers laws.paper l.host.phase l.host.out l.host.next l.host.records l.printer.sheet printer.sheet l.printer.half printer.half
-          l.ended l.live _ k n cs few read t.way);
-    }
-
--- What a stop leaves of a printer.
-abbrev pub stopped : FeedStop → PrinterView → PrinterView
-stopped why taken = record { sheet = taken.sheet; half = left_half why taken.half; waiting = taken.waiting; condition = taken.condition; automatic = taken.automatic }
-
-stopped_trusted : (width : ℕ) → Laws → (l : LineView) (k : ℕ) (why : FeedStop) (taken : PrinterView) → Trusted width (delivered l k taken)
-    → Trusted width (left_by why (delivered l k (stopped why taken)))
-stopped_trusted width laws l k stop.All taken t = record { answers = t.answers; hears = t.hears; half = t.half; reached = t.reached; way = t.way }
-stopped_trusted width laws l k stop.AnswersFull taken t = record { answers = t.answers; hears = t.hears; half = t.half; reached = t.reached; way = t.way }
-stopped_trusted width laws l k stop.Offline taken t = record { answers = t.answers; hears = t.hears; half = t.half; reached = t.reached; way = t.way }
-stopped_trusted width laws l k stop.Memory taken t = record { answers = t.answers; hears = t.hears; half = t.half; reached = t.reached; way = t.way }
-stopped_trusted width laws l k (stop.Fault at why) taken t =
-    left_trusted width laws (delivered l k taken) (stopped (stop.Fault at why) taken) t.reached.0 t.reached.1 t.reached.2
-    refl (inl refl) t [] (sym (append-nil _))
-
-fed_trusted : (width : ℕ) → Laws → (l : LineView) (k n : ℕ) (why : FeedStop) (printer : PrinterView) → Feeds l.printer (take n (first_link l)) k why printer → Trusted width l
-    → Trusted width (left_by why (delivered l k printer))
-fed_trusted width laws l k n why printer feeds t =
-    subst (λ p. Trusted width (left_by why (delivered l k p))) (sym feeds.leaves)
-    (stopped_trusted width laws l k why feeds.taken (taken_trusted width laws l k n feeds.commands feeds.taken feeds.within feeds.took t))
-
--- ## Answers
-
--- An answer is lost.
-known_lost : (b : ℕ) (answers waiting : List Answer) (a : Answer) → Known b (answered_marks (answers ++ a ∷ waiting)) → Known b (answered_marks (answers ++ waiting))
-known_lost b answers waiting a k =
-    let split = subst (Known b) (marks_join answers (a ∷ waiting)) k in
-    subst (Known b) (sym (marks_join answers waiting))
-    (known_join b (answered_marks answers) (answered_marks waiting) (known_front b (answered_marks answers) (answered_marks (a ∷ waiting)) split)
-    (known_back b (answered a) (answered_marks waiting) (known_back b (answered_marks answers) (answered_marks (a ∷ waiting)) split)))
-
-lost_way : (width : ℕ) (phase : Phase) (out : List ℕ) (next : ℕ) (records : List (List Command)) (sheet : Sheet) (half : List ℕ) (ended : List (List ℕ))
-    (live : Option (List ℕ)) (xs ys : List (List ℕ)) → ended ≢ [] → ((b : ℕ) → Known b xs → Known b ys) → Way width phase out next records sheet half ended live xs
-    → Way width phase out next records sheet half ended live ys
-lost_way width phase out next records sheet half ended None xs ys some fewer (inl w) = absurd (some w.only)
-lost_way width phase out next records sheet half ended None xs ys some fewer (inr w) =
-    inr (record { down = w.down; stands = w.stands; known = fewer next w.known; given_up = w.given_up })
-lost_way width phase out next records sheet half ended (Some bytes) xs ys some fewer (inl w) = absurd (some w.only)
-lost_way width phase out next records sheet half ended (Some bytes) xs ys some fewer (inr w) = inr (record {
-  first = w.first;
-  opening = w.opening;
-  within = w.within;
-  stands = w.stands;
-  known = fewer w.first w.known;
-  given_up = w.given_up;
-  newest = w.newest;
-})
-
-lost_trusted : (width : ℕ) (l : LineView) (a : Answer) (answers : List Answer) → l.printer.waiting ≡ a ∷ answers → l.ended ≢ [] → Trusted width l
-    → Trusted width (with_printer l (answers_left l.printer answers))
-lost_trusted width l a answers is some t = record {
-  answers = t.answers;
-  hears = t.hears;
-  half = t.half;
-  reached = t.reached;
-  way = lost_way width l.host.phase l.host.out l.host.next l.host.records l.printer.sheet l.printer.half l.ended l.live _ _ some
-      (λ b k. known_lost b t.answers answers a (subst (λ v. Known b (answered_marks (t.answers ++ v))) is k)) t.way;
-}
-
-handed_trusted : (width : ℕ) → Laws → (l : LineView) (a : Answer) (answers : List Answer) → IsLine l → l.printer.waiting ≡ a ∷ answers → Trusted width l → Trusted width (on_its_way l a answers)
-handed_trusted width laws l a answers i is t =
-    let fits = subst (AllByRecursion (λ (v : Answer). IsTrue (is_answer v))) is i.fitting in
-    let one : Hears (answer_bytes a) (a ∷ []) [] =
-    record { in_range = (fits.0, tt); whole = sym (append-nil (spell_answers (a ∷ [])) ∙ append-nil (answer_bytes a)); rest_is = inl refl } in
-    record {
-      answers = t.answers ++ a ∷ [];
-      hears = subst (λ v. Hears v (t.answers ++ a ∷ []) []) (append_assoc l.host.half l.coming (answer_bytes a))
-          (laws.answers.joined (l.host.half ++ l.coming) (answer_bytes a) t.answers (a ∷ []) [] [] t.hears one);
-      half = t.half;
-      reached = t.reached;
-      way = subst (λ v. Way width l.host.phase l.host.out l.host.next l.host.records l.printer.sheet l.printer.half l.ended l.live (answered_marks v))
-          (ap (λ v. t.answers ++ v) is ∙ sym (append_assoc t.answers (a ∷ []) answers)) t.way;
-    }
-
-hands_trusted : (width : ℕ) → Laws → (l after : LineView) (what : Handed) → IsLine l → HandsOver l what after → Trusted width l → Trusted width after
-hands_trusted width laws l after handed.None i (none, same) t = subst (Trusted width) (sym same) t
-hands_trusted width laws l after handed.Lost i (a, answers, waits, links, same) t = subst (Trusted width) (sym same) (lost_trusted width l a answers waits links t)
-hands_trusted width laws l after handed.On i (a, answers, waits, links, live, same) t = subst (Trusted width) (sym same) (handed_trusted width laws l a answers i waits t)
-
--- The host hears answers, and none of them ends its link.
-pub record Answered (width : ℕ) (events : List HostEvent) (after : LineView) : Type 0 where
-  pub on : EndsLink (last_of events) → ⊥
-  pub trusted : Trusted width after
-
-down_answered : (width : ℕ) (l : LineView) (consumed : ℕ) → IsLine l → l.host.phase ≡ Down → Trusted width l → Trusted width (heard_line l l.host (drop consumed l.coming))
-down_answered width l consumed i is_down t =
-    subst (λ bs. Trusted width (heard_line l l.host bs)) (sym (drop-nil consumed l.coming (i.quiet is_down)))
-    (record { answers = t.answers; hears = t.hears; half = t.half; reached = t.reached; way = t.way })
-
-pub answered_trusted : (width : ℕ) → Laws → (l : LineView) (k consumed : ℕ) (events : List HostEvent) (host : HostView) → IsLine l
-    → HearsAll l.host (take k l.coming) events consumed host → Trusted width l → Answered width events (heard_to (last_of events) l consumed host)
-answered_trusted width laws l k consumed events host i (inl (is_down, none, all, same)) t =
-    subst (λ es. Answered width es (heard_to (last_of es) l consumed host)) (sym none)
-    (record { on = λ ends. ends; trusted = subst (λ h. Trusted width (heard_line l h (drop consumed l.coming))) (sym same) (down_answered width l consumed i is_down t) })
-answered_trusted width laws l k consumed events host i (inr (up, hears)) t =
-    let P = InWay width l.printer.sheet l.printer.half l.ended l.live l.printer.waiting in
-    let goes : Goes P l.host (take k l.coming ++ drop k l.coming) =
-    record {
-      up = up;
-      answers = t.answers;
-      hears = subst (λ v. Hears (l.host.half ++ v) t.answers []) (sym (take-append-drop k l.coming)) t.hears;
-      holds = t.way;
-    } in
-    let r = heard_in_turn P laws.answers (turn_way width laws.numbers l.printer.sheet l.printer.half l.ended l.live l.printer.waiting) events l.host host (take k l.coming)
-    (drop k l.coming) consumed goes hears in
-    let rest : drop consumed l.coming ≡ drop k l.coming = ap (λ n. drop n l.coming) r.all ∙ dropped k l.coming in
-    record {
-      on = r.on;
-      trusted = subst (Trusted width) (sym (heard_line_is (last_of events) l consumed host r.on)) (record {
-        answers = r.goes.answers;
-        hears = subst (λ v. Hears (host.half ++ v) r.goes.answers []) (sym rest) r.goes.hears;
-        half = t.half;
-        reached = t.reached;
-        way = r.goes.holds;
-      });
-    }
+left_after : (width : ℕ) → Laws → (e : Event) (l after : LineView) (n : Note) → IsFitting e → IsSound l.host → IsLine l → After e l n after → Trusted width l
+    → IsNotOpen after.host.phase → AllPromised width after.host.records after.host.left after
+left_after width laws event.LinkUp l after n fits sound i (done, is_down, few, same) t not_open =
+    left_stays width laws event.LinkUp l after n fits sound i (done, is_down, few, same) t (ap (λ (v : LineView). v.host.left) same) (ap (λ (v : LineView). v.host.records) same)
+    (subst (λ k. l.host.next ≤ k) (sym (ap (λ (v : LineView). v.host.next) same)) (omega arith)) (subst IsNotOpen (sym is_down) tt)
+left_after width laws event.LinkUpReporting l after n fits sound i (done, is_down, few, same) t not_open =
+    left_stays width laws event.LinkUpReporting l after n fits sound i (done, is_down, few, same) t (ap (λ (v : LineView). v.host.left) same) (ap (λ (v : LineView). v.host.records) same)
+    (subst (λ k. l.host.next ≤ k) (sym (ap (λ (v : LineView). v.host.next) same)) (omega arith)) (subst IsNotOpen (sym is_down) tt)
+left_after width laws event.Nudge l after n fits sound i (done, opening, few, same) t not_open =
+    left_stays width laws event.Nudge l after n fits sound i (done, opening, few, same) t (ap (λ (v : LineView). v.host.left) same) (ap (λ (v : LineView). v.host.records) same)
+    (subst (λ k. l.host.next ≤ k) (sym (ap (λ (v : LineView). v.host.next) same)) (omega arith)) (subst IsNotOpen (ap (λ (v : LineView). v.host.phase) same) not_open)
+left_after width laws (event.Submit receipt) l after n fits sound i (flight, done, is, room, few, same) t not_open = absurd (subst IsNotOpen (ap (λ (v : LineView). v.host.phase) same) not_open)
+left_after width laws (event.Ask kind) l after n fits sound i (done, is, same) t not_open = absurd (subst IsNotOpen (ap (λ (v : LineView). v.host.phase) same ∙ is) not_open)
+left_after width laws event.AskReports l after n fits sound i (done, is, same) t not_open = absurd (subst IsNotOpen (ap (λ (v : LineView). v.host.phase) same ∙ is) not_open)
+left_after width laws (event.Move k) l after n fits sound i (count, told, is, same) t not_open =
+    left_stays width laws (event.Move k) l after n fits sound i (count, told, is, same) t (ap (λ (v : LineView). v.host.left) same) (ap (λ (v : LineView). v.host.records) same)
+    (subst (λ m. l.host.next ≤ m) (sym (ap (λ (v : LineView). v.host.next) same)) (omega arith)) (subst IsNotOpen (ap (λ (v : LineView). v.host.phase) same) not_open)
+left_after width laws (event.Deliver k) l after n fits sound i (fed, printer, told, feeds, memory, same) t not_open =
+    host_stays width laws (event.Deliver k) l after n fits sound i (fed, printer, told, feeds, memory, same) t
+    (ap (λ (v : LineView). v.host) same ∙ left_by_host fed.stop (delivered l fed.consumed printer)) not_open
+left_after width laws event.HandOver l after n fits sound i (what, told, hands) t not_open =
+    host_stays width laws event.HandOver l after n fits sound i (what, told, hands) t (hands_host l after what hands) not_open
+left_after width laws (event.Answer k) l after n fits sound i (events, consumed, host, told, hears, same) t not_open =
+    subst (λ (v : LineView). IsNotOpen v.host.phase → AllPromised width v.host.records v.host.left v) (sym same) (answered_trusted width laws l k consumed events host i hears t).trusted.left not_open
+left_after width laws event.PrinterLeaves l after n fits sound i (done, same) t not_open =
+    host_stays width laws event.PrinterLeaves l after n fits sound i (done, same) t (ap (λ (v : LineView). v.host) same) not_open
+left_after width laws event.PrinterRestart l after n fits sound i (printer, done, restart, same) t not_open =
+    host_stays width laws event.PrinterRestart l after n fits sound i (printer, done, restart, same) t (ap (λ (v : LineView). v.host) same) not_open
+left_after width laws event.HostDrops l after n fits sound i (done, same) t not_open = hung_left width laws l after n l.host.phase sound i (done, same) t refl same not_open
+left_after width laws (event.HostRestart f) l after n fits sound i (done, least, same) t not_open =
+    subst (λ (v : LineView). AllPromised width v.host.records v.host.left v) (sym same) tt
+left_after width laws (event.SetCondition condition) l after n fits sound i (done, same) t not_open =
+    host_stays width laws (event.SetCondition condition) l after n fits sound i (done, same) t (ap (λ (v : LineView). v.host) same) not_open
 
 -- ## Every event
 
 pub trusted : (width : ℕ) → Laws → (e : Event) (l after : LineView) (n : Note) → IsFitting e → IsSound l.host → IsLine l → After e l n after → Trusted width l → Trusted width after
-trusted width laws event.LinkUp l after n fits sound i (done, is_down, mark, same) t =
-    subst (Trusted width) (sym same) (opened_trusted width laws l (linked l.host).out sound i is_down (mark_fresh (IsKnown (l.host.next + 1)) (mark_of l.host.next) (next_known l.host.next mark)) t)
-trusted width laws event.LinkUpReporting l after n fits sound i (done, is_down, mark, same) t =
-    subst (Trusted width) (sym same)
-    (opened_trusted width laws l (linked_reporting l.host).out sound i is_down (request_fresh (IsKnown (l.host.next + 1)) (mark_of l.host.next) (next_known l.host.next mark)) t)
-trusted width laws event.Nudge l after n fits sound i (done, opening, mark, same) t = subst (Trusted width) (sym same) (nudged_trusted width laws l opening mark t)
-trusted width laws (event.Submit receipt) l after n fits sound i (flight, done, is, few, mark, same) t =
-    subst (Trusted width) (sym same) (submitted_trusted width laws l flight receipt is mark fits t)
-trusted width laws (event.Ask kind) l after n fits sound i (done, is, same) t = subst (Trusted width) (sym same) (asked_trusted width laws l kind is fits t)
-trusted width laws event.AskReports l after n fits sound i (done, is, same) t = subst (Trusted width) (sym same) (reports_trusted width laws l is t)
-trusted width laws (event.Move k) l after n fits sound i (count, told, is, same) t = subst (Trusted width) (sym same) (moved_trusted width l count t)
-trusted width laws (event.Deliver k) l after n fits sound i (fed, printer, told, feeds, memory, same) t =
-    subst (Trusted width) (sym same) (fed_trusted width laws l fed.consumed k fed.stop printer feeds t)
-trusted width laws event.HandOver l after n fits sound i (what, told, hands) t = hands_trusted width laws l after what i hands t
-trusted width laws (event.Answer k) l after n fits sound i (events, consumed, host, told, hears, same) t =
-    subst (Trusted width) (sym same) (answered_trusted width laws l k consumed events host i hears t).trusted
-trusted width laws event.PrinterLeaves l after n fits sound i (done, same) t =
-    subst (Trusted width) (sym same) (left_trusted width laws l l.printer t.reached.0 t.reached.1 t.reached.2 refl t.half t [] (sym (append-nil _)))
-trusted width laws event.PrinterRestart l after n fits sound i (printer, done, restart, same) t = subst (Trusted width) (sym same) (restarted_trusted width laws l printer restart t)
-trusted width laws event.HostDrops l after n fits sound i (done, same) t = subst (Trusted width) (sym same) (hung_trusted width laws l l.host.phase refl sound t)
-trusted width laws (event.HostRestart f) l after n fits sound i (done, least, same) t =
-    subst (Trusted width) (sym same) (off_trusted width laws l (restarted l.host f) [] refl refl (sym (append-nil l.host.records)) least t)
-trusted width laws (event.SetCondition condition) l after n fits sound i (done, same) t =
-    subst (Trusted width) (sym same) (record {
-      answers = t.answers;
-      hears = t.hears;
-      half = t.half;
-      reached = t.reached;
-      way = subst (Way width l.host.phase l.host.out l.host.next l.host.records l.printer.sheet l.printer.half l.ended l.live)
-          (changed_marks t.answers l.printer.automatic l.printer.condition condition l.printer.waiting) t.way;
-    })
+trusted width laws e l after n fits sound i happened t = record {
+  on_way = on_way width laws e l after n fits sound i happened (λ k consumed events host hears. (answered_trusted width laws l k consumed events host i hears t).trusted.on_way) t.on_way;
+  left = left_after width laws e l after n fits sound i happened t;
+}
 
 -- A refusal leaves the line as it was, or as after fewer bytes.
 pub leaves_trusted : (width : ℕ) → Laws → (e : Event) (l after : LineView) → IsSound l.host → IsLine l → Leaves e l after → Trusted width l → Trusted width after
@@ -444,6 +171,10 @@ leaves_trusted width laws event.PrinterRestart l after sound i same t = subst (T
 leaves_trusted width laws event.HostDrops l after sound i same t = subst (Trusted width) (sym same) t
 leaves_trusted width laws (event.HostRestart f) l after sound i same t = subst (Trusted width) (sym same) t
 leaves_trusted width laws (event.SetCondition condition) l after sound i same t = subst (Trusted width) (sym same) t
+
+-- The host goes on with the first of its records.
+pub resumed_trusted : (width : ℕ) → Laws → (l : LineView) (f count : ℕ) → l.host.next ≤ f → Trusted width l → Trusted width (resumed l f count)
+resumed_trusted width laws l f count least t = record { on_way = resumed_on_way width laws l f count least t.on_way; left = λ not_open. tt }
 
 -- ## No answer ends the host's link
 
@@ -468,7 +199,7 @@ bad_told width laws l after k consumed place n i t (events, count, host, told, h
 done_told : (consumed place : ℕ) (n : Note) → n ≡ note.Done → n ≡ note.Heard consumed (heard.BadAnswer place) → ⊥
 done_told consumed place n done bad = let both : note.Done ≡ note.Heard consumed (heard.BadAnswer place) = sym done ∙ bad in cc
 
--- No event reports a byte that fits no answer, or an answer out of turn.
+-- No event reports a byte that fits no answer.
 pub none_bad : (width : ℕ) → Laws → (e : Event) (l after : LineView) (n : Note) (consumed place : ℕ) → IsLine l → Trusted width l → After e l n after
     → n ≢ note.Heard consumed (heard.BadAnswer place)
 none_bad width laws event.LinkUp l after n consumed place i t (done, is_down, mark, same) bad = done_told consumed place n done bad
@@ -495,28 +226,7 @@ none_bad width laws (event.SetCondition condition) l after n consumed place i t 
 pub begun : (width : ℕ) (l : LineView) (first : ℕ)
     → l.host ≡ record { phase = Down; out = []; half = []; next = first; records = []; left = [] } → SheetIs width l.printer.sheet [] []
     → l.printer.half ≡ [] → l.printer.waiting ≡ [] → l.ended ≡ [] → l.live ≡ None → l.coming ≡ [] → IsTrusted l
-begun width l first host sheet half waiting ended live coming =
-    let plain : Hears ([] ++ []) [] [] = none_heard in
-    let off : Off width Down first [] l.printer.sheet l.printer.half [] [] = record { down = refl; stands = tt; known = tt; given_up = tt } in
-    let whole : Trusted width l = record {
-      answers = [];
-      hears = subst (λ v. Hears (l.host.half ++ v) [] []) (sym coming) (subst (λ (h : HostView). Hears (h.half ++ []) [] []) (sym host) plain);
-      half = inl half;
-      reached = ([], [], sheet);
-      way = subst (λ v. Way width l.host.phase l.host.out l.host.next l.host.records l.printer.sheet l.printer.half v l.live (answered_marks l.printer.waiting)) (sym ended)
-          (subst (λ v. Way width l.host.phase l.host.out l.host.next l.host.records l.printer.sheet l.printer.half [] v (answered_marks l.printer.waiting)) (sym live)
-          (subst (λ v. Way width l.host.phase l.host.out l.host.next l.host.records l.printer.sheet l.printer.half [] None (answered_marks v)) (sym waiting)
-          (subst (λ (h : HostView). Way width h.phase h.out h.next h.records l.printer.sheet l.printer.half [] None []) (sym host) (inr off))));
-    } in
-    subst (λ v. Trusted v l) (sym (ap (λ (s : Sheet). s.line_dots) sheet)) whole
-
-pub begun_line : (l : LineView) → l.host.half ≡ [] → l.printer.waiting ≡ [] → l.ended ≡ [] → l.live ≡ None → l.coming ≡ [] → IsLine l
-begun_line l half waiting ended live coming =
-    let plain : Hears ([] ++ []) [] [] = none_heard in
-    record {
-      down = λ is_down. live;
-      alone = λ up none. ended;
-      quiet = λ is_down. coming;
-      whole = ([], subst (λ v. Hears (l.host.half ++ v) [] []) (sym coming) (subst (λ v. Hears (v ++ []) [] []) (sym half) plain));
-      fitting = subst (AllByRecursion (λ (v : Answer). IsTrue (is_answer v))) (sym waiting) tt;
-    }
+begun width l first host sheet half waiting ended live coming = record {
+  on_way = begun_on_way width l first host sheet half waiting ended live coming;
+  left = λ not_open. subst (λ (h : HostView). AllPromised l.printer.sheet.line_dots h.records h.left l) (sym host) tt;
+}

@@ -6,7 +6,9 @@ pub mod Steps
 pub mod Straight
 pub mod Resumed
 pub mod Stands
+pub mod Ways
 pub mod Trusted
 pub mod Promised
+pub mod Promising
 pub mod MoveSteps
 pub mod LowerLaws

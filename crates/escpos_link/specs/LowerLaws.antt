@@ -27,7 +27,7 @@ pub record Laws : Type 0 where
   pub whole_commands : (p q : PrinterView) (cs : List Command) (k : ℕ) (why : FeedStop) → IsReadyFor p cs → Feeds p (spell cs) k why q
       → (why ≡ stop.Memory) ⊎ ((why ≡ stop.All) × (k ≡ length (spell cs)) × Took p (spell cs) cs q × (q.half ≡ []))
   pub one_answer : (h after : HostView) (a : Answer) (events : List HostEvent) (consumed : ℕ) → h.phase ≢ Down → h.half ≡ [] → IsTrue (is_answer a)
-      → HearsAll h (answer_bytes a) events consumed after → (at : ℕ) × Turns h a at (last_of events) after
+      → HearsAll h (answer_bytes a) events consumed after → Turns h a (last_of events) after
   pub leaves : LeavesAnswers
   pub one_hearing : (bs : List ℕ) (some others : List Answer) (x y : List ℕ) → Hears bs some x → Hears bs others y → (some ≡ others) × (x ≡ y)
   pub init : (width : ℕ) (a b : List Command) → printed width (a ++ kind.Init ∷ [] ++ b) ≡ printed width a ++ printed width b

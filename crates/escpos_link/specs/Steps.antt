@@ -10,8 +10,7 @@ use Rattle.escpos_link.specs.declared.sim.RunStop.{RunStop}
 use Rattle.escpos_link.specs.EventTable.{After, IsRefused, Leaves, Refuses}
 use Rattle.escpos_link.specs.Line.{LineView}
 
--- The effect of an event isn't an answer that ends the host's link: neither a byte that fits no answer nor an answer out of
--- turn.
+-- The effect of an event isn't a byte that fits no answer, which would end the host's link.
 abbrev pub IsInTurn : Note → Type 0
 IsInTurn told = (consumed at : ℕ) → told ≢ note.Heard consumed (heard.BadAnswer at)
 

@@ -1,241 +1,42 @@
--- Why records can be trusted: what holds for host, printer and links together at all times. That the records stand on the
--- paper is a part of it. Each part is needed for the next event, whatever that is.
---
--- A line is in one of four ways. Off: the host has no link. Left: the host is up, but the printer has left its link, so
--- what was put on it is lost and only answers may still come. Unopened: the host is opening its link, and no mark of that
--- link was run; the printer may still serve older links, or hold a half command of one, and so may read what comes as
--- something else. Serving: a mark of the live link was run, or the line is as if one was: from there on the printer reads
--- what the host puts.
---
---   Way      | Link        | What the host may hear
---   Off      | none        | nothing
---   Left     | none        | answers of before; a closing mark's, whose receipt then stands
---   Unopened | the newest  | marks below its first opening mark, all of which it ignores
---   Serving  | the only    | its own marks, in the order in which it put them
---
--- No event of the host takes it from Unopened to Serving: the line is Serving once the printer has run one of the host's
--- opening marks. Only then is there an answer to one, and only that lets the host put a receipt.
+-- Why records can be trusted: what holds for a line at all times. It is in one of the four ways, so the records stand on the
+-- paper; and what is left of an older link is promised. For as long as the link isn't open, an answer to the closing mark of a
+-- receipt that is left may come, and records it after those that are left before it.
 --
 -- `Trusting`, at the end, is the law of the line: the contract of the function `trust`. It is for whoever takes a line from
 -- event to event; what a line's owner wants to know is `Stands`, which the law gives him.
-use Rattle.std.specs.Prelude.{ℕ, ◌≡◌, ◌≢◌, ◌<◌, ◌≤◌, ◌+◌, ◌⊎◌, List, [], ◌∷◌, ◌++◌, map, Option, Some, None}
-use Rattle.std.specs.List.{flat_map, AllByRecursion}
-use Rattle.escpos_command.specs.declared.answer.Answer.{Answer}
-use Rattle.escpos_command.specs.declared.answer.Answer.TheVariants as answer
+use Rattle.std.specs.Prelude.{ℕ, ◌≡◌, ◌≤◌, List, [], ◌∷◌, ◌++◌}
 use Rattle.escpos_command.specs.declared.command.Command.{Command}
 use Rattle.escpos_command.specs.declared.command.Command.TheVariants as kind
-use Rattle.escpos_command.specs.Answers.{Hears}
-use Rattle.escpos_command.specs.CommandTable.{AreCommands, IsCommand, spell}
-use Rattle.escpos_command.specs.Digits.{mark_count, mark_of}
-use Rattle.escpos_command.specs.Grammar.{Half, Reads}
+use Rattle.escpos_command.specs.CommandTable.{AreCommands, IsCommand}
 use Rattle.escpos_command.specs.Marks.{marks}
-use Rattle.escpos_paper.specs.declared.item.Item.{Item}
-use Rattle.escpos_paper.specs.Page.{Sheet, SheetIs}
-use Rattle.escpos_paper.specs.Printed.{printed}
-use Rattle.escpos_host.specs.Machine.{InFlight, IsSound, Phase, Down, Opening, Open, ask_reports}
+use Rattle.escpos_host.specs.Machine.{HostView, InFlight, IsSound, Phase, Open, handed_out}
 use Rattle.escpos_link.specs.declared.event.Event.{Event}
 use Rattle.escpos_link.specs.declared.event.Event.TheVariants as event
 use Rattle.escpos_link.specs.declared.event.Note.{Note}
 use Rattle.escpos_link.specs.EventTable.{After, Leaves}
 use Rattle.escpos_link.specs.Line.{IsLine, LineView}
+use Rattle.escpos_link.specs.Promised.{PromisedIn}
 use Rattle.escpos_link.specs.Resumed.{resumed}
 use Rattle.escpos_link.specs.Stands.{Stands}
 use Rattle.escpos_link.specs.Steps.{IsInTurn}
+use Rattle.escpos_link.specs.Ways.{IsKnown, OnWay}
+use Rattle.escpos_link.specs.Wire.{WireView, line_of}
 
--- ## Marks and their numbers
+-- Each of these receipts is promised after those before it, which come after the records. Their closing marks have numbers
+-- below the next one.
+abbrev pub AllPromised : ℕ → List (List Command) → List InFlight → LineView → Type 0
+AllPromised width records [] l = Unit {0}
+AllPromised width records (p ∷ ps) l = IsKnown l.host.next p.mark × PromisedIn width records p l × AllPromised width (records ++ p.receipt ∷ []) ps l
 
--- The ids of the marks that are answered.
-abbrev pub answered : Answer → List (List ℕ)
-answered (answer.Status b) = []
-answered (answer.Mark id) = id ∷ []
-answered (answer.Condition block) = []
-
-abbrev pub answered_marks : List Answer → List (List ℕ)
-answered_marks answers = flat_map answered answers
-
--- The id is that of a mark with a number below this one.
-abbrev pub IsKnown : ℕ → List ℕ → Type 0
-IsKnown bound id = (n : ℕ) × (n < bound) × (n < mark_count) × (mark_of n ≡ id)
-
-abbrev pub Known : ℕ → List (List ℕ) → Type 0
-Known bound ids = AllByRecursion (IsKnown bound) ids
-
--- ## Receipts in flight
-
-abbrev pub flight_of : Phase → List InFlight
-flight_of (Open flight) = flight
-flight_of _ = []
-
-abbrev pub closing_marks : List InFlight → List (List ℕ)
-closing_marks flight = map (λ (p : InFlight). p.mark) flight
-
-abbrev pub receipts : List InFlight → List (List Command)
-receipts flight = map (λ (p : InFlight). p.receipt) flight
-
--- What the host puts for receipts: each after an Init and before its closing mark.
-abbrev pub sends : List InFlight → List Command
-sends [] = []
-sends (p ∷ ps) = kind.Init ∷ (p.receipt ++ (kind.Mark p.mark ∷ sends ps))
-
--- The numbers of their closing marks rise from one on, and are below the next.
-abbrev pub Rising : ℕ → List InFlight → ℕ → Type 0
-Rising from [] next = from ≤ next
-Rising from (p ∷ ps) next = (n : ℕ) × (from ≤ n) × (n < mark_count) × (p.mark ≡ mark_of n) × Rising (n + 1) ps next
-
--- The marks of a queue are older ones, then the closing marks of the receipts that are done, in order. Those to do come
--- after them; all of their numbers rise.
-pub record InOrder (done todo : List InFlight) (next : ℕ) (queue : List (List ℕ)) : Type 0 where
-  pub old : List (List ℕ)
-  pub base : ℕ
-  pub known : Known base old
-  pub rising : Rising base (done ++ todo) next
-  pub queue_is : queue ≡ old ++ closing_marks done
-
--- The last of the receipts that are done is still being printed: its Init was run, and the rest of it and its closing mark
--- are still to come.
-pub record Printing (width : ℕ) (records : List (List Command)) (done : List InFlight) (rest : List Command) (kept : List Item) (ran : List Command) : Type 0 where
-  pub before : List InFlight
-  pub current : InFlight
-  pub first : List Command
-  pub run : List Command
-  pub to_run : List Command
-  pub done_is : done ≡ before ++ current ∷ []
-  pub ran_is : ran ≡ first ++ kind.Init ∷ [] ++ run
-  pub receipt_is : current.receipt ≡ run ++ to_run
-  pub rest_is : rest ≡ to_run ++ kind.Mark current.mark ∷ []
-  pub stands : Stands width (records ++ receipts before) (kept ++ printed width first)
-
--- What is recorded and what is done stands on the paper; or all of it but the last, which is being printed.
-abbrev pub Stood : ℕ → List (List Command) → List InFlight → List Command → List Item → List Command → Type 0
-Stood width records done rest kept ran = Stands width (records ++ receipts done) (kept ++ printed width ran) ⊎ Printing width records done rest kept ran
-
--- How far the receipts in flight are, where these commands were run on paper that held some items, these marks are answered
--- and not heard yet, and these commands are due: the rest of what was begun, then the receipts to do.
-pub record Course (width : ℕ) (records : List (List Command)) (flight : List InFlight) (next : ℕ) (kept : List Item) (ran : List Command) (pending : List (List ℕ))
-    (due : List Command) : Type 0 where
-  pub done : List InFlight
-  pub todo : List InFlight
-  pub rest : List Command
-  pub flight_is : flight ≡ done ++ todo
-  pub order : InOrder done todo next (pending ++ marks rest)
-  pub due_is : due ≡ rest ++ sends todo
-  pub unmarked : AllByRecursion (λ (p : InFlight). marks p.receipt ≡ []) todo
-  pub stood : Stood width records done rest kept ran
-
--- The same where nothing is due any more: those of the receipts in flight whose closing marks are answered stand.
-pub record Owed (width : ℕ) (records : List (List Command)) (flight : List InFlight) (next : ℕ) (items : List Item) (pending : List (List ℕ)) : Type 0 where
-  pub done : List InFlight
-  pub todo : List InFlight
-  pub flight_is : flight ≡ done ++ todo
-  pub order : InOrder done todo next pending
-  pub stands : Stands width (records ++ receipts done) items
-
--- ## Links
-
-abbrev pub IsRest : List ℕ → Type 0
-IsRest half = (half ≡ []) ⊎ Half half
-
--- What is put on a link before one of its marks is answered: a mark with such an id, or a request for automatic status.
-abbrev pub IsOpener : (List ℕ → Type 0) → Command → Type 0
-IsOpener K c = ((id : List ℕ) × (c ≡ kind.Mark id) × K id) ⊎ (c ≡ ask_reports)
-
--- No mark of the link was run: only such commands were put on it, and what was delivered of them was read after an older half command
--- as commands without a mark.
-pub record UnreadOf (K : List ℕ → Type 0) (half stream : List ℕ) : Type 0 where
-  pub older : List ℕ
-  pub delivered : List ℕ
-  pub openers : List Command
-  pub commands : List Command
-  pub pending : IsRest older
-  pub known : AllByRecursion (IsOpener K) openers
-  pub spelled : delivered ++ stream ≡ spell openers
-  pub reads : Reads (older ++ delivered) commands half
-  pub no_mark : marks commands ≡ []
-
-abbrev pub Unread : ℕ → List ℕ → List ℕ → Type 0
-Unread bound half stream = UnreadOf (IsKnown bound) half stream
-
--- The printer reads what was put: its half command and what is to come are commands.
-pub record InStep (bound : ℕ) (half stream : List ℕ) : Type 0 where
-  pub due : List Command
-  pub aligned : Reads (half ++ stream) due []
-  pub known : Known bound (marks due)
-
--- Such commands alone, of which nothing was delivered.
-abbrev pub FreshOf : (List ℕ → Type 0) → List ℕ → Type 0
-FreshOf K stream = (openers : List Command) × AllByRecursion (IsOpener K) openers × (stream ≡ spell openers)
-
-abbrev pub Fresh : ℕ → List ℕ → Type 0
-Fresh bound stream = FreshOf (IsKnown bound) stream
-
--- A link that was given up holds a prefix of what would have been put on it: the one that the printer serves, and a later
--- one.
-abbrev pub ServedLink : ℕ → List ℕ → List ℕ → Type 0
-ServedLink bound half bytes = (more : List ℕ) × (Unread bound half (bytes ++ more) ⊎ InStep bound half (bytes ++ more))
-
-abbrev pub LateOf : (List ℕ → Type 0) → List ℕ → Type 0
-LateOf K bytes = (more : List ℕ) × FreshOf K (bytes ++ more)
-
-abbrev pub Late : ℕ → List ℕ → Type 0
-Late bound bytes = LateOf (IsKnown bound) bytes
-
--- The links that were given up; and the live one, where nothing of it was run.
-abbrev pub GivenUp : ℕ → List ℕ → List (List ℕ) → Type 0
-GivenUp bound half [] = Unit {0}
-GivenUp bound half (bytes ∷ others) = ServedLink bound half bytes × AllByRecursion (Late bound) others
-
-abbrev pub Newest : ℕ → List ℕ → List (List ℕ) → List ℕ → Type 0
-Newest bound half [] stream = Unread bound half stream
-Newest bound half (bytes ∷ others) stream = Fresh bound stream
-
--- ## The four ways
-
-pub record Serving (width : ℕ) (phase : Phase) (out : List ℕ) (next : ℕ) (records : List (List Command)) (sheet : Sheet) (half : List ℕ) (ended : List (List ℕ))
-    (live : List ℕ) (pending : List (List ℕ)) : Type 0 where
-  pub up : phase ≢ Down
-  pub only : ended ≡ []
-  pub kept : List Item
-  pub ran : List Command
-  pub due : List Command
-  pub sheet_is : SheetIs width sheet kept ran
-  pub aligned : Reads (half ++ (live ++ out)) due []
-  pub course : Course width records (flight_of phase) next kept ran pending due
-
-pub record Unopened (width : ℕ) (phase : Phase) (out : List ℕ) (next : ℕ) (records : List (List Command)) (sheet : Sheet) (half : List ℕ) (ended : List (List ℕ))
-    (live : List ℕ) (pending : List (List ℕ)) : Type 0 where
-  pub first : ℕ
-  pub opening : phase ≡ Opening first
-  pub within : first ≤ next
-  pub stands : Stands width records sheet.items
-  pub known : Known first pending
-  pub given_up : GivenUp first half ended
-  pub newest : Newest next half ended (live ++ out)
-
-pub record Left (width : ℕ) (phase : Phase) (next : ℕ) (records : List (List Command)) (sheet : Sheet) (ended : List (List ℕ)) (pending : List (List ℕ)) : Type 0 where
-  pub up : phase ≢ Down
-  pub only : ended ≡ []
-  pub owed : Owed width records (flight_of phase) next sheet.items pending
-
-pub record Off (width : ℕ) (phase : Phase) (next : ℕ) (records : List (List Command)) (sheet : Sheet) (half : List ℕ) (ended : List (List ℕ)) (pending : List (List ℕ))
-    : Type 0 where
-  pub down : phase ≡ Down
-  pub stands : Stands width records sheet.items
-  pub known : Known next pending
-  pub given_up : GivenUp next half ended
-
-abbrev pub Way : ℕ → Phase → List ℕ → ℕ → List (List Command) → Sheet → List ℕ → List (List ℕ) → Option (List ℕ) → List (List ℕ) → Type 0
-Way width phase out next records sheet half ended None pending = Left width phase next records sheet ended pending ⊎ Off width phase next records sheet half ended pending
-Way width phase out next records sheet half ended (Some bytes) pending =
-    Serving width phase out next records sheet half ended bytes pending ⊎ Unopened width phase out next records sheet half ended bytes pending
+-- The host may hear an answer to a mark of an older link, on this link or on the next one.
+abbrev pub IsNotOpen : Phase → Type 0
+IsNotOpen (Open flight) = ⊥
+IsNotOpen phase = Unit {0}
 
 -- What holds for a line whose printer prints lines of this width, so that its records can be trusted.
 pub record Trusted (width : ℕ) (l : LineView) : Type 0 where
-  pub answers : List Answer
-  pub hears : Hears (l.host.half ++ l.coming) answers []
-  pub half : IsRest l.printer.half
-  pub reached : (kept : List Item) × (ran : List Command) × SheetIs width l.printer.sheet kept ran
-  pub way :
-      Way width l.host.phase l.host.out l.host.next l.host.records l.printer.sheet l.printer.half l.ended l.live (answered_marks (answers ++ l.printer.waiting))
+  pub on_way : OnWay width l
+  pub left : IsNotOpen l.host.phase → AllPromised width l.host.records l.host.left l
 
 -- The same for the width that the line's printer has; and it still holds, for that width, after something happened.
 abbrev pub IsTrusted : LineView → Type 0
@@ -253,11 +54,12 @@ IsFitting (event.Ask n) = IsCommand (kind.Status n)
 IsFitting _ = Unit {0}
 
 -- The law of the line: where records can be trusted, they stand on the paper; they can still be trusted after any event and
--- after any refusal, and if the host goes on with fewer records; and the host hears no byte that fits no answer, and no answer
--- out of turn.
+-- after any refusal, if the host goes on with fewer records, and if a receipt that is left is taken; and the host hears no byte
+-- that fits no answer.
 pub record Trusting : Type 0 where
   pub stands : (l : LineView) → IsTrusted l → Stands l.printer.sheet.line_dots l.host.records l.printer.sheet.items
   pub kept : (e : Event) (l after : LineView) (n : Note) → IsFitting e → IsSound l.host → IsLine l → After e l n after → IsTrusted l → StillTrusted l after
   pub leaves : (e : Event) (l after : LineView) → IsSound l.host → IsLine l → Leaves e l after → IsTrusted l → StillTrusted l after
   pub in_turn : (e : Event) (l after : LineView) (n : Note) → IsLine l → IsTrusted l → After e l n after → IsInTurn n
   pub resumes : (l : LineView) (f count : ℕ) → l.host.next ≤ f → IsTrusted l → StillTrusted l (resumed l f count)
+  pub taken : (h : HostView) (w : WireView) → IsTrusted (line_of h w) → StillTrusted (line_of h w) (line_of (handed_out h) w)

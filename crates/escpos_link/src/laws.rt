@@ -16,13 +16,14 @@ ghost use Rattle.escpos_link.specs.declared.event.Note.TheVariants as note;
 ghost use Rattle.escpos_link.specs.EventTable.{After, Leaves, restarted, told_at};
 ghost use Rattle.escpos_link.specs.Line.{IsLine, LineView};
 ghost use Rattle.escpos_link.specs.LowerLaws.{Laws};
-ghost use Rattle.escpos_link.specs.Promised.{Promising};
-ghost use Rattle.escpos_link.specs.Resumed.{resumed, resumed_host};
+ghost use Rattle.escpos_link.specs.Promising.{Promising};
 ghost use Rattle.escpos_link.specs.Trusted.{IsFitting, IsTrusted, StillTrusted, Trusting};
+ghost use Rattle.escpos_link.specs.Resumed.{resumed, resumed_host};
 ghost use Rattle.escpos_link.specs.Wire.{WireView, given_up, heard_from, line_of, with_bytes, with_link};
 
 /// Trust: on a line that can be trusted the recorded receipts stand on the paper; it can still be trusted after any event
-/// and after any refusal, and if its host goes on with fewer records; and the host hears no answer there that ends its link.
+/// and after any refusal, if its host goes on with fewer records, and if the caller takes a receipt that is left; and the host
+/// hears no answer there that ends its link.
 pub fn trust()
     ensures { Trusting }
 {

@@ -260,7 +260,7 @@ impl Sim {
     /// The host. Allocates nothing.
     pub fn host(&self) -> &Host
         ensures value { result.now ≡ self.now.host }
-        // Whatever it hears next, no answer is out of turn.
+        // Whatever it hears next, no byte fits no answer.
         ensures in_turn { (k : ℕ) (told : Note) (after : LineView) → After (event.Answer k) self.now told after → IsInTurn told }
     {
         // Proof only: the host hears no answer that ends its link.

@@ -17,6 +17,7 @@ use Rattle.escpos_host.proofs.NoRealTime.{Ids, all_of_both, joined_hold_none, no
 use Rattle.escpos_host.specs.declared.host.HostEvent.{HostEvent}
 use Rattle.escpos_host.specs.declared.host.HostEvent.TheVariants as heard
 use Rattle.escpos_host.specs.declared.send.SendFault.{SendFault}
+use Rattle.escpos_host.proofs.Recording.{keeps}
 use Rattle.escpos_host.specs.Heard.{HearsByte, IsHeard, with_half}
 use Rattle.escpos_host.specs.Earlier.{with_earlier}
 use Rattle.escpos_host.specs.Awaits.{dialled_reporting}
@@ -441,7 +442,7 @@ byte_says heard.Opened h byte at h' (inr (inl misfits)) good = absurd misfits
 byte_says heard.Opened h byte at h' (inr (inr (a, spells, (first, id, phase, is, mark, same)))) good = same_by h h' _ refl refl same
 byte_says (heard.Recorded number) h byte at h' (inl grown) good = absurd grown
 byte_says (heard.Recorded number) h byte at h' (inr (inl misfits)) good = absurd misfits
-byte_says (heard.Recorded number) h byte at h' (inr (inr (a, spells, (p, ps, phase, is, count, same)))) good = same_by h h' _ refl refl same
+byte_says (heard.Recorded number) h byte at h' (inr (inr (a, spells, (id, is, r)))) good = let kept = keeps (with_half h []) h' id number r in (kept.out, kept.next)
 byte_says (heard.Status byte') h byte at h' (inl grown) good = absurd grown
 byte_says (heard.Status byte') h byte at h' (inr (inl misfits)) good = absurd misfits
 byte_says (heard.Status byte') h byte at h' (inr (inr (a, spells, (is, same)))) good = same_by h h' _ refl refl same
@@ -450,7 +451,7 @@ byte_says (heard.Condition block) h byte at h' (inr (inl misfits)) good = absurd
 byte_says (heard.Condition block) h byte at h' (inr (inr (a, spells, (is, same)))) good = same_by h h' _ refl refl same
 byte_says (heard.Late id) h byte at h' (inl grown) good = absurd grown
 byte_says (heard.Late id) h byte at h' (inr (inl misfits)) good = absurd misfits
-byte_says (heard.Late id) h byte at h' (inr (inr (a, spells, (first, phase, is, other, same)))) good = same_by h h' _ refl refl same
+byte_says (heard.Late id) h byte at h' (inr (inr (a, spells, (first, phase, is, other, unleft, same)))) good = same_by h h' _ refl refl same
 byte_says (heard.BadAnswer place) h byte at h' hears good = absurd good
 
 heard_says : (e : HostEvent) (h : HostView) (bytes : List ℕ) (count : ℕ) (h' : HostView) → IsHeard h bytes count e h' → IsGood e → SaysSame h h'

@@ -10,6 +10,7 @@ use Rattle.escpos_host.specs.declared.host.HostEvent.{HostEvent}
 use Rattle.escpos_host.specs.declared.host.HostEvent.TheVariants as heard
 use Rattle.escpos_host.specs.declared.send.SendFault.{SendFault}
 use Rattle.escpos_host.specs.Awaits.{RefusesOpening}
+use Rattle.escpos_host.proofs.Recording.{keeps as kept_by}
 use Rattle.escpos_host.specs.Heard.{HearsByte, IsHeard, taken_at, with_half}
 use Rattle.escpos_host.specs.Machine.{HostView, Down, IsSound}
 use Rattle.escpos_link.specs.declared.event.Event.{Event}
@@ -381,7 +382,7 @@ byte_up heard.Opened h byte at h' up (inr (inl misfits)) good = absurd misfits
 byte_up heard.Opened h byte at h' up (inr (inr (a, spells, (first, id, phase, is, mark, same)))) good = subst (λ v. v.phase ≢ Down) (sym same) (λ bad. cc bad)
 byte_up (heard.Recorded number) h byte at h' up (inl grows) good = absurd grows
 byte_up (heard.Recorded number) h byte at h' up (inr (inl misfits)) good = absurd misfits
-byte_up (heard.Recorded number) h byte at h' up (inr (inr (a, spells, (p, ps, phase, is, count, same)))) good = subst (λ v. v.phase ≢ Down) (sym same) (λ bad. cc bad)
+byte_up (heard.Recorded number) h byte at h' up (inr (inr (a, spells, (id, is, r)))) good = (kept_by (with_half h []) h' id number r).up
 byte_up (heard.Status byte') h byte at h' up (inl grows) good = absurd grows
 byte_up (heard.Status byte') h byte at h' up (inr (inl misfits)) good = absurd misfits
 byte_up (heard.Status byte') h byte at h' up (inr (inr (a, spells, (is, same)))) good = subst (λ v. v.phase ≢ Down) (sym same) up
@@ -390,7 +391,7 @@ byte_up (heard.Condition block) h byte at h' up (inr (inl misfits)) good = absur
 byte_up (heard.Condition block) h byte at h' up (inr (inr (a, spells, (is, same)))) good = subst (λ v. v.phase ≢ Down) (sym same) up
 byte_up (heard.Late id) h byte at h' up (inl grows) good = absurd grows
 byte_up (heard.Late id) h byte at h' up (inr (inl misfits)) good = absurd misfits
-byte_up (heard.Late id) h byte at h' up (inr (inr (a, spells, (first, phase, is, other, same)))) good = subst (λ v. v.phase ≢ Down) (sym same) up
+byte_up (heard.Late id) h byte at h' up (inr (inr (a, spells, (first, phase, is, other, unleft, same)))) good = subst (λ v. v.phase ≢ Down) (sym same) up
 byte_up (heard.BadAnswer place) h byte at h' up hears good = absurd good
 
 heard_up : (e : HostEvent) (h : HostView) (bytes : List ℕ) (count : ℕ) (h' : HostView) → h.phase ≢ Down → IsHeard h bytes count e h' → IsGood e → h'.phase ≢ Down

@@ -1,16 +1,22 @@
--- Where bytes are taken out, or answers are heard: receipts in flight are recorded, in order, or lost with their link; nothing else is
--- recorded, and no mark number is used.
+-- Where bytes are taken out, or answers are heard by a host of whose older links nothing is left: receipts in flight are recorded, in order, or
+-- lost with their link; nothing else is recorded, and no mark number is used.
 use Rattle.std.proofs.Common.{ℕ, ◌≡◌, inl, inr, List, [], ◌∷◌, ◌++◌, refl, sym, ◌∙◌, ap, subst, append-nil, append_assoc}
 use Rattle.escpos_command.specs.declared.answer.Answer.{Answer}
 use Rattle.escpos_command.specs.declared.command.Command.{Command}
 use Rattle.escpos_host.specs.declared.host.HostEvent.{HostEvent}
 use Rattle.escpos_host.specs.declared.host.HostEvent.TheVariants as heard
 use Rattle.escpos_host.specs.Heard.{Grows, HearsAll, HearsByte, HearsInTurn, IsHeard, Misfits, Turns, last_of, opened, recorded, with_half}
-use Rattle.escpos_host.specs.Machine.{HostView, InFlight, Phase, Down, Opening, Open, gone_down, in_flight, taken_out}
+use Rattle.escpos_host.specs.Machine.{HostView, InFlight, Phase, Down, Opening, Open, gone_down, in_flight, receipts_of, taken_out}
+use Rattle.escpos_host.proofs.Recording.{none_has}
 use Rattle.escpos_link.specs.declared.event.Event.TheVariants as event
 use Rattle.escpos_link.specs.declared.event.Note.{Note}
 use Rattle.escpos_link.specs.EventTable.{After, heard_to}
 use Rattle.escpos_link.specs.Line.{LineView}
+use Rattle.escpos_link.proofs.Promising.{receipts_join}
+
+-- While the host opens its link nothing is left of an older one.
+abbrev pub NothingLeft : HostView → Type 0
+NothingLeft h = (first : ℕ) → h.phase ≡ Opening first → h.left ≡ []
 
 -- Of the receipts in flight the first ones are recorded, and the last ones are lost.
 pub record GoesOn (h after : HostView) : Type 0 where
@@ -75,24 +81,35 @@ is_opened h first is = record {
   down = λ e. absurd (opening_is_up h.phase first is e);
 }
 
-is_recorded : (h : HostView) (p : InFlight) (ps : List InFlight) → h.phase ≡ Open (p ∷ ps) → GoesOn h (recorded h p ps)
-is_recorded h p ps is = record {
-  grown = p.receipt ∷ [];
+is_recorded : (h : HostView) (before : List InFlight) (p : InFlight) (ps : List InFlight) → h.phase ≡ Open (before ++ p ∷ ps) → GoesOn h (recorded h (before ++ p ∷ []) ps)
+is_recorded h before p ps is = record {
+  grown = receipts_of (before ++ p ∷ []);
   lost = [];
   records = refl;
-  flight = ap in_flight is ∙ ap (λ rs. p.receipt ∷ rs) (sym (append-nil (in_flight (Open ps))));
+  flight = ap in_flight (is ∙ ap Open (sym (append_assoc before (p ∷ []) ps))) ∙ receipts_join (before ++ p ∷ []) ps
+      ∙ ap (λ rs. receipts_of (before ++ p ∷ []) ++ rs) (sym (append-nil (in_flight (Open ps))));
   next = refl;
-  down = λ e. absurd (open_is_up h.phase (p ∷ ps) is e);
+  down = λ e. absurd (open_is_up h.phase (before ++ p ∷ ps) is e);
 }
 
-turned : (h after : HostView) (a : Answer) (at : ℕ) (e : HostEvent) → Turns h a at e after → GoesOn h after
-turned h after a at heard.None (ignored, same) = stays_same h after same
-turned h after a at heard.Opened (first, id, is, answer, mark, same) = subst (GoesOn h) (sym same) (is_opened h first is)
-turned h after a at (heard.Recorded number) (p, ps, is, answer, place, same) = subst (GoesOn h) (sym same) (is_recorded h p ps is)
-turned h after a at (heard.Status byte) (answer, same) = stays_same h after same
-turned h after a at (heard.Condition block) (answer, same) = stays_same h after same
-turned h after a at (heard.Late id) (first, is, answer, other, same) = stays_same h after same
-turned h after a at (heard.BadAnswer place) (p, ps, id, is, answer, other, closing, at_place, same) = subst (GoesOn h) (sym same) (goes_down h)
+opening_is_open : (first : ℕ) (flight : List InFlight) → Open flight ≡ Opening first → ⊥
+opening_is_open first flight e = cc e
+
+turned : (h after : HostView) (a : Answer) (e : HostEvent) → NothingLeft h → Turns h a e after → GoesOn h after × NothingLeft after
+turned h after a heard.None nothing (ignored, same) = (stays_same h after same, subst NothingLeft (sym same) nothing)
+turned h after a heard.Opened nothing (first, id, is, answer, mark, same) =
+    (subst (GoesOn h) (sym same) (is_opened h first is), subst NothingLeft (sym same) (λ other opening. absurd (opening_is_open other [] opening)))
+turned h after a (heard.Recorded number) nothing (id, answer, r) = elim r.way [
+  | inl (flight, is, f, same) ↦ (
+    subst (GoesOn h) (sym same) (is_recorded h r.before r.last r.others (is ∙ ap Open f.all_are)),
+    subst NothingLeft (sym same) (λ other opening. absurd (opening_is_open other r.others opening)),
+  )
+  | inr (first, is, older, f, same) ↦ absurd (none_has r.before r.others r.last (sym (nothing first is) ∙ f.all_are))
+]
+turned h after a (heard.Status byte) nothing (answer, same) = (stays_same h after same, subst NothingLeft (sym same) nothing)
+turned h after a (heard.Condition block) nothing (answer, same) = (stays_same h after same, subst NothingLeft (sym same) nothing)
+turned h after a (heard.Late id) nothing (first, is, answer, other, unleft, same) = (stays_same h after same, subst NothingLeft (sym same) nothing)
+turned h after a (heard.BadAnswer place) nothing turns = absurd turns
 
 with_half_on : (h : HostView) (half : List ℕ) → GoesOn h (with_half h half)
 with_half_on h half = record {
@@ -113,6 +130,27 @@ grows_on h after byte (heard.Condition b) grows = absurd grows
 grows_on h after byte (heard.Late id) grows = absurd grows
 grows_on h after byte (heard.BadAnswer place) grows = absurd grows
 
+grows_left : (h after : HostView) (byte : ℕ) (e : HostEvent) → NothingLeft h → Grows h byte e after → NothingLeft after
+grows_left h after byte heard.None nothing (same, half) = subst NothingLeft (sym same) nothing
+grows_left h after byte heard.Opened nothing grows = absurd grows
+grows_left h after byte (heard.Recorded number) nothing grows = absurd grows
+grows_left h after byte (heard.Status b) nothing grows = absurd grows
+grows_left h after byte (heard.Condition b) nothing grows = absurd grows
+grows_left h after byte (heard.Late id) nothing grows = absurd grows
+grows_left h after byte (heard.BadAnswer place) nothing grows = absurd grows
+
+down_left : (h : HostView) → NothingLeft (gone_down h)
+down_left h first opening = absurd (let bad : Down ≡ Opening first = opening in cc)
+
+misfits_left : (h after : HostView) (byte at : ℕ) (e : HostEvent) → Misfits h byte at e after → NothingLeft after
+misfits_left h after byte at heard.None misfits = absurd misfits
+misfits_left h after byte at heard.Opened misfits = absurd misfits
+misfits_left h after byte at (heard.Recorded number) misfits = absurd misfits
+misfits_left h after byte at (heard.Status b) misfits = absurd misfits
+misfits_left h after byte at (heard.Condition b) misfits = absurd misfits
+misfits_left h after byte at (heard.Late id) misfits = absurd misfits
+misfits_left h after byte at (heard.BadAnswer place) (is, viable, same) = subst NothingLeft (sym same) (down_left h)
+
 misfits_on : (h after : HostView) (byte at : ℕ) (e : HostEvent) → Misfits h byte at e after → GoesOn h after
 misfits_on h after byte at heard.None misfits = absurd misfits
 misfits_on h after byte at heard.Opened misfits = absurd misfits
@@ -122,27 +160,28 @@ misfits_on h after byte at (heard.Condition b) misfits = absurd misfits
 misfits_on h after byte at (heard.Late id) misfits = absurd misfits
 misfits_on h after byte at (heard.BadAnswer place) (is, viable, same) = subst (GoesOn h) (sym same) (goes_down h)
 
-byte_on : (h after : HostView) (byte at : ℕ) (e : HostEvent) → HearsByte h byte at e after → GoesOn h after
-byte_on h after byte at e (inl grows) = grows_on h after byte e grows
-byte_on h after byte at e (inr (inl misfits)) = misfits_on h after byte at e misfits
-byte_on h after byte at e (inr (inr (a, spelled, turns))) =
-    then_on h (with_half h []) after (with_half_on h []) (turned (with_half h []) after a at e turns)
+byte_on : (h after : HostView) (byte at : ℕ) (e : HostEvent) → NothingLeft h → HearsByte h byte at e after → GoesOn h after × NothingLeft after
+byte_on h after byte at e nothing (inl grows) = (grows_on h after byte e grows, grows_left h after byte e nothing grows)
+byte_on h after byte at e nothing (inr (inl misfits)) = (misfits_on h after byte at e misfits, misfits_left h after byte at e misfits)
+byte_on h after byte at e nothing (inr (inr (a, spelled, turns))) =
+    let t = turned (with_half h []) after a e nothing turns in (then_on h (with_half h []) after (with_half_on h []) t.0, t.1)
 
-heard_on : (h after : HostView) (bytes : List ℕ) (count : ℕ) (e : HostEvent) → IsHeard h bytes count e after → GoesOn h after
-heard_on h after bytes count e (inl (none, all, passed, same)) = subst (GoesOn h) (sym same) (with_half_on h after.half)
-heard_on h after bytes count e (inr (at, half, within, some, is_count, passed, heard)) =
-    then_on h (with_half h half) after (with_half_on h half) (byte_on (with_half h half) after _ at e heard)
+heard_on : (h after : HostView) (bytes : List ℕ) (count : ℕ) (e : HostEvent) → NothingLeft h → IsHeard h bytes count e after → GoesOn h after × NothingLeft after
+heard_on h after bytes count e nothing (inl (none, all, passed, same)) =
+    (subst (GoesOn h) (sym same) (with_half_on h after.half), subst NothingLeft (sym same) nothing)
+heard_on h after bytes count e nothing (inr (at, half, within, some, is_count, passed, heard)) =
+    let b = byte_on (with_half h half) after _ at e nothing heard in (then_on h (with_half h half) after (with_half_on h half) b.0, b.1)
 
-in_turn_on : (events : List HostEvent) (h after : HostView) (bytes : List ℕ) (consumed : ℕ) → HearsInTurn h bytes events consumed after → GoesOn h after
-in_turn_on [] h after bytes consumed one = heard_on h after bytes consumed heard.None one
-in_turn_on (e ∷ es) h after bytes consumed (count, next, some, one, inl (ends, none, same_count, same)) =
-    subst (GoesOn h) (sym same) (heard_on h next bytes count e one)
-in_turn_on (e ∷ es) h after bytes consumed (count, next, some, one, inr (on, (rest, sum, others))) =
-    then_on h next after (heard_on h next bytes count e one) (in_turn_on es next after _ rest others)
+in_turn_on : (events : List HostEvent) (h after : HostView) (bytes : List ℕ) (consumed : ℕ) → NothingLeft h → HearsInTurn h bytes events consumed after → GoesOn h after
+in_turn_on [] h after bytes consumed nothing one = (heard_on h after bytes consumed heard.None nothing one).0
+in_turn_on (e ∷ es) h after bytes consumed nothing (count, next, some, one, inl (ends, none, same_count, same)) =
+    subst (GoesOn h) (sym same) (heard_on h next bytes count e nothing one).0
+in_turn_on (e ∷ es) h after bytes consumed nothing (count, next, some, one, inr (on, (rest, sum, others))) =
+    let first = heard_on h next bytes count e nothing one in then_on h next after first.0 (in_turn_on es next after _ rest first.1 others)
 
-all_on : (h after : HostView) (bytes : List ℕ) (events : List HostEvent) (consumed : ℕ) → HearsAll h bytes events consumed after → GoesOn h after
-all_on h after bytes events consumed (inl (is_down, none, all, same)) = stays_same h after same
-all_on h after bytes events consumed (inr (up, heard)) = in_turn_on events h after bytes consumed heard
+all_on : (h after : HostView) (bytes : List ℕ) (events : List HostEvent) (consumed : ℕ) → NothingLeft h → HearsAll h bytes events consumed after → GoesOn h after
+all_on h after bytes events consumed nothing (inl (is_down, none, all, same)) = stays_same h after same
+all_on h after bytes events consumed nothing (inr (up, heard)) = in_turn_on events h after bytes consumed nothing heard
 
 -- ## Events
 
@@ -167,7 +206,7 @@ heard_host (heard.Late id) l consumed host = refl
 heard_host (heard.BadAnswer at) l consumed host = refl
 
 -- Answers are heard.
-pub answered_on : (most : ℕ) (l after : LineView) (n : Note) → After (event.Answer most) l n after → GoesOn l.host after.host
-answered_on most l after n (events, consumed, host, note, hears, same) =
+pub answered_on : (most : ℕ) (l after : LineView) (n : Note) → NothingLeft l.host → After (event.Answer most) l n after → GoesOn l.host after.host
+answered_on most l after n nothing (events, consumed, host, note, hears, same) =
     let is : after.host ≡ host = ap (λ (v : LineView). v.host) same ∙ heard_host (last_of events) l consumed host in
-    subst (GoesOn l.host) (sym is) (all_on l.host host _ events consumed hears)
+    subst (GoesOn l.host) (sym is) (all_on l.host host _ events consumed nothing hears)

@@ -16,8 +16,10 @@ use Rattle.escpos_link.specs.declared.event.Note.{Note}
 use Rattle.escpos_link.specs.declared.event.Note.TheVariants as note
 use Rattle.escpos_link.specs.EventTable.{After}
 use Rattle.escpos_link.specs.Line.{LineView}
-use Rattle.escpos_link.specs.Promised.{Promised, PromisedBy, PutsOther}
-use Rattle.escpos_link.specs.Trusted.{IsFitting, answered_marks}
+use Rattle.escpos_link.specs.Promised.{Promised, PromisedBy}
+use Rattle.escpos_link.specs.Promising.{PutsOther}
+use Rattle.escpos_link.specs.Trusted.{IsFitting}
+use Rattle.escpos_link.specs.Ways.{answered_marks}
 use Rattle.escpos_link.specs.Wire.{WireView, given_up, line_of, wire_of, with_link}
 use Rattle.escpos_link.proofs.AtTheEnd.{hung_up_by}
 use Rattle.escpos_till.specs.declared.entry.Content.{Content}

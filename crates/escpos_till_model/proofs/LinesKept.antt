@@ -13,7 +13,7 @@ use Rattle.escpos_link.specs.declared.event.Note.{Note}
 use Rattle.escpos_link.specs.declared.event.Note.TheVariants as note
 use Rattle.escpos_link.specs.EventTable.{After, hung_up}
 use Rattle.escpos_link.specs.Line.{IsLine, LineView}
-use Rattle.escpos_link.specs.Promised.{Promising}
+use Rattle.escpos_link.specs.Promising.{Promising}
 use Rattle.escpos_link.specs.Trusted.{IsFitting, IsTrusted, Trusting}
 use Rattle.escpos_link.specs.Wire.{WireView, given_up, line_of}
 use Rattle.escpos_link.proofs.AtTheEnd.{hung_up_by}

@@ -5,13 +5,13 @@ use Rattle.escpos_command.specs.declared.command.Command.{Command}
 use Rattle.escpos_host.specs.declared.send.SendFault.{SendFault}
 use Rattle.escpos_command.specs.Digits.{mark_count, mark_of}
 use Rattle.escpos_host.specs.Earlier.{with_earlier}
-use Rattle.escpos_host.specs.Machine.{HostView, Phase, Down, Opening, Open, IsSound, in_flight, most_in_flight, submitted, HasMark, InFlight, reports_asked}
+use Rattle.escpos_host.specs.Machine.{HostView, Phase, Down, Opening, Open, IsSound, in_flight, most_in_flight, receipts_of, submitted, HasMark, InFlight, reports_asked}
 use Rattle.escpos_command.specs.declared.answer.Answer.{Answer}
 use Rattle.escpos_command.specs.Answers.{HalfAnswer}
 use Rattle.escpos_host.specs.declared.host.HostEvent.{HostEvent}
 use Rattle.escpos_host.specs.declared.host.HostEvent.TheVariants as heard
 use Rattle.escpos_host.specs.Earlier.{shifted}
-use Rattle.escpos_host.specs.Heard.{EndsLink, Grows, HearsAll, HearsByte, IsHeard, Misfits, Passed, Turns, last_of, taken_at, with_half}
+use Rattle.escpos_host.specs.Heard.{EndsLink, Grows, HearsAll, HearsByte, IsHeard, Misfits, Passed, RecordsUpTo, Turns, last_of, taken_at, with_half}
 use Rattle.std.proofs.lemmas.Bool.{cases_lt}
 use Rattle.std.proofs.lemmas.List.{get_or-take, length-take-le}
 use Rattle.escpos_link.specs.declared.event.Event.TheVariants as event
@@ -19,11 +19,14 @@ use Rattle.escpos_link.specs.declared.event.Note.TheVariants as note
 use Rattle.escpos_link.specs.EventTable.{After}
 use Rattle.escpos_link.specs.Line.{LineView}
 use Rattle.escpos_link.specs.Promised.{Promised}
+use Rattle.escpos_link.specs.Trusted.{IsFitting, IsTrusted}
+use Rattle.escpos_link.specs.Ways.{flight_of}
 use Rattle.escpos_link.specs.Stands.{Stands}
-use Rattle.escpos_link.specs.Trusted.{IsFitting, flight_of}
 use Rattle.escpos_link.specs.Wire.{WireView, heard_from, line_of}
 use Rattle.escpos_link.proofs.AtTheEnd.{heard_on}
 use Rattle.escpos_host.proofs.Earlier.{earlier_hears, earlier_sound, ends_shifted, last_shifted}
+use Rattle.escpos_host.proofs.Recording.{keeps, none_has}
+use Rattle.escpos_link.proofs.Promising.{receipts_join}
 use Rattle.escpos_till.specs.declared.entry.Entry.{Entry}
 use Rattle.escpos_till.specs.declared.machine.Stage.TheVariants as stage
 use Rattle.escpos_till.specs.Book.{IsBookOf}
@@ -71,35 +74,51 @@ take_whole zero xs = refl
 take_whole (suc n) [] = refl
 take_whole (suc n) (x ∷ xs) = ap (λ v. x ∷ v) (take_whole n xs)
 
+few_after : (before : List InFlight) (last : InFlight) (others : List InFlight) (n : ℕ) → length (before ++ last ∷ others) ≤ n → length others ≤ n
+few_after before last others n few = omega (arith, few, length-append before (last ∷ others))
+
+few_receipts_after : (before : List InFlight) (last : InFlight) (others : List InFlight) (n : ℕ) → length (receipts_of (before ++ last ∷ others)) ≤ n → length (receipts_of others) ≤ n
+few_receipts_after before last others n few =
+    omega (arith, few, ap length (receipts_join before (last ∷ others)), length-append (receipts_of before) (last.receipt ∷ receipts_of others))
+
+-- A host that has recorded receipts is as sound as before.
+sound_recorded : (h after : HostView) (id : List ℕ) (number : ℕ) → h.half ≡ [] → h.phase ≢ Down → IsSound h → RecordsUpTo h id number after → IsSound after
+sound_recorded h after id number half up sound r = elim r.way [
+  | inl (flight, phase, f, same) ↦ subst IsSound (sym same) (record {
+    quiet = λ down. absurd (let bad : Open r.others ≡ Down = down in cc);
+    few = few_receipts_after r.before r.last r.others most_in_flight (subst (λ (v : Phase). length (in_flight v) ≤ most_in_flight) (phase ∙ ap Open f.all_are) sound.few);
+    few_left = sound.few_left;
+    half = inl half;
+  })
+  | inr (first, phase, other, f, same) ↦ subst IsSound (sym same) (record {
+    quiet = λ down. absurd (up down);
+    few = sound.few;
+    few_left = few_after r.before r.last r.others most_in_flight (subst (λ ps. length ps ≤ most_in_flight) f.all_are sound.few_left);
+    half = inl half;
+  })
+]
+
 -- After an event no half answer is left, and the host is as sound as before.
-pub sound_turned : (h after : HostView) (a : Answer) (at : ℕ) (e : HostEvent) → h.half ≡ [] → h.phase ≢ Down → IsSound h → Turns h a at e after → (EndsLink e → ⊥) → e ≢ heard.None
+pub sound_turned : (h after : HostView) (a : Answer) (e : HostEvent) → h.half ≡ [] → h.phase ≢ Down → IsSound h → Turns h a e after → (EndsLink e → ⊥) → e ≢ heard.None
     → (after.half ≡ []) × IsSound after × (after.phase ≢ Down)
-sound_turned h after a at heard.None half up sound t on some = absurd (some refl)
-sound_turned h after a at heard.Opened half up sound (first, id, phase, is, mark, same) on some = (
+sound_turned h after a heard.None half up sound t on some = absurd (some refl)
+sound_turned h after a heard.Opened half up sound (first, id, phase, is, mark, same) on some = (
   ap (λ v. v.half) same ∙ half,
-  subst IsSound (sym same) (record { quiet = λ down. absurd (let bad : Open [] ≡ Down = down in cc); none_left = λ u. sound.none_left up; few = omega arith; half = inl half }),
+  subst IsSound (sym same) (record { quiet = λ down. absurd (let bad : Open [] ≡ Down = down in cc); few = omega arith; few_left = sound.few_left; half = inl half }),
   λ down. let bad : Open [] ≡ Down = ap (λ v. v.phase) (sym same) ∙ down in cc,
 )
-sound_turned h after a at (heard.Recorded number) half up sound (p, ps, phase, is, count, same) on some = (
-  ap (λ v. v.half) same ∙ half,
-  subst IsSound (sym same) (record {
-    quiet = λ down. absurd (let bad : Open ps ≡ Down = down in cc);
-    none_left = λ u. sound.none_left up;
-    few = let all : length (in_flight (Open (p ∷ ps))) ≤ most_in_flight = subst (λ (v : Phase). length (in_flight v) ≤ most_in_flight) phase sound.few in omega (arith, all);
-    half = inl half;
-  }),
-  λ down. let bad : Open ps ≡ Down = ap (λ v. v.phase) (sym same) ∙ down in cc,
-)
-sound_turned h after a at (heard.Status byte) half up sound (is, same) on some =
+sound_turned h after a (heard.Recorded number) half up sound (id, is, r) on some =
+    let kept = keeps h after id number r in (kept.half ∙ half, sound_recorded h after id number half up sound r, kept.up)
+sound_turned h after a (heard.Status byte) half up sound (is, same) on some =
     (ap (λ v. v.half) same ∙ half, subst IsSound (sym same) sound, λ down. up (ap (λ v. v.phase) (sym same) ∙ down))
-sound_turned h after a at (heard.Condition block) half up sound (is, same) on some =
+sound_turned h after a (heard.Condition block) half up sound (is, same) on some =
     (ap (λ v. v.half) same ∙ half, subst IsSound (sym same) sound, λ down. up (ap (λ v. v.phase) (sym same) ∙ down))
-sound_turned h after a at (heard.Late id) half up sound (first, phase, is, other, same) on some =
+sound_turned h after a (heard.Late id) half up sound (first, phase, is, other, unleft, same) on some =
     (ap (λ v. v.half) same ∙ half, subst IsSound (sym same) sound, λ down. up (ap (λ v. v.phase) (sym same) ∙ down))
-sound_turned h after a at (heard.BadAnswer place) half up sound t on some = absurd (on tt)
+sound_turned h after a (heard.BadAnswer place) half up sound t on some = absurd t
 
 pub sound_half : (h : HostView) (half : List ℕ) → h.phase ≢ Down → IsSound h → (half ≡ []) ⊎ HalfAnswer half → IsSound (with_half h half)
-sound_half h half up sound rest = record { quiet = λ down. absurd (up down); none_left = sound.none_left; few = sound.few; half = rest }
+sound_half h half up sound rest = record { quiet = λ down. absurd (up down); few = sound.few; few_left = sound.few_left; half = rest }
 
 pub no_growth : (h : HostView) (byte : ℕ) (e : HostEvent) (after : HostView) → e ≢ heard.None → Grows h byte e after → ⊥
 no_growth h byte heard.None after some g = some refl
@@ -124,7 +143,7 @@ pub sound_byte : (h after : HostView) (byte at : ℕ) (e : HostEvent) → h.phas
 sound_byte h after byte at e up sound (inl g) on some = absurd (no_growth h byte e after some g)
 sound_byte h after byte at e up sound (inr (inl m)) on some = absurd (no_misfit h byte at e after on m)
 sound_byte h after byte at e up sound (inr (inr (a, spells, turns))) on some =
-    sound_turned (with_half h []) after a at e refl up (sound_half h [] up sound (inl refl)) turns on some
+    sound_turned (with_half h []) after a e refl up (sound_half h [] up sound (inl refl)) turns on some
 
 pub taken_one : (e : HostEvent) (at : ℕ) → (EndsLink e → ⊥) → taken_at e at ≡ at + 1
 taken_one heard.None at on = refl
@@ -212,23 +231,29 @@ heard_after earlier h after w consumed e one on =
 
 -- What hearing does to the records.
 abbrev pub Grew : HostEvent → List (List Command) → List (List Command) → Type 0
-Grew (heard.Recorded number) old new = length new ≡ length old + 1
+Grew (heard.Recorded number) old new = length old < length new
 Grew e old new = new ≡ old
 
-pub grew_turned : (h after : HostView) (a : Answer) (at : ℕ) (e : HostEvent) → Turns h a at e after → (EndsLink e → ⊥) → Grew e h.records after.records
-grew_turned h after a at heard.None (ignores, same) on = ap (λ v. v.records) same
-grew_turned h after a at heard.Opened (first, id, phase, is, mark, same) on = ap (λ v. v.records) same
-grew_turned h after a at (heard.Recorded number) (p, ps, phase, is, count, same) on =
-    omega (arith, ap (λ v. length v.records) same, length-append h.records (p.receipt ∷ []))
-grew_turned h after a at (heard.Status byte) (is, same) on = ap (λ v. v.records) same
-grew_turned h after a at (heard.Condition block) (is, same) on = ap (λ v. v.records) same
-grew_turned h after a at (heard.Late id) (first, phase, is, other, same) on = ap (λ v. v.records) same
-grew_turned h after a at (heard.BadAnswer place) t on = absurd (on tt)
+longer : (old new : List (List Command)) (before : List InFlight) (last : InFlight) → new ≡ old ++ receipts_of (before ++ last ∷ []) → length old < length new
+longer old new before last is =
+    omega (arith, ap length is, length-append old (receipts_of (before ++ last ∷ [])), ap length (receipts_join before (last ∷ [])), length-append (receipts_of before) (last.receipt ∷ []))
+
+pub grew_turned : (h after : HostView) (a : Answer) (e : HostEvent) → Turns h a e after → (EndsLink e → ⊥) → Grew e h.records after.records
+grew_turned h after a heard.None (ignores, same) on = ap (λ v. v.records) same
+grew_turned h after a heard.Opened (first, id, phase, is, mark, same) on = ap (λ v. v.records) same
+grew_turned h after a (heard.Recorded number) (id, is, r) on = elim r.way [
+  | inl (flight, phase, f, same) ↦ longer h.records after.records r.before r.last (ap (λ v. v.records) same)
+  | inr (first, phase, other, f, same) ↦ longer h.records after.records r.before r.last (ap (λ v. v.records) same)
+]
+grew_turned h after a (heard.Status byte) (is, same) on = ap (λ v. v.records) same
+grew_turned h after a (heard.Condition block) (is, same) on = ap (λ v. v.records) same
+grew_turned h after a (heard.Late id) (first, phase, is, other, unleft, same) on = ap (λ v. v.records) same
+grew_turned h after a (heard.BadAnswer place) t on = absurd t
 
 pub grew_byte : (h after : HostView) (byte at : ℕ) (e : HostEvent) → HearsByte h byte at e after → (EndsLink e → ⊥) → e ≢ heard.None → Grew e h.records after.records
 grew_byte h after byte at e (inl g) on some = absurd (no_growth h byte e after some g)
 grew_byte h after byte at e (inr (inl m)) on some = absurd (no_misfit h byte at e after on m)
-grew_byte h after byte at e (inr (inr (a, spells, turns))) on some = grew_turned (with_half h []) after a at e turns on
+grew_byte h after byte at e (inr (inr (a, spells, turns))) on some = grew_turned (with_half h []) after a e turns on
 
 pub grew : (h after : HostView) (bytes : List ℕ) (consumed : ℕ) (e : HostEvent) → IsHeard h bytes consumed e after → (EndsLink e → ⊥) → Grew e h.records after.records
 grew h after bytes consumed e (inl (none, all, passed, same)) on =
@@ -241,27 +266,31 @@ StillOpening (heard.Late id) h = (first : ℕ) × (h.phase ≡ Opening first)
 StillOpening e h = Unit {0}
 
 -- A host that is opening its first link has recorded nothing yet, and is still opening it if the event says so.
-pub begun_turned : (h after : HostView) (a : Answer) (at : ℕ) (e : HostEvent) → Turns h a at e after → (EndsLink e → ⊥) → HasJustBegun h → HasJustBegun after × StillOpening e after
-begun_turned h after a at heard.None (ignores, same) on begun = (subst HasJustBegun (sym same) begun, tt)
-begun_turned h after a at heard.Opened (first, id, phase, is, mark, same) on begun =
+pub begun_turned : (h after : HostView) (a : Answer) (e : HostEvent) → Turns h a e after → (EndsLink e → ⊥) → HasJustBegun h → HasJustBegun after × StillOpening e after
+begun_turned h after a heard.None (ignores, same) on begun = (subst HasJustBegun (sym same) begun, tt)
+begun_turned h after a heard.Opened (first, id, phase, is, mark, same) on begun =
     (λ f opening. absurd (let bad : Open [] ≡ Opening f = ap (λ v. v.phase) (sym same) ∙ opening in cc), tt)
-begun_turned h after a at (heard.Recorded number) (p, ps, phase, is, count, same) on begun =
-    (λ f opening. absurd (let bad : Open ps ≡ Opening f = ap (λ v. v.phase) (sym same) ∙ opening in cc), tt)
-begun_turned h after a at (heard.Status byte) (is, same) on begun = (subst HasJustBegun (sym same) begun, tt)
-begun_turned h after a at (heard.Condition block) (is, same) on begun = (subst HasJustBegun (sym same) begun, tt)
-begun_turned h after a at (heard.Late id) (first, phase, is, other, same) on begun =
+begun_turned h after a (heard.Recorded number) (id, is, r) on begun = elim r.way [
+  | inl (flight, phase, f, same) ↦ (λ first opening. absurd (let bad : Open r.others ≡ Opening first = ap (λ v. v.phase) (sym same) ∙ opening in cc), tt)
+  | inr (first, phase, other, f, same) ↦ absurd (none_has r.before r.others r.last (sym (begun first phase).1 ∙ f.all_are))
+]
+begun_turned h after a (heard.Status byte) (is, same) on begun = (subst HasJustBegun (sym same) begun, tt)
+begun_turned h after a (heard.Condition block) (is, same) on begun = (subst HasJustBegun (sym same) begun, tt)
+begun_turned h after a (heard.Late id) (first, phase, is, other, unleft, same) on begun =
     (subst HasJustBegun (sym same) begun, (first, ap (λ v. v.phase) same ∙ phase))
-begun_turned h after a at (heard.BadAnswer place) t on begun = absurd (on tt)
+begun_turned h after a (heard.BadAnswer place) t on begun = absurd t
 
 pub begun_byte : (h after : HostView) (byte at : ℕ) (e : HostEvent) → HearsByte h byte at e after → (EndsLink e → ⊥) → e ≢ heard.None → HasJustBegun h → HasJustBegun after × StillOpening e after
 begun_byte h after byte at e (inl g) on some begun = absurd (no_growth h byte e after some g)
 begun_byte h after byte at e (inr (inl m)) on some begun = absurd (no_misfit h byte at e after on m)
-begun_byte h after byte at e (inr (inr (a, spells, turns))) on some begun = begun_turned (with_half h []) after a at e turns on begun
+begun_byte h after byte at e (inr (inr (a, spells, turns))) on some begun = begun_turned (with_half h []) after a e turns on begun
 
 pub heard_begun : (h after : HostView) (bytes : List ℕ) (consumed : ℕ) (e : HostEvent) → IsHeard h bytes consumed e after → (EndsLink e → ⊥) → HasJustBegun h
     → HasJustBegun after × StillOpening e after
 heard_begun h after bytes consumed e (inl (none, all, passed, same)) on begun = (
-  λ f opening. ap (λ v. v.records) same ∙ begun f (ap (λ v. v.phase) (sym same) ∙ opening),
+  λ f opening.
+      let nothing = begun f (ap (λ v. v.phase) (sym same) ∙ opening) in
+      (ap (λ v. v.records) same ∙ nothing.0, ap (λ v. v.left) same ∙ nothing.1),
   subst (λ x. StillOpening x after) (sym none) tt,
 )
 heard_begun h after bytes consumed e (inr (at, half, within, some, count, passed, byte)) on begun = begun_byte (with_half h half) after (slice_index bytes at) at e byte on some begun
@@ -410,8 +439,8 @@ submitted_late laws kept hand h w receipt flight sound right new_right happened 
 asked_sound : (h : HostView) → h.phase ≡ Open [] → IsSound h → IsSound (reports_asked h)
 asked_sound h ready sound = record {
   quiet = λ down. absurd (let bad : Open [] ≡ Down = sym ready ∙ down in cc);
-  none_left = sound.none_left;
   few = sound.few;
+  few_left = sound.few_left;
   half = sound.half;
 }
 
@@ -472,14 +501,17 @@ late_parts laws m after kept w wire talk consumed left host id x none (closing, 
     let rs = a.keeps.receipts in
     let (receipt, is, stand) = x.so.shows talk.number closing x.follows.0 has few (ap heard.Late (sym mark)) in
     let (first, opening) = x.opening in
-    let nothing : host.records ≡ [] = x.begun first opening in
+    let begun = x.begun first opening in
+    let nothing : host.records ≡ [] = begun.0 in
     let earlier : List (List Command) = rs ++ receipt ∷ [] in
     let all : earlier ++ host.records ≡ earlier = ap (λ v. earlier ++ v) nothing ∙ append-nil earlier in
     let l : LineView = line_of (with_earlier x.earlier host) w in
     let right : Right (line_of (with_earlier earlier host) w) = record {
       line = record { down = x.right.line.down; alone = x.right.line.alone; quiet = x.right.line.quiet; whole = x.right.line.whole; fitting = x.right.line.fitting };
-      trusted = laws.promise.recorded l (earlier ++ host.records) x.right.trusted (ap flight_of opening)
-          (subst (λ v. Stands w.printer.sheet.line_dots v w.printer.sheet.items) (sym all) stand);
+      trusted = subst (λ left. IsTrusted (line_of (record { phase = host.phase; out = host.out; half = host.half; next = host.next; records = earlier ++ host.records; left = left }) w))
+          (sym begun.1)
+          (laws.promise.recorded l (earlier ++ host.records) x.right.trusted (ap flight_of opening)
+          (subst (λ v. Stands w.printer.sheet.line_dots v w.printer.sheet.items) (sym all) stand));
     } in
     let hand : Hand = record { number = x.held.number; receipt = None; limit = x.held.limit } in
     let own = a.keeps.in_hand in
@@ -562,7 +594,7 @@ hears laws w new most known v =
     let happened = heard_after p.earlier v.m.host host w.wire v.consumed e one on in
     let right = goes laws (event.Answer v.consumed) (line_of (with_earlier p.earlier v.m.host) w.wire) (line_of (with_earlier p.earlier host) middle) _ tt
     (earlier_sound p.earlier v.m.host p.sound) p.right happened in
-    let went = answered_on v.consumed (line_of (with_earlier p.earlier v.m.host) w.wire) (line_of (with_earlier p.earlier host) middle) _ happened in
+    let went = answered_on v.consumed (line_of (with_earlier p.earlier v.m.host) w.wire) (line_of (with_earlier p.earlier host) middle) _ (λ first opening. (p.begun first opening).1) happened in
     let before : LineView = line_of (with_earlier p.earlier v.m.host) w.wire in
     let sound = earlier_sound p.earlier v.m.host p.sound in
     let last : last_of (map (shifted (length p.earlier)) one.events) ≡ shifted (length p.earlier) e =

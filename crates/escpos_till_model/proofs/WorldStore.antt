@@ -6,7 +6,7 @@ use Rattle.escpos_host.specs.declared.send.SendFault.{SendFault}
 use Rattle.escpos_command.specs.declared.command.Command.{Command}
 use Rattle.escpos_command.specs.Digits.{mark_count, mark_of}
 use Rattle.escpos_host.specs.Earlier.{with_earlier}
-use Rattle.escpos_host.specs.Machine.{HostView, Phase, Down, Opening, IsSound, gone_down, in_flight, linked_reporting, most_in_flight, nudged, taken_out}
+use Rattle.escpos_host.specs.Machine.{HostView, InFlight, Phase, Down, Opening, Open, IsSound, gone_down, in_flight, linked_reporting, most_in_flight, nudged, receipts_of, taken_out, unanswered}
 use Rattle.escpos_host.specs.declared.host.HostError.{HostError}
 use Rattle.escpos_host.specs.declared.host.HostError.TheVariants as error
 use Rattle.escpos_host.specs.Awaits.{RefusesOpening, dialled_reporting}
@@ -16,7 +16,7 @@ use Rattle.escpos_link.specs.declared.event.Event.TheVariants as event
 use Rattle.escpos_link.specs.declared.event.Note.TheVariants as note
 use Rattle.escpos_link.specs.EventTable.{hung_up}
 use Rattle.escpos_link.specs.Resumed.{resumed_host}
-use Rattle.escpos_link.specs.Promised.{PutsOther}
+use Rattle.escpos_link.specs.Promising.{PutsOther}
 use Rattle.escpos_link.specs.Trusted.{IsFitting}
 use Rattle.escpos_link.specs.Wire.{WireView, given_up, line_of, with_bytes, with_link}
 use Rattle.escpos_link.proofs.AtTheEnd.{hung_up_by, idle_kept, idle_trusted}
@@ -207,8 +207,17 @@ idled laws w new known idles =
     })
     (late_idle laws w.kept known.account.keeps.receipts before w.wire down (record { line = known.line; trusted = known.trusted }) known.account.late))
 
-pub sound_gone : (h : HostView) → IsSound (gone_down h)
-sound_gone h = record { quiet = λ down. (refl, refl); none_left = λ up. absurd (up refl); few = omega arith; half = inl refl }
+few_flying : (flight : List InFlight) → length (receipts_of flight) ≡ length flight
+few_flying [] = refl
+few_flying (p ∷ flight) = ap suc (few_flying flight)
+
+few_unanswered : (phase : Phase) (left : List InFlight) → length (in_flight phase) ≤ most_in_flight → length left ≤ most_in_flight → length (unanswered phase left) ≤ most_in_flight
+few_unanswered Down left few few_left = few_left
+few_unanswered (Opening first) left few few_left = few_left
+few_unanswered (Open flight) left few few_left = let all = few_flying flight in omega (arith, all, few)
+
+pub sound_gone : (h : HostView) → IsSound h → IsSound (gone_down h)
+sound_gone h sound = record { quiet = λ down. (refl, refl); few = omega arith; few_left = few_unanswered h.phase h.left sound.few sound.few_left; half = inl refl }
 
 pub off_world : LineLaws → (w : World) (wire : WireView) (h : HostView) → (known : IsWorld w) → Drops known.host h → IsSound h → Wired known.host h w.wire wire → h.phase ≡ Down
     → IsWorld (off w wire)
@@ -248,7 +257,7 @@ crashed laws w new known crashes = subst IsWorld (sym crashes.is) (elim (down_or
       }) down
   | inr up ↦
       let (m, is, linked) = linked_machine w.machine known.host known.host_is up in
-      off_world laws w crashes.wire (gone_down known.host) known (λ down. absurd (up down), λ u. refl) (sound_gone known.host)
+      off_world laws w crashes.wire (gone_down known.host) known (λ down. absurd (up down), λ u. refl) (sound_gone known.host known.sound)
       (record {
         stays_down = λ down b. absurd (up down);
         goes_up = λ down b. absurd (up down);
@@ -260,7 +269,7 @@ crashed laws w new known crashes = subst IsWorld (sym crashes.is) (elim (down_or
 -- ## Bytes are put
 
 pub sound_taken : (h : HostView) (n : ℕ) → h.phase ≢ Down → IsSound h → IsSound (taken_out h n)
-sound_taken h n up sound = record { quiet = λ down. absurd (up down); none_left = sound.none_left; few = sound.few; half = sound.half }
+sound_taken h n up sound = record { quiet = λ down. absurd (up down); few = sound.few; few_left = sound.few_left; half = sound.half }
 
 -- The first bytes that were to be put are on the wire.
 pub moved_right : LineLaws → (earlier : List (List Command)) (h : HostView) (w : WireView) (count : ℕ) → count ≤ length h.out → IsSound h → Right (line_of (with_earlier earlier h) w)
@@ -454,7 +463,7 @@ pub record Dialled (kept : List Entry) (hand : Hand) (receipts : List (List Comm
 pub dialled_sound : (h : HostView) (first : ℕ) → h.phase ≡ Opening first → h.left ≡ [] → h.half ≡ [] → IsSound h
 dialled_sound h first is left half = record {
   quiet = λ down. absurd (let bad : Opening first ≡ Down = sym is ∙ down in cc);
-  none_left = λ up. left;
+  few_left = subst (λ ps. length ps ≤ most_in_flight) (sym left) (omega arith);
   few = subst (λ (p : Phase). length (in_flight p) ≤ most_in_flight) (sym is) (omega arith);
   half = inl half;
 }
@@ -503,7 +512,7 @@ dials laws kept hand receipts w f (suc c) below within are right a sound =
     })
 
 pub fresh_sound : (f : ℕ) → IsSound (fresh f)
-fresh_sound f = record { quiet = λ down. (refl, refl); none_left = λ up. absurd (up refl); few = omega arith; half = inl refl }
+fresh_sound f = record { quiet = λ down. (refl, refl); few = omega arith; few_left = omega arith; half = inl refl }
 
 -- A host that couldn't put them out has no link, and has used some numbers.
 pub refused_host : (why : HostError) (f k : ℕ) (h : HostView) → RefusesOpening why (fresh f) k h → (g : ℕ) × (h ≡ fresh g) × (f ≤ g) × (g ≤ f + k)
@@ -576,7 +585,7 @@ sent_parts laws m after kept w new e due p book follows (none, send, is) (inl (h
       hand = Some hand;
       account = subst (λ v. Accounted more (Some hand) (with_earlier keeps.receipts after.host) v) (sym linked_up)
           (subst (λ h. Accounted more (Some hand) (with_earlier keeps.receipts h) (with_link w)) (sym at_wire) d.account);
-      begun = λ first opening. ap (λ v. v.records) at_wire;
+      begun = λ first opening. (ap (λ v. v.records) at_wire, ap (λ v. v.left) at_wire);
       book = λ live. subst (λ x. IsBookOf after.book (kept ++ x ∷ [])) is known;
       holds = subst (λ s. Holds more (Some hand) (with_earlier keeps.receipts after.host) s) (sym now)
           (subst (λ h. Holds more (Some hand) (with_earlier keeps.receipts h) (stage.Talking (first_talk due))) (sym at_wire) holds);

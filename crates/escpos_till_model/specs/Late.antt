@@ -28,6 +28,6 @@ pub record LateAnswers (entries : List Entry) (records : List (List Command)) (l
   pub first : FirstIsTried entries
   pub promise : TriesPromise entries records l
 
--- A host that is opening its first link has recorded nothing.
+-- A host that is opening its first link has recorded nothing, and nothing of it is left.
 abbrev pub HasJustBegun : HostView → Type 0
-HasJustBegun h = (first : ℕ) → h.phase ≡ Opening first → h.records ≡ []
+HasJustBegun h = (first : ℕ) → h.phase ≡ Opening first → (h.records ≡ []) × (h.left ≡ [])

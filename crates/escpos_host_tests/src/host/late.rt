@@ -1,11 +1,12 @@
 //! What a host hears of itself: answers to marks of older links, and blocks of automatic status.
 
 use crate::support::hosts::{
-    ANSWER_0, ANSWER_1, ANSWER_2, gives_up, hears, links_up, mark, opens, stands, submits,
+    ANSWER_0, ANSWER_1, ANSWER_2, gives_up, hears, leaves_line, leaves_no_more, links_up, mark,
+    opens, stands, submits, submits_two,
 };
 use escpos_command::AutomaticStatus;
 use escpos_host::{Host, HostEvent, HostState};
-use escpos_test_receipts::S;
+use escpos_test_receipts::{A, S, have_lines};
 use std::alloc::Global;
 use std::process::Abort;
 
@@ -17,24 +18,29 @@ fn condition(rt: &impl Abort, bytes: [u8; 4]) -> HostEvent {
     HostEvent::Condition(AutomaticStatus::new(bytes).expect(rt, "a block"))
 }
 
-// On a second link, marks 0 and 1 of the first are answered late, and a mark that nobody put. The link opens at its own.
+// On a second link, marks 0 and 1 of the first are answered late, and a mark that nobody put: mark 1 is the closing mark of a
+// receipt that is left, and records it. The link opens at its own.
 fn hears_late(rt: &impl Abort, alloc: Global, host: &mut Host) {
     opens(rt, host);
     submits(rt, alloc, host, S);
     host.link_down();
     links_up(rt, host);
-    for (answer, id) in [
-        (ANSWER_0, b"0000"),
-        (ANSWER_1, b"0001"),
-        (b"\x37\x22 ~@!\x00", b" ~@!"),
-    ] {
-        hears(rt, host, answer, 7, HostEvent::Late(mark(rt, *id)));
-        stands(rt, host, HostState::Opening);
-    }
+    hears(rt, host, ANSWER_0, 7, HostEvent::Late(mark(rt, *b"0000")));
+    hears(
+        rt,
+        host,
+        b"\x37\x22 ~@!\x00",
+        7,
+        HostEvent::Late(mark(rt, *b" ~@!")),
+    );
     assert!(rt; host.records().is_empty());
-    assert!(rt; host.next_mark() == 3);
     hears(rt, host, b"\x37\x2200", 4, HostEvent::None);
-    hears(rt, host, b"01\x00", 3, HostEvent::Late(mark(rt, *b"0001")));
+    hears(rt, host, b"01\x00", 3, HostEvent::Recorded(0));
+    stands(rt, host, HostState::Opening);
+    assert!(rt; have_lines(host.records(), &[b"Hi"]));
+    assert!(rt; host.next_mark() == 3);
+    hears(rt, host, ANSWER_1, 7, HostEvent::Late(mark(rt, *b"0001")));
+    leaves_no_more(rt, host);
     hears(rt, host, ANSWER_2, 7, HostEvent::Opened);
     hears(rt, host, ANSWER_1, 7, HostEvent::None);
     stands(rt, host, HostState::Ready);
@@ -44,6 +50,65 @@ fn hears_late(rt: &impl Abort, alloc: Global, host: &mut Host) {
 fn late_answers(rt: HostRuntime) {
     let mut host = Host::new(rt.alloc(), 0);
     hears_late(&rt, rt.alloc(), &mut host);
+}
+
+// Three receipts are left, with the closing marks 1, 2 and 3.
+fn leaves_three(rt: &impl Abort, alloc: Global, host: &mut Host) {
+    submits_two(rt, alloc, host);
+    submits(rt, alloc, host, S);
+    host.link_down();
+}
+
+// The answer to the second one's mark records two, also on a link after the next one, and the third stays left.
+fn records_two_left(rt: &impl Abort, alloc: Global, host: &mut Host) {
+    leaves_three(rt, alloc, host);
+    links_up(rt, host);
+    host.link_down();
+    links_up(rt, host);
+    hears(rt, host, ANSWER_2, 7, HostEvent::Recorded(1));
+    stands(rt, host, HostState::Opening);
+    assert!(rt; have_lines(host.records(), &[b"A", b"B"]));
+    hears(rt, host, ANSWER_1, 7, HostEvent::Late(mark(rt, *b"0001")));
+    host.link_down();
+    leaves_line(rt, host, b"Hi");
+    leaves_no_more(rt, host);
+    assert!(rt; have_lines(host.records(), &[b"A", b"B"]));
+}
+
+// The host has taken one before its mark is answered: that one isn't recorded, and the next one is.
+fn takes_one_first(rt: &impl Abort, alloc: Global, host: &mut Host) {
+    leaves_three(rt, alloc, host);
+    links_up(rt, host);
+    leaves_line(rt, host, b"A");
+    hears(rt, host, ANSWER_1, 7, HostEvent::Late(mark(rt, *b"0001")));
+    assert!(rt; host.records().is_empty());
+    hears(rt, host, ANSWER_2, 7, HostEvent::Recorded(0));
+    assert!(rt; have_lines(host.records(), &[b"B"]));
+}
+
+// Once the link is open no answer records what is left.
+fn opens_first(rt: &impl Abort, alloc: Global, host: &mut Host) {
+    leaves_three(rt, alloc, host);
+    links_up(rt, host);
+    hears(rt, host, b"\x37\x220004\x00", 7, HostEvent::Opened);
+    submits(rt, alloc, host, A);
+    hears(rt, host, ANSWER_2, 7, HostEvent::None);
+    leaves_line(rt, host, b"A");
+    hears(rt, host, b"\x37\x220005\x00", 7, HostEvent::Recorded(0));
+    assert!(rt; have_lines(host.records(), &[b"A"]));
+    leaves_line(rt, host, b"B");
+    leaves_line(rt, host, b"Hi");
+    leaves_no_more(rt, host);
+}
+
+#[test]
+fn late_records(rt: HostRuntime) {
+    let mut host = Host::new(rt.alloc(), 0);
+    records_two_left(&rt, rt.alloc(), &mut host);
+    let mut host = Host::new(rt.alloc(), 0);
+    takes_one_first(&rt, rt.alloc(), &mut host);
+    let mut host = Host::new(rt.alloc(), 0);
+    opens_first(&rt, rt.alloc(), &mut host);
 }
 
 // A block is told, and the host stands as it stood.

@@ -4,14 +4,18 @@
 //! of it.
 
 use crate::support::hosts::{
-    ANSWER_0, ANSWER_1, ANSWER_2, ANSWER_5, ANSWER_6, gives_up, hears, kind, leaves_no_more,
-    links_up, mark, opens, puts_out, records_two, stands, submits, submits_two,
+    ANSWER_0, ANSWER_1, ANSWER_2, ANSWER_5, ANSWER_6, gives_up, hears, kind, leaves_line,
+    leaves_no_more, links_up, mark, opens, puts_out, records_two, stands, submits, submits_two,
 };
 use crate::support::texts::is_shown_as;
 use escpos_host::{Heard, Host, HostError, HostEvent, HostState, open_link_reporting};
 use escpos_test_receipts::{A, B, S, SENT, are_line, have_lines, read_receipt};
 use std::alloc::Global;
 use std::process::Abort;
+
+// Mark 0, and A, B and S with their closing marks.
+const MARK_0_A_B_S: &[u8] =
+    b"\x1D(H\x06\x00000000\x1B@A\n\x1D(H\x06\x00000001\x1B@B\n\x1D(H\x06\x00000002\x1B@Hi\n\x1D(H\x06\x00000003";
 
 // A receipt comes back, for this reason.
 fn hands_back(
@@ -30,10 +34,9 @@ fn hands_back(
     }
 }
 
-// The next receipt that is left has this line.
+// The next receipt that is left is this one.
 fn leaves_receipt(rt: &impl Abort, host: &mut Host, (_, line): (&[u8], &[u8])) {
-    let left = host.take_left().expect(rt, "a receipt that is left");
-    assert!(rt; are_line(left.commands(), line), "{line:?}");
+    leaves_line(rt, host, line);
 }
 
 fn uses_marks_up(rt: &impl Abort, alloc: Global, host: &mut Host) {
@@ -111,10 +114,33 @@ fn leaves_a_receipt(rt: &impl Abort, alloc: Global, host: &mut Host) {
     leaves_no_more(rt, host);
 }
 
+// A receipt that is left stays over the next link, until a link that was open is gone.
+fn keeps_a_receipt(rt: &impl Abort, alloc: Global, host: &mut Host) {
+    goes_down(rt, alloc, host);
+    links_up(rt, host);
+    host.link_down();
+    links_up(rt, host);
+    hears(rt, host, b"\x37\x220003\x00", 7, HostEvent::Opened);
+    submits(rt, alloc, host, A);
+    leaves_receipt(rt, host, S);
+    leaves_no_more(rt, host);
+    stands(rt, host, HostState::Sending);
+    host.link_down();
+    leaves_receipt(rt, host, A);
+    leaves_no_more(rt, host);
+}
+
+// What is in flight when an open link is lost takes the place of what was left before.
 fn drops_a_receipt(rt: &impl Abort, alloc: Global, host: &mut Host) {
     goes_down(rt, alloc, host);
     links_up(rt, host);
+    hears(rt, host, ANSWER_2, 7, HostEvent::Opened);
+    submits(rt, alloc, host, A);
+    host.link_down();
+    leaves_receipt(rt, host, A);
     leaves_no_more(rt, host);
+    links_up(rt, host);
+    hears(rt, host, b"\x37\x220004\x00", 7, HostEvent::Opened);
     host.link_down();
     leaves_no_more(rt, host);
 }
@@ -123,6 +149,8 @@ fn drops_a_receipt(rt: &impl Abort, alloc: Global, host: &mut Host) {
 fn left_receipt(rt: HostRuntime) {
     let mut host = Host::new(rt.alloc(), 0);
     leaves_a_receipt(&rt, rt.alloc(), &mut host);
+    let mut host = Host::new(rt.alloc(), 0);
+    keeps_a_receipt(&rt, rt.alloc(), &mut host);
     let mut host = Host::new(rt.alloc(), 0);
     drops_a_receipt(&rt, rt.alloc(), &mut host);
 }
@@ -194,11 +222,10 @@ fn bad_answers(rt: HostRuntime) {
 
 fn hears_out_of_turn(rt: &impl Abort, alloc: Global, host: &mut Host) {
     submits_two(rt, alloc, host);
-    hears(rt, host, ANSWER_2, 6, HostEvent::BadAnswer { at: 6 });
-    stands(rt, host, HostState::Down);
-    assert!(rt; have_lines(host.records(), &[]));
-    leaves_receipt(rt, host, A);
-    leaves_receipt(rt, host, B);
+    hears(rt, host, ANSWER_2, 7, HostEvent::Recorded(1));
+    stands(rt, host, HostState::Ready);
+    assert!(rt; have_lines(host.records(), &[b"A", b"B"]));
+    hears(rt, host, ANSWER_1, 7, HostEvent::None);
     leaves_no_more(rt, host);
 }
 
@@ -206,6 +233,24 @@ fn hears_out_of_turn(rt: &impl Abort, alloc: Global, host: &mut Host) {
 fn out_of_turn(rt: HostRuntime) {
     let mut host = Host::new(rt.alloc(), 0);
     hears_out_of_turn(&rt, rt.alloc(), &mut host);
+}
+
+// Of three in flight the answer to the second one's mark records two; the third stays in flight.
+fn records_two_of_three(rt: &impl Abort, alloc: Global, host: &mut Host) {
+    submits_two(rt, alloc, host);
+    submits(rt, alloc, host, S);
+    hears(rt, host, ANSWER_2, 7, HostEvent::Recorded(1));
+    stands(rt, host, HostState::Sending);
+    assert!(rt; have_lines(host.records(), &[b"A", b"B"]));
+    puts_out(rt, host, MARK_0_A_B_S);
+    hears(rt, host, b"\x37\x220003\x00", 7, HostEvent::Recorded(2));
+    assert!(rt; have_lines(host.records(), &[b"A", b"B", b"Hi"]));
+}
+
+#[test]
+fn two_of_three(rt: HostRuntime) {
+    let mut host = Host::new(rt.alloc(), 0);
+    records_two_of_three(&rt, rt.alloc(), &mut host);
 }
 
 #[test]

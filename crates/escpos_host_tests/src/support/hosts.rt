@@ -3,7 +3,7 @@
 use escpos_command::{MarkId, StatusKind};
 use escpos_host::{Heard, Host, HostError, HostEvent, HostState, Receipt, Sent, send_link};
 use escpos_io::{MemoryIn, MemoryOut};
-use escpos_test_receipts::{A, B, have_lines, read_receipt};
+use escpos_test_receipts::{A, B, are_line, have_lines, read_receipt};
 use std::alloc::Global;
 use std::process::Abort;
 
@@ -62,6 +62,12 @@ pub fn records_two(rt: &impl Abort, alloc: Global, host: &mut Host) {
     let rest = piece.get(7..).expect(rt, "the rest");
     hears(rt, host, rest, 7, HostEvent::Recorded(1));
     stands(rt, host, HostState::Ready);
+}
+
+// The next receipt that is left has this line.
+pub fn leaves_line(rt: &impl Abort, host: &mut Host, line: &[u8]) {
+    let left = host.take_left().expect(rt, "a receipt that is left");
+    assert!(rt; are_line(left.commands(), line), "{line:?}");
 }
 
 pub fn leaves_no_more(rt: &impl Abort, host: &mut Host) {

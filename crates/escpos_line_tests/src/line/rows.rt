@@ -4,7 +4,7 @@ use crate::support::lines::{
     ON, ONLINE, Plain, Sight, event_of, goes_over, happen, note_of_feed, note_of_hearing,
     opens_line, prints_items, sight_of, tells, tells_all,
 };
-use escpos_command::{LineWidth, MarkId};
+use escpos_command::LineWidth;
 use escpos_host::{HostEvent, HostState};
 use escpos_link::{Event, Handed, Note, Refusal, Sim};
 use escpos_printer::Condition;
@@ -117,7 +117,8 @@ fn host_resumes(rt: HostRuntime) {
     has(&rt, &sim, sight, &[], THRICE);
 }
 
-// The events of row lost_answer, and what is told of each: on the second link the answer for S comes late.
+// The events of row lost_answer, and what is told of each: on the second link the answer for S comes late, and records it. Then S
+// is sent again.
 const LOST_ANSWER: [Plain; 22] = [
     Plain::LinkUp,
     Plain::Move(11),
@@ -143,8 +144,7 @@ const LOST_ANSWER: [Plain; 22] = [
     Plain::Answer(7),
 ];
 
-fn notes_of_lost_answer(rt: &impl Abort) -> [Note; 22] {
-    let closing = MarkId::of_number(1).expect(rt, "a mark");
+fn notes_of_lost_answer() -> [Note; 22] {
     [
         Note::Done,
         Note::Moved(11),
@@ -158,7 +158,7 @@ fn notes_of_lost_answer(rt: &impl Abort) -> [Note; 22] {
         Note::Done,
         Note::Done,
         ON,
-        note_of_hearing(7, HostEvent::Late(closing)),
+        note_of_hearing(7, HostEvent::Recorded(0)),
         Note::Moved(11),
         note_of_feed(11),
         ON,
@@ -167,12 +167,12 @@ fn notes_of_lost_answer(rt: &impl Abort) -> [Note; 22] {
         Note::Moved(16),
         note_of_feed(16),
         ON,
-        note_of_hearing(7, HostEvent::Recorded(0)),
+        note_of_hearing(7, HostEvent::Recorded(1)),
     ]
 }
 
 fn steps_with_lost_answer(rt: &impl Abort, alloc: Global, sim: &mut Sim) {
-    for (plain, note) in LOST_ANSWER.iter().zip(&notes_of_lost_answer(rt)) {
+    for (plain, note) in LOST_ANSWER.iter().zip(&notes_of_lost_answer()) {
         tells(rt, sim, event_of(rt, alloc, *plain), *note);
     }
 }
@@ -187,10 +187,10 @@ fn runs_with_lost_answer(rt: &impl Abort, alloc: Global, sim: &mut Sim) {
     assert!(rt; sim.run(events).is_ok());
 }
 
-// After these events S is recorded once and lies on the paper twice; nothing is on the link, and a request is answered over it.
+// After these events S is recorded twice and lies on the paper twice; nothing is on the link, and a request is answered over it.
 fn has_lost_an_answer(rt: &impl Abort, alloc: Global, sim: &mut Sim) {
-    let sight = (HostState::Ready, 4, 1, false, 4, 0, 0);
-    has(rt, sim, sight, &[b"Hi"], TWICE);
+    let sight = (HostState::Ready, 4, 2, false, 4, 0, 0);
+    has(rt, sim, sight, &[b"Hi", b"Hi"], TWICE);
     assert!(rt; sim.undisturbed());
     let rows = [
         (Plain::Ask(1), Note::Done),

@@ -85,3 +85,6 @@ returns-in_default-event-clause-lost g c = λ call is.
 
 pub returns-in_default-event-clause-reader_well : goal.returns-in_default-event-clause-reader_well
 returns-in_default-event-clause-reader_well g c = λ no other well. c.in_ok-awaited.ensures.not_failed (λ e. cc e) (λ e. cc e) well
+
+pub returns-in_default-clause-reader_well : goal.returns-in_default-clause-reader_well
+returns-in_default-clause-reader_well g c = λ no other well. c.in_ok-awaited.ensures.not_failed (λ e. cc e) (λ e. cc e) well

@@ -64,3 +64,6 @@ returns-in_default-clause-lost g c = λ call half is.
     subst (λ h. Brought h (g.R.ByteIn.to_come c.args.reader.now) (g.R.ByteIn.to_come c.await_event.new.reader) c.await_event.new.piece c.in_ok-awaited.awaited c.await_event.new.host)
     (c.in_ok-put_out.ensures.taken ∙ ap (λ v. with_out v []) is) c.in_ok-awaited.ensures.brought in
     inl (gone_second call half _ _ c.await_event.new.piece c.in_ok-awaited.awaited c.await_event.new.host c.in_default.not-Recorded brought ∙ ap gone_down (sym is))
+
+pub returns-in_default-clause-reader_well : goal.returns-in_default-clause-reader_well
+returns-in_default-clause-reader_well g c = λ no other well. c.in_ok-awaited.ensures.not_failed (λ e. cc e) (λ e. cc e) well

@@ -5,7 +5,7 @@ use Rattle.std.proofs.KnownBytes.{Appends-nil, Appends-trans, Consumes-nil, Cons
 use Rattle.std.proofs.Math.Nat.{le-max_right}
 use Rattle.escpos_host.specs.Machine.{HostView, Down, Open, gone_down}
 use Rattle.escpos_host.specs.Sends.{Call, Fails, opening_bytes, receipt_bytes}
-use Rattle.escpos_host.proofs.Sending.{closed_from, has_marks, is_sending, none_left, one_left, refused_opening, refused_receipt, same_some}
+use Rattle.escpos_host.proofs.Sending.{closed_from, has_marks, is_sending, none_left, one_left, refused_opening, refused_receipt, same_some, started}
 use Rattle.escpos_host.proofs.send.send_link.Goals as goal
 
 pub returns-in-Err-clause-sends : goal.returns-in-Err-clause-sends
@@ -16,14 +16,16 @@ returns-in-Err-clause-sends g c =
 pub returns-in-Err-await_opened-clause-sends : goal.returns-in-Err-await_opened-clause-sends
 returns-in-Err-await_opened-clause-sends g c =
     let call : Call = record { before = c.args.host.now; receipt = c.args.receipt; openings = max c.args.openings 1; most = c.args.max_bytes } in
-    let s = c.in-Err-await_opened.ensures.stops call c.in_default.ensures.opened.1 c.in_default.ensures.marks refl in
-    let gone = closed_from c.open_link.new.host c.await_opened.new.host c.link_down.new.self _ c.in_default.ensures.opened.1 (c.in-Err-await_opened.ensures.lost call c.in_default.ensures.opened.1) c.link_down.ensures.up c.link_down.ensures.down in
+    let first = started call c.open_link.new.host c.drop_left.new.self c.in_default.ensures.opened.1 c.drop_left.ensures in
+    let s = c.in-Err-await_opened.ensures.stops call first c.in_default.ensures.marks refl in
+    let gone = closed_from c.drop_left.new.self c.await_opened.new.host c.link_down.new.self _ first (c.in-Err-await_opened.ensures.lost call first) c.link_down.ensures.up c.link_down.ensures.down in
     (s.bytes, s.out, s.came, s.put, s.few, (refl, subst (Fails call c.in-Err-await_opened.why s.bytes s.out) (sym gone) s.fails))
 
 pub returns-in-Err-submit-clause-sends : goal.returns-in-Err-submit-clause-sends
 returns-in-Err-submit-clause-sends g c =
     let call : Call = record { before = c.args.host.now; receipt = c.args.receipt; openings = max c.args.openings 1; most = c.args.max_bytes } in
-    let o = c.in-Ok.ensures.opens call c.in_default.ensures.opened.1 in
+    let first = started call c.open_link.new.host c.drop_left.new.self c.in_default.ensures.opened.1 c.drop_left.ensures in
+    let o = c.in-Ok.ensures.opens call first in
     let refused = c.in-Err-submit.ensures.refused in
     let phase = ap (λ (v : HostView). v.phase) refused.2 ∙ ap (λ (v : HostView). v.phase) o.same in
     let gone = c.link_down-in-Err-submit.ensures.up (λ e. let bad : Open [] ≡ Down = sym phase ∙ e in absurd cc) ∙ ap gone_down refused.2 in (
@@ -42,7 +44,8 @@ returns-in-Err-submit-clause-sends g c =
 pub unwrap-requires : goal.unwrap-requires
 unwrap-requires g c =
     let call : Call = record { before = c.args.host.now; receipt = c.args.receipt; openings = max c.args.openings 1; most = c.args.max_bytes } in
-    let o = c.in-Ok.ensures.opens call c.in_default.ensures.opened.1 in
+    let first = started call c.open_link.new.host c.drop_left.new.self c.in_default.ensures.opened.1 c.drop_left.ensures in
+    let o = c.in-Ok.ensures.opens call first in
     let sent = is_sending call o.half c.await_opened.new.host c.submit.new.self o.same c.in_default-submit.ensures.submitted in
     let gone = closed_from c.submit.new.self c.await_recorded.new.host c.link_down-in-Err-await_recorded.new.self _ sent (c.in-Err-await_recorded.ensures.lost call o.half sent)
     c.link_down-in-Err-await_recorded.ensures.up c.link_down-in-Err-await_recorded.ensures.down in
@@ -51,7 +54,8 @@ unwrap-requires g c =
 pub returns-in-Ok-await_recorded-clause-sends : goal.returns-in-Ok-await_recorded-clause-sends
 returns-in-Ok-await_recorded-clause-sends g c =
     let call : Call = record { before = c.args.host.now; receipt = c.args.receipt; openings = max c.args.openings 1; most = c.args.max_bytes } in
-    let o = c.in-Ok.ensures.opens call c.in_default.ensures.opened.1 in
+    let first = started call c.open_link.new.host c.drop_left.new.self c.in_default.ensures.opened.1 c.drop_left.ensures in
+    let o = c.in-Ok.ensures.opens call first in
     let sent = is_sending call o.half c.await_opened.new.host c.submit.new.self o.same c.in_default-submit.ensures.submitted in
     let d = c.in-Ok-await_recorded.ensures.closes call o.bytes o.half sent o.opened in
     let few = d.few in
@@ -68,7 +72,8 @@ returns-in-Ok-await_recorded-clause-sends g c =
 pub returns-in-Err-await_recorded-clause-sends : goal.returns-in-Err-await_recorded-clause-sends
 returns-in-Err-await_recorded-clause-sends g c =
     let call : Call = record { before = c.args.host.now; receipt = c.args.receipt; openings = max c.args.openings 1; most = c.args.max_bytes } in
-    let o = c.in-Ok.ensures.opens call c.in_default.ensures.opened.1 in
+    let first = started call c.open_link.new.host c.drop_left.new.self c.in_default.ensures.opened.1 c.drop_left.ensures in
+    let o = c.in-Ok.ensures.opens call first in
     let sent = is_sending call o.half c.await_opened.new.host c.submit.new.self o.same c.in_default-submit.ensures.submitted in
     let s = c.in-Err-await_recorded.ensures.stops call o.bytes o.half sent o.opened (has_marks call o.half c.await_opened.new.host o.same c.in_default-submit.ensures.submitted.3) (omega (arith, c.in-Ok.ensures.within, o.read)) in
     let gone = closed_from c.submit.new.self c.await_recorded.new.host c.link_down-in-Err-await_recorded.new.self _ sent (c.in-Err-await_recorded.ensures.lost call o.half sent)

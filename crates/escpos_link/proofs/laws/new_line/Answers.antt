@@ -1,7 +1,8 @@
 use Rattle.std.proofs.Common.{ap}
 use Rattle.escpos_host.specs.Machine.{HostView}
 use Rattle.escpos_link.specs.Wire.{line_of}
-use Rattle.escpos_link.proofs.Trusting.{begun, begun_line}
+use Rattle.escpos_link.proofs.Trusting.{begun}
+use Rattle.escpos_link.proofs.WayKept.{begun_line}
 use Rattle.escpos_link.proofs.laws.new_line.Goals as goal
 
 pub returns : goal.returns

@@ -1,5 +1,7 @@
 use Rattle.escpos_command.specs.Meanings.{all_but_drawer}
-use Rattle.escpos_link.proofs.Trusting.{Laws, leaves_trusted, none_bad, resumed_trusted, stands, still, trusted}
+use Rattle.escpos_link.proofs.WayKept.{Laws}
+use Rattle.escpos_link.proofs.Trusting.{leaves_trusted, none_bad, resumed_trusted, stands, still, trusted}
+use Rattle.escpos_link.proofs.Taking.{taken_trusted}
 use Rattle.escpos_link.specs.Resumed.{resumed}
 use Rattle.escpos_link.proofs.laws.trust.Goals as goal
 
@@ -26,5 +28,6 @@ returns c =
       kept = λ e l after n fits sound i happened t. still l after (trusted l.printer.sheet.line_dots laws e l after n fits sound i happened t);
       leaves = λ e l after sound i leaves t. still l after (leaves_trusted l.printer.sheet.line_dots laws e l after sound i leaves t);
       resumes = λ l f count least t. still l (resumed l f count) (resumed_trusted l.printer.sheet.line_dots laws l f count least t);
+      taken = λ h w t. taken_trusted h w t;
       in_turn = λ e l after n i t happened consumed at. none_bad l.printer.sheet.line_dots laws e l after n consumed at i t happened;
     }

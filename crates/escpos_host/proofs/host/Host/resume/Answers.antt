@@ -1,10 +1,14 @@
 -- All receipts are recorded, and nothing else is kept.
 use Rattle.std.proofs.Common.{arith}
-use Rattle.escpos_host.proofs.Views.{at_rest}
+use Rattle.escpos_host.proofs.Views.{at_rest, new_fits}
 use Rattle.escpos_host.proofs.host.Host.resume.Goals as goal
 
 pub invariant_of-result : goal.invariant_of-result
-invariant_of-result c = (c.new.ensures, λ rs. (c.new-2.ensures.within rs, c.new-2.ensures.unsent rs), c.new-3.ensures, omega arith)
+invariant_of-result c =
+    new_fits c.args.records.items c.len.result c.new.result.items c.new-2.result.items c.new-3.result c.new-4.result (omega arith) c.new.ensures c.new-2.ensures
+    (λ rs. (c.new-3.ensures.within rs, c.new-3.ensures.unsent rs)) c.new-4.ensures
 
 pub returns : goal.returns
-returns c = at_rest c.args.records.items c.len.result c.new.result.items c.new-2.result c.new-3.result c.args.first_mark (omega arith) (c.new-2.ensures.unsent c.args.records.items) c.new-3.ensures
+returns c =
+    at_rest c.args.records.items c.len.result c.new.result.items c.new-2.result.items c.new-3.result c.new-4.result c.args.first_mark (omega arith) c.new-2.ensures
+    c.new-3.ensures.unsent c.new-4.ensures

@@ -1,17 +1,23 @@
--- The first receipt after those that are recorded is gone.
-use Rattle.std.proofs.Common.{◌∙◌, ◌<◌, length, sym, ap, subst, arith}
-use Rattle.escpos_host.specs.declared.host.Stage.TheVariants as stage
-use Rattle.escpos_host.specs.Kept.{IsConsistent, view_of}
+-- The first receipt of those that are left is gone, and the number of its closing mark.
+use Rattle.std.proofs.Common.{◌≡◌, ◌≢◌, ◌∙◌, ◌+◌, ◌<◌, ◌==◌, false, length, sym, ap, subst, arith}
+use Rattle.std.specs.List.{remove}
+use Rattle.std.proofs.lemmas.Bool.Decides.{nat_tests}
+use Rattle.escpos_host.specs.Kept.{view_of}
 use Rattle.escpos_host.specs.Machine.{handed_out}
-use Rattle.escpos_host.proofs.Views.{without_first}
+use Rattle.escpos_host.proofs.Views.{fits_without_first, some_of, without_first}
 use Rattle.escpos_host.proofs.host.Host.take_left.Goals as goal
+
+pub invariant_of-self : goal.invariant_of-self
+invariant_of-self c =
+    let h = c.self.inside in
+    fits_without_first h.stage h.receipts.items c.remove-2.new.self.items h.recorded h.closing.items h.left.items c.remove.new.self.items h.out h.reader c.self.invariant
+    (some_of h.left.items (sym c.is_empty.ensures ∙ c.if-is_empty.false)) (c.remove-2.ensures.items ∙ ap (λ n. remove h.receipts.items (h.recorded + n)) c.len.ensures.value)
+    c.remove.ensures.items
 
 pub returns-clause-rest : goal.returns-clause-rest
 returns-clause-rest c =
     let h = c.self.inside in
-    let before = ap (λ s. view_of s h.receipts.items h.recorded h.closing.items h.out h.reader h.next) (sym c.in-Down.is) ∙ c.self.view_is in
-    let fits : IsConsistent stage.Down h.receipts.items h.recorded h.closing.items h.out h.reader =
-    subst (λ s. IsConsistent s h.receipts.items h.recorded h.closing.items h.out h.reader) c.in-Down.is c.self.invariant in
-    let some : h.recorded < length h.receipts.items = omega (arith, fits.3, c.if-self-len.false) in
-    ap (λ s. view_of s c.remove.new.self.items h.recorded h.closing.items h.out h.reader h.next) c.in-Down.is
-    ∙ without_first h.receipts.items c.remove.new.self.items h.recorded h.closing.items h.out h.reader h.next fits some c.remove.ensures.items ∙ ap handed_out before
+    let some = some_of h.left.items (sym c.is_empty.ensures ∙ c.if-is_empty.false) in
+    let count = c.self.invariant.count in
+    without_first h.stage h.receipts.items c.remove-2.new.self.items h.recorded h.closing.items h.left.items c.remove.new.self.items h.out h.reader h.next (omega (arith, count, some))
+    (c.remove-2.ensures.items ∙ ap (λ n. remove h.receipts.items (h.recorded + n)) c.len.ensures.value) c.remove.ensures.items ∙ ap handed_out c.self.view_is

@@ -1,6 +1,7 @@
 use Rattle.std.proofs.Common.{ap}
 use Rattle.escpos_host.specs.Machine.{HostView}
-use Rattle.escpos_link.proofs.Trusting.{begun, begun_line}
+use Rattle.escpos_link.proofs.Trusting.{begun}
+use Rattle.escpos_link.proofs.WayKept.{begun_line}
 use Rattle.escpos_link.proofs.sim.Sim.new.Goals as goal
 
 pub invariant_of-result : goal.invariant_of-result
