@@ -1,4 +1,6 @@
 pub mod Contents
+pub mod Keys
+pub mod Keyed
 pub mod Entries
 pub mod Tries
 pub mod Pauses

@@ -27,7 +27,7 @@ loop-entry-preserved c =
     let front : List Entry = take c.loop-entry.entry-index c.args.entries.now in
     let follows : MayFollow front c.entry-item.result = (c.if-not-may_follow.ensures front c.loop-entry.invariant.book).0 refl in
     let longer = one_longer c.args.entries.now c.loop-entry.entry-index c.entry-item.result c.loop-entry-test.true c.entry-item.is in
-    let noted = c.note.ensures front (c.reserve_try.ensures.same front (c.reserve.ensures.same front c.loop-entry.invariant.book)) c.loop-entry.invariant.ledger (subst (MayFollow front) (sym c.in-Ok.ensures) follows) in
+    let noted = c.note.ensures.notes front (c.reserve_try.ensures.same front (c.reserve.ensures.same front c.loop-entry.invariant.book)) c.loop-entry.invariant.ledger (subst (MayFollow front) (sym c.in-Ok.ensures) follows) in
     record {
       book = subst (IsBookOf c.note.new.self) (sym longer) (subst (λ (e : Entry). IsBookOf c.note.new.self (front ++ e ∷ [])) c.in-Ok.ensures noted);
       ledger = subst IsLedger (sym longer) (ledger-snoc front c.entry-item.result c.loop-entry.invariant.ledger follows);
