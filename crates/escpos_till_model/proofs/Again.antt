@@ -76,7 +76,7 @@ Stays e = Unit {0}
 
 stays_so : (number : ℕ) (kept : List Entry) (now new : World) (e : Happening) → Stays e → IsRecording number kept now → Happens now e new → IsRecording number kept new
 stays_so number kept now new event.Start stays r h = absurd (let bad : None ≡ Some r.m = sym h.off ∙ r.is in cc)
-stays_so number kept now new (event.Queue content) stays r h =
+stays_so number kept now new (event.Queue content key) stays r h =
     absurd (let bad : stage.AtRest ≡ recording number = sym h.goes.rest ∙ stands_so number kept now h.m h.was r in cc)
 stays_so number kept now new (event.Raise first) stays r h =
     absurd (let bad : stage.AtRest ≡ recording number = sym h.goes.rest ∙ stands_so number kept now h.m h.was r in cc)
@@ -139,7 +139,7 @@ goes number kept now new (event.Crash ∷ es) r (mid, h, runs) kept_so = absurd 
 goes number kept now new (event.FailWith why ∷ es) r (mid, h, runs) kept_so = absurd (kept_so tt)
 goes number kept now new (event.FailWithout why ∷ es) r (mid, h, runs) kept_so = absurd (kept_so tt)
 goes number kept now new (event.Start ∷ es) r (mid, h, runs) kept_so = goes number kept mid new es (stays_so number kept now mid event.Start tt r h) runs kept_so
-goes number kept now new ((event.Queue content) ∷ es) r (mid, h, runs) kept_so = goes number kept mid new es (stays_so number kept now mid (event.Queue content) tt r h) runs kept_so
+goes number kept now new ((event.Queue content key) ∷ es) r (mid, h, runs) kept_so = goes number kept mid new es (stays_so number kept now mid (event.Queue content key) tt r h) runs kept_so
 goes number kept now new ((event.Raise first) ∷ es) r (mid, h, runs) kept_so = goes number kept mid new es (stays_so number kept now mid (event.Raise first) tt r h) runs kept_so
 goes number kept now new ((event.Cancel other) ∷ es) r (mid, h, runs) kept_so = goes number kept mid new es (stays_so number kept now mid (event.Cancel other) tt r h) runs kept_so
 goes number kept now new ((event.Deliver openings most copy) ∷ es) r (mid, h, runs) kept_so = goes number kept mid new es (stays_so number kept now mid (event.Deliver openings most copy) tt r h) runs kept_so

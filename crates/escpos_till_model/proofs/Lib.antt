@@ -19,6 +19,7 @@ mod Carrying
 mod Widths
 mod DriverDoes
 mod Served
+mod Queueing
 mod OffLine
 mod Rows
 mod WireLines

@@ -2,15 +2,18 @@
 
 use escpos_host::SendFault;
 use escpos_link::Event;
-use escpos_till::{ReceiptContent, ReceiptNumber, StoreFault, Text, TillRefusal};
+use escpos_till::{ReceiptContent, ReceiptKey, ReceiptNumber, StoreFault, Text, TillRefusal};
 
 /// What may happen. `specs/World.antt` says what it does.
 #[derive(Debug, Drop)]
 pub enum Happening {
     /// The till is switched on: a machine is made of the entries that are there.
     Start,
-    /// The machine takes a receipt.
-    Queue(ReceiptContent),
+    /// The machine takes a receipt, which comes with this key or with none; or, if a receipt has the key, it has that one's number to tell.
+    Queue {
+        receipt: ReceiptContent,
+        key: Option<ReceiptKey>,
+    },
     /// The machine raises the next mark number to this one.
     Raise(u32),
     /// The machine cancels the receipt with this number, which waits.
