@@ -155,19 +155,19 @@ fn entry_with_content(
 {
     match kind {
         1 => queued(alloc, number, next, bytes),
-        6 if number == 0 && next == 0 => keyed(alloc, bytes),
+        6 if number == 0 && next == 0 => Ok(keyed(bytes)),
         _ => Ok(None),
     }
 }
 
 // The entry that says this key, if it is one.
-fn keyed(alloc: Global, bytes: &[u8]) -> Result<Option<Entry>, AllocError>
-    ensures entry { IfOk result (λ found. IfSome found (λ entry. entry ≡ Entry.Key bytes.now)) }
-    ensures none { IfOk result (λ found. found ≡ None → ¬ IsKey bytes.now) }
+fn keyed(bytes: &[u8]) -> Option<Entry>
+    ensures entry { IfSome result (λ entry. entry ≡ Entry.Key bytes.now) }
+    ensures none { result ≡ None → ¬ IsKey bytes.now }
 {
-    match ReceiptKey::new(bytes.to_vec(alloc)?) {
-        Some(key) => Ok(Some(Entry::Key { key })),
-        None => Ok(None),
+    match ReceiptKey::new(bytes) {
+        Some(key) => Some(Entry::Key { key }),
+        None => None,
     }
 }
 

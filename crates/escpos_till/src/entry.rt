@@ -130,9 +130,7 @@ impl Entry {
             Entry::Recorded { number } => Ok(Entry::Recorded { number: *number }),
             Entry::Raised { next } => Ok(Entry::Raised { next: *next }),
             Entry::Cancelled { number } => Ok(Entry::Cancelled { number: *number }),
-            Entry::Key { key } => Ok(Entry::Key {
-                key: key.copy(alloc)?,
-            }),
+            Entry::Key { key } => Ok(Entry::Key { key: key.copy() }),
         }
     }
 }

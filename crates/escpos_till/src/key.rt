@@ -3,11 +3,11 @@
 //! A receipt that comes with a key which a ledger has is the same one. Which receipt has which key is defined in
 //! `specs/Entries.antt`.
 
-ghost use Rattle.std.specs.Prelude.{◌≡◌, IfOk};
+ghost use Rattle.std.specs.Prelude.{◌≡◌};
 ghost use Rattle.std.specs.Option.{SomeIff};
 ghost use Rattle.escpos_till.specs.Keys.{IsKey, is_key_character};
 
-use std::alloc::{AllocError, Global};
+use arrayvec::ArrayVec;
 use std::marker::Model;
 
 /// The most characters of a key.
@@ -18,7 +18,7 @@ const _: () = prove!(KEY_CHARACTERS == 64);
 /// The key of a receipt: 1 to 64 characters, each 21 to 7E hexadecimal. The model is the list of their bytes.
 #[derive(Debug, Drop)]
 pub struct ReceiptKey {
-    bytes: Vec<u8>,
+    bytes: ArrayVec<u8, KEY_CHARACTERS>,
 }
 
 impl Model for ReceiptKey {
@@ -33,19 +33,18 @@ impl Model for ReceiptKey {
 }
 
 impl ReceiptKey {
-    /// The key of these bytes; `None` if there is none, or there are more than 64, or one of them isn't 21 to 7E. Allocates nothing.
-    pub fn new(bytes: Vec<u8>) -> Option<Self>
-        ensures { SomeIff result (IsKey bytes.items) bytes.items }
+    /// The key of these bytes; `None` if there is none, or there are more than 64, or one of them isn't 21 to 7E.
+    pub fn new(bytes: &[u8]) -> Option<Self>
+        ensures { SomeIff result (IsKey bytes.now) bytes.now }
     {
-        let short = !bytes.is_empty() && bytes.len() <= KEY_CHARACTERS;
-        if short && bytes.iter().all(|byte| is_key_character(*byte)) {
-            Some(ReceiptKey { bytes })
-        } else {
-            None
+        let plain = !bytes.is_empty() && bytes.iter().all(|byte| is_key_character(*byte));
+        match ArrayVec::try_from(bytes) {
+            Ok(bytes) if plain => Some(ReceiptKey { bytes }),
+            _ => None,
         }
     }
 
-    /// Its bytes, each of which is a character. Allocates nothing.
+    /// Its bytes, each of which is a character.
     pub fn bytes(&self) -> &[u8]
         ensures same { result.now ≡ self.now }
         ensures is { IsKey result.now }
@@ -53,13 +52,11 @@ impl ReceiptKey {
         self.bytes.as_slice()
     }
 
-    /// The same key once more. The error is out of memory.
-    pub fn copy(&self, alloc: Global) -> Result<Self, AllocError>
-        ensures { IfOk result (λ key. key ≡ self.now) }
+    /// The same key once more.
+    pub fn copy(&self) -> Self
+        ensures { result ≡ self.now }
     {
-        Ok(ReceiptKey {
-            bytes: self.bytes.as_slice().to_vec(alloc)?,
-        })
+        ReceiptKey::new(self.bytes()).unwrap()
     }
 }
 
