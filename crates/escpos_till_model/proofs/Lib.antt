@@ -20,6 +20,7 @@ mod Widths
 mod DriverDoes
 mod Served
 mod Queueing
+mod Keying
 mod OffLine
 mod Rows
 mod WireLines
